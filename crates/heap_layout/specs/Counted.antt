@@ -1,0 +1,19 @@
+-- What a clause reads of a `Counted`.
+use Rattle.std.specs.Prelude.{◌≡◌, ℕ, ◌+◌, Result, Ok, Err}
+use Rattle.heap_layout.specs.declared.counted.Counted.{Counted}
+use Rattle.heap_layout.specs.declared.fault.LayoutFault.{LayoutFault}
+use Rattle.heap_layout.specs.declared.fault.LayoutFault.TheVariants.{Device}
+
+-- the reader or writer below
+abbrev pub inner_of : {R : Type 0} → Counted R → R
+inner_of counted = counted.inner
+
+-- how many of its calls failed
+abbrev pub failures_of : {R : Type 0} → Counted R → ℕ
+failures_of counted = counted.failures
+
+-- a call answers `Device` exactly where one more call of the device failed
+abbrev pub CountsFailure : {T : Type 0} → ℕ → ℕ → Result T LayoutFault → Type 0
+CountsFailure before after (Ok _) = after ≡ before
+CountsFailure before after (Err Device) = after ≡ before + 1
+CountsFailure before after (Err _) = after ≡ before

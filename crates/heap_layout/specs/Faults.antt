@@ -1,0 +1,63 @@
+-- Why a heap is refused. The faults of a heap stand in one list, in the order in which they count: a heap is accepted where the list is empty, and
+-- else its first one is the answer.
+use Rattle.std.specs.Prelude.{◌≡◌, ℕ, ◌+◌, ◌^◌, Bool, nat_le, List, [], ◌∷◌, ◌++◌, length, slice_index, if◌then◌else◌, Result, Ok, Err}
+use Rattle.std.specs.List.{flat_map, enumerate_from}
+use Rattle.heap_layout.specs.Header.{size_of}
+use Rattle.heap_layout.specs.Heap.{Heap, object_at, starts, is_start, is_target}
+use Rattle.heap_layout.specs.declared.fault.LayoutFault.{LayoutFault}
+use Rattle.heap_layout.specs.declared.fault.LayoutFault.TheVariants.{TooLarge, ObjectPastEnd, ObjectTooLong, MarkNotStart, MarksNotRising, BadRoot, UnmarkedTarget}
+
+-- the fault, where the test fails
+abbrev pub unless : Bool → LayoutFault → List LayoutFault
+unless holds fault = if holds then [] else fault ∷ []
+
+-- more words, marks or roots than an image may have
+abbrev pub size_faults : ℕ → ℕ → ℕ → List LayoutFault
+size_faults words marks roots =
+    unless (nat_le words (2 ^ 20)) TooLarge ++ unless (nat_le marks (2 ^ 20)) TooLarge ++ unless (nat_le roots (2 ^ 12)) TooLarge
+
+-- the object at i is too long, or ends past the words
+abbrev pub object_faults : List ℕ → ℕ → List LayoutFault
+object_faults words i =
+    let size = size_of (slice_index words i) in
+    unless (nat_le size 1024) (ObjectTooLong i) ++ unless (nat_le (i + size) (length words)) (ObjectPastEnd i)
+
+-- of marks, of which the next has to be at least `low`: each has to rise, and to be where an object of the row starts
+abbrev pub mark_faults : List ℕ → ℕ → List ℕ → List LayoutFault
+mark_faults row low [] = []
+mark_faults row low (mark ∷ marks) =
+    (unless (nat_le low mark) (MarksNotRising mark) ++ unless (is_start row mark) (MarkNotStart mark)) ++ mark_faults row (mark + 1) marks
+
+-- each root is null or a marked object's address; a fault names the root's number
+abbrev pub root_faults : List ℕ → List ℕ → List LayoutFault
+root_faults marks roots = flat_map (λ root. unless (is_target marks root.1) (BadRoot root.0)) (enumerate_from 0 roots)
+
+-- each of the references, the first of which stands at index `first`, likewise; a fault names the reference's index
+abbrev pub reference_faults : List ℕ → ℕ → List ℕ → List LayoutFault
+reference_faults marks first references =
+    flat_map (λ reference. unless (is_target marks reference.1) (UnmarkedTarget reference.0)) (enumerate_from first references)
+
+-- the references of each marked object likewise
+abbrev pub target_faults : List ℕ → List ℕ → List ℕ → List LayoutFault
+target_faults words all_marks marks = flat_map (λ mark. reference_faults all_marks (mark + 1) (object_at words mark).references) marks
+
+abbrev pub faults : Heap → List LayoutFault
+faults heap =
+    size_faults (length heap.words) (length heap.marks) (length heap.roots)
+    ++ flat_map (object_faults heap.words) (starts heap.words)
+    ++ mark_faults (starts heap.words) 0 heap.marks
+    ++ root_faults heap.marks heap.roots
+    ++ target_faults heap.words heap.marks heap.marks
+
+abbrev pub IsAccepted : Heap → Type 0
+IsAccepted heap = faults heap ≡ []
+
+-- the list begins with this fault
+abbrev pub IsFirst : List LayoutFault → LayoutFault → Type 0
+IsFirst [] fault = ⊥
+IsFirst (first ∷ others) fault = fault ≡ first
+
+-- the answer tells of these faults: Ok where there are none, and else the first
+abbrev pub Tells : {T : Type 0} → List LayoutFault → Result T LayoutFault → Type 0
+Tells list (Ok _) = list ≡ []
+Tells list (Err fault) = IsFirst list fault

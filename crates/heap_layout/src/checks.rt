@@ -1,0 +1,153 @@
+//! The tests that a heap passes before it is accepted, in the order in which their faults count. None takes memory.
+ghost use Rattle.std.specs.Prelude.{◌≡◌, ◌+◌, ◌^◌, ◌≤◌, [], All, length};
+ghost use Rattle.std.specs.List.Sorted.{IsStrictlyIncreasing};
+ghost use Rattle.std.specs.List.{flat_map};
+ghost use Rattle.heap_layout.specs.Heap.{starts, is_target, IsPlaced};
+ghost use Rattle.heap_layout.specs.Faults.{size_faults, object_faults, mark_faults, root_faults, reference_faults, target_faults, faults, Tells};
+
+use crate::fault::LayoutFault;
+use crate::header::Header;
+
+/// The most words of a heap.
+pub const MOST_WORDS: usize = 1_048_576;
+
+/// The most marks of a heap.
+pub const MOST_MARKS: usize = 1_048_576;
+
+/// The most roots of a heap.
+pub const MOST_ROOTS: usize = 4_096;
+
+/// The most words of an object.
+pub const MOST_OBJECT_WORDS: usize = 1_024;
+
+/// The address of from-space word 0.
+pub const FROM_SPACE: u64 = 4_294_967_296;
+
+/// Ok where a heap of these parts is accepted, and else its first fault.
+pub fn check(words: &[u64], marks: &[u32], roots: &[u64]) -> Result<(), LayoutFault>
+    ensures { Tells (faults (record { words = words.now; marks = marks.now; roots = roots.now })) result }
+{
+    check_sizes(words.len(), marks.len(), roots.len())?;
+    check_row(words)?;
+    check_marks(words, marks)?;
+    check_roots(marks, roots)?;
+    check_targets(words, marks)
+}
+
+/// Whether there are few enough words, marks and roots.
+pub fn check_sizes(words: usize, marks: usize, roots: usize) -> Result<(), LayoutFault>
+    ensures { Tells (size_faults words marks roots) result }
+{
+    if words > MOST_WORDS || marks > MOST_MARKS || roots > MOST_ROOTS {
+        Err(LayoutFault::TooLarge)
+    } else {
+        Ok(())
+    }
+}
+
+// Object by object: none is too long, or ends past the words.
+fn check_row(words: &[u64]) -> Result<(), LayoutFault>
+    requires { length words.now ≤ 2 ^ 20 }
+    ensures { Tells (flat_map (object_faults words.now) (starts words.now)) result }
+{
+    let mut start = 0;
+    while start < words.len() {
+        let size = Header::from_word(words[start]).size() as usize;
+        if size > MOST_OBJECT_WORDS {
+            return Err(LayoutFault::ObjectTooLong(start as u64));
+        }
+        if size > words.len() - start {
+            return Err(LayoutFault::ObjectPastEnd(start as u64));
+        }
+        start += size;
+    }
+    Ok(())
+}
+
+// Mark by mark: each is above the one before it, and an object of the row starts there.
+fn check_marks(words: &[u64], marks: &[u32]) -> Result<(), LayoutFault>
+    requires few { length words.now ≤ 2 ^ 20 }
+    requires row { flat_map (object_faults words.now) (starts words.now) ≡ [] }
+    ensures { Tells (mark_faults (starts words.now) 0 marks.now) result }
+{
+    let mut low = 0;
+    let mut start = 0;
+    for &mark in marks {
+        let mark = mark as usize;
+        if mark < low {
+            return Err(LayoutFault::MarksNotRising(mark as u64));
+        }
+        start = next_start(words, start, mark);
+        if start != mark || mark >= words.len() {
+            return Err(LayoutFault::MarkNotStart(mark as u64));
+        }
+        low = mark + 1;
+    }
+    Ok(())
+}
+
+// The first start from `start` on that is not below `low`, or the end of the row.
+fn next_start(words: &[u64], mut start: usize, low: usize) -> usize {
+    while start < low && start < words.len() {
+        start += Header::from_word(words[start]).size() as usize;
+    }
+    start
+}
+
+/// Whether a reference is null or the address of a marked object.
+pub fn is_target(marks: &[u32], reference: u64) -> bool
+    requires { IsStrictlyIncreasing marks.now }
+    ensures { result ≡ is_target marks.now reference }
+{
+    if reference == 0 {
+        return true;
+    }
+    if reference < FROM_SPACE || reference - FROM_SPACE >= MOST_WORDS as u64 {
+        return false;
+    }
+    marks
+        .binary_search(&((reference - FROM_SPACE) as u32))
+        .is_ok()
+}
+
+// Each root is null or a marked object's address.
+fn check_roots(marks: &[u32], roots: &[u64]) -> Result<(), LayoutFault>
+    requires { IsStrictlyIncreasing marks.now }
+    ensures { Tells (root_faults marks.now roots.now) result }
+{
+    for (number, &root) in roots.iter().enumerate() {
+        if !is_target(marks, root) {
+            return Err(LayoutFault::BadRoot(number as u64));
+        }
+    }
+    Ok(())
+}
+
+// Each reference of each marked object is null or a marked object's address.
+fn check_targets(words: &[u64], marks: &[u32]) -> Result<(), LayoutFault>
+    requires few { length words.now ≤ 2 ^ 20 }
+    requires rising { IsStrictlyIncreasing marks.now }
+    requires placed { All (IsPlaced words.now) marks.now }
+    ensures { Tells (target_faults words.now marks.now marks.now) result }
+{
+    for &mark in marks {
+        let first = mark as usize + 1;
+        let refs = Header::from_word(words[mark as usize]).refs() as usize;
+        check_references(marks, first as u64, &words[first..first + refs])?;
+    }
+    Ok(())
+}
+
+// Each of the references, the first of which stands at index `first`, likewise.
+fn check_references(marks: &[u32], first: u64, references: &[u64]) -> Result<(), LayoutFault>
+    requires rising { IsStrictlyIncreasing marks.now }
+    requires fits { first + length references.now ≤ 2 ^ 32 }
+    ensures { Tells (reference_faults marks.now first references.now) result }
+{
+    for (i, &reference) in references.iter().enumerate() {
+        if !is_target(marks, reference) {
+            return Err(LayoutFault::UnmarkedTarget(first + i as u64));
+        }
+    }
+    Ok(())
+}
