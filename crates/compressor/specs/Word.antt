@@ -1,0 +1,30 @@
+-- What the command `word` answers, from the bytes of an image.
+use Rattle.std.specs.Prelude.{◌≡◌, ℕ, ◌*◌, ◌<◌, ◌≤◌, List, slice_index}
+use Rattle.heap_layout.specs.Heap.{Heap, live, IsStored}
+use Rattle.heap_layout.specs.Faults.{IsAccepted}
+use Rattle.heap_layout.specs.Encoding.{encoding, Refuses}
+use Rattle.page_plan.specs.Sliding.{slid_words, pages}
+use Rattle.compressor.specs.declared.refusal.Refusal.{Refusal}
+use Rattle.compressor.specs.declared.refusal.Refusal.TheVariants.{Layout, NoSuchWord, OutOfMemory}
+
+-- the bytes are the image of an accepted heap of which P holds
+abbrev pub IsImage : (Heap → Type 0) → List ℕ → Type 0
+IsImage P bytes = (heap : Heap) × IsStored heap × IsAccepted heap × (bytes ≡ encoding heap) × P heap
+
+-- the word at this index of the slid words, which lies on one of their pages; it is 0 behind the last live word
+pub record IsWordAt (index word : ℕ) (heap : Heap) : Type 0 where
+  pub on_a_page : index < 64 * pages (live heap)
+  pub slid : word ≡ slice_index (slid_words (live heap)) index
+
+-- the index is past the last page, or a growth was refused
+abbrev pub IsPast : ℕ → Heap → Refusal → Type 0
+IsPast index heap (NoSuchWord past) = (past ≡ index) × (64 * pages (live heap) ≤ index)
+IsPast index heap OutOfMemory = Unit {0}
+IsPast index heap _ = ⊥
+
+-- why there is no word at this index: the image is refused, or the index is past the last page
+abbrev pub RefusesWord : ℕ → Refusal → List ℕ → Type 0
+RefusesWord index (Layout fault) bytes = Refuses fault bytes
+RefusesWord index (NoSuchWord past) bytes = (past ≡ index) × IsImage (λ heap. 64 * pages (live heap) ≤ index) bytes
+RefusesWord index OutOfMemory bytes = Unit {0}
+RefusesWord index _ bytes = ⊥

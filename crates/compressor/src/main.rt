@@ -1,0 +1,35 @@
+//! The program: reads its words, does what they ask, and tells what it refuses.
+#![tactic(auto)]
+
+mod refusal;
+mod run;
+#[cfg(test)]
+mod tests;
+mod word;
+mod words;
+
+use crate::refusal::Refusal;
+use crate::run::{REFUSED, run};
+use std::env;
+use std::io::{self, BufWriter};
+use std::process::ExitCode;
+
+fn main(rt: HostRuntime) -> ExitCode {
+    ExitCode::from(match start(&rt) {
+        Ok(status) => status,
+        Err(error) => {
+            let _ = eprintln!(rt; "compressor: {error}");
+            REFUSED
+        }
+    })
+}
+
+// Fetches the words and sets up standard output, which is written through a buffer.
+fn start(rt: &HostRuntime) -> Result<u8, Refusal> {
+    let words: Vec<String> = env::args(rt)
+        .map_err(|_| Refusal::OutOfMemory)?
+        .skip(1)
+        .collect(rt.alloc())?;
+    let mut out = BufWriter::new(rt.alloc(), io::writer(rt)).map_err(|_| Refusal::OutOfMemory)?;
+    Ok(run(rt, words, &mut out, &mut rt.stderr()))
+}

@@ -1,0 +1,65 @@
+ghost use Rattle.std.specs.Prelude.{◌≡◌};
+ghost use Rattle.compressor.specs.declared.refusal.Refusal.TheVariants as refusal;
+
+use heap_layout::fault::{self, LayoutFault};
+use std::alloc::AllocError;
+use std::fmt;
+use thiserror::Error;
+
+/// A file that the program is given.
+#[derive(Clone, Copy, Debug, PartialEq, Eq)]
+pub enum Input {
+    Image,
+}
+
+impl fmt::Display for Input {
+    fn fmt<W: fmt::Write>(&self, f: &mut fmt::Formatter<W>) -> fmt::Result {
+        f.write_str(match self {
+            Input::Image => "image",
+        })
+    }
+}
+
+/// Why the program did not do what it was asked.
+#[derive(Clone, Copy, Debug, PartialEq, Eq, Error)]
+pub enum Refusal {
+    /// The image is refused.
+    #[error("{0}")]
+    Layout(LayoutFault),
+    /// The file could not be opened.
+    #[error("P1 CannotOpen({0})")]
+    CannotOpen(Input),
+    /// Standard output took less than was to be written.
+    #[error("P4 CannotPrint")]
+    CannotPrint,
+    /// This index is past the last page.
+    #[error("P5 NoSuchWord({0})")]
+    NoSuchWord(u64),
+    /// A growth was refused.
+    #[error("P7 OutOfMemory")]
+    OutOfMemory,
+}
+
+impl From<LayoutFault> for Refusal {
+    ghost from_gives = { λ fault given. given ≡ refusal.Layout fault };
+
+    fn from(fault: LayoutFault) -> Refusal {
+        Refusal::Layout(fault)
+    }
+}
+
+impl From<fault::OutOfMemory> for Refusal {
+    ghost from_gives = { λ _ given. given ≡ refusal.OutOfMemory };
+
+    fn from(_fault: fault::OutOfMemory) -> Refusal {
+        Refusal::OutOfMemory
+    }
+}
+
+impl From<AllocError> for Refusal {
+    ghost from_gives = { λ _ given. given ≡ refusal.OutOfMemory };
+
+    fn from(_error: AllocError) -> Refusal {
+        Refusal::OutOfMemory
+    }
+}

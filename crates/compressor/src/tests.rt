@@ -1,0 +1,168 @@
+//! Runs of the program: what it prints, and its status.
+use crate::run::run;
+use std::alloc::Global;
+use std::fs;
+use std::io::{Error, ErrorKind, Result as IoResult, Write};
+use std::rt::Files;
+use std::test::Fail;
+
+// What a run printed, and its status.
+#[derive(Drop)]
+struct Ran {
+    status: u8,
+    out: String,
+    err: String,
+}
+
+fn run_on<R: Files + AllocGlobal>(rt: &R, words: &[&str]) -> Result<Ran, Fail> {
+    let mut owned = Vec::new(rt.alloc());
+    for word in words {
+        owned.push(String::from_str(rt.alloc(), word)?)?;
+    }
+    let mut out = Vec::new(rt.alloc());
+    let mut err = Vec::new(rt.alloc());
+    let status = run(rt, owned, &mut out, &mut err);
+    Ok(Ran {
+        status,
+        out: String::from_utf8(out)?,
+        err: String::from_utf8(err)?,
+    })
+}
+
+// The image of three objects, of which the first and the last are marked.
+fn three_image(alloc: Global) -> Result<Vec<u8>, Fail> {
+    let mut bytes = b"COMPHEAP".to_vec(alloc)?;
+    for count in [1u32, 7, 2, 1] {
+        bytes.extend_from_slice(&count.to_le_bytes())?;
+    }
+    for word in [
+        4_295_032_832u64,
+        11,
+        8_590_000_129,
+        0,
+        22,
+        12_884_901_889,
+        4_294_967_296,
+    ] {
+        bytes.extend_from_slice(&word.to_le_bytes())?;
+    }
+    for mark in [0u32, 5] {
+        bytes.extend_from_slice(&mark.to_le_bytes())?;
+    }
+    bytes.extend_from_slice(&4_294_967_301u64.to_le_bytes())?;
+    Ok(bytes)
+}
+
+#[test]
+fn prints_a_word(rt: HostRuntime) -> Result<(), Fail> {
+    fs::write(&rt, "three.tests.img", three_image(rt.alloc())?.as_slice())?;
+    for (index, text) in [("2", "12884901889\n"), ("3", "8589934592\n"), ("63", "0\n")] {
+        let ran = run_on(&rt, &["word", "three.tests.img", index])?;
+        assert_eq!(rt; ran.status, 0);
+        assert_eq!(rt; ran.out.as_str(), text);
+        assert_eq!(rt; ran.err.as_str(), "");
+    }
+    fs::remove_file(&rt, "three.tests.img")?;
+    Ok(())
+}
+
+#[test]
+fn tells_one_line_of_a_refusal(rt: HostRuntime) -> Result<(), Fail> {
+    let image = three_image(rt.alloc())?;
+    let mut bad_root = image.clone()?;
+    if let Some(byte) = bad_root.get_mut(88) {
+        *byte = 1;
+    }
+    fs::write(&rt, "whole.tests.img", image.as_slice())?;
+    fs::write(&rt, "root.tests.img", bad_root.as_slice())?;
+    fs::write(&rt, "empty.tests.img", b"".as_slice())?;
+    for (words, text) in [
+        (
+            ["word", "whole.tests.img", "64"],
+            "compressor: P5 NoSuchWord(64)\n",
+        ),
+        (
+            ["word", "absent.tests.img", "0"],
+            "compressor: P1 CannotOpen(image)\n",
+        ),
+        (
+            ["word", "root.tests.img", "64"],
+            "compressor: H6 BadRoot(0)\n",
+        ),
+        (
+            ["word", "empty.tests.img", "0"],
+            "compressor: H8 Truncated\n",
+        ),
+    ] {
+        let ran = run_on(&rt, &words)?;
+        assert_eq!(rt; ran.status, 1);
+        assert_eq!(rt; ran.out.as_str(), "");
+        assert_eq!(rt; ran.err.as_str(), text);
+    }
+    for path in ["whole.tests.img", "root.tests.img", "empty.tests.img"] {
+        fs::remove_file(&rt, path)?;
+    }
+    Ok(())
+}
+
+#[test]
+fn tells_of_wrong_words_on_standard_error(rt: HostRuntime) -> Result<(), Fail> {
+    for words in [
+        ["word", "three.img", "x"].as_slice(),
+        ["word", "three.img"].as_slice(),
+        ["word", "three.img", "-1"].as_slice(),
+        ["word", "three.img", "18446744073709551616"].as_slice(),
+        ["word", "three.img", "1", "2"].as_slice(),
+        ["plan"].as_slice(),
+        [].as_slice(),
+    ] {
+        let ran = run_on(&rt, words)?;
+        assert_eq!(rt; ran.status, 2);
+        assert_eq!(rt; ran.out.as_str(), "");
+        assert!(rt; !ran.err.is_empty());
+    }
+    Ok(())
+}
+
+#[test]
+fn prints_help_on_standard_output(rt: HostRuntime) -> Result<(), Fail> {
+    for words in [
+        ["--help"].as_slice(),
+        ["-h"].as_slice(),
+        ["word", "--help"].as_slice(),
+        ["word", "-h"].as_slice(),
+    ] {
+        let ran = run_on(&rt, words)?;
+        assert_eq!(rt; ran.status, 0);
+        assert!(rt; ran.out.contains("Usage: compressor"));
+        assert_eq!(rt; ran.err.as_str(), "");
+    }
+    Ok(())
+}
+
+// Takes nothing.
+#[derive(Drop)]
+struct Full;
+
+impl Write for Full {
+    fn write(&mut self, _buf: &[u8]) -> IoResult<usize> {
+        Err(Error::from(ErrorKind::StorageFull))
+    }
+
+    fn flush(&mut self) -> IoResult<()> {
+        Ok(())
+    }
+}
+
+#[test]
+fn tells_that_it_cannot_print(rt: HostRuntime) -> Result<(), Fail> {
+    let mut words = Vec::new(rt.alloc());
+    words.push(String::from_str(rt.alloc(), "--help")?)?;
+    let mut err = Vec::new(rt.alloc());
+    assert_eq!(rt; run(&rt, words, &mut Full, &mut err), 1);
+    assert_eq!(rt;
+        String::from_utf8(err)?.as_str(),
+        "compressor: P4 CannotPrint\n"
+    );
+    Ok(())
+}

@@ -1,0 +1,52 @@
+//! The words of the command line.
+use clap::{Arg, ArgMatches, Command, Error, value_parser};
+use std::alloc::{AllocError, Global};
+
+/// What the words ask for.
+#[derive(Debug, Drop)]
+pub enum Task<'a> {
+    /// The slid word at an index, of the heap in an image.
+    Word { image: &'a str, index: u64 },
+}
+
+/// Reads the words after the program's name. None comes only where the parser lets through words that lack a command or an argument, which it never
+/// does.
+pub fn read_task<'a>(alloc: Global, words: &'a [String]) -> Result<Option<Task<'a>>, Error> {
+    let matches = command(alloc)?.try_get_matches_from(words)?;
+    Ok(match matches.subcommand() {
+        Some(("word", found)) => word_task(found),
+        _ => None,
+    })
+}
+
+fn command(alloc: Global) -> Result<Command<'static>, AllocError> {
+    Command::new(alloc, "compressor")
+        .bin_name("compressor")?
+        .about("Compacts marked heaps by sliding, page by page")
+        .no_binary_name(true)
+        .subcommand_required(true)
+        .subcommand(word_command(alloc)?)
+}
+
+fn word_command(alloc: Global) -> Result<Command<'static>, AllocError> {
+    Command::new(alloc, "word")
+        .about("Prints the to-space word at an index")
+        .arg(
+            Arg::new(alloc, "IMAGE")
+                .required(true)
+                .help("The heap's image"),
+        )?
+        .arg(
+            Arg::new(alloc, "INDEX")
+                .required(true)
+                .value_parser(value_parser!(u64))
+                .help("The word's index, from 0"),
+        )
+}
+
+fn word_task<'a>(found: &ArgMatches<'a>) -> Option<Task<'a>> {
+    Some(Task::Word {
+        image: found.get_str("IMAGE")?,
+        index: found.get_one::<u64>("INDEX")?,
+    })
+}

@@ -1,0 +1,94 @@
+//! Why heaps are refused.
+use crate::heaps::{F, THREE, judged};
+use heap_layout::fault::LayoutFault;
+use std::test::Fail;
+
+// The first fault of a heap, where it has one.
+fn fault(
+    rt: &HostRuntime,
+    words: &[u64],
+    marks: &[u32],
+    roots: &[u64],
+) -> Result<Option<LayoutFault>, Fail> {
+    Ok(judged(rt.alloc(), words, marks, roots)?.err())
+}
+
+#[test]
+fn names_the_first_fault(rt: HostRuntime) -> Result<(), Fail> {
+    let root = [F + 5];
+    let inner = {
+        let mut words = THREE;
+        words[6] = F + 2;
+        words
+    };
+    assert_eq!(rt; fault(&rt, &THREE, &[0, 5], &root)?, None);
+    assert_eq!(rt;
+        fault(&rt, &THREE, &[0, 5], &[F + 1])?,
+        Some(LayoutFault::BadRoot(0))
+    );
+    assert_eq!(rt;
+        fault(&rt, &inner, &[0, 5], &root)?,
+        Some(LayoutFault::UnmarkedTarget(6))
+    );
+    assert_eq!(rt;
+        fault(&rt, &THREE, &[0, 1], &root)?,
+        Some(LayoutFault::MarkNotStart(1))
+    );
+    assert_eq!(rt;
+        fault(&rt, &THREE, &[0, 7], &root)?,
+        Some(LayoutFault::MarkNotStart(7))
+    );
+    assert_eq!(rt;
+        fault(&rt, &THREE, &[5, 0], &root)?,
+        Some(LayoutFault::MarksNotRising(0))
+    );
+    assert_eq!(rt;
+        fault(&rt, &THREE, &[5, 5], &root)?,
+        Some(LayoutFault::MarksNotRising(5))
+    );
+    assert_eq!(rt;
+        fault(&rt, &[67_108_864], &[], &[])?,
+        Some(LayoutFault::ObjectTooLong(0))
+    );
+    assert_eq!(rt;
+        fault(&rt, &[65_536], &[], &[])?,
+        Some(LayoutFault::ObjectPastEnd(0))
+    );
+    assert_eq!(rt; fault(&rt, &[], &[], &[])?, None);
+    Ok(())
+}
+
+#[test]
+fn refuses_what_is_too_large(rt: HostRuntime) -> Result<(), Fail> {
+    let alloc = rt.alloc();
+    let words = vec![in alloc; 0u64; 1_048_577]?;
+    assert_eq!(rt; fault(&rt, &words, &[], &[])?, Some(LayoutFault::TooLarge));
+    assert_eq!(rt; fault(&rt, &words[..1_048_576], &[], &[])?, None);
+    assert_eq!(rt;
+        fault(&rt, &[], &[], &words[..4_097])?,
+        Some(LayoutFault::TooLarge)
+    );
+    assert_eq!(rt; fault(&rt, &[], &[], &words[..4_096])?, None);
+    Ok(())
+}
+
+#[test]
+fn prints_each_fault(rt: HostRuntime) -> Result<(), Fail> {
+    for (fault, text) in [
+        (LayoutFault::TooLarge, "H1 TooLarge"),
+        (LayoutFault::ObjectPastEnd(0), "H2 ObjectPastEnd(0)"),
+        (LayoutFault::ObjectTooLong(1), "H3 ObjectTooLong(1)"),
+        (LayoutFault::MarkNotStart(2), "H4 MarkNotStart(2)"),
+        (LayoutFault::MarksNotRising(3), "H5 MarksNotRising(3)"),
+        (LayoutFault::BadRoot(4), "H6 BadRoot(4)"),
+        (LayoutFault::UnmarkedTarget(5), "H7 UnmarkedTarget(5)"),
+        (LayoutFault::Truncated, "H8 Truncated"),
+        (LayoutFault::TrailingBytes, "H9 TrailingBytes"),
+        (LayoutFault::BadMagic, "H10 BadMagic"),
+        (LayoutFault::OutOfMemory, "H11 OutOfMemory"),
+        (LayoutFault::Device, "H12 Device"),
+    ] {
+        assert_eq!(rt; format!(in rt.alloc(); "{fault}")?.as_str(), text);
+    }
+    Ok(())
+}

@@ -1,0 +1,13 @@
+//! Worked heaps, through the public calls of several crates: what no contract says, with values from outside.
+#![tactic(auto)]
+
+#[cfg(test)]
+mod faults;
+#[cfg(test)]
+mod heaps;
+#[cfg(test)]
+mod images;
+#[cfg(test)]
+mod pages;
+#[cfg(test)]
+mod readers;
