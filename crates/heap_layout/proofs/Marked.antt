@@ -1,5 +1,5 @@
 -- Marks, roots and references of a heap without faults.
-use Rattle.std.proofs.Common.{◌≡◌, ℕ, zero, suc, ◌+◌, ◌-◌, ◌<◌, ◌≤◌, ◌||◌, ◌^◌, Bool, true, false, eqb, leb, List, [], ◌∷◌, ◌++◌, ◌⊎◌, inl, inr, All, length, get_or, take, drop, map, Option, Result, Ok, Err, MatchResult, is_ok, refl, sym, ap, subst, ◌∙◌, append_assoc, append-nil, arith}
+use Rattle.std.proofs.Common.{◌≡◌, ℕ, zero, suc, ◌+◌, ◌-◌, ◌<◌, ◌≤◌, ◌||◌, ◌^◌, Bool, true, false, eqb, leb, List, [], ◌∷◌, ◌++◌, ◌⊎◌, inl, inr, All, length, get_or, slice_range, take, drop, map, Option, Result, Ok, Err, MatchResult, is_ok, refl, sym, ap, subst, ◌∙◌, append_assoc, append-nil, arith}
 use Rattle.std.specs.List.{list_any, flat_map, enumerate_from}
 use Rattle.std.specs.List.Sorted.{IsStrictlyIncreasing, IsBinarySearchResult}
 use Rattle.std.specs.Ordering.{nat_cmp}
@@ -8,7 +8,7 @@ use Rattle.std.proofs.lemmas.List.Folds.{list_any_none, list_any_at}
 use Rattle.std.proofs.lemmas.List.Sorted.{searched}
 use Rattle.std.proofs.lemmas.List.{at_drop_more, get_or_default}
 use Rattle.std.proofs.lemmas.Bool.{leb-true, eqb-true, eq-eqb, ne_eqb, or_from, or_right, cases_lt, le-leb, lt-leb}
-use Rattle.heap_layout.specs.Header.{size_of}
+use Rattle.heap_layout.specs.Header.{refs_of, size_of}
 use Rattle.heap_layout.specs.Heap.{Heap, object_at, objects, words_of, starts, starts_at, is_start, is_target, from_address, IsTarget, IsPlaced, IsClosed}
 use Rattle.heap_layout.specs.Faults.{unless, size_faults, object_faults, mark_faults, root_faults, reference_faults, target_faults, faults, IsAccepted, IsFirst, IsReached}
 use Rattle.heap_layout.specs.declared.fault.LayoutFault.{LayoutFault}
@@ -109,6 +109,16 @@ numbered-targets fault marks first [] none = All-nil (IsTarget marks)
 numbered-targets fault marks first (reference ∷ references) none =
     let parts = append-none (unless (is_target marks reference) (fault first)) (numbered_faults fault marks (first + 1) references) none in
     All-cons (IsTarget marks) reference references (unless-none _ _ parts.0) (numbered-targets fault marks (first + 1) references parts.1)
+
+-- the faults of the first marked object of those that are left, read as a range of the words, and of the rest
+pub targets-next : (words all_marks marks : List ℕ) (k refs : ℕ) → k < length marks → refs ≡ refs_of (get_or words (get_or marks k 0) 0)
+    → target_faults words all_marks (drop k marks)
+    ≡ reference_faults all_marks (get_or marks k 0 + 1) (slice_range words (get_or marks k 0 + 1) (get_or marks k 0 + 1 + refs))
+    ++ target_faults words all_marks (drop (k + 1) marks)
+targets-next words all_marks marks k refs within same =
+    let first = get_or marks k 0 + 1 in
+    let count : first + refs - first ≡ refs_of (get_or words (get_or marks k 0) 0) = omega arith in
+    rw count (at_drop_more (target_faults words all_marks) marks k 0 within)
 
 -- marked objects without a fault lead to targets
 pub referred-targets : (words all_marks marks : List ℕ) → target_faults words all_marks marks ≡ []
