@@ -43,12 +43,6 @@ marks-rising row low (mark ∷ (next ∷ marks)) none (suc k) within =
     let index : suc k + 1 ≡ suc (k + 1) = omega arith in
     rw index (marks-rising row (mark + 1) (next ∷ marks) parts.2 k (omega arith))
 
--- what the first mark of those that are left brings
-pub mark-next : (row : List ℕ) (low : ℕ) (marks : List ℕ) (k mark : ℕ) → k < length marks → mark ≡ get_or marks k 0
-    → mark_faults row low (drop k marks)
-    ≡ (unless (leb low mark) (MarksNotRising mark) ++ unless (is_start row mark) (MarkNotStart mark)) ++ mark_faults row (mark + 1) (drop (k + 1) marks)
-mark-next row low marks k mark within same = rw same (at_drop_more (mark_faults row low) marks k 0 within)
-
 -- marks that rise do not fall
 rising-order : (marks : List ℕ) → IsStrictlyIncreasing marks → (steps i j : ℕ) → i + steps ≡ j → j < length marks → get_or marks i 0 ≤ get_or marks j 0
 rising-order marks rising zero i j same within = let here : i ≡ j = omega arith in rw here (omega arith)
@@ -91,16 +85,6 @@ target-past marks reference not_null small past =
 -- of numbered references, each that is no target is a fault
 abbrev pub numbered_faults : (ℕ → LayoutFault) → List ℕ → ℕ → List ℕ → List LayoutFault
 numbered_faults fault marks first references = flat_map (λ reference. unless (is_target marks reference.1) (fault reference.0)) (enumerate_from first references)
-
--- the first of those that are left, and the rest
-pub numbered-next : (fault : ℕ → LayoutFault) (marks : List ℕ) (first : ℕ) (references : List ℕ) (k reference : ℕ) → k < length references
-    → reference ≡ get_or references k 0
-    → numbered_faults fault marks (first + k) (drop k references)
-    ≡ unless (is_target marks reference) (fault (first + k)) ++ numbered_faults fault marks (first + (k + 1)) (drop (k + 1) references)
-numbered-next fault marks first references k reference within same =
-    let step = at_drop_more (numbered_faults fault marks (first + k)) references k 0 within in
-    let index : first + k + 1 ≡ first + (k + 1) = omega arith in
-    rw (same, ← index) step
 
 -- references without a fault are targets
 pub numbered-targets : (fault : ℕ → LayoutFault) (marks : List ℕ) (first : ℕ) (references : List ℕ) → numbered_faults fault marks first references ≡ []
@@ -183,6 +167,10 @@ closed heap accepted =
             (rising k within) (started k 0 (omega arith)) (started (k + 1) 0 within);
         roots = numbered-targets (λ k. BadRoot k) heap.marks 0 heap.roots parts.roots;
         references = referred-targets heap.words heap.marks heap.marks parts.targets }
+
+-- the marks of an accepted heap rise
+pub rising : (heap : Heap) → IsAccepted heap → IsStrictlyIncreasing heap.marks
+rising heap accepted = marks-rising (starts heap.words) 0 heap.marks (passed heap accepted).marks
 
 -- the words of an accepted heap are those of its objects, object by object
 pub row : (heap : Heap) → IsAccepted heap → heap.words ≡ flat_map words_of (objects heap)
