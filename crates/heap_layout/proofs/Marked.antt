@@ -94,15 +94,14 @@ numbered-targets fault marks first (reference ∷ references) none =
     let parts = append-none (unless (is_target marks reference) (fault first)) (numbered_faults fault marks (first + 1) references) none in
     All-cons (IsTarget marks) reference references (unless-none _ _ parts.0) (numbered-targets fault marks (first + 1) references parts.1)
 
--- the faults of the first marked object of those that are left, read as a range of the words, and of the rest
-pub targets-next : (words all_marks marks : List ℕ) (k refs : ℕ) → k < length marks → refs ≡ refs_of (get_or words (get_or marks k 0) 0)
-    → target_faults words all_marks (drop k marks)
-    ≡ reference_faults all_marks (get_or marks k 0 + 1) (slice_range words (get_or marks k 0 + 1) (get_or marks k 0 + 1 + refs))
-    ++ target_faults words all_marks (drop (k + 1) marks)
-targets-next words all_marks marks k refs within same =
+-- the faults of the marked objects that are left are those of the first of them, whose references are read as a range of the words, and of the rest
+pub targets-next : (words all_marks marks : List ℕ) (k header refs : ℕ) → k < length marks → header ≡ get_or words (get_or marks k 0) 0 → refs ≡ refs_of header
+    → reference_faults all_marks (get_or marks k 0 + 1) (slice_range words (get_or marks k 0 + 1) (get_or marks k 0 + 1 + refs))
+    ++ target_faults words all_marks (drop (k + 1) marks) ≡ target_faults words all_marks (drop k marks)
+targets-next words all_marks marks k header refs within read same =
     let first = get_or marks k 0 + 1 in
-    let count : first + refs - first ≡ refs_of (get_or words (get_or marks k 0) 0) = omega arith in
-    rw count (at_drop_more (target_faults words all_marks) marks k 0 within)
+    let count : first + refs - first ≡ refs_of (get_or words (get_or marks k 0) 0) = omega (arith, same ∙ ap refs_of read) in
+    rw count (sym (at_drop_more (target_faults words all_marks) marks k 0 within))
 
 -- marked objects without a fault lead to targets
 pub referred-targets : (words all_marks marks : List ℕ) → target_faults words all_marks marks ≡ []
@@ -114,10 +113,14 @@ referred-targets words all_marks (mark ∷ marks) none =
     All-cons (λ k. All (IsTarget all_marks) (object_at words k).references) mark marks
         (numbered-targets (λ k. UnmarkedTarget k) all_marks (mark + 1) references parts.0) (referred-targets words all_marks marks parts.1)
 
--- the first of a list is the first of it and more behind
-pub first-append : (list more : List LayoutFault) (fault : LayoutFault) → IsFirst list fault → IsFirst (list ++ more) fault
-first-append [] more fault first = absurd first
-first-append (x ∷ list) more fault first = first
+-- of faults that are some and then more, the first is the first of some
+pub first-told : (some more whole : List LayoutFault) (fault : LayoutFault) → some ++ more ≡ whole → IsFirst some fault → IsFirst whole fault
+first-told [] more whole fault same first = absurd first
+first-told (x ∷ some) more whole fault same first = subst (λ (list : List LayoutFault). IsFirst list fault) same first
+
+-- where some are none, it is more
+pub rest-told : (some more whole : List LayoutFault) → some ++ more ≡ whole → some ≡ [] → more ≡ whole
+rest-told some more whole same none = sym (ap (λ (list : List LayoutFault). list ++ more) none) ∙ same
 
 -- a heap that is accepted passes each test
 pub record Passed (heap : Heap) : Type 0 where
@@ -129,15 +132,15 @@ pub record Passed (heap : Heap) : Type 0 where
 
 passed : (heap : Heap) → IsAccepted heap → Passed heap
 passed heap accepted =
-    let a = size_faults (length heap.words) (length heap.marks) (length heap.roots) in
-    let b = flat_map (object_faults heap.words) (starts heap.words) in
-    let d = mark_faults (starts heap.words) 0 heap.marks in
-    let e = root_faults heap.marks heap.roots in
-    let targets = append-none (a ++ b ++ d ++ e) (target_faults heap.words heap.marks heap.marks) accepted in
-    let roots = append-none (a ++ b ++ d) e targets.0 in
-    let marks = append-none (a ++ b) d roots.0 in
-    let row = append-none a b marks.0 in
-    record { sizes = row.0; row = row.1; marks = marks.1; roots = roots.1; targets = targets.1 }
+    let sizes = size_faults (length heap.words) (length heap.marks) (length heap.roots) in
+    let row = flat_map (object_faults heap.words) (starts heap.words) in
+    let marks = mark_faults (starts heap.words) 0 heap.marks in
+    let roots = root_faults heap.marks heap.roots in
+    let four = append-none (sizes ++ row ++ marks ++ roots) (target_faults heap.words heap.marks heap.marks) accepted in
+    let three = append-none (sizes ++ row ++ marks) roots four.0 in
+    let two = append-none (sizes ++ row) marks three.0 in
+    let one = append-none sizes row two.0 in
+    record { sizes = one.0; row = one.1; marks = two.1; roots = three.1; targets = four.1 }
 
 -- sizes without a fault are few enough
 pub sizes-few : (words marks roots : ℕ) → size_faults words marks roots ≡ [] → (words ≤ 2 ^ 20) × (marks ≤ 2 ^ 20) × (roots ≤ 2 ^ 12)

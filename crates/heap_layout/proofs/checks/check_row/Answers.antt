@@ -1,8 +1,6 @@
-use Rattle.std.proofs.Common.{◌≡◌, ◌+◌, ◌≤◌, [], get_or, length, ap, sym, ◌∙◌, arith}
-use Rattle.std.specs.List.{flat_map}
+use Rattle.std.proofs.Common.{◌≡◌, get_or, ap, ◌∙◌, arith}
 use Rattle.heap_layout.specs.Header.{size_of}
-use Rattle.heap_layout.specs.Heap.{starts_at, IsPlaced}
-use Rattle.heap_layout.specs.Faults.{object_faults}
+use Rattle.heap_layout.specs.Heap.{IsPlaced}
 use Rattle.heap_layout.proofs.Rows.{faults-behind}
 use Rattle.heap_layout.proofs.checks.check_row.Goals as goal
 

@@ -1,4 +1,4 @@
-use Rattle.std.proofs.Common.{◌≡◌, ◌+◌, get_or, ap, ◌∙◌, arith}
+use Rattle.std.proofs.Common.{◌≡◌, get_or, ap, ◌∙◌, arith}
 use Rattle.heap_layout.specs.Header.{size_of}
 use Rattle.heap_layout.proofs.Rows.{start-found, reached-next, none-inside}
 use Rattle.heap_layout.proofs.checks.next_start.Goals as goal
