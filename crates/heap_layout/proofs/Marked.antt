@@ -1,18 +1,18 @@
 -- Marks, roots and references of a heap without faults.
-use Rattle.std.proofs.Common.{◌≡◌, ℕ, zero, suc, ◌+◌, ◌-◌, ◌<◌, ◌≤◌, ◌||◌, ◌^◌, Bool, true, false, eqb, leb, List, [], ◌∷◌, ◌++◌, ◌⊎◌, inl, inr, All, length, get_or, slice_range, take, drop, map, Option, Result, Ok, Err, MatchResult, is_ok, refl, sym, ap, subst, ◌∙◌, append_assoc, append-nil, arith}
-use Rattle.std.specs.List.{list_any, flat_map, enumerate_from}
+use Rattle.std.proofs.Common.{◌≡◌, ℕ, zero, suc, ◌+◌, ◌-◌, ◌<◌, ◌≤◌, ◌^◌, true, false, eqb, List, [], ◌∷◌, ◌++◌, inl, inr, All, length, get_or, slice_range, drop, Result, Ok, Err, MatchResult, is_ok, sym, ap, subst, ◌∙◌, arith}
+use Rattle.std.specs.List.{flat_map, enumerate_from}
 use Rattle.std.specs.List.Sorted.{IsStrictlyIncreasing, IsBinarySearchResult}
 use Rattle.std.specs.Ordering.{nat_cmp}
-use Rattle.std.proofs.lemmas.List.Elements.{All-nil, All-cons, All-weaker}
+use Rattle.std.proofs.lemmas.List.Elements.{All-nil, All-cons}
 use Rattle.std.proofs.lemmas.List.Folds.{list_any_none, list_any_at}
 use Rattle.std.proofs.lemmas.List.Sorted.{searched}
 use Rattle.std.proofs.lemmas.List.{at_drop_more, get_or_default}
-use Rattle.std.proofs.lemmas.Bool.{leb-true, eqb-true, eq-eqb, ne_eqb, or_from, or_right, cases_lt, le-leb, lt-leb}
-use Rattle.heap_layout.specs.Header.{refs_of, size_of}
-use Rattle.heap_layout.specs.Heap.{Heap, object_at, objects, words_of, starts, starts_at, is_start, is_target, from_address, IsTarget, IsPlaced, IsClosed}
-use Rattle.heap_layout.specs.Faults.{unless, size_faults, object_faults, mark_faults, root_faults, reference_faults, target_faults, faults, IsAccepted, IsFirst, IsReached}
+use Rattle.std.proofs.lemmas.Bool.{leb-true, eq-eqb, ne_eqb, or_from, or_right, cases_lt}
+use Rattle.heap_layout.specs.Header.{refs_of}
+use Rattle.heap_layout.specs.Heap.{Heap, object_at, objects, words_of, starts, is_start, is_target, from_address, IsTarget, IsPlaced, IsClosed}
+use Rattle.heap_layout.specs.Faults.{unless, size_faults, object_faults, mark_faults, root_faults, reference_faults, target_faults, IsAccepted, IsFirst}
 use Rattle.heap_layout.specs.declared.fault.LayoutFault.{LayoutFault}
-use Rattle.heap_layout.specs.declared.fault.LayoutFault.TheVariants.{UnmarkedTarget, BadRoot, MarksNotRising, MarkNotStart}
+use Rattle.heap_layout.specs.declared.fault.LayoutFault.TheVariants.{UnmarkedTarget, BadRoot}
 use Rattle.heap_layout.proofs.Rows.{append-none, unless-none, placed-start, reached-first, starts-apart, words-from}
 
 -- a mark without a fault is not too low, an object starts there, and the marks behind it have no fault

@@ -1,10 +1,10 @@
 -- The row: the objects that stand side by side in the words of a heap.
-use Rattle.std.proofs.Common.{◌≡◌, ℕ, zero, suc, ◌+◌, ◌-◌, ◌<◌, ◌≤◌, ◌||◌, ◌&&◌, Bool, true, false, eqb, ltb, List, [], ◌∷◌, ◌++◌, ◌⊎◌, inl, inr, length, get_or, take, drop, map, refl, sym, ap, subst, ◌∙◌, append_assoc, length-drop, take-append-drop, drop-drop, arith}
-use Rattle.std.specs.List.{list_any, flat_map}
+use Rattle.std.proofs.Common.{◌≡◌, ℕ, zero, suc, ◌+◌, ◌-◌, ◌<◌, ◌≤◌, ◌||◌, ◌&&◌, Bool, true, false, eqb, ltb, List, [], ◌∷◌, ◌++◌, inl, inr, length, get_or, take, drop, map, refl, sym, ap, subst, ◌∙◌, append_assoc, length-drop, take-append-drop, drop-drop, arith}
+use Rattle.std.specs.List.{flat_map}
 use Rattle.std.proofs.lemmas.List.{drop_more, drop_all, at_drop_more, at_drop_all}
 use Rattle.std.proofs.lemmas.Bool.{leb-true, eqb-true, eq-eqb, ne_eqb, or_cases, or_from, or_left, and_from, and_left, and_right, lt-ltb, le-ltb, le-leb, cases_lt, cases_order, both_ways}
 use Rattle.heap_layout.specs.Header.{refs_of, data_of, size_of}
-use Rattle.heap_layout.specs.Heap.{Heap, Object, object_at, objects, words_of, starts, starts_from, starts_at, is_start, IsPlaced}
+use Rattle.heap_layout.specs.Heap.{object_at, words_of, starts, starts_from, starts_at, is_start, IsPlaced}
 use Rattle.heap_layout.specs.Faults.{unless, object_faults, IsReached}
 use Rattle.heap_layout.specs.declared.fault.LayoutFault.{LayoutFault}
 
