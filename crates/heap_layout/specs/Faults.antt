@@ -1,9 +1,9 @@
 -- Why a heap is refused. The faults of a heap stand in one list, in the order in which they count: a heap is accepted where the list is empty, and
 -- else its first one is the answer.
-use Rattle.std.specs.Prelude.{◌≡◌, ℕ, ◌+◌, ◌^◌, Bool, nat_le, List, [], ◌∷◌, ◌++◌, length, slice_index, if◌then◌else◌, Result, Ok, Err}
+use Rattle.std.specs.Prelude.{◌≡◌, ℕ, ◌+◌, ◌^◌, ◌≤◌, Bool, nat_le, List, [], ◌∷◌, ◌++◌, length, slice_index, if◌then◌else◌, Result, Ok, Err}
 use Rattle.std.specs.List.{flat_map, enumerate_from}
 use Rattle.heap_layout.specs.Header.{size_of}
-use Rattle.heap_layout.specs.Heap.{Heap, object_at, starts, is_start, is_target}
+use Rattle.heap_layout.specs.Heap.{Heap, object_at, starts, starts_at, is_start, is_target}
 use Rattle.heap_layout.specs.declared.fault.LayoutFault.{LayoutFault}
 use Rattle.heap_layout.specs.declared.fault.LayoutFault.TheVariants.{TooLarge, ObjectPastEnd, ObjectTooLong, MarkNotStart, MarksNotRising, BadRoot, UnmarkedTarget}
 
@@ -21,6 +21,12 @@ abbrev pub object_faults : List ℕ → ℕ → List LayoutFault
 object_faults words i =
     let size = size_of (slice_index words i) in
     unless (nat_le size 1024) (ObjectTooLong i) ++ unless (nat_le (i + size) (length words)) (ObjectPastEnd i)
+
+-- object by object one comes to index i: the objects from there on have no fault, and they are what the whole row has from there on
+pub record IsReached (words : List ℕ) (i : ℕ) : Type 0 where
+  pub within : i ≤ length words
+  pub sound : flat_map (object_faults words) (starts_at words i) ≡ []
+  pub same : (k : ℕ) → i ≤ k → is_start (starts words) k ≡ is_start (starts_at words i) k
 
 -- of marks, of which the next has to be at least `low`: each has to rise, and to be where an object of the row starts
 abbrev pub mark_faults : List ℕ → ℕ → List ℕ → List LayoutFault

@@ -34,6 +34,10 @@ starts_from i (suc covered) (word ∷ words) = starts_from (i + 1) covered words
 abbrev pub starts : List ℕ → List ℕ
 starts words = starts_from 0 0 words
 
+-- those from index i on, where an object starts at i or the words end there
+abbrev pub starts_at : List ℕ → ℕ → List ℕ
+starts_at words i = starts_from i 0 (drop i words)
+
 -- all objects of the heap, marked or not, by rising address
 abbrev pub objects : Heap → List Object
 objects heap = map (object_at heap.words) (starts heap.words)

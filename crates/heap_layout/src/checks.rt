@@ -1,9 +1,9 @@
 //! The tests that a heap passes before it is accepted, in the order in which their faults count. None takes memory.
-ghost use Rattle.std.specs.Prelude.{◌≡◌, ◌+◌, ◌^◌, ◌≤◌, [], All, length};
+ghost use Rattle.std.specs.Prelude.{◌≡◌, ◌+◌, ◌^◌, ◌≤◌, ◌==◌, ◌&&◌, nat_lt, [], All, length};
 ghost use Rattle.std.specs.List.Sorted.{IsStrictlyIncreasing};
 ghost use Rattle.std.specs.List.{flat_map};
-ghost use Rattle.heap_layout.specs.Heap.{starts, is_target, IsPlaced};
-ghost use Rattle.heap_layout.specs.Faults.{size_faults, object_faults, mark_faults, root_faults, reference_faults, target_faults, faults, Tells};
+ghost use Rattle.heap_layout.specs.Heap.{starts, is_start, is_target, IsPlaced};
+ghost use Rattle.heap_layout.specs.Faults.{IsReached, size_faults, object_faults, mark_faults, root_faults, reference_faults, target_faults, faults, Tells};
 
 use crate::fault::LayoutFault;
 use crate::header::Header;
@@ -86,8 +86,14 @@ fn check_marks(words: &[u64], marks: &[u32]) -> Result<(), LayoutFault>
     Ok(())
 }
 
-// The first start from `start` on that is not below `low`, or the end of the row.
-fn next_start(words: &[u64], mut start: usize, low: usize) -> usize {
+// From the object at `start` on, the first start that is not below `low`, or the end of the row.
+fn next_start(words: &[u64], mut start: usize, low: usize) -> usize
+    requires few { length words.now ≤ 2 ^ 20 }
+    requires reached { IsReached words.now start }
+    requires order { start ≤ low }
+    ensures reached { IsReached words.now result }
+    ensures found { is_start (starts words.now) low ≡ (result == low && nat_lt low (length words.now)) }
+{
     while start < low && start < words.len() {
         start += Header::from_word(words[start]).size() as usize;
     }
@@ -102,12 +108,13 @@ pub fn is_target(marks: &[u32], reference: u64) -> bool
     if reference == 0 {
         return true;
     }
-    if reference < FROM_SPACE || reference - FROM_SPACE >= MOST_WORDS as u64 {
+    if reference < FROM_SPACE {
         return false;
     }
-    marks
-        .binary_search(&((reference - FROM_SPACE) as u32))
-        .is_ok()
+    match u32::try_from(reference - FROM_SPACE) {
+        Ok(mark) => marks.binary_search(&mark).is_ok(),
+        Err(_) => false,
+    }
 }
 
 // Each root is null or a marked object's address.

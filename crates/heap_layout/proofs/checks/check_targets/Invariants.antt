@@ -1,0 +1,7 @@
+use Rattle.std.proofs.Common.{◌≡◌, drop}
+use Rattle.heap_layout.specs.Faults.{target_faults}
+use Rattle.heap_layout.proofs.checks.check_targets.Given as goal
+
+-- the marked objects that are left have the faults of all
+abbrev pub invariant-loop-mark : goal.invariant-loop-mark
+invariant-loop-mark l = target_faults l.words l.marks (drop l.mark-index l.marks) ≡ target_faults l.words l.marks l.marks
