@@ -72,6 +72,7 @@ impl MarkedHeap {
     {
         &self.roots
     }
+
     /// Whether a reference is null or a marked object's address.
     pub fn is_target(&self, reference: u64) -> bool
         ensures target { result ≡ is_target self.now.marks reference }
