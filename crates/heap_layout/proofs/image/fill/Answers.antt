@@ -6,7 +6,7 @@ use Rattle.heap_layout.proofs.Reading.{take_filled}
 use Rattle.heap_layout.proofs.image.fill.Goals as goal
 
 pub loop-filled-init : goal.loop-filled-init
-loop-filled-init g c = record { within = omega arith; read = Consumes-nil _; none_failed = refl }
+loop-filled-init g c = record { within = omega arith; read = Consumes-nil _; small = λ i. omega (arith, c.type_inv.buf i); none_failed = refl }
 
 pub returns-in-Ok-eq0-clause-cut : goal.returns-in-Ok-eq0-clause-cut
 returns-in-Ok-eq0-clause-cut g c =
@@ -33,6 +33,7 @@ loop-filled-preserved g c =
         within = search arith;
         read = subst (Consumes _ _) (sym (take_filled filled (length buf - filled) n buf c.read.new.buf (omega arith) (omega arith)))
             (Consumes-trans _ _ _ (take filled buf) (take n c.read.new.buf) c.loop-filled.invariant.read bytes.0);
+        small = λ i. omega (arith, c.type_inv.buf i);
         none_failed = omega (arith, c.in-Ok.ensures.ok, c.loop-filled.invariant.none_failed)
     }
 
@@ -45,3 +46,6 @@ returns-clause-read g c =
 
 pub returns-clause-counts : goal.returns-clause-counts
 returns-clause-counts g c = c.loop-filled.invariant.none_failed
+
+pub returns-clause-small : goal.returns-clause-small
+returns-clause-small g c = c.loop-filled.invariant.small
