@@ -1,13 +1,13 @@
 -- Lemmas on numbers and their bytes in an image.
-use Rattle.std.proofs.Common.{◌≡◌, ℕ, zero, suc, ◌+◌, ◌*◌, ◌<◌, ◌≤◌, List, [], ◌∷◌, ◌++◌, length, get_or, slice_index, take, drop, refl, sym, ap, ◌∙◌, arith, append_assoc, append-nil, length-take, length-drop}
+use Rattle.std.proofs.Common.{◌≡◌, ℕ, zero, suc, ◌+◌, ◌-◌, ◌*◌, ◌<◌, ◌≤◌, List, [], ◌∷◌, ◌++◌, length, get_or, slice_index, take, drop, refl, sym, ap, ◌∙◌, arith, append_assoc, append-nil, length-take, length-drop}
 use Rattle.std.specs.List.{flat_map}
 use Rattle.std.proofs.Math.Seq.{take-add}
-use Rattle.std.proofs.lemmas.List.{length-take-le, get_or-drop}
+use Rattle.std.proofs.lemmas.List.{take_all, get_or-drop}
 use Rattle.std.proofs.lemmas.List.Concat.{flat_map-append}
 use Rattle.std.proofs.lemmas.Nat.{le_bytes_4, le_bytes_8}
 use Rattle.byteorder.specs.Endian.{little_number}
 use Rattle.byteorder.specs.Numbers.{little_from-take}
-use Rattle.heap_layout.specs.Encoding.{four_bytes, eight_bytes}
+use Rattle.heap_layout.specs.Encoding.{four_bytes, eight_bytes, counts}
 
 -- a byte of a front of bytes is a byte, and so is the 0 that is read past its end
 small_in_front : (n : ℕ) (bytes : List ℕ) → ((i : ℕ) → slice_index bytes i < 256) → (i : ℕ) → get_or (take n bytes) i 0 < 256
@@ -51,3 +51,18 @@ pieces_more f size i n front done bytes new so_far =
     ∙ ap (λ (before : List ℕ). before ++ piece) so_far
     ∙ append_assoc front (take (size * i) bytes) piece
     ∙ ap (λ (all : List ℕ). front ++ all) (sym (take-add (size * i) size bytes) ∙ ap (λ (k : ℕ). take k bytes) (sym count))
+
+-- the three counts that were read are those whose bytes were
+pub counts_read : (bytes : List ℕ) (j k words marks roots : ℕ) → ((i : ℕ) → slice_index bytes i < 256) → length bytes ≡ 12 → 4 ≤ j → 4 ≤ k
+    → words ≡ little_number 4 bytes → marks ≡ little_number 4 (take j (drop 4 bytes)) → roots ≡ little_number 4 (take k (drop 8 bytes))
+    → counts words marks roots ≡ bytes
+counts_read bytes j k words marks roots small long more_marks more_roots is_words is_marks is_roots =
+    let w : four_bytes words ≡ take 4 bytes =
+    four_bytes-read bytes 0 12 words small (omega arith) (omega arith) (is_words ∙ sym (little_from-take 0 4 12 bytes (omega arith))) in
+    let m = four_bytes-read bytes 4 j marks small (omega arith) more_marks is_marks in
+    let r = four_bytes-read bytes 8 k roots small (omega arith) more_roots is_roots in
+    let two : four_bytes words ++ four_bytes marks ≡ take 8 bytes =
+    ap (λ (x : List ℕ). x ++ four_bytes marks) w ∙ ap (λ (x : List ℕ). take 4 bytes ++ x) m ∙ sym (take-add 4 4 bytes) in
+    let three : four_bytes words ++ four_bytes marks ++ four_bytes roots ≡ take 12 bytes =
+    ap (λ (x : List ℕ). x ++ four_bytes roots) two ∙ ap (λ (x : List ℕ). take 8 bytes ++ x) r ∙ sym (take-add 8 4 bytes) in
+    three ∙ take_all 12 bytes (omega arith)
