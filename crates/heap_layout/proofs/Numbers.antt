@@ -1,5 +1,5 @@
 -- Lemmas on numbers and their bytes in an image.
-use Rattle.std.proofs.Common.{◌≡◌, ℕ, zero, suc, ◌+◌, ◌-◌, ◌*◌, ◌<◌, ◌≤◌, List, [], ◌∷◌, ◌++◌, length, get_or, slice_index, take, drop, refl, sym, ap, ◌∙◌, arith, append_assoc, append-nil, length-take, length-drop}
+use Rattle.std.proofs.Common.{◌≡◌, ℕ, zero, suc, ◌+◌, ◌-◌, ◌*◌, ◌<◌, ◌≤◌, List, [], ◌∷◌, ◌++◌, length, get_or, slice_index, take, drop, refl, sym, ap, ◌∙◌, arith, append_assoc, append-nil, length-take, length-drop, length-append}
 use Rattle.std.specs.List.{flat_map}
 use Rattle.std.proofs.Math.Seq.{take-add}
 use Rattle.std.proofs.lemmas.List.{take_all, get_or-drop}
@@ -66,3 +66,8 @@ counts_read bytes j k words marks roots small long more_marks more_roots is_word
     let three : four_bytes words ++ four_bytes marks ++ four_bytes roots ≡ take 12 bytes =
     ap (λ (x : List ℕ). x ++ four_bytes roots) two ∙ ap (λ (x : List ℕ). take 8 bytes ++ x) r ∙ sym (take-add 8 4 bytes) in
     three ∙ take_all 12 bytes (omega arith)
+
+-- numbers of one width take that many bytes each
+pub length-pieces : (f : ℕ → List ℕ) (size : ℕ) → ((n : ℕ) → length (f n) ≡ size) → (numbers : List ℕ) → length (flat_map f numbers) ≡ size * length numbers
+length-pieces f size wide [] = omega arith
+length-pieces f size wide (n ∷ numbers) = omega (arith, length-append (f n) (flat_map f numbers), wide n, length-pieces f size wide numbers)

@@ -1,13 +1,14 @@
 -- Lemmas on what was read into a buffer, and on what is refused behind it.
-use Rattle.std.proofs.Common.{◌≡◌, ◌≢◌, ℕ, ◌+◌, ◌^◌, ◌<◌, ◌≤◌, ◌⊎◌, inl, inr, Bool, true, false, leb, List, ◌++◌, length, take, drop, slice_index, Option, None, Some, IfSome, refl, sym, ap, ◌∙◌, subst, arith, length-append}
+use Rattle.std.proofs.Common.{◌≡◌, ◌≢◌, ℕ, ◌+◌, ◌^◌, ◌<◌, ◌≤◌, ◌⊎◌, inl, inr, Bool, true, false, leb, List, ◌++◌, length, take, drop, slice_index, Option, None, Some, IfSome, Err, refl, sym, ap, ◌∙◌, subst, arith, length-append}
 use Rattle.std.proofs.lemmas.Bool.{leb-false}
 use Rattle.std.proofs.lemmas.List.{take-append-le, length-take-le, take_at}
 use Rattle.std.proofs.Math.Seq.{take-append-add}
 use Rattle.std.specs.Io.KnownBytes.{Consumes}
+use Rattle.heap_layout.specs.Counted.{CountsFailure}
 use Rattle.heap_layout.specs.Faults.{size_faults, unless, IsFirst}
-use Rattle.heap_layout.specs.Encoding.{magic, four_bytes, counts, IsOver, Refuses, RefusesCounts}
+use Rattle.heap_layout.specs.Encoding.{magic, four_bytes, counts, IsOver, Refuses, RefusesCounts, EndsBefore}
 use Rattle.heap_layout.specs.declared.fault.LayoutFault.{LayoutFault}
-use Rattle.heap_layout.specs.declared.fault.LayoutFault.TheVariants.{TooLarge, BadMagic}
+use Rattle.heap_layout.specs.declared.fault.LayoutFault.TheVariants.{TooLarge, BadMagic, Truncated, OutOfMemory, Device}
 use borrow.Rule.Slice.PartMut.{put_mid, post_of}
 
 -- a buffer that was filled up to a, and n more of whose bytes were then read behind those
@@ -63,3 +64,20 @@ pub size_fault : (words marks roots : ℕ) (fault : LayoutFault) → IsFirst (si
 size_fault words marks roots fault first =
     let found = first_of_sizes (leb words (2 ^ 20)) (leb marks (2 ^ 20)) (leb roots (2 ^ 12)) fault first in
     (found.0, elim found.1 [ inl w ↦ inl (leb-false words (2 ^ 20) w) | inr rest ↦ elim rest [ inl m ↦ inr (inl (leb-false marks (2 ^ 20) m)) | inr r ↦ inr (inr (leb-false roots (2 ^ 12) r)) ] ])
+
+ends_later : (m n : ℕ) (front rest : List ℕ) (fault : LayoutFault) → length front + m ≤ n → EndsBefore m fault rest → EndsBefore n fault (front ++ rest)
+ends_later m n front rest Truncated h short = simp length-append (omega arith)
+ends_later m n front rest OutOfMemory h short = tt
+ends_later m n front rest Device h short = tt
+ends_later m n front rest _ h short = absurd short
+
+-- what ends behind the bytes that were read ends among all of them
+pub ends_behind : (a b : Option (List ℕ)) (front : List ℕ) (m n : ℕ) (fault : LayoutFault) → Consumes a b front → length front + m ≤ n → IfSome b (EndsBefore m fault)
+    → IfSome a (EndsBefore n fault)
+ends_behind a b front m n fault read h cut =
+    behind_read a b front (EndsBefore m fault) (EndsBefore n fault) read cut (λ rest short. ends_later m n front rest fault h short)
+
+-- a failure is one since the start, where none was before
+pub failed_since : (start before after : ℕ) (fault : LayoutFault) → before ≡ start → CountsFailure {T = Unit {0}} before after (Err fault)
+    → CountsFailure {T = Unit {0}} start after (Err fault)
+failed_since start before after fault same = subst (λ (failures : ℕ). CountsFailure {T = Unit {0}} failures after (Err fault)) same
