@@ -1,2 +1,4 @@
+pub mod Images
 pub mod Numbers
+pub mod PartFaults
 pub mod Reading
