@@ -1,4 +1,5 @@
 pub mod Images
+pub mod Injective
 pub mod Numbers
 pub mod PartFaults
 pub mod Reading
