@@ -3,3 +3,4 @@ pub mod Injective
 pub mod Numbers
 pub mod PartFaults
 pub mod Reading
+pub mod Verdicts
