@@ -1,2 +1,8 @@
 pub mod Rows
 pub mod Marked
+pub mod Images
+pub mod Injective
+pub mod Numbers
+pub mod PartFaults
+pub mod Reading
+pub mod Verdicts

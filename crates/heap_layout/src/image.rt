@@ -1,5 +1,5 @@
 //! Reading an image, piece by piece.
-ghost use Rattle.std.specs.Prelude.{◌≡◌, ◌+◌, ◌-◌, ◌*◌, ◌/◌, ◌%◌, ◌^◌, ◌<◌, ◌≤◌, ◌++◌, All, IfOk, IfErr, IfSome, OnOk, length, vec_len, vec_capacity};
+ghost use Rattle.std.specs.Prelude.{◌≡◌, ℕ, ◌+◌, ◌-◌, ◌*◌, ◌/◌, ◌%◌, ◌^◌, ◌<◌, ◌≤◌, ◌++◌, All, IfOk, IfErr, IfSome, OnOk, length, slice_index, vec_len, vec_capacity};
 ghost use Rattle.std.specs.Io.KnownBytes.{Consumes, IsAtEnd};
 ghost use Rattle.std.specs.List.{flat_map};
 ghost use Rattle.heap_layout.specs.Counted.{inner_of, failures_of, CountsFailure};
@@ -58,6 +58,7 @@ struct Counts {
 fn fill<R: Read>(r: &mut Counted<R>, buf: &mut [u8]) -> Result<(), LayoutFault>
     requires { failures_of r.old < 2 ^ 64 - 1 }
     ensures read { OnOk result (Consumes (R.remaining (inner_of r.old)) (R.remaining (inner_of r.new)) buf.new) }
+    ensures small { (i : ℕ) → slice_index buf.new i < 2 ^ 8 }
     ensures cut { IfErr result (λ fault. IfSome (R.remaining (inner_of r.old)) (EndsBefore (length buf.old) fault)) }
     ensures counts { CountsFailure (failures_of r.old) (failures_of r.new) result }
 {
