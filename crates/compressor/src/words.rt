@@ -19,7 +19,7 @@ pub fn read_task<'a>(alloc: Global, words: &'a [String]) -> Result<Option<Task<'
     })
 }
 
-fn command(alloc: Global) -> Result<Command<'static>, AllocError> {
+fn command<'a>(alloc: Global) -> Result<Command<'a>, AllocError> {
     Command::new(alloc, "compressor")
         .bin_name("compressor")?
         .about("Compacts marked heaps by sliding, page by page")
@@ -28,7 +28,7 @@ fn command(alloc: Global) -> Result<Command<'static>, AllocError> {
         .subcommand(word_command(alloc)?)
 }
 
-fn word_command(alloc: Global) -> Result<Command<'static>, AllocError> {
+fn word_command<'a>(alloc: Global) -> Result<Command<'a>, AllocError> {
     Command::new(alloc, "word")
         .about("Prints the to-space word at an index")
         .arg(

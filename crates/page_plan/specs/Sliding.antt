@@ -1,10 +1,10 @@
--- Sliding compaction (Kermany and Petrank, 2006): the live objects, by rising address, side by side, with their references forwarded. All of it is a
--- function of the list of live objects.
+-- Sliding compaction, after the Compressor of Kermany and Petrank (2006): the live objects, by rising address, side by side, with their references
+-- forwarded. All of it is a function of the list of live objects.
 use Rattle.std.specs.Prelude.{◌≡◌, ℕ, ◌+◌, ◌*◌, ◌/◌, ◌^◌, ◌<◌, ◌==◌, List, ◌∷◌, ◌++◌, length, take, drop, map, replicate, slice_index, unwrap_or, Option, Some, if◌then◌else◌, sum_by}
 use Rattle.std.specs.List.{flat_map, position_from}
 use Rattle.std.specs.Option.{option_map}
 use Rattle.heap_layout.specs.Header.{size_of}
-use Rattle.heap_layout.specs.Heap.{Heap, Object, live, object_at, from_address, IsClosed}
+use Rattle.heap_layout.specs.Heap.{Heap, Object, live, object_at, from_address}
 
 -- the words of an object, its header among them
 abbrev pub size : Object → ℕ
@@ -47,6 +47,10 @@ pages objects = (live_words objects + 63) / 64
 -- page p of the slid words, with zeros behind the last live word
 unfoldable pub page : List Object → ℕ → List ℕ
 page objects p = take 64 (drop (64 * p) (slid_words objects) ++ replicate 64 0)
+
+-- the words of a page are those of a list from a place on, and 0 behind its end
+abbrev pub IsPartFrom : List ℕ → ℕ → List ℕ → Type 0
+IsPartFrom words start page_words = (k : ℕ) → k < 64 → slice_index page_words k ≡ slice_index words (start + k)
 
 -- the k-th live object stands whole at its place
 abbrev pub StandsAtPlace : Heap → ℕ → Type 0

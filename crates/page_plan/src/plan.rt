@@ -1,15 +1,16 @@
-ghost use Rattle.std.specs.Prelude.{◌≡◌, ◌<◌, IfOk};
+ghost use Rattle.std.specs.Prelude.{◌≡◌, ◌*◌, ◌<◌, IfOk};
 ghost use Rattle.heap_layout.specs.Heap.{live};
-ghost use Rattle.page_plan.specs.Sliding.{forward, live_words, page, pages};
+ghost use Rattle.page_plan.specs.Sliding.{forward, live_words, page, pages, slid_words, IsPartFrom};
 
-use std::alloc::Global;
-use std::marker::Model;
+use crate::walk;
 use heap_layout::fault::OutOfMemory;
 use heap_layout::heap::MarkedHeap;
 use heap_layout::page_words::PageWords;
-use crate::walk;
+use std::alloc::Global;
+use std::marker::Model;
 
-/// The plan of a compaction. To-space word `i` has the address `2^33 + i`.
+/// The plan of a compaction by sliding (Kermany and Petrank, 2006): where each live object goes, and each page of the result by itself. To-space word
+/// `i` has the address `2^33 + i`.
 #[derive(Debug, Drop)]
 pub struct Plan {
     heap: MarkedHeap,
@@ -31,11 +32,18 @@ impl Plan {
         Ok(Plan { heap })
     }
 
+    /// The heap that is compacted.
+    pub fn heap(&self) -> &MarkedHeap
+        ensures { result.now ≡ self.now }
+    {
+        &self.heap
+    }
+
     /// How many words the live objects have.
     pub fn live_words(&self) -> u64
         ensures { result ≡ live_words (live self.now) }
     {
-        walk::live_words(self.heap.words(), self.heap.marks())
+        walk::live_words(self)
     }
 
     /// How many pages of 64 words they fill, the last one perhaps in part.
@@ -49,8 +57,8 @@ impl Plan {
     pub fn forward(&self, reference: u64) -> Option<u64>
         ensures { result ≡ forward (live self.now) reference }
     {
-        if self.heap.is_target(reference) {
-            Some(walk::place_of(self.heap.words(), self.heap.marks(), reference))
+        if self.heap().is_target(reference) {
+            Some(walk::place_of(self, reference))
         } else {
             None
         }
@@ -59,13 +67,14 @@ impl Plan {
     /// Page `p`: its 64 words, with zeros behind the last live word.
     pub fn build_page(&self, alloc: Global, p: u64) -> Result<PageWords, OutOfMemory>
         requires { p < pages (live self.now) }
-        ensures { IfOk result (λ words. words ≡ page (live self.now) p) }
+        ensures page { IfOk result (λ words. words ≡ page (live self.now) p) }
+        ensures words { IfOk result (λ words. IsPartFrom (slid_words (live self.now)) (64 * p) words) }
     {
         let mut page = PageWords::zeros(alloc)?;
-        let mut cursor = walk::cursor_at(self.heap.words(), self.heap.marks(), p);
+        let mut cursor = walk::cursor_at(self, p);
         for offset in 0..64 {
-            page.set(offset, walk::word_at(self.heap.words(), self.heap.marks(), cursor));
-            cursor = walk::next(self.heap.words(), self.heap.marks(), cursor);
+            page.set(offset, walk::word_at(self, cursor));
+            cursor = walk::next(self, cursor);
         }
         Ok(page)
     }
