@@ -1,5 +1,5 @@
 -- Lemmas by which an image tells the heap: numbers with the same bytes are the same.
-use Rattle.std.proofs.Common.{◌≡◌, ℕ, ◌+◌, ◌*◌, ◌^◌, ◌<◌, ◌≤◌, List, [], ◌∷◌, ◌++◌, length, take, drop, All, refl, sym, ap, ◌∙◌, arith, append_assoc, length-append}
+use Rattle.std.proofs.Common.{◌≡◌, ℕ, ◌^◌, ◌<◌, List, [], ◌∷◌, ◌++◌, length, take, drop, All, refl, sym, ap, ◌∙◌, arith, append_assoc, length-append}
 use Rattle.std.specs.Int.{w32, w64, from_le_bytes}
 use Rattle.std.specs.List.{flat_map}
 use Rattle.std.proofs.lemmas.List.{take_at, drop_at, append_cancel_left, append-nil}
@@ -11,13 +11,16 @@ use Rattle.heap_layout.proofs.Numbers.{length-pieces}
 
 -- two lists with the same bytes and fronts of one length have the same front and the same rest
 pub append_same : (a b x y : List ℕ) → length a ≡ length b → a ++ x ≡ b ++ y → (a ≡ b) × (x ≡ y)
-append_same a b x y long same =
-    (sym (take_at a x (length a) refl) ∙ ap (take (length a)) same ∙ take_at b y (length a) (sym long),
-    sym (drop_at a x (length a) refl) ∙ ap (drop (length a)) same ∙ drop_at b y (length a) (sym long))
+append_same a b x y long same = (
+  sym (take_at a x (length a) refl) ∙ ap (take (length a)) same ∙ take_at b y (length a) (sym long),
+  sym (drop_at a x (length a) refl) ∙ ap (drop (length a)) same ∙ drop_at b y (length a) (sym long),
+)
 
+-- a number that fits its field is known by its bytes
 four_bytes_same : (n m : ℕ) → n < 2 ^ 32 → m < 2 ^ 32 → four_bytes n ≡ four_bytes m → n ≡ m
 four_bytes_same n m small_n small_m same = sym (from_le_bytes-to_le_bytes_4 n small_n) ∙ ap (from_le_bytes w32) same ∙ from_le_bytes-to_le_bytes_4 m small_m
 
+-- the same of a number of 8 bytes
 eight_bytes_same : (n m : ℕ) → n < 2 ^ 64 → m < 2 ^ 64 → eight_bytes n ≡ eight_bytes m → n ≡ m
 eight_bytes_same n m small_n small_m same = sym (from_le_bytes-to_le_bytes_8 n small_n) ∙ ap (from_le_bytes w64) same ∙ from_le_bytes-to_le_bytes_8 m small_m
 
@@ -47,6 +50,7 @@ counts_same words marks roots other_words other_marks other_roots x y w m r v n 
 abbrev pub body : Heap → List ℕ
 body heap = flat_map eight_bytes heap.words ++ flat_map four_bytes heap.marks ++ flat_map eight_bytes heap.roots
 
+-- how long it is
 pub length-body : (heap : Heap) → length (body heap) ≡ body_len (length heap.words) (length heap.marks) (length heap.roots)
 length-body heap =
     let words = length-pieces eight_bytes 8 (λ _. refl) heap.words in
@@ -63,6 +67,7 @@ encoding_is heap =
     let roots = flat_map eight_bytes heap.roots in
     ap (λ (bytes : List ℕ). bytes ++ roots) (append_assoc front words marks) ∙ append_assoc front (words ++ marks) roots
 
+-- a heap is its three lists
 heap_same : (one other : Heap) → one.words ≡ other.words → one.marks ≡ other.marks → one.roots ≡ other.roots → one ≡ other
 heap_same one other words marks roots =
     let heap : List ℕ → List ℕ → List ℕ → Heap = λ a b c. record { words = a; marks = b; roots = c } in
@@ -87,21 +92,22 @@ bodies_same one other x y stored other_stored words marks roots same =
     let long_both : length (one_words ++ one_marks) ≡ length (other_words ++ other_marks) = simp length-append (omega arith) in
     let whole = append_same (body one) (body other) x y long same in
     let both = append_same (one_words ++ one_marks) (other_words ++ other_marks) one_roots other_roots long_both whole.0 in
-    let each = append_same one_words other_words one_marks other_marks long_words both.0 in
-    (heap_same one other
-    (pieces_same eight_bytes 8 (2 ^ 64) (λ _. refl) eight_bytes_same one.words other.words stored.words other_stored.words words each.0)
-    (pieces_same four_bytes 4 (2 ^ 32) (λ _. refl) four_bytes_same one.marks other.marks stored.marks other_stored.marks marks each.1)
-    (pieces_same eight_bytes 8 (2 ^ 64) (λ _. refl) eight_bytes_same one.roots other.roots stored.roots other_stored.roots roots both.1),
-    whole.1)
+    let each = append_same one_words other_words one_marks other_marks long_words both.0 in (
+      heap_same one other
+          (pieces_same eight_bytes 8 (2 ^ 64) (λ _. refl) eight_bytes_same one.words other.words stored.words other_stored.words words each.0)
+          (pieces_same four_bytes 4 (2 ^ 32) (λ _. refl) four_bytes_same one.marks other.marks stored.marks other_stored.marks marks each.1)
+          (pieces_same eight_bytes 8 (2 ^ 64) (λ _. refl) eight_bytes_same one.roots other.roots stored.roots other_stored.roots roots both.1),
+      whole.1,
+    )
 
 -- two heaps with one image are one heap
 pub images_same : (one other : Heap) → IsStored one → IsStored other → AreCounted one → AreCounted other → encoding one ≡ encoding other → one ≡ other
 images_same one other stored other_stored counted other_counted same =
     let bytes : preamble ++ (counts (length one.words) (length one.marks) (length one.roots) ++ body one)
-        ≡ preamble ++ (counts (length other.words) (length other.marks) (length other.roots) ++ body other) =
+    ≡ preamble ++ (counts (length other.words) (length other.marks) (length other.roots) ++ body other) =
     sym (encoding_is one) ∙ same ∙ encoding_is other in
     let behind = append_cancel_left preamble _ _ bytes in
     let found = counts_same (length one.words) (length one.marks) (length one.roots) (length other.words) (length other.marks) (length other.roots) (body one) (body other)
-        counted.words counted.marks counted.roots other_counted.words other_counted.marks other_counted.roots behind in
+    counted.words counted.marks counted.roots other_counted.words other_counted.marks other_counted.roots behind in
     let bodies : body one ++ [] ≡ body other ++ [] = append-nil (body one) ∙ found.3 ∙ sym (append-nil (body other)) in
     (bodies_same one other [] [] stored other_stored found.0 found.1 found.2 bodies).0

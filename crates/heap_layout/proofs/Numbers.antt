@@ -1,5 +1,5 @@
 -- Lemmas on numbers and their bytes in an image.
-use Rattle.std.proofs.Common.{◌≡◌, ℕ, zero, suc, ◌+◌, ◌-◌, ◌*◌, ◌<◌, ◌≤◌, List, [], ◌∷◌, ◌++◌, length, get_or, slice_index, take, drop, refl, sym, ap, ◌∙◌, arith, append_assoc, append-nil, length-take, length-drop, length-append}
+use Rattle.std.proofs.Common.{◌≡◌, ℕ, zero, suc, ◌+◌, ◌*◌, ◌<◌, ◌≤◌, List, [], ◌∷◌, ◌++◌, length, get_or, slice_index, take, drop, sym, ap, ◌∙◌, arith, append_assoc, append-nil, length-take, length-drop, length-append}
 use Rattle.std.specs.List.{flat_map}
 use Rattle.std.proofs.Math.Seq.{take-add}
 use Rattle.std.proofs.lemmas.List.{take_all, get_or-drop}
@@ -25,24 +25,24 @@ part_length : (at n : ℕ) (bytes : List ℕ) → at + n ≤ length bytes → le
 part_length at n bytes h = simp (length-take, length-drop) (omega arith)
 
 -- the bytes of the number that is read at a place are the bytes there
-pub four_bytes-read : (bytes : List ℕ) (at most n : ℕ) → ((i : ℕ) → slice_index bytes i < 256) → at + 4 ≤ length bytes → 4 ≤ most → n ≡ little_number 4 (take most (drop at bytes))
-    → four_bytes n ≡ take 4 (drop at bytes)
+pub four_bytes-read : (bytes : List ℕ) (at most n : ℕ) → ((i : ℕ) → slice_index bytes i < 256) → at + 4 ≤ length bytes → 4 ≤ most
+    → n ≡ little_number 4 (take most (drop at bytes)) → four_bytes n ≡ take 4 (drop at bytes)
 four_bytes-read bytes at most n small within long is =
     let rest = drop at bytes in
     le_bytes_4 (take 4 rest) n (part_length at 4 bytes within) (small_in_part at 4 bytes small)
     (omega (arith, is ∙ little_from-take 0 4 most rest (omega arith) ∙ sym (little_from-take 0 4 4 rest (omega arith))))
 
 -- the same of a number of 8 bytes
-pub eight_bytes-read : (bytes : List ℕ) (at most n : ℕ) → ((i : ℕ) → slice_index bytes i < 256) → at + 8 ≤ length bytes → 8 ≤ most → n ≡ little_number 8 (take most (drop at bytes))
-    → eight_bytes n ≡ take 8 (drop at bytes)
+pub eight_bytes-read : (bytes : List ℕ) (at most n : ℕ) → ((i : ℕ) → slice_index bytes i < 256) → at + 8 ≤ length bytes → 8 ≤ most
+    → n ≡ little_number 8 (take most (drop at bytes)) → eight_bytes n ≡ take 8 (drop at bytes)
 eight_bytes-read bytes at most n small within long is =
     let rest = drop at bytes in
     le_bytes_8 (take 8 rest) n (part_length at 8 bytes within) (small_in_part at 8 bytes small)
     (omega (arith, is ∙ little_from-take 0 8 most rest (omega arith) ∙ sym (little_from-take 0 8 8 rest (omega arith))))
 
 -- one number more stands for one piece more of the bytes
-pub pieces_more : (f : ℕ → List ℕ) (size i n : ℕ) (front done bytes : List ℕ) → f n ≡ take size (drop (size * i) bytes) → flat_map f done ≡ front ++ take (size * i) bytes
-    → flat_map f (done ++ n ∷ []) ≡ front ++ take (size * (i + 1)) bytes
+pub pieces_more : (f : ℕ → List ℕ) (size i n : ℕ) (front done bytes : List ℕ) → f n ≡ take size (drop (size * i) bytes)
+    → flat_map f done ≡ front ++ take (size * i) bytes → flat_map f (done ++ n ∷ []) ≡ front ++ take (size * (i + 1)) bytes
 pieces_more f size i n front done bytes new so_far =
     let piece = take size (drop (size * i) bytes) in
     let count : size * (i + 1) ≡ size * i + size = omega arith in

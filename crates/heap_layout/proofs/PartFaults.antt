@@ -1,15 +1,15 @@
 -- Lemmas on the first fault of a heap: it tells of a part of the heap, unless the heap is too large.
-use Rattle.std.proofs.Common.{◌≡◌, ℕ, ◌+◌, ◌^◌, ◌<◌, ◌≤◌, ◌⊎◌, inl, inr, Bool, true, false, leb, List, [], ◌∷◌, ◌++◌, length, slice_index, All, Result, Ok, Err, IfErr, refl, sym, ap, ◌∙◌, subst, arith}
+use Rattle.std.proofs.Common.{◌≡◌, ℕ, ◌+◌, ◌^◌, Bool, true, false, leb, List, [], ◌∷◌, ◌++◌, length, slice_index, All, Result, Ok, Err, IfErr, refl, sym, subst, arith}
 use Rattle.std.specs.List.{flat_map, enumerate_from}
-use Rattle.std.proofs.lemmas.Bool.{leb-true, leb-false, le-leb}
+use Rattle.std.proofs.lemmas.Bool.{le-leb}
 use Rattle.std.proofs.lemmas.List.Elements.{All-nil, All-cons, All-append, All-head, All-same}
 use Rattle.heap_layout.specs.Counted.{CountsFailure}
 use Rattle.heap_layout.specs.Encoding.{AreWithin}
 use Rattle.heap_layout.specs.Header.{size_of}
-use Rattle.heap_layout.specs.Heap.{Heap, starts, is_start, is_target, object_at}
-use Rattle.heap_layout.specs.Faults.{unless, size_faults, object_faults, mark_faults, root_faults, reference_faults, target_faults, faults, IsFirst, IsAccepted}
+use Rattle.heap_layout.specs.Heap.{Heap, starts, is_start, object_at}
+use Rattle.heap_layout.specs.Faults.{unless, size_faults, object_faults, mark_faults, root_faults, reference_faults, target_faults, faults, IsFirst}
 use Rattle.heap_layout.specs.declared.fault.LayoutFault.{LayoutFault}
-use Rattle.heap_layout.specs.declared.fault.LayoutFault.TheVariants.{TooLarge, ObjectPastEnd, ObjectTooLong, MarkNotStart, MarksNotRising, BadRoot, UnmarkedTarget, Truncated, TrailingBytes, BadMagic, OutOfMemory, Device}
+use Rattle.heap_layout.specs.declared.fault.LayoutFault.TheVariants.{ObjectPastEnd, ObjectTooLong, MarkNotStart, MarksNotRising, BadRoot, UnmarkedTarget, Device}
 
 -- the fault tells of an object, a mark, a root or a reference
 abbrev pub IsOfPart : LayoutFault → Type 0
@@ -21,18 +21,23 @@ IsOfPart (BadRoot k) = Unit {0}
 IsOfPart (UnmarkedTarget i) = Unit {0}
 IsOfPart _ = ⊥
 
+-- a test that fails with a fault of a part has only that fault
 unless_of_part : (holds : Bool) (fault : LayoutFault) → IsOfPart fault → All IsOfPart (unless holds fault)
 unless_of_part true fault part = All-nil IsOfPart
 unless_of_part false fault part = All-cons IsOfPart fault [] part (All-nil IsOfPart)
 
+-- what has faults of a part at each item has only such faults
 each_of_part : {X : Type 0} (f : X → List LayoutFault) → ((x : X) → All IsOfPart (f x)) → (xs : List X) → All IsOfPart (flat_map f xs)
 each_of_part f part [] = All-nil IsOfPart
 each_of_part f part (x ∷ xs) = All-append IsOfPart (f x) (flat_map f xs) (part x) (each_of_part f part xs)
 
-both_of_part : (one_holds other_holds : Bool) (one other : LayoutFault) → IsOfPart one → IsOfPart other → All IsOfPart (unless one_holds one ++ unless other_holds other)
+-- the same of two tests
+both_of_part : (one_holds other_holds : Bool) (one other : LayoutFault) → IsOfPart one → IsOfPart other
+    → All IsOfPart (unless one_holds one ++ unless other_holds other)
 both_of_part one_holds other_holds one other of_one of_other =
     All-append IsOfPart (unless one_holds one) (unless other_holds other) (unless_of_part one_holds one of_one) (unless_of_part other_holds other of_other)
 
+-- the faults of objects, of marks, of roots and of references are of a part
 objects_of_part : (words : List ℕ) (i : ℕ) → All IsOfPart (object_faults words i)
 objects_of_part words i =
     let size = size_of (slice_index words i) in
@@ -62,16 +67,20 @@ no_size_fault words marks roots within =
     let r : leb roots (2 ^ 12) ≡ true = le-leb roots (2 ^ 12) within.few_roots in
     rw (w, m, r) refl
 
+-- what holds of all faults of a list holds of its first
 first_all : (P : LayoutFault → Type 0) (list : List LayoutFault) (fault : LayoutFault) → All P list → IsFirst list fault → P fault
 first_all P [] fault all first = absurd first
 first_all P (one ∷ others) fault all first = subst P (sym first) (All-head P one others all)
 
-all_five : (P : LayoutFault → Type 0) (a b c d e : List LayoutFault) → All P a → All P b → All P c → All P d → All P e → All P (a ++ b ++ c ++ d ++ e)
+-- what holds of all faults of five lists holds of those of the lists joined
+all_five : (P : LayoutFault → Type 0) (a b c d e : List LayoutFault) → All P a → All P b → All P c → All P d → All P e
+    → All P (a ++ b ++ c ++ d ++ e)
 all_five P a b c d e of_a of_b of_c of_d of_e =
     All-append P (a ++ b ++ c ++ d) e (All-append P (a ++ b ++ c) d (All-append P (a ++ b) c (All-append P a b of_a of_b) of_c) of_d) of_e
 
 -- the first fault of a heap within the limits tells of a part of it
-pub first_of_part : (heap : Heap) (fault : LayoutFault) → AreWithin (length heap.words) (length heap.marks) (length heap.roots) → IsFirst (faults heap) fault → IsOfPart fault
+pub first_of_part : (heap : Heap) (fault : LayoutFault) → AreWithin (length heap.words) (length heap.marks) (length heap.roots)
+    → IsFirst (faults heap) fault → IsOfPart fault
 first_of_part heap fault within first =
     let sizes = size_faults (length heap.words) (length heap.marks) (length heap.roots) in
     let row = flat_map (object_faults heap.words) (starts heap.words) in

@@ -1,5 +1,5 @@
 -- Lemmas on what was read into a buffer, and on what is refused behind it.
-use Rattle.std.proofs.Common.{◌≡◌, ◌≢◌, ℕ, ◌+◌, ◌^◌, ◌<◌, ◌≤◌, ◌⊎◌, inl, inr, Bool, true, false, leb, List, ◌++◌, length, take, drop, slice_index, Option, None, Some, IfSome, Err, refl, sym, ap, ◌∙◌, subst, arith, length-append}
+use Rattle.std.proofs.Common.{◌≡◌, ◌≢◌, ℕ, ◌+◌, ◌^◌, ◌<◌, ◌≤◌, ◌⊎◌, inl, inr, Bool, true, false, leb, List, ◌++◌, length, take, Option, None, Some, IfSome, Err, refl, sym, ap, ◌∙◌, subst, arith, length-append}
 use Rattle.std.proofs.lemmas.Bool.{leb-false}
 use Rattle.std.proofs.lemmas.List.{take-append-le, length-take-le, take_at}
 use Rattle.std.proofs.Math.Seq.{take-append-add}
@@ -21,7 +21,8 @@ take_filled a k n xs ys h m =
     ∙ ap (λ (part : List ℕ). front ++ part) (take-append-le n ys (post_of a k xs) m)
 
 -- what holds of the bytes behind those that were read, as a fact of all of them
-pub behind_read : (a b : Option (List ℕ)) (front : List ℕ) (P Q : List ℕ → Type 0) → Consumes a b front → IfSome b P → ((rest : List ℕ) → P rest → Q (front ++ rest)) → IfSome a Q
+pub behind_read : (a b : Option (List ℕ)) (front : List ℕ) (P Q : List ℕ → Type 0) → Consumes a b front → IfSome b P
+    → ((rest : List ℕ) → P rest → Q (front ++ rest)) → IfSome a Q
 behind_read None b front P Q read rest f = tt
 behind_read (Some xs) None front P Q read rest f = absurd read
 behind_read (Some xs) (Some ys) front P Q read rest f = subst Q (sym read) (f ys rest)
@@ -39,7 +40,8 @@ other_magic a b front read long other =
     (λ rest. inl (simp length-append (omega arith), λ same. other (sym (take_at front rest 8 long) ∙ same)))
 
 -- the magic was read, and then 4 other bytes than the version
-pub other_version : (a b c : Option (List ℕ)) (front : List ℕ) → Consumes a b magic → Consumes b c front → length front ≡ 4 → front ≢ four_bytes 1 → IfSome a (Refuses BadMagic)
+pub other_version : (a b c : Option (List ℕ)) (front : List ℕ) → Consumes a b magic → Consumes b c front
+    → length front ≡ 4 → front ≢ four_bytes 1 → IfSome a (Refuses BadMagic)
 other_version a b c front first read long other =
     let P : List ℕ → Type 0 = λ rest. (4 ≤ length rest) × (take 4 rest ≢ four_bytes 1) in
     behind_read a b magic P (Refuses BadMagic) first
@@ -47,12 +49,14 @@ other_version a b c front first read long other =
     (λ rest is. inr (rest, refl, is))
 
 -- three counts were read, one of them past its limit
-pub over_limit : (a b : Option (List ℕ)) (words marks roots : ℕ) → Consumes a b (counts words marks roots) → IsOver words marks roots → IfSome a (RefusesCounts TooLarge)
+pub over_limit : (a b : Option (List ℕ)) (words marks roots : ℕ) → Consumes a b (counts words marks roots)
+    → IsOver words marks roots → IfSome a (RefusesCounts TooLarge)
 over_limit a b words marks roots read over =
     with_front a b (counts words marks roots) (RefusesCounts TooLarge) read (λ rest. (words, marks, roots, over, (rest, refl, tt)))
 
-first_of_sizes : (words marks roots : Bool) (fault : LayoutFault) → IsFirst (unless words TooLarge ++ unless marks TooLarge ++ unless roots TooLarge) fault
-    → (fault ≡ TooLarge) × ((words ≡ false) ⊎ (marks ≡ false) ⊎ (roots ≡ false))
+-- the first fault of the three tests of the sizes tells that one failed
+first_of_sizes : (words marks roots : Bool) (fault : LayoutFault)
+    → IsFirst (unless words TooLarge ++ unless marks TooLarge ++ unless roots TooLarge) fault → (fault ≡ TooLarge) × ((words ≡ false) ⊎ (marks ≡ false) ⊎ (roots ≡ false))
 first_of_sizes false marks roots fault first = (first, inl refl)
 first_of_sizes true false roots fault first = (first, inr (inl refl))
 first_of_sizes true true false fault first = (first, inr (inr refl))
@@ -62,9 +66,15 @@ first_of_sizes true true true fault first = absurd first
 pub size_fault : (words marks roots : ℕ) (fault : LayoutFault) → IsFirst (size_faults words marks roots) fault
     → (fault ≡ TooLarge) × ((2 ^ 20 < words) ⊎ (2 ^ 20 < marks) ⊎ (2 ^ 12 < roots))
 size_fault words marks roots fault first =
-    let found = first_of_sizes (leb words (2 ^ 20)) (leb marks (2 ^ 20)) (leb roots (2 ^ 12)) fault first in
-    (found.0, elim found.1 [ inl w ↦ inl (leb-false words (2 ^ 20) w) | inr rest ↦ elim rest [ inl m ↦ inr (inl (leb-false marks (2 ^ 20) m)) | inr r ↦ inr (inr (leb-false roots (2 ^ 12) r)) ] ])
+    let found = first_of_sizes (leb words (2 ^ 20)) (leb marks (2 ^ 20)) (leb roots (2 ^ 12)) fault first in (
+      found.0,
+      elim found.1 [
+        | inl w ↦ inl (leb-false words (2 ^ 20) w)
+        | inr rest ↦ elim rest [ inl m ↦ inr (inl (leb-false marks (2 ^ 20) m)) | inr r ↦ inr (inr (leb-false roots (2 ^ 12) r)) ]
+      ],
+    )
 
+-- what ends before m behind a front ends before n, if m is as far behind the front
 ends_later : (m n : ℕ) (front rest : List ℕ) (fault : LayoutFault) → length front + m ≤ n → EndsBefore m fault rest → EndsBefore n fault (front ++ rest)
 ends_later m n front rest Truncated h short = simp length-append (omega arith)
 ends_later m n front rest OutOfMemory h short = tt
@@ -72,8 +82,8 @@ ends_later m n front rest Device h short = tt
 ends_later m n front rest _ h short = absurd short
 
 -- what ends behind the bytes that were read ends among all of them
-pub ends_behind : (a b : Option (List ℕ)) (front : List ℕ) (m n : ℕ) (fault : LayoutFault) → Consumes a b front → length front + m ≤ n → IfSome b (EndsBefore m fault)
-    → IfSome a (EndsBefore n fault)
+pub ends_behind : (a b : Option (List ℕ)) (front : List ℕ) (m n : ℕ) (fault : LayoutFault) → Consumes a b front → length front + m ≤ n
+    → IfSome b (EndsBefore m fault) → IfSome a (EndsBefore n fault)
 ends_behind a b front m n fault read h cut =
     behind_read a b front (EndsBefore m fault) (EndsBefore n fault) read cut (λ rest short. ends_later m n front rest fault h short)
 

@@ -1,4 +1,4 @@
-use Rattle.std.proofs.Common.{◌≡◌, ◌+◌, ◌-◌, ◌<◌, ℕ, List, ◌++◌, length, take, refl, sym, subst, arith, length-append, length-take}
+use Rattle.std.proofs.Common.{◌-◌, ◌<◌, ℕ, List, ◌++◌, length, take, refl, sym, subst, arith, length-append, length-take}
 use Rattle.std.proofs.lemmas.List.{take_all}
 use Rattle.std.specs.Io.KnownBytes.{Consumes}
 use Rattle.std.proofs.KnownBytes.{Consumes-nil, Consumes-trans, Consumes-whole}
@@ -30,11 +30,11 @@ loop-filled-preserved g c =
     let bound = c.in-Ok.ensures.bound in
     let bytes = c.in-Ok.ensures.bytes in
     record {
-        within = search arith;
-        read = subst (Consumes _ _) (sym (take_filled filled (length buf - filled) n buf c.read.new.buf (omega arith) (omega arith)))
-            (Consumes-trans _ _ _ (take filled buf) (take n c.read.new.buf) c.loop-filled.invariant.read bytes.0);
-        small = λ i. omega (arith, c.type_inv.buf i);
-        none_failed = omega (arith, c.in-Ok.ensures.ok, c.loop-filled.invariant.none_failed)
+      within = search arith;
+      read = subst (Consumes _ _) (sym (take_filled filled (length buf - filled) n buf c.read.new.buf (omega arith) (omega arith)))
+          (Consumes-trans _ _ _ (take filled buf) (take n c.read.new.buf) c.loop-filled.invariant.read bytes.0);
+      small = λ i. omega (arith, c.type_inv.buf i);
+      none_failed = omega (arith, c.in-Ok.ensures.ok, c.loop-filled.invariant.none_failed);
     }
 
 pub returns-in-Err-clause-counts : goal.returns-in-Err-clause-counts

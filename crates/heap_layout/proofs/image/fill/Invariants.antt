@@ -5,10 +5,10 @@ use Rattle.heap_layout.proofs.image.fill.Given as goal
 
 abbrev pub invariant-loop-filled : goal.invariant-loop-filled
 invariant-loop-filled g l = record {
-    within : l.filled ≤ length l.buf;
-    read : Consumes (g.R.Read.remaining (inner_of l.fn.r)) (g.R.Read.remaining (inner_of l.r)) (take l.filled l.buf);
-    small : (i : ℕ) → slice_index l.buf i < 2 ^ 8;
-    none_failed : failures_of l.r ≡ failures_of l.fn.r
+  within : l.filled ≤ length l.buf;
+  read : Consumes (g.R.Read.remaining (inner_of l.fn.r)) (g.R.Read.remaining (inner_of l.r)) (take l.filled l.buf);
+  small : (i : ℕ) → slice_index l.buf i < 2 ^ 8;
+  none_failed : failures_of l.r ≡ failures_of l.fn.r;
 }
 
 abbrev pub decreases-loop-filled : goal.decreases-loop-filled

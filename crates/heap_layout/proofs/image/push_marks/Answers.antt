@@ -1,4 +1,4 @@
-use Rattle.std.proofs.Common.{◌≡◌, ◌+◌, ◌*◌, ◌<◌, ◌≤◌, ℕ, length, sym, refl, ap, ◌∙◌, arith, append-nil, ◌++◌, List}
+use Rattle.std.proofs.Common.{◌+◌, ◌*◌, ◌≤◌, ℕ, length, sym, refl, ap, ◌∙◌, arith, append-nil, ◌++◌, List}
 use Rattle.std.specs.List.{flat_map}
 use Rattle.std.proofs.lemmas.List.{take_all}
 use Rattle.heap_layout.specs.Encoding.{four_bytes}
@@ -18,9 +18,9 @@ loop-i-preserved c =
     let within : 4 * i + 4 ≤ length bytes = omega arith in
     let new = four_bytes-read bytes (4 * i) _ n (λ k. omega (arith, c.type_inv.bytes k)) within (omega arith) c.read_u32.ensures in
     record {
-        bytes = ap (flat_map four_bytes) c.push_reserved.ensures.items ∙ pieces_more four_bytes 4 i n (flat_map four_bytes old) done bytes new c.loop-i.invariant.bytes;
-        len = omega arith;
-        capacity = c.push_reserved.ensures.capacity ∙ c.loop-i.invariant.capacity
+      bytes = ap (flat_map four_bytes) c.push_reserved.ensures.items ∙ pieces_more four_bytes 4 i n (flat_map four_bytes old) done bytes new c.loop-i.invariant.bytes;
+      len = omega arith;
+      capacity = c.push_reserved.ensures.capacity ∙ c.loop-i.invariant.capacity;
     }
 
 pub returns-clause-bytes : goal.returns-clause-bytes

@@ -5,7 +5,7 @@ use Rattle.heap_layout.proofs.image.push_marks.Given as goal
 
 abbrev pub invariant-loop-i : goal.invariant-loop-i
 invariant-loop-i l = record {
-    bytes : flat_map four_bytes l.marks.items ≡ flat_map four_bytes l.fn.marks.items ++ take (4 * l.i) l.bytes;
-    len : vec_len l.marks ≡ vec_len l.fn.marks + l.i;
-    capacity : vec_capacity l.marks ≡ vec_capacity l.fn.marks
+  bytes : flat_map four_bytes l.marks.items ≡ flat_map four_bytes l.fn.marks.items ++ take (4 * l.i) l.bytes;
+  len : vec_len l.marks ≡ vec_len l.fn.marks + l.i;
+  capacity : vec_capacity l.marks ≡ vec_capacity l.fn.marks;
 }

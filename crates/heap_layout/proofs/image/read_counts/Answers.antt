@@ -1,7 +1,6 @@
-use Rattle.std.proofs.Common.{◌≡◌, ◌<◌, ◌≤◌, sym, subst, arith}
+use Rattle.std.proofs.Common.{sym, subst, arith}
 use Rattle.std.proofs.lemmas.Result.{err_from_is_err_and}
 use Rattle.std.specs.Io.KnownBytes.{Consumes}
-use Rattle.heap_layout.specs.Encoding.{counts}
 use Rattle.heap_layout.proofs.Numbers.{counts_read}
 use Rattle.heap_layout.proofs.Reading.{size_fault, over_limit}
 use Rattle.heap_layout.proofs.image.read_counts.Goals as goal
@@ -13,7 +12,7 @@ returns-in_err-check_sizes-clause-cause g c =
     let marks = c.read_u32-marks.result in
     let roots = c.read_u32-roots.result in
     let same = counts_read c.fill.new.buf 8 4 words marks roots c.fill.ensures.small (omega arith) (omega arith) (omega arith)
-        c.read_u32-words.ensures c.read_u32-marks.ensures c.read_u32-roots.ensures in
+    c.read_u32-words.ensures c.read_u32-marks.ensures c.read_u32-roots.ensures in
     let large = size_fault words marks roots _ c.in_err-check_sizes.ensures in
     rw (p.1, p.2, large.0)
     (over_limit _ _ words marks roots (subst (Consumes _ _) (sym same) c.in_ok-fill.ensures.read)
@@ -22,5 +21,5 @@ returns-in_err-check_sizes-clause-cause g c =
 pub returns-clause-read : goal.returns-clause-read
 returns-clause-read g c =
     let same = counts_read c.fill.new.buf 8 4 c.read_u32-words.result c.read_u32-marks.result c.read_u32-roots.result c.fill.ensures.small (omega arith) (omega arith) (omega arith)
-        c.read_u32-words.ensures c.read_u32-marks.ensures c.read_u32-roots.ensures in
+    c.read_u32-words.ensures c.read_u32-marks.ensures c.read_u32-roots.ensures in
     subst (Consumes _ _) (sym same) c.in_ok-fill.ensures.read

@@ -14,12 +14,12 @@ loop-marks-init g c =
     let none = sym c.in_ok-marks.ensures.items in
     let bytes = g.R.Read.remaining (inner_of c.args.r.now) in
     record {
-        few = omega (arith, c.in_ok-marks.ensures.len);
-        room = omega (arith, c.in_ok-marks.ensures.capacity);
-        piece = omega (arith, c.in_ok-piece.ensures.len, c.min.ensures);
-        small = subst (λ (numbers : List ℕ). All (λ n. n < 2 ^ 32) numbers) none (λ k d h. absurd (omega arith));
-        read = subst (Consumes bytes bytes) (ap (flat_map four_bytes) none) (Consumes-nil bytes);
-        none_failed = refl
+      few = omega (arith, c.in_ok-marks.ensures.len);
+      room = omega (arith, c.in_ok-marks.ensures.capacity);
+      piece = omega (arith, c.in_ok-piece.ensures.len, c.min.ensures);
+      small = subst (λ (numbers : List ℕ). All (λ n. n < 2 ^ 32) numbers) none (λ k d h. absurd (omega arith));
+      read = subst (Consumes bytes bytes) (ap (flat_map four_bytes) none) (Consumes-nil bytes);
+      none_failed = refl;
     }
 
 pub returns-in_err-fill-clause-cut : goal.returns-in_err-fill-clause-cut
@@ -42,13 +42,13 @@ loop-marks-preserved g c =
     let read = c.fill.new.buf in
     let long : length read ≡ 4 * c.min-n.result = omega (arith, length-take {A = ℕ}) in
     record {
-        few = omega arith;
-        room = omega arith;
-        piece = c.loop-marks.invariant.piece;
-        small = c.push_marks.ensures.small c.loop-marks.invariant.small;
-        read = subst (Consumes _ _) (sym c.push_marks.ensures.bytes)
-            (Consumes-trans _ _ _ (flat_map four_bytes c.loop-marks.marks.items) read c.loop-marks.invariant.read c.in_ok-fill.ensures.read);
-        none_failed = c.in_ok-fill.ensures.counts ∙ c.loop-marks.invariant.none_failed
+      few = omega arith;
+      room = omega arith;
+      piece = c.loop-marks.invariant.piece;
+      small = c.push_marks.ensures.small c.loop-marks.invariant.small;
+      read = subst (Consumes _ _) (sym c.push_marks.ensures.bytes)
+          (Consumes-trans _ _ _ (flat_map four_bytes c.loop-marks.marks.items) read c.loop-marks.invariant.read c.in_ok-fill.ensures.read);
+      none_failed = c.in_ok-fill.ensures.counts ∙ c.loop-marks.invariant.none_failed;
     }
 
 pub returns-clause-long : goal.returns-clause-long

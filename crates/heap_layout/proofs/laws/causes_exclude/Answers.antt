@@ -1,4 +1,4 @@
-use Rattle.std.proofs.Common.{◌≡◌, Option, None, Some, sym, ◌∙◌}
+use Rattle.std.proofs.Common.{None, Some}
 use Rattle.heap_layout.specs.Encoding.{encoding}
 use Rattle.heap_layout.proofs.Verdicts.{verdicts_agree, refusal_is_verdict, accepted_is_verdict}
 use Rattle.heap_layout.proofs.laws.causes_exclude.Goals as goal
