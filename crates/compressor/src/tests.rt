@@ -14,9 +14,10 @@ struct Ran {
     err: String,
 }
 
-fn run_on<R: Files + AllocGlobal>(rt: &R, words: &[&str]) -> Result<Ran, Fail> {
+// Runs the program on the words of a line.
+fn run_on<R: Files + AllocGlobal>(rt: &R, line: &str) -> Result<Ran, Fail> {
     let mut owned = Vec::new(rt.alloc());
-    for word in words {
+    for word in line.split_whitespace() {
         owned.push(String::from_str(rt.alloc(), word)?)?;
     }
     let mut out = Vec::new(rt.alloc());
@@ -56,8 +57,12 @@ fn three_image(alloc: Global) -> Result<Vec<u8>, Fail> {
 #[test]
 fn prints_a_word(rt: HostRuntime) -> Result<(), Fail> {
     fs::write(&rt, "three.tests.img", three_image(rt.alloc())?.as_slice())?;
-    for (index, text) in [("2", "12884901889\n"), ("3", "8589934592\n"), ("63", "0\n")] {
-        let ran = run_on(&rt, &["word", "three.tests.img", index])?;
+    for (line, text) in [
+        ("word three.tests.img 2", "12884901889\n"),
+        ("word three.tests.img 3", "8589934592\n"),
+        ("word three.tests.img 63", "0\n"),
+    ] {
+        let ran = run_on(&rt, line)?;
         assert_eq!(rt; ran.status, 0);
         assert_eq!(rt; ran.out.as_str(), text);
         assert_eq!(rt; ran.err.as_str(), "");
@@ -76,25 +81,16 @@ fn tells_one_line_of_a_refusal(rt: HostRuntime) -> Result<(), Fail> {
     fs::write(&rt, "whole.tests.img", image.as_slice())?;
     fs::write(&rt, "root.tests.img", bad_root.as_slice())?;
     fs::write(&rt, "empty.tests.img", b"".as_slice())?;
-    for (words, text) in [
+    for (line, text) in [
+        ("word whole.tests.img 64", "compressor: P5 NoSuchWord(64)\n"),
         (
-            ["word", "whole.tests.img", "64"],
-            "compressor: P5 NoSuchWord(64)\n",
-        ),
-        (
-            ["word", "absent.tests.img", "0"],
+            "word absent.tests.img 0",
             "compressor: P1 CannotOpen(image)\n",
         ),
-        (
-            ["word", "root.tests.img", "64"],
-            "compressor: H6 BadRoot(0)\n",
-        ),
-        (
-            ["word", "empty.tests.img", "0"],
-            "compressor: H8 Truncated\n",
-        ),
+        ("word root.tests.img 64", "compressor: H6 BadRoot(0)\n"),
+        ("word empty.tests.img 0", "compressor: H8 Truncated\n"),
     ] {
-        let ran = run_on(&rt, &words)?;
+        let ran = run_on(&rt, line)?;
         assert_eq!(rt; ran.status, 1);
         assert_eq!(rt; ran.out.as_str(), "");
         assert_eq!(rt; ran.err.as_str(), text);
@@ -107,16 +103,16 @@ fn tells_one_line_of_a_refusal(rt: HostRuntime) -> Result<(), Fail> {
 
 #[test]
 fn tells_of_wrong_words_on_standard_error(rt: HostRuntime) -> Result<(), Fail> {
-    for words in [
-        ["word", "three.img", "x"].as_slice(),
-        ["word", "three.img"].as_slice(),
-        ["word", "three.img", "-1"].as_slice(),
-        ["word", "three.img", "18446744073709551616"].as_slice(),
-        ["word", "three.img", "1", "2"].as_slice(),
-        ["plan"].as_slice(),
-        [].as_slice(),
+    for line in [
+        "word three.img x",
+        "word three.img",
+        "word three.img -1",
+        "word three.img 18446744073709551616",
+        "word three.img 1 2",
+        "plan",
+        "",
     ] {
-        let ran = run_on(&rt, words)?;
+        let ran = run_on(&rt, line)?;
         assert_eq!(rt; ran.status, 2);
         assert_eq!(rt; ran.out.as_str(), "");
         assert!(rt; !ran.err.is_empty());
@@ -126,13 +122,8 @@ fn tells_of_wrong_words_on_standard_error(rt: HostRuntime) -> Result<(), Fail> {
 
 #[test]
 fn prints_help_on_standard_output(rt: HostRuntime) -> Result<(), Fail> {
-    for words in [
-        ["--help"].as_slice(),
-        ["-h"].as_slice(),
-        ["word", "--help"].as_slice(),
-        ["word", "-h"].as_slice(),
-    ] {
-        let ran = run_on(&rt, words)?;
+    for line in ["--help", "-h", "word --help", "word -h"] {
+        let ran = run_on(&rt, line)?;
         assert_eq!(rt; ran.status, 0);
         assert!(rt; ran.out.contains("Usage: compressor"));
         assert_eq!(rt; ran.err.as_str(), "");

@@ -53,23 +53,23 @@ rising-order marks rising (suc steps) i j same within =
 -- what was found of the index `mark` among the marks tells whether the reference to it is a target
 target-found : (marks : List ℕ) (mark reference : ℕ) (found : Result ℕ ℕ) → reference ≡ 2 ^ 32 + mark
     → MatchResult found (λ i. (i < length marks) × (get_or marks i 0 ≡ mark))
-        (λ i. (i ≤ length marks) × ((k : ℕ) → k < i → get_or marks k 0 < mark) × ((k : ℕ) → i ≤ k → k < length marks → mark < get_or marks k 0))
+    (λ i. (i ≤ length marks) × ((k : ℕ) → k < i → get_or marks k 0 < mark) × ((k : ℕ) → i ≤ k → k < length marks → mark < get_or marks k 0))
     → is_ok found ≡ is_target marks reference
 target-found marks mark reference (Ok i) same here =
     sym (or_right _ _ (list_any_at (λ other. eqb (from_address other) reference) marks i 0 here.0 (eq-eqb _ _ (omega (arith, here.1)))))
 target-found marks mark reference (Err i) same nowhere =
     let other : (k d : ℕ) → k < length marks → from_address (get_or marks k d) ≡ reference → ⊥ = λ k d within q.
-        let at_zero = get_or_default marks k d 0 within in
-        elim (cases_lt k i) [ inl below ↦ omega (arith, nowhere.1 k below) | inr above ↦ omega (arith, nowhere.2 k above within) ] in
+    let at_zero = get_or_default marks k d 0 within in
+    elim (cases_lt k i) [ inl below ↦ omega (arith, nowhere.1 k below) | inr above ↦ omega (arith, nowhere.2 k above within) ] in
     sym (or_from _ _ (ne_eqb reference 0 (λ q. omega arith))
-        (list_any_none (λ mark. eqb (from_address mark) reference) marks (λ k d within. ne_eqb _ _ (other k d within))))
+    (list_any_none (λ mark. eqb (from_address mark) reference) marks (λ k d within. ne_eqb _ _ (other k d within))))
 
 -- what a binary search of the marks for the index `mark` answers tells it
 pub target-searched : (marks : List ℕ) (mark reference : ℕ) (found : Result ℕ ℕ) → IsStrictlyIncreasing marks → reference ≡ 2 ^ 32 + mark
     → IsBinarySearchResult (λ other. nat_cmp other mark) marks found → is_ok found ≡ is_target marks reference
 target-searched marks mark reference found rising same answer =
     target-found marks mark reference found same
-        (searched marks mark found answer (λ i j order within. rising-order marks rising (j - i) i j (omega arith) within))
+    (searched marks mark found answer (λ i j order within. rising-order marks rising (j - i) i j (omega arith) within))
 
 -- a reference below from-space is no target
 pub target-below : (marks : List ℕ) (reference : ℕ) → eqb reference 0 ≡ false → reference < 2 ^ 32 → is_target marks reference ≡ false
@@ -111,7 +111,7 @@ referred-targets words all_marks (mark ∷ marks) none =
     let references = (object_at words mark).references in
     let parts = append-none (reference_faults all_marks (mark + 1) references) (target_faults words all_marks marks) none in
     All-cons (λ k. All (IsTarget all_marks) (object_at words k).references) mark marks
-        (numbered-targets (λ k. UnmarkedTarget k) all_marks (mark + 1) references parts.0) (referred-targets words all_marks marks parts.1)
+    (numbered-targets (λ k. UnmarkedTarget k) all_marks (mark + 1) references parts.0) (referred-targets words all_marks marks parts.1)
 
 -- of faults that are some and then more, the first is the first of some
 pub first-told : (some more whole : List LayoutFault) (fault : LayoutFault) → some ++ more ≡ whole → IsFirst some fault → IsFirst whole fault
@@ -162,14 +162,15 @@ closed heap accepted =
     let started = marks-started (starts heap.words) 0 heap.marks parts.marks in
     let rising = marks-rising (starts heap.words) 0 heap.marks parts.marks in
     record {
-        few_words = few.0;
-        few_marks = few.1;
-        started = started;
-        placed = marks-placed heap.words heap.marks parts.row parts.marks;
-        apart = λ k within. starts-apart (length heap.words) heap.words 0 _ _ (reached-first heap.words parts.row) (omega arith) (omega arith)
-            (rising k within) (started k 0 (omega arith)) (started (k + 1) 0 within);
-        roots = numbered-targets (λ k. BadRoot k) heap.marks 0 heap.roots parts.roots;
-        references = referred-targets heap.words heap.marks heap.marks parts.targets }
+      few_words = few.0;
+      few_marks = few.1;
+      started = started;
+      placed = marks-placed heap.words heap.marks parts.row parts.marks;
+      apart = λ k within. starts-apart (length heap.words) heap.words 0 _ _ (reached-first heap.words parts.row) (omega arith) (omega arith)
+          (rising k within) (started k 0 (omega arith)) (started (k + 1) 0 within);
+      roots = numbered-targets (λ k. BadRoot k) heap.marks 0 heap.roots parts.roots;
+      references = referred-targets heap.words heap.marks heap.marks parts.targets;
+    }
 
 -- the marks of an accepted heap rise
 pub rising : (heap : Heap) → IsAccepted heap → IsStrictlyIncreasing heap.marks

@@ -65,8 +65,9 @@ placed-start words [] k none found = cc
 placed-start words (start ∷ row) k none found =
     let parts = append-none (object_faults words start) (flat_map (object_faults words) row) none in
     elim (or_cases (eqb start k) (is_start row k) found) [
-        inl here ↦ subst (IsPlaced words) (eqb-true start k here) (placed-object words start parts.0)
-      | inr later ↦ placed-start words row k parts.1 later ]
+      | inl here ↦ subst (IsPlaced words) (eqb-true start k here) (placed-object words start parts.0)
+      | inr later ↦ placed-start words row k parts.1 later
+    ]
 
 -- a placed object has no fault
 object_faults-none : (words : List ℕ) (i : ℕ) → IsPlaced words i → object_faults words i ≡ []
@@ -79,7 +80,7 @@ pub faults-behind : (words : List ℕ) (i : ℕ) → IsPlaced words i
 faults-behind words i placed =
     let next = starts_at words (i + size_of (get_or words i 0)) in
     sym (ap (flat_map (object_faults words)) (starts_at-step words i placed.within)
-        ∙ ap (λ (list : List LayoutFault). list ++ flat_map (object_faults words) next) (object_faults-none words i placed))
+    ∙ ap (λ (list : List LayoutFault). list ++ flat_map (object_faults words) next) (object_faults-none words i placed))
 
 -- the first index is reached
 pub reached-first : (words : List ℕ) → flat_map (object_faults words) (starts words) ≡ [] → IsReached words 0
@@ -111,9 +112,10 @@ reached-next words i at within =
     let next = starts_at words (i + size_of (get_or words i 0)) in
     let none = sym (ap (flat_map (object_faults words)) (starts_at-step words i placed.within)) ∙ at.sound in
     record {
-        within = placed.within;
-        sound = (append-none (object_faults words i) (flat_map (object_faults words) next) none).1;
-        same = λ k above. start-behind words i k at within (omega arith) }
+      within = placed.within;
+      sound = (append-none (object_faults words i) (flat_map (object_faults words) next) none).1;
+      same = λ k above. start-behind words i k at within (omega arith);
+    }
 
 -- within an object none starts
 pub none-inside : (words : List ℕ) (i k : ℕ) → IsReached words i → i < length words → i < k → k < i + size_of (get_or words i 0)
@@ -130,15 +132,17 @@ pub start-found : (words : List ℕ) (i low : ℕ) → IsReached words i → (lo
     → is_start (starts words) low ≡ (eqb i low && ltb low (length words))
 start-found words i low at passed stopped =
     elim (cases_order i low) [
-        inl here ↦ elim (cases_lt low (length words)) [
-            inl within ↦ let first : i < length words = omega arith in
-                ap (is_start (starts words)) (sym here) ∙ reached-start words i at first ∙ sym (and_from _ _ (eq-eqb i low here) (lt-ltb low _ within))
-          | inr past ↦ none-past words i low at (omega arith) (omega arith) ∙ sym (and_right _ _ (le-ltb low _ past)) ]
+      | inl here ↦ elim (cases_lt low (length words)) [
+        | inl within ↦ let first : i < length words = omega arith in
+            ap (is_start (starts words)) (sym here) ∙ reached-start words i at first ∙ sym (and_from _ _ (eq-eqb i low here) (lt-ltb low _ within))
+        | inr past ↦ none-past words i low at (omega arith) (omega arith) ∙ sym (and_right _ _ (le-ltb low _ past))
+      ]
       | inr apart ↦
-            let other : eqb i low ≡ false = ne_eqb i low (λ q. elim apart [ inl below ↦ omega arith | inr above ↦ omega arith ]) in
-            let none : is_start (starts words) low ≡ false =
-                elim apart [ inl below ↦ none-past words i low at (stopped below) (omega arith) | inr above ↦ passed above ] in
-            none ∙ sym (and_left _ _ other) ]
+          let other : eqb i low ≡ false = ne_eqb i low (λ q. elim apart [ inl below ↦ omega arith | inr above ↦ omega arith ]) in
+          let none : is_start (starts words) low ≡ false =
+          elim apart [ inl below ↦ none-past words i low at (stopped below) (omega arith) | inr above ↦ passed above ] in
+          none ∙ sym (and_left _ _ other)
+    ]
 
 -- of two starts the lower one's object ends no later than the other begins
 pub starts-apart : (steps : ℕ) (words : List ℕ) (i low high : ℕ) → IsReached words i → length words ≤ i + steps → i ≤ low → low < high
@@ -146,16 +150,20 @@ pub starts-apart : (steps : ℕ) (words : List ℕ) (i low high : ℕ) → IsRea
 starts-apart zero words i low high at few above order first second = absurd (both_ways _ (none-past words i low at (omega arith) above) first)
 starts-apart (suc steps) words i low high at few above order first second =
     elim (cases_lt i (length words)) [
-        inr past ↦ absurd (both_ways _ (none-past words i low at past above) first)
+      | inr past ↦ absurd (both_ways _ (none-past words i low at past above) first)
       | inl within ↦ elim (cases_lt i low) [
-            inr here ↦ let same : i ≡ low = omega arith in
-                let P : ℕ → Type 0 = λ k. k + size_of (get_or words k 0) ≤ high in
-                subst P same (elim (cases_lt high (i + size_of (get_or words i 0))) [
-                    inl inside ↦ absurd (both_ways _ (none-inside words i high at within (omega arith) inside) second)
-                  | inr behind ↦ behind ])
-          | inl later ↦ elim (cases_lt low (i + size_of (get_or words i 0))) [
-                inl inside ↦ absurd (both_ways _ (none-inside words i low at within later inside) first)
-              | inr behind ↦ starts-apart steps words (i + size_of (get_or words i 0)) low high (reached-next words i at within) (omega arith) behind order first second ] ] ]
+        | inr here ↦ let same : i ≡ low = omega arith in
+            let P : ℕ → Type 0 = λ k. k + size_of (get_or words k 0) ≤ high in
+            subst P same (elim (cases_lt high (i + size_of (get_or words i 0))) [
+              | inl inside ↦ absurd (both_ways _ (none-inside words i high at within (omega arith) inside) second)
+              | inr behind ↦ behind
+            ])
+        | inl later ↦ elim (cases_lt low (i + size_of (get_or words i 0))) [
+          | inl inside ↦ absurd (both_ways _ (none-inside words i low at within later inside) first)
+          | inr behind ↦ starts-apart steps words (i + size_of (get_or words i 0)) low high (reached-next words i at within) (omega arith) behind order first second
+        ]
+      ]
+    ]
 
 -- an object's words, and what stands behind it
 pub words-at : (words : List ℕ) (i : ℕ) → i < length words
@@ -167,13 +175,13 @@ words-at words i within =
     let rest = drop (i + 1) words in
     let behind_refs : drop refs rest ≡ drop (i + 1 + refs) words = drop-drop refs (i + 1) words in
     let behind : drop count (drop (i + 1 + refs) words) ≡ drop (i + size_of header) words =
-        drop-drop count (i + 1 + refs) words ∙ (let same : i + 1 + refs + count ≡ i + size_of header = omega arith in ap (λ (n : ℕ). drop n words) same) in
+    drop-drop count (i + 1 + refs) words ∙ (let same : i + 1 + refs + count ≡ i + size_of header = omega arith in ap (λ (n : ℕ). drop n words) same) in
     let values : take count (drop (i + 1 + refs) words) ++ drop (i + size_of header) words ≡ drop (i + 1 + refs) words =
-        rw (← behind) (take-append-drop count (drop (i + 1 + refs) words)) in
+    rw (← behind) (take-append-drop count (drop (i + 1 + refs) words)) in
     let all : (take refs rest ++ take count (drop (i + 1 + refs) words)) ++ drop (i + size_of header) words ≡ rest =
-        append_assoc (take refs rest) (take count (drop (i + 1 + refs) words)) (drop (i + size_of header) words)
-        ∙ ap (λ (ws : List ℕ). take refs rest ++ ws) (values ∙ sym behind_refs)
-        ∙ take-append-drop refs rest in
+    append_assoc (take refs rest) (take count (drop (i + 1 + refs) words)) (drop (i + size_of header) words)
+    ∙ ap (λ (ws : List ℕ). take refs rest ++ ws) (values ∙ sym behind_refs)
+    ∙ take-append-drop refs rest in
     ap (λ (ws : List ℕ). header ∷ ws) all ∙ sym (drop_more words i 0 within)
 
 -- the words from an index that is reached are those of the objects from there on
@@ -183,10 +191,11 @@ words-from zero words i at few =
     ap (λ (row : List ℕ). flat_map words_of (map (object_at words) row)) (starts_at-past words i (omega arith)) ∙ sym (drop_all i words (omega arith))
 words-from (suc steps) words i at few =
     elim (cases_lt i (length words)) [
-        inr past ↦ ap (λ (row : List ℕ). flat_map words_of (map (object_at words) row)) (starts_at-past words i past) ∙ sym (drop_all i words past)
+      | inr past ↦ ap (λ (row : List ℕ). flat_map words_of (map (object_at words) row)) (starts_at-past words i past) ∙ sym (drop_all i words past)
       | inl within ↦
-            let next = i + size_of (get_or words i 0) in
-            let placed = reached-placed words i at within in
-            ap (λ (row : List ℕ). flat_map words_of (map (object_at words) row)) (starts_at-step words i placed.within)
-            ∙ ap (λ (ws : List ℕ). words_of (object_at words i) ++ ws) (words-from steps words next (reached-next words i at within) (omega arith))
-            ∙ words-at words i within ]
+          let next = i + size_of (get_or words i 0) in
+          let placed = reached-placed words i at within in
+          ap (λ (row : List ℕ). flat_map words_of (map (object_at words) row)) (starts_at-step words i placed.within)
+          ∙ ap (λ (ws : List ℕ). words_of (object_at words i) ++ ws) (words-from steps words next (reached-next words i at within) (omega arith))
+          ∙ words-at words i within
+    ]

@@ -1,6 +1,6 @@
 -- A marked heap: its words, the indices of its marked objects, its roots. The objects stand in the words side by side from index 0.
 use Rattle.std.specs.Prelude.{◌≡◌, ℕ, zero, suc, ◌+◌, ◌-◌, ◌^◌, ◌<◌, ◌≤◌, ◌==◌, ◌||◌, Bool, true, List, [], ◌∷◌, ◌++◌, length, take, drop, map, All, slice_index}
-use Rattle.std.specs.List.{list_any, flat_map}
+use Rattle.std.specs.List.{list_any}
 use Rattle.heap_layout.specs.Header.{refs_of, data_of, size_of}
 
 pub record Heap : Type 0 where

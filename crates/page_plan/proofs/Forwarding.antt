@@ -62,6 +62,7 @@ target-known words marks reference k target other past found =
 pub forward-null : (objects : List Object) (reference : ℕ) → reference ≡ 0 → forward objects reference ≡ Some 0
 forward-null objects reference null = rw null
 
+-- what is not found is None
 none-from : (found : Option ℕ) → is_some found ≡ false → found ≡ None
 none-from None is = refl
 none-from (Some k) is = absurd (both_ways true is refl)

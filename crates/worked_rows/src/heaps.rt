@@ -69,12 +69,9 @@ pub fn image(
     roots: &[u64],
 ) -> Result<Vec<u8>, AllocError> {
     let mut bytes = b"COMPHEAP".to_vec(alloc)?;
-    for count in [
-        version,
-        words.len() as u32,
-        marks.len() as u32,
-        roots.len() as u32,
-    ] {
+    bytes.extend_from_slice(&version.to_le_bytes())?;
+    for count in [words.len(), marks.len(), roots.len()] {
+        let count = u32::try_from(count).unwrap_or(u32::MAX);
         bytes.extend_from_slice(&count.to_le_bytes())?;
     }
     for word in words {

@@ -30,18 +30,10 @@ impl Read for Pieces<'_> {
                 return Err(Error::from(kind));
             }
         }
-        let mut given = 0;
-        for byte in buf.iter_mut() {
-            if given == self.piece {
-                break;
-            }
-            let Some((first, others)) = self.bytes.split_first() else {
-                break;
-            };
-            *byte = *first;
-            self.bytes = others;
-            given += 1;
-        }
+        let given = buf.len().min(self.piece).min(self.bytes.len());
+        let (first, others) = self.bytes.split_at(given);
+        buf[..given].copy_from_slice(first);
+        self.bytes = others;
         Ok(given)
     }
 }
