@@ -1,6 +1,8 @@
 //! The program: reads its words, does what they ask, and tells what it refuses.
 #![tactic(auto)]
 
+mod image;
+mod plan;
 mod refusal;
 mod run;
 #[cfg(test)]

@@ -3,7 +3,7 @@ ghost use Rattle.compressor.specs.declared.refusal.Refusal.TheVariants as refusa
 
 use heap_layout::fault::{self, LayoutFault};
 use std::alloc::AllocError;
-use std::fmt;
+use std::{fmt, io};
 use thiserror::Error;
 
 /// A file that the program is given.
@@ -61,5 +61,14 @@ impl From<AllocError> for Refusal {
 
     fn from(_error: AllocError) -> Refusal {
         Refusal::OutOfMemory
+    }
+}
+
+// The one device whose errors go up by `?` is standard output.
+impl From<io::Error> for Refusal {
+    ghost from_gives = { λ _ given. given ≡ refusal.CannotPrint };
+
+    fn from(_error: io::Error) -> Refusal {
+        Refusal::CannotPrint
     }
 }

@@ -1,5 +1,6 @@
 ghost use Rattle.std.specs.Prelude.{◌≤◌};
 
+use crate::plan::print_plan;
 use crate::refusal::Refusal;
 use crate::word::print_word;
 use crate::words::{Task, read_task};
@@ -47,14 +48,17 @@ fn perform<R: Files + AllocGlobal, O: Write>(
     out: &mut O,
 ) -> Result<(), Refusal> {
     match task {
+        Task::Plan { image } => print_plan(rt, image, out)?,
         Task::Word { image, index } => print_word(rt, image, index, out)?,
     }
-    out.flush().map_err(|_| Refusal::CannotPrint)
+    out.flush()?;
+    Ok(())
 }
 
 fn print_help<O: Write>(help: &clap::Error, out: &mut O) -> Result<(), Refusal> {
-    write!(out, "{help}").map_err(|_| Refusal::CannotPrint)?;
-    out.flush().map_err(|_| Refusal::CannotPrint)
+    write!(out, "{help}")?;
+    out.flush()?;
+    Ok(())
 }
 
 // The status of a task; a refusal is told. There is nowhere left to tell that telling failed.

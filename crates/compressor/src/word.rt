@@ -1,17 +1,16 @@
 //! The command `word`.
-ghost use Rattle.std.specs.Prelude.{◌≡◌, ◌*◌, ◌-◌, ◌^◌, ◌<◌, ◌≤◌, IfOk, IfErr, IfSome, slice_index};
+ghost use Rattle.std.specs.Prelude.{◌≡◌, ◌*◌, ◌-◌, ◌^◌, ◌<◌, ◌≤◌, IfOk, IfErr, IfSome, OnOk, OnErr};
 ghost use Rattle.heap_layout.specs.Counted.{inner_of, failures_of};
-ghost use Rattle.heap_layout.specs.Heap.{live};
-ghost use Rattle.page_plan.specs.Sliding.{slid_words, pages};
-ghost use Rattle.compressor.specs.Word.{IsImage, IsWordAt, IsPast, RefusesWord};
+ghost use Rattle.std.specs.Io.KnownBytes.{Appends};
+ghost use Rattle.compressor.specs.Word.{line_of, IsImage, IsWordAt, IsPast, PrintsWordAt, RefusesWord, RefusesPrint};
 
-use crate::refusal::{Input, Refusal};
+use crate::image::open_image;
+use crate::refusal::Refusal;
 use heap_layout::counted::Counted;
 use heap_layout::image::read_image;
 use page_plan::plan::Plan;
 use std::alloc::Global;
-use std::fs;
-use std::io::{BufReader, Read, Write};
+use std::io::{Read, Write};
 use std::rt::Files;
 
 /// Prints the slid word at an index, of the heap whose image is in a file.
@@ -21,10 +20,32 @@ pub fn print_word<R: Files + AllocGlobal, O: Write>(
     index: u64,
     out: &mut O,
 ) -> Result<(), Refusal> {
-    let file = fs::open(rt, path).map_err(|_| Refusal::CannotOpen(Input::Image))?;
-    let reader = BufReader::new(rt.alloc(), file).map_err(|_| Refusal::OutOfMemory)?;
-    let word = word_in(rt.alloc(), &mut Counted::new(reader), index)?;
-    writeln!(out, "{word}").map_err(|_| Refusal::CannotPrint)
+    print_word_in(rt.alloc(), &mut open_image(rt, path)?, index, out)
+}
+
+/// Prints the slid word at an index, of the heap whose image is all that the reader has left: its decimal digits and a line feed.
+pub fn print_word_in<R: Read, O: Write>(
+    alloc: Global,
+    r: &mut Counted<R>,
+    index: u64,
+    out: &mut O,
+) -> Result<(), Refusal>
+    requires { failures_of r.old < 2 ^ 64 - 1 }
+    ensures printed { OnOk result (IfSome (R.remaining (inner_of r.old))
+        (IsImage (PrintsWordAt index (O.contents out.old) (O.contents out.new)))) }
+    ensures cause { IfErr result (λ refusal. IfSome (R.remaining (inner_of r.old)) (RefusesPrint index refusal)) }
+{
+    let word = word_in(alloc, r, index)?;
+    print_number(word, out)
+}
+
+// Prints a number and a line feed.
+fn print_number<O: Write>(number: u64, out: &mut O) -> Result<(), Refusal>
+    ensures printed { OnOk result (Appends (O.contents out.old) (O.contents out.new) (line_of number)) }
+    ensures cause { OnErr result (result ≡ Err Refusal.CannotPrint) }
+{
+    writeln!(out, "{number}")?;
+    Ok(())
 }
 
 /// The slid word at an index, of the heap whose image is all that the reader has left.

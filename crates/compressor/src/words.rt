@@ -5,6 +5,8 @@ use std::alloc::{AllocError, Global};
 /// What the words ask for.
 #[derive(Debug, Drop)]
 pub enum Task<'a> {
+    /// The plan of the heap in an image.
+    Plan { image: &'a str },
     /// The slid word at an index, of the heap in an image.
     Word { image: &'a str, index: u64 },
 }
@@ -14,6 +16,7 @@ pub enum Task<'a> {
 pub fn read_task<'a>(alloc: Global, words: &'a [String]) -> Result<Option<Task<'a>>, Error> {
     let matches = command(alloc)?.try_get_matches_from(words)?;
     Ok(match matches.subcommand() {
+        Some(("plan", found)) => plan_task(found),
         Some(("word", found)) => word_task(found),
         _ => None,
     })
@@ -25,23 +28,38 @@ fn command<'a>(alloc: Global) -> Result<Command<'a>, AllocError> {
         .about("Compacts marked heaps by sliding, page by page")
         .no_binary_name(true)
         .subcommand_required(true)
+        .subcommand(plan_command(alloc)?)?
         .subcommand(word_command(alloc)?)
+}
+
+fn plan_command<'a>(alloc: Global) -> Result<Command<'a>, AllocError> {
+    Command::new(alloc, "plan")
+        .about("Prints where the live objects of a heap slide")
+        .arg(image_argument(alloc))
 }
 
 fn word_command<'a>(alloc: Global) -> Result<Command<'a>, AllocError> {
     Command::new(alloc, "word")
         .about("Prints the to-space word at an index")
-        .arg(
-            Arg::new(alloc, "IMAGE")
-                .required(true)
-                .help("The heap's image"),
-        )?
+        .arg(image_argument(alloc))?
         .arg(
             Arg::new(alloc, "INDEX")
                 .required(true)
                 .value_parser(value_parser!(u64))
                 .help("The word's index, from 0"),
         )
+}
+
+fn image_argument<'a>(alloc: Global) -> Arg<'a> {
+    Arg::new(alloc, "IMAGE")
+        .required(true)
+        .help("The heap's image")
+}
+
+fn plan_task<'a>(found: &ArgMatches<'a>) -> Option<Task<'a>> {
+    Some(Task::Plan {
+        image: found.get_str("IMAGE")?,
+    })
 }
 
 fn word_task<'a>(found: &ArgMatches<'a>) -> Option<Task<'a>> {

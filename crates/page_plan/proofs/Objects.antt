@@ -38,17 +38,15 @@ live_words-few heap closed =
     let each = All-map (λ (o : Object). size o ≤ 1024) (object_at heap.words) heap.marks (All-weaker (IsPlaced heap.words) _ short heap.marks closed.placed) in
     omega (arith, sum_by-le size 1024 (live heap) each, length-map heap.marks (object_at heap.words), closed.few_marks)
 
--- so are those of the first k objects
 pub live_words-part : (heap : Heap) → IsClosed heap → (k : ℕ) → live_words (take k (live heap)) ≤ 2 ^ 30
 live_words-part heap closed k = omega (arith, sum_by-take-le size (live heap) k, live_words-few heap closed)
 
--- how many the references and the data words of an object are, side by side
+-- the references and the data words of an object, side by side
 length-parts : (words : List ℕ) (g : ℕ → ℕ) (i refs more : ℕ) → i + (1 + refs + more) ≤ length words
     → length (map g (take refs (drop (i + 1) words)) ++ take more (drop (i + 1 + refs) words)) ≡ refs + more
 length-parts words g i refs more within =
     simp (length-append, length-map, length-take, length-drop) (omega arith)
 
--- a reference among them: the word of that index, under g
 at-reference : (words : List ℕ) (g : ℕ → ℕ) (i refs more f : ℕ) → i + (1 + refs + more) ≤ length words → f < refs
     → get_or (map g (take refs (drop (i + 1) words)) ++ take more (drop (i + 1 + refs) words)) f 0 ≡ g (get_or words (i + 1 + f) 0)
 at-reference words g i refs more f within lt =
@@ -58,7 +56,6 @@ at-reference words g i refs more f within lt =
     ∙ read_map g references f 0 0 (omega arith)
     ∙ ap g (get_or-take refs (drop (i + 1) words) f 0 lt ∙ get_or-drop (i + 1) words f 0)
 
--- a data word among them: the word of that index
 at-data : (words : List ℕ) (g : ℕ → ℕ) (i refs more f : ℕ) → i + (1 + refs + more) ≤ length words → refs ≤ f → f < refs + more
     → get_or (map g (take refs (drop (i + 1) words)) ++ take more (drop (i + 1 + refs) words)) f 0 ≡ get_or words (i + 1 + f) 0
 at-data words g i refs more f within above lt =
@@ -76,8 +73,8 @@ moved-length objects words i placed =
     let h = get_or words i 0 in
     omega (arith, length-parts words (forwarded objects) i (refs_of h) (data_of h) placed.within)
 
--- the first n pieces, side by side, are as long as the sizes of the pieces say
-length-pieces : {X : Type 0} (f : X → List ℕ) (g : X → ℕ) (xs : List X) (n : ℕ) (d : X) → ((k : ℕ) → k < length xs → length (f (get_or xs k d)) ≡ g (get_or xs k d))
+-- lists of pieces are as long as the sizes of the pieces say
+pub length-pieces : {X Y : Type 0} (f : X → List Y) (g : X → ℕ) (xs : List X) (n : ℕ) (d : X) → ((k : ℕ) → k < length xs → length (f (get_or xs k d)) ≡ g (get_or xs k d))
     → n ≤ length xs → length (flat_map f (take n xs)) ≡ sum_by g (take n xs)
 length-pieces f g xs zero d same le = refl
 length-pieces f g xs (suc n) d same le =

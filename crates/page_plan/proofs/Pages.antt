@@ -6,11 +6,10 @@ use Rattle.std.proofs.lemmas.Grind.{same_number_lists}
 use Rattle.heap_layout.specs.Heap.{Object}
 use Rattle.page_plan.specs.Sliding.{page, slid_words}
 
--- n words of a list from a place on, with zeros behind its end, are n words
+-- some words of a list from a place on, with zeros behind its end
 padded-length : (xs : List ℕ) (n at : ℕ) → length (take n (drop at xs ++ replicate n 0)) ≡ n
 padded-length xs n at = simp (length-take, length-append, length-replicate) (omega arith)
 
--- each is the list's word, or 0 behind its end
 padded-at : (xs : List ℕ) (n at k : ℕ) → k < n → get_or (take n (drop at xs ++ replicate n 0)) k 0 ≡ get_or xs (at + k) 0
 padded-at xs n at k lt =
     get_or-take n (drop at xs ++ replicate n 0) k 0 lt ∙ elim (cases_lt k (length (drop at xs))) [

@@ -1,2 +1,2 @@
 pub mod Sliding
-pub mod Walked
+pub mod Planned

@@ -1,14 +1,13 @@
 -- Sliding compaction, after the Compressor of Kermany and Petrank (2006): the live objects, by rising address, side by side, with their references
 -- forwarded. All of it is a function of the list of live objects.
-use Rattle.std.specs.Prelude.{◌≡◌, ℕ, ◌+◌, ◌*◌, ◌/◌, ◌^◌, ◌<◌, ◌==◌, List, ◌∷◌, ◌++◌, length, take, drop, map, replicate, slice_index, unwrap_or, Option, Some, if◌then◌else◌, sum_by}
+use Rattle.std.specs.Prelude.{◌≡◌, ℕ, ◌+◌, ◌-◌, ◌*◌, ◌/◌, ◌^◌, ◌<◌, ◌≤◌, ◌==◌, nat_lt, List, [], ◌∷◌, ◌++◌, length, take, drop, map, replicate, slice_index, slice_get, unwrap_or, Option, Some, None, if◌then◌else◌, sum_by}
 use Rattle.std.specs.List.{flat_map, position_from}
 use Rattle.std.specs.Option.{option_map}
-use Rattle.heap_layout.specs.Header.{size_of}
+use Rattle.heap_layout.specs.Header.{refs_of, data_of, size_of}
 use Rattle.heap_layout.specs.Heap.{Heap, Object, live, object_at, from_address}
-
--- the words of an object, its header among them
-abbrev pub size : Object → ℕ
-size object = size_of object.header
+use Rattle.heap_layout.specs.declared.kind.Kind.{Kind}
+use Rattle.heap_layout.specs.declared.kind.Kind.TheVariants.{Header, Reference, Data}
+pub use Rattle.mark_tables.specs.LiveWords.{size}
 
 abbrev pub live_words : List Object → ℕ
 live_words objects = sum_by size objects
@@ -47,6 +46,39 @@ pages objects = (live_words objects + 63) / 64
 -- page p of the slid words, with zeros behind the last live word
 unfoldable pub page : List Object → ℕ → List ℕ
 page objects p = take 64 (drop (64 * p) (slid_words objects) ++ replicate 64 0)
+
+-- the from-space index of the object that has word n of the slid words
+abbrev pub covering : ℕ → List Object → Option ℕ
+covering n [] = None
+covering n (object ∷ objects) = if nat_lt n (size object) then Some object.index else covering (n - size object) objects
+
+-- the from-space index of the first live object that has a word on page p
+abbrev pub first_object : List Object → ℕ → Option ℕ
+first_object objects p = covering (64 * p) objects
+
+-- the header of the object that starts at an address, where the first object stands at the address `here` and the others behind it
+abbrev pub header_from : ℕ → List Object → ℕ → Option ℕ
+header_from here [] address = None
+header_from here (object ∷ objects) address = if here == address then Some object.header else header_from (here + size object) objects address
+
+-- the header of the slid object that starts at an address
+abbrev pub shape_at : List Object → ℕ → Option ℕ
+shape_at objects address = header_from (to_address 0) objects address
+
+-- what the words of an object are, in order
+abbrev pub kinds_of : Object → List Kind
+kinds_of object = Header ∷ (map (λ _. Reference) object.references ++ map (λ _. Data) object.data_words)
+
+-- what the word i of the slid words is
+abbrev pub kind : List Object → ℕ → Option Kind
+kind objects i = slice_get (flat_map kinds_of objects) i
+
+-- An object of this header stands at a place of the slid words: it ends within the live words, and its words are a header, references and data.
+pub record StandsAt (objects : List Object) (place header : ℕ) : Type 0 where
+  pub ends : place + size_of header ≤ live_words objects
+  pub first : kind objects place ≡ Some Header
+  pub references : (f : ℕ) → f < refs_of header → kind objects (place + 1 + f) ≡ Some Reference
+  pub data_words : (f : ℕ) → f < data_of header → kind objects (place + 1 + refs_of header + f) ≡ Some Data
 
 -- the words of a page are those of a list from a place on, and 0 behind its end
 abbrev pub IsPartFrom : List ℕ → ℕ → List ℕ → Type 0

@@ -2,6 +2,8 @@
 #![tactic(auto)]
 
 pub mod builder;
+mod first_objects;
 pub mod laws;
+mod page_builder;
+mod places;
 pub mod plan;
-mod walk;

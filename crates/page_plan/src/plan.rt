@@ -1,11 +1,16 @@
-ghost use Rattle.std.specs.Prelude.{◌≡◌, ◌*◌, ◌<◌, IfOk};
-ghost use Rattle.heap_layout.specs.Heap.{live};
-ghost use Rattle.page_plan.specs.Sliding.{forward, live_words, page, pages, slid_words, IsPartFrom};
+ghost use Rattle.std.specs.Prelude.{◌≡◌, ◌-◌, ◌*◌, ◌<◌, ◌≤◌, Some, map, IfOk, IfSome};
+ghost use Rattle.heap_layout.specs.Heap.{live, IsClosed};
+ghost use Rattle.mark_tables.specs.LiveWords.{live_indices};
+ghost use Rattle.page_plan.specs.Planned.{AreFirst};
+ghost use Rattle.page_plan.specs.Sliding.{first_object, forward, live_words, page, pages, shape_at, slid_words, to_address, IsPartFrom, StandsAt};
 
-use crate::walk;
+use crate::places::TO_SPACE;
+use crate::{first_objects, page_builder, places};
 use heap_layout::fault::OutOfMemory;
+use heap_layout::header::Header;
 use heap_layout::heap::MarkedHeap;
 use heap_layout::page_words::PageWords;
+use mark_tables::tables::Tables;
 use std::alloc::Global;
 use std::marker::Model;
 
@@ -14,22 +19,33 @@ use std::marker::Model;
 #[derive(Debug, Drop)]
 pub struct Plan {
     heap: MarkedHeap,
+    tables: Tables,
+    first_objects: Vec<u32>,
 }
 
 impl Model for Plan {
     ghost use Rattle.heap_layout.specs.Heap.{Heap};
+    ghost use Rattle.page_plan.specs.Planned.{IsPlan};
 
     ghost Value = { Heap };
 
     ghost view = { λ plan. plan.heap };
+
+    ghost invariant = { λ plan. IsPlan plan.heap plan.tables plan.first_objects.items };
 }
 
 impl Plan {
     /// The plan for this heap.
-    pub fn new(_alloc: Global, heap: MarkedHeap) -> Result<Plan, OutOfMemory>
+    pub fn new(alloc: Global, heap: MarkedHeap) -> Result<Plan, OutOfMemory>
         ensures { IfOk result (λ plan. plan ≡ heap) }
     {
-        Ok(Plan { heap })
+        let tables = Tables::build(alloc, &heap)?;
+        let first_objects = first_objects::first_objects(alloc, &heap)?;
+        Ok(Plan {
+            heap,
+            tables,
+            first_objects,
+        })
     }
 
     /// The heap that is compacted.
@@ -39,11 +55,27 @@ impl Plan {
         &self.heap
     }
 
+    /// The tables of the heap.
+    pub(crate) fn tables(&self) -> &Tables
+        ensures indices { result.now ≡ live_indices (live self.now) }
+        ensures closed { IsClosed self.now }
+    {
+        &self.tables
+    }
+
+    /// For each page the number of the live object that has its first word.
+    pub(crate) fn first_objects(&self) -> &[u32]
+        ensures first { AreFirst (live self.now) result.now }
+        ensures closed { IsClosed self.now }
+    {
+        &self.first_objects
+    }
+
     /// How many words the live objects have.
     pub fn live_words(&self) -> u64
         ensures { result ≡ live_words (live self.now) }
     {
-        walk::live_words(self)
+        self.tables().live_words()
     }
 
     /// How many pages of 64 words they fill, the last one perhaps in part.
@@ -53,15 +85,54 @@ impl Plan {
         self.live_words().div_ceil(64)
     }
 
+    /// The from-space index of the first live object that has a word on page `p`; None past the last page.
+    pub fn first_object(&self, p: u64) -> Option<u64>
+        ensures { result ≡ first_object (live self.now) p }
+    {
+        if p >= self.pages() {
+            return None;
+        }
+        let number = first_objects::first_number(self, p);
+        Some(u64::from(self.heap.marks()[number]))
+    }
+
+    /// The header of the slid object that starts at an address; None where none starts there.
+    pub fn shape_at(&self, address: u64) -> Option<Header>
+        ensures shape { result ≡ shape_at (live self.now) address }
+        ensures above { IfSome result (λ _. to_address 0 ≤ address) }
+        ensures stands { IfSome result (λ header. StandsAt (live self.now) (address - to_address 0) header) }
+    {
+        if address < TO_SPACE {
+            return None;
+        }
+        let place = address - TO_SPACE;
+        if place >= self.live_words() {
+            return None;
+        }
+        let cursor = page_builder::cursor_to(self, place);
+        if cursor.within != 0 {
+            return None;
+        }
+        let start = self.heap.marks()[cursor.number];
+        Some(Header::from_word(self.heap.words()[start as usize]))
+    }
+
     /// Where a reference leads after sliding: 0 for 0, the to-space address for a live object's address, None for all else.
     pub fn forward(&self, reference: u64) -> Option<u64>
         ensures { result ≡ forward (live self.now) reference }
     {
         if self.heap().is_target(reference) {
-            Some(walk::place_of(self, reference))
+            Some(places::place_of(self, reference))
         } else {
             None
         }
+    }
+
+    /// Where the roots lead after sliding.
+    pub fn forward_roots(&self, alloc: Global) -> Result<Vec<u64>, OutOfMemory>
+        ensures { IfOk result (λ roots. map (λ place. Some place) roots.items ≡ map (forward (live self.now)) self.now.roots) }
+    {
+        Ok(places::places_of(alloc, self, self.heap.roots())?)
     }
 
     /// Page `p`: its 64 words, with zeros behind the last live word.
@@ -71,10 +142,10 @@ impl Plan {
         ensures words { IfOk result (λ words. IsPartFrom (slid_words (live self.now)) (64 * p) words) }
     {
         let mut page = PageWords::zeros(alloc)?;
-        let mut cursor = walk::cursor_at(self, p);
+        let mut cursor = page_builder::cursor_at(self, p);
         for offset in 0..64 {
-            page.set(offset, walk::word_at(self, cursor));
-            cursor = walk::next(self, cursor);
+            page.set(offset, page_builder::word_at(self, cursor));
+            cursor = page_builder::next(self, cursor);
         }
         Ok(page)
     }

@@ -10,4 +10,8 @@ mod images;
 #[cfg(test)]
 mod pages;
 #[cfg(test)]
+mod plain_walk;
+#[cfg(test)]
 mod readers;
+#[cfg(test)]
+mod tables;

@@ -1,7 +1,7 @@
 use Rattle.std.proofs.Common.{◌≡◌, ℕ, List, ◌+◌, ◌*◌, ◌<◌, length, slice_index}
 use Rattle.heap_layout.specs.Heap.{live}
 use Rattle.page_plan.specs.Sliding.{slid_words}
-use Rattle.page_plan.specs.Walked.{IsAt}
+use Rattle.page_plan.specs.Planned.{IsAt}
 use Rattle.page_plan.proofs.plan.Plan.build_page.Given as goal
 
 -- the words below the offset are made, and the cursor stands at the next one

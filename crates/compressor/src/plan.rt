@@ -1,0 +1,88 @@
+//! The command `plan`.
+ghost use Rattle.std.specs.Prelude.{◌≡◌, ◌-◌, ◌^◌, ◌<◌, IfErr, IfSome, OnOk, OnErr, Err};
+ghost use Rattle.std.specs.Io.KnownBytes.{Appends};
+ghost use Rattle.heap_layout.specs.Counted.{inner_of, failures_of};
+ghost use Rattle.heap_layout.specs.Heap.{live};
+ghost use Rattle.compressor.specs.Plan.{plan_text, count_lines, page_lines, root_lines, IsOfPrinting, RefusesPlan};
+ghost use Rattle.compressor.specs.Word.{IsImage};
+
+use crate::image::open_image;
+use crate::refusal::Refusal;
+use heap_layout::counted::Counted;
+use heap_layout::image::read_image;
+use page_plan::plan::Plan;
+use std::alloc::Global;
+use std::io::{Read, Write};
+use std::rt::Files;
+
+/// Prints the plan of the heap whose image is in a file.
+pub fn print_plan<R: Files + AllocGlobal, O: Write>(
+    rt: &R,
+    path: &str,
+    out: &mut O,
+) -> Result<(), Refusal> {
+    print_plan_in(rt.alloc(), &mut open_image(rt, path)?, out)
+}
+
+/// Prints the plan of the heap whose image is all that the reader has left: the live words, the pages, the first object of each page and where each
+/// root leads, a line each.
+pub fn print_plan_in<R: Read, O: Write>(
+    alloc: Global,
+    r: &mut Counted<R>,
+    out: &mut O,
+) -> Result<(), Refusal>
+    requires { failures_of r.old < 2 ^ 64 - 1 }
+    ensures printed { OnOk result (IfSome (R.remaining (inner_of r.old))
+        (IsImage (λ heap. Appends (O.contents out.old) (O.contents out.new) (plan_text heap)))) }
+    ensures cause { IfErr result (λ refusal. IfSome (R.remaining (inner_of r.old)) (RefusesPlan refusal)) }
+{
+    let heap = read_image(alloc, r)?;
+    let plan = Plan::new(alloc, heap)?;
+    write_plan(alloc, &plan, out)
+}
+
+// All lines of a plan.
+fn write_plan<O: Write>(alloc: Global, plan: &Plan, out: &mut O) -> Result<(), Refusal>
+    ensures printed { OnOk result (Appends (O.contents out.old) (O.contents out.new) (plan_text plan.now)) }
+    ensures cause { IfErr result IsOfPrinting }
+{
+    let roots = plan.forward_roots(alloc)?;
+    write_counts(plan, out)?;
+    write_pages(plan, out)?;
+    write_roots(&roots, out)
+}
+
+// The live words and the pages.
+fn write_counts<O: Write>(plan: &Plan, out: &mut O) -> Result<(), Refusal>
+    ensures printed { OnOk result (Appends (O.contents out.old) (O.contents out.new) (count_lines (live plan.now))) }
+    ensures cause { IfErr result IsOfPrinting }
+{
+    let live_words = plan.live_words();
+    let pages = plan.pages();
+    writeln!(out, "live {live_words}")?;
+    writeln!(out, "pages {pages}")?;
+    Ok(())
+}
+
+// The first object of each page.
+fn write_pages<O: Write>(plan: &Plan, out: &mut O) -> Result<(), Refusal>
+    ensures printed { OnOk result (Appends (O.contents out.old) (O.contents out.new) (page_lines (live plan.now))) }
+    ensures cause { IfErr result IsOfPrinting }
+{
+    for p in 0..plan.pages() {
+        let first = plan.first_object(p).unwrap_or(0);
+        writeln!(out, "page {p} first {first}")?;
+    }
+    Ok(())
+}
+
+// Where each root leads.
+fn write_roots<O: Write>(roots: &[u64], out: &mut O) -> Result<(), Refusal>
+    ensures printed { OnOk result (Appends (O.contents out.old) (O.contents out.new) (root_lines roots.now)) }
+    ensures cause { IfErr result IsOfPrinting }
+{
+    for (number, address) in roots.iter().enumerate() {
+        writeln!(out, "root {number} {address}")?;
+    }
+    Ok(())
+}
