@@ -1,5 +1,5 @@
 -- Lines that are printed one after the other.
-use Rattle.std.proofs.Common.{◌≡◌, ℕ, zero, suc, ◌+◌, ◌<◌, List, [], ◌∷◌, ◌++◌, length, take, get_or, refl, sym, ap, ◌∙◌, arith, append-nil, length-take}
+use Rattle.std.proofs.Common.{◌≡◌, ℕ, zero, suc, ◌+◌, ◌<◌, List, [], ◌∷◌, ◌++◌, length, take, get_or, map, Option, Some, unwrap_or, refl, sym, ap, ◌∙◌, arith, append-nil, length-take}
 use Rattle.std.specs.List.{flat_map, range_with_len, enumerate_from}
 use Rattle.std.proofs.lemmas.List.{take_more}
 use Rattle.std.proofs.lemmas.List.Concat.{flat_map-append}
@@ -36,3 +36,15 @@ enumerated-next line xs k lt =
     ∙ ap (flat_map line) (enumerate-next 0 (take k xs) (get_or xs k 0))
     ∙ flat_map-append line first ((0 + length (take k xs), get_or xs k 0) ∷ [])
     ∙ ap (λ (ys : List ℕ). flat_map line first ++ ys) (append-nil (line (0 + length (take k xs), get_or xs k 0)) ∙ ap (λ (j : ℕ). line (j, get_or xs k 0)) here)
+
+-- what each element gives, where each gives something
+pub each-given : (f : ℕ → Option ℕ) (xs ys : List ℕ) → map (λ y. Some y) ys ≡ map f xs → ys ≡ map (λ x. unwrap_or (f x) 0) xs
+each-given f [] [] h = refl
+each-given f [] (y ∷ ys) h = cc
+each-given f (x ∷ xs) [] h = cc
+each-given f (x ∷ xs) (y ∷ ys) h =
+    let heads : Some y ≡ f x = cc in
+    let tails : map (λ z. Some z) ys ≡ map f xs = cc in
+    let first : y ≡ unwrap_or (f x) 0 = ap (λ (o : Option ℕ). unwrap_or o 0) heads in
+    let others = each-given f xs ys tails in
+    cc

@@ -55,12 +55,16 @@ fn three_image(alloc: Global) -> Result<Vec<u8>, Fail> {
 }
 
 #[test]
-fn prints_a_word(rt: HostRuntime) -> Result<(), Fail> {
+fn prints_words_and_plans(rt: HostRuntime) -> Result<(), Fail> {
     fs::write(&rt, "three.tests.img", three_image(rt.alloc())?.as_slice())?;
     for (line, text) in [
         ("word three.tests.img 2", "12884901889\n"),
         ("word three.tests.img 3", "8589934592\n"),
         ("word three.tests.img 63", "0\n"),
+        (
+            "plan three.tests.img",
+            "live 4\npages 1\npage 0 first 0\nroot 0 8589934594\n",
+        ),
     ] {
         let ran = run_on(&rt, line)?;
         assert_eq!(rt; ran.status, 0);
@@ -89,6 +93,11 @@ fn tells_one_line_of_a_refusal(rt: HostRuntime) -> Result<(), Fail> {
         ),
         ("word root.tests.img 64", "compressor: H6 BadRoot(0)\n"),
         ("word empty.tests.img 0", "compressor: H8 Truncated\n"),
+        ("plan root.tests.img", "compressor: H6 BadRoot(0)\n"),
+        (
+            "plan absent.tests.img",
+            "compressor: P1 CannotOpen(image)\n",
+        ),
     ] {
         let ran = run_on(&rt, line)?;
         assert_eq!(rt; ran.status, 1);
@@ -110,6 +119,8 @@ fn tells_of_wrong_words_on_standard_error(rt: HostRuntime) -> Result<(), Fail> {
         "word three.img 18446744073709551616",
         "word three.img 1 2",
         "plan",
+        "plan three.img 1",
+        "sweep three.img",
         "",
     ] {
         let ran = run_on(&rt, line)?;
@@ -122,7 +133,7 @@ fn tells_of_wrong_words_on_standard_error(rt: HostRuntime) -> Result<(), Fail> {
 
 #[test]
 fn prints_help_on_standard_output(rt: HostRuntime) -> Result<(), Fail> {
-    for line in ["--help", "-h", "word --help", "word -h"] {
+    for line in ["--help", "-h", "word --help", "word -h", "plan --help"] {
         let ran = run_on(&rt, line)?;
         assert_eq!(rt; ran.status, 0);
         assert!(rt; ran.out.contains("Usage: compressor"));

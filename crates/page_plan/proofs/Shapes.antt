@@ -12,7 +12,7 @@ use Rattle.heap_layout.specs.Heap.{Heap, Object, object_at, live, IsPlaced, IsCl
 use Rattle.heap_layout.specs.declared.kind.Kind.{Kind}
 use Rattle.heap_layout.specs.declared.kind.Kind.TheVariants.{Header, Reference, Data}
 use Rattle.page_plan.specs.Planned.{IsAt}
-use Rattle.page_plan.specs.Sliding.{live_words, size, header_from, shape_at, kinds_of, kind, StandsAt}
+use Rattle.page_plan.specs.Sliding.{live_words, size, header_from, shape_at, kinds_of, kind, HasObject}
 use Rattle.page_plan.proofs.Objects.{live-at, live_words-next, length-pieces}
 use Rattle.page_plan.proofs.Covering.{live_words-cons}
 
@@ -122,9 +122,9 @@ kind-at heap closed k f lt inside =
     slice_get-get_or (flat_map kinds_of objects) (live_words (take k objects) + f) Header within ∙ ap (λ (x : Kind). Some x) read
 
 -- the k-th live object stands at its place
-pub stands-at : (heap : Heap) → IsClosed heap → (k place header : ℕ) → k < length heap.marks → place ≡ live_words (take k (live heap))
-    → header ≡ get_or heap.words (get_or heap.marks k 0) 0 → StandsAt (live heap) place header
-stands-at heap closed k place header lt at here =
+pub has-object : (heap : Heap) → IsClosed heap → (k place header : ℕ) → k < length heap.marks → place ≡ live_words (take k (live heap))
+    → header ≡ get_or heap.words (get_or heap.marks k 0) 0 → HasObject (live heap) place header
+has-object heap closed k place header lt at here =
     let objects = live heap in
     let mark = get_or heap.marks k 0 in
     let object = object_at heap.words mark in

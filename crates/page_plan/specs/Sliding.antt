@@ -73,8 +73,8 @@ kinds_of object = Header ∷ (map (λ _. Reference) object.references ++ map (λ
 abbrev pub kind : List Object → ℕ → Option Kind
 kind objects i = slice_get (flat_map kinds_of objects) i
 
--- An object of this header stands at a place of the slid words: it ends within the live words, and its words are a header, references and data.
-pub record StandsAt (objects : List Object) (place header : ℕ) : Type 0 where
+-- The slid words have an object of this header at a place: it ends within the live words, and its words are its header, its references and its data words, in order.
+pub record HasObject (objects : List Object) (place header : ℕ) : Type 0 where
   pub ends : place + size_of header ≤ live_words objects
   pub first : kind objects place ≡ Some Header
   pub references : (f : ℕ) → f < refs_of header → kind objects (place + 1 + f) ≡ Some Reference

@@ -1,8 +1,8 @@
-ghost use Rattle.std.specs.Prelude.{◌≡◌, ◌-◌, ◌*◌, ◌<◌, ◌≤◌, Some, map, IfOk, IfSome};
+ghost use Rattle.std.specs.Prelude.{◌≡◌, ◌-◌, ◌<◌, ◌≤◌, Some, map, IfOk, IfSome, ◌*◌, ◌^◌};
 ghost use Rattle.heap_layout.specs.Heap.{live, IsClosed};
 ghost use Rattle.mark_tables.specs.LiveWords.{live_indices};
 ghost use Rattle.page_plan.specs.Planned.{AreFirst};
-ghost use Rattle.page_plan.specs.Sliding.{first_object, forward, live_words, page, pages, shape_at, slid_words, to_address, IsPartFrom, StandsAt};
+ghost use Rattle.page_plan.specs.Sliding.{first_object, forward, live_words, page, pages, shape_at, to_address, HasObject, slid_words, IsPartFrom};
 
 use crate::places::TO_SPACE;
 use crate::{first_objects, page_builder, places};
@@ -73,14 +73,16 @@ impl Plan {
 
     /// How many words the live objects have.
     pub fn live_words(&self) -> u64
-        ensures { result ≡ live_words (live self.now) }
+        ensures words { result ≡ live_words (live self.now) }
+        ensures few { result ≤ 2 ^ 30 }
     {
         self.tables().live_words()
     }
 
     /// How many pages of 64 words they fill, the last one perhaps in part.
     pub fn pages(&self) -> u64
-        ensures { result ≡ pages (live self.now) }
+        ensures pages { result ≡ pages (live self.now) }
+        ensures few { result ≤ 2 ^ 30 }
     {
         self.live_words().div_ceil(64)
     }
@@ -100,7 +102,7 @@ impl Plan {
     pub fn shape_at(&self, address: u64) -> Option<Header>
         ensures shape { result ≡ shape_at (live self.now) address }
         ensures above { IfSome result (λ _. to_address 0 ≤ address) }
-        ensures stands { IfSome result (λ header. StandsAt (live self.now) (address - to_address 0) header) }
+        ensures object { IfSome result (λ header. HasObject (live self.now) (address - to_address 0) header) }
     {
         if address < TO_SPACE {
             return None;

@@ -1,0 +1,15 @@
+pub mod Sums
+pub mod LocksKept
+pub mod HistoryKept
+pub mod EndedKept
+pub mod ViewMoves
+pub mod PageMoves
+pub mod Claimed
+pub mod SentHome
+pub mod Drawn
+pub mod NewViews
+pub mod Goers
+pub mod Opened
+pub mod Gathering
+pub mod Ends
+pub mod TakenOut

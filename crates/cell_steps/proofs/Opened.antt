@@ -1,0 +1,90 @@
+-- The table at the start.
+use Rattle.std.proofs.Common.{◌≡◌, ℕ, zero, suc, ◌+◌, ◌%◌, ◌<◌, ◌≤◌, List, [], ◌∷◌, map, get_or, replicate, sym, refl, ap, ◌∙◌, arith, subst, None}
+use mathlib.Core.Option as maybe
+use lib.ListN.{get_elem?}
+use Rattle.atomic_table.specs.Table.{opening}
+use Rattle.std.proofs.lemmas.List.{length-map, length-replicate, get_or-replicate}
+use Rattle.cell_steps.specs.Setup.{Setup, pages, clock_at}
+use Rattle.cell_steps.specs.Lists.{total}
+use Rattle.cell_steps.specs.View.{Slot}
+use Rattle.cell_steps.specs.History.{History, Wrote}
+use Rattle.cell_steps.specs.Locks.{told_at, Cell, Placed}
+use Rattle.cell_steps.specs.Ended.{Closes}
+use Rattle.cell_steps.specs.Whole.{Keeps, first_view}
+use Rattle.cell_steps.specs.declared.view.View.{View}
+use Rattle.cell_steps.proofs.Sums.{each-one, starts-nil, below-zero}
+
+-- so many words that are 0
+abbrev pub zeros : ℕ → List ℕ
+zeros n = replicate n 0
+
+-- so many empty slots
+abbrev pub empty_slots : ℕ → List Slot
+empty_slots n = replicate n None
+
+-- each slot is empty
+empty_slot : (n p : ℕ) → p < n → get_elem? (map maybe.some (empty_slots n)) p ≡ maybe.some (maybe.some None)
+empty_slot zero p lt = absurd (omega arith)
+empty_slot (suc n) zero lt = refl
+empty_slot (suc n) (suc p) lt = empty_slot n p (omega arith)
+
+-- an empty cell
+empty_cell : (u : Setup) (word : ℕ) (homes : List (maybe.Option Slot)) (views : List View) (p : ℕ) → word ≡ 0
+    → get_elem? homes p ≡ maybe.some (maybe.some None) → total (told_at p) views ≡ 0 → Cell u word homes views (λ q. []) p
+empty_cell u word homes views p low slot told = record {
+  empty = λ e. (slot, refl);
+  home = λ e. absurd (omega arith);
+  out = λ le. absurd (omega arith);
+  told = told ∙ sym (ap (λ m. m % 2) low);
+}
+
+-- there is one view
+one_view : {A : Type 0} (a x : A) (j : ℕ) → get_elem? (a ∷ []) j ≡ maybe.some x → j ≡ 0
+one_view a x zero e = refl
+one_view a x (suc j) e = absurd (maybe.some-ne-none x (sym e))
+
+-- the rule holds of the opening state: all cells are empty, and the clock is 0
+pub keeps_opening : (u : Setup) (n : ℕ) → u.compacted ≡ n → n ≤ 1073741824 → Keeps u (opening (zeros (n + 1)) (empty_slots n) (first_view u))
+keeps_opening u n same few =
+    let v = first_view u in
+    let word : (p : ℕ) → p < n + 1 → get_or (zeros (n + 1)) p 0 ≡ 0 = λ p lt. get_or-replicate {A = ℕ} (n + 1) p 0 0 lt in
+    let clock : get_or (zeros (n + 1)) (clock_at u) 0 ≡ 0 = word (clock_at u) (omega arith) in
+    record {
+      journals = λ p. [];
+      kept = record {
+        locks = record {
+          wide = omega (arith, length-replicate {A = ℕ} (n + 1) 0, same);
+          slots = length-map (empty_slots n) maybe.some ∙ length-replicate {A = Slot} n None ∙ sym same;
+          cells = λ p lt. empty_cell u (get_or (zeros (n + 1)) p 0) (map maybe.some (empty_slots n)) (v ∷ []) p (word p (omega arith)) (empty_slot n p (omega arith)) refl;
+          outside = λ p le. refl;
+          placed = each-one (Placed u (zeros (n + 1)) (λ p. [])) v record {
+            about = λ lt. refl;
+            at = λ p e. absurd (omega arith);
+            told = λ e. refl;
+            built = λ p some. absurd (omega arith);
+          };
+          single = λ i j x y e d lt ports. one_view v x i e ∙ sym (one_view v y j d);
+        };
+        history = subst (λ c. History u c (v ∷ []) (λ p. [])) (sym clock) record {
+          sums = λ f. below-zero (pages u);
+          rises = λ p. omega arith;
+          short = λ p. omega arith;
+          outside = λ p le. refl;
+          few = omega arith;
+          wrote = each-one (Wrote 0 (λ p. [])) v record {
+            begins = λ p. starts-nil [];
+            own = λ k e p. (refl, refl);
+            rises = omega arith;
+            strangers = λ k lt le p. refl;
+          };
+        };
+        ended = record {
+          closes = each-one (Closes (v ∷ [])) v record {
+            rests = λ e. refl;
+            learnt = λ i x e. absurd (maybe.some-ne-none x (sym e));
+            maker = λ lt. refl;
+            ports = λ lt. each-one (λ (w : View). w.known.port < 2) v (omega arith);
+          };
+        };
+      };
+    }

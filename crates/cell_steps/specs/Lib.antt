@@ -1,0 +1,12 @@
+pub mod Setup
+pub mod Lists
+pub mod View
+pub mod Locks
+pub mod History
+pub mod Ended
+pub mod Whole
+pub mod Plays
+pub mod Knowing
+pub mod Passes
+pub mod Notes
+pub mod Closing

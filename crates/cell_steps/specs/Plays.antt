@@ -1,0 +1,126 @@
+-- What each step tells: of the step, the seat before, the word that was found and the seat after.
+use Rattle.std.specs.Prelude.{◌≡◌, ◌≢◌, ℕ, ◌+◌, ◌-◌, ◌/◌, ◌%◌, ◌<◌, ◌==◌, ◌||◌, ◌&&◌, nat_lt, not, cond, Bool, true, List, [], ◌∷◌, ◌++◌, None}
+use Rattle.atomic_table.specs.Table.{Me, Step, rest}
+use Rattle.comp_journal.specs.declared.entry.Entry.{Entry}
+use Rattle.heap_layout.specs.declared.kind.Kind.TheVariants.{Data}
+use Rattle.cell_steps.specs.Lists.{look, times, StartsWith, Rises}
+use Rattle.cell_steps.specs.View.{Known, Slot}
+use Rattle.cell_steps.specs.Locks.{seen_of, IsPage}
+use Rattle.cell_steps.specs.Whole.{fresh_view}
+use Rattle.cell_steps.specs.declared.view.View.{View}
+
+-- a seat of the table: what the pass knows, and the slots that it has taken
+abbrev pub Seat : Type 0
+Seat = Me Slot View
+
+-- what a step tells
+abbrev pub Play : Type 1
+Play = Step Slot → Seat → ℕ → Seat → Type 0
+
+-- the state word n has the number of another pass
+abbrev pub is_others : View → ℕ → Bool
+is_others v n = nat_lt 1 n && not (n / 2 == v.known.port)
+
+-- n is not the state word that the pass last found or left on page p, at first 0
+abbrev pub is_news : View → ℕ → ℕ → Bool
+is_news v p n = not (n == look 0 v.last p)
+
+-- the pass has then seen page p built
+abbrev pub knowing_built : Known → ℕ → Known
+knowing_built known p = record known { built = p ∷ known.built }
+
+-- after a load that found n
+abbrev pub after_load : View → ℕ → ℕ → View
+after_load v p n = record v {
+  known = cond (n % 2 == 1) (knowing_built v.known p) v.known;
+  lost = cond (is_others v n) (p ∷ v.lost) v.lost;
+  last = (p, n) ∷ v.last;
+}
+
+-- after an exchange that found n and left x
+abbrev pub after_exchange : View → ℕ → ℕ → ℕ → View
+after_exchange v p n x = record v { lost = cond (is_others v n || is_news v p n) (p ∷ v.lost) v.lost; last = (p, x) ∷ v.last }
+
+-- the pass then builds page p, or holds it
+abbrev pub arriving : View → ℕ → ℕ → View
+arriving v p mode = record v { at = p + 1; mode = mode }
+
+-- the pass then has no page, and left n
+abbrev pub leaving : View → ℕ → ℕ → View
+leaving v p n = record v { at = 0; last = (p, n) ∷ v.last }
+
+-- the pass has then seen this journal of page p
+abbrev pub seeing : View → ℕ → List Entry → View
+seeing v p journal = record v { known = record v.known { seen = (p, journal) ∷ v.known.seen; built = p ∷ v.known.built } }
+
+-- the pass tells that it built page p
+abbrev pub telling : View → ℕ → View
+telling v p = record v { known = record v.known { told = v.known.told ++ p ∷ []; built = p ∷ v.known.built } }
+
+-- the pass wrote an entry to page p, and has seen it
+abbrev pub drawing : View → ℕ → Entry → View
+drawing v p e = record v { known = record v.known { seen = (p, seen_of v p ++ e ∷ []) ∷ v.known.seen; did = v.known.did ++ (p, e) ∷ [] } }
+
+-- an entry that stands for none
+abbrev pub no_entry : Entry
+no_entry = record { stamp = 0; writer = 0; kind = Data; offset = 0; value = 0 }
+
+-- the entry with its stamp
+abbrev pub stamped : Entry → ℕ → Entry
+stamped e stamp = record e { stamp = stamp }
+
+-- A load. A page that the pass has seen built is home or held, and the pass's own number is found only where it is.
+abbrev pub loads : Play
+loads st m r n = (n ≡ (after_load m.0 st.word r, m.1)) × (0 < times st.word m.0.known.built → r % 2 ≡ 1) × (1 < r → r / 2 ≡ m.0.known.port → m.0.at ≡ st.word + 1)
+
+-- An exchange on an empty cell, after which the pass builds the page
+abbrev pub claims_empty : Play
+claims_empty st m r n =
+    (r ≡ 0 → n ≡ (arriving (after_exchange m.0 st.word r st.second) st.word 0, (st.word, None) ∷ m.1))
+    × (r ≢ 0 → n ≡ (after_exchange m.0 st.word r r, m.1))
+
+-- the pass takes page p, with all of its journal, which begins with what the pass had seen
+abbrev pub Takes : Seat → ℕ → ℕ → Seat → Type 0
+Takes m p word n =
+    (journal : List Entry) × (slot : Slot) × IsPage m.0.about p journal slot × StartsWith journal (seen_of m.0 p)
+    × (n ≡ (seeing (arriving (after_exchange m.0 p 1 word) p 1) p journal, (p, slot) ∷ m.1))
+
+-- An exchange on a page that is home, after which the pass holds it
+abbrev pub claims_home : Play
+claims_home st m r n = (r ≡ 1 → Takes m st.word st.second n) × (r ≢ 1 → n ≡ (after_exchange m.0 st.word r r, m.1))
+
+-- The page goes home after it was built.
+abbrev pub builds : Play
+builds st m r n = n ≡ (telling (leaving m.0 st.word 1) st.word, rest m.1)
+
+-- The page goes home after it was held.
+abbrev pub returns_home : Play
+returns_home st m r n = n ≡ (leaving m.0 st.word 1, rest m.1)
+
+-- The cell is empty again.
+abbrev pub gives_up : Play
+gives_up st m r n = n ≡ (leaving m.0 st.word 0, rest m.1)
+
+-- The old clock is the stamp of an entry of the page that the pass holds. It is above all stamps that the pass had seen.
+abbrev pub draws : Entry → Play
+draws e st m r n = (n ≡ (drawing m.0 (m.0.at - 1) (stamped e r), m.1)) × ((q : ℕ) → Rises 0 (seen_of m.0 q) r)
+
+-- The first pass makes the next one.
+abbrev pub making : View → View
+making v = record v { known = record v.known { next = v.known.next + 1 } }
+
+-- the pass that is made knows nothing yet
+abbrev pub made : View → View
+made v = fresh_view v.about v.known.next 0
+
+-- The pass ends, and a note has what it knew.
+abbrev pub ending : View → View
+ending v = record v { ended = true }
+
+-- the note has what the pass knew
+abbrev pub note_of : View → View
+note_of v = record (fresh_view v.about 0 0) { learnt = v.known ∷ [] }
+
+-- One note takes in another.
+abbrev pub learning : View → View → View
+learning v w = record v { learnt = v.learnt ++ w.learnt }

@@ -1,0 +1,20 @@
+ghost use Rattle.std.specs.Prelude.{◌≡◌, ◌+◌};
+
+mod calls;
+mod closing;
+mod opening;
+
+use crate::frame::Frame;
+use crate::plays::Slot;
+use crate::rule::Cells;
+use crate::view::View;
+use atomic_table::Table;
+use std::alloc::Global;
+
+/// The cells of all pages. Each call is one atomic step.
+#[derive(Drop)]
+pub struct Steps {
+    pub(crate) table: Table<Slot, View, Frame, Cells, Global>,
+    ghost words: { table.shared.table_id.words ≡ table.shared.key.pages + 1 },
+    ghost slots: { table.shared.table_id.slots ≡ table.shared.key.pages },
+}

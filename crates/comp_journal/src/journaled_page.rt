@@ -1,0 +1,98 @@
+ghost use Rattle.std.specs.Prelude.{◌≡◌, ◌↔◌, ◌+◌, ◌-◌, ◌<◌, ◌≤◌, [], ◌∷◌, ◌++◌, length, OnOk, OnErr, IsErrOf};
+ghost use Rattle.comp_journal.specs.Journal.{replayed};
+ghost use Rattle.comp_journal.specs.declared.refusal.JournalRefusal.TheVariants.{JournalFull};
+
+use crate::entry::Entry;
+use crate::refusal::JournalRefusal;
+use heap_layout::page_words::{PAGE_WORDS, PageWords};
+use std::alloc::Global;
+use std::marker::Model;
+
+/// The most entries of a journal.
+pub const MOST_ENTRIES: usize = 1_024;
+
+/// A page with its journal. Its words are what the journal, in order, makes of the base.
+#[derive(Debug, Drop)]
+pub struct JournaledPage {
+    base: [u64; PAGE_WORDS],
+    words: PageWords,
+    journal: Vec<Entry>,
+}
+
+impl Model for JournaledPage {
+    ghost use Rattle.std.specs.Prelude.{◌≡◌, ◌≤◌, ◌-◌, min, length, vec_len, vec_capacity};
+    ghost use Rattle.comp_journal.specs.Journal.{replayed, Reserved};
+
+    ghost Value = { Reserved };
+
+    ghost view = { λ page. record {
+      page = record { base = page.base; journal = page.journal.items };
+      room = min (vec_capacity page.journal) 1024 - vec_len page.journal;
+    } };
+
+    ghost invariant = { λ page. (page.words ≡ replayed page.base page.journal.items) × (vec_len page.journal ≤ 1024) };
+}
+
+impl JournaledPage {
+    /// A page with an empty journal, which takes no memory. The journal will grow by `alloc`.
+    pub fn new(alloc: Global, words: PageWords) -> JournaledPage
+        ensures { result.page ≡ record { base = words; journal = [] } }
+    {
+        let base = *words.as_array();
+        JournaledPage {
+            base,
+            words,
+            journal: Vec::new(alloc),
+        }
+    }
+
+    /// The page's words.
+    pub fn words(&self) -> &[u64; PAGE_WORDS]
+        ensures { result.now ≡ replayed self.now.page.base self.now.page.journal }
+    {
+        self.words.as_array()
+    }
+
+    /// Every write into the page, in order.
+    pub fn journal(&self) -> &[Entry]
+        ensures entries { result.now ≡ self.now.page.journal }
+        ensures few { length self.now.page.journal ≤ 1024 }
+    {
+        &self.journal
+    }
+
+    /// The words that the page began with.
+    pub fn base(&self) -> &[u64; PAGE_WORDS]
+        ensures { result.now ≡ self.now.page.base }
+    {
+        &self.base
+    }
+
+    /// Reserves room for one entry.
+    ///
+    /// A journal of 1,024 entries is full, which is tested first. After a refusal the page is unchanged.
+    pub fn reserve_entry(&mut self) -> Result<(), JournalRefusal>
+        ensures same { self.new.page ≡ self.old.page }
+        ensures room { OnOk result (0 < self.new.room) }
+        ensures full { IsErrOf result JournalFull ↔ (length self.old.page.journal ≡ 1024) }
+        ensures err { OnErr result (self.new.room ≡ self.old.room) }
+    {
+        if self.journal.len() == MOST_ENTRIES {
+            return Err(JournalRefusal::JournalFull);
+        }
+        self.journal.reserve(1)?;
+        Ok(())
+    }
+
+    /// Writes the entry's value at its offset, and the entry at the journal's end. It takes no memory.
+    pub fn append_reserved(&mut self, entry: Entry)
+        requires room { 0 < self.old.room }
+        requires offset { entry.offset < 64 }
+        ensures base { self.new.page.base ≡ self.old.page.base }
+        ensures journal { self.new.page.journal ≡ self.old.page.journal ++ entry ∷ [] }
+        ensures room { self.new.room + 1 ≡ self.old.room }
+    {
+        self.words.set(entry.offset, entry.value);
+        self.journal.push_reserved(entry);
+    }
+}
