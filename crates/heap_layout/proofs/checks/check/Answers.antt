@@ -2,11 +2,5 @@ use Rattle.heap_layout.specs.Heap.{starts}
 use Rattle.heap_layout.proofs.Marked.{marks-rising, marks-placed}
 use Rattle.heap_layout.proofs.checks.check.Goals as goal
 
-pub check_roots-requires : goal.check_roots-requires
-check_roots-requires c = marks-rising (starts c.args.words.now) 0 c.args.marks.now c.in_ok-check_marks.ensures
-
-pub check_targets-requires-clause-rising : goal.check_targets-requires-clause-rising
-check_targets-requires-clause-rising c = marks-rising (starts c.args.words.now) 0 c.args.marks.now c.in_ok-check_marks.ensures
-
 pub check_targets-requires-clause-placed : goal.check_targets-requires-clause-placed
 check_targets-requires-clause-placed c = marks-placed c.args.words.now c.args.marks.now c.in_ok-check_row.ensures c.in_ok-check_marks.ensures
