@@ -7,8 +7,8 @@ use crate::bits::{is_set, set};
 use crate::checks::{FROM_SPACE, MOST_WORDS};
 use std::marker::Model;
 
-// Enough for a bit for each word of the largest heap.
-const BLOCKS: usize = 16_384;
+// Blocks of 64 bits, one bit for each word of the largest heap.
+const BLOCKS: usize = MOST_WORDS / 64;
 
 /// For each from-space word whether a marked object starts there.
 #[derive(Drop)]
