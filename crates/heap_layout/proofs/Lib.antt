@@ -1,3 +1,4 @@
+pub mod MarkBits
 pub mod Rows
 pub mod Marked
 pub mod Images

@@ -1,5 +1,5 @@
 -- Marks, roots and references of a heap without faults.
-use Rattle.std.proofs.Common.{◌≡◌, ℕ, zero, suc, ◌+◌, ◌-◌, ◌<◌, ◌≤◌, ◌^◌, true, false, eqb, List, [], ◌∷◌, ◌++◌, inl, inr, All, length, get_or, slice_range, drop, Result, Ok, Err, MatchResult, is_ok, sym, ap, subst, ◌∙◌, arith}
+use Rattle.std.proofs.Common.{◌≡◌, ℕ, zero, suc, ◌+◌, ◌-◌, ◌<◌, ◌≤◌, ◌^◌, Bool, true, false, eqb, List, [], ◌∷◌, ◌++◌, inl, inr, All, length, get_or, slice_range, drop, Result, Ok, Err, MatchResult, is_ok, sym, ap, subst, ◌∙◌, arith}
 use Rattle.std.specs.List.{flat_map, enumerate_from}
 use Rattle.std.specs.List.Sorted.{IsStrictlyIncreasing, IsBinarySearchResult}
 use Rattle.std.specs.Ordering.{nat_cmp}
@@ -10,7 +10,7 @@ use Rattle.std.proofs.lemmas.List.{at_drop_more, get_or_default}
 use Rattle.std.proofs.lemmas.Bool.{leb-true, eq-eqb, ne_eqb, or_from, or_right, cases_lt}
 use Rattle.heap_layout.specs.Header.{refs_of}
 use Rattle.heap_layout.specs.Heap.{Heap, object_at, objects, words_of, starts, is_start, is_target, from_address, IsTarget, IsPlaced, IsClosed}
-use Rattle.heap_layout.specs.Faults.{unless, size_faults, object_faults, mark_faults, root_faults, reference_faults, target_faults, IsAccepted, IsFirst}
+use Rattle.heap_layout.specs.Faults.{unless, size_faults, object_faults, mark_faults, root_faults, reference_faults, target_faults, reference_faults_by, target_faults_by, IsAccepted, IsFirst}
 use Rattle.heap_layout.specs.declared.fault.LayoutFault.{LayoutFault}
 use Rattle.heap_layout.specs.declared.fault.LayoutFault.TheVariants.{UnmarkedTarget, BadRoot}
 use Rattle.heap_layout.proofs.Rows.{append-none, unless-none, placed-start, reached-first, starts-apart, words-from}
@@ -95,13 +95,13 @@ numbered-targets fault marks first (reference ∷ references) none =
     All-cons (IsTarget marks) reference references (unless-none _ _ parts.0) (numbered-targets fault marks (first + 1) references parts.1)
 
 -- the faults of the marked objects that are left are those of the first of them, whose references are read as a range of the words, and of the rest
-pub targets-next : (words all_marks marks : List ℕ) (k header refs : ℕ) → k < length marks → header ≡ get_or words (get_or marks k 0) 0 → refs ≡ refs_of header
-    → reference_faults all_marks (get_or marks k 0 + 1) (slice_range words (get_or marks k 0 + 1) (get_or marks k 0 + 1 + refs))
-    ++ target_faults words all_marks (drop (k + 1) marks) ≡ target_faults words all_marks (drop k marks)
-targets-next words all_marks marks k header refs within read same =
+pub targets-next : (test : ℕ → Bool) (words marks : List ℕ) (k header refs : ℕ) → k < length marks → header ≡ get_or words (get_or marks k 0) 0 → refs ≡ refs_of header
+    → reference_faults_by test (get_or marks k 0 + 1) (slice_range words (get_or marks k 0 + 1) (get_or marks k 0 + 1 + refs))
+    ++ target_faults_by test words (drop (k + 1) marks) ≡ target_faults_by test words (drop k marks)
+targets-next test words marks k header refs within read same =
     let first = get_or marks k 0 + 1 in
     let count : first + refs - first ≡ refs_of (get_or words (get_or marks k 0) 0) = omega (arith, same ∙ ap refs_of read) in
-    rw count (sym (at_drop_more (target_faults words all_marks) marks k 0 within))
+    rw count (sym (at_drop_more (target_faults_by test words) marks k 0 within))
 
 -- marked objects without a fault lead to targets
 pub referred-targets : (words all_marks marks : List ℕ) → target_faults words all_marks marks ≡ []

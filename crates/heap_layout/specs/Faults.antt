@@ -34,18 +34,29 @@ mark_faults row low [] = []
 mark_faults row low (mark ∷ marks) =
     (unless (nat_le low mark) (MarksNotRising mark) ++ unless (is_start row mark) (MarkNotStart mark)) ++ mark_faults row (mark + 1) marks
 
--- each root is null or a marked object's address; a fault names the root's number
-abbrev pub root_faults : List ℕ → List ℕ → List LayoutFault
-root_faults marks roots = flat_map (λ root. unless (is_target marks root.1) (BadRoot root.0)) (enumerate_from 0 roots)
+-- each root passes the test; a fault names the root's number
+abbrev pub root_faults_by : (ℕ → Bool) → List ℕ → List LayoutFault
+root_faults_by test roots = flat_map (λ root. unless (test root.1) (BadRoot root.0)) (enumerate_from 0 roots)
 
 -- each of the references, the first of which stands at index `first`, likewise; a fault names the reference's index
+abbrev pub reference_faults_by : (ℕ → Bool) → ℕ → List ℕ → List LayoutFault
+reference_faults_by test first references = flat_map (λ reference. unless (test reference.1) (UnmarkedTarget reference.0)) (enumerate_from first references)
+
+-- the references of each marked object likewise
+abbrev pub target_faults_by : (ℕ → Bool) → List ℕ → List ℕ → List LayoutFault
+target_faults_by test words marks = flat_map (λ mark. reference_faults_by test (mark + 1) (object_at words mark).references) marks
+
+-- each root is null or a marked object's address
+abbrev pub root_faults : List ℕ → List ℕ → List LayoutFault
+root_faults marks roots = root_faults_by (is_target marks) roots
+
+-- each of the references likewise
 abbrev pub reference_faults : List ℕ → ℕ → List ℕ → List LayoutFault
-reference_faults marks first references =
-    flat_map (λ reference. unless (is_target marks reference.1) (UnmarkedTarget reference.0)) (enumerate_from first references)
+reference_faults marks first references = reference_faults_by (is_target marks) first references
 
 -- the references of each marked object likewise
 abbrev pub target_faults : List ℕ → List ℕ → List ℕ → List LayoutFault
-target_faults words all_marks marks = flat_map (λ mark. reference_faults all_marks (mark + 1) (object_at words mark).references) marks
+target_faults words all_marks marks = target_faults_by (is_target all_marks) words marks
 
 abbrev pub faults : Heap → List LayoutFault
 faults heap =

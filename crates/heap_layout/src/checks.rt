@@ -3,10 +3,12 @@ ghost use Rattle.std.specs.Prelude.{◌≡◌, ◌+◌, ◌^◌, ◌≤◌, ◌=
 ghost use Rattle.std.specs.List.Sorted.{IsStrictlyIncreasing};
 ghost use Rattle.std.specs.List.{flat_map};
 ghost use Rattle.heap_layout.specs.Heap.{starts, is_start, is_target, IsPlaced};
-ghost use Rattle.heap_layout.specs.Faults.{IsReached, size_faults, object_faults, mark_faults, root_faults, reference_faults, target_faults, faults, Tells};
+ghost use Rattle.heap_layout.specs.Bits.{leads};
+ghost use Rattle.heap_layout.specs.Faults.{IsReached, size_faults, object_faults, mark_faults, root_faults_by, reference_faults_by, target_faults_by, faults, Tells};
 
 use crate::fault::LayoutFault;
 use crate::header::Header;
+use crate::targets::Targets;
 
 /// The most words of a heap.
 pub const MOST_WORDS: usize = 1_048_576;
@@ -30,8 +32,9 @@ pub fn check(words: &[u64], marks: &[u32], roots: &[u64]) -> Result<(), LayoutFa
     check_sizes(words.len(), marks.len(), roots.len())?;
     check_row(words)?;
     check_marks(words, marks)?;
-    check_roots(marks, roots)?;
-    check_targets(words, marks)
+    let targets = Targets::from_marks(marks);
+    check_roots(&targets, roots)?;
+    check_targets(&targets, words, marks)
 }
 
 /// Whether there are few enough words, marks and roots.
@@ -118,12 +121,11 @@ pub fn is_target(marks: &[u32], reference: u64) -> bool
 }
 
 // Each root is null or a marked object's address.
-fn check_roots(marks: &[u32], roots: &[u64]) -> Result<(), LayoutFault>
-    requires { IsStrictlyIncreasing marks.now }
-    ensures { Tells (root_faults marks.now roots.now) result }
+fn check_roots(targets: &Targets, roots: &[u64]) -> Result<(), LayoutFault>
+    ensures { Tells (root_faults_by (leads targets.now) roots.now) result }
 {
     for (number, &root) in roots.iter().enumerate() {
-        if !is_target(marks, root) {
+        if !targets.has(root) {
             return Err(LayoutFault::BadRoot(number as u64));
         }
     }
@@ -131,28 +133,26 @@ fn check_roots(marks: &[u32], roots: &[u64]) -> Result<(), LayoutFault>
 }
 
 // Each reference of each marked object is null or a marked object's address.
-fn check_targets(words: &[u64], marks: &[u32]) -> Result<(), LayoutFault>
+fn check_targets(targets: &Targets, words: &[u64], marks: &[u32]) -> Result<(), LayoutFault>
     requires few { length words.now ≤ 2 ^ 20 }
-    requires rising { IsStrictlyIncreasing marks.now }
     requires placed { All (IsPlaced words.now) marks.now }
-    ensures { Tells (target_faults words.now marks.now marks.now) result }
+    ensures { Tells (target_faults_by (leads targets.now) words.now marks.now) result }
 {
     for &mark in marks {
         let first = mark as usize + 1;
         let refs = Header::from_word(words[mark as usize]).refs() as usize;
-        check_references(marks, first as u64, &words[first..first + refs])?;
+        check_references(targets, first as u64, &words[first..first + refs])?;
     }
     Ok(())
 }
 
 // Each of the references, the first of which stands at index `first`, likewise.
-fn check_references(marks: &[u32], first: u64, references: &[u64]) -> Result<(), LayoutFault>
-    requires rising { IsStrictlyIncreasing marks.now }
-    requires fits { first + length references.now ≤ 2 ^ 32 }
-    ensures { Tells (reference_faults marks.now first references.now) result }
+fn check_references(targets: &Targets, first: u64, references: &[u64]) -> Result<(), LayoutFault>
+    requires { first + length references.now ≤ 2 ^ 32 }
+    ensures { Tells (reference_faults_by (leads targets.now) first references.now) result }
 {
     for (i, &reference) in references.iter().enumerate() {
-        if !is_target(marks, reference) {
+        if !targets.has(reference) {
             return Err(LayoutFault::UnmarkedTarget(first + i as u64));
         }
     }

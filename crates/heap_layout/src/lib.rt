@@ -1,6 +1,7 @@
 //! The layout of a marked heap, and its images: headers, heaps that are accepted and why others are not, pages of words, and reading an image.
 #![tactic(auto)]
 
+pub mod bits;
 pub mod checks;
 pub mod counted;
 pub mod fault;
@@ -10,3 +11,4 @@ pub mod image;
 pub mod kind;
 pub mod laws;
 pub mod page_words;
+mod targets;

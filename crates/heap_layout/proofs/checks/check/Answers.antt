@@ -1,12 +1,31 @@
-use Rattle.heap_layout.specs.Heap.{starts}
-use Rattle.heap_layout.proofs.Marked.{marks-rising, marks-placed}
+use Rattle.std.proofs.Common.{◌≡◌, ◌≤◌, ◌^◌, ℕ, Bool, [], length, subst, arith, rules}
+use Rattle.std.proofs.lemmas.Grind.{common_steps}
+use Rattle.heap_layout.specs.Heap.{IsPlaced}
+use Rattle.heap_layout.specs.Faults.{root_faults, root_faults_by, target_faults, target_faults_by, IsFirst, Tells}
+use Rattle.heap_layout.proofs.Marked.{marks-placed, sizes-few}
 use Rattle.heap_layout.proofs.checks.check.Goals as goal
 
-pub check_roots-requires : goal.check_roots-requires
-check_roots-requires c = marks-rising (starts c.args.words.now) 0 c.args.marks.now c.in_ok-check_marks.ensures
-
-pub check_targets-requires-clause-rising : goal.check_targets-requires-clause-rising
-check_targets-requires-clause-rising c = marks-rising (starts c.args.words.now) 0 c.args.marks.now c.in_ok-check_marks.ensures
+pub from_marks-targets-requires : goal.from_marks-targets-requires
+from_marks-targets-requires c = λ k d within.
+    let few = sizes-few (length c.args.words.now) (length c.args.marks.now) (length c.args.roots.now) c.in_ok-check_sizes.ensures in
+    let placed = marks-placed c.args.words.now c.args.marks.now c.in_ok-check_row.ensures c.in_ok-check_marks.ensures k d within in
+    omega (arith, few.0, placed.within)
 
 pub check_targets-requires-clause-placed : goal.check_targets-requires-clause-placed
 check_targets-requires-clause-placed c = marks-placed c.args.words.now c.args.marks.now c.in_ok-check_row.ensures c.in_ok-check_marks.ensures
+
+pub returns-in_err-check_roots : goal.returns-in_err-check_roots
+returns-in_err-check_roots c =
+    let roots : IsFirst (root_faults c.args.marks.now c.args.roots.now) c.in_err-check_roots.field-0.0 =
+    subst (λ (test : ℕ → Bool). IsFirst (root_faults_by test c.args.roots.now) c.in_err-check_roots.field-0.0) c.from_marks-targets.ensures c.in_err-check_roots.ensures in
+    grind (arith, common_steps)
+
+pub returns : goal.returns
+returns c =
+    let words = c.args.words.now in
+    let marks = c.args.marks.now in
+    let roots : root_faults marks c.args.roots.now ≡ [] =
+    subst (λ (test : ℕ → Bool). root_faults_by test c.args.roots.now ≡ []) c.from_marks-targets.ensures c.in_ok-check_roots.ensures in
+    let targets : Tells (target_faults words marks marks) c.check_targets.result =
+    subst (λ (test : ℕ → Bool). Tells (target_faults_by test words marks) c.check_targets.result) c.from_marks-targets.ensures c.check_targets.ensures in
+    grind (arith, common_steps)
