@@ -1,6 +1,5 @@
-use Rattle.std.proofs.Common.{◌≡◌, ◌≤◌, ◌^◌, ℕ, Bool, [], length, subst, arith, rules}
+use Rattle.std.proofs.Common.{◌≡◌, ℕ, Bool, [], length, subst, arith}
 use Rattle.std.proofs.lemmas.Grind.{common_steps}
-use Rattle.heap_layout.specs.Heap.{IsPlaced}
 use Rattle.heap_layout.specs.Faults.{root_faults, root_faults_by, target_faults, target_faults_by, IsFirst, Tells}
 use Rattle.heap_layout.proofs.Marked.{marks-placed, sizes-few}
 use Rattle.heap_layout.proofs.checks.check.Goals as goal
