@@ -8,7 +8,7 @@ pub mod Claimed
 pub mod SentHome
 pub mod Drawn
 pub mod NewViews
-pub mod Goers
+pub mod PassFacts
 pub mod Opened
 pub mod Gathering
 pub mod Ends

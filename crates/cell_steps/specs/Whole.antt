@@ -8,15 +8,20 @@ use Rattle.cell_steps.specs.History.{History}
 use Rattle.cell_steps.specs.Ended.{Ended}
 use Rattle.cell_steps.specs.declared.view.View.{View}
 
--- the rule, for these journals
+-- The rule, for these journals.
 pub record Kept (u : Setup) (s : State Slot View) (journals : Journals) : Type 0 where
+  -- the state words and the slots say who has which page
   pub locks : Locks u s.words s.homes s.views journals
+  -- the clock and the journals agree with what each pass did and has seen
   pub history : History u (slice_index s.words (clock_at u)) s.views journals
+  -- what passes that have ended knew is kept
   pub ended : Ended s.views
 
--- there are journals for which the rule holds
+-- There are journals for which the rule holds: those of the pages that are home, and of those that passes hold.
 pub record Keeps (u : Setup) (s : State Slot View) : Type 0 where
+  -- the journal of each page
   pub journals : Journals
+  -- they fit the words, the slots and all that the passes know
   pub kept : Kept u s journals
 
 -- the view of a pass that has done nothing

@@ -2,7 +2,7 @@ use Rattle.std.proofs.Common.{◌≡◌, ℕ, ◌+◌, ◌*◌, List, ◌∷◌,
 use Rattle.cell_steps.specs.View.{Slot}
 use Rattle.cell_steps.specs.Passes.{about}
 use Rattle.cell_steps.specs.Plays.{Seat}
-use Rattle.cell_steps.proofs.Goers.{goes}
+use Rattle.cell_steps.proofs.PassFacts.{goes}
 use Rattle.cell_steps.proofs.Claimed.{claim_home_allowed}
 use Rattle.cell_steps.proofs.steps.Steps.claim_home.Goals as goal
 

@@ -6,7 +6,7 @@ use Rattle.cell_steps.specs.Setup.{clock_at}
 use Rattle.cell_steps.specs.Whole.{Keeps}
 use Rattle.cell_steps.specs.Plays.{draws}
 use Rattle.cell_steps.specs.Passes.{about}
-use Rattle.cell_steps.proofs.Goers.{goes}
+use Rattle.cell_steps.proofs.PassFacts.{goes}
 use Rattle.cell_steps.proofs.Drawn.{draw_allowed}
 use Rattle.cell_steps.proofs.steps.Steps.draw.Goals as goal
 

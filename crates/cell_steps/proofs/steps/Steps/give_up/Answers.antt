@@ -1,6 +1,6 @@
 use Rattle.std.proofs.Common.{arith}
 use Rattle.cell_steps.specs.Passes.{about}
-use Rattle.cell_steps.proofs.Goers.{goes}
+use Rattle.cell_steps.proofs.PassFacts.{goes}
 use Rattle.cell_steps.proofs.SentHome.{give_up_allowed}
 use Rattle.cell_steps.proofs.steps.Steps.give_up.Goals as goal
 

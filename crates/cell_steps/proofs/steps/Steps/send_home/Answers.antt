@@ -4,7 +4,7 @@ use Rattle.cell_steps.specs.View.{Slot}
 use Rattle.cell_steps.specs.Locks.{IsPage, seen_of}
 use Rattle.cell_steps.specs.Passes.{about}
 use Rattle.cell_steps.specs.declared.view.View.{View}
-use Rattle.cell_steps.proofs.Goers.{goes, same_pass}
+use Rattle.cell_steps.proofs.PassFacts.{goes, same_pass}
 use Rattle.cell_steps.proofs.SentHome.{send_home_allowed}
 use Rattle.cell_steps.proofs.steps.Steps.send_home.Goals as goal
 

@@ -1,6 +1,6 @@
 use Rattle.std.proofs.Common.{arith, refl}
 use Rattle.cell_steps.specs.Passes.{about}
-use Rattle.cell_steps.proofs.Goers.{goes}
+use Rattle.cell_steps.proofs.PassFacts.{goes}
 use Rattle.cell_steps.proofs.SentHome.{send_new_allowed}
 use Rattle.cell_steps.proofs.steps.Steps.tell_build.Goals as goal
 
