@@ -9,12 +9,20 @@ use std::alloc::{AllocError, Global};
 use std::process::Abort;
 use std::test::Fail;
 
+// Adds an object without references, whose data words are zeros.
+fn push_object(words: &mut Vec<u64>, header: Header, data_words: u32) -> Result<(), AllocError> {
+    words.push(header.word())?;
+    for _ in 0..data_words {
+        words.push(0)?;
+    }
+    Ok(())
+}
+
 // Three objects of 40, 10 and 41 words, of which the first and the last are marked; the last refers to itself, and its data counts from 1.
 fn step(alloc: Global) -> Result<MarkedHeap, Fail> {
-    let mut words = vec![in alloc; Header::new(0, 39, 0).word()]?;
-    words.extend_from_slice(&[0; 39])?;
-    words.push(Header::new(0, 9, 0).word())?;
-    words.extend_from_slice(&[0; 9])?;
+    let mut words = Vec::new(alloc);
+    push_object(&mut words, Header::new(0, 39, 0), 39)?;
+    push_object(&mut words, Header::new(0, 9, 0), 9)?;
     words.push(Header::new(1, 39, 0).word())?;
     words.push(F + 50)?;
     for k in 1..40u64 {
@@ -62,8 +70,8 @@ fn tells_places(rt: HostRuntime) -> Result<(), Fail> {
 
 #[test]
 fn tells_places_across_blocks(rt: HostRuntime) -> Result<(), Fail> {
-    let mut words = vec![in rt.alloc(); Header::new(0, 62, 0).word()]?;
-    words.extend_from_slice(&[0; 62])?;
+    let mut words = Vec::new(rt.alloc());
+    push_object(&mut words, Header::new(0, 62, 0), 62)?;
     words.extend_from_slice(&[Header::new(0, 2, 0).word(), 5, 6])?;
     let tables = Tables::build(rt.alloc(), &heap(rt.alloc(), &words, &[63], &[])?)?;
     for (i, place) in [

@@ -1,0 +1,74 @@
+-- What a pass knows grows from call to call.
+use Rattle.std.proofs.Common.{◌≡◌, ℕ, zero, suc, ◌+◌, ◌<◌, ◌≤◌, ◌≢◌, List, [], ◌∷◌, ◌++◌, length, get_or, All, refl, sym, ap, ◌∙◌, arith, append_assoc}
+use Rattle.std.proofs.lemmas.List.{append-nil}
+use native.Mathlib.Decide.{ℕ_discrete}
+use Rattle.comp_journal.specs.declared.entry.Entry.{Entry}
+use Rattle.cell_steps.specs.Lists.{StartsWith, Rises}
+use Rattle.cell_steps.specs.Knowing as knowing
+use Rattle.cell_steps.specs.Knowing.{KnowsAsBefore, SeesPage, WritesEntry}
+use Rattle.cell_steps.specs.declared.pass.Pass.{Pass}
+use Rattle.cell_steps.specs.Passes.{view_of, number_of, seen}
+use Rattle.page_cells.specs.Calls.{Grows}
+
+-- a list begins with what equals it
+same_begins : (whole front : List Entry) → whole ≡ front → StartsWith whole front
+same_begins whole front e = ([], e ∙ sym (append-nil front))
+
+-- a list begins with what the list begins with that it begins with
+begins_then : (a b c : List Entry) → StartsWith b a → StartsWith c b → StartsWith c a
+begins_then a b c h k = (h.0 ++ k.0, k.1 ∙ ap (λ l. l ++ k.0) h.1 ∙ append_assoc a h.0 k.0)
+
+-- no call
+pub grows_none : (a : Pass) → Grows a a
+grows_none a = record { number = refl; seen = λ p. same_begins (seen a p) (seen a p) refl; built = λ p z. z; lost = λ p. omega arith }
+
+-- what a pass knows grows over two calls
+pub grows_then : (a b c : Pass) → Grows a b → Grows b c → Grows a c
+grows_then a b c h k = record {
+  number = k.number ∙ h.number;
+  seen = λ p. begins_then (seen a p) (seen b p) (seen c p) (h.seen p) (k.seen p);
+  built = λ p z. k.built p (h.built p z);
+  lost = λ p. omega (arith, h.lost p, k.lost p);
+}
+
+-- a pass that has seen what it had seen
+pub grows_knowing : (old new : Pass) → number_of new ≡ number_of old → KnowsAsBefore (view_of old) (view_of new) → Grows old new
+grows_knowing old new number h = record {
+  number = number;
+  seen = λ p. same_begins (seen new p) (seen old p) (h.seen p);
+  built = h.grows.built;
+  lost = h.grows.lost;
+}
+
+-- of page p a pass has seen more, and of others what it had seen
+more_seen : (p : ℕ) (old new : Pass) → StartsWith (seen new p) (seen old p) → ((q : ℕ) → q ≢ p → seen new q ≡ seen old q) → (q : ℕ) → Dec (q ≡ p) → StartsWith (seen new q) (seen old q)
+more_seen p old new here others q (yes e) = (here.0, ap (seen new) e ∙ here.1 ∙ ap (λ (x : ℕ). seen old x ++ here.0) (sym e))
+more_seen p old new here others q (no n) = same_begins (seen new q) (seen old q) (others q n)
+
+-- a pass that has then seen the journal of page p
+pub grows_seeing : (p : ℕ) (journal : List Entry) (old new : Pass) → number_of new ≡ number_of old → SeesPage p journal (view_of old) (view_of new) → Grows old new
+grows_seeing p journal old new number h = record {
+  number = number;
+  seen = λ q. more_seen p old new (h.begins.0, h.here ∙ h.begins.1) h.others q (ℕ_discrete q p);
+  built = h.grows.built;
+  lost = h.grows.lost;
+}
+
+-- a pass that wrote an entry into page p
+pub grows_writing : (p : ℕ) (e : Entry) (old new : Pass) → number_of new ≡ number_of old → WritesEntry p e (view_of old) (view_of new) → Grows old new
+grows_writing p e old new number h = record {
+  number = number;
+  seen = λ q. more_seen p old new (e ∷ [], h.here) h.others q (ℕ_discrete q p);
+  built = h.grows.built;
+  lost = h.grows.lost;
+}
+
+rises_le : (low : ℕ) (j : List Entry) (high : ℕ) → Rises low j high → low ≤ high
+rises_le low [] high h = h
+rises_le low (e ∷ es) high h = let rest = rises_le (e.stamp + 1) es high h.1 in omega (arith, rest, h.0)
+
+-- stamps that rise to a number are below it
+pub rises_below : (low : ℕ) (j : List Entry) (high : ℕ) → Rises low j high → All (λ (e : Entry). e.stamp < high) j
+rises_below low [] high h k d lt = absurd (omega arith)
+rises_below low (e ∷ es) high h zero d lt = let rest = rises_le (e.stamp + 1) es high h.1 in omega (arith, rest)
+rises_below low (e ∷ es) high h (suc k) d lt = rises_below (e.stamp + 1) es high h.1 k d (omega arith)

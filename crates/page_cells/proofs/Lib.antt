@@ -1,0 +1,5 @@
+pub mod Rows
+pub mod Growing
+pub mod Begun
+pub mod Ordered
+pub mod Ending

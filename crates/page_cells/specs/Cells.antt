@@ -1,0 +1,78 @@
+-- What a table of cells is about, and what is known of its passes.
+use Rattle.std.specs.Prelude.{◌≡◌, ℕ, ◌+◌, ◌<◌, ◌≤◌, List, [], length}
+use mathlib.Core.Option.{some}
+use lib.ListN.{get_elem?}
+use Rattle.heap_layout.specs.Heap.{Heap}
+use Rattle.comp_journal.specs.declared.entry.Entry.{Entry}
+use Rattle.comp_journal.specs.Journal.{Journaled, replayed}
+use Rattle.page_plan.specs.declared.builder.Builder.{Ghosts}
+use Rattle.cell_steps.specs.declared.steps.Steps.{Steps}
+use Rattle.cell_steps.specs.declared.pass.Pass.{Pass}
+use Rattle.cell_steps.specs.Passes as steps
+use Rattle.cell_steps.specs.Passes.{about, number_of, builds_of, seen, did, lost, Rests, Holds, MakesNext, page_with, HasSeenBuilt}
+use Rattle.page_cells.specs.declared.cells.Cells.{Cells}
+use Rattle.page_cells.specs.declared.taking.Taken.{Taken}
+
+-- the table's steps
+abbrev pub steps_of : {B : Type 0} {g : Ghosts B} → Cells B g → Steps
+steps_of cells = cells.steps
+
+-- the heap that is compacted
+abbrev pub heap_of : {B : Type 0} {g : Ghosts B} → Cells B g → Heap
+heap_of cells = (about cells.steps).heap
+
+-- how many pages there are
+abbrev pub pages_of : {B : Type 0} {g : Ghosts B} → Cells B g → ℕ
+pages_of cells = steps.pages_of cells.steps
+
+-- how many passes were made
+abbrev pub mutators_of : {B : Type 0} {g : Ghosts B} → Cells B g → ℕ
+mutators_of cells = cells.mutators
+
+-- A pass was made with a table of cells, with `mutators` passes in all, and has not ended.
+pub record Works (table : Steps) (mutators : ℕ) (pass : Pass) : Type 0 where
+  pub of : steps.IsPassOf table pass
+  pub numbered : number_of pass < mutators
+  -- the first pass has made all others
+  pub makes : number_of pass ≡ 0 → MakesNext mutators pass
+
+abbrev pub IsPassOf : {B : Type 0} {g : Ghosts B} → Cells B g → Pass → Type 0
+IsPassOf cells pass = Works cells.steps cells.mutators pass
+
+-- the number of the page that was taken
+abbrev pub page_number : Taken → ℕ
+page_number taken = taken.number
+
+-- the page that was taken
+abbrev pub page_of : Taken → Journaled
+page_of taken = taken.page.page
+
+abbrev pub journal_of : Taken → List Entry
+journal_of taken = (page_of taken).journal
+
+-- the words of the page that was taken: what its journal, in order, makes of its base
+abbrev pub words_of : Taken → List ℕ
+words_of taken = replayed (page_of taken).base (page_of taken).journal
+
+-- The pass holds the page that it took. The page's base is the one that sliding compaction defines, and the pass has seen all of its journal.
+pub record HasTaken (table : Steps) (pass : Pass) (taken : Taken) : Type 0 where
+  pub inside : taken.number < steps.pages_of table
+  pub holds : Holds taken.number pass
+  pub page : taken.page.page ≡ page_with table taken.number (seen pass taken.number)
+
+abbrev pub Has : {B : Type 0} {g : Ghosts B} → Cells B g → Pass → Taken → Type 0
+Has cells pass taken = HasTaken cells.steps pass taken
+
+-- The k-th pass of new cells: it has seen, done and built nothing.
+pub record IsNew (table : Steps) (mutators k : ℕ) (pass : Pass) : Type 0 where
+  pub works : Works table mutators pass
+  pub rests : Rests pass
+  pub number : number_of pass ≡ k
+  pub seen : (p : ℕ) → seen pass p ≡ []
+  pub did : did pass ≡ []
+  pub builds : builds_of pass ≡ []
+
+-- all passes of new cells, in order
+pub record AreNew (table : Steps) (mutators : ℕ) (passes : List Pass) : Type 0 where
+  pub count : length passes ≡ mutators
+  pub new : (k : ℕ) (pass : Pass) → get_elem? passes k ≡ some pass → IsNew table mutators k pass

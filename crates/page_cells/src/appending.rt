@@ -1,0 +1,53 @@
+ghost use Rattle.std.specs.Prelude.{◌≡◌, ◌↔◌, ℕ, ◌<◌, [], ◌∷◌, ◌++◌, length, All, IfOk, OnErr, IsErrOf};
+ghost use Rattle.comp_journal.specs.declared.entry.Entry.{Entry as Written};
+ghost use Rattle.comp_journal.specs.declared.refusal.JournalRefusal.TheVariants.{JournalFull};
+ghost use Rattle.cell_steps.specs.Passes.{builds_of, did, number_of, seen, IsSame};
+ghost use Rattle.page_cells.specs.Cells.{heap_of, journal_of, page_number, page_of, Has, IsPassOf};
+ghost use Rattle.page_cells.specs.Calls.{Grows};
+ghost use Rattle.page_cells.specs.Kinds.{MayWrite};
+
+use crate::cells::Cells;
+use crate::taking::Taken;
+use cell_steps::pass::Pass;
+use comp_journal::entry::Entry;
+use comp_journal::journaled_page::MOST_ENTRIES;
+use comp_journal::refusal::JournalRefusal;
+use heap_layout::kind::Kind;
+use page_plan::builder::Builder;
+
+impl<B: Builder> Cells<B> {
+    /// Writes one entry into the page that the pass has taken, and answers its stamp.
+    pub fn append(
+        &self,
+        pass: &mut Pass,
+        taken: &mut Taken,
+        kind: Kind,
+        offset: u8,
+        value: u64,
+    ) -> Result<u64, JournalRefusal>
+        requires of { IsPassOf self.now pass.old }
+        requires has { Has self.now pass.old taken.old }
+        requires offset { offset < 64 }
+        requires lawful { MayWrite (heap_of self.now) (page_number taken.old) offset kind value }
+        ensures of { IsPassOf self.now pass.new × Has self.now pass.new taken.new }
+        ensures grows { Grows pass.old pass.new × (builds_of pass.new ≡ builds_of pass.old) }
+        ensures page { page_number taken.new ≡ page_number taken.old }
+        ensures full { IsErrOf result JournalFull ↔ (length (journal_of taken.old) ≡ 1024) }
+        ensures journal { IfOk result (λ stamp. journal_of taken.new ≡ journal_of taken.old ++ record { stamp = stamp; writer = number_of pass.old; kind = kind; offset = offset; value = value } ∷ []) }
+        ensures did { IfOk result (λ stamp. did pass.new ≡ did pass.old ++ (page_number taken.old, record { stamp = stamp; writer = number_of pass.old; kind = kind; offset = offset; value = value }) ∷ []) }
+        ensures above { IfOk result (λ stamp. (q : ℕ) → All (λ (entry : Written). entry.stamp < stamp) (seen pass.old q)) }
+        ensures refused { OnErr result (IsSame pass.old pass.new × (page_of taken.new ≡ page_of taken.old)) }
+    {
+        prove!(taken.page.journal().len() <= MOST_ENTRIES);
+        taken.page.reserve_entry()?;
+        let draft = Entry {
+            stamp: 0,
+            writer: pass.number(),
+            kind,
+            offset,
+            value,
+        };
+        let number = taken.number;
+        Ok(self.steps.draw_stamp(pass, number, &mut taken.page, draft))
+    }
+}

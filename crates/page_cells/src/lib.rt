@@ -1,0 +1,12 @@
+//! Cells of to-space pages. Whoever touches a page first builds it; then it is taken, written and put back, by one pass at a time.
+#![tactic(auto)]
+
+mod appending;
+mod building;
+pub mod cells;
+pub mod closing;
+mod opening;
+pub mod refusal;
+pub mod taking;
+
+pub use cell_steps::pass::Pass;

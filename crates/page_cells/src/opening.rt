@@ -1,0 +1,71 @@
+ghost use Rattle.std.specs.Prelude.{◌≡◌, ◌≤◌, [], vec_capacity, IfOk};
+ghost use Rattle.heap_layout.specs.Heap.{live};
+ghost use Rattle.page_plan.specs.Sliding as sliding;
+ghost use Rattle.cell_steps.specs.Whole.{first_view};
+ghost use Rattle.cell_steps.specs.Passes.{about, number_of, view_of, IsPassOf, Rests};
+ghost use Rattle.page_cells.specs.Cells.{heap_of, mutators_of, pages_of, steps_of, AreNew};
+
+use crate::cells::Cells;
+use cell_steps::pass::Pass;
+use cell_steps::steps::Steps;
+use heap_layout::fault::OutOfMemory;
+use page_plan::builder::Builder;
+use std::alloc::Global;
+use std::sync::Arc;
+
+/// The passes of new cells, in order. Pass `k` has the number `k`.
+fn all_passes(
+    alloc: Global,
+    steps: &Steps,
+    first: Pass,
+    mut passes: Vec<Pass>,
+    mutators: u8,
+) -> Vec<Pass>
+    requires of { IsPassOf steps.now first × Rests first }
+    requires first { (view_of first ≡ first_view (about steps.now)) × (number_of first ≡ 0) }
+    requires room { (passes.items ≡ []) × (mutators ≤ vec_capacity passes) }
+    requires some { 1 ≤ mutators }
+    ensures { AreNew steps.now mutators result.items }
+{
+    passes.push_reserved(first);
+    for number in 1..mutators {
+        let next = steps.make_pass(alloc, &mut passes[0], number);
+        passes.push_reserved(next);
+    }
+    passes
+}
+
+impl<B: Builder> Cells<B> {
+    /// The cells of all pages of the builder's plan, all of them empty, and their passes, in order. There are no fresh pages yet.
+    pub fn new(
+        alloc: Global,
+        builder: Arc<B>,
+        fresh_pages: u32,
+        mutators: u8,
+    ) -> Result<(Cells<B>, Vec<Pass>), OutOfMemory>
+        requires some { 1 ≤ mutators }
+        requires few { mutators ≤ 64 }
+        requires fresh { fresh_pages ≡ 0 }
+        ensures heap { IfOk result (λ made. heap_of made.0 ≡ B.heap builder.value) }
+        ensures pages { IfOk result (λ made. pages_of made.0 ≡ sliding.pages (live (B.heap builder.value))) }
+        ensures mutators { IfOk result (λ made. mutators_of made.0 ≡ mutators) }
+        ensures passes { IfOk result (λ made. AreNew (steps_of made.0) mutators made.1.items) }
+    {
+        let passes = Vec::with_capacity(alloc, usize::from(mutators))?;
+        let (steps, first) = Steps::new(alloc, builder.plan())?;
+        let passes = all_passes(alloc, &steps, first, passes, mutators);
+        let cells = Cells {
+            steps,
+            builder,
+            mutators,
+        };
+        Ok((cells, passes))
+    }
+
+    /// How many pages there are.
+    pub fn pages(&self) -> u64
+        ensures { result ≡ pages_of self.now }
+    {
+        self.steps.pages()
+    }
+}
