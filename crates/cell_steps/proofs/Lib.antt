@@ -1,6 +1,10 @@
 pub mod Sums
 pub mod LocksKept
 pub mod HistoryKept
+pub mod Judged
+pub mod Named
+pub mod StartsKept
+pub mod KnownStarts
 pub mod EndedKept
 pub mod ViewMoves
 pub mod PageMoves

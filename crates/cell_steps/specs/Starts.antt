@@ -7,6 +7,7 @@ use lib.ListN.{get_elem?}
 use Rattle.heap_layout.specs.Heap.{Heap, live}
 use Rattle.heap_layout.specs.declared.kind.Kind.{Kind}
 use Rattle.heap_layout.specs.declared.kind.Kind.TheVariants.{Header, Reference, Data}
+use Rattle.page_plan.specs.Sliding as sliding
 use Rattle.page_plan.specs.Sliding.{shape_at}
 use Rattle.comp_journal.specs.declared.entry.Entry.{Entry}
 use Rattle.cell_steps.specs.Setup.{Setup, pages, fresh_page, address}
@@ -81,6 +82,8 @@ Owes views p offset = (k : ℕ) × (v : View) × (get_elem? views k ≡ maybe.so
 
 -- The starts of all pages.
 pub record Starts (u : Setup) (bits : ℕ → ℕ) (clock : ℕ) (views : List View) (journals : Journals) : Type 0 where
+  -- the compacted pages are those that the slid words fill
+  pub slid : u.compacted ≡ sliding.pages (live u.heap)
   -- a reference that was written is null, or leads to a start whose header is older
   pub references : (p i : ℕ) (e : Entry) → get_elem? (journals p) i ≡ maybe.some e → e.kind ≡ Reference → e.value ≢ 0 → IsOlder u bits journals e.stamp e.value
   -- a start bit that is set is that of an object
