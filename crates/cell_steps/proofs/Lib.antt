@@ -8,6 +8,7 @@ pub mod KnownStarts
 pub mod EndedKept
 pub mod ViewMoves
 pub mod PageMoves
+pub mod StartBits
 pub mod Claimed
 pub mod SentHome
 pub mod Drawn

@@ -66,6 +66,14 @@ pub record Dues (u : Setup) (bits : Bits) (v w : View) : Type 0 where
   pub was : (p offset : ℕ) → w.at ≡ p + 1 → w.owes ≡ offset + 1 → (v.at ≡ p + 1) × (v.owes ≡ offset + 1)
   pub known : Each w.known.starts (IsStart u bits)
 
+-- a view that has the same page and owes the same
+pub dues_same : (u : Setup) (bits : Bits) (v w : View) → w.at ≡ v.at → w.owes ≡ v.owes → Each w.known.starts (IsStart u bits) → Dues u bits v w
+dues_same u bits v w same_at same_owes known = record {
+  stays = λ p offset at due. (same_at ∙ at, same_owes ∙ due);
+  was = λ p offset at due. (sym same_at ∙ at, sym same_owes ∙ due);
+  known = known;
+}
+
 -- what is due on a page by another seat, or by the one that changes
 owes_stays : (views : List View) (id : ℕ) (v w : View) (p offset : ℕ) → get_elem? views id ≡ maybe.some v
     → (v.at ≡ p + 1 → v.owes ≡ offset + 1 → (w.at ≡ p + 1) × (w.owes ≡ offset + 1)) → Owes views p offset → Owes (set views id w) p offset

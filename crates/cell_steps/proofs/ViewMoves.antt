@@ -13,12 +13,12 @@ use Rattle.cell_steps.specs.View.{Known, Slot}
 use Rattle.cell_steps.specs.Locks.{Journals, Locks}
 use Rattle.cell_steps.specs.Starts.{IsStart}
 use Rattle.cell_steps.specs.Whole.{Kept, Keeps}
-use Rattle.cell_steps.specs.Plays.{Seat, knowing_built, after_load, after_exchange, loads}
+use Rattle.cell_steps.specs.Plays.{Seat, after_load, after_exchange, loads}
 use Rattle.cell_steps.specs.declared.view.View.{View}
 use Rattle.cell_steps.proofs.Sums.{times-other}
 use Rattle.cell_steps.proofs.LocksKept.{placed_same, locks_stay}
 use Rattle.cell_steps.proofs.HistoryKept.{wrote_same, history_stays}
-use Rattle.cell_steps.proofs.StartsKept.{bits_of, starts_stay}
+use Rattle.cell_steps.proofs.StartsKept.{bits_of, dues_same, starts_stay}
 use Rattle.cell_steps.proofs.KnownStarts.{known_odd}
 use Rattle.cell_steps.proofs.EndedKept.{ended_stays}
 
@@ -58,11 +58,8 @@ kept_looked u s js id v w k at_id goes l = record {
   history = history_stays u (get_or s.words (clock_at u) 0) s.views js id w k.history
       (wrote_same (get_or s.words (clock_at u) 0) js v w l.port l.next l.seen l.did (k.history.wrote id v at_id));
   lawful = k.lawful;
-  starts = starts_stay u (bits_of u s.words) (get_or s.words (clock_at u) 0) s.views js id v w at_id record {
-    stays = λ p offset at due. (l.at ∙ at, l.owes ∙ due);
-    was = λ p offset at due. (sym l.at ∙ at, sym l.owes ∙ due);
-    known = l.starts;
-  } k.starts;
+  starts = starts_stay u (bits_of u s.words) (get_or s.words (clock_at u) 0) s.views js id v w at_id
+      (dues_same u (bits_of u s.words) v w l.at l.owes l.starts) k.starts;
   ended = let mine = k.ended.closes id v at_id in ended_stays s.views id v w at_id record {
     same = λ e. absurd (both_ways v.ended goes e);
     rests = λ e. absurd (both_ways v.ended goes (sym l.ended ∙ e));
@@ -75,7 +72,7 @@ kept_looked u s js id v w k at_id goes l = record {
 -- a page that a load finds home or held is built
 built_loaded : (u : Setup) (words : List ℕ) (v : View) (p : ℕ) (b : Bool) → p < pages u → (b ≡ true → get_or words p 0 % 2 ≡ 1)
     → ((q : ℕ) → 0 < times q v.known.built → (q < pages u) × (get_or words q 0 % 2 ≡ 1))
-    → (q : ℕ) → 0 < times q (cond b (knowing_built v.known p) v.known).built → (q < pages u) × (get_or words q 0 % 2 ≡ 1)
+    → (q : ℕ) → 0 < times q (cond b (p ∷ v.known.built) v.known.built) → (q < pages u) × (get_or words q 0 % 2 ≡ 1)
 built_loaded u words v p true lt odd old q some = dite (ℕ_discrete q p)
     (λ e. subst (λ k. (k < pages u) × (get_or words k 0 % 2 ≡ 1)) (sym e) (lt, odd refl))
     (λ ne. old q (omega (arith, times-other q p v.known.built ne)))
@@ -86,24 +83,22 @@ looks_loaded : (u : Setup) (words : List ℕ) (v : View) (p : ℕ) (b : Bool) (l
     → (b ≡ true → get_or words p 0 % 2 ≡ 1)
     → ((q : ℕ) → 0 < times q v.known.built → (q < pages u) × (get_or words q 0 % 2 ≡ 1))
     → Each v.known.starts (IsStart u (bits_of u words))
-    → Looks u words v record v { known = cond b (knowing_built v.known p) v.known; lost = lost; last = last }
-looks_loaded u words v p b lost last lt odd old starts =
-    let same : (X : Type 0) (f : Known → X) → f (knowing_built v.known p) ≡ f v.known → f (cond b (knowing_built v.known p) v.known) ≡ f v.known = λ X f e. elim b as (λ c. f (cond c (knowing_built v.known p) v.known) ≡ f v.known) [ true ↦ e | false ↦ refl ] in
-    record {
-      about = refl;
-      at = refl;
-      mode = refl;
-      owes = refl;
-      ended = refl;
-      learnt = refl;
-      port = same ℕ (λ k. k.port) refl;
-      next = same ℕ (λ k. k.next) refl;
-      seen = same (List (ℕ × List Rattle.comp_journal.specs.declared.entry.Entry.Entry)) (λ k. k.seen) refl;
-      did = same (List (ℕ × Rattle.comp_journal.specs.declared.entry.Entry.Entry)) (λ k. k.did) refl;
-      told = same (List ℕ) (λ k. k.told) refl;
-      built = built_loaded u words v p b lt odd old;
-      starts = subst (λ (l : List ℕ). Each l (IsStart u (bits_of u words))) (sym (same (List ℕ) (λ k. k.starts) refl)) starts;
-    }
+    → Looks u words v record v { known = record v.known { built = cond b (p ∷ v.known.built) v.known.built }; lost = lost; last = last }
+looks_loaded u words v p b lost last lt odd old starts = record {
+  about = refl;
+  at = refl;
+  mode = refl;
+  owes = refl;
+  ended = refl;
+  learnt = refl;
+  port = refl;
+  next = refl;
+  seen = refl;
+  did = refl;
+  told = refl;
+  built = built_loaded u words v p b lt odd old;
+  starts = starts;
+}
 
 -- a word that is written back
 pub kept_written : (u : Setup) (s : State Slot View) (js : Journals) (homes : List (maybe.Option Slot)) (views : List View) (p : ℕ)

@@ -20,12 +20,16 @@ use Rattle.cell_steps.specs.declared.view.View.{View}
 abbrev pub IsPlace : Heap → ℕ → Type 0
 IsPlace heap a = (header : ℕ) × (shape_at (live heap) a ≡ Some header)
 
--- the pass knows that an object starts at this offset of the fresh page p
-pub record KnowsFresh (v : View) (p offset : ℕ) : Type 0 where
-  pub fresh : v.about.compacted ≤ p
-  pub page : p < pages v.about
+-- the addresses name a fresh object, which starts at this offset of page p
+pub record NamesFresh (u : Setup) (addresses : List ℕ) (p offset : ℕ) : Type 0 where
+  pub fresh : u.compacted ≤ p
+  pub page : p < pages u
   pub inside : offset < 64
-  pub seen : (i : ℕ) × (get_elem? v.known.starts i ≡ maybe.some (address p offset))
+  pub seen : (i : ℕ) × (get_elem? addresses i ≡ maybe.some (address p offset))
+
+-- the pass knows that an object starts at this offset of the fresh page p
+abbrev pub KnowsFresh : View → ℕ → ℕ → Type 0
+KnowsFresh v p offset = NamesFresh v.about v.known.starts p offset
 
 -- an object of the slid heap starts at the address, or a fresh object that the pass knows
 abbrev pub KnowsStart : View → ℕ → Type 0
