@@ -1,22 +1,20 @@
 -- What the rule says of the starts that a pass knows.
-use Rattle.std.proofs.Common.{◌≡◌, ℕ, ◌+◌, ◌-◌, ◌*◌, ◌%◌, ◌<◌, ◌≤◌, ◌≢◌, ◌⊎◌, List, [], ◌++◌, get_or, inl, inr, sym, refl, ap, ◌∙◌, ⊎_elim, arith, subst}
+use Rattle.std.proofs.Common.{◌≡◌, ℕ, ◌%◌, ◌<◌, ◌≤◌, ◌≢◌, List, [], ◌++◌, get_or, inl, inr, sym, refl, ap, ◌∙◌, ⊎_elim, arith, subst}
 use Rattle.std.specs.Int.{bit_at}
 use Rattle.std.proofs.lemmas.Option.{none-some}
-use Rattle.std.proofs.lemmas.Bool.{cases_lt}
 use mathlib.Core.Logic.{dite}
 use native.Mathlib.Decide.{ℕ_discrete}
 use mathlib.Core.Option as maybe
 use lib.ListN.{get_elem?}
 use Rattle.atomic_table.specs.Table.{State}
-use Rattle.heap_layout.specs.declared.kind.Kind.TheVariants.{Header, Reference}
 use Rattle.page_plan.proofs.Shapes.{shape-behind}
 use Rattle.comp_journal.specs.declared.entry.Entry.{Entry}
 use Rattle.cell_steps.specs.Setup.{Setup, pages, fresh_page, address, starts_at, clock_at}
 use Rattle.cell_steps.specs.Lists.{Each}
 use Rattle.cell_steps.specs.View.{Slot}
 use Rattle.cell_steps.specs.Locks.{Journals}
-use Rattle.cell_steps.specs.Lawful.{HasHead, IsLawful}
-use Rattle.cell_steps.specs.Starts.{IsPlace, KnowsFresh, KnowsStart, MayRefer, HasHeadBefore, IsFreshStart, IsStart, Owes, named_in, starts_set}
+use Rattle.cell_steps.specs.Lawful.{IsLawful}
+use Rattle.cell_steps.specs.Starts.{IsPlace, KnowsFresh, MayRefer, HasHeadBefore, IsStart, named_in, starts_set}
 use Rattle.cell_steps.specs.Whole.{Kept}
 use Rattle.cell_steps.specs.Plays.{Tells, seeing}
 use Rattle.cell_steps.specs.declared.view.View.{View}
@@ -45,9 +43,9 @@ module _ (u : Setup) (s : State Slot View) (js : Journals) (id : ℕ) (v : View)
       ⊎_elim
       (λ place. absurd (none-some place.0 (sym (shape-behind u.heap (address p offset) (omega (arith, k.starts.slid, compacted, h.fresh))) ∙ place.1)))
       (λ f.
-          let page : p ≡ fresh_page u f.page = omega (arith, f.at, f.inside, h.inside) in
-          let place : f.offset ≡ offset = omega (arith, f.at, f.inside, h.inside) in
-          record { page = f.page; fresh = f.fresh; at = page; set = subst (λ o. bit_at (bits_of u s.words f.page) o ≡ 1) place f.set })
+      let page : p ≡ fresh_page u f.page = omega (arith, f.at, f.inside, h.inside) in
+      let place : f.offset ≡ offset = omega (arith, f.at, f.inside, h.inside) in
+      record { page = f.page; fresh = f.fresh; at = page; set = subst (λ o. bit_at (bits_of u s.words f.page) o ≡ 1) place f.set })
       (k.starts.known id v at_id h.seen.0 (address p offset) h.seen.1)
 
   -- its header stands in the journal
@@ -67,11 +65,11 @@ module _ (u : Setup) (s : State Slot View) (js : Journals) (id : ℕ) (v : View)
       (λ z. absurd (no_head (js p) offset (get_or s.words (clock_at u) 0) (cell.empty z).1 head))
       (λ some. dite (ℕ_discrete n 1) (λ one. ap (λ m. m % 2) one)
       (λ more.
-          let out = cell.out (omega arith) in
-          let has = (k.locks.placed out.0 out.1 out.2).at p out.3 in
-          dite (ℕ_discrete out.1.mode 0)
-          (λ building. absurd (no_head (js p) offset (get_or s.words (clock_at u) 0) (has.built building) head))
-          (λ holding. omega (arith, has.word, has.mode))))
+      let out = cell.out (omega arith) in
+      let has = (k.locks.placed out.0 out.1 out.2).at p out.3 in
+      dite (ℕ_discrete out.1.mode 0)
+      (λ building. absurd (no_head (js p) offset (get_or s.words (clock_at u) 0) (has.built building) head))
+      (λ holding. omega (arith, has.word, has.mode))))
 
   -- a reference that the pass may write leads to a start
   pub may_lead : (a : ℕ) → MayRefer v a → a ≢ 0 → IsStart u (bits_of u s.words) a
@@ -106,9 +104,13 @@ module _ (u : Setup) (s : State Slot View) (js : Journals) (id : ℕ) (v : View)
             named_known p p e.offset (is_fresh p fits.0.0 fits.0.1 fits.0.2) fits.1 (named_head p (js p) i e at header);
         references = λ i e at kind. dite (ℕ_discrete e.value 0) (λ z. inl z)
             (λ some. ⊎_elim (λ place. inr (inl (subst (λ (w : Setup). IsPlace w.heap e.value) (sym about) place)))
-            (λ f. inr (inr (fresh_page u f.0.page, f.0.offset, f.0.at,
-            named_known p (fresh_page u f.0.page) f.0.offset (is_fresh (fresh_page u f.0.page) f.0.page f.0.fresh refl) f.0.inside
-            (subst (λ a. (i : ℕ) × (get_elem? (named_in p (js p)) i ≡ maybe.some a)) f.0.at (named_reference p (js p) i e at kind some)))))
+            (λ f. inr (inr (
+              fresh_page u f.0.page,
+              f.0.offset,
+              f.0.at,
+              named_known p (fresh_page u f.0.page) f.0.offset (is_fresh (fresh_page u f.0.page) f.0.page f.0.fresh refl) f.0.inside
+                  (subst (λ a. (i : ℕ) × (get_elem? (named_in p (js p)) i ≡ maybe.some a)) f.0.at (named_reference p (js p) i e at kind some)),
+            )))
             (k.starts.references p i e at kind some));
         own = λ j port. (wrote.own j port p).0;
         strangers = λ j more le. wrote.strangers j more le p;
@@ -118,17 +120,17 @@ module _ (u : Setup) (s : State Slot View) (js : Journals) (id : ℕ) (v : View)
   pub named_starts : (p : ℕ) → get_or s.words p 0 ≡ 1 → Each (v.known.starts ++ named_in p (js p)) (IsStart u (bits_of u s.words))
   named_starts p home = each-append (IsStart u (bits_of u s.words)) v.known.starts (named_in p (js p)) (k.starts.known id v at_id)
       (λ i a e.
-          let from = named_from p (js p) i a e in
-          ⊎_elim
-          (λ t.
-              let fits = head_fits u p (js p) from.0 from.1 (k.lawful p) from.2 t.0 in
-              let same = fits.0.2 in
-              ⊎_elim
-              (λ b. inr record { page = fits.0.0; offset = from.1.offset; fresh = fits.0.1; inside = fits.1; at = t.1 ∙ ap (λ q. address q from.1.offset) same; set = b })
-              (λ due. let has = (k.locks.placed due.0 due.1 due.2).at (fresh_page u fits.0.0) due.3 in absurd (omega (arith, has.word, has.port, ap (λ q. get_or s.words q 0) same, home)))
-              (k.starts.set fits.0.0 from.0 from.1 fits.0.1 (subst (λ q. get_elem? (js q) from.0 ≡ maybe.some from.1) same from.2) t.0))
-          (λ t. subst (IsStart u (bits_of u s.words)) (sym t.2) (⊎_elim (λ place. inl place) (λ f. inr f.0) (k.starts.references p from.0 from.1 from.2 t.0 t.1)))
-          (named_is p from.1.kind from.1.offset from.1.value a from.3))
+      let from = named_from p (js p) i a e in
+      ⊎_elim
+      (λ t.
+      let fits = head_fits u p (js p) from.0 from.1 (k.lawful p) from.2 t.0 in
+      let same = fits.0.2 in
+      ⊎_elim
+      (λ b. inr record { page = fits.0.0; offset = from.1.offset; fresh = fits.0.1; inside = fits.1; at = t.1 ∙ ap (λ q. address q from.1.offset) same; set = b })
+      (λ due. let has = (k.locks.placed due.0 due.1 due.2).at (fresh_page u fits.0.0) due.3 in absurd (omega (arith, has.word, has.port, ap (λ q. get_or s.words q 0) same, home)))
+      (k.starts.set fits.0.0 from.0 from.1 fits.0.1 (subst (λ q. get_elem? (js q) from.0 ≡ maybe.some from.1) same from.2) t.0))
+      (λ t. subst (IsStart u (bits_of u s.words)) (sym t.2) (⊎_elim (λ place. inl place) (λ f. inr f.0) (k.starts.references p from.0 from.1 from.2 t.0 t.1)))
+      (named_is p from.1.kind from.1.offset from.1.value a from.3))
 
   -- all starts whose bits are set are starts
   pub set_starts : (j : ℕ) → j < u.fresh → Each (v.known.starts ++ starts_set (fresh_page u j) (get_or s.words (starts_at u j) 0)) (IsStart u (bits_of u s.words))

@@ -13,6 +13,7 @@ pub mod Claimed
 pub mod SentHome
 pub mod Drawn
 pub mod NewViews
+pub mod Knows
 pub mod PassFacts
 pub mod Opened
 pub mod Gathering

@@ -1,6 +1,6 @@
 -- Steps on the words of start bits.
 use Rattle.std.proofs.lemmas.Bool.{both_ways}
-use Rattle.std.proofs.Common.{◌≡◌, ℕ, ◌+◌, ◌-◌, ◌%◌, ◌^◌, ◌<◌, ◌≤◌, ◌≢◌, List, ◌∷◌, length, get_or, set, bit_or, sym, refl, ap, ◌∙◌, arith, subst, length-set, get_or-set_other, get_or-set_same}
+use Rattle.std.proofs.Common.{◌≡◌, ℕ, ◌+◌, ◌-◌, ◌%◌, ◌^◌, ◌<◌, ◌≢◌, List, length, get_or, set, bit_or, sym, refl, ap, ◌∙◌, arith, subst, length-set, get_or-set_other, get_or-set_same}
 use Rattle.std.specs.Int.{bit_at}
 use mathlib.Core.Option as maybe
 use lib.ListN.{get_elem?}
@@ -142,9 +142,9 @@ find_allowed u slots id m j g fresh s keeps_ long at_id small =
     let page : page_of_bits v (starts_at u j) ≡ fresh_page u j = omega (arith, same) in
     let known : (offset : ℕ) → KnowsFresh v (page_of_bits v (starts_at u j)) offset → bit_at (get_or s.words (starts_at u j) 0) offset ≡ 1 =
     λ offset h.
-        let b = known_set u s js id v k at_id g.about (page_of_bits v (starts_at u j)) offset h in
-        let number : b.page ≡ j = omega (arith, b.at, page) in
-        subst (λ n. bit_at (get_or s.words (starts_at u n) 0) offset ≡ 1) number b.set in (
+    let b = known_set u s js id v k at_id g.about (page_of_bits v (starts_at u j)) offset h in
+    let number : b.page ≡ j = omega (arith, b.at, page) in
+    subst (λ n. bit_at (get_or s.words (starts_at u n) 0) offset ≡ 1) number b.set in (
       finding v (fresh_page u j) (get_or s.words (starts_at u j) 0),
       keeps,
       tt,

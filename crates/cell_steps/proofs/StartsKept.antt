@@ -1,5 +1,5 @@
 -- The starts after a step.
-use Rattle.std.proofs.Common.{◌≡◌, ℕ, zero, suc, ◌+◌, ◌-◌, ◌*◌, ◌^◌, ◌<◌, ◌≤◌, ◌≢◌, ◌⊎◌, List, [], ◌∷◌, ◌++◌, length, get_or, set, inl, inr, sym, refl, ap, ◌∙◌, ⊎_elim, arith, subst, max}
+use Rattle.std.proofs.Common.{◌≡◌, ℕ, ◌+◌, ◌^◌, ◌<◌, ◌≤◌, ◌≢◌, ◌⊎◌, List, [], ◌∷◌, ◌++◌, length, get_or, set, inl, inr, sym, refl, ap, ◌∙◌, ⊎_elim, arith, subst, max}
 use Rattle.std.specs.Int.{bit_at}
 use Rattle.std.specs.Int.Bits.{bit_or}
 use Rattle.std.proofs.lemmas.Nat.Bits.{bit_at_or, bit_at-lt, bit_at-pow_same, bit_at-pow_other}
@@ -7,16 +7,15 @@ use mathlib.Core.Logic.{dite}
 use native.Mathlib.Decide.{ℕ_discrete}
 use mathlib.Core.Option as maybe
 use lib.ListN.{get_elem?}
-use Rattle.atomic_table.proofs.Lists.{at_set, set_else, at_longer, at_snoc}
-use Rattle.heap_layout.specs.Heap.{Object, live}
+use Rattle.atomic_table.proofs.Lists.{at_set, set_else, at_longer}
 use Rattle.heap_layout.specs.declared.kind.Kind.{Kind}
 use Rattle.heap_layout.specs.declared.kind.Kind.TheVariants.{Header, Reference, Data}
 use Rattle.comp_journal.specs.declared.entry.Entry.{Entry}
-use Rattle.cell_steps.specs.Setup.{Setup, pages, fresh_page, address, starts_at}
+use Rattle.cell_steps.specs.Setup.{Setup, fresh_page, address, starts_at}
 use Rattle.cell_steps.specs.Lists.{but, Each}
 use Rattle.cell_steps.specs.Locks.{Journals}
 use Rattle.cell_steps.specs.Lawful.{owed_by}
-use Rattle.cell_steps.specs.Starts.{IsPlace, KnowsFresh, KnowsStart, MayRefer, HasHeadBefore, IsFreshStart, IsStart, IsOlder, Owes, Starts}
+use Rattle.cell_steps.specs.Starts.{HasHeadBefore, IsFreshStart, IsStart, IsOlder, Owes, Starts}
 use Rattle.cell_steps.specs.Plays.{drawing, setting}
 use Rattle.cell_steps.specs.declared.view.View.{View}
 use Rattle.cell_steps.proofs.Sums.{but-same, but-other, each-set, each-snoc, last_of, at_last}
@@ -247,8 +246,8 @@ module _ (u : Setup) (bits bits' : Bits) (clock : ℕ) (views : List View) (js :
   heads_set i o lt b = dite (ℕ_discrete i j)
       (λ e. subst (λ k. HasHeadBefore (js (fresh_page u k)) o clock) (sym e)
       (dite (ℕ_discrete o offset)
-          (λ z. subst (λ x. HasHeadBefore (js (fresh_page u j)) x clock) (sym z) (s.owing id v d.there (fresh_page u j) offset d.at d.owes))
-          (λ ne. s.heads j o d.fresh (sym (stays_here o ne) ∙ subst (λ k. bit_at (bits' k) o ≡ 1) e b))))
+      (λ z. subst (λ x. HasHeadBefore (js (fresh_page u j)) x clock) (sym z) (s.owing id v d.there (fresh_page u j) offset d.at d.owes))
+      (λ ne. s.heads j o d.fresh (sym (stays_here o ne) ∙ subst (λ k. bit_at (bits' k) o ≡ 1) e b))))
       (λ ne. s.heads i o lt (ap (λ n. bit_at n o) (sym (d.others i lt ne)) ∙ b))
 
   -- what was due is set now, or due still

@@ -8,7 +8,7 @@ use Rattle.comp_journal.specs.declared.entry.Entry.{Entry}
 use Rattle.heap_layout.specs.declared.kind.Kind.TheVariants.{Header, Reference, Data}
 use Rattle.cell_steps.specs.Setup.{address}
 use Rattle.cell_steps.specs.Lists.{look, times, by, on, StartsWith, Rises}
-use Rattle.cell_steps.specs.View.{Known, Slot}
+use Rattle.cell_steps.specs.View.{Slot}
 use Rattle.cell_steps.specs.Locks.{seen_of, IsPage}
 use Rattle.cell_steps.specs.Lawful.{owed_by, HasHead, IsLawful}
 use Rattle.cell_steps.specs.Starts.{named_in, starts_set, KnowsFresh, MayRefer}

@@ -13,7 +13,6 @@ use Rattle.comp_journal.specs.declared.entry.Entry.{Entry}
 use Rattle.cell_steps.specs.Setup.{Setup, pages, fresh_page, address}
 use Rattle.cell_steps.specs.Lists.{Each}
 use Rattle.cell_steps.specs.Locks.{Journals}
-use Rattle.cell_steps.specs.Lawful.{HasHead}
 use Rattle.cell_steps.specs.declared.view.View.{View}
 
 -- an object of the slid heap starts at the address

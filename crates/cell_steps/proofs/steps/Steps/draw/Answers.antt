@@ -1,4 +1,4 @@
-use Rattle.std.proofs.Common.{◌≡◌, ℕ, ◌+◌, ◌%◌, ◌^◌, ap, subst, sym, ◌∙◌, arith}
+use Rattle.std.proofs.Common.{◌≡◌, ℕ, ◌+◌, ◌%◌, ◌^◌, ap, subst, sym, arith}
 use mathlib.Core.Option.{none}
 use Rattle.atomic_table.specs.Table.{Allows, step}
 use Rattle.comp_journal.specs.declared.entry.Entry.{Entry}
@@ -18,7 +18,7 @@ fetch_add-requires g c =
     let pass = c.args.pass.now in
     let e = g.D.Draft.entry in
     let slots = steps.table.shared.table_id.slots in
-    let clock : c.slot_count-clock.result ≡ clock_at (about steps) = c.slot_count-clock.ensures ∙ steps.slots in
+    let clock : c.slot_count.result + steps.fresh ≡ clock_at (about steps) = omega (arith, c.slot_count.ensures, steps.slots, steps.fresh_pages) in
     let fits : FitsEntry (about steps) c.args.p (seen pass c.args.p) e = subst (FitsEntry (about steps) c.args.p (seen pass c.args.p)) (sym c.requires.draft.0) c.requires.fits in
     let leads : e.kind ≡ Reference → MayRefer pass e.value = subst (λ (x : Entry). x.kind ≡ Reference → MayRefer pass x.value) (sym c.requires.draft.0) c.requires.reference in
     let writer : pass.seat.me.0.known.port ≡ e.writer + 1 = omega (arith, pass.numbered, ap (λ (x : Entry). x.writer) c.requires.draft.0, c.requires.draft.1) in (
