@@ -101,6 +101,10 @@ held_word number = 2 * (number + 1) + 1
 abbrev pub MakesNext : ℕ → Pass → Type 0
 MakesNext number pass = (known_of pass).next ≡ number + 1
 
+-- the port of the pass that this pass makes next, or 0 where it makes none
+abbrev pub next_port : Pass → ℕ
+next_port pass = (known_of pass).next
+
 -- for how many more builds room is reserved
 abbrev pub room_of : Pass → ℕ
 room_of pass = vec_capacity pass.builds - vec_len pass.builds

@@ -1,9 +1,9 @@
 -- What each step tells: of the step, the seat before, the word that was found and the seat after.
-use Rattle.std.specs.Prelude.{◌≡◌, ◌≢◌, ℕ, ◌+◌, ◌-◌, ◌/◌, ◌%◌, ◌<◌, ◌==◌, ◌||◌, ◌&&◌, nat_lt, not, cond, Bool, true, List, [], ◌∷◌, ◌++◌, None}
+use Rattle.std.specs.Prelude.{◌≡◌, ◌≢◌, ℕ, ◌+◌, ◌-◌, ◌/◌, ◌%◌, ◌<◌, ◌≤◌, ◌==◌, ◌||◌, ◌&&◌, nat_lt, not, cond, Bool, true, List, [], ◌∷◌, ◌++◌, None}
 use Rattle.atomic_table.specs.Table.{Me, Step, rest}
 use Rattle.comp_journal.specs.declared.entry.Entry.{Entry}
 use Rattle.heap_layout.specs.declared.kind.Kind.TheVariants.{Data}
-use Rattle.cell_steps.specs.Lists.{look, times, StartsWith, Rises}
+use Rattle.cell_steps.specs.Lists.{look, times, by, on, StartsWith, Rises}
 use Rattle.cell_steps.specs.View.{Known, Slot}
 use Rattle.cell_steps.specs.Locks.{seen_of, IsPage}
 use Rattle.cell_steps.specs.Whole.{fresh_view}
@@ -79,10 +79,17 @@ claims_empty st m r n =
     (r ≡ 0 → n ≡ (arriving (after_exchange m.0 st.word r st.second) st.word 0, (st.word, None) ∷ m.1))
     × (r ≢ 0 → n ≡ (after_exchange m.0 st.word r r, m.1))
 
+-- What a journal of page p tells its taker about the writers.
+pub record HasWriters (v : View) (p : ℕ) (journal : List Entry) : Type 0 where
+  -- the entries that bear the pass's own number are those that it wrote, in its order
+  pub own : (k : ℕ) → v.known.port ≡ k + 1 → by k journal ≡ on p v.known.did
+  -- passes that are not made yet wrote nothing
+  pub strangers : (k : ℕ) → 0 < v.known.next → v.known.next ≤ k + 1 → by k journal ≡ []
+
 -- the pass takes page p, with all of its journal, which begins with what the pass had seen
 abbrev pub Takes : Seat → ℕ → ℕ → Seat → Type 0
 Takes m p word n =
-    (journal : List Entry) × (slot : Slot) × IsPage m.0.about p journal slot × StartsWith journal (seen_of m.0 p)
+    (journal : List Entry) × (slot : Slot) × IsPage m.0.about p journal slot × StartsWith journal (seen_of m.0 p) × HasWriters m.0 p journal
     × (n ≡ (seeing (arriving (after_exchange m.0 p 1 word) p 1) p journal, (p, slot) ∷ m.1))
 
 -- An exchange on a page that is home, after which the pass holds it

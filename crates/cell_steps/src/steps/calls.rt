@@ -1,9 +1,9 @@
-ghost use Rattle.std.specs.Prelude.{◌≡◌, ◌≢◌, ℕ, ◌+◌, ◌/◌, ◌%◌, ◌<◌, [], ◌∷◌, length, Some, None, IfOk, IfErr};
+ghost use Rattle.std.specs.Prelude.{◌≡◌, ◌≢◌, ℕ, ◌+◌, ◌/◌, ◌%◌, ◌<◌, ◌≤◌, [], ◌∷◌, length, Some, None, IfOk, IfErr};
 ghost use Rattle.comp_journal.specs.Journal.{Reserved};
-ghost use Rattle.cell_steps.specs.Lists.{StartsWith, Rises};
+ghost use Rattle.cell_steps.specs.Lists.{by, on, StartsWith, Rises};
 ghost use Rattle.cell_steps.specs.Knowing.{KnowsAsBefore, SeesPage, TellsPage, WritesEntry};
 ghost use Rattle.cell_steps.specs.Plays.{after_load, after_exchange, arriving, leaving, seeing, telling, drawing, stamped};
-ghost use Rattle.cell_steps.specs.Passes.{pages_of, view_of, number_of, carried, seen, lost, last, HasSeenBuilt, IsPassOf, Rests, Builds, Holds, page_with, building_word, held_word, HasRoom, KeepsRoom};
+ghost use Rattle.cell_steps.specs.Passes.{pages_of, view_of, number_of, carried, seen, did, next_port, lost, last, HasSeenBuilt, IsPassOf, Rests, Builds, Holds, page_with, building_word, held_word, HasRoom, KeepsRoom};
 
 use crate::pass::Pass;
 use crate::plays::{ClaimEmpty, ClaimHome, Draft, DrawStamp, GiveUp, LoadState, SendHeld, SendNew};
@@ -73,6 +73,8 @@ impl Steps {
         ensures missed { IfErr result (λ found. Rests pass.new × (view_of pass.new ≡ after_exchange (view_of pass.old) p found found)) }
         ensures sees { IfOk result (λ taken. SeesPage p taken.page.journal (view_of pass.old) (view_of pass.new)) }
         ensures knows { IfErr result (λ found. KnowsAsBefore (view_of pass.old) (view_of pass.new)) }
+        ensures own { IfOk result (λ taken. by (number_of pass.old) taken.page.journal ≡ on p (did pass.old)) }
+        ensures strangers { IfOk result (λ taken. (k : ℕ) → 0 < next_port pass.old → next_port pass.old ≤ k + 1 → by k taken.page.journal ≡ []) }
         ensures lost { IfErr result (λ found. last pass.old p ≡ 1 → lost pass.new p ≡ lost pass.old p + 1) }
     {
         let held = held(pass.number);
