@@ -13,7 +13,7 @@ use Rattle.cell_steps.specs.View.{Slot}
 use Rattle.cell_steps.specs.Locks.{Journals, seen_of, IsPage, HasPage}
 use Rattle.cell_steps.specs.History.{Wrote}
 use Rattle.cell_steps.specs.Whole.{Kept, Keeps}
-use Rattle.cell_steps.specs.Plays.{Seat, after_exchange, arriving, seeing, claims_empty, claims_home}
+use Rattle.cell_steps.specs.Plays.{Seat, after_exchange, arriving, seeing, claims_empty, claims_home, FindsLast}
 use Rattle.cell_steps.specs.declared.view.View.{View}
 use Rattle.cell_steps.proofs.Sums.{look-same, look-other, starts-refl, times-other}
 use Rattle.cell_steps.proofs.LocksKept.{now_at}
@@ -74,6 +74,8 @@ module _ (u : Setup) (s : State Slot View) (js : Journals) (id : ℕ) (v : View)
         goes_on = g.goes_on;
         ended = g.goes_on;
         learnt = refl;
+        pass = g.port;
+        last = refl;
       }
 
   -- the view of the holder
@@ -139,6 +141,8 @@ module _ (u : Setup) (s : State Slot View) (js : Journals) (id : ℕ) (v : View)
         goes_on = g.goes_on;
         ended = g.goes_on;
         learnt = refl;
+        pass = g.port;
+        last = refl;
       }
 
 -- an exchange on an empty cell is allowed
@@ -149,6 +153,7 @@ claim_empty_allowed u slots id m p x g rests word lt s keeps_ long at_id small =
     let js = keeps_.journals in
     let v = m.0 in
     let r = get_or s.words p 0 in
+    let finds : FindsLast v p r = λ two. k.alone.finds id v at_id two p lt in
     let hit : r ≡ 0 → Picks u s id m p x (claims_empty (step slots p 0 x maybe.none) m r) =
     λ e. (
       arriving (after_exchange v p r x) p 0,
@@ -160,10 +165,10 @@ claim_empty_allowed u slots id m p x g rests word lt s keeps_ long at_id small =
             (subst (λ z. Kept u (paged s p (2 * v.known.port) maybe.none id (arriving (after_exchange v p z (2 * v.known.port)) p 0)) js) (sym e)
             (kept_building u s js id v p x k at_id g rests lt e));
       },
-      ((λ z. refl), (λ ne. absurd (ne e))),
+      ((λ z. refl), (λ ne. absurd (ne e)), finds),
     ) in
     let miss : r ≢ 0 → Picks u s id m p r (claims_empty (step slots p 0 x maybe.none) m r) =
-    λ ne. (after_exchange v p r r, keeps, tt, record { journals = js; kept = missed u s js id v p r r k at_id g.goes_on }, ((λ z. absurd (ne z)), (λ z. refl))) in
+    λ ne. (after_exchange v p r r, keeps, tt, record { journals = js; kept = missed u s js id v p r k at_id g.goes_on }, ((λ z. absurd (ne z)), (λ z. refl), finds)) in
     exchanged r 0 x (λ n. Picks u s id m p n (claims_empty (step slots p 0 x maybe.none) m r)) hit miss
 
 -- an exchange on a page that is home is allowed
@@ -174,6 +179,7 @@ claim_home_allowed u slots id m p x g rests word lt s keeps_ long at_id small =
     let js = keeps_.journals in
     let v = m.0 in
     let r = get_or s.words p 0 in
+    let finds : FindsLast v p r = λ two. k.alone.finds id v at_id two p lt in
     let hit : r ≡ 1 → Picks u s id m p x (claims_home (step slots p 1 x maybe.none) m r) =
     λ e. let home = (k.locks.cells p lt).home e in let wrote = k.history.wrote id v at_id in (
       seeing (arriving (after_exchange v p 1 x) p 1) p (js p),
@@ -184,8 +190,8 @@ claim_home_allowed u slots id m p x g rests word lt s keeps_ long at_id small =
         kept = subst (λ y. Kept u (paged s p y maybe.none id (seeing (arriving (after_exchange v p 1 y) p 1) p (js p))) js) (sym word)
             (kept_holding u s js id v p x k at_id g rests lt e);
       },
-      ((λ z. (js p, home.0, subst (λ t. IsPage t p (js p) home.0) (sym g.about) home.2, wrote.begins p, record { own = λ j port. (wrote.own j port p).0; strangers = λ j more le. wrote.strangers j more le p }, refl)), (λ ne. absurd (ne e))),
+      ((λ z. (js p, home.0, subst (λ t. IsPage t p (js p) home.0) (sym g.about) home.2, wrote.begins p, record { own = λ j port. (wrote.own j port p).0; strangers = λ j more le. wrote.strangers j more le p }, refl)), (λ ne. absurd (ne e)), finds),
     ) in
     let miss : r ≢ 1 → Picks u s id m p r (claims_home (step slots p 1 x maybe.none) m r) =
-    λ ne. (after_exchange v p r r, keeps, tt, record { journals = js; kept = missed u s js id v p r r k at_id g.goes_on }, ((λ z. absurd (ne z)), (λ z. refl))) in
+    λ ne. (after_exchange v p r r, keeps, tt, record { journals = js; kept = missed u s js id v p r k at_id g.goes_on }, ((λ z. absurd (ne z)), (λ z. refl), finds)) in
     exchanged r 1 x (λ n. Picks u s id m p n (claims_home (step slots p 1 x maybe.none) m r)) hit miss

@@ -17,6 +17,7 @@ use Rattle.cell_steps.proofs.Sums.{but-same, but-other, look-same, rises-front}
 use Rattle.cell_steps.proofs.LocksKept.{locks_moved, now_at}
 use Rattle.cell_steps.proofs.HistoryKept.{history_drawn}
 use Rattle.cell_steps.proofs.EndedKept.{ended_stays}
+use Rattle.cell_steps.proofs.AloneKept.{alone_still}
 use Rattle.cell_steps.proofs.ViewMoves.{Goes}
 use Rattle.cell_steps.proofs.PageMoves.{alone_at, told_set}
 
@@ -134,6 +135,7 @@ module _ (u : Setup) (s : State Slot View) (js : Journals) (id : ℕ) (v : View)
       port = refl;
       next = ((λ lt. lt), omega arith);
     } k.ended;
+    alone = alone_still u s.words words s.views id v after at_id record { same = word_same; next = λ two. two; last = λ two q lt e. e } k.alone;
   }
 
 -- a draw is allowed

@@ -2,6 +2,7 @@ pub mod Sums
 pub mod LocksKept
 pub mod HistoryKept
 pub mod EndedKept
+pub mod AloneKept
 pub mod ViewMoves
 pub mod PageMoves
 pub mod Claimed

@@ -10,6 +10,7 @@ use Rattle.cell_steps.specs.View.{Slot}
 use Rattle.cell_steps.specs.History.{History, Wrote}
 use Rattle.cell_steps.specs.Locks.{told_at, Cell, Placed}
 use Rattle.cell_steps.specs.Ended.{Closes}
+use Rattle.cell_steps.specs.Alone.{FindsAll}
 use Rattle.cell_steps.specs.Whole.{Keeps, first_view}
 use Rattle.cell_steps.specs.declared.view.View.{View}
 use Rattle.cell_steps.proofs.Sums.{each-one, starts-nil, below-zero}
@@ -86,5 +87,6 @@ keeps_opening u n same few =
             ports = λ lt. each-one (λ (w : View). w.known.port < 2) v (omega arith);
           };
         };
+        alone = record { finds = each-one (λ (w : View). w.known.next ≡ 2 → FindsAll u (zeros (n + 1)) w) v (λ two p lt. word p (omega arith)) };
       };
     }

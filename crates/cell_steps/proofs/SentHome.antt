@@ -79,6 +79,8 @@ module _ (u : Setup) (s : State Slot View) (js : Journals) (id : ℕ) (v : View)
         goes_on = g.goes_on;
         ended = g.goes_on;
         learnt = refl;
+        pass = g.port;
+        last = refl;
       }
 
   -- after a hold
@@ -113,6 +115,8 @@ module _ (u : Setup) (s : State Slot View) (js : Journals) (id : ℕ) (v : View)
         goes_on = g.goes_on;
         ended = g.goes_on;
         learnt = refl;
+        pass = g.port;
+        last = refl;
       }
 
   -- after a build that is given up
@@ -147,6 +151,8 @@ module _ (u : Setup) (s : State Slot View) (js : Journals) (id : ℕ) (v : View)
         goes_on = g.goes_on;
         ended = g.goes_on;
         learnt = refl;
+        pass = g.port;
+        last = refl;
       }
 
 -- a seat with its slots

@@ -4,6 +4,7 @@ pub mod View
 pub mod Locks
 pub mod History
 pub mod Ended
+pub mod Alone
 pub mod Whole
 pub mod Plays
 pub mod Knowing

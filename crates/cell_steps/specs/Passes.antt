@@ -101,6 +101,10 @@ held_word number = 2 * (number + 1) + 1
 abbrev pub MakesNext : ℕ → Pass → Type 0
 MakesNext number pass = (known_of pass).next ≡ number + 1
 
+-- the first pass, while it has made no other
+abbrev pub IsAlone : Pass → Type 0
+IsAlone pass = MakesNext 1 pass
+
 -- the port of the pass that this pass makes next, or 0 where it makes none
 abbrev pub next_port : Pass → ℕ
 next_port pass = (known_of pass).next

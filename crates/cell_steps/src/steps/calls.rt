@@ -3,7 +3,7 @@ ghost use Rattle.comp_journal.specs.Journal.{Reserved};
 ghost use Rattle.cell_steps.specs.Lists.{by, on, StartsWith, Rises};
 ghost use Rattle.cell_steps.specs.Knowing.{KnowsAsBefore, SeesPage, TellsPage, WritesEntry};
 ghost use Rattle.cell_steps.specs.Plays.{after_load, after_exchange, arriving, leaving, seeing, telling, drawing, stamped};
-ghost use Rattle.cell_steps.specs.Passes.{pages_of, view_of, number_of, carried, seen, did, next_port, lost, last, HasSeenBuilt, IsPassOf, Rests, Builds, Holds, page_with, building_word, held_word, HasRoom, KeepsRoom};
+ghost use Rattle.cell_steps.specs.Passes.{pages_of, view_of, number_of, carried, seen, did, next_port, lost, last, HasSeenBuilt, IsPassOf, IsAlone, Rests, Builds, Holds, page_with, building_word, held_word, HasRoom, KeepsRoom};
 
 use crate::pass::Pass;
 use crate::plays::{ClaimEmpty, ClaimHome, Draft, DrawStamp, GiveUp, LoadState, SendHeld, SendNew};
@@ -36,6 +36,8 @@ impl Steps {
         ensures carried { carried pass.new ≡ carried pass.old }
         ensures built { HasSeenBuilt pass.old p → result % 2 ≡ 1 }
         ensures own { 1 < result → result / 2 ≡ number_of pass.old + 1 → (view_of pass.old).at ≡ p + 1 }
+        ensures made { 0 < next_port pass.old → 1 < result → result / 2 < next_port pass.old }
+        ensures alone { IsAlone pass.old → result ≡ last pass.old p }
         ensures knows { KnowsAsBefore (view_of pass.old) (view_of pass.new) }
         ensures found { (last pass.new p ≡ result) × (result % 2 ≡ 1 → HasSeenBuilt pass.new p) }
         ensures lost { Rests pass.old → 1 < result → lost pass.new p ≡ lost pass.old p + 1 }
@@ -55,6 +57,7 @@ impl Steps {
         ensures missed { result ≢ 0 → Rests pass.new × (view_of pass.new ≡ after_exchange (view_of pass.old) p result result) }
         ensures knows { KnowsAsBefore (view_of pass.old) (view_of pass.new) }
         ensures lost { result ≢ 0 → last pass.old p ≡ 0 → lost pass.new p ≡ lost pass.old p + 1 }
+        ensures alone { IsAlone pass.old → result ≡ last pass.old p }
     {
         let building = building(pass.number);
         self.table
@@ -76,6 +79,7 @@ impl Steps {
         ensures own { IfOk result (λ taken. by (number_of pass.old) taken.page.journal ≡ on p (did pass.old)) }
         ensures strangers { IfOk result (λ taken. (k : ℕ) → 0 < next_port pass.old → next_port pass.old ≤ k + 1 → by k taken.page.journal ≡ []) }
         ensures lost { IfErr result (λ found. last pass.old p ≡ 1 → lost pass.new p ≡ lost pass.old p + 1) }
+        ensures alone { IfErr result (λ found. IsAlone pass.old → (found ≡ last pass.old p) × (found ≢ 1)) }
     {
         let held = held(pass.number);
         let found = self
