@@ -1,6 +1,9 @@
 //! The command `word`.
-ghost use Rattle.std.specs.Prelude.{◌≡◌, ◌*◌, ◌-◌, ◌^◌, ◌<◌, ◌≤◌, IfOk, IfErr, IfSome, OnOk, OnErr, Err};
+ghost use Rattle.std.specs.Prelude.{◌≡◌, ◌*◌, ◌-◌, ◌/◌, ◌^◌, ◌<◌, ◌≤◌, slice_index, IfOk, IfErr, IfSome, OnOk, OnErr, Err};
 ghost use Rattle.heap_layout.specs.Counted.{inner_of, failures_of};
+ghost use Rattle.heap_layout.specs.Heap.{live};
+ghost use Rattle.page_plan.specs.Sliding.{slid_words};
+ghost use Rattle.page_cells.specs.Cells.{heap_of, mutators_of, pages_of, steps_of, IsNew};
 ghost use Rattle.std.specs.Io.KnownBytes.{Appends};
 ghost use Rattle.compressor.specs.Printing.{line_of, CountsPrint, CountsRead, IsOfWord};
 ghost use Rattle.compressor.specs.Word.{IsImage, IsWordAt, IsPast, PrintsWordAt, RefusesWord, RefusesPrint};
@@ -9,11 +12,17 @@ use crate::image::open_image;
 use crate::print::{print_digits, print_text};
 use crate::refusal::Refusal;
 use heap_layout::counted::Counted;
+use heap_layout::fault::OutOfMemory;
 use heap_layout::image::read_image;
+use page_cells::Pass;
+use page_cells::cells::Cells;
+use page_cells::refusal::CellRefusal;
+use page_plan::laws::pages_follow;
 use page_plan::plan::Plan;
 use std::alloc::Global;
 use std::io::{Read, Write};
 use std::rt::Files;
+use std::sync::Arc;
 
 /// Prints the slid word at an index, of the heap whose image is in a file.
 pub fn print_word<R: Files + AllocGlobal, O: Write>(
@@ -68,17 +77,43 @@ pub fn word_in<R: Read>(alloc: Global, r: &mut Counted<R>, index: u64) -> Result
 {
     let heap = read_image(alloc, r)?;
     let plan = Plan::new(alloc, heap)?;
-    word_of(alloc, &plan, index)
+    word_of(alloc, plan, index)
 }
 
-/// The slid word at an index.
-pub fn word_of(alloc: Global, plan: &Plan, index: u64) -> Result<u64, Refusal>
-    ensures word { IfOk result (λ word. IsWordAt index word plan.now) }
-    ensures cause { IfErr result (IsPast index plan.now) }
+/// The slid word at an index. It is read from its page, which the one pass of new cells takes.
+pub fn word_of(alloc: Global, plan: Plan, index: u64) -> Result<u64, Refusal>
+    ensures word { IfOk result (λ word. IsWordAt index word plan) }
+    ensures cause { IfErr result (IsPast index plan) }
 {
     if index / 64 >= plan.pages() {
         return Err(Refusal::NoSuchWord(index));
     }
-    let page = plan.build_page(alloc, index / 64)?;
-    Ok(page.get((index % 64) as u8))
+    let plan = Arc::new(alloc, plan).map_err(|_| Refusal::OutOfMemory)?;
+    let (cells, mut passes) = Cells::new(alloc, plan, 0, 1)?;
+    Ok(taken_word(alloc, &cells, &mut passes[0], index)?)
+}
+
+// The slid word at an index, by a pass that is alone and did nothing yet: it takes the word's page and puts it back.
+fn taken_word(
+    alloc: Global,
+    cells: &Cells<Plan>,
+    pass: &mut Pass,
+    index: u64,
+) -> Result<u64, OutOfMemory>
+    requires alone { mutators_of cells.now ≡ 1 }
+    requires new { IsNew (steps_of cells.now) 1 0 pass.old }
+    requires inside { index / 64 < pages_of cells.now }
+    ensures { IfOk result (λ word. word ≡ slice_index (slid_words (live (heap_of cells.now))) index) }
+{
+    let taken = match cells.try_take(alloc, pass, index / 64) {
+        Ok(taken) => taken,
+        Err(CellRefusal::OutOfMemory) => return Err(OutOfMemory),
+        Err(CellRefusal::Busy(_) | CellRefusal::NoSuchPage | CellRefusal::PassMissing(_)) => {
+            unreachable!()
+        }
+    };
+    let word = cells.held_word(pass, &taken, (index % 64) as u8);
+    cells.put_back(pass, taken);
+    pages_follow();
+    Ok(word)
 }
