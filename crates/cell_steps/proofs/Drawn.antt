@@ -25,6 +25,7 @@ use Rattle.cell_steps.proofs.Judged.{lawful_more}
 use Rattle.cell_steps.proofs.StartsKept.{bits_of, starts_bits, starts_drawn}
 use Rattle.cell_steps.proofs.KnownStarts.{may_lead}
 use Rattle.cell_steps.proofs.EndedKept.{ended_stays}
+use Rattle.cell_steps.proofs.AloneKept.{alone_still}
 use Rattle.cell_steps.proofs.ViewMoves.{Goes}
 use Rattle.cell_steps.proofs.PageMoves.{alone_at, told_set}
 
@@ -170,6 +171,7 @@ module _ (u : Setup) (s : State Slot View) (js : Journals) (id : ℕ) (v : View)
       port = refl;
       next = ((λ lt. lt), omega arith);
     } k.ended;
+    alone = alone_still u s.words words s.views id v after at_id record { same = word_same; next = λ two. two; last = λ two q lt e. e } k.alone;
   }
 
 -- a draw is allowed

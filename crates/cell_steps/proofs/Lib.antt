@@ -6,6 +6,7 @@ pub mod Named
 pub mod StartsKept
 pub mod KnownStarts
 pub mod EndedKept
+pub mod AloneKept
 pub mod ViewMoves
 pub mod PageMoves
 pub mod StartBits

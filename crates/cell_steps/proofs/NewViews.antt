@@ -20,6 +20,7 @@ use Rattle.cell_steps.proofs.LocksKept.{placed_same, locks_stay, locks_joined, n
 use Rattle.cell_steps.proofs.HistoryKept.{wrote_nothing, wrote_same, history_stays, history_joined}
 use Rattle.cell_steps.proofs.StartsKept.{bits_of, dues_same, starts_stay, starts_joined}
 use Rattle.cell_steps.proofs.EndedKept.{ended_stays, Enters, ended_joined}
+use Rattle.cell_steps.proofs.AloneKept.{alone_still, alone_joined}
 use Rattle.cell_steps.proofs.ViewMoves.{Goes}
 
 -- the table as the rule reads it
@@ -40,6 +41,7 @@ kept_joined u s js x k new wrote enters none = record {
   lawful = k.lawful;
   starts = starts_joined u (bits_of u s.words) (get_or s.words (clock_at u) 0) s.views js x new.at none k.starts;
   ended = ended_joined s.views x enters k.ended;
+  alone = alone_joined u s.words s.views x enters.next k.alone;
 }
 
 -- the first pass makes the next one
@@ -75,6 +77,7 @@ make_allowed u id v g lt s keeps_ at_id =
         port = refl;
         next = ((λ more. lt), omega arith);
       } k.ended;
+      alone = alone_still u s.words s.words s.views id v (making v) at_id record { same = λ q inside. refl; next = λ two. absurd (omega (arith, g.port, mine.ports lt id v at_id)); last = λ two q inside e. e } k.alone;
     } in
     record {
       journals = js;
@@ -123,6 +126,7 @@ end_allowed u id v goes rests s keeps_ at_id =
         port = refl;
         next = ((λ more. more), omega arith);
       } k.ended;
+      alone = alone_still u s.words s.words s.views id v (ending v) at_id record { same = λ q inside. refl; next = λ two. two; last = λ two q inside e. e } k.alone;
     } in
     let here : IsLast views v.known = (id, ending v, now_at s.views id v (ending v) at_id, refl, refl) in
     record {
@@ -174,6 +178,7 @@ learn_allowed u id other v w known at goes known' at' goes' s keeps_ at_id ne at
         port = refl;
         next = ((λ more. more), omega arith);
       } k.ended;
+      alone = alone_still u s.words s.words s.views id v both at_id record { same = λ q inside. refl; next = λ two. two; last = λ two q inside e. e } k.alone;
     } in
     record {
       journals = js;
@@ -203,5 +208,6 @@ learn_allowed u id other v w known at goes known' at' goes' s keeps_ at_id ne at
           port = ap (λ (x : Known). x.port) (sym known');
           next = ((λ more. absurd (omega arith)), omega (arith, ap (λ (x : Known). x.next) known'));
         } first.ended;
+        alone = alone_still u s.words s.words views other w nobody at_other record { same = λ q inside. refl; next = λ two. absurd (omega arith); last = λ two. absurd (omega arith) } first.alone;
       };
     }

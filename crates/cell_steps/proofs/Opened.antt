@@ -15,6 +15,7 @@ use Rattle.cell_steps.specs.History.{History, Wrote}
 use Rattle.cell_steps.specs.Locks.{told_at, Cell, Placed}
 use Rattle.cell_steps.specs.Starts.{HasHeadBefore, IsStart}
 use Rattle.cell_steps.specs.Ended.{Closes}
+use Rattle.cell_steps.specs.Alone.{FindsAll}
 use Rattle.cell_steps.specs.Whole.{Keeps, first_view}
 use Rattle.cell_steps.specs.declared.view.View.{View}
 use Rattle.cell_steps.proofs.Sums.{each-one, starts-nil, below-zero}
@@ -103,5 +104,6 @@ keeps_opening u n w same wide few slid =
             ports = λ lt. each-one (λ (w : View). w.known.port < 2) v (omega arith);
           };
         };
+        alone = record { finds = each-one (λ (x : View). x.known.next ≡ 2 → FindsAll u (zeros w) x) v (λ two p lt. word p (omega arith)) };
       };
     }

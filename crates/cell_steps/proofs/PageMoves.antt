@@ -1,6 +1,6 @@
 -- Steps that change the state word and the slot of one page.
 use Rattle.std.proofs.lemmas.Bool.{both_ways}
-use Rattle.std.proofs.Common.{◌≡◌, ℕ, ◌+◌, ◌%◌, ◌<◌, ◌≢◌, false, List, length, get_or, set, sym, refl, ap, ◌∙◌, arith, subst, length-set, get_or-set_other, get_or-set_same}
+use Rattle.std.proofs.Common.{◌≡◌, ℕ, ◌+◌, ◌%◌, ◌<◌, ◌≢◌, false, List, ◌∷◌, length, get_or, set, sym, refl, ap, ◌∙◌, arith, subst, length-set, get_or-set_other, get_or-set_same}
 use mathlib.Core.Logic.{dite}
 use native.Mathlib.Decide.{ℕ_discrete}
 use mathlib.Core.Option as maybe
@@ -21,6 +21,7 @@ use Rattle.cell_steps.proofs.LocksKept.{locks_moved}
 use Rattle.cell_steps.proofs.HistoryKept.{history_stays}
 use Rattle.cell_steps.proofs.StartsKept.{bits_of, starts_stay, starts_bits}
 use Rattle.cell_steps.proofs.EndedKept.{ended_stays}
+use Rattle.cell_steps.proofs.AloneKept.{alone_moved}
 
 -- the table once the seat `id` has the view w, and made n of the state word of page p and h of its slot
 abbrev pub paged : State Slot View → ℕ → ℕ → maybe.Option Slot → ℕ → View → State Slot View
@@ -51,6 +52,8 @@ pub record PageMoves (u : Setup) (s : State Slot View) (js : Journals) (id : ℕ
   pub rests : (q offset : ℕ) → v.at ≡ q + 1 → v.owes ≡ offset + 1 → ⊥
   pub rests_after : (q offset : ℕ) → w.at ≡ q + 1 → w.owes ≡ offset + 1 → ⊥
   pub starts : Each w.known.starts (IsStart u (bits_of u s.words))
+  pub pass : 0 < v.known.port
+  pub last : w.last ≡ (p, n) ∷ v.last
 
 module _ (u : Setup) (s : State Slot View) (js : Journals) (id : ℕ) (v w : View) (p n : ℕ) (h : maybe.Option Slot) (k : Kept u s js)
     (at_id : get_elem? s.views id ≡ maybe.some v) (m : PageMoves u s js id v w p n h) where
@@ -99,6 +102,8 @@ module _ (u : Setup) (s : State Slot View) (js : Journals) (id : ℕ) (v w : Vie
       port = m.port;
       next = ((λ lt. omega (arith, m.next)), omega (arith, m.next));
     } k.ended;
+    alone = let lt : p < length s.words = omega (arith, m.inside, k.locks.wide) in
+        alone_moved u s.words s.homes s.views js k.locks k.ended id v at_id w p n m.pass lt m.next m.last k.alone;
   }
 
 -- a page that was built is built after its word, or another's, has changed

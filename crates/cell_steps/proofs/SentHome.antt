@@ -82,6 +82,8 @@ module _ (u : Setup) (s : State Slot View) (js : Journals) (id : ℕ) (v : View)
         rests = λ q offset e due. absurd (omega (arith, owes));
         rests_after = λ q offset e due. absurd (omega arith);
         starts = k.starts.known id v at_id;
+        pass = g.port;
+        last = refl;
       }
 
   -- after a hold
@@ -119,6 +121,8 @@ module _ (u : Setup) (s : State Slot View) (js : Journals) (id : ℕ) (v : View)
         rests = λ q offset e due. absurd (omega (arith, owes));
         rests_after = λ q offset e due. absurd (omega arith);
         starts = k.starts.known id v at_id;
+        pass = g.port;
+        last = refl;
       }
 
   -- after a build that is given up
@@ -156,6 +160,8 @@ module _ (u : Setup) (s : State Slot View) (js : Journals) (id : ℕ) (v : View)
         rests = λ q offset e due. absurd (omega (arith, owes));
         rests_after = λ q offset e due. absurd (omega arith);
         starts = k.starts.known id v at_id;
+        pass = g.port;
+        last = refl;
       }
 
 -- a seat with its slots

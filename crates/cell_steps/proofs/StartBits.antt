@@ -18,6 +18,7 @@ use Rattle.cell_steps.proofs.HistoryKept.{wrote_same, history_stays}
 use Rattle.cell_steps.proofs.StartsKept.{bits_of, starts_bit_set}
 use Rattle.cell_steps.proofs.KnownStarts.{known_set, set_starts}
 use Rattle.cell_steps.proofs.EndedKept.{ended_stays}
+use Rattle.cell_steps.proofs.AloneKept.{alone_still}
 use Rattle.cell_steps.proofs.ViewMoves.{Goes, kept_looked, kept_written}
 
 module _ (u : Setup) (words words' : List ℕ) (same : (p : ℕ) → p < pages u → get_or words' p 0 ≡ get_or words p 0) where
@@ -113,6 +114,8 @@ module _ (u : Setup) (s : State Slot View) (js : Journals) (id : ℕ) (v : View)
           port = refl;
           next = ((λ lt. lt), omega arith);
         } k.ended;
+        alone = alone_still u s.words words s.views id v after at_id
+            record { same = λ q lt. word_same q (λ e. omega (arith, e, lt)); next = λ two. two; last = λ two q lt e. e } k.alone;
       }
 
 -- setting the bit that is due is allowed
@@ -163,6 +166,7 @@ find_allowed u slots id m j g fresh s keeps_ long at_id small =
           did = refl;
           told = refl;
           built = (k.locks.placed id v at_id).built;
+          last = λ p lt e. e;
           starts = set_starts u s js id v k at_id g.about j fresh;
         });
       },

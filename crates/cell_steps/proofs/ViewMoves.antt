@@ -8,7 +8,7 @@ use lib.ListN.{get_elem?}
 use lib.Seq.{set-get_or}
 use Rattle.atomic_table.specs.Table.{State, keeps, step, Allows}
 use Rattle.cell_steps.specs.Setup.{Setup, pages, clock_at}
-use Rattle.cell_steps.specs.Lists.{times, Each}
+use Rattle.cell_steps.specs.Lists.{look, times, Each}
 use Rattle.cell_steps.specs.View.{Known, Slot}
 use Rattle.cell_steps.specs.Locks.{Journals, Locks}
 use Rattle.cell_steps.specs.Starts.{IsStart}
@@ -21,6 +21,7 @@ use Rattle.cell_steps.proofs.HistoryKept.{wrote_same, history_stays}
 use Rattle.cell_steps.proofs.StartsKept.{bits_of, dues_same, starts_stay}
 use Rattle.cell_steps.proofs.KnownStarts.{known_odd}
 use Rattle.cell_steps.proofs.EndedKept.{ended_stays}
+use Rattle.cell_steps.proofs.AloneKept.{alone_still, finds_found, word_made}
 
 -- A seat of a pass that makes steps on the table.
 pub record Goes (u : Setup) (v : View) : Type 0 where
@@ -43,6 +44,7 @@ pub record Looks (u : Setup) (words : List ℕ) (v w : View) : Type 0 where
   pub told : w.known.told ≡ v.known.told
   pub built : (p : ℕ) → 0 < times p w.known.built → (p < pages u) × (get_or words p 0 % 2 ≡ 1)
   pub starts : Each w.known.starts (IsStart u (bits_of u words))
+  pub last : (p : ℕ) → p < pages u → get_or words p 0 ≡ look 0 v.last p → get_or words p 0 ≡ look 0 w.last p
 
 -- the rule after such a step
 pub kept_looked : (u : Setup) (s : State Slot View) (js : Journals) (id : ℕ) (v w : View) → Kept u s js → get_elem? s.views id ≡ maybe.some v
@@ -67,6 +69,7 @@ kept_looked u s js id v w k at_id goes l = record {
     port = l.port;
     next = ((λ lt. omega (arith, l.next)), omega (arith, l.next));
   } k.ended;
+  alone = alone_still u s.words s.words s.views id v w at_id record { same = λ q lt. refl; next = λ two. sym l.next ∙ two; last = λ two. l.last } k.alone;
 }
 
 -- a page that a load finds home or held is built
@@ -79,12 +82,12 @@ built_loaded u words v p true lt odd old q some = dite (ℕ_discrete q p)
 built_loaded u words v p false lt odd old q some = old q some
 
 -- after a load
-looks_loaded : (u : Setup) (words : List ℕ) (v : View) (p : ℕ) (b : Bool) (lost : List ℕ) (last : List (ℕ × ℕ)) → p < pages u
+looks_loaded : (u : Setup) (words : List ℕ) (v : View) (p : ℕ) (b : Bool) (lost : List ℕ) → p < pages u
     → (b ≡ true → get_or words p 0 % 2 ≡ 1)
     → ((q : ℕ) → 0 < times q v.known.built → (q < pages u) × (get_or words q 0 % 2 ≡ 1))
     → Each v.known.starts (IsStart u (bits_of u words))
-    → Looks u words v record v { known = record v.known { built = cond b (p ∷ v.known.built) v.known.built }; lost = lost; last = last }
-looks_loaded u words v p b lost last lt odd old starts = record {
+    → Looks u words v record v { known = record v.known { built = cond b (p ∷ v.known.built) v.known.built }; lost = lost; last = (p, get_or words p 0) ∷ v.last }
+looks_loaded u words v p b lost lt odd old starts = record {
   about = refl;
   at = refl;
   mode = refl;
@@ -98,6 +101,7 @@ looks_loaded u words v p b lost last lt odd old starts = record {
   told = refl;
   built = built_loaded u words v p b lt odd old;
   starts = starts;
+  last = finds_found u words v.last p (get_or words p 0) refl;
 }
 
 -- a word that is written back
@@ -119,10 +123,11 @@ own_word u s js id v p locks at_id lt more own =
     ap (λ (y : View). y.at) (sym is) ∙ x.3
 
 -- an exchange that was lost leaves all but what it found and lost
-pub missed : (u : Setup) (s : State Slot View) (js : Journals) (id : ℕ) (v : View) (p n x : ℕ) → Kept u s js → get_elem? s.views id ≡ maybe.some v
+pub missed : (u : Setup) (s : State Slot View) (js : Journals) (id : ℕ) (v : View) (p n : ℕ) → Kept u s js → get_elem? s.views id ≡ maybe.some v
     → v.ended ≡ false
-    → Kept u record { words = set s.words p (get_or s.words p 0); homes = s.homes; views = set s.views id (after_exchange v p n x) } js
-missed u s js id v p n x k at_id goes =
+    → Kept u record { words = set s.words p (get_or s.words p 0); homes = s.homes; views = set s.views id (after_exchange v p n (get_or s.words p 0)) } js
+missed u s js id v p n k at_id goes =
+    let x = get_or s.words p 0 in
     kept_written u s js s.homes (set s.views id (after_exchange v p n x)) p
     (kept_looked u s js id v (after_exchange v p n x) k at_id goes record {
       about = refl;
@@ -138,6 +143,7 @@ missed u s js id v p n x k at_id goes =
       told = refl;
       built = (k.locks.placed id v at_id).built;
       starts = k.starts.known id v at_id;
+      last = finds_found u s.words v.last p x refl;
     })
 
 -- a load is allowed
@@ -149,10 +155,10 @@ load_allowed u slots id m p g lt s keeps_ long at_id small =
     let v = m.0 in
     let r = get_or s.words p 0 in
     let placed = k.locks.placed id v at_id in
-    let looks = looks_loaded u s.words v p (eqb (r % 2) 1) (after_load v p r).lost ((p, r) ∷ v.last) lt (eqb-true (r % 2) 1) placed.built (k.starts.known id v at_id) in (
+    let looks = looks_loaded u s.words v p (eqb (r % 2) 1) (after_load v p r).lost lt (eqb-true (r % 2) 1) placed.built (k.starts.known id v at_id) in (
       after_load v p r,
       keeps,
       tt,
       record { journals = js; kept = kept_written u s js s.homes (set s.views id (after_load v p r)) p (kept_looked u s js id v (after_load v p r) k at_id g.goes_on looks) },
-      (refl, (λ some. (placed.built p some).1), (λ more own. own_word u s js id v p k.locks at_id lt more own), (λ offset knows. known_odd u s js id v k at_id g.about p offset knows)),
+      (refl, (λ some. (placed.built p some).1), (λ more own. own_word u s js id v p k.locks at_id lt more own), (λ offset knows. known_odd u s js id v k at_id g.about p offset knows), (λ makes more. word_made u s.words s.homes s.views js k.locks k.ended id v at_id p lt makes more), (λ two. k.alone.finds id v at_id two p lt)),
     )

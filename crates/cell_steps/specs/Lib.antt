@@ -6,6 +6,7 @@ pub mod History
 pub mod Lawful
 pub mod Starts
 pub mod Ended
+pub mod Alone
 pub mod Whole
 pub mod Plays
 pub mod Knowing

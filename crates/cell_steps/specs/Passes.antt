@@ -120,9 +120,17 @@ held_word number = 2 * (number + 1) + 1
 abbrev pub MakesNext : ℕ → Pass → Type 0
 MakesNext number pass = (known_of pass).next ≡ number + 1
 
+-- the first pass, while it has made no other
+abbrev pub IsAlone : Pass → Type 0
+IsAlone pass = MakesNext 1 pass
+
+-- the port of the pass that this pass makes next, or 0 where it makes none
+abbrev pub next_port : Pass → ℕ
+next_port pass = (known_of pass).next
+
 -- no pass of this number is made yet, as the pass that makes the others knows
 abbrev pub IsNotMade : Pass → ℕ → Type 0
-IsNotMade pass number = (0 < (known_of pass).next) × ((known_of pass).next ≤ number + 1)
+IsNotMade pass number = (0 < next_port pass) × (next_port pass ≤ number + 1)
 
 -- for how many more builds room is reserved
 abbrev pub room_of : Pass → ℕ

@@ -82,17 +82,23 @@ no_entry = record { stamp = 0; writer = 0; kind = Data; offset = 0; value = 0 }
 abbrev pub stamped : Entry → ℕ → Entry
 stamped e stamp = record e { stamp = stamp }
 
+-- a pass that has made no other finds the state word that it last found or left there
+abbrev pub FindsLast : View → ℕ → ℕ → Type 0
+FindsLast v p n = v.known.next ≡ 2 → n ≡ look 0 v.last p
+
 -- A load. A page that the pass has seen built, or on which it knows a start, is home or held, and the pass's own number is found only where it is.
+-- The pass that makes the others finds no number that it has not given.
 abbrev pub loads : Play
 loads st m r n =
     (n ≡ (after_load m.0 st.word r, m.1)) × (0 < times st.word m.0.known.built → r % 2 ≡ 1) × (1 < r → r / 2 ≡ m.0.known.port → m.0.at ≡ st.word + 1)
     × ((offset : ℕ) → KnowsFresh m.0 st.word offset → r % 2 ≡ 1)
+    × (0 < m.0.known.next → 1 < r → r / 2 < m.0.known.next) × FindsLast m.0 st.word r
 
 -- An exchange on an empty cell, after which the pass builds the page
 abbrev pub claims_empty : Play
 claims_empty st m r n =
     (r ≡ 0 → n ≡ (arriving (after_exchange m.0 st.word r st.second) st.word 0, (st.word, None) ∷ m.1))
-    × (r ≢ 0 → n ≡ (after_exchange m.0 st.word r r, m.1))
+    × (r ≢ 0 → n ≡ (after_exchange m.0 st.word r r, m.1)) × FindsLast m.0 st.word r
 
 -- what a pass is told of the journal of a page that it takes
 pub record Tells (v : View) (p : ℕ) (journal : List Entry) : Type 0 where
@@ -118,7 +124,7 @@ Takes m p word n =
 
 -- An exchange on a page that is home, after which the pass holds it
 abbrev pub claims_home : Play
-claims_home st m r n = (r ≡ 1 → Takes m st.word st.second n) × (r ≢ 1 → n ≡ (after_exchange m.0 st.word r r, m.1))
+claims_home st m r n = (r ≡ 1 → Takes m st.word st.second n) × (r ≢ 1 → n ≡ (after_exchange m.0 st.word r r, m.1)) × FindsLast m.0 st.word r
 
 -- The page goes home after it was built.
 abbrev pub builds : Play

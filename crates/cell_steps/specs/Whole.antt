@@ -8,6 +8,7 @@ use Rattle.cell_steps.specs.History.{History}
 use Rattle.cell_steps.specs.Lawful.{IsLawful}
 use Rattle.cell_steps.specs.Starts.{Starts}
 use Rattle.cell_steps.specs.Ended.{Ended}
+use Rattle.cell_steps.specs.Alone.{Alone}
 use Rattle.cell_steps.specs.declared.view.View.{View}
 
 -- The rule, for these journals.
@@ -22,6 +23,8 @@ pub record Kept (u : Setup) (s : State Slot View) (journals : Journals) : Type 0
   pub starts : Starts u (λ j. slice_index s.words (starts_at u j)) (slice_index s.words (clock_at u)) s.views journals
   -- what passes that have ended knew is kept
   pub ended : Ended s.views
+  -- a pass that is alone finds each state word as it left it
+  pub alone : Alone u s.words s.views
 
 -- There are journals for which the rule holds: those of the pages that are home, and of those that passes hold.
 pub record Keeps (u : Setup) (s : State Slot View) : Type 0 where

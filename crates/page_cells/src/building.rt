@@ -1,6 +1,6 @@
 ghost use Rattle.std.specs.Prelude.{◌≡◌, ◌↔◌, ℕ, ◌+◌, ◌<◌, ◌≤◌, Ok, false, true, IfOk, OnOk, OnErr, IsErrOf};
 ghost use Rattle.cell_steps.specs.Passes.{builds_of, last, lost, HasSeenBuilt, Rests};
-ghost use Rattle.page_cells.specs.Cells.{pages_of, IsPassOf};
+ghost use Rattle.page_cells.specs.Cells.{mutators_of, pages_of, IsPassOf};
 ghost use Rattle.page_cells.specs.Calls.{builds_with, Grows, WroteNothing};
 ghost use Rattle.page_cells.specs.declared.refusal.CellRefusal.TheVariants.{Busy, NoSuchPage, PassMissing};
 
@@ -23,6 +23,7 @@ impl<B: Builder> Cells<B> {
         ensures page { IsErrOf result NoSuchPage ↔ (pages_of self.now ≤ p) }
         ensures named { (k : ℕ) → IsErrOf result (PassMissing k) → ⊥ }
         ensures busy { (q : ℕ) → IsErrOf result (Busy q) → (q ≡ p) × (lost pass.old p < lost pass.new p) }
+        ensures alone { mutators_of self.now ≡ 1 → (q : ℕ) → IsErrOf result (Busy q) → ⊥ }
         ensures builds { IfOk result (λ built. (builds_of pass.new ≡ builds_with (builds_of pass.old) p built) × HasSeenBuilt pass.new p) }
         ensures refused { OnErr result (builds_of pass.new ≡ builds_of pass.old) }
         ensures seen { p < pages_of self.now → HasSeenBuilt pass.old p → result ≡ Ok false }
@@ -59,6 +60,7 @@ impl<B: Builder> Cells<B> {
         ensures page { IsErrOf result NoSuchPage → ⊥ }
         ensures named { (k : ℕ) → IsErrOf result (PassMissing k) → ⊥ }
         ensures busy { (q : ℕ) → IsErrOf result (Busy q) → (q ≡ p) × (lost pass.old p < lost pass.new p) }
+        ensures alone { mutators_of self.now ≡ 1 → (q : ℕ) → IsErrOf result (Busy q) → ⊥ }
         ensures built { OnOk result ((builds_of pass.new ≡ builds_with (builds_of pass.old) p true) × HasSeenBuilt pass.new p × (last pass.new p ≡ 1)) }
         ensures refused { OnErr result (builds_of pass.new ≡ builds_of pass.old) }
     {

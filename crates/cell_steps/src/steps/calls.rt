@@ -1,4 +1,4 @@
-ghost use Rattle.std.specs.Prelude.{◌≡◌, ◌≢◌, ℕ, ◌+◌, ◌/◌, ◌%◌, ◌<◌, [], ◌∷◌, length, Some, None, IfOk, IfErr};
+ghost use Rattle.std.specs.Prelude.{◌≡◌, ◌≢◌, ℕ, ◌+◌, ◌/◌, ◌%◌, ◌<◌, ◌≤◌, [], ◌∷◌, length, Some, None, IfOk, IfErr};
 ghost use Rattle.comp_journal.specs.Journal.{Reserved};
 ghost use mathlib.Core.Option.{some};
 ghost use lib.ListN.{get_elem?};
@@ -8,7 +8,7 @@ ghost use Rattle.cell_steps.specs.Lists.{by, on, StartsWith, Rises};
 ghost use Rattle.cell_steps.specs.Lawful.{owed_by, FitsEntry, HasHead, IsLawful};
 ghost use Rattle.cell_steps.specs.Knowing.{KnowsAsBefore, SeesPage, TellsPage, WritesEntry};
 ghost use Rattle.cell_steps.specs.Plays.{after_load, after_exchange, arriving, leaving, seeing, telling, drawing, stamped};
-ghost use Rattle.cell_steps.specs.Passes.{about, pages_of, view_of, number_of, carried, seen, did, lost, last, HasSeenBuilt, KnowsFresh, MayRefer, IsNotMade, IsPassOf, Rests, Builds, Holds, HasAt, page_with, building_word, held_word, HasRoom, KeepsRoom};
+ghost use Rattle.cell_steps.specs.Passes.{about, pages_of, view_of, number_of, carried, seen, did, lost, last, HasSeenBuilt, KnowsFresh, MayRefer, next_port, IsAlone, IsNotMade, IsPassOf, Rests, Builds, Holds, HasAt, page_with, building_word, held_word, HasRoom, KeepsRoom};
 
 use crate::pass::Pass;
 use crate::plays::{ClaimEmpty, ClaimHome, Draft, DrawStamp, GiveUp, LoadState, SendHeld, SendNew};
@@ -42,6 +42,8 @@ impl Steps {
         ensures built { HasSeenBuilt pass.old p → result % 2 ≡ 1 }
         ensures known { (offset : ℕ) → KnowsFresh pass.old p offset → result % 2 ≡ 1 }
         ensures own { 1 < result → result / 2 ≡ number_of pass.old + 1 → (view_of pass.old).at ≡ p + 1 }
+        ensures made { 0 < next_port pass.old → 1 < result → result / 2 < next_port pass.old }
+        ensures alone { IsAlone pass.old → result ≡ last pass.old p }
         ensures knows { KnowsAsBefore (view_of pass.old) (view_of pass.new) }
         ensures found { (last pass.new p ≡ result) × (result % 2 ≡ 1 → HasSeenBuilt pass.new p) }
         ensures lost { Rests pass.old → 1 < result → lost pass.new p ≡ lost pass.old p + 1 }
@@ -61,6 +63,7 @@ impl Steps {
         ensures missed { result ≢ 0 → Rests pass.new × (view_of pass.new ≡ after_exchange (view_of pass.old) p result result) }
         ensures knows { KnowsAsBefore (view_of pass.old) (view_of pass.new) }
         ensures lost { result ≢ 0 → last pass.old p ≡ 0 → lost pass.new p ≡ lost pass.old p + 1 }
+        ensures alone { IsAlone pass.old → result ≡ last pass.old p }
     {
         let building = building(pass.number);
         self.table
@@ -86,6 +89,7 @@ impl Steps {
         ensures strangers { IfOk result (λ taken. (k : ℕ) → IsNotMade pass.old k → by k taken.page.journal ≡ []) }
         ensures knows { IfErr result (λ found. KnowsAsBefore (view_of pass.old) (view_of pass.new)) }
         ensures lost { IfErr result (λ found. last pass.old p ≡ 1 → lost pass.new p ≡ lost pass.old p + 1) }
+        ensures alone { IfErr result (λ found. IsAlone pass.old → (found ≡ last pass.old p) × (found ≢ 1)) }
     {
         let held = held(pass.number);
         let found = self

@@ -39,6 +39,7 @@ impl<B: Builder> Cells<B> {
         ensures page { IsErrOf result NoSuchPage ↔ (pages_of self.now ≤ p) }
         ensures named { (k : ℕ) → IsErrOf result (PassMissing k) → ⊥ }
         ensures busy { (q : ℕ) → IsErrOf result (Busy q) → (q ≡ p) × (lost pass.old p < lost pass.new p) }
+        ensures alone { mutators_of self.now ≡ 1 → (q : ℕ) → IsErrOf result (Busy q) → ⊥ }
         ensures taken { IfOk result (λ taken. (page_number taken ≡ p) × Has self.now pass.new taken × HasSeenBuilt pass.new p) }
         ensures journal { IfOk result (λ taken. StartsWith (journal_of taken) (seen pass.old p)) }
         ensures own { IfOk result (λ taken. by (number_of pass.old) (journal_of taken) ≡ on p (did pass.old)) }
@@ -68,6 +69,7 @@ impl<B: Builder> Cells<B> {
         ensures of { IsPassOf self.now pass.new }
         ensures grows { Grows pass.old pass.new × (did pass.new ≡ did pass.old) }
         ensures busy { OnErr result (IsErrOf result (Busy p) × (lost pass.old p < lost pass.new p)) }
+        ensures alone { mutators_of self.now ≡ 1 → OnErr result ⊥ }
         ensures taken { IfOk result (λ taken. (page_number taken ≡ p) × Has self.now pass.new taken × HasSeenBuilt pass.new p) }
         ensures journal { IfOk result (λ taken. StartsWith (journal_of taken) (seen pass.old p)) }
         ensures own { IfOk result (λ taken. by (number_of pass.old) (journal_of taken) ≡ on p (did pass.old)) }
