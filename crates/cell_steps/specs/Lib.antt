@@ -3,6 +3,8 @@ pub mod Lists
 pub mod View
 pub mod Locks
 pub mod History
+pub mod Lawful
+pub mod Starts
 pub mod Ended
 pub mod Whole
 pub mod Plays
