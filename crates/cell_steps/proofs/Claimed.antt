@@ -175,7 +175,7 @@ claim_home_allowed u slots id m p x g rests word lt s keeps_ long at_id small =
     let v = m.0 in
     let r = get_or s.words p 0 in
     let hit : r ≡ 1 → Picks u s id m p x (claims_home (step slots p 1 x maybe.none) m r) =
-    λ e. let home = (k.locks.cells p lt).home e in (
+    λ e. let home = (k.locks.cells p lt).home e in let wrote = k.history.wrote id v at_id in (
       seeing (arriving (after_exchange v p 1 x) p 1) p (js p),
       takes p home.0,
       home.1,
@@ -184,7 +184,7 @@ claim_home_allowed u slots id m p x g rests word lt s keeps_ long at_id small =
         kept = subst (λ y. Kept u (paged s p y maybe.none id (seeing (arriving (after_exchange v p 1 y) p 1) p (js p))) js) (sym word)
             (kept_holding u s js id v p x k at_id g rests lt e);
       },
-      ((λ z. (js p, home.0, subst (λ t. IsPage t p (js p) home.0) (sym g.about) home.2, (k.history.wrote id v at_id).begins p, refl)), (λ ne. absurd (ne e))),
+      ((λ z. (js p, home.0, subst (λ t. IsPage t p (js p) home.0) (sym g.about) home.2, wrote.begins p, record { own = λ j port. (wrote.own j port p).0; strangers = λ j more le. wrote.strangers j more le p }, refl)), (λ ne. absurd (ne e))),
     ) in
     let miss : r ≢ 1 → Picks u s id m p r (claims_home (step slots p 1 x maybe.none) m r) =
     λ ne. (after_exchange v p r r, keeps, tt, record { journals = js; kept = missed u s js id v p r r k at_id g.goes_on }, ((λ z. absurd (ne z)), (λ z. refl))) in

@@ -1,7 +1,7 @@
-ghost use Rattle.std.specs.Prelude.{◌≡◌, ◌↔◌, ℕ, ◌+◌, ◌<◌, ◌≤◌, IfOk, OnOk, OnErr, IsErrOf, slice_index};
-ghost use Rattle.cell_steps.specs.Lists.{StartsWith};
-ghost use Rattle.cell_steps.specs.Passes.{builds_of, did, last, lost, seen, HasSeenBuilt, Rests};
-ghost use Rattle.page_cells.specs.Cells.{journal_of, page_number, pages_of, words_of, Has, IsPassOf};
+ghost use Rattle.std.specs.Prelude.{◌≡◌, ◌↔◌, ℕ, ◌+◌, ◌<◌, ◌≤◌, [], IfOk, OnOk, OnErr, IsErrOf, slice_index};
+ghost use Rattle.cell_steps.specs.Lists.{by, on, StartsWith};
+ghost use Rattle.cell_steps.specs.Passes.{builds_of, did, number_of, last, lost, seen, HasSeenBuilt, Rests};
+ghost use Rattle.page_cells.specs.Cells.{journal_of, mutators_of, page_number, pages_of, words_of, Has, IsPassOf};
 ghost use Rattle.page_cells.specs.Calls.{Grows, MayHaveBuilt, WroteNothing};
 ghost use Rattle.page_cells.specs.declared.refusal.CellRefusal.TheVariants.{Busy, NoSuchPage, PassMissing};
 
@@ -41,6 +41,8 @@ impl<B: Builder> Cells<B> {
         ensures busy { (q : ℕ) → IsErrOf result (Busy q) → (q ≡ p) × (lost pass.old p < lost pass.new p) }
         ensures taken { IfOk result (λ taken. (page_number taken ≡ p) × Has self.now pass.new taken × HasSeenBuilt pass.new p) }
         ensures journal { IfOk result (λ taken. StartsWith (journal_of taken) (seen pass.old p)) }
+        ensures own { IfOk result (λ taken. by (number_of pass.old) (journal_of taken) ≡ on p (did pass.old)) }
+        ensures strangers { IfOk result (λ taken. number_of pass.old ≡ 0 → (k : ℕ) → mutators_of self.now ≤ k → by k (journal_of taken) ≡ []) }
         ensures others { (q : ℕ) → (q ≡ p → ⊥) → seen pass.new q ≡ seen pass.old q }
         ensures builds { MayHaveBuilt p pass.old pass.new }
         ensures refused { OnErr result (Rests pass.new × WroteNothing pass.old pass.new) }
@@ -68,6 +70,8 @@ impl<B: Builder> Cells<B> {
         ensures busy { OnErr result (IsErrOf result (Busy p) × (lost pass.old p < lost pass.new p)) }
         ensures taken { IfOk result (λ taken. (page_number taken ≡ p) × Has self.now pass.new taken × HasSeenBuilt pass.new p) }
         ensures journal { IfOk result (λ taken. StartsWith (journal_of taken) (seen pass.old p)) }
+        ensures own { IfOk result (λ taken. by (number_of pass.old) (journal_of taken) ≡ on p (did pass.old)) }
+        ensures strangers { IfOk result (λ taken. number_of pass.old ≡ 0 → (k : ℕ) → mutators_of self.now ≤ k → by k (journal_of taken) ≡ []) }
         ensures others { (q : ℕ) → (q ≡ p → ⊥) → seen pass.new q ≡ seen pass.old q }
         ensures builds { builds_of pass.new ≡ builds_of pass.old }
         ensures refused { OnErr result (Rests pass.new × WroteNothing pass.old pass.new) }

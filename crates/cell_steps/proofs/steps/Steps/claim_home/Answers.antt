@@ -19,4 +19,4 @@ compare_exchange-found-requires c =
 pub take_out-requires-clause-there : goal.take_out-requires-clause-there
 take_out-requires-clause-there c =
     let taken = c.compare_exchange-found.ensures.2.0 c.if-found-eq1.true in
-    (_, ap (λ (n : Seat). n.1) taken.4 ∙ ap (λ (l : List (ℕ × Slot)). (c.args.p, taken.1) ∷ l) c.requires.rests.carried ∙ ap (λ (s : Slot). (c.args.p, s) ∷ Rattle.std.proofs.Common.[]) taken.2.1)
+    (_, ap (λ (n : Seat). n.1) taken.5 ∙ ap (λ (l : List (ℕ × Slot)). (c.args.p, taken.1) ∷ l) c.requires.rests.carried ∙ ap (λ (s : Slot). (c.args.p, s) ∷ Rattle.std.proofs.Common.[]) taken.2.1)
