@@ -1,5 +1,5 @@
 -- What callers know of a pass.
-use Rattle.std.specs.Prelude.{◌≡◌, ℕ, ◌+◌, ◌-◌, ◌<◌, ◌*◌, length, vec_len, vec_capacity, false, List, [], ◌∷◌, None}
+use Rattle.std.specs.Prelude.{◌≡◌, ℕ, ◌+◌, ◌-◌, ◌<◌, ◌≤◌, ◌*◌, length, vec_len, vec_capacity, false, List, [], ◌∷◌, None}
 use mathlib.Core.Option.{some}
 use lib.ListN.{get_elem?}
 use Rattle.comp_journal.specs.Journal.{Journaled}
@@ -116,13 +116,13 @@ building_word number = 2 * (number + 1)
 abbrev pub held_word : ℕ → ℕ
 held_word number = 2 * (number + 1) + 1
 
--- the port of the pass that this pass makes next, or 0 where it makes none
-abbrev pub next_port : Pass → ℕ
-next_port pass = (known_of pass).next
-
 -- the pass that makes others makes this number next
 abbrev pub MakesNext : ℕ → Pass → Type 0
 MakesNext number pass = (known_of pass).next ≡ number + 1
+
+-- no pass of this number is made yet, as the pass that makes the others knows
+abbrev pub IsNotMade : Pass → ℕ → Type 0
+IsNotMade pass number = (0 < (known_of pass).next) × ((known_of pass).next ≤ number + 1)
 
 -- for how many more builds room is reserved
 abbrev pub room_of : Pass → ℕ

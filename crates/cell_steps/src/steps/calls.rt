@@ -1,4 +1,4 @@
-ghost use Rattle.std.specs.Prelude.{◌≡◌, ◌≢◌, ℕ, ◌+◌, ◌/◌, ◌%◌, ◌<◌, ◌≤◌, [], ◌∷◌, length, Some, None, IfOk, IfErr};
+ghost use Rattle.std.specs.Prelude.{◌≡◌, ◌≢◌, ℕ, ◌+◌, ◌/◌, ◌%◌, ◌<◌, [], ◌∷◌, length, Some, None, IfOk, IfErr};
 ghost use Rattle.comp_journal.specs.Journal.{Reserved};
 ghost use mathlib.Core.Option.{some};
 ghost use lib.ListN.{get_elem?};
@@ -8,7 +8,7 @@ ghost use Rattle.cell_steps.specs.Lists.{by, on, StartsWith, Rises};
 ghost use Rattle.cell_steps.specs.Lawful.{owed_by, FitsEntry, HasHead, IsLawful};
 ghost use Rattle.cell_steps.specs.Knowing.{KnowsAsBefore, SeesPage, TellsPage, WritesEntry};
 ghost use Rattle.cell_steps.specs.Plays.{after_load, after_exchange, arriving, leaving, seeing, telling, drawing, stamped};
-ghost use Rattle.cell_steps.specs.Passes.{about, pages_of, view_of, number_of, carried, seen, did, lost, last, HasSeenBuilt, KnowsFresh, MayRefer, next_port, IsPassOf, Rests, Builds, Holds, HasAt, page_with, building_word, held_word, HasRoom, KeepsRoom};
+ghost use Rattle.cell_steps.specs.Passes.{about, pages_of, view_of, number_of, carried, seen, did, lost, last, HasSeenBuilt, KnowsFresh, MayRefer, IsNotMade, IsPassOf, Rests, Builds, Holds, HasAt, page_with, building_word, held_word, HasRoom, KeepsRoom};
 
 use crate::pass::Pass;
 use crate::plays::{ClaimEmpty, ClaimHome, Draft, DrawStamp, GiveUp, LoadState, SendHeld, SendNew};
@@ -83,7 +83,7 @@ impl Steps {
         ensures starts { IfOk result (λ taken. (i : ℕ) (e : Written) → get_elem? taken.page.journal i ≡ some e → e.kind ≡ Header → KnowsFresh pass.new p e.offset) }
         ensures references { IfOk result (λ taken. (i : ℕ) (e : Written) → get_elem? taken.page.journal i ≡ some e → e.kind ≡ Reference → MayRefer pass.new e.value) }
         ensures own { IfOk result (λ taken. by (number_of pass.old) taken.page.journal ≡ on p (did pass.old)) }
-        ensures strangers { IfOk result (λ taken. (k : ℕ) → 0 < next_port pass.old → next_port pass.old ≤ k + 1 → by k taken.page.journal ≡ []) }
+        ensures strangers { IfOk result (λ taken. (k : ℕ) → IsNotMade pass.old k → by k taken.page.journal ≡ []) }
         ensures knows { IfErr result (λ found. KnowsAsBefore (view_of pass.old) (view_of pass.new)) }
         ensures lost { IfErr result (λ found. last pass.old p ≡ 1 → lost pass.new p ≡ lost pass.old p + 1) }
     {
