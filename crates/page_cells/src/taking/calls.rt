@@ -1,9 +1,11 @@
 ghost use Rattle.std.specs.Prelude.{◌≡◌, ◌↔◌, ℕ, ◌+◌, ◌<◌, ◌≤◌, [], IfOk, OnOk, OnErr, IsErrOf, slice_index};
+ghost use Rattle.heap_layout.specs.declared.kind.Kind.TheVariants.{Reference};
 ghost use Rattle.cell_steps.specs.Lists.{by, on, StartsWith};
-ghost use Rattle.cell_steps.specs.Passes.{builds_of, did, number_of, last, lost, seen, HasSeenBuilt, Rests};
-ghost use Rattle.page_cells.specs.Cells.{journal_of, mutators_of, page_number, pages_of, words_of, Has, IsPassOf};
+ghost use Rattle.cell_steps.specs.Lawful.{HasHead, IsField, IsLawful};
+ghost use Rattle.cell_steps.specs.Passes.{builds_of, did, number_of, last, lost, seen, HasSeenBuilt, KnowsFresh, MayRefer, Rests};
+ghost use Rattle.page_cells.specs.Cells.{journal_of, mutators_of, page_number, pages_of, setup_of, words_of, Has, IsPassOf};
 ghost use Rattle.page_cells.specs.Calls.{Grows, MayHaveBuilt, WroteNothing};
-ghost use Rattle.page_cells.specs.declared.refusal.CellRefusal.TheVariants.{Busy, NoSuchPage, PassMissing};
+ghost use Rattle.page_cells.specs.declared.refusal.CellRefusal.TheVariants.{Busy, NoSuchPage, OutOfMemory, PassMissing};
 
 use crate::cells::Cells;
 use crate::refusal::CellRefusal;
@@ -41,10 +43,15 @@ impl<B: Builder> Cells<B> {
         ensures busy { (q : ℕ) → IsErrOf result (Busy q) → (q ≡ p) × (lost pass.old p < lost pass.new p) }
         ensures taken { IfOk result (λ taken. (page_number taken ≡ p) × Has self.now pass.new taken × HasSeenBuilt pass.new p) }
         ensures journal { IfOk result (λ taken. StartsWith (journal_of taken) (seen pass.old p)) }
+        ensures lawful { IfOk result (λ taken. IsLawful (setup_of self.now) p (journal_of taken)) }
+        ensures heads { IfOk result (λ taken. (offset : ℕ) → KnowsFresh pass.old p offset → HasHead (journal_of taken) offset) }
         ensures own { IfOk result (λ taken. by (number_of pass.old) (journal_of taken) ≡ on p (did pass.old)) }
         ensures strangers { IfOk result (λ taken. number_of pass.old ≡ 0 → (k : ℕ) → mutators_of self.now ≤ k → by k (journal_of taken) ≡ []) }
         ensures others { (q : ℕ) → (q ≡ p → ⊥) → seen pass.new q ≡ seen pass.old q }
         ensures builds { MayHaveBuilt p pass.old pass.new }
+        ensures built { HasSeenBuilt pass.old p → builds_of pass.new ≡ builds_of pass.old }
+        ensures known { (offset : ℕ) → KnowsFresh pass.old p offset → builds_of pass.new ≡ builds_of pass.old }
+        ensures memory { HasSeenBuilt pass.old p → IsErrOf result OutOfMemory → ⊥ }
         ensures refused { OnErr result (Rests pass.new × WroteNothing pass.old pass.new) }
     {
         if p >= self.pages() {
@@ -70,6 +77,8 @@ impl<B: Builder> Cells<B> {
         ensures busy { OnErr result (IsErrOf result (Busy p) × (lost pass.old p < lost pass.new p)) }
         ensures taken { IfOk result (λ taken. (page_number taken ≡ p) × Has self.now pass.new taken × HasSeenBuilt pass.new p) }
         ensures journal { IfOk result (λ taken. StartsWith (journal_of taken) (seen pass.old p)) }
+        ensures lawful { IfOk result (λ taken. IsLawful (setup_of self.now) p (journal_of taken)) }
+        ensures heads { IfOk result (λ taken. (offset : ℕ) → KnowsFresh pass.old p offset → HasHead (journal_of taken) offset) }
         ensures own { IfOk result (λ taken. by (number_of pass.old) (journal_of taken) ≡ on p (did pass.old)) }
         ensures strangers { IfOk result (λ taken. number_of pass.old ≡ 0 → (k : ℕ) → mutators_of self.now ≤ k → by k (journal_of taken) ≡ []) }
         ensures others { (q : ℕ) → (q ≡ p → ⊥) → seen pass.new q ≡ seen pass.old q }
@@ -90,6 +99,18 @@ impl<B: Builder> Cells<B> {
         ensures same { _pass.new ≡ _pass.old }
     {
         taken.page.words()[usize::from(offset)]
+    }
+
+    /// The reference at an offset of the page that the pass has taken: null, or a start that the pass knows.
+    pub fn held_reference(&self, _pass: &mut Pass, taken: &Taken, offset: u8) -> u64
+        requires of { IsPassOf self.now _pass.old }
+        requires has { Has self.now _pass.old taken.now }
+        requires field { IsField (setup_of self.now) (page_number taken.now) (journal_of taken.now) Reference offset }
+        ensures word { result ≡ slice_index (words_of taken.now) offset }
+        ensures leads { MayRefer _pass.new result }
+        ensures same { _pass.new ≡ _pass.old }
+    {
+        self.held_word(_pass, taken, offset)
     }
 
     /// Puts the page back. It takes no memory, and is always done.
