@@ -1,10 +1,12 @@
 //! The command `word`.
-ghost use Rattle.std.specs.Prelude.{◌≡◌, ◌*◌, ◌-◌, ◌^◌, ◌<◌, ◌≤◌, IfOk, IfErr, IfSome, OnOk, OnErr};
+ghost use Rattle.std.specs.Prelude.{◌≡◌, ◌*◌, ◌-◌, ◌^◌, ◌<◌, ◌≤◌, IfOk, IfErr, IfSome, OnOk, OnErr, Err};
 ghost use Rattle.heap_layout.specs.Counted.{inner_of, failures_of};
 ghost use Rattle.std.specs.Io.KnownBytes.{Appends};
-ghost use Rattle.compressor.specs.Word.{line_of, IsImage, IsWordAt, IsPast, PrintsWordAt, RefusesWord, RefusesPrint};
+ghost use Rattle.compressor.specs.Printing.{line_of, CountsPrint, CountsRead, IsOfWord};
+ghost use Rattle.compressor.specs.Word.{IsImage, IsWordAt, IsPast, PrintsWordAt, RefusesWord, RefusesPrint};
 
 use crate::image::open_image;
+use crate::print::{print_digits, print_text};
 use crate::refusal::Refusal;
 use heap_layout::counted::Counted;
 use heap_layout::image::read_image;
@@ -18,8 +20,11 @@ pub fn print_word<R: Files + AllocGlobal, O: Write>(
     rt: &R,
     path: &str,
     index: u64,
-    out: &mut O,
-) -> Result<(), Refusal> {
+    out: &mut Counted<O>,
+) -> Result<(), Refusal>
+    requires { failures_of out.old < 2 ^ 64 - 1 }
+    ensures counts { CountsPrint (failures_of out.old) (failures_of out.new) result }
+{
     print_word_in(rt.alloc(), &mut open_image(rt, path)?, index, out)
 }
 
@@ -28,24 +33,29 @@ pub fn print_word_in<R: Read, O: Write>(
     alloc: Global,
     r: &mut Counted<R>,
     index: u64,
-    out: &mut O,
+    out: &mut Counted<O>,
 ) -> Result<(), Refusal>
-    requires { failures_of r.old < 2 ^ 64 - 1 }
+    requires read { failures_of r.old < 2 ^ 64 - 1 }
+    requires written { failures_of out.old < 2 ^ 64 - 1 }
     ensures printed { OnOk result (IfSome (R.remaining (inner_of r.old))
-        (IsImage (PrintsWordAt index (O.contents out.old) (O.contents out.new)))) }
+        (IsImage (PrintsWordAt index (O.contents (inner_of out.old)) (O.contents (inner_of out.new))))) }
     ensures cause { IfErr result (λ refusal. IfSome (R.remaining (inner_of r.old)) (RefusesPrint index refusal)) }
+    ensures reads { CountsRead (failures_of r.old) (failures_of r.new) result }
+    ensures counts { CountsPrint (failures_of out.old) (failures_of out.new) result }
 {
     let word = word_in(alloc, r, index)?;
     print_number(word, out)
 }
 
 // Prints a number and a line feed.
-fn print_number<O: Write>(number: u64, out: &mut O) -> Result<(), Refusal>
-    ensures printed { OnOk result (Appends (O.contents out.old) (O.contents out.new) (line_of number)) }
+fn print_number<O: Write>(number: u64, out: &mut Counted<O>) -> Result<(), Refusal>
+    requires { failures_of out.old < 2 ^ 64 - 1 }
+    ensures printed { OnOk result (Appends (O.contents (inner_of out.old)) (O.contents (inner_of out.new)) (line_of number)) }
     ensures cause { OnErr result (result ≡ Err Refusal.CannotPrint) }
+    ensures counts { CountsPrint (failures_of out.old) (failures_of out.new) result }
 {
-    writeln!(out, "{number}")?;
-    Ok(())
+    print_digits(number, out)?;
+    print_text("\n", out)
 }
 
 /// The slid word at an index, of the heap whose image is all that the reader has left.
@@ -53,6 +63,8 @@ pub fn word_in<R: Read>(alloc: Global, r: &mut Counted<R>, index: u64) -> Result
     requires { failures_of r.old < 2 ^ 64 - 1 }
     ensures word { IfOk result (λ word. IfSome (R.remaining (inner_of r.old)) (IsImage (IsWordAt index word))) }
     ensures cause { IfErr result (λ refusal. IfSome (R.remaining (inner_of r.old)) (RefusesWord index refusal)) }
+    ensures kind { IfErr result IsOfWord }
+    ensures reads { CountsRead (failures_of r.old) (failures_of r.new) result }
 {
     let heap = read_image(alloc, r)?;
     let plan = Plan::new(alloc, heap)?;
