@@ -20,7 +20,7 @@ begins_then a b c h k = (h.0 ++ k.0, k.1 ∙ ap (λ l. l ++ k.0) h.1 ∙ append_
 
 -- no call
 pub grows_none : (a : Pass) → Grows a a
-grows_none a = record { number = refl; seen = λ p. same_begins (seen a p) (seen a p) refl; built = λ p z. z; lost = λ p. omega arith }
+grows_none a = record { number = refl; seen = λ p. same_begins (seen a p) (seen a p) refl; built = λ p z. z; lost = λ p. omega arith; starts = λ p offset z. z }
 
 -- what a pass knows grows over two calls
 pub grows_then : (a b c : Pass) → Grows a b → Grows b c → Grows a c
@@ -29,6 +29,7 @@ grows_then a b c h k = record {
   seen = λ p. begins_then (seen a p) (seen b p) (seen c p) (h.seen p) (k.seen p);
   built = λ p z. k.built p (h.built p z);
   lost = λ p. omega (arith, h.lost p, k.lost p);
+  starts = λ p offset z. k.starts p offset (h.starts p offset z);
 }
 
 -- a pass that has seen what it had seen
@@ -38,6 +39,7 @@ grows_knowing old new number h = record {
   seen = λ p. same_begins (seen new p) (seen old p) (h.seen p);
   built = h.grows.built;
   lost = h.grows.lost;
+  starts = h.grows.starts;
 }
 
 -- of page p a pass has seen more, and of others what it had seen
@@ -52,6 +54,7 @@ grows_seeing p journal old new number h = record {
   seen = λ q. more_seen p old new (h.begins.0, h.here ∙ h.begins.1) h.others q (ℕ_discrete q p);
   built = h.grows.built;
   lost = h.grows.lost;
+  starts = h.grows.starts;
 }
 
 -- a pass that wrote an entry into page p
@@ -61,6 +64,7 @@ grows_writing p e old new number h = record {
   seen = λ q. more_seen p old new (e ∷ [], h.here) h.others q (ℕ_discrete q p);
   built = h.grows.built;
   lost = h.grows.lost;
+  starts = h.grows.starts;
 }
 
 rises_le : (low : ℕ) (j : List Entry) (high : ℕ) → Rises low j high → low ≤ high

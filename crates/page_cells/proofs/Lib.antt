@@ -1,5 +1,7 @@
-pub mod Rows
-pub mod Growing
+mod Fields
+mod Growing
+mod Heads
 pub mod Begun
-pub mod Ordered
 pub mod Ending
+pub mod Ordered
+pub mod Rows

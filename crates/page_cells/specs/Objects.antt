@@ -45,6 +45,7 @@ IsFieldAt u journals kind a = IsField u (page_at a) (journals (page_at a)) kind 
 pub record HasFields (u : Setup) (journals : Journals) (a header : ℕ) : Type 0 where
   pub begins : to_address 0 ≤ a
   pub ends : a + size_of header ≤ to_address (64 * pages u)
+  pub small : a + size_of header < 2 ^ 64
   pub references : (f : ℕ) → f < refs_of header → IsFieldAt u journals Reference (a + 1 + f)
   pub data_words : (f : ℕ) → f < data_of header → IsFieldAt u journals Data (a + 1 + refs_of header + f)
 

@@ -52,6 +52,7 @@ impl<B: Builder> Cells<B> {
         ensures built { HasSeenBuilt pass.old p → builds_of pass.new ≡ builds_of pass.old }
         ensures known { (offset : ℕ) → KnowsFresh pass.old p offset → builds_of pass.new ≡ builds_of pass.old }
         ensures memory { HasSeenBuilt pass.old p → IsErrOf result OutOfMemory → ⊥ }
+        ensures memory_known { (offset : ℕ) → KnowsFresh pass.old p offset → IsErrOf result OutOfMemory → ⊥ }
         ensures refused { OnErr result (Rests pass.new × WroteNothing pass.old pass.new) }
     {
         if p >= self.pages() {
