@@ -1,13 +1,16 @@
 -- What a pass knows grows from call to call.
-use Rattle.std.proofs.Common.{◌≡◌, ℕ, zero, suc, ◌+◌, ◌<◌, ◌≤◌, ◌≢◌, List, [], ◌∷◌, ◌++◌, length, get_or, All, refl, sym, ap, ◌∙◌, arith, append_assoc}
+use Rattle.std.proofs.Common.{◌≡◌, ℕ, zero, suc, ◌+◌, ◌<◌, ◌≤◌, ◌≢◌, List, [], ◌∷◌, ◌++◌, length, get_or, All, refl, sym, ap, ◌∙◌, subst, arith, append_assoc}
 use Rattle.std.proofs.lemmas.List.{append-nil}
 use native.Mathlib.Decide.{ℕ_discrete}
 use Rattle.comp_journal.specs.declared.entry.Entry.{Entry}
-use Rattle.cell_steps.specs.Lists.{StartsWith, Rises}
+use Rattle.cell_steps.specs.Lists.{times, StartsWith, Rises}
+use Rattle.cell_steps.specs.Locks.{seen_of}
+use Rattle.cell_steps.specs.Starts.{KnowsFresh}
+use Rattle.cell_steps.specs.declared.view.View.{View}
 use Rattle.cell_steps.specs.Knowing as knowing
-use Rattle.cell_steps.specs.Knowing.{KnowsAsBefore, SeesPage, WritesEntry}
+use Rattle.cell_steps.specs.Knowing.{KnowsAsBefore, SeesPage, TellsPage, WritesEntry}
 use Rattle.cell_steps.specs.declared.pass.Pass.{Pass}
-use Rattle.cell_steps.specs.Passes.{view_of, number_of, seen}
+use Rattle.cell_steps.specs.Passes.{view_of, number_of, seen, IsSame}
 use Rattle.page_cells.specs.Calls.{Grows}
 
 -- a list begins with what equals it
@@ -32,11 +35,32 @@ grows_then a b c h k = record {
   starts = λ p offset z. k.starts p offset (h.starts p offset z);
 }
 
+-- the same pass
+pub grows_same : (old new : Pass) → IsSame old new → Grows old new
+grows_same old new h =
+    let same : view_of new ≡ view_of old = ap (λ s. s.me.0) h.0 in record {
+      number = h.1;
+      seen = λ p. same_begins (seen new p) (seen old p) (ap (λ (v : View). seen_of v p) same);
+      built = λ p z. subst (λ (v : View). 0 < times p v.known.built) (sym same) z;
+      lost = λ p. omega (arith, ap (λ (v : View). times p v.lost) same);
+      starts = λ p offset z. subst (λ (v : View). KnowsFresh v p offset) (sym same) z;
+    }
+
 -- a pass that has seen what it had seen
 pub grows_knowing : (old new : Pass) → number_of new ≡ number_of old → KnowsAsBefore (view_of old) (view_of new) → Grows old new
 grows_knowing old new number h = record {
   number = number;
   seen = λ p. same_begins (seen new p) (seen old p) (h.seen p);
+  built = h.grows.built;
+  lost = h.grows.lost;
+  starts = h.grows.starts;
+}
+
+-- a pass that told a build
+pub grows_telling : (p : ℕ) (old new : Pass) → number_of new ≡ number_of old → TellsPage p (view_of old) (view_of new) → Grows old new
+grows_telling p old new number h = record {
+  number = number;
+  seen = λ q. same_begins (seen new q) (seen old q) (h.seen q);
   built = h.grows.built;
   lost = h.grows.lost;
   starts = h.grows.starts;
