@@ -8,7 +8,7 @@ use Rattle.comp_journal.specs.declared.entry.Entry.{Entry}
 use Rattle.heap_layout.specs.declared.kind.Kind.TheVariants.{Header, Reference, Data}
 use Rattle.cell_steps.specs.Setup.{address}
 use Rattle.cell_steps.specs.Lists.{look, times, by, on, StartsWith, Rises}
-use Rattle.cell_steps.specs.View.{Known, Slot}
+use Rattle.cell_steps.specs.View.{Slot}
 use Rattle.cell_steps.specs.Locks.{seen_of, IsPage}
 use Rattle.cell_steps.specs.Lawful.{owed_by, HasHead, IsLawful}
 use Rattle.cell_steps.specs.Starts.{named_in, starts_set, KnowsFresh, MayRefer}
@@ -31,14 +31,10 @@ is_others v n = nat_lt 1 n && not (n / 2 == v.known.port)
 abbrev pub is_news : View → ℕ → ℕ → Bool
 is_news v p n = not (n == look 0 v.last p)
 
--- the pass has then seen page p built
-abbrev pub knowing_built : Known → ℕ → Known
-knowing_built known p = record known { built = p ∷ known.built }
-
--- after a load that found n
+-- after a load that found n; a page whose state word is odd is built
 abbrev pub after_load : View → ℕ → ℕ → View
 after_load v p n = record v {
-  known = cond (n % 2 == 1) (knowing_built v.known p) v.known;
+  known = record v.known { built = cond (n % 2 == 1) (p ∷ v.known.built) v.known.built };
   lost = cond (is_others v n) (p ∷ v.lost) v.lost;
   last = (p, n) ∷ v.last;
 }

@@ -7,24 +7,28 @@ use lib.ListN.{get_elem?}
 use Rattle.heap_layout.specs.Heap.{Heap, live}
 use Rattle.heap_layout.specs.declared.kind.Kind.{Kind}
 use Rattle.heap_layout.specs.declared.kind.Kind.TheVariants.{Header, Reference, Data}
+use Rattle.page_plan.specs.Sliding as sliding
 use Rattle.page_plan.specs.Sliding.{shape_at}
 use Rattle.comp_journal.specs.declared.entry.Entry.{Entry}
 use Rattle.cell_steps.specs.Setup.{Setup, pages, fresh_page, address}
 use Rattle.cell_steps.specs.Lists.{Each}
 use Rattle.cell_steps.specs.Locks.{Journals}
-use Rattle.cell_steps.specs.Lawful.{HasHead}
 use Rattle.cell_steps.specs.declared.view.View.{View}
 
 -- an object of the slid heap starts at the address
 abbrev pub IsPlace : Heap → ℕ → Type 0
 IsPlace heap a = (header : ℕ) × (shape_at (live heap) a ≡ Some header)
 
--- the pass knows that an object starts at this offset of the fresh page p
-pub record KnowsFresh (v : View) (p offset : ℕ) : Type 0 where
-  pub fresh : v.about.compacted ≤ p
-  pub page : p < pages v.about
+-- the addresses name a fresh object, which starts at this offset of page p
+pub record NamesFresh (u : Setup) (addresses : List ℕ) (p offset : ℕ) : Type 0 where
+  pub fresh : u.compacted ≤ p
+  pub page : p < pages u
   pub inside : offset < 64
-  pub seen : (i : ℕ) × (get_elem? v.known.starts i ≡ maybe.some (address p offset))
+  pub seen : (i : ℕ) × (get_elem? addresses i ≡ maybe.some (address p offset))
+
+-- the pass knows that an object starts at this offset of the fresh page p
+abbrev pub KnowsFresh : View → ℕ → ℕ → Type 0
+KnowsFresh v p offset = NamesFresh v.about v.known.starts p offset
 
 -- an object of the slid heap starts at the address, or a fresh object that the pass knows
 abbrev pub KnowsStart : View → ℕ → Type 0
@@ -81,6 +85,8 @@ Owes views p offset = (k : ℕ) × (v : View) × (get_elem? views k ≡ maybe.so
 
 -- The starts of all pages.
 pub record Starts (u : Setup) (bits : ℕ → ℕ) (clock : ℕ) (views : List View) (journals : Journals) : Type 0 where
+  -- the compacted pages are those that the slid words fill
+  pub slid : u.compacted ≡ sliding.pages (live u.heap)
   -- a reference that was written is null, or leads to a start whose header is older
   pub references : (p i : ℕ) (e : Entry) → get_elem? (journals p) i ≡ maybe.some e → e.kind ≡ Reference → e.value ≢ 0 → IsOlder u bits journals e.stamp e.value
   -- a start bit that is set is that of an object
