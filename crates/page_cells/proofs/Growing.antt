@@ -1,5 +1,5 @@
 -- What a pass knows grows from call to call.
-use Rattle.std.proofs.Common.{◌≡◌, ℕ, zero, suc, ◌+◌, ◌<◌, ◌≤◌, ◌≢◌, List, [], ◌∷◌, ◌++◌, length, get_or, All, refl, sym, ap, ◌∙◌, subst, arith, append_assoc}
+use Rattle.std.proofs.Common.{◌≡◌, ℕ, zero, suc, ◌+◌, ◌<◌, ◌≤◌, ◌≢◌, List, [], ◌∷◌, ◌++◌, length, get_or, All, Result, Ok, Err, IfOk, refl, sym, ap, ◌∙◌, subst, arith, append_assoc}
 use Rattle.std.proofs.lemmas.List.{append-nil}
 use native.Mathlib.Decide.{ℕ_discrete}
 use Rattle.comp_journal.specs.declared.entry.Entry.{Entry}
@@ -11,7 +11,7 @@ use Rattle.cell_steps.specs.Knowing as knowing
 use Rattle.cell_steps.specs.Knowing.{KnowsAsBefore, SeesPage, TellsPage, WritesEntry}
 use Rattle.cell_steps.specs.declared.pass.Pass.{Pass}
 use Rattle.cell_steps.specs.Passes.{view_of, number_of, seen, IsSame}
-use Rattle.page_cells.specs.Calls.{Grows}
+use Rattle.page_cells.specs.Calls.{Grows, WroteNothing}
 
 -- a list begins with what equals it
 same_begins : (whole front : List Entry) → whole ≡ front → StartsWith whole front
@@ -65,6 +65,19 @@ grows_telling p old new number h = record {
   lost = h.grows.lost;
   starts = h.grows.starts;
 }
+
+-- two calls that write nothing
+pub wrote_then : (a b c : Pass) → WroteNothing a b → WroteNothing b c → WroteNothing a c
+wrote_then a b c h k = record { did = k.did ∙ h.did; seen = λ p. k.seen p ∙ h.seen p }
+
+-- a step that writes nothing
+pub wrote_knowing : (old new : Pass) → KnowsAsBefore (view_of old) (view_of new) → WroteNothing old new
+wrote_knowing old new h = record { did = h.did; seen = h.seen }
+
+-- what holds of an answer that is Ok
+pub ok_more : {A E : Type 0} → (r : Result A E) (P Q : A → Type 0) → ((x : A) → P x → Q x) → IfOk r P → IfOk r Q
+ok_more (Ok x) P Q more h = more x h
+ok_more (Err e) P Q more h = tt
 
 -- of page p a pass has seen more, and of others what it had seen
 more_seen : (p : ℕ) (old new : Pass) → StartsWith (seen new p) (seen old p) → ((q : ℕ) → q ≢ p → seen new q ≡ seen old q) → (q : ℕ) → Dec (q ≡ p) → StartsWith (seen new q) (seen old q)

@@ -58,13 +58,35 @@ impl<B: Builder> Cells<B> {
         if p >= self.pages() {
             return Err(CellRefusal::NoSuchPage);
         }
+        self.find_home(alloc, pass, p)?;
+        self.take_home(pass, p)
+    }
+
+    /// Builds page `p` if its cell is empty. Where the answer is Ok, the pass last found or left the page at home.
+    fn find_home(&self, alloc: Global, pass: &mut Pass, p: u64) -> Result<(), CellRefusal>
+        requires of { IsPassOf self.now pass.old }
+        requires rests { Rests pass.old }
+        requires inside { p < pages_of self.now }
+        ensures of { IsPassOf self.now pass.new × Rests pass.new }
+        ensures grows { Grows pass.old pass.new × WroteNothing pass.old pass.new }
+        ensures page { IsErrOf result NoSuchPage → ⊥ }
+        ensures named { (k : ℕ) → IsErrOf result (PassMissing k) → ⊥ }
+        ensures busy { (q : ℕ) → IsErrOf result (Busy q) → (q ≡ p) × (lost pass.old p < lost pass.new p) }
+        ensures home { OnOk result (last pass.new p ≡ 1) }
+        ensures builds { MayHaveBuilt p pass.old pass.new }
+        ensures built { HasSeenBuilt pass.old p → builds_of pass.new ≡ builds_of pass.old }
+        ensures known { (offset : ℕ) → KnowsFresh pass.old p offset → builds_of pass.new ≡ builds_of pass.old }
+        ensures memory { HasSeenBuilt pass.old p → IsErrOf result OutOfMemory → ⊥ }
+        ensures memory_known { (offset : ℕ) → KnowsFresh pass.old p offset → IsErrOf result OutOfMemory → ⊥ }
+    {
         let found = self.steps.load_state(pass, p);
         if found == 0 {
-            self.build_into(alloc, pass, p)?;
-        } else if found != 1 {
-            return Err(CellRefusal::Busy(p));
+            self.build_into(alloc, pass, p)
+        } else if found == 1 {
+            Ok(())
+        } else {
+            Err(CellRefusal::Busy(p))
         }
-        self.take_home(pass, p)
     }
 
     /// Takes page `p`, which the pass last found or left at home.
