@@ -85,11 +85,11 @@ pub record IsObject (u : Setup) (journals : Journals) (a header : ℕ) : Type 0 
   pub fields : HasFields u journals a header
   pub ends : offset_at a + size_of header ≤ 64
 
-zeros_long : length {A = ℕ} (replicate 64 0) ≡ 64
+pub zeros_long : length {A = ℕ} (replicate 64 0) ≡ 64
 zeros_long = length-replicate {A = ℕ} 64 0
 
 -- the base of a fresh page
-fresh_base : (u : Setup) (p : ℕ) → u.compacted ≤ p → base_of u p ≡ replicate 64 0
+pub fresh_base : (u : Setup) (p : ℕ) → u.compacted ≤ p → base_of u p ≡ replicate 64 0
 fresh_base u p le = let z : ltb p u.compacted ≡ false = grind (arith, nat_tests) in ap (λ b. cond b (sliding.page (live u.heap) p) (replicate 64 0)) z
 
 -- a fresh object, from its header on

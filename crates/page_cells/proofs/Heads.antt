@@ -68,7 +68,7 @@ fresh_kind u p journal o le = ap (λ b. cond b (kind (live u.heap) (64 * p + o))
 pub is_fresh : (u : Setup) (writer p : ℕ) → IsFreshOf u writer p → u.compacted ≤ p
 is_fresh u writer p h = omega (arith, h.2)
 
-kinds_differ : (o : Option Kind) (a b : Kind) → o ≡ Some a → o ≡ Some b → a ≡ b
+pub kinds_differ : (o : Option Kind) (a b : Kind) → o ≡ Some a → o ≡ Some b → a ≡ b
 kinds_differ o a b e f = cc
 
 -- no later entry is written over a header
@@ -99,7 +99,7 @@ own_kinds before more e n head place =
     ∙ ap (λ k. slice_get (kinds_by k e.value ++ kinds_in more) n) head
 
 -- a new object's first word is a header
-first_kind : (u : Setup) (p : ℕ) (before more : List Entry) (e : Entry) → e.kind ≡ Header → IsNext u p before e.writer e.offset e.value
+pub first_kind : (u : Setup) (p : ℕ) (before more : List Entry) (e : Entry) → e.kind ≡ Header → IsNext u p before e.writer e.offset e.value
     → kind_at u p (before ++ e ∷ more) e.offset ≡ Some Header
 first_kind u p before more e head h =
     fresh_kind u p (before ++ e ∷ more) e.offset (is_fresh u e.writer p h.page)
@@ -160,7 +160,3 @@ data_kind header f lt =
 pub lawful_more : (u : Setup) (p : ℕ) (after before : List Entry) (e : Entry) → LawfulAfter u p before after → FitsEntry u p (before ++ after) e → LawfulAfter u p before (after ++ e ∷ [])
 lawful_more u p [] before e h fits = (subst (λ l. FitsEntry u p l e) (append-nil before) fits, tt)
 lawful_more u p (x ∷ es) before e h fits = (h.0, lawful_more u p es (before ++ x ∷ []) e h.1 (subst (λ l. FitsEntry u p l e) (one_on before es x) fits))
-
--- a word was written by a Reference entry of the journal
-pub WasWritten : List Entry → ℕ → Type 0
-WasWritten journal word = (i : ℕ) × (e : Entry) × (get_elem? journal i ≡ maybe.some e) × (e.kind ≡ Reference) × (word ≡ e.value)

@@ -1,6 +1,7 @@
 mod Fields
 mod Growing
 mod Heads
+mod Leading
 mod Places
 pub mod Begun
 pub mod Ending

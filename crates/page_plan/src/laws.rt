@@ -1,6 +1,7 @@
 //! Laws of sliding, each the contract of a function that does nothing.
-ghost use Rattle.heap_layout.specs.Heap.{Heap, live, IsClosed};
-ghost use Rattle.page_plan.specs.Sliding.{ReferencesLead, Slides, StartAtPlaces};
+ghost use Rattle.std.specs.Prelude.{◌≡◌, ℕ, ◌*◌, List, length};
+ghost use Rattle.heap_layout.specs.Heap.{Heap, Object, live, IsClosed};
+ghost use Rattle.page_plan.specs.Sliding.{page, slid_words, IsPartFrom, ReferencesLead, Slides, StartAtPlaces};
 
 use crate::plan::Plan;
 
@@ -16,3 +17,9 @@ pub fn references_lead(plan: &Plan)
 {
     let _ = plan;
 }
+
+/// A page has 64 words: the slid words from its first place on, with zeros behind the last one.
+pub fn pages_are_parts()
+    ensures long { (objects : List Object) (p : ℕ) → length (page objects p) ≡ 64 }
+    ensures parts { (objects : List Object) (p : ℕ) → IsPartFrom (slid_words objects) (64 * p) (page objects p) }
+{}

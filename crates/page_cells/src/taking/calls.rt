@@ -13,6 +13,7 @@ use crate::taking::Taken;
 use cell_steps::pass::Pass;
 use comp_journal::entry::Entry;
 use page_plan::builder::Builder;
+use page_plan::laws;
 use std::alloc::Global;
 
 impl Taken {
@@ -133,6 +134,8 @@ impl<B: Builder> Cells<B> {
         ensures leads { MayRefer _pass.new result }
         ensures same { _pass.new ≡ _pass.old }
     {
+        laws::references_lead(self.builder.plan());
+        laws::pages_are_parts();
         self.held_word(_pass, taken, offset)
     }
 
