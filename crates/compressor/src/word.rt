@@ -17,7 +17,7 @@ use heap_layout::image::read_image;
 use page_cells::Pass;
 use page_cells::cells::Cells;
 use page_cells::refusal::CellRefusal;
-use page_plan::laws::pages_follow;
+use page_plan::laws::pages_are_parts;
 use page_plan::plan::Plan;
 use std::alloc::Global;
 use std::io::{Read, Write};
@@ -114,6 +114,6 @@ fn taken_word(
     };
     let word = cells.held_word(pass, &taken, (index % 64) as u8);
     cells.put_back(pass, taken);
-    pages_follow();
+    pages_are_parts();
     Ok(word)
 }

@@ -95,6 +95,8 @@ module _ (u : Setup) (slots : List Slot) (row : List Pass) (numbers : (k : ℕ) 
     apart = λ i j p a b. g.apart i j p (known_of a.0) (known_of b.0) (at_map known_of row i a.0 a.1) (at_map known_of row j b.0 b.1) a.2 b.2;
     bases = g.bases;
     rises = g.rises;
+    lawful = g.lawful;
+    references = g.references;
     stamps = λ s lt. g.stamps.1 (only s) ∙ below_once s g.stamps.0 (omega (arith, counted, lt));
     no_more = λ s le. g.stamps.1 (only s) ∙ below_none s g.stamps.0 (omega (arith, counted, le));
     passes = ends_at;

@@ -1,5 +1,9 @@
-pub mod Rows
-pub mod Growing
+mod Fields
+mod Growing
+mod Heads
+mod Leading
+mod Places
 pub mod Begun
-pub mod Ordered
 pub mod Ending
+pub mod Ordered
+pub mod Rows

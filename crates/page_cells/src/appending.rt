@@ -1,10 +1,11 @@
-ghost use Rattle.std.specs.Prelude.{◌≡◌, ◌↔◌, ℕ, ◌<◌, [], ◌∷◌, ◌++◌, length, All, IfOk, OnErr, IsErrOf};
+ghost use Rattle.std.specs.Prelude.{◌≡◌, ◌↔◌, ℕ, ◌<◌, [], ◌∷◌, ◌++◌, length, All, IfOk, OnOk, OnErr, IsErrOf};
+ghost use Rattle.heap_layout.specs.declared.kind.Kind.TheVariants.{Header, Reference};
 ghost use Rattle.comp_journal.specs.declared.entry.Entry.{Entry as Written};
 ghost use Rattle.comp_journal.specs.declared.refusal.JournalRefusal.TheVariants.{JournalFull};
-ghost use Rattle.cell_steps.specs.Passes.{builds_of, did, number_of, seen, IsSame};
-ghost use Rattle.page_cells.specs.Cells.{heap_of, journal_of, page_number, page_of, Has, IsPassOf};
+ghost use Rattle.cell_steps.specs.Lawful.{Fits};
+ghost use Rattle.cell_steps.specs.Passes.{builds_of, did, number_of, seen, IsSame, KnowsFresh, MayRefer};
+ghost use Rattle.page_cells.specs.Cells.{journal_of, page_number, page_of, setup_of, Has, IsPassOf};
 ghost use Rattle.page_cells.specs.Calls.{Grows};
-ghost use Rattle.page_cells.specs.Kinds.{MayWrite};
 
 use crate::cells::Cells;
 use crate::taking::Taken;
@@ -16,7 +17,7 @@ use heap_layout::kind::Kind;
 use page_plan::builder::Builder;
 
 impl<B: Builder> Cells<B> {
-    /// Writes one entry into the page that the pass has taken, and answers its stamp.
+    /// Writes one entry into the page that the pass has taken, and answers its stamp. After a header the start bit of the new object is set.
     pub fn append(
         &self,
         pass: &mut Pass,
@@ -28,7 +29,8 @@ impl<B: Builder> Cells<B> {
         requires of { IsPassOf self.now pass.old }
         requires has { Has self.now pass.old taken.old }
         requires offset { offset < 64 }
-        requires lawful { MayWrite (heap_of self.now) (page_number taken.old) offset kind value }
+        requires fits { Fits (setup_of self.now) (page_number taken.old) (journal_of taken.old) kind (number_of pass.old) offset value }
+        requires leads { kind ≡ Reference → MayRefer pass.old value }
         ensures of { IsPassOf self.now pass.new × Has self.now pass.new taken.new }
         ensures grows { Grows pass.old pass.new × (builds_of pass.new ≡ builds_of pass.old) }
         ensures page { page_number taken.new ≡ page_number taken.old }
@@ -36,6 +38,7 @@ impl<B: Builder> Cells<B> {
         ensures journal { IfOk result (λ stamp. journal_of taken.new ≡ journal_of taken.old ++ record { stamp = stamp; writer = number_of pass.old; kind = kind; offset = offset; value = value } ∷ []) }
         ensures did { IfOk result (λ stamp. did pass.new ≡ did pass.old ++ (page_number taken.old, record { stamp = stamp; writer = number_of pass.old; kind = kind; offset = offset; value = value }) ∷ []) }
         ensures above { IfOk result (λ stamp. (q : ℕ) → All (λ (entry : Written). entry.stamp < stamp) (seen pass.old q)) }
+        ensures start { OnOk result (kind ≡ Header → KnowsFresh pass.new (page_number taken.old) offset) }
         ensures refused { OnErr result (IsSame pass.old pass.new × (page_of taken.new ≡ page_of taken.old)) }
     {
         prove!(taken.page.journal().len() <= MOST_ENTRIES);
@@ -48,6 +51,10 @@ impl<B: Builder> Cells<B> {
             value,
         };
         let number = taken.number;
-        Ok(self.steps.draw_stamp(pass, number, &mut taken.page, draft))
+        let stamp = self.steps.draw_stamp(pass, number, &mut taken.page, draft);
+        if let Kind::Header = kind {
+            self.steps.set_start(pass, number, offset);
+        }
+        Ok(stamp)
     }
 }

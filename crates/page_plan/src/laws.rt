@@ -1,6 +1,6 @@
 //! Laws of sliding, each the contract of a function that does nothing.
-ghost use Rattle.std.specs.Prelude.{◌*◌, ℕ};
-ghost use Rattle.heap_layout.specs.Heap.{Heap, live, IsClosed};
+ghost use Rattle.std.specs.Prelude.{◌≡◌, ℕ, ◌*◌, List, length};
+ghost use Rattle.heap_layout.specs.Heap.{Heap, Object, live, IsClosed};
 ghost use Rattle.page_plan.specs.Sliding.{page, slid_words, IsPartFrom, ReferencesLead, Slides, StartAtPlaces};
 
 use crate::plan::Plan;
@@ -18,7 +18,8 @@ pub fn references_lead(plan: &Plan)
     let _ = plan;
 }
 
-/// The words of page `p` are those of the slid words from the index `64 p` on, and 0 behind the last one.
-pub fn pages_follow()
-    ensures { (heap : Heap) (p : ℕ) → IsPartFrom (slid_words (live heap)) (64 * p) (page (live heap) p) }
+/// A page has 64 words: the slid words from its first place on, with zeros behind the last one.
+pub fn pages_are_parts()
+    ensures long { (objects : List Object) (p : ℕ) → length (page objects p) ≡ 64 }
+    ensures parts { (objects : List Object) (p : ℕ) → IsPartFrom (slid_words objects) (64 * p) (page objects p) }
 {}

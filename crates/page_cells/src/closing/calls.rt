@@ -87,6 +87,8 @@ impl<B: Builder> Cells<B> {
         let Cells {
             steps,
             builder: _,
+            compacted: _,
+            fresh: _,
             mutators,
         } = self;
         let mut row = order::in_order(passes, mutators, row);
