@@ -7,7 +7,7 @@ use Rattle.comp_journal.specs.declared.entry.Entry.{Entry}
 use Rattle.cell_steps.specs.Setup.{Setup}
 use Rattle.cell_steps.specs.Lawful.{FitsEntry, IsLawful}
 use Rattle.cell_steps.specs.Starts.{IsPlace, KnowsFresh, MayRefer}
-use Rattle.cell_steps.specs.Knowing.{WritesEntry}
+use Rattle.cell_steps.specs.Knowing.{KnowsAsBefore, WritesEntry}
 use Rattle.cell_steps.specs.declared.view.View.{View}
 use Rattle.cell_steps.specs.declared.pass.Pass.{Pass}
 use Rattle.cell_steps.specs.declared.steps.Steps.{Steps}
@@ -24,6 +24,19 @@ refers_more v w a same starts h = ⊎_elim
     (λ null. inl null)
     (λ known. inr (⊎_elim (λ place. inl (subst (λ (u : Setup). IsPlace u.heap a) (sym same) place)) (λ fresh. inr (fresh.0, fresh.1, fresh.2, starts fresh.0 fresh.1 fresh.3)) known))
     h
+
+-- the pass still holds the page
+pub holds_still : (table : Steps) (old new : Pass) (taken : Taken) → (view_of new).about ≡ (view_of old).about → (Holds taken.number old → Holds taken.number new)
+    → KnowsAsBefore (view_of old) (view_of new) → HasTaken table old taken → HasTaken table new taken
+holds_still table old new taken same holds k h =
+    let journal : seen new taken.number ≡ seen old taken.number = k.seen taken.number in
+    record {
+      inside = h.inside;
+      holds = holds h.holds;
+      page = subst (λ l. taken.page.page ≡ page_with table taken.number l) (sym journal) h.page;
+      lawful = subst (IsLawful (about table) taken.number) (sym journal) h.lawful;
+      references = λ i e at kind. refers_more (view_of old) (view_of new) e.value same k.grows.starts (h.references i e (subst (λ l. get_elem? l i ≡ some e) journal at) kind);
+    }
 
 -- the pass holds the page with one entry more
 pub holds_more : (table : Steps) (old new : Pass) (before after : Taken) (e : Entry) → HasTaken table old before → (view_of new).about ≡ (view_of old).about
