@@ -100,18 +100,18 @@ impl Steps {
     }
 
     /// Sends page `p` home after it was built, and tells the build. It takes no memory.
-    pub fn send_new_home(&self, pass: &mut Pass, p: u64, page: JournaledPage)
+    pub fn send_new_home(&self, pass: &mut Pass, p: u64, built: JournaledPage)
         requires of { IsPassOf self.now pass.old }
         requires builds { Builds p pass.old }
         requires inside { p < pages_of self.now }
-        requires page { page.page ≡ page_with self.now p [] }
+        requires page { built.page ≡ page_with self.now p [] }
         requires room { HasRoom pass.old }
         ensures of { IsPassOf self.now pass.new × (number_of pass.new ≡ number_of pass.old) × Rests pass.new }
         ensures view { view_of pass.new ≡ telling (leaving (view_of pass.old) p 1) p }
         ensures tells { TellsPage p (view_of pass.old) (view_of pass.new) }
         ensures left { last pass.new p ≡ 1 }
     {
-        self.put_in(pass, p, page);
+        self.put_in(pass, p, built);
         self.tell_build(pass, p);
     }
 
