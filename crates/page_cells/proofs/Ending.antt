@@ -1,17 +1,17 @@
 -- What is known once all passes have ended.
-use Rattle.std.proofs.Common.{◌≡◌, ℕ, zero, suc, ◌+◌, ◌<◌, ◌≤◌, ◌≢◌, ◌⊎◌, Bool, true, false, cond, eqb, eq-eqb, ne_eqb, List, [], ◌∷◌, ◌++◌, map, length, take, refl, sym, ap, ◌∙◌, inl, inr, ⊎_elim, subst, arith, length-append, append_assoc, Vec, IsSome}
+use Rattle.std.proofs.Common.{◌≡◌, ℕ, zero, suc, ◌+◌, ◌<◌, ◌≤◌, ◌≢◌, Bool, cond, eq-eqb, ne_eqb, List, [], ◌∷◌, ◌++◌, map, length, take, refl, sym, ap, ◌∙◌, ⊎_elim, subst, arith, append_assoc, Vec}
 use Rattle.std.proofs.lemmas.List.{length-map, append-nil}
 use mathlib.Core.Option.{some}
 use lib.ListN.{get_elem?}
 use Rattle.comp_journal.specs.declared.entry.Entry.{Entry}
 use Rattle.cell_steps.specs.Setup.{Setup, pages}
-use Rattle.cell_steps.specs.Lists.{times, total, only, below, stamps, by, on}
+use Rattle.cell_steps.specs.Lists.{times, only, below, stamps, by}
 use Rattle.cell_steps.specs.View.{Known, Slot}
-use Rattle.cell_steps.specs.Closing.{journal_at, page_at, IsToldBySome, Gathered, Complete}
-use Rattle.cell_steps.specs.Passes.{number_of, builds_of, known_of, did, AreAll}
+use Rattle.cell_steps.specs.Closing.{journal_at, IsToldBySome, Gathered}
+use Rattle.cell_steps.specs.Passes.{number_of, builds_of, known_of, AreAll}
 use Rattle.cell_steps.specs.declared.pass.Pass.{Pass}
 use Rattle.cell_steps.specs.declared.steps.Steps.{Steps}
-use Rattle.page_cells.specs.Ends.{lists, Built, Ends, IsEnd, IsRow, IsIn, AllRest, entries, stamped_with}
+use Rattle.page_cells.specs.Ends.{lists, Built, Ends, IsEnd, IsRow, AllRest, entries}
 use Rattle.page_cells.proofs.Rows.{at_map, at_map_back}
 use Rattle.page_cells.proofs.Ordered.{last_or_below}
 

@@ -1,5 +1,5 @@
 -- What a pass knows grows from call to call.
-use Rattle.std.proofs.Common.{◌≡◌, ℕ, zero, suc, ◌+◌, ◌<◌, ◌≤◌, ◌≢◌, List, [], ◌∷◌, ◌++◌, length, get_or, All, Result, Ok, Err, IfOk, refl, sym, ap, ◌∙◌, subst, arith, append_assoc}
+use Rattle.std.proofs.Common.{◌≡◌, ℕ, zero, suc, ◌+◌, ◌<◌, ◌≤◌, ◌≢◌, List, [], ◌∷◌, ◌++◌, All, Result, Ok, Err, IfOk, refl, sym, ap, ◌∙◌, subst, arith, append_assoc}
 use Rattle.std.proofs.lemmas.List.{append-nil}
 use native.Mathlib.Decide.{ℕ_discrete}
 use Rattle.comp_journal.specs.declared.entry.Entry.{Entry}
@@ -7,7 +7,6 @@ use Rattle.cell_steps.specs.Lists.{times, StartsWith, Rises}
 use Rattle.cell_steps.specs.Locks.{seen_of}
 use Rattle.cell_steps.specs.Starts.{KnowsFresh}
 use Rattle.cell_steps.specs.declared.view.View.{View}
-use Rattle.cell_steps.specs.Knowing as knowing
 use Rattle.cell_steps.specs.Knowing.{KnowsAsBefore, SeesPage, TellsPage, WritesEntry}
 use Rattle.cell_steps.specs.declared.pass.Pass.{Pass}
 use Rattle.cell_steps.specs.Passes.{view_of, number_of, seen, IsSame}
@@ -102,6 +101,23 @@ grows_writing p e old new number h = record {
   built = h.grows.built;
   lost = h.grows.lost;
   starts = h.grows.starts;
+}
+
+-- a pass that wrote an entry, and then made a step that writes nothing
+pub writes_still : (p : ℕ) (e : Entry) (a b c : View) → WritesEntry p e a b → KnowsAsBefore b c → WritesEntry p e a c
+writes_still p e a b c h k = record {
+  grows = record {
+    port = k.grows.port ∙ h.grows.port;
+    next = k.grows.next ∙ h.grows.next;
+    built = λ q z. k.grows.built q (h.grows.built q z);
+    lost = λ q. omega (arith, h.grows.lost q, k.grows.lost q);
+    starts = λ q offset z. k.grows.starts q offset (h.grows.starts q offset z);
+  };
+  did = k.did ∙ h.did;
+  told = k.told ∙ h.told;
+  here = k.seen p ∙ h.here;
+  others = λ q ne. k.seen q ∙ h.others q ne;
+  above = h.above;
 }
 
 rises_le : (low : ℕ) (j : List Entry) (high : ℕ) → Rises low j high → low ≤ high

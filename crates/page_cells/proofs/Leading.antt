@@ -1,5 +1,5 @@
 -- Where the references of a page lead that has a lawful journal.
-use Rattle.std.proofs.Common.{◌≡◌, ℕ, zero, suc, ◌+◌, ◌*◌, ◌<◌, ◌≤◌, ◌⊎◌, true, cond, List, [], ◌∷◌, ◌++◌, length, get_or, set, replicate, Some, refl, sym, ap, ◌∙◌, inl, inr, ⊎_elim, arith, subst, ltb, length-set}
+use Rattle.std.proofs.Common.{◌≡◌, ℕ, zero, suc, ◌+◌, ◌*◌, ◌<◌, ◌≤◌, ◌⊎◌, true, cond, List, [], ◌∷◌, ◌++◌, length, get_or, replicate, Some, refl, sym, ap, ◌∙◌, inl, inr, ⊎_elim, arith, subst, ltb, length-set}
 use Rattle.std.proofs.lemmas.Bool.{cases_lt}
 use Rattle.std.proofs.lemmas.Bool.Decides.{nat_tests}
 use Rattle.std.proofs.lemmas.List.{get_or-set_other, get_or-replicate}
@@ -51,9 +51,9 @@ from_entries u p o (e ∷ es) before words h long lt at =
     let rest = from_entries u p o es (before ++ e ∷ []) (written words e) h.1 (length-set words e.offset e.value ∙ long) lt next in
     dite (ℕ_discrete o e.offset)
     (λ same.
-        let reference = over_reference u p before es e.stamp e.writer e.kind e.offset e.value o h.0 at same in
-        let inside : e.offset < length words = omega (arith, same, lt, long) in
-        ⊎_elim (λ word. inr (zero, e, refl, reference, word ∙ get_or-set_at words e.offset o e.value 0 same inside)) (λ w. inr (later e es _ w)) rest)
+    let reference = over_reference u p before es e.stamp e.writer e.kind e.offset e.value o h.0 at same in
+    let inside : e.offset < length words = omega (arith, same, lt, long) in
+    ⊎_elim (λ word. inr (zero, e, refl, reference, word ∙ get_or-set_at words e.offset o e.value 0 same inside)) (λ w. inr (later e es _ w)) rest)
     (λ other. ⊎_elim (λ word. inl (word ∙ get_or-set_other words e.offset o e.value 0 other)) (λ w. inr (later e es _ w)) rest)
 
 -- what is known of the slid words
@@ -73,8 +73,8 @@ base_long u p laws = ⊎_elim (λ (lt : p < u.compacted). ap length (slid_base u
 base_leads : (u : Setup) (p o : ℕ) (journal : List Entry) → AreLaws (live u.heap) → IsField u p journal Reference o → LeadsToPlace (live u.heap) (get_or (base_of u p) o 0)
 base_leads u p o journal laws field = ⊎_elim
     (λ (lt : p < u.compacted).
-        let word = ap (λ l. get_or l o 0) (slid_base u p lt) ∙ laws.parts p o field.inside in
-        subst (LeadsToPlace (live u.heap)) (sym word) (laws.lead (64 * p + o) (sym (compacted_kind u p journal o lt) ∙ field.kind_is)))
+    let word = ap (λ l. get_or l o 0) (slid_base u p lt) ∙ laws.parts p o field.inside in
+    subst (LeadsToPlace (live u.heap)) (sym word) (laws.lead (64 * p + o) (sym (compacted_kind u p journal o lt) ∙ field.kind_is)))
     (λ (le : u.compacted ≤ p). inl (ap (λ l. get_or l o 0) (fresh_base u p le) ∙ get_or-replicate 64 o 0 0 field.inside))
     (cases_lt p u.compacted)
 
@@ -86,7 +86,7 @@ unfolding WasWritten
 reference_leads u v p o journal word about laws lawful references field is =
     subst (MayRefer v) (sym is)
     (⊎_elim
-        (λ same. subst (MayRefer v) (sym same)
-            (⊎_elim (λ null. inl null) (λ place. inr (inl (subst (λ (w : Setup). sliding.IsPlace (live w.heap) (get_or (base_of u p) o 0)) (sym about) place))) (base_leads u p o journal laws field)))
-        (λ w. subst (MayRefer v) (sym w.4) (references w.0 w.1 w.2 w.3))
-        (from_entries u p o journal [] (base_of u p) lawful (base_long u p laws) field.inside field.kind_is))
+    (λ same. subst (MayRefer v) (sym same)
+    (⊎_elim (λ null. inl null) (λ place. inr (inl (subst (λ (w : Setup). sliding.IsPlace (live w.heap) (get_or (base_of u p) o 0)) (sym about) place))) (base_leads u p o journal laws field)))
+    (λ w. subst (MayRefer v) (sym w.4) (references w.0 w.1 w.2 w.3))
+    (from_entries u p o journal [] (base_of u p) lawful (base_long u p laws) field.inside field.kind_is))

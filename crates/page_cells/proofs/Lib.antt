@@ -1,6 +1,7 @@
 mod Fields
 mod Growing
 mod Heads
+mod Held
 mod Leading
 mod Places
 pub mod Begun

@@ -1,5 +1,5 @@
 -- What a pass knows of starts.
-use Rattle.std.proofs.Common.{◌≡◌, ℕ, ◌⊎◌, Bool, true, false, Option, Some, None, refl, sym, ap, ◌∙◌, inl, inr, subst}
+use Rattle.std.proofs.Common.{◌≡◌, ℕ, true, Option, Some, None, sym, inl, subst}
 use Rattle.std.specs.Option.{is_some}
 use Rattle.heap_layout.specs.Heap.{Heap, live}
 use Rattle.page_plan.specs.Sliding.{shape_at}

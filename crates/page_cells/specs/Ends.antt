@@ -1,5 +1,5 @@
 -- What is known once all passes have ended.
-use Rattle.std.specs.Prelude.{◌≡◌, ℕ, ◌+◌, ◌<◌, ◌≤◌, ◌⊎◌, List, length, map, IsSome, Vec}
+use Rattle.std.specs.Prelude.{◌≡◌, ℕ, ◌<◌, ◌≤◌, ◌⊎◌, List, length, map, IsSome, Vec}
 use mathlib.Core.Option.{some}
 use mathlib.Core.Logic.{◌↔◌}
 use lib.ListN.{get_elem?}
@@ -11,7 +11,7 @@ use Rattle.cell_steps.specs.Lists.{times, only, below, stamps, by, on, StartsWit
 use Rattle.cell_steps.specs.History.{entry_of}
 use Rattle.cell_steps.specs.View.{Slot}
 use Rattle.cell_steps.specs.Closing.{journal_at, page_at, HasBase, LeadsToStart}
-use Rattle.cell_steps.specs.Passes.{about, number_of, builds_of, seen, did, Rests}
+use Rattle.cell_steps.specs.Passes.{number_of, builds_of, seen, did, Rests}
 use Rattle.cell_steps.specs.declared.pass.Pass.{Pass}
 use Rattle.cell_steps.specs.declared.steps.Steps.{Steps}
 use Rattle.page_plan.specs.declared.builder.Builder.{Ghosts}

@@ -2,9 +2,11 @@ ghost use Rattle.std.specs.Prelude.{◌≡◌, ◌↔◌, ℕ, ◌<◌, [], ◌�
 ghost use Rattle.heap_layout.specs.declared.kind.Kind.TheVariants.{Header, Reference};
 ghost use Rattle.comp_journal.specs.declared.entry.Entry.{Entry as Written};
 ghost use Rattle.comp_journal.specs.declared.refusal.JournalRefusal.TheVariants.{JournalFull};
-ghost use Rattle.cell_steps.specs.Lawful.{Fits};
-ghost use Rattle.cell_steps.specs.Passes.{builds_of, did, number_of, seen, IsSame, KnowsFresh, MayRefer};
-ghost use Rattle.page_cells.specs.Cells.{journal_of, page_number, page_of, setup_of, Has, IsPassOf};
+ghost use Rattle.cell_steps.specs.Lawful.{Fits, FitsEntry};
+ghost use Rattle.cell_steps.specs.Knowing.{WritesEntry};
+ghost use Rattle.cell_steps.specs.Plays.{stamped};
+ghost use Rattle.cell_steps.specs.Passes.{builds_of, did, number_of, page_with, seen, view_of, Holds, IsSame, KnowsFresh, MayRefer};
+ghost use Rattle.page_cells.specs.Cells.{journal_of, page_number, page_of, setup_of, steps_of, Has, IsPassOf};
 ghost use Rattle.page_cells.specs.Calls.{Grows};
 
 use crate::cells::Cells;
@@ -50,11 +52,28 @@ impl<B: Builder> Cells<B> {
             offset,
             value,
         };
+        Ok(self.write_reserved(pass, taken, draft))
+    }
+
+    /// Writes an entry for which room is reserved, and after a header sets the start bit. It takes no memory.
+    fn write_reserved(&self, pass: &mut Pass, taken: &mut Taken, draft: Entry) -> u64
+        requires of { IsPassOf self.now pass.old }
+        requires has { Has self.now pass.old taken.old }
+        requires room { (0 < taken.old.page.room) × (length (journal_of taken.old) < 1024) }
+        requires draft { (draft.writer ≡ number_of pass.old) × (draft.offset < 64) }
+        requires fits { FitsEntry (setup_of self.now) (page_number taken.old) (journal_of taken.old) draft }
+        requires leads { draft.kind ≡ Reference → MayRefer pass.old draft.value }
+        ensures of { IsPassOf self.now pass.new × (number_of pass.new ≡ number_of pass.old) }
+        ensures holds { Holds (page_number taken.old) pass.new }
+        ensures writes { WritesEntry (page_number taken.old) (stamped draft result) (view_of pass.old) (view_of pass.new) }
+        ensures page { (page_number taken.new ≡ page_number taken.old) × (page_of taken.new ≡ page_with (steps_of self.now) (page_number taken.old) (seen pass.new (page_number taken.old))) }
+        ensures start { draft.kind ≡ Header → KnowsFresh pass.new (page_number taken.old) draft.offset }
+    {
         let number = taken.number;
         let stamp = self.steps.draw_stamp(pass, number, &mut taken.page, draft);
-        if let Kind::Header = kind {
-            self.steps.set_start(pass, number, offset);
+        if let Kind::Header = draft.kind {
+            self.steps.set_start(pass, number, draft.offset);
         }
-        Ok(stamp)
+        stamp
     }
 }

@@ -1,4 +1,4 @@
-ghost use Rattle.std.specs.Prelude.{◌≡◌, ◌+◌, ◌*◌, ◌<◌, ◌≤◌, [], vec_capacity, IfOk};
+ghost use Rattle.std.specs.Prelude.{◌≡◌, ◌+◌, ◌*◌, ◌^◌, ◌<◌, ◌≤◌, [], vec_capacity, IfOk};
 ghost use Rattle.heap_layout.specs.Heap.{live};
 ghost use Rattle.page_plan.specs.Sliding as sliding;
 ghost use Rattle.cell_steps.specs.Setup.{fresh_page};
@@ -84,7 +84,8 @@ impl<B: Builder> Cells<B> {
     /// The fresh page with the number `index` among those on which the pass `number` makes objects.
     pub fn own_page(&self, number: u8, index: u32) -> u64
         requires { number + index * mutators_of self.now < (setup_of self.now).fresh }
-        ensures { result ≡ fresh_page (setup_of self.now) (number + index * mutators_of self.now) }
+        ensures page { result ≡ fresh_page (setup_of self.now) (number + index * mutators_of self.now) }
+        ensures few { result < 2 ^ 31 }
     {
         self.compacted + u64::from(number) + u64::from(index) * u64::from(self.mutators)
     }

@@ -8,6 +8,7 @@ ghost use Rattle.cell_steps.specs.Locks.{Journals};
 ghost use Rattle.cell_steps.specs.Passes.{builds_of, seen, KnowsStart, Rests};
 ghost use Rattle.page_cells.specs.Cells.{heap_of, journal_of, page_number, setup_of, Has, IsPassOf};
 ghost use Rattle.page_cells.specs.Calls.{Grows, WroteNothing};
+ghost use Rattle.page_cells.specs.declared.taking.Taken.{Taken as Held};
 ghost use Rattle.page_cells.specs.Objects.{offset_at, page_at, HasFields, HasShape};
 
 use crate::cells::Cells;
@@ -43,9 +44,10 @@ impl<B: Builder> Cells<B> {
     /// Whether an object starts at an address, as far as the pass can tell: of a compacted page the plan tells it, of a fresh page the start bits. A start
     /// that the pass knew is never denied. It takes no memory.
     pub fn start_known(&self, pass: &mut Pass, address: u64) -> bool
-        requires of { IsPassOf self.now pass.old }
-        requires rests { Rests pass.old }
-        ensures of { IsPassOf self.now pass.new × Rests pass.new }
+        requires { IsPassOf self.now pass.old }
+        ensures of { IsPassOf self.now pass.new }
+        ensures rests { Rests pass.old → Rests pass.new }
+        ensures has { (taken : Held) → Has self.now pass.old taken → Has self.now pass.new taken }
         ensures grows { Grows pass.old pass.new × WroteNothing pass.old pass.new }
         ensures builds { builds_of pass.new ≡ builds_of pass.old }
         ensures known { IsTrue result → KnowsStart pass.new address }

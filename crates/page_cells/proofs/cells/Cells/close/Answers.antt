@@ -1,4 +1,4 @@
-use Rattle.std.proofs.Common.{◌≡◌, inr, refl, arith}
+use Rattle.std.proofs.Common.{inr, refl, arith}
 use Rattle.page_cells.proofs.Ordered.{none_missing}
 use Rattle.page_cells.proofs.cells.Cells.close.Goals as goal
 

@@ -1,9 +1,8 @@
-use Rattle.std.proofs.Common.{◌≡◌, ◌≤◌, ℕ, [], rules, sym, ap, ◌∙◌}
+use Rattle.std.proofs.Common.{◌≡◌, ◌≤◌, ℕ, [], rules, ◌∙◌}
 use Rattle.cell_steps.specs.Lists.{by}
 use Rattle.cell_steps.specs.Lawful.{HasHead}
 use Rattle.cell_steps.specs.Passes.{number_of, KnowsFresh}
 use Rattle.page_cells.specs.Cells.{journal_of, mutators_of}
-use Rattle.page_cells.specs.declared.taking.Taken.{Taken}
 use Rattle.page_cells.proofs.Growing.{grows_then, ok_more}
 use Rattle.page_cells.proofs.cells.Cells.try_take.Goals as goal
 
