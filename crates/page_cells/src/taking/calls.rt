@@ -74,6 +74,7 @@ impl<B: Builder> Cells<B> {
         ensures page { IsErrOf result NoSuchPage → ⊥ }
         ensures named { (k : ℕ) → IsErrOf result (PassMissing k) → ⊥ }
         ensures busy { (q : ℕ) → IsErrOf result (Busy q) → (q ≡ p) × (lost pass.old p < lost pass.new p) }
+        ensures alone { mutators_of self.now ≡ 1 → (q : ℕ) → IsErrOf result (Busy q) → ⊥ }
         ensures home { OnOk result (last pass.new p ≡ 1) }
         ensures builds { MayHaveBuilt p pass.old pass.new }
         ensures built { HasSeenBuilt pass.old p → builds_of pass.new ≡ builds_of pass.old }
