@@ -1,7 +1,5 @@
-use Rattle.std.proofs.Common.{◌≡◌, ◌/◌, ℕ, List, [], ap, ◌∙◌, sym, subst}
-use Rattle.comp_journal.specs.declared.entry.Entry.{Entry}
+use Rattle.std.proofs.Common.{◌≡◌, ◌/◌, [], ap, ◌∙◌, sym}
 use Rattle.cell_steps.specs.Lists.{by, on}
-use Rattle.cell_steps.specs.Passes.{did}
 use Rattle.page_cells.specs.Cells.{heap_of, journal_of, steps_of}
 use Rattle.compressor.proofs.Takes.{none_wrote, by_none, word_at}
 use Rattle.compressor.proofs.word.taken_word.Goals as goal
