@@ -3,7 +3,7 @@ ghost use Rattle.std.specs.Prelude.{◌≡◌, ◌*◌, ◌-◌, ◌/◌, ◌^�
 ghost use Rattle.heap_layout.specs.Counted.{inner_of, failures_of};
 ghost use Rattle.heap_layout.specs.Heap.{live};
 ghost use Rattle.page_plan.specs.Sliding.{slid_words};
-ghost use Rattle.page_cells.specs.Cells.{heap_of, mutators_of, pages_of, steps_of, IsNew};
+ghost use Rattle.page_cells.specs.Cells.{heap_of, mutators_of, setup_of, steps_of, IsNew};
 ghost use Rattle.std.specs.Io.KnownBytes.{Appends};
 ghost use Rattle.compressor.specs.Printing.{line_of, CountsPrint, CountsRead, IsOfWord};
 ghost use Rattle.compressor.specs.Word.{IsImage, IsWordAt, IsPast, PrintsWordAt, RefusesWord, RefusesPrint};
@@ -102,7 +102,7 @@ fn taken_word(
 ) -> Result<u64, OutOfMemory>
     requires alone { mutators_of cells.now ≡ 1 }
     requires new { IsNew (steps_of cells.now) 1 0 pass.old }
-    requires inside { index / 64 < pages_of cells.now }
+    requires inside { index / 64 < (setup_of cells.now).compacted }
     ensures { IfOk result (λ word. word ≡ slice_index (slid_words (live (heap_of cells.now))) index) }
 {
     let taken = match cells.try_take(alloc, pass, index / 64) {
