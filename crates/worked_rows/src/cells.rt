@@ -1,9 +1,7 @@
 //! Pages taken, written and built through their cells.
 ghost use Rattle.std.specs.Prelude.{◌≡◌, IfOk};
-ghost use Rattle.heap_layout.specs.declared.kind.Kind.TheVariants.{Data};
 ghost use Rattle.cell_steps.specs.Passes.{Rests};
 ghost use Rattle.page_cells.specs.Cells.{heap_of, steps_of, mutators_of, IsNew, IsPassOf};
-ghost use Rattle.page_cells.specs.Kinds.{MayWrite};
 
 use crate::heaps::{T, heap, three};
 use comp_journal::entry::Entry;
@@ -42,18 +40,7 @@ fn two<B: Builder>(
     Ok((cells, first, second))
 }
 
-// The plan of the three objects, whose word 1 is a word of data.
-fn three_plan(alloc: Global) -> Result<Plan, Fail>
-    ensures { IfOk result (λ plan. MayWrite plan 0 1 Data 7) }
-{
-    let plan = Plan::new(alloc, three(alloc)?)?;
-    match plan.shape_at(T) {
-        Some(header) if header.refs() == 0 && header.data_words() > 0 => Ok(plan),
-        _ => Err(Fail::from(CellRefusal::NoSuchPage)),
-    }
-}
-
-// Writes 7 at offset 1 of page 0.
+// Writes 7 into the first data word of the object at the beginning of page 0, which has no references.
 fn write_seven<B: Builder>(
     alloc: Global,
     cells: &Cells<B>,
@@ -61,8 +48,13 @@ fn write_seven<B: Builder>(
 ) -> Result<Result<u64, JournalRefusal>, CellRefusal>
     requires of { IsPassOf cells.now pass.old }
     requires rests { Rests pass.old }
-    requires lawful { MayWrite (heap_of cells.now) 0 1 Data 7 }
 {
+    let Some(header) = cells.compacted_header(T) else {
+        return Err(CellRefusal::NoSuchPage);
+    };
+    if header.refs() != 0 || header.data_words() == 0 {
+        return Err(CellRefusal::NoSuchPage);
+    }
     let mut taken = cells.try_take(alloc, pass, 0)?;
     let stamp = cells.append(pass, &mut taken, Kind::Data, 1, 7);
     cells.put_back(pass, taken);
@@ -102,7 +94,7 @@ fn visit<B: Builder>(
 #[test]
 fn reads_a_write_of_another_pass(rt: HostRuntime) -> Result<(), Fail> {
     let alloc = rt.alloc();
-    let (cells, mut first, mut second) = two(&rt, alloc, three_plan(alloc)?)?;
+    let (cells, mut first, mut second) = two(&rt, alloc, Plan::new(alloc, three(alloc)?)?)?;
     let (written, _) = thread::join(&rt, || write_seven(alloc, &cells, &mut first), || ());
     assert_eq!(rt; written, Ok(Ok(0)));
 
