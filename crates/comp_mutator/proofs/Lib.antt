@@ -1,0 +1,5 @@
+pub mod FieldPlaces
+pub mod Growing
+pub mod Refusing
+pub mod Answering
+pub mod OwnPages
