@@ -89,7 +89,7 @@ fn copy_journal(alloc: Global, taken: &Taken) -> Result<Vec<Entry>, OutOfMemory>
     let journal = taken.journal();
     let mut copy = Vec::with_capacity(alloc, journal.len())?;
     for entry in journal {
-        copy.push(*entry)?;
+        copy.push_reserved(*entry);
     }
     Ok(copy)
 }
