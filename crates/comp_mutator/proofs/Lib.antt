@@ -3,3 +3,5 @@ pub mod Growing
 pub mod Refusing
 pub mod Answering
 pub mod OwnPages
+pub mod FillCounts
+pub mod SpacePasses

@@ -126,7 +126,7 @@ module _ (entries : List (ℕ × Entry)) (stamp writer offset value : ℕ) where
 -- the counts, after an object was made on the own page of index i
 module _ (u : Setup) (old new : Pass) (fills : List ℕ) (i stamp offset value : ℕ) (some : 0 < u.mutators) (number : number_of new ≡ number_of old)
     (wrote : did new ≡ did old ++ (own_page u (number_of old) i, entry_by old stamp Header offset value) ∷ []) (h : Counts u old fills) (below : i < length fills)
-    (filled_is : get_or fills i 0 ≡ offset) where
+    (filled_is : get_or fills i 0 ≡ offset) (ends : offset + size_of value ≤ 64) where
   used_here : used u new i ≡ used u old i + size_of value
   used_here =
       ap (λ (n : ℕ). filled (on (own_page u n i) (did new))) number
@@ -145,9 +145,14 @@ module _ (u : Setup) (old new : Pass) (fills : List ℕ) (i stamp offset value :
       ∙ ap (λ m. m + size_of value) (sym filled_is ∙ h.used i below) ∙ sym used_here ∙ ap (used u new) (sym e)
   count_at j lt (no other) = get_or-set_other fills i j (offset + size_of value) 0 other ∙ h.used j lt ∙ sym (used_there j other)
 
+  small_at : (j : ℕ) → j < length fills → Dec (j ≡ i) → get_or (set fills i (offset + size_of value)) j 0 ≤ 64
+  small_at j lt (yes e) = subst (λ n. n ≤ 64) (sym (ap (λ k. get_or (set fills i (offset + size_of value)) k 0) e ∙ get_or-set_same fills i (offset + size_of value) 0 below)) ends
+  small_at j lt (no other) = subst (λ n. n ≤ 64) (sym (get_or-set_other fills i j (offset + size_of value) 0 other)) (h.small j lt)
+
   pub counts_more : Counts u new (set fills i (offset + size_of value))
   counts_more = let long = length-set fills i (offset + size_of value) in record {
     few = omega (arith, h.few);
+    small = λ j lt. small_at j (omega (arith, lt)) (ℕ_discrete j i);
     used = λ j lt. count_at j (omega (arith, lt)) (ℕ_discrete j i);
     there = λ j lt. subst (λ n. n + j * u.mutators < u.fresh) (sym number) (h.there j (omega (arith, lt)));
     all = λ j there. let inside = h.all j (subst (λ n. n + j * u.mutators < u.fresh) number there) in omega (arith, inside);

@@ -66,6 +66,7 @@ AllocationRefused u old new size OutOfMemory = (p : ℕ) × IsLowestPage u old s
 -- These are the used words of the pass's own pages, in order.
 pub record Counts (u : Setup) (pass : Pass) (fills : List ℕ) : Type 0 where
   pub few : length fills ≤ 4096
+  pub small : (i : ℕ) → i < length fills → slice_index fills i ≤ 64
   pub used : (i : ℕ) → i < length fills → slice_index fills i ≡ used u pass i
   pub there : (i : ℕ) → i < length fills → HasOwn u pass i
   pub all : (i : ℕ) → HasOwn u pass i → i < length fills

@@ -1,5 +1,5 @@
 //! Allocations of objects.
-ghost use Rattle.std.specs.Prelude.{◌≡◌, ℕ, ◌+◌, ◌*◌, ◌<◌, ◌≤◌, length, slice_index, IfErr, IfOk, IfNone, IfSome};
+ghost use Rattle.std.specs.Prelude.{◌≡◌, ℕ, ◌+◌, ◌*◌, ◌<◌, ◌≤◌, length, slice_index, sum, IfErr, IfOk, IfNone, IfSome};
 ghost use Rattle.heap_layout.specs.Header.{size_of};
 ghost use Rattle.cell_steps.specs.Passes.{builds_of, did, Rests};
 ghost use Rattle.page_cells.specs.Cells.{setup_of, IsPassOf};
@@ -49,6 +49,8 @@ pub(crate) fn try_alloc<B: Builder>(
     ensures of { IsPassOf cells.now pass.new × Rests pass.new }
     ensures grows { Grows pass.old pass.new }
     ensures counts { Counts (setup_of cells.now) pass.new fills.new }
+    ensures filled { IfOk result (λ _. sum fills.new ≡ sum fills.old + size_of header) }
+    ensures kept { IfErr result (λ _. fills.new ≡ fills.old) }
     ensures allocated { IfOk result (Allocates (setup_of cells.now) pass.old pass.new header) }
     ensures did { IfErr result (λ _. did pass.new ≡ did pass.old) }
     ensures refused { IfErr result (AllocationRefused (setup_of cells.now) pass.old pass.new (size_of header)) }

@@ -2,10 +2,14 @@
 #![tactic(auto)]
 
 mod allocating;
+mod calls;
 mod finding;
+pub mod flipping;
+pub mod mutator;
 pub mod pages;
 mod places;
 mod reading;
 pub mod refusal;
+pub mod space;
 mod taking;
 mod writing;

@@ -66,8 +66,9 @@ returns-clause-counts g c =
     let own = taken.taken.0 ∙ c.own_page-page.ensures.page ∙ ap (λ k. own_page u k index) c.number.ensures in
     let place = c.requires.counts.used index chosen.inside in
     let adds = made_own u old c.take.new.pass new index c.args.header c.word.result _ _ c.in_ok-write_taken.field-0 c.take.ensures.grows own place c.word.ensures c.in_ok-write_taken.ensures.adds in
+    let ends = subst (λ m. m + size_of c.args.header ≤ 64) place (subst (λ m. get_or c.args.fills.now index 0 + m ≤ 64) c.size-size.ensures chosen.room) in
     let number = c.write_taken.ensures.grows.0.number ∙ c.take.ensures.grows.0.number in
-    let more = counts_more u old new c.args.fills.now index c.in_ok-write_taken.field-0 (used u old index) c.args.header (omega (arith, c.requires.of.0.numbered)) number adds.did c.requires.counts chosen.inside place in
+    let more = counts_more u old new c.args.fills.now index c.in_ok-write_taken.field-0 (used u old index) c.args.header (omega (arith, c.requires.of.0.numbered)) number adds.did c.requires.counts chosen.inside place ends in
     let count : used u old index + size_of c.args.header ≡ get_or c.args.fills.now index 0 + c.size-size.result = ap (λ m. m + size_of c.args.header) (sym place) ∙ ap (λ m. get_or c.args.fills.now index 0 + m) (sym c.size-size.ensures) in
     subst (λ m. Counts u new (set c.args.fills.now index m)) count more
 
