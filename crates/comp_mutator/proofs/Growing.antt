@@ -51,14 +51,15 @@ module _ (a b c : Pass) where
   pub built_after : (p : ℕ) → builds_of b ≡ builds_of a → MayHaveBuilt p b c → MayHaveBuilt p a c
   built_after p same h = (h.0, h.1 ∙ ap (λ l. builds_with l p h.0) same)
 
+-- two passes of one table are about the same heap
+pub same_about : (table : Steps) (mutators : ℕ) (a b : Pass) → Works table mutators a → Works table mutators b → (view_of b).about ≡ (view_of a).about
+same_about table mutators a b of_a of_b = of_b.of.about ∙ sym of_a.of.about
+
 module _ (table : Steps) (mutators : ℕ) (a b : Pass) (of_a : Works table mutators a) (of_b : Works table mutators b) (h : Grows a b) where
-  -- two passes of one table are about the same heap
-  same_about : (view_of b).about ≡ (view_of a).about
-  same_about = of_b.of.about ∙ sym of_a.of.about
 
   -- a start that a pass knew, it knows
   pub knows_more : (x : ℕ) → KnowsStart a x → KnowsStart b x
-  knows_more x (inl place) = inl (subst (λ (u : Setup). IsPlace u.heap x) (sym same_about) place)
+  knows_more x (inl place) = inl (subst (λ (u : Setup). IsPlace u.heap x) (sym (same_about table mutators a b of_a of_b)) place)
   knows_more x (inr start) = inr (start.0, start.1, start.2, h.starts start.0 start.1 start.3)
 
   -- a reference that a pass might write, it may write

@@ -5,3 +5,4 @@ pub mod Answering
 pub mod OwnPages
 pub mod FillCounts
 pub mod SpacePasses
+pub mod Made

@@ -76,7 +76,7 @@ next_own u n i header offset journal done lt there lawful own place ends = let f
   ends = ends;
 }
 
-filled_append : (xs ys : List Entry) → filled (xs ++ ys) ≡ filled xs + filled ys
+pub filled_append : (xs ys : List Entry) → filled (xs ++ ys) ≡ filled xs + filled ys
 filled_append [] ys = sym (zero_more (filled ys))
 filled_append (x ∷ xs) ys =
     let rest = filled_append xs ys in
@@ -86,7 +86,7 @@ on_cons : (p : ℕ) (x : ℕ × Entry) (b : Bool) (l m r : List Entry) → l ≡
 on_cons p x true l m r e = ap (λ k. x.1 ∷ k) e
 on_cons p x false l m r e = e
 
-on_append : (p : ℕ) (xs ys : List (ℕ × Entry)) → on p (xs ++ ys) ≡ on p xs ++ on p ys
+pub on_append : (p : ℕ) (xs ys : List (ℕ × Entry)) → on p (xs ++ ys) ≡ on p xs ++ on p ys
 on_append p [] ys = refl
 on_append p (x ∷ xs) ys = on_cons p x (x.0 == p) (on p (xs ++ ys)) (on p xs) (on p ys) (on_append p xs ys)
 
