@@ -13,11 +13,12 @@ use Rattle.cell_steps.specs.View.{Slot}
 use Rattle.cell_steps.specs.Locks.{Journals, seen_of, IsPage, HasPage}
 use Rattle.cell_steps.specs.History.{Wrote}
 use Rattle.cell_steps.specs.Whole.{Kept, Keeps}
-use Rattle.cell_steps.specs.Plays.{Seat, after_exchange, arriving, seeing, claims_empty, claims_home}
+use Rattle.cell_steps.specs.Plays.{Seat, after_exchange, arriving, seeing, claims_empty, claims_home, FindsLast}
 use Rattle.cell_steps.specs.declared.view.View.{View}
 use Rattle.cell_steps.proofs.Sums.{look-same, look-other, starts-refl, times-other}
 use Rattle.cell_steps.proofs.LocksKept.{now_at}
 use Rattle.cell_steps.proofs.HistoryKept.{wrote_same}
+use Rattle.cell_steps.proofs.KnownStarts.{tells, named_starts}
 use Rattle.cell_steps.proofs.ViewMoves.{Goes, missed}
 use Rattle.cell_steps.proofs.PageMoves.{paged, Picks, kept_moved, built_set, free_page, told_set}
 
@@ -74,6 +75,11 @@ module _ (u : Setup) (s : State Slot View) (js : Journals) (id : ℕ) (v : View)
         goes_on = g.goes_on;
         ended = g.goes_on;
         learnt = refl;
+        rests = λ q offset e due. absurd (omega arith);
+        rests_after = λ q offset e due. absurd (omega arith);
+        starts = k.starts.known id v at_id;
+        pass = g.port;
+        last = refl;
       }
 
   -- the view of the holder
@@ -139,6 +145,11 @@ module _ (u : Setup) (s : State Slot View) (js : Journals) (id : ℕ) (v : View)
         goes_on = g.goes_on;
         ended = g.goes_on;
         learnt = refl;
+        rests = λ q offset e due. absurd (omega arith);
+        rests_after = λ q offset e due. absurd (omega arith);
+        starts = named_starts u s js id v k at_id g.about p one;
+        pass = g.port;
+        last = refl;
       }
 
 -- an exchange on an empty cell is allowed
@@ -149,6 +160,7 @@ claim_empty_allowed u slots id m p x g rests word lt s keeps_ long at_id small =
     let js = keeps_.journals in
     let v = m.0 in
     let r = get_or s.words p 0 in
+    let finds : FindsLast v p r = λ two. k.alone.finds id v at_id two p lt in
     let hit : r ≡ 0 → Picks u s id m p x (claims_empty (step slots p 0 x maybe.none) m r) =
     λ e. (
       arriving (after_exchange v p r x) p 0,
@@ -160,10 +172,10 @@ claim_empty_allowed u slots id m p x g rests word lt s keeps_ long at_id small =
             (subst (λ z. Kept u (paged s p (2 * v.known.port) maybe.none id (arriving (after_exchange v p z (2 * v.known.port)) p 0)) js) (sym e)
             (kept_building u s js id v p x k at_id g rests lt e));
       },
-      ((λ z. refl), (λ ne. absurd (ne e))),
+      ((λ z. refl), (λ ne. absurd (ne e)), finds),
     ) in
     let miss : r ≢ 0 → Picks u s id m p r (claims_empty (step slots p 0 x maybe.none) m r) =
-    λ ne. (after_exchange v p r r, keeps, tt, record { journals = js; kept = missed u s js id v p r r k at_id g.goes_on }, ((λ z. absurd (ne z)), (λ z. refl))) in
+    λ ne. (after_exchange v p r r, keeps, tt, record { journals = js; kept = missed u s js id v p r k at_id g.goes_on }, ((λ z. absurd (ne z)), (λ z. refl), finds)) in
     exchanged r 0 x (λ n. Picks u s id m p n (claims_empty (step slots p 0 x maybe.none) m r)) hit miss
 
 -- an exchange on a page that is home is allowed
@@ -174,8 +186,9 @@ claim_home_allowed u slots id m p x g rests word lt s keeps_ long at_id small =
     let js = keeps_.journals in
     let v = m.0 in
     let r = get_or s.words p 0 in
+    let finds : FindsLast v p r = λ two. k.alone.finds id v at_id two p lt in
     let hit : r ≡ 1 → Picks u s id m p x (claims_home (step slots p 1 x maybe.none) m r) =
-    λ e. let home = (k.locks.cells p lt).home e in (
+    λ e. let home = (k.locks.cells p lt).home e in let wrote = k.history.wrote id v at_id in (
       seeing (arriving (after_exchange v p 1 x) p 1) p (js p),
       takes p home.0,
       home.1,
@@ -184,8 +197,8 @@ claim_home_allowed u slots id m p x g rests word lt s keeps_ long at_id small =
         kept = subst (λ y. Kept u (paged s p y maybe.none id (seeing (arriving (after_exchange v p 1 y) p 1) p (js p))) js) (sym word)
             (kept_holding u s js id v p x k at_id g rests lt e);
       },
-      ((λ z. (js p, home.0, subst (λ t. IsPage t p (js p) home.0) (sym g.about) home.2, (k.history.wrote id v at_id).begins p, refl)), (λ ne. absurd (ne e))),
+      ((λ z. (js p, home.0, subst (λ t. IsPage t p (js p) home.0) (sym g.about) home.2, tells u s js id v k at_id g.about p, refl)), (λ ne. absurd (ne e)), finds),
     ) in
     let miss : r ≢ 1 → Picks u s id m p r (claims_home (step slots p 1 x maybe.none) m r) =
-    λ ne. (after_exchange v p r r, keeps, tt, record { journals = js; kept = missed u s js id v p r r k at_id g.goes_on }, ((λ z. absurd (ne z)), (λ z. refl))) in
+    λ ne. (after_exchange v p r r, keeps, tt, record { journals = js; kept = missed u s js id v p r k at_id g.goes_on }, ((λ z. absurd (ne z)), (λ z. refl), finds)) in
     exchanged r 1 x (λ n. Picks u s id m p n (claims_home (step slots p 1 x maybe.none) m r)) hit miss

@@ -1,5 +1,5 @@
 -- The end: what the rule says once all passes have ended.
-use Rattle.std.proofs.Common.{◌≡◌, ℕ, ◌+◌, ◌-◌, ◌%◌, ◌<◌, ◌≤◌, true, false, List, [], length, get_or, sym, refl, ap, ◌∙◌, ⊎_elim, arith, subst, None}
+use Rattle.std.proofs.Common.{◌≡◌, ℕ, ◌+◌, ◌-◌, ◌%◌, ◌<◌, ◌≤◌, true, false, List, [], length, get_or, inl, inr, sym, refl, ap, ◌∙◌, ⊎_elim, arith, subst, None}
 use Rattle.std.specs.Option.{IsSome}
 use Rattle.std.proofs.lemmas.List.{get_or_past}
 use Rattle.std.proofs.lemmas.Bool.{both_ways, cases_lt}
@@ -8,14 +8,17 @@ use native.Mathlib.Decide.{ℕ_discrete}
 use mathlib.Core.Option as maybe
 use lib.ListN.{get_elem?}
 use Rattle.atomic_table.specs.Table.{State}
+use Rattle.heap_layout.specs.declared.kind.Kind.TheVariants.{Reference}
 use Rattle.comp_journal.specs.declared.entry.Entry.{Entry}
-use Rattle.cell_steps.specs.Setup.{Setup, pages, clock_at}
+use Rattle.cell_steps.specs.Setup.{Setup, pages, fresh_page, clock_at}
 use Rattle.cell_steps.specs.Lists.{look, times, total, stamps, by, StartsWith, Rises}
 use Rattle.cell_steps.specs.View.{Known, Slot}
 use Rattle.cell_steps.specs.Locks.{Journals, told_at, Someone}
+use Rattle.cell_steps.specs.Lawful.{IsLawful}
+use Rattle.cell_steps.specs.Starts.{HasHeadBefore}
 use Rattle.cell_steps.specs.Ended.{IsLast}
 use Rattle.cell_steps.specs.Whole.{Kept}
-use Rattle.cell_steps.specs.Closing.{journal_in, page_at, journal_at, HasBase, IsToldBySome, Complete, Gathered}
+use Rattle.cell_steps.specs.Closing.{journal_in, page_at, journal_at, HasBase, LeadsToStart, IsToldBySome, Complete, Gathered}
 use Rattle.cell_steps.specs.declared.view.View.{View}
 use Rattle.cell_steps.proofs.Sums.{read_at, there_at, some_term, term_le, terms_le, below-ext}
 
@@ -157,6 +160,20 @@ module _ (u : Setup) (s : State Slot View) (js : Journals) (id : ℕ) (v : View)
         once = λ p. omega (arith, term_le (told_at p) s.views last.0 last.1 last.2, (page_ends p).once);
       }
 
+  -- references lead to older starts
+  leads_ends : (p i : ℕ) (x : Entry) → get_elem? (journal_at slots p) i ≡ maybe.some x → x.kind ≡ Reference → LeadsToStart u slots x.stamp x.value
+  leads_ends p i x at kind = dite (ℕ_discrete x.value 0) (λ z. inl z)
+      (λ some. ⊎_elim (λ place. inr (inl place))
+      (λ f. inr (inr record {
+        page = f.0.page;
+        offset = f.0.offset;
+        fresh = f.0.fresh;
+        inside = f.0.inside;
+        at = f.0.at;
+        made = subst (λ l. HasHeadBefore l f.0.offset x.stamp) (sym (journal_is (fresh_page u f.0.page))) f.1;
+      }))
+      (k.starts.references p i x (ap (λ l. get_elem? l i) (sym (journal_is p)) ∙ at) kind some))
+
   -- the closing statement
   pub gathered : Gathered u slots knowns
   gathered = record {
@@ -166,6 +183,8 @@ module _ (u : Setup) (s : State Slot View) (js : Journals) (id : ℕ) (v : View)
     apart = apart_ends;
     stamps = (get_or s.words (clock_at u) 0, λ f. below-ext (λ p. stamps f (journal_at slots p)) (λ p. stamps f (js p)) (pages u) (λ p lt. ap (stamps f) (journal_is p)) ∙ k.history.sums f);
     rises = λ p. (get_or s.words (clock_at u) 0, subst (λ l. Rises 0 l (get_or s.words (clock_at u) 0)) (sym (journal_is p)) (k.history.rises p));
+    lawful = λ p. subst (IsLawful u p) (sym (journal_is p)) (k.lawful p);
+    references = leads_ends;
     complete = complete_ends;
     strangers = λ i p le.
         let first = there_at knowns 0 e.some in

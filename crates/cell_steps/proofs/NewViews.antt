@@ -18,7 +18,9 @@ use Rattle.cell_steps.proofs.Sums.{each-one, each-set, each-append}
 use Rattle.cell_steps.proofs.LocksKept as locks
 use Rattle.cell_steps.proofs.LocksKept.{placed_same, locks_stay, locks_joined, now_at}
 use Rattle.cell_steps.proofs.HistoryKept.{wrote_nothing, wrote_same, history_stays, history_joined}
+use Rattle.cell_steps.proofs.StartsKept.{bits_of, dues_same, starts_stay, starts_joined}
 use Rattle.cell_steps.proofs.EndedKept.{ended_stays, Enters, ended_joined}
+use Rattle.cell_steps.proofs.AloneKept.{alone_still, alone_joined}
 use Rattle.cell_steps.proofs.ViewMoves.{Goes}
 
 -- the table as the rule reads it
@@ -31,12 +33,15 @@ viewed s views = record { words = s.words; homes = s.homes; views = views }
 
 -- the rule with a view more
 kept_joined : (u : Setup) (s : St) (js : Journals) (x : View) → Kept u s js → locks.Joins u s.views x → Wrote (get_or s.words (clock_at u) 0) js x
-    → Enters s.views x
+    → Enters s.views x → x.known.starts ≡ []
     → Kept u (viewed s (s.views ++ x ∷ [])) js
-kept_joined u s js x k new wrote enters = record {
+kept_joined u s js x k new wrote enters none = record {
   locks = locks_joined u s.words s.homes s.views js x k.locks new;
   history = history_joined u (get_or s.words (clock_at u) 0) s.views js x k.history wrote;
+  lawful = k.lawful;
+  starts = starts_joined u (bits_of u s.words) (get_or s.words (clock_at u) 0) s.views js x new.at none k.starts;
   ended = ended_joined s.views x enters k.ended;
+  alone = alone_joined u s.words s.views x enters.next k.alone;
 }
 
 -- the first pass makes the next one
@@ -63,6 +68,8 @@ make_allowed u id v g lt s keeps_ at_id =
         rises = wrote.rises;
         strangers = λ j more le p. wrote.strangers j lt (omega arith) p;
       };
+      lawful = k.lawful;
+      starts = starts_stay u (bits_of u s.words) (get_or s.words (clock_at u) 0) s.views js id v (making v) at_id (dues_same u (bits_of u s.words) v (making v) refl refl (k.starts.known id v at_id)) k.starts;
       ended = ended_stays s.views id v (making v) at_id record {
         same = λ e. absurd (both_ways v.ended g.goes_on e);
         rests = λ e. absurd (both_ways v.ended g.goes_on e);
@@ -70,6 +77,7 @@ make_allowed u id v g lt s keeps_ at_id =
         port = refl;
         next = ((λ more. lt), omega arith);
       } k.ended;
+      alone = alone_still u s.words s.words s.views id v (making v) at_id record { same = λ q inside. refl; next = λ two. absurd (omega (arith, g.port, mine.ports lt id v at_id)); last = λ two q inside e. e } k.alone;
     } in
     record {
       journals = js;
@@ -89,7 +97,7 @@ make_allowed u id v g lt s keeps_ at_id =
             port = λ j y e more. ⊎_elim (λ t. let is = ap (λ (z : View). z.known.next) t.1 in omega (arith, is))
                 (λ t. let only_first = (k.ended.closes j y t.1).maker more in absurd (t.0 (k.locks.single j id y v t.1 at_id (omega (arith, only_first)) (only_first ∙ sym (mine.maker lt)))))
                 (at_set s.views id j (making v) y e);
-          };
+          } refl;
     }
 
 -- a pass ends
@@ -109,6 +117,8 @@ end_allowed u id v goes rests s keeps_ at_id =
       };
       history = history_stays u (get_or s.words (clock_at u) 0) s.views js id (ending v) k.history
           (wrote_same (get_or s.words (clock_at u) 0) js v (ending v) refl refl refl refl (k.history.wrote id v at_id));
+      lawful = k.lawful;
+      starts = starts_stay u (bits_of u s.words) (get_or s.words (clock_at u) 0) s.views js id v (ending v) at_id (dues_same u (bits_of u s.words) v (ending v) refl refl (k.starts.known id v at_id)) k.starts;
       ended = ended_stays s.views id v (ending v) at_id record {
         same = λ e. absurd (both_ways v.ended goes e);
         rests = λ e. rests;
@@ -116,6 +126,7 @@ end_allowed u id v goes rests s keeps_ at_id =
         port = refl;
         next = ((λ more. more), omega arith);
       } k.ended;
+      alone = alone_still u s.words s.words s.views id v (ending v) at_id record { same = λ q inside. refl; next = λ two. two; last = λ two q inside e. e } k.alone;
     } in
     let here : IsLast views v.known = (id, ending v, now_at s.views id v (ending v) at_id, refl, refl) in
     record {
@@ -134,7 +145,7 @@ end_allowed u id v goes rests s keeps_ at_id =
             learnt = each-one (IsLast views) v.known here;
             next = refl;
             port = λ j y e more. more;
-          };
+          } refl;
     }
 
 -- one note takes in another
@@ -158,6 +169,8 @@ learn_allowed u id other v w known at goes known' at' goes' s keeps_ at_id ne at
         port = refl;
       };
       history = history_stays u clock s.views js id both k.history (wrote_same clock js v both refl refl refl refl (k.history.wrote id v at_id));
+      lawful = k.lawful;
+      starts = starts_stay u (bits_of u s.words) (get_or s.words (clock_at u) 0) s.views js id v both at_id (dues_same u (bits_of u s.words) v both refl refl (k.starts.known id v at_id)) k.starts;
       ended = ended_stays s.views id v both at_id record {
         same = λ e. absurd (both_ways v.ended goes e);
         rests = λ e. at;
@@ -165,6 +178,7 @@ learn_allowed u id other v w known at goes known' at' goes' s keeps_ at_id ne at
         port = refl;
         next = ((λ more. more), omega arith);
       } k.ended;
+      alone = alone_still u s.words s.words s.views id v both at_id record { same = λ q inside. refl; next = λ two. two; last = λ two q inside e. e } k.alone;
     } in
     record {
       journals = js;
@@ -181,6 +195,12 @@ learn_allowed u id other v w known at goes known' at' goes' s keeps_ at_id ne at
           port = ap (λ (x : Known). x.port) (sym known');
         };
         history = history_stays u clock views js other nobody first.history (wrote_nothing clock js nobody refl refl (λ j port. absurd (omega arith)) refl);
+        lawful = k.lawful;
+        starts = starts_stay u (bits_of u s.words) clock views js other w nobody at_other record {
+          stays = λ p offset e due. absurd (omega (arith, at'));
+          was = λ p offset e due. absurd (omega arith);
+          known = λ i a e. absurd (maybe.some-ne-none a (sym e));
+        } first.starts;
         ended = ended_stays views other w nobody at_other record {
           same = λ e. absurd (both_ways w.ended goes' e);
           rests = λ e. refl;
@@ -188,5 +208,6 @@ learn_allowed u id other v w known at goes known' at' goes' s keeps_ at_id ne at
           port = ap (λ (x : Known). x.port) (sym known');
           next = ((λ more. absurd (omega arith)), omega (arith, ap (λ (x : Known). x.next) known'));
         } first.ended;
+        alone = alone_still u s.words s.words views other w nobody at_other record { same = λ q inside. refl; next = λ two. absurd (omega arith); last = λ two. absurd (omega arith) } first.alone;
       };
     }

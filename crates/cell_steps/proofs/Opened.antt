@@ -1,18 +1,25 @@
 -- The table at the start.
-use Rattle.std.proofs.Common.{◌≡◌, ℕ, zero, suc, ◌+◌, ◌%◌, ◌<◌, ◌≤◌, List, [], ◌∷◌, map, get_or, replicate, sym, refl, ap, ◌∙◌, arith, subst, None}
+use Rattle.std.proofs.Common.{◌≡◌, ℕ, zero, suc, ◌+◌, ◌%◌, ◌^◌, ◌<◌, ◌≤◌, List, [], ◌∷◌, map, get_or, replicate, sym, refl, ap, ◌∙◌, arith, subst, None}
 use mathlib.Core.Option as maybe
 use lib.ListN.{get_elem?}
 use Rattle.atomic_table.specs.Table.{opening}
+use Rattle.std.specs.Int.{bit_at}
+use Rattle.std.proofs.lemmas.Nat.Bits.{bit_at-zero}
+use Rattle.heap_layout.specs.Heap.{live}
+use Rattle.page_plan.specs.Sliding as sliding
 use Rattle.std.proofs.lemmas.List.{length-map, length-replicate, get_or-replicate}
-use Rattle.cell_steps.specs.Setup.{Setup, pages, clock_at}
-use Rattle.cell_steps.specs.Lists.{total}
+use Rattle.cell_steps.specs.Setup.{Setup, pages, starts_at, clock_at}
+use Rattle.cell_steps.specs.Lists.{total, Each}
 use Rattle.cell_steps.specs.View.{Slot}
 use Rattle.cell_steps.specs.History.{History, Wrote}
 use Rattle.cell_steps.specs.Locks.{told_at, Cell, Placed}
+use Rattle.cell_steps.specs.Starts.{HasHeadBefore, IsStart}
 use Rattle.cell_steps.specs.Ended.{Closes}
+use Rattle.cell_steps.specs.Alone.{FindsAll}
 use Rattle.cell_steps.specs.Whole.{Keeps, first_view}
 use Rattle.cell_steps.specs.declared.view.View.{View}
 use Rattle.cell_steps.proofs.Sums.{each-one, starts-nil, below-zero}
+use Rattle.cell_steps.proofs.StartsKept.{bits_of}
 
 -- so many words that are 0
 abbrev pub zeros : ℕ → List ℕ
@@ -43,21 +50,22 @@ one_view : {A : Type 0} (a x : A) (j : ℕ) → get_elem? (a ∷ []) j ≡ maybe
 one_view a x zero e = refl
 one_view a x (suc j) e = absurd (maybe.some-ne-none x (sym e))
 
--- the rule holds of the opening state: all cells are empty, and the clock is 0
-pub keeps_opening : (u : Setup) (n : ℕ) → u.compacted ≡ n → n ≤ 1073741824 → Keeps u (opening (zeros (n + 1)) (empty_slots n) (first_view u))
-keeps_opening u n same few =
+-- the rule holds of the opening state: all cells are empty, no start bit is set, and the clock is 0
+pub keeps_opening : (u : Setup) (n w : ℕ) → pages u ≡ n → w ≡ clock_at u + 1 → n ≤ 2 ^ 31 → u.compacted ≡ sliding.pages (live u.heap)
+    → Keeps u (opening (zeros w) (empty_slots n) (first_view u))
+keeps_opening u n w same wide few slid =
     let v = first_view u in
-    let word : (p : ℕ) → p < n + 1 → get_or (zeros (n + 1)) p 0 ≡ 0 = λ p lt. get_or-replicate {A = ℕ} (n + 1) p 0 0 lt in
-    let clock : get_or (zeros (n + 1)) (clock_at u) 0 ≡ 0 = word (clock_at u) (omega arith) in
+    let word : (p : ℕ) → p < w → get_or (zeros w) p 0 ≡ 0 = λ p lt. get_or-replicate {A = ℕ} w p 0 0 lt in
+    let clock : get_or (zeros w) (clock_at u) 0 ≡ 0 = word (clock_at u) (omega arith) in
     record {
       journals = λ p. [];
       kept = record {
         locks = record {
-          wide = omega (arith, length-replicate {A = ℕ} (n + 1) 0, same);
+          wide = length-replicate {A = ℕ} w 0 ∙ wide;
           slots = length-map (empty_slots n) maybe.some ∙ length-replicate {A = Slot} n None ∙ sym same;
-          cells = λ p lt. empty_cell u (get_or (zeros (n + 1)) p 0) (map maybe.some (empty_slots n)) (v ∷ []) p (word p (omega arith)) (empty_slot n p (omega arith)) refl;
+          cells = λ p lt. empty_cell u (get_or (zeros w) p 0) (map maybe.some (empty_slots n)) (v ∷ []) p (word p (omega arith)) (empty_slot n p (omega (arith, same))) refl;
           outside = λ p le. refl;
-          placed = each-one (Placed u (zeros (n + 1)) (λ p. [])) v record {
+          placed = each-one (Placed u (zeros w) (λ p. [])) v record {
             about = λ lt. refl;
             at = λ p e. absurd (omega arith);
             told = λ e. refl;
@@ -78,6 +86,16 @@ keeps_opening u n same few =
             strangers = λ k lt le p. refl;
           };
         };
+        lawful = λ p. tt;
+        starts = record {
+          slid = slid;
+          references = λ p i e at. absurd (maybe.some-ne-none e (sym at));
+          heads = λ j offset lt set. absurd (omega (arith, set, ap (λ m. bit_at m offset) (word (starts_at u j) (omega arith)), bit_at-zero offset));
+          set = λ j i e lt at. absurd (maybe.some-ne-none e (sym at));
+          owing = each-one (λ (x : View). (p offset : ℕ) → x.at ≡ p + 1 → x.owes ≡ offset + 1 → HasHeadBefore [] offset (get_or (zeros w) (clock_at u) 0)) v
+              (λ p offset at owes. absurd (omega arith));
+          known = each-one (λ (x : View). Each x.known.starts (IsStart u (bits_of u (zeros w)))) v (λ i a e. absurd (maybe.some-ne-none a (sym e)));
+        };
         ended = record {
           closes = each-one (Closes (v ∷ [])) v record {
             rests = λ e. refl;
@@ -86,5 +104,6 @@ keeps_opening u n same few =
             ports = λ lt. each-one (λ (w : View). w.known.port < 2) v (omega arith);
           };
         };
+        alone = record { finds = each-one (λ (x : View). x.known.next ≡ 2 → FindsAll u (zeros w) x) v (λ two p lt. word p (omega arith)) };
       };
     }

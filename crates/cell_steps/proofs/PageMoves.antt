@@ -1,24 +1,27 @@
 -- Steps that change the state word and the slot of one page.
 use Rattle.std.proofs.lemmas.Bool.{both_ways}
-use Rattle.std.proofs.Common.{◌≡◌, ℕ, ◌+◌, ◌%◌, ◌<◌, ◌≢◌, false, List, length, get_or, set, sym, refl, ap, ◌∙◌, arith, subst, length-set, get_or-set_other, get_or-set_same}
+use Rattle.std.proofs.Common.{◌≡◌, ℕ, ◌+◌, ◌%◌, ◌<◌, ◌≢◌, false, List, ◌∷◌, length, get_or, set, sym, refl, ap, ◌∙◌, arith, subst, length-set, get_or-set_other, get_or-set_same}
 use mathlib.Core.Logic.{dite}
 use native.Mathlib.Decide.{ℕ_discrete}
 use mathlib.Core.Option as maybe
 use lib.ListN.{get_elem?}
 use Rattle.atomic_table.specs.Table.{State, Act, Valid, stepped, carried_after}
 use Rattle.atomic_table.proofs.Lists.{set_else}
-use Rattle.cell_steps.specs.Setup.{Setup, pages, clock_at}
-use Rattle.cell_steps.specs.Lists.{total}
+use Rattle.cell_steps.specs.Setup.{Setup, pages, starts_at, clock_at}
+use Rattle.cell_steps.specs.Lists.{total, Each}
 use Rattle.cell_steps.specs.View.{Known, Slot}
 use Rattle.cell_steps.specs.Locks.{Journals, told_at, Cell, Placed, Locks}
 use Rattle.cell_steps.specs.History.{Wrote, History}
+use Rattle.cell_steps.specs.Starts.{IsStart, Starts}
 use Rattle.cell_steps.specs.Whole.{Kept, Keeps}
 use Rattle.cell_steps.specs.Plays.{Seat}
 use Rattle.cell_steps.specs.declared.view.View.{View}
 use Rattle.cell_steps.proofs.Sums.{total-set}
 use Rattle.cell_steps.proofs.LocksKept.{locks_moved}
 use Rattle.cell_steps.proofs.HistoryKept.{history_stays}
+use Rattle.cell_steps.proofs.StartsKept.{bits_of, starts_stay, starts_bits}
 use Rattle.cell_steps.proofs.EndedKept.{ended_stays}
+use Rattle.cell_steps.proofs.AloneKept.{alone_moved}
 
 -- the table once the seat `id` has the view w, and made n of the state word of page p and h of its slot
 abbrev pub paged : State Slot View → ℕ → ℕ → maybe.Option Slot → ℕ → View → State Slot View
@@ -45,12 +48,31 @@ pub record PageMoves (u : Setup) (s : State Slot View) (js : Journals) (id : ℕ
   pub goes_on : v.ended ≡ false
   pub ended : w.ended ≡ false
   pub learnt : w.learnt ≡ v.learnt
+  -- no start bit is due, neither before nor after
+  pub rests : (q offset : ℕ) → v.at ≡ q + 1 → v.owes ≡ offset + 1 → ⊥
+  pub rests_after : (q offset : ℕ) → w.at ≡ q + 1 → w.owes ≡ offset + 1 → ⊥
+  pub starts : Each w.known.starts (IsStart u (bits_of u s.words))
+  pub pass : 0 < v.known.port
+  pub last : w.last ≡ (p, n) ∷ v.last
 
 module _ (u : Setup) (s : State Slot View) (js : Journals) (id : ℕ) (v w : View) (p n : ℕ) (h : maybe.Option Slot) (k : Kept u s js)
     (at_id : get_elem? s.views id ≡ maybe.some v) (m : PageMoves u s js id v w p n h) where
   -- the word of the page
   word_now : get_or (set s.words p n) p 0 ≡ n
   word_now = let lt : p < length s.words = omega (arith, m.inside, k.locks.wide) in get_or-set_same s.words p n 0 lt
+
+  -- the starts after the step
+  starts_moved : Starts u (bits_of u (set s.words p n)) (get_or (set s.words p n) (clock_at u) 0) (set s.views id w) js
+  starts_moved =
+      let clock : get_or (set s.words p n) (clock_at u) 0 ≡ get_or s.words (clock_at u) 0 = get_or-set_other s.words p (clock_at u) n 0 (λ e. omega (arith, m.inside)) in
+      subst (λ c. Starts u (bits_of u (set s.words p n)) c (set s.views id w) js) (sym clock)
+      (starts_bits u (bits_of u s.words) (bits_of u (set s.words p n)) (get_or s.words (clock_at u) 0) (set s.views id w) js
+      (λ j lt. get_or-set_other s.words p (starts_at u j) n 0 (λ e. omega (arith, m.inside)))
+      (starts_stay u (bits_of u s.words) (get_or s.words (clock_at u) 0) s.views js id v w at_id record {
+        stays = λ q offset at due. absurd (m.rests q offset at due);
+        was = λ q offset at due. absurd (m.rests_after q offset at due);
+        known = m.starts;
+      } k.starts))
 
   -- the rule after the step
   pub kept_moved : Kept u (paged s p n h id w) js
@@ -71,6 +93,8 @@ module _ (u : Setup) (s : State Slot View) (js : Journals) (id : ℕ) (v w : Vie
     };
     history = let clock : get_or (set s.words p n) (clock_at u) 0 ≡ get_or s.words (clock_at u) 0 = get_or-set_other s.words p (clock_at u) n 0 (λ e. omega (arith, m.inside)) in
         subst (λ c. History u c (set s.views id w) js) (sym clock) (history_stays u (get_or s.words (clock_at u) 0) s.views js id w k.history m.wrote);
+    lawful = k.lawful;
+    starts = starts_moved;
     ended = let mine = k.ended.closes id v at_id in ended_stays s.views id v w at_id record {
       same = λ e. absurd (both_ways v.ended m.goes_on e);
       rests = λ e. absurd (both_ways w.ended m.ended e);
@@ -78,6 +102,8 @@ module _ (u : Setup) (s : State Slot View) (js : Journals) (id : ℕ) (v w : Vie
       port = m.port;
       next = ((λ lt. omega (arith, m.next)), omega (arith, m.next));
     } k.ended;
+    alone = let lt : p < length s.words = omega (arith, m.inside, k.locks.wide) in
+        alone_moved u s.words s.homes s.views js k.locks k.ended id v at_id w p n m.pass lt m.next m.last k.alone;
   }
 
 -- a page that was built is built after its word, or another's, has changed

@@ -27,7 +27,7 @@ told-other : (p q : ℕ) (xs : List ℕ) → q ≢ p → times q (xs ++ p ∷ []
 told-other p q xs ne = omega (arith, total-append (only q) xs (p ∷ []), times-other q p [] ne)
 
 module _ (u : Setup) (s : State Slot View) (js : Journals) (id : ℕ) (v : View) (p : ℕ) (slot : Slot) (k : Kept u s js)
-    (at_id : get_elem? s.views id ≡ maybe.some v) (g : Goes u v) (at : v.at ≡ p + 1) where
+    (at_id : get_elem? s.views id ≡ maybe.some v) (g : Goes u v) (at : v.at ≡ p + 1) (owes : v.owes ≡ 0) where
   -- the page is the seat's
   mine : HasPage u s.words js p v
   mine = (k.locks.placed id v at_id).at p at
@@ -79,6 +79,11 @@ module _ (u : Setup) (s : State Slot View) (js : Journals) (id : ℕ) (v : View)
         goes_on = g.goes_on;
         ended = g.goes_on;
         learnt = refl;
+        rests = λ q offset e due. absurd (omega (arith, owes));
+        rests_after = λ q offset e due. absurd (omega arith);
+        starts = k.starts.known id v at_id;
+        pass = g.port;
+        last = refl;
       }
 
   -- after a hold
@@ -113,6 +118,11 @@ module _ (u : Setup) (s : State Slot View) (js : Journals) (id : ℕ) (v : View)
         goes_on = g.goes_on;
         ended = g.goes_on;
         learnt = refl;
+        rests = λ q offset e due. absurd (omega (arith, owes));
+        rests_after = λ q offset e due. absurd (omega arith);
+        starts = k.starts.known id v at_id;
+        pass = g.port;
+        last = refl;
       }
 
   -- after a build that is given up
@@ -147,6 +157,11 @@ module _ (u : Setup) (s : State Slot View) (js : Journals) (id : ℕ) (v : View)
         goes_on = g.goes_on;
         ended = g.goes_on;
         learnt = refl;
+        rests = λ q offset e due. absurd (omega (arith, owes));
+        rests_after = λ q offset e due. absurd (omega arith);
+        starts = k.starts.known id v at_id;
+        pass = g.port;
+        last = refl;
       }
 
 -- a seat with its slots
@@ -154,24 +169,24 @@ seat_is : (m : Seat) (c : List (ℕ × Slot)) → m.1 ≡ c → m ≡ (m.0, c)
 seat_is m c e = λ i. (m.0, e i)
 
 -- the store after a build is allowed
-pub send_new_allowed : (u : Setup) (slots id : ℕ) (m : Seat) (p : ℕ) (slot : Slot) → Goes u m.0 → m.0.at ≡ p + 1 → m.0.mode ≡ 0
+pub send_new_allowed : (u : Setup) (slots id : ℕ) (m : Seat) (p : ℕ) (slot : Slot) → Goes u m.0 → m.0.at ≡ p + 1 → m.0.mode ≡ 0 → m.0.owes ≡ 0
     → m.1 ≡ (p, slot) ∷ [] → IsPage u p [] slot
     → Allows (Keeps u) slots id m p (λ _. 1) (λ _. builds (step slots p 1 0 maybe.none) m 1)
-send_new_allowed u slots id m p slot g at building carried page =
+send_new_allowed u slots id m p slot g at building owes carried page =
     subst (λ (n : Seat). Allows (Keeps u) slots id n p (λ _. 1) (λ _. builds (step slots p 1 0 maybe.none) n 1)) (sym (seat_is m ((p, slot) ∷ []) carried))
-    (λ s keeps_ long at_id small. (telling (leaving m.0 p 1) p, gives, tt, record { journals = keeps_.journals; kept = kept_built u s keeps_.journals id m.0 p slot keeps_.kept at_id g at building page }, refl))
+    (λ s keeps_ long at_id small. (telling (leaving m.0 p 1) p, gives, tt, record { journals = keeps_.journals; kept = kept_built u s keeps_.journals id m.0 p slot keeps_.kept at_id g at owes building page }, refl))
 
 -- the store after a hold is allowed
-pub send_home_allowed : (u : Setup) (slots id : ℕ) (m : Seat) (p : ℕ) (slot : Slot) → Goes u m.0 → m.0.at ≡ p + 1 → m.0.mode ≡ 1
+pub send_home_allowed : (u : Setup) (slots id : ℕ) (m : Seat) (p : ℕ) (slot : Slot) → Goes u m.0 → m.0.at ≡ p + 1 → m.0.mode ≡ 1 → m.0.owes ≡ 0
     → m.1 ≡ (p, slot) ∷ [] → IsPage u p (seen_of m.0 p) slot
     → Allows (Keeps u) slots id m p (λ _. 1) (λ _. returns_home (step slots p 1 0 maybe.none) m 1)
-send_home_allowed u slots id m p slot g at holding carried page =
+send_home_allowed u slots id m p slot g at holding owes carried page =
     subst (λ (n : Seat). Allows (Keeps u) slots id n p (λ _. 1) (λ _. returns_home (step slots p 1 0 maybe.none) n 1)) (sym (seat_is m ((p, slot) ∷ []) carried))
-    (λ s keeps_ long at_id small. (leaving m.0 p 1, gives, tt, record { journals = keeps_.journals; kept = kept_returned u s keeps_.journals id m.0 p slot keeps_.kept at_id g at holding page }, refl))
+    (λ s keeps_ long at_id small. (leaving m.0 p 1, gives, tt, record { journals = keeps_.journals; kept = kept_returned u s keeps_.journals id m.0 p slot keeps_.kept at_id g at owes holding page }, refl))
 
 -- the store that gives a build up is allowed
-pub give_up_allowed : (u : Setup) (slots id : ℕ) (m : Seat) (p : ℕ) → Goes u m.0 → m.0.at ≡ p + 1 → m.0.mode ≡ 0 → m.1 ≡ (p, None) ∷ []
+pub give_up_allowed : (u : Setup) (slots id : ℕ) (m : Seat) (p : ℕ) → Goes u m.0 → m.0.at ≡ p + 1 → m.0.mode ≡ 0 → m.0.owes ≡ 0 → m.1 ≡ (p, None) ∷ []
     → Allows (Keeps u) slots id m p (λ _. 0) (λ _. gives_up (step slots p 0 0 maybe.none) m 0)
-give_up_allowed u slots id m p g at building carried =
+give_up_allowed u slots id m p g at building owes carried =
     subst (λ (n : Seat). Allows (Keeps u) slots id n p (λ _. 0) (λ _. gives_up (step slots p 0 0 maybe.none) n 0)) (sym (seat_is m ((p, None) ∷ []) carried))
-    (λ s keeps_ long at_id small. (leaving m.0 p 0, gives, tt, record { journals = keeps_.journals; kept = kept_given_up u s keeps_.journals id m.0 p None keeps_.kept at_id g at building refl }, refl))
+    (λ s keeps_ long at_id small. (leaving m.0 p 0, gives, tt, record { journals = keeps_.journals; kept = kept_given_up u s keeps_.journals id m.0 p None keeps_.kept at_id g at owes building refl }, refl))

@@ -1,13 +1,16 @@
 -- What is known once all passes have ended.
-use Rattle.std.specs.Prelude.{◌≡◌, ℕ, ◌<◌, ◌≤◌, List, [], map, length, slice_index_or, Some, None, IsSome}
+use Rattle.std.specs.Prelude.{◌≡◌, ℕ, ◌<◌, ◌≤◌, ◌⊎◌, List, [], map, length, slice_index_or, Some, None, IsSome}
 use mathlib.Core.Option as maybe
 use mathlib.Core.Logic.{◌↔◌}
 use lib.ListN.{get_elem?}
+use Rattle.heap_layout.specs.declared.kind.Kind.TheVariants.{Reference}
 use Rattle.comp_journal.specs.declared.entry.Entry.{Entry}
-use Rattle.cell_steps.specs.Setup.{Setup, pages, base_of}
+use Rattle.cell_steps.specs.Setup.{Setup, pages, fresh_page, base_of, address}
 use Rattle.cell_steps.specs.Lists.{look, times, below, stamps, by, on, StartsWith, Rises}
 use Rattle.cell_steps.specs.View.{Known, Slot}
 use Rattle.cell_steps.specs.History.{entry_of}
+use Rattle.cell_steps.specs.Lawful.{IsLawful}
+use Rattle.cell_steps.specs.Starts.{IsPlace, HasHeadBefore}
 
 -- the journal of a page that was built; the others have no entry
 abbrev pub journal_in : Slot → List Entry
@@ -26,6 +29,19 @@ journal_at slots p = journal_in (page_at slots p)
 abbrev pub HasBase : Setup → ℕ → Slot → Type 0
 HasBase u p None = Unit {0}
 HasBase u p (Some page) = page.page.base ≡ base_of u p
+
+-- a fresh object starts at the address, and its header has a stamp below n
+pub record IsFreshBefore (u : Setup) (slots : List Slot) (n a : ℕ) : Type 0 where
+  pub page : ℕ
+  pub offset : ℕ
+  pub fresh : page < u.fresh
+  pub inside : offset < 64
+  pub at : a ≡ address (fresh_page u page) offset
+  pub made : HasHeadBefore (journal_at slots (fresh_page u page)) offset n
+
+-- a reference that was written with the stamp n: null, or an object's start that is older
+abbrev pub LeadsToStart : Setup → List Slot → ℕ → ℕ → Type 0
+LeadsToStart u slots n a = (a ≡ 0) ⊎ IsPlace u.heap a ⊎ IsFreshBefore u slots n a
 
 -- some pass built page p
 abbrev pub IsToldBySome : List Known → ℕ → Type 0
@@ -56,6 +72,10 @@ pub record Gathered (u : Setup) (slots : List Slot) (passes : List Known) : Type
   -- the stamps of all entries are the numbers below some number, each once
   pub stamps : (clock : ℕ) × ((f : ℕ → ℕ) → below (λ p. stamps f (journal_at slots p)) (pages u) ≡ below f clock)
   pub rises : (p : ℕ) → (n : ℕ) × Rises 0 (journal_at slots p) n
+  -- each journal is lawful
+  pub lawful : (p : ℕ) → IsLawful u p (journal_at slots p)
+  -- each reference that was written leads to a start that is older
+  pub references : (p i : ℕ) (e : Entry) → get_elem? (journal_at slots p) i ≡ maybe.some e → e.kind ≡ Reference → LeadsToStart u slots e.stamp e.value
   -- of each pass
   pub complete : (k : ℕ) (known : Known) → get_elem? passes k ≡ maybe.some known → Complete slots k known
   -- no one else wrote

@@ -1,5 +1,5 @@
 -- The history: one clock for all journals, and each pass's own entries in them.
-use Rattle.std.specs.Prelude.{◌≡◌, ℕ, ◌+◌, ◌<◌, ◌≤◌, List, [], map, length}
+use Rattle.std.specs.Prelude.{◌≡◌, ℕ, ◌+◌, ◌^◌, ◌<◌, ◌≤◌, List, [], map, length}
 use Rattle.comp_journal.specs.declared.entry.Entry.{Entry}
 use Rattle.cell_steps.specs.Setup.{Setup, pages}
 use Rattle.cell_steps.specs.Lists.{below, stamps, by, on, StartsWith, Rises, Each}
@@ -32,6 +32,6 @@ pub record History (u : Setup) (clock : ℕ) (views : List View) (journals : Jou
   -- nothing was written where no page is
   pub outside : (p : ℕ) → pages u ≤ p → journals p ≡ []
   -- there are few pages, so that the clock cannot pass its word
-  pub few : pages u ≤ 1073741824
+  pub few : pages u ≤ 2 ^ 31
   -- each view is as the journals say
   pub wrote : Each views (Wrote clock journals)

@@ -3,14 +3,16 @@ use Rattle.std.specs.Prelude.{◌≡◌, ◌≢◌, ℕ, ◌<◌, ◌≤◌, Lis
 use Rattle.comp_journal.specs.declared.entry.Entry.{Entry}
 use Rattle.cell_steps.specs.Lists.{times, StartsWith, Rises}
 use Rattle.cell_steps.specs.Locks.{seen_of}
+use Rattle.cell_steps.specs.Starts.{KnowsFresh}
 use Rattle.cell_steps.specs.declared.view.View.{View}
 
--- What each step leaves: the pass is the same one, pages that were seen built stay so, and lost steps stay lost.
+-- What each step leaves: the pass is the same one, pages that were seen built stay so, starts that were known stay known, and lost steps stay lost.
 pub record Grows (v w : View) : Type 0 where
   pub port : w.known.port ≡ v.known.port
   pub next : w.known.next ≡ v.known.next
   pub built : (q : ℕ) → 0 < times q v.known.built → 0 < times q w.known.built
   pub lost : (q : ℕ) → times q v.lost ≤ times q w.lost
+  pub starts : (p offset : ℕ) → KnowsFresh v p offset → KnowsFresh w p offset
 
 -- The pass did and built nothing, and has seen of each page what it had seen.
 pub record KnowsAsBefore (v w : View) : Type 0 where

@@ -3,7 +3,10 @@ pub mod Lists
 pub mod View
 pub mod Locks
 pub mod History
+pub mod Lawful
+pub mod Starts
 pub mod Ended
+pub mod Alone
 pub mod Whole
 pub mod Plays
 pub mod Knowing

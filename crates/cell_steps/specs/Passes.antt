@@ -1,5 +1,5 @@
 -- What callers know of a pass.
-use Rattle.std.specs.Prelude.{◌≡◌, ℕ, ◌+◌, ◌-◌, ◌<◌, ◌*◌, length, vec_len, vec_capacity, false, List, [], ◌∷◌, None}
+use Rattle.std.specs.Prelude.{◌≡◌, ℕ, ◌+◌, ◌-◌, ◌<◌, ◌≤◌, ◌*◌, length, vec_len, vec_capacity, false, List, [], ◌∷◌, None}
 use mathlib.Core.Option.{some}
 use lib.ListN.{get_elem?}
 use Rattle.comp_journal.specs.Journal.{Journaled}
@@ -9,6 +9,7 @@ use Rattle.cell_steps.specs.Setup.{Setup, setup_of, base_of}
 use Rattle.cell_steps.specs.Lists.{look, times}
 use Rattle.cell_steps.specs.View.{Known, Slot}
 use Rattle.cell_steps.specs.Locks.{seen_of}
+use Rattle.cell_steps.specs.Starts as starts
 use Rattle.cell_steps.specs.declared.view.View.{View}
 use Rattle.cell_steps.specs.declared.pass.Pass.{Pass}
 use Rattle.cell_steps.specs.declared.steps.Steps.{Steps}
@@ -72,19 +73,37 @@ pub record Rests (pass : Pass) : Type 0 where
   pub at : (view_of pass).at ≡ 0
   pub carried : carried pass ≡ []
 
--- the pass has page p and its empty slot; m is 0 while it builds the page, and 1 while it holds it
-pub record HasAt (m p : ℕ) (pass : Pass) : Type 0 where
+-- The pass has page p and its empty slot. m is 0 while it builds the page, and 1 while it holds it; `owed` is 1 more than the offset of the start whose bit is due,
+-- or 0.
+pub record HasAt (m owed p : ℕ) (pass : Pass) : Type 0 where
   pub at : (view_of pass).at ≡ p + 1
   pub mode : (view_of pass).mode ≡ m
+  pub owes : (view_of pass).owes ≡ owed
   pub carried : carried pass ≡ (p, None) ∷ []
 
 -- the pass builds page p
 abbrev pub Builds : ℕ → Pass → Type 0
-Builds p pass = HasAt 0 p pass
+Builds p pass = HasAt 0 0 p pass
 
--- the pass holds page p
+-- the pass holds page p, and no start bit is due
 abbrev pub Holds : ℕ → Pass → Type 0
-Holds p pass = HasAt 1 p pass
+Holds p pass = HasAt 1 0 p pass
+
+-- the pass holds page p, and the bit of the start at this offset is due
+abbrev pub HoldsOwing : ℕ → ℕ → Pass → Type 0
+HoldsOwing p offset pass = HasAt 1 (offset + 1) p pass
+
+-- the pass knows that an object starts at this offset of the fresh page p
+abbrev pub KnowsFresh : Pass → ℕ → ℕ → Type 0
+KnowsFresh pass p offset = starts.KnowsFresh (view_of pass) p offset
+
+-- an object of the slid heap starts at the address, or a fresh object that the pass knows
+abbrev pub KnowsStart : Pass → ℕ → Type 0
+KnowsStart pass a = starts.KnowsStart (view_of pass) a
+
+-- a reference that the pass may write: null, or a start that it knows
+abbrev pub MayRefer : Pass → ℕ → Type 0
+MayRefer pass a = starts.MayRefer (view_of pass) a
 
 -- page p with this journal
 abbrev pub page_with : Steps → ℕ → List Entry → Journaled
@@ -100,6 +119,18 @@ held_word number = 2 * (number + 1) + 1
 -- the pass that makes others makes this number next
 abbrev pub MakesNext : ℕ → Pass → Type 0
 MakesNext number pass = (known_of pass).next ≡ number + 1
+
+-- the first pass, while it has made no other
+abbrev pub IsAlone : Pass → Type 0
+IsAlone pass = MakesNext 1 pass
+
+-- the port of the pass that this pass makes next, or 0 where it makes none
+abbrev pub next_port : Pass → ℕ
+next_port pass = (known_of pass).next
+
+-- no pass of this number is made yet, as the pass that makes the others knows
+abbrev pub IsNotMade : Pass → ℕ → Type 0
+IsNotMade pass number = (0 < next_port pass) × (next_port pass ≤ number + 1)
 
 -- for how many more builds room is reserved
 abbrev pub room_of : Pass → ℕ

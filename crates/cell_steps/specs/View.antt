@@ -17,6 +17,8 @@ pub record Known : Type 0 where
   pub told : List ℕ
   -- the pages that the pass has seen built
   pub built : List ℕ
+  -- the addresses at which the pass knows that objects start, those of the slid heap aside
+  pub starts : List ℕ
 
 -- what a slot holds: the page, while it is home
 abbrev pub Slot : Type 0
@@ -24,4 +26,4 @@ Slot = Option Reserved
 
 -- what a pass knows that has done nothing
 abbrev pub blank : ℕ → ℕ → Known
-blank port next = record { port = port; next = next; seen = []; did = []; told = []; built = [] }
+blank port next = record { port = port; next = next; seen = []; did = []; told = []; built = []; starts = [] }

@@ -1,5 +1,5 @@
 //! The steps, each with what it tells.
-ghost use Rattle.cell_steps.specs.Plays.{no_entry, loads, claims_empty, claims_home, builds, returns_home, gives_up, draws, making, made, ending, note_of, learning};
+ghost use Rattle.cell_steps.specs.Plays.{no_entry, loads, claims_empty, claims_home, builds, returns_home, gives_up, draws, sets, finds, making, made, ending, note_of, learning};
 ghost use Rattle.cell_steps.specs.Whole.{nobody};
 ghost use Rattle.comp_journal.specs.declared.entry.Entry.{Entry};
 
@@ -69,6 +69,20 @@ pub struct DrawStamp<D> {
 
 impl<D: Draft> Play<Slot, View> for DrawStamp<D> {
     ghost then = { draws D.entry };
+}
+
+/// A start bit that is set.
+pub struct SetStart;
+
+impl Play<Slot, View> for SetStart {
+    ghost then = { sets };
+}
+
+/// A load of start bits.
+pub struct LoadStarts;
+
+impl Play<Slot, View> for LoadStarts {
+    ghost then = { finds };
 }
 
 /// The first pass makes the next one.

@@ -3,6 +3,7 @@ ghost use Rattle.std.specs.Prelude.{◌≡◌, ◌+◌};
 mod calls;
 mod closing;
 mod opening;
+mod starting;
 
 use crate::frame::Frame;
 use crate::plays::Slot;
@@ -15,6 +16,8 @@ use std::alloc::Global;
 #[derive(Drop)]
 pub struct Steps {
     pub(crate) table: Table<Slot, View, Frame, Cells, Global>,
-    ghost words: { table.shared.table_id.words ≡ table.shared.key.pages + 1 },
-    ghost slots: { table.shared.table_id.slots ≡ table.shared.key.pages },
+    pub(crate) fresh: u32,
+    ghost words: { table.shared.table_id.words ≡ table.shared.key.compacted + table.shared.key.fresh + table.shared.key.fresh + 1 },
+    ghost slots: { table.shared.table_id.slots ≡ table.shared.key.compacted + table.shared.key.fresh },
+    ghost fresh_pages: { fresh ≡ table.shared.key.fresh },
 }

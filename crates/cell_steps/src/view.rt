@@ -15,6 +15,8 @@ pub struct View {
     pub ghost at: { ℕ },
     /// 0 while it builds that page, 1 while it holds it.
     pub ghost mode: { ℕ },
+    /// One more than the offset of the start whose bit is due on the page that the pass holds, or 0.
+    pub ghost owes: { ℕ },
     /// The pages on which a step was lost to another pass, one for each such step.
     pub ghost lost: { List ℕ },
     /// Of each page, the state word that the pass last found or left there; newest first.

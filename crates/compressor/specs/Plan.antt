@@ -1,25 +1,20 @@
 -- What the command `plan` prints.
-use Rattle.std.specs.Prelude.{ℕ, List, [], ◌∷◌, ◌++◌, Option, unwrap_or, map, codes}
-use Rattle.std.specs.Fmt.{decimal}
-use Rattle.std.specs.Io.KnownBytes.{Appends}
+use Rattle.std.specs.Prelude.{ℕ, List, ◌++◌, unwrap_or, map, codes}
 use Rattle.std.specs.List.{flat_map, range_with_len, enumerate_from}
 use Rattle.heap_layout.specs.Heap.{Heap, Object, live}
 use Rattle.heap_layout.specs.Encoding.{Refuses}
 use Rattle.page_plan.specs.Sliding.{live_words, pages, first_object, forwarded}
+use Rattle.compressor.specs.Printing.{named, numbered}
 use Rattle.compressor.specs.declared.refusal.Refusal.{Refusal}
 use Rattle.compressor.specs.declared.refusal.Refusal.TheVariants.{Layout, CannotPrint, OutOfMemory}
 
--- a name, a number and a line feed
-abbrev pub named : List ℕ → ℕ → List ℕ
-named name number = name ++ decimal number ++ 10 ∷ []
-
 -- the line of page p: the from-space index of the first live object that has a word there
 abbrev pub page_line : List Object → ℕ → List ℕ
-page_line objects p = codes "page " ++ decimal p ++ codes " first " ++ decimal (unwrap_or (first_object objects p) 0) ++ 10 ∷ []
+page_line objects p = numbered (codes "page ") p (codes " first ") (unwrap_or (first_object objects p) 0)
 
 -- the line of a root: its number, and where it leads
 abbrev pub root_line : ℕ × ℕ → List ℕ
-root_line root = codes "root " ++ decimal root.0 ++ codes " " ++ decimal root.1 ++ 10 ∷ []
+root_line root = numbered (codes "root ") root.0 (codes " ") root.1
 
 abbrev pub page_lines : List Object → List ℕ
 page_lines objects = flat_map (page_line objects) (range_with_len 0 (pages objects))
@@ -35,13 +30,13 @@ count_lines objects = named (codes "live ") (live_words objects) ++ named (codes
 abbrev pub plan_text : Heap → List ℕ
 plan_text heap = count_lines (live heap) ++ page_lines (live heap) ++ root_lines (map (forwarded (live heap)) heap.roots)
 
--- the output did not take what was to be printed, or a growth was refused
+-- a call of the output failed, which `CountsPrint` tells, or a growth was refused
 abbrev pub IsOfPrinting : Refusal → Type 0
 IsOfPrinting CannotPrint = Unit {0}
 IsOfPrinting OutOfMemory = Unit {0}
 IsOfPrinting _ = ⊥
 
--- why it was not printed: the image is refused, the output did not take it, or a growth was refused
+-- why it was not printed: the image is refused, a call of the output failed, which `CountsPrint` tells, or a growth was refused
 abbrev pub RefusesPlan : Refusal → List ℕ → Type 0
 RefusesPlan (Layout fault) bytes = Refuses fault bytes
 RefusesPlan CannotPrint bytes = Unit {0}

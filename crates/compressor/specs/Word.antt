@@ -1,11 +1,11 @@
 -- What the command `word` answers, from the bytes of an image.
-use Rattle.std.specs.Prelude.{◌≡◌, ℕ, ◌*◌, ◌<◌, ◌≤◌, List, [], ◌∷◌, ◌++◌, Option, slice_index}
-use Rattle.std.specs.Fmt.{decimal}
+use Rattle.std.specs.Prelude.{◌≡◌, ℕ, ◌*◌, ◌<◌, ◌≤◌, List, Option, slice_index}
 use Rattle.std.specs.Io.KnownBytes.{Appends}
 use Rattle.heap_layout.specs.Heap.{Heap, live, IsStored}
 use Rattle.heap_layout.specs.Faults.{IsAccepted}
 use Rattle.heap_layout.specs.Encoding.{encoding, Refuses}
 use Rattle.page_plan.specs.Sliding.{slid_words, pages}
+use Rattle.compressor.specs.Printing.{line_of}
 use Rattle.compressor.specs.declared.refusal.Refusal.{Refusal}
 use Rattle.compressor.specs.declared.refusal.Refusal.TheVariants.{Layout, CannotPrint, NoSuchWord, OutOfMemory}
 
@@ -17,10 +17,6 @@ IsImage P bytes = (heap : Heap) × IsStored heap × IsAccepted heap × (bytes �
 pub record IsWordAt (index word : ℕ) (heap : Heap) : Type 0 where
   pub on_a_page : index < 64 * pages (live heap)
   pub slid : word ≡ slice_index (slid_words (live heap)) index
-
--- a number as it is printed: its decimal digits and a line feed
-abbrev pub line_of : ℕ → List ℕ
-line_of number = decimal number ++ 10 ∷ []
 
 -- what was printed, between these two contents of the output, is the word at this index
 pub record PrintsWordAt (index : ℕ) (before after : Option (List ℕ)) (heap : Heap) : Type 0 where
@@ -41,7 +37,7 @@ RefusesWord index (NoSuchWord past) bytes = (past ≡ index) × IsImage (λ heap
 RefusesWord index OutOfMemory bytes = Unit {0}
 RefusesWord index _ bytes = ⊥
 
--- why it was not printed: there is no such word, or the output did not take it
+-- why it was not printed: there is no such word, or a call of the output failed, which `CountsPrint` tells
 abbrev pub RefusesPrint : ℕ → Refusal → List ℕ → Type 0
 RefusesPrint index CannotPrint bytes = Unit {0}
 RefusesPrint index refusal bytes = RefusesWord index refusal bytes

@@ -3,6 +3,7 @@
 
 mod image;
 mod plan;
+mod print;
 mod refusal;
 mod run;
 #[cfg(test)]

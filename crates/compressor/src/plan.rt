@@ -3,10 +3,12 @@ ghost use Rattle.std.specs.Prelude.{◌≡◌, ◌-◌, ◌^◌, ◌<◌, IfErr,
 ghost use Rattle.std.specs.Io.KnownBytes.{Appends};
 ghost use Rattle.heap_layout.specs.Counted.{inner_of, failures_of};
 ghost use Rattle.heap_layout.specs.Heap.{live};
+ghost use Rattle.compressor.specs.Printing.{CountsPrint, CountsRead};
 ghost use Rattle.compressor.specs.Plan.{plan_text, count_lines, page_lines, root_lines, IsOfPrinting, RefusesPlan};
 ghost use Rattle.compressor.specs.Word.{IsImage};
 
 use crate::image::open_image;
+use crate::print::{print_line, print_numbered};
 use crate::refusal::Refusal;
 use heap_layout::counted::Counted;
 use heap_layout::image::read_image;
@@ -19,8 +21,11 @@ use std::rt::Files;
 pub fn print_plan<R: Files + AllocGlobal, O: Write>(
     rt: &R,
     path: &str,
-    out: &mut O,
-) -> Result<(), Refusal> {
+    out: &mut Counted<O>,
+) -> Result<(), Refusal>
+    requires { failures_of out.old < 2 ^ 64 - 1 }
+    ensures counts { CountsPrint (failures_of out.old) (failures_of out.new) result }
+{
     print_plan_in(rt.alloc(), &mut open_image(rt, path)?, out)
 }
 
@@ -29,12 +34,15 @@ pub fn print_plan<R: Files + AllocGlobal, O: Write>(
 pub fn print_plan_in<R: Read, O: Write>(
     alloc: Global,
     r: &mut Counted<R>,
-    out: &mut O,
+    out: &mut Counted<O>,
 ) -> Result<(), Refusal>
-    requires { failures_of r.old < 2 ^ 64 - 1 }
+    requires read { failures_of r.old < 2 ^ 64 - 1 }
+    requires written { failures_of out.old < 2 ^ 64 - 1 }
     ensures printed { OnOk result (IfSome (R.remaining (inner_of r.old))
-        (IsImage (λ heap. Appends (O.contents out.old) (O.contents out.new) (plan_text heap)))) }
+        (IsImage (λ heap. Appends (O.contents (inner_of out.old)) (O.contents (inner_of out.new)) (plan_text heap)))) }
     ensures cause { IfErr result (λ refusal. IfSome (R.remaining (inner_of r.old)) (RefusesPlan refusal)) }
+    ensures reads { CountsRead (failures_of r.old) (failures_of r.new) result }
+    ensures counts { CountsPrint (failures_of out.old) (failures_of out.new) result }
 {
     let heap = read_image(alloc, r)?;
     let plan = Plan::new(alloc, heap)?;
@@ -42,9 +50,11 @@ pub fn print_plan_in<R: Read, O: Write>(
 }
 
 // All lines of a plan.
-fn write_plan<O: Write>(alloc: Global, plan: &Plan, out: &mut O) -> Result<(), Refusal>
-    ensures printed { OnOk result (Appends (O.contents out.old) (O.contents out.new) (plan_text plan.now)) }
+fn write_plan<O: Write>(alloc: Global, plan: &Plan, out: &mut Counted<O>) -> Result<(), Refusal>
+    requires { failures_of out.old < 2 ^ 64 - 1 }
+    ensures printed { OnOk result (Appends (O.contents (inner_of out.old)) (O.contents (inner_of out.new)) (plan_text plan.now)) }
     ensures cause { IfErr result IsOfPrinting }
+    ensures counts { CountsPrint (failures_of out.old) (failures_of out.new) result }
 {
     let roots = plan.forward_roots(alloc)?;
     write_counts(plan, out)?;
@@ -53,36 +63,39 @@ fn write_plan<O: Write>(alloc: Global, plan: &Plan, out: &mut O) -> Result<(), R
 }
 
 // The live words and the pages.
-fn write_counts<O: Write>(plan: &Plan, out: &mut O) -> Result<(), Refusal>
-    ensures printed { OnOk result (Appends (O.contents out.old) (O.contents out.new) (count_lines (live plan.now))) }
-    ensures cause { IfErr result IsOfPrinting }
+fn write_counts<O: Write>(plan: &Plan, out: &mut Counted<O>) -> Result<(), Refusal>
+    requires { failures_of out.old < 2 ^ 64 - 1 }
+    ensures printed { OnOk result (Appends (O.contents (inner_of out.old)) (O.contents (inner_of out.new)) (count_lines (live plan.now))) }
+    ensures cause { OnErr result (result ≡ Err Refusal.CannotPrint) }
+    ensures counts { CountsPrint (failures_of out.old) (failures_of out.new) result }
 {
-    let live_words = plan.live_words();
-    let pages = plan.pages();
-    writeln!(out, "live {live_words}")?;
-    writeln!(out, "pages {pages}")?;
-    Ok(())
+    print_line("live ", plan.live_words(), out)?;
+    print_line("pages ", plan.pages(), out)
 }
 
 // The first object of each page.
-fn write_pages<O: Write>(plan: &Plan, out: &mut O) -> Result<(), Refusal>
-    ensures printed { OnOk result (Appends (O.contents out.old) (O.contents out.new) (page_lines (live plan.now))) }
-    ensures cause { IfErr result IsOfPrinting }
+fn write_pages<O: Write>(plan: &Plan, out: &mut Counted<O>) -> Result<(), Refusal>
+    requires { failures_of out.old < 2 ^ 64 - 1 }
+    ensures printed { OnOk result (Appends (O.contents (inner_of out.old)) (O.contents (inner_of out.new)) (page_lines (live plan.now))) }
+    ensures cause { OnErr result (result ≡ Err Refusal.CannotPrint) }
+    ensures counts { CountsPrint (failures_of out.old) (failures_of out.new) result }
 {
     for p in 0..plan.pages() {
         let first = plan.first_object(p).unwrap_or(0);
-        writeln!(out, "page {p} first {first}")?;
+        print_numbered("page ", p, " first ", first, out)?;
     }
     Ok(())
 }
 
 // Where each root leads.
-fn write_roots<O: Write>(roots: &[u64], out: &mut O) -> Result<(), Refusal>
-    ensures printed { OnOk result (Appends (O.contents out.old) (O.contents out.new) (root_lines roots.now)) }
-    ensures cause { IfErr result IsOfPrinting }
+fn write_roots<O: Write>(roots: &[u64], out: &mut Counted<O>) -> Result<(), Refusal>
+    requires { failures_of out.old < 2 ^ 64 - 1 }
+    ensures printed { OnOk result (Appends (O.contents (inner_of out.old)) (O.contents (inner_of out.new)) (root_lines roots.now)) }
+    ensures cause { OnErr result (result ≡ Err Refusal.CannotPrint) }
+    ensures counts { CountsPrint (failures_of out.old) (failures_of out.new) result }
 {
     for (number, address) in roots.iter().enumerate() {
-        writeln!(out, "root {number} {address}")?;
+        print_numbered("root ", number as u64, " ", *address, out)?;
     }
     Ok(())
 }

@@ -3,7 +3,7 @@ ghost use Rattle.compressor.specs.declared.refusal.Refusal.TheVariants as refusa
 
 use heap_layout::fault::{self, LayoutFault};
 use std::alloc::AllocError;
-use std::{fmt, io};
+use std::fmt;
 use thiserror::Error;
 
 /// A file that the program is given.
@@ -29,7 +29,7 @@ pub enum Refusal {
     /// The file could not be opened.
     #[error("P1 CannotOpen({0})")]
     CannotOpen(Input),
-    /// Standard output took less than was to be written.
+    /// A call of standard output failed: it answered an error, or took nothing of what was to be written.
     #[error("P4 CannotPrint")]
     CannotPrint,
     /// This index is past the last page.
@@ -61,14 +61,5 @@ impl From<AllocError> for Refusal {
 
     fn from(_error: AllocError) -> Refusal {
         Refusal::OutOfMemory
-    }
-}
-
-// The one device whose errors go up by `?` is standard output.
-impl From<io::Error> for Refusal {
-    ghost from_gives = { λ _ given. given ≡ refusal.CannotPrint };
-
-    fn from(_error: io::Error) -> Refusal {
-        Refusal::CannotPrint
     }
 }

@@ -1,10 +1,15 @@
-ghost use Rattle.std.specs.Prelude.{◌≤◌};
+ghost use Rattle.std.specs.Prelude.{◌-◌, ◌^◌, ◌<◌, ◌≤◌};
+ghost use Rattle.heap_layout.specs.Counted.{failures_of};
+ghost use Rattle.compressor.specs.Printing.{CountsPrint};
 
 use crate::plan::print_plan;
+use crate::print::{flush, print_text};
 use crate::refusal::Refusal;
 use crate::word::print_word;
 use crate::words::{Task, read_task};
 use clap::error::ErrorKind;
+use heap_layout::counted::Counted;
+use std::alloc::Global;
 use std::io::Write;
 use std::rt::Files;
 
@@ -17,8 +22,8 @@ pub const REFUSED: u8 = 1;
 /// The status of a run whose words were wrong.
 pub const MISUSED: u8 = 2;
 
-/// Does what the words after the program's name ask, and answers the status. Files are opened through `rt`; `out` is flushed at the end, and what it
-/// did not take is a refusal. A refusal is one line on `err`.
+/// Does what the words after the program's name ask, and answers the status. Files are opened through `rt`; `out` is flushed at the end. A refusal
+/// is one line on `err`; a call of `out` that fails is one.
 pub fn run<R: Files + AllocGlobal, O: Write, E: Write>(
     rt: &R,
     words: Vec<String>,
@@ -27,8 +32,9 @@ pub fn run<R: Files + AllocGlobal, O: Write, E: Write>(
 ) -> u8
     ensures { result ≤ 2 }
 {
+    let mut out = Counted::new(out);
     match read_task(rt.alloc(), &words) {
-        Ok(Some(task)) => told(perform(rt, task, out), err),
+        Ok(Some(task)) => told(perform(rt, task, &mut out), err),
         Ok(None) => MISUSED,
         Err(error) if error.kind() == ErrorKind::OutOfMemory => told(
             Err(Refusal::OutOfMemory),
@@ -38,27 +44,35 @@ pub fn run<R: Files + AllocGlobal, O: Write, E: Write>(
             let _ = write!(err, "{error}");
             MISUSED
         }
-        Err(help) => told(print_help(&help, out), err),
+        Err(help) => told(print_help(rt.alloc(), &help, &mut out), err),
     }
 }
 
 fn perform<R: Files + AllocGlobal, O: Write>(
     rt: &R,
     task: Task,
-    out: &mut O,
-) -> Result<(), Refusal> {
+    out: &mut Counted<O>,
+) -> Result<(), Refusal>
+    requires { failures_of out.old < 2 ^ 64 - 1 }
+    ensures counts { CountsPrint (failures_of out.old) (failures_of out.new) result }
+{
     match task {
         Task::Plan { image } => print_plan(rt, image, out)?,
         Task::Word { image, index } => print_word(rt, image, index, out)?,
     }
-    out.flush()?;
-    Ok(())
+    flush(out)
 }
 
-fn print_help<O: Write>(help: &clap::Error, out: &mut O) -> Result<(), Refusal> {
-    write!(out, "{help}")?;
-    out.flush()?;
-    Ok(())
+fn print_help<O: Write>(
+    alloc: Global,
+    help: &clap::Error,
+    out: &mut Counted<O>,
+) -> Result<(), Refusal>
+    requires { failures_of out.old < 2 ^ 64 - 1 }
+    ensures counts { CountsPrint (failures_of out.old) (failures_of out.new) result }
+{
+    print_text(&help.to_string(alloc)?, out)?;
+    flush(out)
 }
 
 // The status of a task; a refusal is told. There is nowhere left to tell that telling failed.

@@ -14,15 +14,19 @@ struct Ran {
     err: String,
 }
 
-// Runs the program on the words of a line.
-fn run_on<R: Files + AllocGlobal>(rt: &R, line: &str) -> Result<Ran, Fail> {
+fn words_of<R: AllocGlobal>(rt: &R, line: &str) -> Result<Vec<String>, Fail> {
     let mut owned = Vec::new(rt.alloc());
     for word in line.split_whitespace() {
         owned.push(String::from_str(rt.alloc(), word)?)?;
     }
+    Ok(owned)
+}
+
+// Runs the program on the words of a line.
+fn run_on<R: Files + AllocGlobal>(rt: &R, line: &str) -> Result<Ran, Fail> {
     let mut out = Vec::new(rt.alloc());
     let mut err = Vec::new(rt.alloc());
-    let status = run(rt, owned, &mut out, &mut err);
+    let status = run(rt, words_of(rt, line)?, &mut out, &mut err);
     Ok(Ran {
         status,
         out: String::from_utf8(out)?,
@@ -142,29 +146,74 @@ fn prints_help_on_standard_output(rt: HostRuntime) -> Result<(), Fail> {
     Ok(())
 }
 
-// Takes nothing.
-#[derive(Drop)]
-struct Full;
+// How an output fails.
+#[derive(Clone, Copy, PartialEq, Eq)]
+enum Failure {
+    Error,
+    TakesNone,
+    Flush,
+}
 
-impl Write for Full {
-    fn write(&mut self, _buf: &[u8]) -> IoResult<usize> {
-        Err(Error::from(ErrorKind::StorageFull))
+// Takes as many bytes as it has room for, by three at a time, and then fails.
+#[derive(Drop)]
+struct Failing {
+    room: usize,
+    failure: Failure,
+}
+
+impl Write for Failing {
+    fn write(&mut self, buf: &[u8]) -> IoResult<usize> {
+        if self.room == 0 && self.failure == Failure::Error {
+            return Err(Error::from(ErrorKind::StorageFull));
+        }
+        let taken = buf.len().min(self.room).min(3);
+        self.room -= taken;
+        Ok(taken)
     }
 
     fn flush(&mut self) -> IoResult<()> {
+        if self.failure == Failure::Flush {
+            return Err(Error::from(ErrorKind::StorageFull));
+        }
         Ok(())
     }
 }
 
+// Runs the program on the words of a line, and tells its status and its one line of refusal.
+fn run_on_failing<R: Files + AllocGlobal>(
+    rt: &R,
+    line: &str,
+    out: &mut Failing,
+) -> Result<(u8, String), Fail> {
+    let mut err = Vec::new(rt.alloc());
+    let status = run(rt, words_of(rt, line)?, out, &mut err);
+    Ok((status, String::from_utf8(err)?))
+}
+
 #[test]
 fn tells_that_it_cannot_print(rt: HostRuntime) -> Result<(), Fail> {
-    let mut words = Vec::new(rt.alloc());
-    words.push(String::from_str(rt.alloc(), "--help")?)?;
-    let mut err = Vec::new(rt.alloc());
-    assert_eq!(rt; run(&rt, words, &mut Full, &mut err), 1);
-    assert_eq!(rt;
-        String::from_utf8(err)?.as_str(),
-        "compressor: P4 CannotPrint\n"
-    );
+    fs::write(&rt, "print.tests.img", three_image(rt.alloc())?.as_slice())?;
+    for (line, length) in [
+        ("word print.tests.img 2", 12),
+        ("plan print.tests.img", 48),
+        ("--help", 1),
+    ] {
+        for failure in [Failure::Error, Failure::TakesNone] {
+            for room in 0..length {
+                let (status, err) = run_on_failing(&rt, line, &mut Failing { room, failure })?;
+                assert_eq!(rt; status, 1);
+                assert_eq!(rt; err.as_str(), "compressor: P4 CannotPrint\n");
+            }
+        }
+        for (failure, wanted) in [(Failure::Error, 0), (Failure::Flush, 1)] {
+            let mut out = Failing {
+                room: 4_096,
+                failure,
+            };
+            let (status, _) = run_on_failing(&rt, line, &mut out)?;
+            assert_eq!(rt; status, wanted);
+        }
+    }
+    fs::remove_file(&rt, "print.tests.img")?;
     Ok(())
 }

@@ -1,5 +1,6 @@
 -- What a clause reads of a `Counted`.
-use Rattle.std.specs.Prelude.{◌≡◌, ℕ, ◌+◌, Result, Ok, Err}
+use Rattle.std.specs.Prelude.{◌≡◌, ℕ, ◌+◌, ◌-◌, ◌^◌, ◌<◌, min, List, length, take, Option, Result, Ok, Err}
+use Rattle.std.specs.Io.KnownBytes.{Appends}
 use Rattle.heap_layout.specs.declared.counted.Counted.{Counted}
 use Rattle.heap_layout.specs.declared.fault.LayoutFault.{LayoutFault}
 use Rattle.heap_layout.specs.declared.fault.LayoutFault.TheVariants.{Device}
@@ -11,6 +12,14 @@ inner_of counted = counted.inner
 -- how many of its calls failed
 abbrev pub failures_of : {R : Type 0} → Counted R → ℕ
 failures_of counted = counted.failures
+
+-- a count of failed calls, and one more of them; it stays at the largest number
+abbrev pub one_more : ℕ → ℕ
+one_more failures = min (failures + 1) (2 ^ 64 - 1)
+
+-- the known bytes grew by a beginning of a part, not by all of it
+abbrev pub AppendsBeginning : Option (List ℕ) → Option (List ℕ) → List ℕ → Type 0
+AppendsBeginning before after part = (n : ℕ) × (n < length part) × Appends before after (take n part)
 
 -- a call answers `Device` exactly where one more call of the device failed
 abbrev pub CountsFailure : {T : Type 0} → ℕ → ℕ → Result T LayoutFault → Type 0

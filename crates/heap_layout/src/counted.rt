@@ -1,8 +1,9 @@
-ghost use Rattle.std.specs.Prelude.{◌≡◌, ◌+◌, ◌-◌, ◌^◌, min, OnOk, OnErr};
-ghost use Rattle.std.specs.Io.{ReadsAtMost};
-ghost use Rattle.std.specs.Io.KnownBytes.{ReadConsumes};
+ghost use Rattle.std.specs.Prelude.{◌≡◌, ◌<◌, length, IfOk, OnOk, OnErr};
+ghost use Rattle.std.specs.Io.{ReadsAtMost, WritesAtMost};
+ghost use Rattle.std.specs.Io.KnownBytes.{Appends, Keeps, ReadConsumes, WriteAppends};
+ghost use Rattle.heap_layout.specs.Counted.{inner_of, failures_of, one_more, AppendsBeginning};
 
-use std::io::{Read, Result};
+use std::io::{Error, ErrorKind, Read, Result, Write};
 
 /// A reader or a writer, with the number of its calls that failed: those that answered an error and, of a writer, those that took none of a part
 /// that is not empty.
@@ -13,8 +14,6 @@ pub struct Counted<R> {
 }
 
 impl<R> Counted<R> {
-    ghost use Rattle.heap_layout.specs.Counted.{inner_of, failures_of};
-
     /// Around a reader or a writer, no call of which has failed so far.
     pub fn new(inner: R) -> Counted<R>
         ensures inner { inner_of result ≡ inner }
@@ -36,23 +35,85 @@ impl<R> Counted<R> {
     {
         self.inner
     }
+
+    // Counts a call that failed.
+    fn count_failure(&mut self)
+        ensures inner { inner_of self.new ≡ inner_of self.old }
+        ensures counted { failures_of self.new ≡ one_more (failures_of self.old) }
+    {
+        self.failures = self.failures.saturating_add(1);
+    }
 }
 
 impl<R: Read> Read for Counted<R> {
-    ghost use Rattle.heap_layout.specs.Counted.{inner_of, failures_of};
-
     ghost remaining = { λ counted. R.remaining (inner_of counted) };
 
     fn read(&mut self, buf: &mut [u8]) -> Result<usize>
         ensures bound { ReadsAtMost result buf.new }
         ensures bytes { ReadConsumes (R.remaining (inner_of self.old)) (R.remaining (inner_of self.new)) result buf.new }
         ensures ok { OnOk result (failures_of self.new ≡ failures_of self.old) }
-        ensures err { OnErr result (failures_of self.new ≡ min (failures_of self.old + 1) (2 ^ 64 - 1)) }
+        ensures err { OnErr result (failures_of self.new ≡ one_more (failures_of self.old)) }
     {
         let result = self.inner.read(buf);
         if result.is_err() {
-            self.failures = self.failures.saturating_add(1);
+            self.count_failure();
         }
         result
+    }
+}
+
+impl<W: Write> Write for Counted<W> {
+    ghost contents = { λ counted. W.contents (inner_of counted) };
+
+    fn write(&mut self, buf: &[u8]) -> Result<usize>
+        ensures bound { WritesAtMost result buf.now }
+        ensures bytes { WriteAppends (W.contents (inner_of self.old)) (W.contents (inner_of self.new)) result buf.now }
+        ensures taken { IfOk result (λ n. 0 < n → failures_of self.new ≡ failures_of self.old) }
+        ensures empty { OnOk result (length buf.now ≡ 0 → failures_of self.new ≡ failures_of self.old) }
+        ensures none_taken { IfOk result (λ n. n ≡ 0 → 0 < length buf.now → failures_of self.new ≡ one_more (failures_of self.old)) }
+        ensures err { OnErr result (failures_of self.new ≡ one_more (failures_of self.old)) }
+    {
+        let result = self.inner.write(buf);
+        let failed = match &result {
+            Ok(taken) => *taken == 0 && !buf.is_empty(),
+            Err(_) => true,
+        };
+        if failed {
+            self.count_failure();
+        }
+        result
+    }
+
+    fn flush(&mut self) -> Result<()>
+        ensures bytes { Keeps (W.contents (inner_of self.old)) (W.contents (inner_of self.new)) }
+        ensures ok { OnOk result (failures_of self.new ≡ failures_of self.old) }
+        ensures err { OnErr result (failures_of self.new ≡ one_more (failures_of self.old)) }
+    {
+        let result = self.inner.flush();
+        if result.is_err() {
+            self.count_failure();
+        }
+        result
+    }
+}
+
+impl<W: Write> Counted<W> {
+    /// Writes a whole part, by as many calls as the writer wants. The first call that fails ends the writing, an interrupted one too; what was taken
+    /// before it stays written.
+    pub fn write_part(&mut self, part: &[u8]) -> Result<()>
+        ensures written { OnOk result (Appends (W.contents (inner_of self.old)) (W.contents (inner_of self.new)) part.now) }
+        ensures begun { OnErr result (AppendsBeginning (W.contents (inner_of self.old)) (W.contents (inner_of self.new)) part.now) }
+        ensures ok { OnOk result (failures_of self.new ≡ failures_of self.old) }
+        ensures err { OnErr result (failures_of self.new ≡ one_more (failures_of self.old)) }
+    {
+        let mut taken = 0;
+        while taken < part.len() {
+            let n = self.write(&part[taken..])?;
+            if n == 0 {
+                return Err(Error::from(ErrorKind::WriteZero));
+            }
+            taken += n;
+        }
+        Ok(())
     }
 }

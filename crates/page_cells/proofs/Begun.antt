@@ -1,5 +1,5 @@
 -- The passes of new cells, while they are made one by one.
-use Rattle.std.proofs.Common.{◌≡◌, ℕ, zero, suc, ◌+◌, ◌-◌, ◌<◌, ◌≤◌, ◌≢◌, ◌⊎◌, List, [], ◌∷◌, ◌++◌, length, set, refl, sym, ap, ◌∙◌, arith, inl, inr, subst, length-set, length-append}
+use Rattle.std.proofs.Common.{◌≡◌, ℕ, zero, suc, ◌+◌, ◌≤◌, ◌≢◌, ◌⊎◌, List, [], ◌∷◌, ◌++◌, length, set, refl, sym, ap, ◌∙◌, arith, inl, inr, subst, length-set, length-append}
 use mathlib.Core.Option.{some, some-injective, some-ne-none}
 use lib.ListN.{get_elem?}
 use Rattle.page_cells.proofs.Rows.{at_set, at_longer, at_below}
@@ -11,7 +11,7 @@ use Rattle.cell_steps.specs.Passes.{about, view_of, known_of, number_of, carried
 use Rattle.cell_steps.specs.declared.pass.Pass.{Pass}
 use Rattle.cell_steps.specs.declared.steps.Steps.{Steps}
 use Rattle.cell_steps.specs.declared.view.View.{View}
-use Rattle.page_cells.specs.Cells.{Works, IsNew, AreNew}
+use Rattle.page_cells.specs.Cells.{AreNew}
 
 -- the port of the pass that pass k makes next, when there are n passes
 abbrev next_of : ℕ → ℕ → ℕ

@@ -1,17 +1,17 @@
 -- What is known once all passes have ended.
-use Rattle.std.proofs.Common.{◌≡◌, ℕ, zero, suc, ◌+◌, ◌<◌, ◌≤◌, ◌≢◌, ◌⊎◌, Bool, true, false, cond, eqb, eq-eqb, ne_eqb, List, [], ◌∷◌, ◌++◌, map, length, take, refl, sym, ap, ◌∙◌, inl, inr, ⊎_elim, subst, arith, length-append, append_assoc, Vec, IsSome}
+use Rattle.std.proofs.Common.{◌≡◌, ℕ, zero, suc, ◌+◌, ◌<◌, ◌≤◌, ◌≢◌, Bool, cond, eq-eqb, ne_eqb, List, [], ◌∷◌, ◌++◌, map, length, take, refl, sym, ap, ◌∙◌, ⊎_elim, subst, arith, append_assoc, Vec}
 use Rattle.std.proofs.lemmas.List.{length-map, append-nil}
 use mathlib.Core.Option.{some}
 use lib.ListN.{get_elem?}
 use Rattle.comp_journal.specs.declared.entry.Entry.{Entry}
 use Rattle.cell_steps.specs.Setup.{Setup, pages}
-use Rattle.cell_steps.specs.Lists.{times, total, only, below, stamps, by, on}
+use Rattle.cell_steps.specs.Lists.{times, only, below, stamps, by}
 use Rattle.cell_steps.specs.View.{Known, Slot}
-use Rattle.cell_steps.specs.Closing.{journal_at, page_at, IsToldBySome, Gathered, Complete}
-use Rattle.cell_steps.specs.Passes.{number_of, builds_of, known_of, did, AreAll}
+use Rattle.cell_steps.specs.Closing.{journal_at, IsToldBySome, Gathered}
+use Rattle.cell_steps.specs.Passes.{number_of, builds_of, known_of, AreAll}
 use Rattle.cell_steps.specs.declared.pass.Pass.{Pass}
 use Rattle.cell_steps.specs.declared.steps.Steps.{Steps}
-use Rattle.page_cells.specs.Ends.{lists, Built, Ends, IsEnd, IsRow, IsIn, AllRest, entries, stamped_with}
+use Rattle.page_cells.specs.Ends.{lists, Built, Ends, IsEnd, IsRow, AllRest, entries}
 use Rattle.page_cells.proofs.Rows.{at_map, at_map_back}
 use Rattle.page_cells.proofs.Ordered.{last_or_below}
 
@@ -95,6 +95,8 @@ module _ (u : Setup) (slots : List Slot) (row : List Pass) (numbers : (k : ℕ) 
     apart = λ i j p a b. g.apart i j p (known_of a.0) (known_of b.0) (at_map known_of row i a.0 a.1) (at_map known_of row j b.0 b.1) a.2 b.2;
     bases = g.bases;
     rises = g.rises;
+    lawful = g.lawful;
+    references = g.references;
     stamps = λ s lt. g.stamps.1 (only s) ∙ below_once s g.stamps.0 (omega (arith, counted, lt));
     no_more = λ s le. g.stamps.1 (only s) ∙ below_none s g.stamps.0 (omega (arith, counted, le));
     passes = ends_at;

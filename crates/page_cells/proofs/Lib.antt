@@ -1,5 +1,10 @@
-pub mod Rows
-pub mod Growing
+mod Fields
+mod Growing
+mod Heads
+mod Held
+mod Leading
+mod Places
 pub mod Begun
-pub mod Ordered
 pub mod Ending
+pub mod Ordered
+pub mod Rows

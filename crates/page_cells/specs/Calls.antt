@@ -1,9 +1,8 @@
 -- What a call does to what a pass knows.
-use Rattle.std.specs.Prelude.{◌≡◌, ℕ, ◌+◌, ◌<◌, ◌≤◌, ◌⊎◌, ◌++◌, ◌∷◌, [], List, Bool, true, false}
-use Rattle.comp_journal.specs.declared.entry.Entry.{Entry}
+use Rattle.std.specs.Prelude.{◌≡◌, ℕ, ◌≤◌, ◌++◌, ◌∷◌, [], List, Bool, true, false}
 use Rattle.cell_steps.specs.Lists.{StartsWith}
 use Rattle.cell_steps.specs.declared.pass.Pass.{Pass}
-use Rattle.cell_steps.specs.Passes.{number_of, builds_of, seen, did, lost, HasSeenBuilt}
+use Rattle.cell_steps.specs.Passes.{number_of, builds_of, seen, did, lost, HasSeenBuilt, KnowsFresh}
 
 -- No journal was changed by the call, and what the pass has seen is the same.
 pub record WroteNothing (old new : Pass) : Type 0 where
@@ -16,6 +15,7 @@ pub record Grows (old new : Pass) : Type 0 where
   pub seen : (p : ℕ) → StartsWith (seen new p) (seen old p)
   pub built : (p : ℕ) → HasSeenBuilt old p → HasSeenBuilt new p
   pub lost : (p : ℕ) → lost old p ≤ lost new p
+  pub starts : (p offset : ℕ) → KnowsFresh old p offset → KnowsFresh new p offset
 
 -- the builds are as before, with p at the end where `built`
 abbrev pub builds_with : List ℕ → ℕ → Bool → List ℕ

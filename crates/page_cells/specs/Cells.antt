@@ -1,15 +1,18 @@
 -- What a table of cells is about, and what is known of its passes.
-use Rattle.std.specs.Prelude.{◌≡◌, ℕ, ◌+◌, ◌<◌, ◌≤◌, List, [], length}
+use Rattle.std.specs.Prelude.{◌≡◌, ℕ, ◌<◌, List, [], length}
 use mathlib.Core.Option.{some}
 use lib.ListN.{get_elem?}
 use Rattle.heap_layout.specs.Heap.{Heap}
+use Rattle.heap_layout.specs.declared.kind.Kind.TheVariants.{Reference}
 use Rattle.comp_journal.specs.declared.entry.Entry.{Entry}
 use Rattle.comp_journal.specs.Journal.{Journaled, replayed}
 use Rattle.page_plan.specs.declared.builder.Builder.{Ghosts}
 use Rattle.cell_steps.specs.declared.steps.Steps.{Steps}
 use Rattle.cell_steps.specs.declared.pass.Pass.{Pass}
 use Rattle.cell_steps.specs.Passes as steps
-use Rattle.cell_steps.specs.Passes.{about, number_of, builds_of, seen, did, lost, Rests, Holds, MakesNext, page_with, HasSeenBuilt}
+use Rattle.cell_steps.specs.Setup.{Setup}
+use Rattle.cell_steps.specs.Passes.{about, number_of, builds_of, seen, did, lost, Rests, Holds, MakesNext, page_with, HasSeenBuilt, MayRefer}
+use Rattle.cell_steps.specs.Lawful.{IsLawful}
 use Rattle.page_cells.specs.declared.cells.Cells.{Cells}
 use Rattle.page_cells.specs.declared.taking.Taken.{Taken}
 
@@ -17,17 +20,21 @@ use Rattle.page_cells.specs.declared.taking.Taken.{Taken}
 abbrev pub steps_of : {B : Type 0} {g : Ghosts B} → Cells B g → Steps
 steps_of cells = cells.steps
 
+-- what the cells are about: the heap, and the numbers of compacted pages, fresh pages and mutators
+abbrev pub setup_of : {B : Type 0} {g : Ghosts B} → Cells B g → Setup
+setup_of cells = about cells.steps
+
 -- the heap that is compacted
 abbrev pub heap_of : {B : Type 0} {g : Ghosts B} → Cells B g → Heap
 heap_of cells = (about cells.steps).heap
 
--- how many pages there are
+-- how many pages there are, compacted and fresh together
 abbrev pub pages_of : {B : Type 0} {g : Ghosts B} → Cells B g → ℕ
 pages_of cells = steps.pages_of cells.steps
 
 -- how many passes were made
 abbrev pub mutators_of : {B : Type 0} {g : Ghosts B} → Cells B g → ℕ
-mutators_of cells = cells.mutators
+mutators_of cells = (about cells.steps).mutators
 
 -- A pass was made with a table of cells, with `mutators` passes in all, and has not ended.
 pub record Works (table : Steps) (mutators : ℕ) (pass : Pass) : Type 0 where
@@ -37,7 +44,7 @@ pub record Works (table : Steps) (mutators : ℕ) (pass : Pass) : Type 0 where
   pub makes : number_of pass ≡ 0 → MakesNext mutators pass
 
 abbrev pub IsPassOf : {B : Type 0} {g : Ghosts B} → Cells B g → Pass → Type 0
-IsPassOf cells pass = Works cells.steps cells.mutators pass
+IsPassOf cells pass = Works cells.steps (mutators_of cells) pass
 
 -- the number of the page that was taken
 abbrev pub page_number : Taken → ℕ
@@ -54,11 +61,16 @@ journal_of taken = (page_of taken).journal
 abbrev pub words_of : Taken → List ℕ
 words_of taken = replayed (page_of taken).base (page_of taken).journal
 
--- The pass holds the page that it took. The page's base is the one that sliding compaction defines, and the pass has seen all of its journal.
+-- The pass holds the page that it took, and has seen all of its journal.
 pub record HasTaken (table : Steps) (pass : Pass) (taken : Taken) : Type 0 where
   pub inside : taken.number < steps.pages_of table
   pub holds : Holds taken.number pass
+  -- the page's base is the one that sliding compaction defines, and zeros on a fresh page
   pub page : taken.page.page ≡ page_with table taken.number (seen pass taken.number)
+  -- the journal is lawful
+  pub lawful : IsLawful (about table) taken.number (seen pass taken.number)
+  -- each reference that was written into the page is null or a start that the pass knows
+  pub references : (i : ℕ) (e : Entry) → get_elem? (seen pass taken.number) i ≡ some e → e.kind ≡ Reference → MayRefer pass e.value
 
 abbrev pub Has : {B : Type 0} {g : Ghosts B} → Cells B g → Pass → Taken → Type 0
 Has cells pass taken = HasTaken cells.steps pass taken

@@ -1,21 +1,24 @@
 -- What is known once all passes have ended.
-use Rattle.std.specs.Prelude.{◌≡◌, ℕ, ◌+◌, ◌<◌, ◌≤◌, ◌⊎◌, List, length, map, IsSome, Vec}
+use Rattle.std.specs.Prelude.{◌≡◌, ℕ, ◌<◌, ◌≤◌, ◌⊎◌, List, length, map, IsSome, Vec}
 use mathlib.Core.Option.{some}
 use mathlib.Core.Logic.{◌↔◌}
 use lib.ListN.{get_elem?}
+use Rattle.heap_layout.specs.declared.kind.Kind.TheVariants.{Reference}
+use Rattle.comp_journal.specs.declared.entry.Entry.{Entry}
 use Rattle.cell_steps.specs.Setup.{Setup, pages}
+use Rattle.cell_steps.specs.Lawful.{IsLawful}
 use Rattle.cell_steps.specs.Lists.{times, only, below, stamps, by, on, StartsWith, Rises}
 use Rattle.cell_steps.specs.History.{entry_of}
 use Rattle.cell_steps.specs.View.{Slot}
-use Rattle.cell_steps.specs.Closing.{journal_at, page_at, HasBase}
-use Rattle.cell_steps.specs.Passes.{about, number_of, builds_of, seen, did, Rests}
+use Rattle.cell_steps.specs.Closing.{journal_at, page_at, HasBase, LeadsToStart}
+use Rattle.cell_steps.specs.Passes.{number_of, builds_of, seen, did, Rests}
 use Rattle.cell_steps.specs.declared.pass.Pass.{Pass}
 use Rattle.cell_steps.specs.declared.steps.Steps.{Steps}
 use Rattle.page_plan.specs.declared.builder.Builder.{Ghosts}
 use Rattle.page_cells.specs.declared.cells.Cells.{Cells}
 use Rattle.page_cells.specs.declared.refusal.CellRefusal.{CellRefusal}
 use Rattle.page_cells.specs.declared.refusal.CellRefusal.TheVariants.{PassMissing, OutOfMemory}
-use Rattle.page_cells.specs.Cells.{Works}
+use Rattle.page_cells.specs.Cells.{mutators_of, Works}
 
 -- the passes were made with these cells, and none of them has a page
 pub record AllRest (steps : Steps) (mutators : ℕ) (passes : List Pass) : Type 0 where
@@ -23,7 +26,7 @@ pub record AllRest (steps : Steps) (mutators : ℕ) (passes : List Pass) : Type 
   pub rest : (k : ℕ) (pass : Pass) → get_elem? passes k ≡ some pass → Rests pass
 
 abbrev pub AreOf : {B : Type 0} {g : Ghosts B} → Cells B g → List Pass → Type 0
-AreOf cells passes = AllRest cells.steps cells.mutators passes
+AreOf cells passes = AllRest cells.steps (mutators_of cells) passes
 
 -- the pass is one of them
 abbrev pub IsIn : List Pass → Pass → Type 0
@@ -91,6 +94,10 @@ pub record IsEnd (u : Setup) (row : List Pass) (slots : List Slot) : Type 0 wher
   pub bases : (p : ℕ) → HasBase u p (page_at slots p)
   -- the stamps of each journal rise
   pub rises : (p : ℕ) → (n : ℕ) × Rises 0 (journal_at slots p) n
+  -- each journal is lawful
+  pub lawful : (p : ℕ) → IsLawful u p (journal_at slots p)
+  -- each reference that was written is null, or leads to a start that is older
+  pub references : (p i : ℕ) (e : Entry) → get_elem? (journal_at slots p) i ≡ some e → e.kind ≡ Reference → LeadsToStart u slots e.stamp e.value
   -- the stamps of all entries are the numbers below their count, each once
   pub stamps : (s : ℕ) → s < entries u slots → stamped_with u slots s ≡ 1
   pub no_more : (s : ℕ) → entries u slots ≤ s → stamped_with u slots s ≡ 0

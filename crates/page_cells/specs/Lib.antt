@@ -1,4 +1,4 @@
-pub mod Kinds
 pub mod Cells
 pub mod Calls
+pub mod Objects
 pub mod Ends

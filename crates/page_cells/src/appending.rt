@@ -1,10 +1,13 @@
-ghost use Rattle.std.specs.Prelude.{◌≡◌, ◌↔◌, ℕ, ◌<◌, [], ◌∷◌, ◌++◌, length, All, IfOk, OnErr, IsErrOf};
+ghost use Rattle.std.specs.Prelude.{◌≡◌, ◌↔◌, ℕ, ◌<◌, [], ◌∷◌, ◌++◌, length, All, IfOk, OnOk, OnErr, IsErrOf};
+ghost use Rattle.heap_layout.specs.declared.kind.Kind.TheVariants.{Header, Reference};
 ghost use Rattle.comp_journal.specs.declared.entry.Entry.{Entry as Written};
 ghost use Rattle.comp_journal.specs.declared.refusal.JournalRefusal.TheVariants.{JournalFull};
-ghost use Rattle.cell_steps.specs.Passes.{builds_of, did, number_of, seen, IsSame};
-ghost use Rattle.page_cells.specs.Cells.{heap_of, journal_of, page_number, page_of, Has, IsPassOf};
+ghost use Rattle.cell_steps.specs.Lawful.{Fits, FitsEntry};
+ghost use Rattle.cell_steps.specs.Knowing.{WritesEntry};
+ghost use Rattle.cell_steps.specs.Plays.{stamped};
+ghost use Rattle.cell_steps.specs.Passes.{builds_of, did, number_of, page_with, seen, view_of, Holds, IsSame, KnowsFresh, MayRefer};
+ghost use Rattle.page_cells.specs.Cells.{journal_of, page_number, page_of, setup_of, steps_of, Has, IsPassOf};
 ghost use Rattle.page_cells.specs.Calls.{Grows};
-ghost use Rattle.page_cells.specs.Kinds.{MayWrite};
 
 use crate::cells::Cells;
 use crate::taking::Taken;
@@ -16,7 +19,7 @@ use heap_layout::kind::Kind;
 use page_plan::builder::Builder;
 
 impl<B: Builder> Cells<B> {
-    /// Writes one entry into the page that the pass has taken, and answers its stamp.
+    /// Writes one entry into the page that the pass has taken, and answers its stamp. After a header the start bit of the new object is set.
     pub fn append(
         &self,
         pass: &mut Pass,
@@ -28,7 +31,8 @@ impl<B: Builder> Cells<B> {
         requires of { IsPassOf self.now pass.old }
         requires has { Has self.now pass.old taken.old }
         requires offset { offset < 64 }
-        requires lawful { MayWrite (heap_of self.now) (page_number taken.old) offset kind value }
+        requires fits { Fits (setup_of self.now) (page_number taken.old) (journal_of taken.old) kind (number_of pass.old) offset value }
+        requires leads { kind ≡ Reference → MayRefer pass.old value }
         ensures of { IsPassOf self.now pass.new × Has self.now pass.new taken.new }
         ensures grows { Grows pass.old pass.new × (builds_of pass.new ≡ builds_of pass.old) }
         ensures page { page_number taken.new ≡ page_number taken.old }
@@ -36,6 +40,7 @@ impl<B: Builder> Cells<B> {
         ensures journal { IfOk result (λ stamp. journal_of taken.new ≡ journal_of taken.old ++ record { stamp = stamp; writer = number_of pass.old; kind = kind; offset = offset; value = value } ∷ []) }
         ensures did { IfOk result (λ stamp. did pass.new ≡ did pass.old ++ (page_number taken.old, record { stamp = stamp; writer = number_of pass.old; kind = kind; offset = offset; value = value }) ∷ []) }
         ensures above { IfOk result (λ stamp. (q : ℕ) → All (λ (entry : Written). entry.stamp < stamp) (seen pass.old q)) }
+        ensures start { OnOk result (kind ≡ Header → KnowsFresh pass.new (page_number taken.old) offset) }
         ensures refused { OnErr result (IsSame pass.old pass.new × (page_of taken.new ≡ page_of taken.old)) }
     {
         prove!(taken.page.journal().len() <= MOST_ENTRIES);
@@ -47,7 +52,28 @@ impl<B: Builder> Cells<B> {
             offset,
             value,
         };
+        Ok(self.write_reserved(pass, taken, draft))
+    }
+
+    /// Writes an entry for which room is reserved, and after a header sets the start bit. It takes no memory.
+    fn write_reserved(&self, pass: &mut Pass, taken: &mut Taken, draft: Entry) -> u64
+        requires of { IsPassOf self.now pass.old }
+        requires has { Has self.now pass.old taken.old }
+        requires room { (0 < taken.old.page.room) × (length (journal_of taken.old) < 1024) }
+        requires draft { (draft.writer ≡ number_of pass.old) × (draft.offset < 64) }
+        requires fits { FitsEntry (setup_of self.now) (page_number taken.old) (journal_of taken.old) draft }
+        requires leads { draft.kind ≡ Reference → MayRefer pass.old draft.value }
+        ensures of { IsPassOf self.now pass.new × (number_of pass.new ≡ number_of pass.old) }
+        ensures holds { Holds (page_number taken.old) pass.new }
+        ensures writes { WritesEntry (page_number taken.old) (stamped draft result) (view_of pass.old) (view_of pass.new) }
+        ensures page { (page_number taken.new ≡ page_number taken.old) × (page_of taken.new ≡ page_with (steps_of self.now) (page_number taken.old) (seen pass.new (page_number taken.old))) }
+        ensures start { draft.kind ≡ Header → KnowsFresh pass.new (page_number taken.old) draft.offset }
+    {
         let number = taken.number;
-        Ok(self.steps.draw_stamp(pass, number, &mut taken.page, draft))
+        let stamp = self.steps.draw_stamp(pass, number, &mut taken.page, draft);
+        if let Kind::Header = draft.kind {
+            self.steps.set_start(pass, number, draft.offset);
+        }
+        stamp
     }
 }

@@ -1,6 +1,7 @@
 ghost use Rattle.std.specs.Prelude.{◌≡◌, ◌↔◌, ℕ, ◌+◌, ◌<◌, ◌≤◌, Ok, false, true, IfOk, OnOk, OnErr, IsErrOf};
-ghost use Rattle.cell_steps.specs.Passes.{builds_of, last, lost, HasSeenBuilt, Rests};
-ghost use Rattle.page_cells.specs.Cells.{pages_of, IsPassOf};
+ghost use Rattle.cell_steps.specs.Setup.{base_of};
+ghost use Rattle.cell_steps.specs.Passes.{builds_of, last, lost, HasSeenBuilt, KnowsFresh, Rests};
+ghost use Rattle.page_cells.specs.Cells.{mutators_of, pages_of, setup_of, IsPassOf};
 ghost use Rattle.page_cells.specs.Calls.{builds_with, Grows, WroteNothing};
 ghost use Rattle.page_cells.specs.declared.refusal.CellRefusal.TheVariants.{Busy, NoSuchPage, PassMissing};
 
@@ -8,6 +9,8 @@ use crate::cells::Cells;
 use crate::refusal::CellRefusal;
 use cell_steps::pass::Pass;
 use comp_journal::journaled_page::JournaledPage;
+use heap_layout::fault::OutOfMemory;
+use heap_layout::page_words::PageWords;
 use page_plan::builder::Builder;
 use std::alloc::Global;
 
@@ -23,9 +26,11 @@ impl<B: Builder> Cells<B> {
         ensures page { IsErrOf result NoSuchPage ↔ (pages_of self.now ≤ p) }
         ensures named { (k : ℕ) → IsErrOf result (PassMissing k) → ⊥ }
         ensures busy { (q : ℕ) → IsErrOf result (Busy q) → (q ≡ p) × (lost pass.old p < lost pass.new p) }
+        ensures alone { mutators_of self.now ≡ 1 → (q : ℕ) → IsErrOf result (Busy q) → ⊥ }
         ensures builds { IfOk result (λ built. (builds_of pass.new ≡ builds_with (builds_of pass.old) p built) × HasSeenBuilt pass.new p) }
         ensures refused { OnErr result (builds_of pass.new ≡ builds_of pass.old) }
         ensures seen { p < pages_of self.now → HasSeenBuilt pass.old p → result ≡ Ok false }
+        ensures known { (offset : ℕ) → KnowsFresh pass.old p offset → result ≡ Ok false }
     {
         if p >= self.pages() {
             return Err(CellRefusal::NoSuchPage);
@@ -38,6 +43,18 @@ impl<B: Builder> Cells<B> {
             Ok(false)
         } else {
             Err(CellRefusal::Busy(p))
+        }
+    }
+
+    /// The words with which page `p` begins.
+    fn base_words(&self, alloc: Global, p: u64) -> Result<PageWords, OutOfMemory>
+        requires { p < pages_of self.now }
+        ensures { IfOk result (λ words. words ≡ base_of (setup_of self.now) p) }
+    {
+        if p < self.compacted {
+            self.builder.build(alloc, p)
+        } else {
+            PageWords::zeros(alloc)
         }
     }
 
@@ -59,6 +76,7 @@ impl<B: Builder> Cells<B> {
         ensures page { IsErrOf result NoSuchPage → ⊥ }
         ensures named { (k : ℕ) → IsErrOf result (PassMissing k) → ⊥ }
         ensures busy { (q : ℕ) → IsErrOf result (Busy q) → (q ≡ p) × (lost pass.old p < lost pass.new p) }
+        ensures alone { mutators_of self.now ≡ 1 → (q : ℕ) → IsErrOf result (Busy q) → ⊥ }
         ensures built { OnOk result ((builds_of pass.new ≡ builds_with (builds_of pass.old) p true) × HasSeenBuilt pass.new p × (last pass.new p ≡ 1)) }
         ensures refused { OnErr result (builds_of pass.new ≡ builds_of pass.old) }
     {
@@ -66,7 +84,7 @@ impl<B: Builder> Cells<B> {
         if self.steps.claim_empty(pass, p) != 0 {
             return Err(CellRefusal::Busy(p));
         }
-        match self.builder.build(alloc, p) {
+        match self.base_words(alloc, p) {
             Ok(words) => {
                 let page = JournaledPage::new(alloc, words);
                 self.steps.send_new_home(pass, p, page);

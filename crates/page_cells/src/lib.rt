@@ -7,6 +7,7 @@ pub mod cells;
 pub mod closing;
 mod opening;
 pub mod refusal;
+mod starting;
 pub mod taking;
 
 pub use cell_steps::pass::Pass;

@@ -4,3 +4,4 @@ pub mod Pages
 pub mod Marks
 pub mod Covering
 pub mod Shapes
+pub mod References

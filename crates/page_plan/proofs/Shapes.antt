@@ -32,7 +32,7 @@ shape-past here (object ∷ objects) address le =
     ∙ shape-past (here + size object) objects address (omega arith)
 
 -- the k-th object starts behind the words of those before it
-shape-start : (here : ℕ) (objects : List Object) (k address : ℕ) (d : Object) → k < length objects → address ≡ here + live_words (take k objects)
+pub shape-start : (here : ℕ) (objects : List Object) (k address : ℕ) (d : Object) → k < length objects → address ≡ here + live_words (take k objects)
     → header_from here objects address ≡ Some (get_or objects k d).header
 shape-start here [] k address d lt at = absurd (omega arith)
 shape-start here (object ∷ objects) zero address d lt at =

@@ -1,9 +1,14 @@
-ghost use Rattle.std.specs.Prelude.{◌≡◌, ◌≢◌, ℕ, ◌+◌, ◌/◌, ◌%◌, ◌<◌, [], ◌∷◌, length, Some, None, IfOk, IfErr};
+ghost use Rattle.std.specs.Prelude.{◌≡◌, ◌≢◌, ℕ, ◌+◌, ◌/◌, ◌%◌, ◌<◌, ◌≤◌, [], ◌∷◌, length, Some, None, IfOk, IfErr};
 ghost use Rattle.comp_journal.specs.Journal.{Reserved};
-ghost use Rattle.cell_steps.specs.Lists.{StartsWith, Rises};
+ghost use mathlib.Core.Option.{some};
+ghost use lib.ListN.{get_elem?};
+ghost use Rattle.heap_layout.specs.declared.kind.Kind.TheVariants.{Header, Reference};
+ghost use Rattle.comp_journal.specs.declared.entry.Entry.{Entry as Written};
+ghost use Rattle.cell_steps.specs.Lists.{by, on, StartsWith, Rises};
+ghost use Rattle.cell_steps.specs.Lawful.{owed_by, FitsEntry, HasHead, IsLawful};
 ghost use Rattle.cell_steps.specs.Knowing.{KnowsAsBefore, SeesPage, TellsPage, WritesEntry};
 ghost use Rattle.cell_steps.specs.Plays.{after_load, after_exchange, arriving, leaving, seeing, telling, drawing, stamped};
-ghost use Rattle.cell_steps.specs.Passes.{pages_of, view_of, number_of, carried, seen, lost, last, HasSeenBuilt, IsPassOf, Rests, Builds, Holds, page_with, building_word, held_word, HasRoom, KeepsRoom};
+ghost use Rattle.cell_steps.specs.Passes.{about, pages_of, view_of, number_of, carried, seen, did, lost, last, HasSeenBuilt, KnowsFresh, MayRefer, next_port, IsAlone, IsNotMade, IsPassOf, Rests, Builds, Holds, HasAt, page_with, building_word, held_word, HasRoom, KeepsRoom};
 
 use crate::pass::Pass;
 use crate::plays::{ClaimEmpty, ClaimHome, Draft, DrawStamp, GiveUp, LoadState, SendHeld, SendNew};
@@ -35,7 +40,10 @@ impl Steps {
         ensures view { view_of pass.new ≡ after_load (view_of pass.old) p result }
         ensures carried { carried pass.new ≡ carried pass.old }
         ensures built { HasSeenBuilt pass.old p → result % 2 ≡ 1 }
+        ensures known { (offset : ℕ) → KnowsFresh pass.old p offset → result % 2 ≡ 1 }
         ensures own { 1 < result → result / 2 ≡ number_of pass.old + 1 → (view_of pass.old).at ≡ p + 1 }
+        ensures made { 0 < next_port pass.old → 1 < result → result / 2 < next_port pass.old }
+        ensures alone { IsAlone pass.old → result ≡ last pass.old p }
         ensures knows { KnowsAsBefore (view_of pass.old) (view_of pass.new) }
         ensures found { (last pass.new p ≡ result) × (result % 2 ≡ 1 → HasSeenBuilt pass.new p) }
         ensures lost { Rests pass.old → 1 < result → lost pass.new p ≡ lost pass.old p + 1 }
@@ -55,6 +63,7 @@ impl Steps {
         ensures missed { result ≢ 0 → Rests pass.new × (view_of pass.new ≡ after_exchange (view_of pass.old) p result result) }
         ensures knows { KnowsAsBefore (view_of pass.old) (view_of pass.new) }
         ensures lost { result ≢ 0 → last pass.old p ≡ 0 → lost pass.new p ≡ lost pass.old p + 1 }
+        ensures alone { IsAlone pass.old → result ≡ last pass.old p }
     {
         let building = building(pass.number);
         self.table
@@ -72,8 +81,15 @@ impl Steps {
         ensures view { IfOk result (λ taken. view_of pass.new ≡ seeing (arriving (after_exchange (view_of pass.old) p 1 (held_word (number_of pass.old))) p 1) p taken.page.journal) }
         ensures missed { IfErr result (λ found. Rests pass.new × (view_of pass.new ≡ after_exchange (view_of pass.old) p found found)) }
         ensures sees { IfOk result (λ taken. SeesPage p taken.page.journal (view_of pass.old) (view_of pass.new)) }
+        ensures lawful { IfOk result (λ taken. IsLawful (about self.now) p taken.page.journal) }
+        ensures heads { IfOk result (λ taken. (offset : ℕ) → KnowsFresh pass.old p offset → HasHead taken.page.journal offset) }
+        ensures starts { IfOk result (λ taken. (i : ℕ) (e : Written) → get_elem? taken.page.journal i ≡ some e → e.kind ≡ Header → KnowsFresh pass.new p e.offset) }
+        ensures references { IfOk result (λ taken. (i : ℕ) (e : Written) → get_elem? taken.page.journal i ≡ some e → e.kind ≡ Reference → MayRefer pass.new e.value) }
+        ensures own { IfOk result (λ taken. by (number_of pass.old) taken.page.journal ≡ on p (did pass.old)) }
+        ensures strangers { IfOk result (λ taken. (k : ℕ) → IsNotMade pass.old k → by k taken.page.journal ≡ []) }
         ensures knows { IfErr result (λ found. KnowsAsBefore (view_of pass.old) (view_of pass.new)) }
         ensures lost { IfErr result (λ found. last pass.old p ≡ 1 → lost pass.new p ≡ lost pass.old p + 1) }
+        ensures alone { IfErr result (λ found. IsAlone pass.old → (found ≡ last pass.old p) × (found ≢ 1)) }
     {
         let held = held(pass.number);
         let found = self
@@ -88,18 +104,18 @@ impl Steps {
     }
 
     /// Sends page `p` home after it was built, and tells the build. It takes no memory.
-    pub fn send_new_home(&self, pass: &mut Pass, p: u64, page: JournaledPage)
+    pub fn send_new_home(&self, pass: &mut Pass, p: u64, built: JournaledPage)
         requires of { IsPassOf self.now pass.old }
         requires builds { Builds p pass.old }
         requires inside { p < pages_of self.now }
-        requires page { page.page ≡ page_with self.now p [] }
+        requires page { built.page ≡ page_with self.now p [] }
         requires room { HasRoom pass.old }
         ensures of { IsPassOf self.now pass.new × (number_of pass.new ≡ number_of pass.old) × Rests pass.new }
         ensures view { view_of pass.new ≡ telling (leaving (view_of pass.old) p 1) p }
         ensures tells { TellsPage p (view_of pass.old) (view_of pass.new) }
         ensures left { last pass.new p ≡ 1 }
     {
-        self.put_in(pass, p, page);
+        self.put_in(pass, p, built);
         self.tell_build(pass, p);
     }
 
@@ -141,7 +157,9 @@ impl Steps {
         requires page { page.old.page ≡ page_with self.now p (seen pass.old p) }
         requires room { (0 < page.old.room) × (length page.old.page.journal < 1024) }
         requires draft { (draft.writer ≡ number_of pass.old) × (draft.offset < 64) }
-        ensures of { IsPassOf self.now pass.new × KeepsRoom pass.old pass.new × Holds p pass.new }
+        requires fits { FitsEntry (about self.now) p (seen pass.old p) draft }
+        requires reference { draft.kind ≡ Reference → MayRefer pass.old draft.value }
+        ensures of { IsPassOf self.now pass.new × KeepsRoom pass.old pass.new × HasAt 1 (owed_by draft.kind draft.offset) p pass.new }
         ensures view { view_of pass.new ≡ drawing (view_of pass.old) p (stamped draft result) }
         ensures writes { WritesEntry p (stamped draft result) (view_of pass.old) (view_of pass.new) }
         ensures page { page.new.page ≡ page_with self.now p (seen pass.new p) }
@@ -155,7 +173,7 @@ impl Steps {
     /// The store after a build.
     fn tell_build(&self, pass: &mut Pass, p: u64)
         requires of { IsPassOf self.now pass.old }
-        requires at { ((view_of pass.old).at ≡ p + 1) × ((view_of pass.old).mode ≡ 0) }
+        requires at { ((view_of pass.old).at ≡ p + 1) × ((view_of pass.old).mode ≡ 0) × ((view_of pass.old).owes ≡ 0) }
         requires inside { p < pages_of self.now }
         requires slot { (room : ℕ) × (carried pass.old ≡ (p, Some record { page = page_with self.now p []; room = room }) ∷ []) }
         requires room { HasRoom pass.old }
@@ -175,11 +193,13 @@ impl Steps {
         requires inside { p < pages_of self.now }
         requires room { length (seen pass.old p) < 1024 }
         requires draft { (D.entry ≡ _draft) × (_draft.writer ≡ number_of pass.old) }
-        ensures of { IsPassOf self.now pass.new × KeepsRoom pass.old pass.new × Holds p pass.new }
+        requires fits { FitsEntry (about self.now) p (seen pass.old p) _draft }
+        requires reference { _draft.kind ≡ Reference → MayRefer pass.old _draft.value }
+        ensures of { IsPassOf self.now pass.new × KeepsRoom pass.old pass.new × HasAt 1 (owed_by _draft.kind _draft.offset) p pass.new }
         ensures view { view_of pass.new ≡ drawing (view_of pass.old) p (stamped _draft result) }
         ensures above { (q : ℕ) → Rises 0 (seen pass.old q) result }
     {
-        let clock = self.table.slot_count();
+        let clock = self.table.slot_count() + self.fresh as usize;
         self.table
             .shared
             .fetch_add::<DrawStamp<D>>(&mut pass.seat, clock, 1)

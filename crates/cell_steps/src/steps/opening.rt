@@ -1,4 +1,4 @@
-ghost use Rattle.std.specs.Prelude.{◌≡◌, IfOk};
+ghost use Rattle.std.specs.Prelude.{◌≡◌, ◌≤◌, IfOk};
 ghost use Rattle.heap_layout.specs.Heap.{live};
 ghost use Rattle.page_plan.specs.Sliding.{pages};
 ghost use Rattle.cell_steps.specs.Whole.{first_view};
@@ -15,25 +15,31 @@ use page_plan::plan::Plan;
 use std::alloc::Global;
 
 impl Steps {
-    /// The cells of the plan's pages, all empty, and the first pass, which makes the others.
-    pub fn new(alloc: Global, plan: &Plan) -> Result<(Steps, Pass), OutOfMemory>
-        ensures about { IfOk result (λ made. (about made.0).heap ≡ plan.now) }
-        ensures pages { IfOk result (λ made. pages_of made.0 ≡ pages (live plan.now)) }
+    /// The cells of the plan's pages and of fresh ones, all empty, and the first pass, which makes the others.
+    pub fn new(
+        alloc: Global,
+        plan: &Plan,
+        fresh: u32,
+        mutators: u8,
+    ) -> Result<(Steps, Pass), OutOfMemory>
+        requires fresh { fresh ≤ 4096 }
+        requires mutators { (1 ≤ mutators) × (mutators ≤ 64) }
+        ensures about { IfOk result (λ made. about made.0 ≡ record { heap = plan.now; compacted = pages (live plan.now); fresh = fresh; mutators = mutators }) }
         ensures first { IfOk result (λ made. IsPassOf made.0 made.1 × Rests made.1 × (view_of made.1 ≡ first_view (about made.0)) × (number_of made.1 ≡ 0)) }
     {
-        let frame = Frame::of(plan);
-        let pages = frame.pages as usize;
-        let words = vec![in alloc; 0; pages + 1]?;
+        let frame = Frame::of(plan, fresh, mutators);
+        let pages = frame.compacted as usize + fresh as usize;
+        let words = vec![in alloc; 0; pages + fresh as usize + 1]?;
         let (table, seat) = Table::vacant(alloc, &words, pages, &frame)?;
         let first = Pass {
             seat,
             number: 0,
             builds: Vec::new(alloc),
         };
-        Ok((Steps { table }, first))
+        Ok((Steps { table, fresh }, first))
     }
 
-    /// How many pages there are.
+    /// How many pages there are, compacted and fresh together.
     pub fn pages(&self) -> u64
         ensures { result ≡ pages_of self.now }
     {

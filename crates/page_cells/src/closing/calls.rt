@@ -1,4 +1,4 @@
-ghost use Rattle.std.specs.Prelude.{◌≡◌, ℕ, ◌<◌, ◌≤◌, List, [], length, map, vec_capacity, IfOk, IfErr, OnOk};
+ghost use Rattle.std.specs.Prelude.{◌≡◌, ℕ, ◌^◌, ◌<◌, ◌≤◌, List, [], length, map, vec_capacity, IfOk, IfErr, OnOk};
 ghost use Rattle.cell_steps.specs.declared.pass.Pass.{Pass as Made};
 ghost use Rattle.cell_steps.specs.Passes.{about, builds_of};
 ghost use Rattle.page_cells.specs.Cells.{mutators_of, pages_of, steps_of};
@@ -24,7 +24,7 @@ struct Room {
 impl Room {
     /// Room for this many pages and passes.
     fn reserve(alloc: Global, pages: u64, mutators: u8) -> Result<Room, OutOfMemory>
-        requires { pages ≤ 1073741824 }
+        requires { pages < 2 ^ 31 }
         ensures row { IfOk result (λ room. (room.row.items ≡ []) × (mutators ≤ vec_capacity room.row)) }
         ensures pages { IfOk result (λ room. (room.pages.items ≡ []) × (pages ≤ vec_capacity room.pages)) }
         ensures builds { IfOk result (λ room. (room.builds.items ≡ []) × (mutators ≤ vec_capacity room.builds)) }
@@ -87,6 +87,8 @@ impl<B: Builder> Cells<B> {
         let Cells {
             steps,
             builder: _,
+            compacted: _,
+            fresh: _,
             mutators,
         } = self;
         let mut row = order::in_order(passes, mutators, row);

@@ -1,9 +1,11 @@
-ghost use Rattle.std.specs.Prelude.{◌≡◌, ◌↔◌, ℕ, ◌+◌, ◌<◌, ◌≤◌, IfOk, OnOk, OnErr, IsErrOf, slice_index};
-ghost use Rattle.cell_steps.specs.Lists.{StartsWith};
-ghost use Rattle.cell_steps.specs.Passes.{builds_of, did, last, lost, seen, HasSeenBuilt, Rests};
-ghost use Rattle.page_cells.specs.Cells.{journal_of, page_number, pages_of, words_of, Has, IsPassOf};
+ghost use Rattle.std.specs.Prelude.{◌≡◌, ◌↔◌, ℕ, ◌+◌, ◌<◌, ◌≤◌, [], IfOk, OnOk, OnErr, IsErrOf, slice_index};
+ghost use Rattle.heap_layout.specs.declared.kind.Kind.TheVariants.{Reference};
+ghost use Rattle.cell_steps.specs.Lists.{by, on, StartsWith};
+ghost use Rattle.cell_steps.specs.Lawful.{HasHead, IsField, IsLawful};
+ghost use Rattle.cell_steps.specs.Passes.{builds_of, did, number_of, last, lost, seen, HasSeenBuilt, KnowsFresh, MayRefer, Rests};
+ghost use Rattle.page_cells.specs.Cells.{journal_of, mutators_of, page_number, pages_of, setup_of, words_of, Has, IsPassOf};
 ghost use Rattle.page_cells.specs.Calls.{Grows, MayHaveBuilt, WroteNothing};
-ghost use Rattle.page_cells.specs.declared.refusal.CellRefusal.TheVariants.{Busy, NoSuchPage, PassMissing};
+ghost use Rattle.page_cells.specs.declared.refusal.CellRefusal.TheVariants.{Busy, NoSuchPage, OutOfMemory, PassMissing};
 
 use crate::cells::Cells;
 use crate::refusal::CellRefusal;
@@ -11,6 +13,7 @@ use crate::taking::Taken;
 use cell_steps::pass::Pass;
 use comp_journal::entry::Entry;
 use page_plan::builder::Builder;
+use page_plan::laws;
 use std::alloc::Global;
 
 impl Taken {
@@ -39,22 +42,54 @@ impl<B: Builder> Cells<B> {
         ensures page { IsErrOf result NoSuchPage ↔ (pages_of self.now ≤ p) }
         ensures named { (k : ℕ) → IsErrOf result (PassMissing k) → ⊥ }
         ensures busy { (q : ℕ) → IsErrOf result (Busy q) → (q ≡ p) × (lost pass.old p < lost pass.new p) }
+        ensures alone { mutators_of self.now ≡ 1 → (q : ℕ) → IsErrOf result (Busy q) → ⊥ }
         ensures taken { IfOk result (λ taken. (page_number taken ≡ p) × Has self.now pass.new taken × HasSeenBuilt pass.new p) }
         ensures journal { IfOk result (λ taken. StartsWith (journal_of taken) (seen pass.old p)) }
+        ensures lawful { IfOk result (λ taken. IsLawful (setup_of self.now) p (journal_of taken)) }
+        ensures heads { IfOk result (λ taken. (offset : ℕ) → KnowsFresh pass.old p offset → HasHead (journal_of taken) offset) }
+        ensures own { IfOk result (λ taken. by (number_of pass.old) (journal_of taken) ≡ on p (did pass.old)) }
+        ensures strangers { IfOk result (λ taken. number_of pass.old ≡ 0 → (k : ℕ) → mutators_of self.now ≤ k → by k (journal_of taken) ≡ []) }
         ensures others { (q : ℕ) → (q ≡ p → ⊥) → seen pass.new q ≡ seen pass.old q }
         ensures builds { MayHaveBuilt p pass.old pass.new }
+        ensures built { HasSeenBuilt pass.old p → builds_of pass.new ≡ builds_of pass.old }
+        ensures known { (offset : ℕ) → KnowsFresh pass.old p offset → builds_of pass.new ≡ builds_of pass.old }
+        ensures memory { HasSeenBuilt pass.old p → IsErrOf result OutOfMemory → ⊥ }
+        ensures memory_known { (offset : ℕ) → KnowsFresh pass.old p offset → IsErrOf result OutOfMemory → ⊥ }
         ensures refused { OnErr result (Rests pass.new × WroteNothing pass.old pass.new) }
     {
         if p >= self.pages() {
             return Err(CellRefusal::NoSuchPage);
         }
+        self.find_home(alloc, pass, p)?;
+        self.take_home(pass, p)
+    }
+
+    /// Builds page `p` if its cell is empty. Where the answer is Ok, the pass last found or left the page at home.
+    fn find_home(&self, alloc: Global, pass: &mut Pass, p: u64) -> Result<(), CellRefusal>
+        requires of { IsPassOf self.now pass.old }
+        requires rests { Rests pass.old }
+        requires inside { p < pages_of self.now }
+        ensures of { IsPassOf self.now pass.new × Rests pass.new }
+        ensures grows { Grows pass.old pass.new × WroteNothing pass.old pass.new }
+        ensures page { IsErrOf result NoSuchPage → ⊥ }
+        ensures named { (k : ℕ) → IsErrOf result (PassMissing k) → ⊥ }
+        ensures busy { (q : ℕ) → IsErrOf result (Busy q) → (q ≡ p) × (lost pass.old p < lost pass.new p) }
+        ensures alone { mutators_of self.now ≡ 1 → (q : ℕ) → IsErrOf result (Busy q) → ⊥ }
+        ensures home { OnOk result (last pass.new p ≡ 1) }
+        ensures builds { MayHaveBuilt p pass.old pass.new }
+        ensures built { HasSeenBuilt pass.old p → builds_of pass.new ≡ builds_of pass.old }
+        ensures known { (offset : ℕ) → KnowsFresh pass.old p offset → builds_of pass.new ≡ builds_of pass.old }
+        ensures memory { HasSeenBuilt pass.old p → IsErrOf result OutOfMemory → ⊥ }
+        ensures memory_known { (offset : ℕ) → KnowsFresh pass.old p offset → IsErrOf result OutOfMemory → ⊥ }
+    {
         let found = self.steps.load_state(pass, p);
         if found == 0 {
-            self.build_into(alloc, pass, p)?;
-        } else if found != 1 {
-            return Err(CellRefusal::Busy(p));
+            self.build_into(alloc, pass, p)
+        } else if found == 1 {
+            Ok(())
+        } else {
+            Err(CellRefusal::Busy(p))
         }
-        self.take_home(pass, p)
     }
 
     /// Takes page `p`, which the pass last found or left at home.
@@ -66,8 +101,13 @@ impl<B: Builder> Cells<B> {
         ensures of { IsPassOf self.now pass.new }
         ensures grows { Grows pass.old pass.new × (did pass.new ≡ did pass.old) }
         ensures busy { OnErr result (IsErrOf result (Busy p) × (lost pass.old p < lost pass.new p)) }
+        ensures alone { mutators_of self.now ≡ 1 → OnErr result ⊥ }
         ensures taken { IfOk result (λ taken. (page_number taken ≡ p) × Has self.now pass.new taken × HasSeenBuilt pass.new p) }
         ensures journal { IfOk result (λ taken. StartsWith (journal_of taken) (seen pass.old p)) }
+        ensures lawful { IfOk result (λ taken. IsLawful (setup_of self.now) p (journal_of taken)) }
+        ensures heads { IfOk result (λ taken. (offset : ℕ) → KnowsFresh pass.old p offset → HasHead (journal_of taken) offset) }
+        ensures own { IfOk result (λ taken. by (number_of pass.old) (journal_of taken) ≡ on p (did pass.old)) }
+        ensures strangers { IfOk result (λ taken. number_of pass.old ≡ 0 → (k : ℕ) → mutators_of self.now ≤ k → by k (journal_of taken) ≡ []) }
         ensures others { (q : ℕ) → (q ≡ p → ⊥) → seen pass.new q ≡ seen pass.old q }
         ensures builds { builds_of pass.new ≡ builds_of pass.old }
         ensures refused { OnErr result (Rests pass.new × WroteNothing pass.old pass.new) }
@@ -86,6 +126,20 @@ impl<B: Builder> Cells<B> {
         ensures same { _pass.new ≡ _pass.old }
     {
         taken.page.words()[usize::from(offset)]
+    }
+
+    /// The reference at an offset of the page that the pass has taken: null, or a start that the pass knows.
+    pub fn held_reference(&self, _pass: &mut Pass, taken: &Taken, offset: u8) -> u64
+        requires of { IsPassOf self.now _pass.old }
+        requires has { Has self.now _pass.old taken.now }
+        requires field { IsField (setup_of self.now) (page_number taken.now) (journal_of taken.now) Reference offset }
+        ensures word { result ≡ slice_index (words_of taken.now) offset }
+        ensures leads { MayRefer _pass.new result }
+        ensures same { _pass.new ≡ _pass.old }
+    {
+        laws::references_lead(self.builder.plan());
+        laws::pages_are_parts();
+        self.held_word(_pass, taken, offset)
     }
 
     /// Puts the page back. It takes no memory, and is always done.

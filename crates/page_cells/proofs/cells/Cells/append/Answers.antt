@@ -1,22 +1,26 @@
-use Rattle.std.proofs.Common.{◌≡◌, ◌≢◌, ◌<◌, ◌≤◌, ℕ, List, All, length, ap, subst, sym, ◌∙◌, arith}
+use Rattle.std.proofs.Common.{◌∙◌, ap, sym, subst}
 use Rattle.comp_journal.specs.Journal.{Journaled}
-use Rattle.comp_journal.specs.declared.entry.Entry.{Entry}
-use Rattle.cell_steps.specs.Plays.{stamped}
+use Rattle.cell_steps.specs.Lawful.{Fits}
+use Rattle.cell_steps.specs.Passes.{about, number_of, seen}
 use Rattle.page_cells.proofs.Growing.{grows_writing, rises_below}
+use Rattle.page_cells.proofs.Held.{holds_more}
 use Rattle.page_cells.proofs.cells.Cells.append.Goals as goal
 
-pub draw_stamp-requires-clause-room : goal.draw_stamp-requires-clause-room
-draw_stamp-requires-clause-room g c =
-    let h = c.in_ok-reserve_entry.ensures in
-    let few : length c.args.taken.now.page.page.journal ≤ 1024 = c.journal.ensures.few in
-    let same = ap (λ (page : Journaled). length page.journal) h.same in
-    let not_full : length c.args.taken.now.page.page.journal ≢ 1024 = λ e. let bad = h.full.1 e in cc in
-    (h.room, omega arith)
+pub returns-clause-of : goal.returns-clause-of
+returns-clause-of g c =
+    let h = c.write_reserved.ensures in
+    let table = c.args.self.now.steps in
+    let old = c.args.pass.now in
+    let before = c.args.taken.now in
+    let journal = ap (λ (page : Journaled). page.journal) c.requires.has.page in
+    let fits = subst (λ l. Fits (about table) before.number l c.args.kind (number_of old) c.args.offset c.args.value) journal c.requires.fits in
+    let written = subst (λ writer. Fits (about table) before.number (seen old before.number) c.args.kind writer c.args.offset c.args.value) (sym c.number.ensures) fits in
+    (h.of.0, holds_more table old c.write_reserved.new.pass before c.write_reserved.new.taken _ c.requires.has (h.of.0.of.about ∙ sym c.requires.of.of.about) h.page.0 h.holds h.page.1 h.writes written c.requires.leads)
 
 pub returns-clause-grows : goal.returns-clause-grows
 returns-clause-grows g c =
-    let h = c.draw_stamp.ensures in
-    (grows_writing c.args.taken.now.number _ c.args.pass.now c.draw_stamp.new.pass h.of.1.0 h.writes, h.writes.told)
+    let h = c.write_reserved.ensures in
+    (grows_writing c.args.taken.now.number _ c.args.pass.now c.write_reserved.new.pass h.of.1 h.writes, h.writes.told)
 
 pub returns-clause-above : goal.returns-clause-above
-returns-clause-above g c = λ q. rises_below 0 _ c.draw_stamp.result (c.draw_stamp.ensures.writes.above q)
+returns-clause-above g c = λ q. rises_below 0 _ c.write_reserved.result (c.write_reserved.ensures.writes.above q)

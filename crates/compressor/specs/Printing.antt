@@ -1,0 +1,44 @@
+-- What a call tells of the output and of the file that is read: a refusal for a device comes exactly where one of its calls failed.
+use Rattle.std.specs.Prelude.{◌≡◌, ℕ, ◌+◌, List, [], ◌∷◌, ◌++◌, Result, Ok, Err}
+use Rattle.std.specs.Fmt.{decimal}
+use Rattle.heap_layout.specs.Counted.{CountsFailure}
+use Rattle.compressor.specs.declared.refusal.Input.TheVariants.{Image}
+use Rattle.compressor.specs.declared.refusal.Refusal.{Refusal}
+use Rattle.compressor.specs.declared.refusal.Refusal.TheVariants.{Layout, CannotOpen, CannotPrint, NoSuchWord, OutOfMemory}
+
+-- a number as it is printed: its decimal digits and a line feed
+abbrev pub line_of : ℕ → List ℕ
+line_of number = decimal number ++ 10 ∷ []
+
+-- a name, a number and a line feed
+abbrev pub named : List ℕ → ℕ → List ℕ
+named name number = name ++ line_of number
+
+-- a name and its number, and then a second name with its number and a line feed
+abbrev pub numbered : List ℕ → ℕ → List ℕ → ℕ → List ℕ
+numbered name number second value = name ++ decimal number ++ named second value
+
+-- a call answers `CannotPrint` exactly where one more call of the output failed
+abbrev pub CountsPrint : {T : Type 0} → ℕ → ℕ → Result T Refusal → Type 0
+CountsPrint before after (Ok _) = after ≡ before
+CountsPrint before after (Err CannotPrint) = after ≡ before + 1
+CountsPrint before after (Err _) = after ≡ before
+
+-- a call answers `Device` exactly where one more call of the reader failed
+abbrev pub CountsRead : {T : Type 0} → ℕ → ℕ → Result T Refusal → Type 0
+CountsRead before after (Ok _) = after ≡ before
+CountsRead {T = T} before after (Err (Layout fault)) = CountsFailure {T = T} before after (Err fault)
+CountsRead before after (Err _) = after ≡ before
+
+-- the image could not be opened, or a growth was refused
+abbrev pub IsOfOpening : Refusal → Type 0
+IsOfOpening (CannotOpen Image) = Unit {0}
+IsOfOpening OutOfMemory = Unit {0}
+IsOfOpening _ = ⊥
+
+-- the image is refused, the index is past the last page, or a growth was refused
+abbrev pub IsOfWord : Refusal → Type 0
+IsOfWord (Layout _) = Unit {0}
+IsOfWord (NoSuchWord _) = Unit {0}
+IsOfWord OutOfMemory = Unit {0}
+IsOfWord _ = ⊥

@@ -1,0 +1,21 @@
+use Rattle.std.proofs.Common.{◌∙◌, ap, sym}
+use Rattle.cell_steps.specs.Passes.{about, view_of}
+use Rattle.cell_steps.specs.declared.view.View.{View}
+use Rattle.page_cells.proofs.Growing.{grows_knowing}
+use Rattle.page_cells.proofs.Held.{holds_still}
+use Rattle.page_cells.proofs.Places.{knows_place}
+use Rattle.page_cells.proofs.cells.Cells.start_known.Goals as goal
+
+pub returns-then-is_some-clause-known : goal.returns-then-is_some-clause-known
+returns-then-is_some-clause-known g c = λ _.
+    knows_place (about c.args.self.now.steps) (view_of c.args.pass.now) c.args.address c.compacted_header.result c.requires.of.about c.compacted_header.ensures.shape (sym c.is_some.ensures ∙ c.if-is_some.true)
+
+pub returns-clause-grows : goal.returns-clause-grows
+returns-clause-grows g c =
+    let h = c.load_starts-bits.ensures in
+    (grows_knowing c.args.pass.now c.load_starts-bits.new.pass h.of.1.0 h.knows, record { did = h.knows.did; seen = h.knows.seen })
+
+pub returns-clause-has : goal.returns-clause-has
+returns-clause-has g c =
+    let h = c.load_starts-bits.ensures in
+    λ taken. holds_still c.args.self.now.steps c.args.pass.now c.load_starts-bits.new.pass taken (h.of.0.about ∙ sym c.requires.of.about) (λ holds. record { at = ap (λ (v : View). v.at) h.view ∙ holds.at; mode = ap (λ (v : View). v.mode) h.view ∙ holds.mode; owes = ap (λ (v : View). v.owes) h.view ∙ holds.owes; carried = h.carried ∙ holds.carried }) h.knows
