@@ -1,6 +1,6 @@
 -- Laws of lawful journals: where the objects of a fresh page are, and which words later entries leave.
 use Rattle.std.proofs.Common.{◌≡◌, ℕ, zero, suc, ◌+◌, ◌*◌, ◌<◌, ◌≤◌, ◌≢◌, Bool, true, false, cond, List, [], ◌∷◌, ◌++◌, length, get_or, replicate, Option, Some, refl, sym, ap, ◌∙◌, arith, subst, append_assoc, ltb, length-set}
-use Rattle.std.proofs.lemmas.List.{append-nil, get_or-set_same, get_or-set_other, length-replicate}
+use Rattle.std.proofs.lemmas.List.{append-nil, get_or-set_same, get_or-set_other, length-append, length-replicate}
 use Rattle.std.proofs.lemmas.Bool.Decides.{nat_tests}
 use Rattle.std.proofs.lemmas.Option.{slice_get_within}
 use Rattle.std.specs.List.{slice_get}
@@ -85,7 +85,7 @@ header_stays u p (e ∷ es) before words o h at =
     ∙ get_or-set_other words e.offset o e.value 0 (not_over u p before e.kind e.writer e.offset e.value o h.0 at)
 
 -- an entry that writes a header makes the next object
-next_of : (u : Setup) (p : ℕ) (before : List Entry) (k : Kind) (writer offset value : ℕ) → k ≡ Header → Fits u p before k writer offset value → IsNext u p before writer offset value
+pub next_of : (u : Setup) (p : ℕ) (before : List Entry) (k : Kind) (writer offset value : ℕ) → k ≡ Header → Fits u p before k writer offset value → IsNext u p before writer offset value
 next_of u p before k writer offset value e h = subst (λ x. Fits u p before x writer offset value) e h
 
 -- the kinds of an object's words stand where its header is
@@ -154,7 +154,33 @@ data_kind header f lt =
     ∙ get_behind (replicate (refs_of header) Reference) (replicate (data_of header) Data) f (refs_of header + f) (omega (arith, length-replicate (refs_of header) Reference))
     ∙ get_equal (data_of header) f Data lt
 
+-- an entry stands below the words of the objects before it and of its own
+below_own : (u : Setup) (p : ℕ) (before : List Entry) (k : Kind) (writer offset value : ℕ) → u.compacted ≤ p → Fits u p before k writer offset value → offset < filled before + length (kinds_by k value)
+below_own u p before Header writer offset value fresh h = omega (arith, h.place)
+below_own u p before Reference writer offset value fresh h = omega (arith, slice_get_within (kinds_in before) offset Reference (sym (fresh_kind u p before offset fresh) ∙ h.kind_is))
+below_own u p before Data writer offset value fresh h = omega (arith, slice_get_within (kinds_in before) offset Data (sym (fresh_kind u p before offset fresh) ∙ h.kind_is))
+
+-- an entry stands below the words of all objects
+below_all : (u : Setup) (p : ℕ) (before more : List Entry) (stamp writer : ℕ) (k : Kind) (offset value : ℕ) → u.compacted ≤ p → Fits u p before k writer offset value
+    → offset < filled (before ++ record { stamp = stamp; writer = writer; kind = k; offset = offset; value = value } ∷ more)
+below_all u p before more stamp writer k offset value fresh h =
+    let e : Entry = record { stamp = stamp; writer = writer; kind = k; offset = offset; value = value } in
+    let long : filled (before ++ e ∷ more) ≡ filled before + (length (kinds_by k value) + filled more) =
+    ap length (kinds_append before (e ∷ more)) ∙ length-append (kinds_in before) (kinds_by k value ++ kinds_in more) ∙ ap (λ n. filled before + n) (length-append (kinds_by k value) (kinds_in more)) in
+    let least : offset < filled before + length (kinds_by k value) = below_own u p before k writer offset value fresh h in
+    omega arith
+
 -- an entry that may follow a lawful journal makes it longer
 pub lawful_more : (u : Setup) (p : ℕ) (after before : List Entry) (e : Entry) → LawfulAfter u p before after → FitsEntry u p (before ++ after) e → LawfulAfter u p before (after ++ e ∷ [])
 lawful_more u p [] before e h fits = (subst (λ l. FitsEntry u p l e) (append-nil before) fits, tt)
 lawful_more u p (x ∷ es) before e h fits = (h.0, lawful_more u p es (before ++ x ∷ []) e h.1 (subst (λ l. FitsEntry u p l e) (one_on before es x) fits))
+
+-- no entry was written behind all objects
+pub none_behind : (u : Setup) (p o : ℕ) (after before : List Entry) (words : List ℕ) → u.compacted ≤ p → LawfulAfter u p before after → filled (before ++ after) ≤ o
+    → get_or (replayed words after) o 0 ≡ get_or words o 0
+none_behind u p o [] before words fresh h le = refl
+none_behind u p o (e ∷ es) before words fresh h le =
+    let next : filled ((before ++ e ∷ []) ++ es) ≤ o = subst (λ l. filled l ≤ o) (one_on before es e) le in
+    let below = below_all u p before es e.stamp e.writer e.kind e.offset e.value fresh h.0 in
+    let other : o ≢ e.offset = λ same. omega (arith, below, le, same) in
+    none_behind u p o es (before ++ e ∷ []) (written words e) fresh h.1 next ∙ get_or-set_other words e.offset o e.value 0 other

@@ -4,6 +4,7 @@ mod Heads
 mod Held
 mod Leading
 mod Places
+mod Zeros
 pub mod Begun
 pub mod Ending
 pub mod Ordered

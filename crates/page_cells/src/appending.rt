@@ -1,12 +1,13 @@
-ghost use Rattle.std.specs.Prelude.{◌≡◌, ◌↔◌, ℕ, ◌<◌, [], ◌∷◌, ◌++◌, length, All, IfOk, OnOk, OnErr, IsErrOf};
+ghost use Rattle.std.specs.Prelude.{◌≡◌, ◌↔◌, ℕ, ◌+◌, ◌<◌, [], ◌∷◌, ◌++◌, length, slice_index, All, IfOk, OnOk, OnErr, IsErrOf};
 ghost use Rattle.heap_layout.specs.declared.kind.Kind.TheVariants.{Header, Reference};
+ghost use Rattle.heap_layout.specs.Header.{size_of};
 ghost use Rattle.comp_journal.specs.declared.entry.Entry.{Entry as Written};
 ghost use Rattle.comp_journal.specs.declared.refusal.JournalRefusal.TheVariants.{JournalFull};
 ghost use Rattle.cell_steps.specs.Lawful.{Fits, FitsEntry};
 ghost use Rattle.cell_steps.specs.Knowing.{WritesEntry};
 ghost use Rattle.cell_steps.specs.Plays.{stamped};
 ghost use Rattle.cell_steps.specs.Passes.{builds_of, did, number_of, page_with, seen, view_of, Holds, IsSame, KnowsFresh, MayRefer};
-ghost use Rattle.page_cells.specs.Cells.{journal_of, page_number, page_of, setup_of, steps_of, Has, IsPassOf};
+ghost use Rattle.page_cells.specs.Cells.{journal_of, page_number, page_of, setup_of, steps_of, words_of, Has, IsPassOf};
 ghost use Rattle.page_cells.specs.Calls.{Grows};
 
 use crate::cells::Cells;
@@ -41,6 +42,7 @@ impl<B: Builder> Cells<B> {
         ensures did { IfOk result (λ stamp. did pass.new ≡ did pass.old ++ (page_number taken.old, record { stamp = stamp; writer = number_of pass.old; kind = kind; offset = offset; value = value }) ∷ []) }
         ensures above { IfOk result (λ stamp. (q : ℕ) → All (λ (entry : Written). entry.stamp < stamp) (seen pass.old q)) }
         ensures start { OnOk result (kind ≡ Header → KnowsFresh pass.new (page_number taken.old) offset) }
+        ensures zeros { OnOk result (kind ≡ Header → (o : ℕ) → offset < o → o < offset + size_of value → slice_index (words_of taken.new) o ≡ 0) }
         ensures refused { OnErr result (IsSame pass.old pass.new × (page_of taken.new ≡ page_of taken.old)) }
     {
         prove!(taken.page.journal().len() <= MOST_ENTRIES);
