@@ -1,0 +1,19 @@
+use Rattle.std.proofs.Common.{◌≡◌, subst, sym}
+use Rattle.cell_steps.specs.declared.pass.Pass.{Pass}
+use Rattle.cell_steps.specs.Passes.{did, MayRefer}
+use Rattle.page_cells.specs.Calls.{Grows}
+use Rattle.comp_mutator.proofs.Growing.{refers_more, still_then}
+use Rattle.comp_mutator.proofs.reading.try_read_ref.Goals as goal
+
+pub returns-clause-grows : goal.returns-clause-grows
+returns-clause-grows g c =
+    let back = c.put_back.ensures.grows in
+    let last = subst (λ (m : Pass). Grows m c.put_back.new.pass × (did c.put_back.new.pass ≡ did m)) c.held_reference-word.ensures.same (back.0, back.1.did) in
+    still_then c.args.pass.now c.hold.new.pass c.put_back.new.pass c.hold.ensures.grows last
+
+pub returns-clause-known : goal.returns-clause-known
+returns-clause-known g c =
+    let same = c.held_reference-word.ensures.same in
+    let grows = subst (λ (m : Pass). Grows m c.put_back.new.pass) same c.put_back.ensures.grows.0 in
+    refers_more _ _ c.hold.new.pass c.put_back.new.pass c.hold.ensures.of c.put_back.ensures.of.0 grows c.held_reference-word.result
+        (subst (λ (m : Pass). MayRefer m c.held_reference-word.result) same c.held_reference-word.ensures.leads)

@@ -1,0 +1,72 @@
+-- What a write does, and why one is refused.
+use Rattle.std.specs.Prelude.{◌≡◌, ◌≢◌, ℕ, ◌<◌, ◌≤◌, ◌⊎◌, List, [], ◌∷◌, ◌++◌, length, All}
+use Rattle.heap_layout.specs.declared.kind.Kind.{Kind}
+use Rattle.comp_journal.specs.declared.entry.Entry.{Entry}
+use Rattle.cell_steps.specs.Setup.{Setup}
+use Rattle.cell_steps.specs.Lists.{StartsWith}
+use Rattle.cell_steps.specs.Passes.{did, number_of, seen, KnowsStart}
+use Rattle.cell_steps.specs.declared.pass.Pass.{Pass}
+use Rattle.page_cells.specs.Calls.{MayHaveBuilt}
+use Rattle.page_cells.specs.Objects.{offset_at, page_at}
+use Rattle.comp_mutator.specs.Fields.{IsFieldOf, Touches}
+use Rattle.comp_mutator.specs.Reads.{BuildsNothing, FieldRefused, MayBuildTouched}
+use Rattle.comp_mutator.specs.declared.refusal.Refusal.{Refusal}
+use Rattle.comp_mutator.specs.declared.refusal.Refusal.TheVariants.{Null, NotAStart, NoSuchField, ObjectTooLarge, OutOfPages, Busy, JournalFull, OutOfMemory}
+
+-- an entry of the pass
+abbrev pub entry_by : Pass → ℕ → Kind → ℕ → ℕ → Entry
+entry_by pass stamp kind offset value = record { stamp = stamp; writer = number_of pass; kind = kind; offset = offset; value = value }
+
+-- One entry was written, to page p: the pass did it, and has seen it at the end of the page's journal. Its stamp is above every stamp that the pass had seen.
+pub record Adds (p : ℕ) (e : Entry) (old new : Pass) : Type 0 where
+  pub did : did new ≡ did old ++ (p, e) ∷ []
+  pub journal : List Entry
+  pub begins : StartsWith journal (seen old p)
+  pub above : (q : ℕ) → All (λ (entry : Entry). entry.stamp < e.stamp) (seen old q)
+  pub seen : seen new p ≡ journal ++ e ∷ []
+
+-- The value was written into the object's field, by one entry with this stamp.
+pub record Writes (u : Setup) (old new : Pass) (kind : Kind) (object field value stamp : ℕ) : Type 0 where
+  pub place : ℕ
+  pub field_of : IsFieldOf u (seen new) kind object field place
+  pub adds : Adds (page_at place) (entry_by old stamp kind (offset_at place) value) old new
+
+-- the journal of the page that the call touches is full
+abbrev pub IsFull : Setup → Pass → Pass → Kind → ℕ → ℕ → ℕ → Type 0
+IsFull u old new kind object field p = Touches u kind object field p × (length (seen new p) ≡ 1024) × MayHaveBuilt p old new
+
+-- the object has the field, and the value is neither null nor a start that the pass knew
+abbrev pub IsNoTarget : Setup → Pass → Pass → Kind → ℕ → ℕ → ℕ → Type 0
+IsNoTarget u old new kind object field value =
+    ((place : ℕ) × IsFieldOf u (seen new) kind object field place) × (value ≢ 0) × (KnowsStart old value → ⊥) × BuildsNothing old new
+
+-- why a value is refused that was to be written into a field
+abbrev pub ValueRefused : Setup → Pass → Pass → Kind → ℕ → ℕ → ℕ → Refusal → Type 0
+ValueRefused u old new kind object field value Null = ⊥
+ValueRefused u old new kind object field value (NotAStart a) = (a ≡ value) × IsNoTarget u old new kind object field value
+ValueRefused u old new kind object field value NoSuchField = ⊥
+ValueRefused u old new kind object field value ObjectTooLarge = ⊥
+ValueRefused u old new kind object field value OutOfPages = ⊥
+ValueRefused u old new kind object field value (Busy p) = ⊥
+ValueRefused u old new kind object field value (JournalFull p) = ⊥
+ValueRefused u old new kind object field value OutOfMemory = ⊥
+
+-- why an entry is refused
+abbrev pub EntryRefused : Setup → Pass → Pass → Kind → ℕ → ℕ → Refusal → Type 0
+EntryRefused u old new kind object field Null = ⊥
+EntryRefused u old new kind object field (NotAStart a) = ⊥
+EntryRefused u old new kind object field NoSuchField = ⊥
+EntryRefused u old new kind object field ObjectTooLarge = ⊥
+EntryRefused u old new kind object field OutOfPages = ⊥
+EntryRefused u old new kind object field (Busy p) = ⊥
+EntryRefused u old new kind object field (JournalFull p) = IsFull u old new kind object field p
+EntryRefused u old new kind object field OutOfMemory = MayBuildTouched u old new kind object field
+
+-- why a write of data is refused
+abbrev pub DataRefused : Setup → Pass → Pass → Kind → ℕ → ℕ → Refusal → Type 0
+DataRefused u old new kind object field refusal = FieldRefused u old new kind object field refusal ⊎ EntryRefused u old new kind object field refusal
+
+-- why a write of a reference is refused
+abbrev pub ReferenceRefused : Setup → Pass → Pass → Kind → ℕ → ℕ → ℕ → Refusal → Type 0
+ReferenceRefused u old new kind object field value refusal =
+    FieldRefused u old new kind object field refusal ⊎ ValueRefused u old new kind object field value refusal ⊎ EntryRefused u old new kind object field refusal

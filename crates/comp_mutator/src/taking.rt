@@ -1,0 +1,45 @@
+//! Pages, taken for a call.
+ghost use Rattle.std.specs.Prelude.{◌≡◌, ℕ, ◌<◌, ◌≤◌, [], IfOk, IfErr};
+ghost use Rattle.cell_steps.specs.Lists.{by, on};
+ghost use Rattle.cell_steps.specs.Lawful.{HasHead, IsLawful};
+ghost use Rattle.cell_steps.specs.Passes.{builds_of, did, number_of, KnowsFresh, Rests};
+ghost use Rattle.page_cells.specs.Cells.{journal_of, mutators_of, page_number, pages_of, setup_of, Has, IsPassOf};
+ghost use Rattle.page_cells.specs.Calls.{Grows, MayHaveBuilt};
+ghost use Rattle.comp_mutator.specs.Copies.{PageRefused};
+
+use crate::refusal::Refusal;
+use cell_steps::pass::Pass;
+use page_cells::cells::Cells;
+use page_cells::refusal::CellRefusal;
+use page_cells::taking::Taken;
+use page_plan::builder::Builder;
+use std::alloc::Global;
+
+/// Takes page `p`, which there is.
+pub(crate) fn take<B: Builder>(
+    alloc: Global,
+    cells: &Cells<B>,
+    pass: &mut Pass,
+    p: u64,
+) -> Result<Taken, Refusal>
+    requires of { IsPassOf cells.now pass.old × Rests pass.old }
+    requires inside { p < pages_of cells.now }
+    ensures of { IsPassOf cells.now pass.new }
+    ensures grows { Grows pass.old pass.new × (did pass.new ≡ did pass.old) }
+    ensures taken { IfOk result (λ taken. (page_number taken ≡ p) × Has cells.now pass.new taken) }
+    ensures lawful { IfOk result (λ taken. IsLawful (setup_of cells.now) p (journal_of taken)) }
+    ensures heads { IfOk result (λ taken. (offset : ℕ) → KnowsFresh pass.old p offset → HasHead (journal_of taken) offset) }
+    ensures own { IfOk result (λ taken. by (number_of pass.old) (journal_of taken) ≡ on p (did pass.old)) }
+    ensures strangers { IfOk result (λ taken. number_of pass.old ≡ 0 → (k : ℕ) → mutators_of cells.now ≤ k → by k (journal_of taken) ≡ []) }
+    ensures builds { MayHaveBuilt p pass.old pass.new }
+    ensures known { (offset : ℕ) → KnowsFresh pass.old p offset → builds_of pass.new ≡ builds_of pass.old }
+    ensures refused { IfErr result (λ refusal. Rests pass.new × PageRefused p pass.old pass.new refusal) }
+{
+    match cells.try_take(alloc, pass, p) {
+        Ok(taken) => Ok(taken),
+        Err(CellRefusal::Busy(q)) => Err(Refusal::Busy(q)),
+        Err(CellRefusal::OutOfMemory) => Err(Refusal::OutOfMemory),
+        Err(CellRefusal::NoSuchPage) => unreachable!(),
+        Err(CellRefusal::PassMissing(_)) => unreachable!(),
+    }
+}

@@ -1,0 +1,159 @@
+//! Writes of fields.
+ghost use Rattle.std.specs.Prelude.{◌≡◌, ◌≢◌, ◌⊎◌, ℕ, ◌<◌, IfOk, IfErr, OnOk, MatchBool};
+ghost use Rattle.heap_layout.specs.declared.kind.Kind.TheVariants as kinds;
+ghost use Rattle.cell_steps.specs.Lawful.{Fits};
+ghost use Rattle.cell_steps.specs.Passes.{builds_of, did, number_of, seen, KnowsFresh, KnowsStart, MayRefer, Rests};
+ghost use Rattle.page_cells.specs.Cells.{journal_of, page_number, setup_of, Has, IsPassOf};
+ghost use Rattle.page_cells.specs.Calls.{Grows};
+ghost use Rattle.comp_mutator.specs.Fields.{IsFieldOf};
+ghost use Rattle.comp_mutator.specs.Finds.{IsFound};
+ghost use Rattle.comp_mutator.specs.Copies.{PageTakesNone};
+ghost use Rattle.comp_mutator.specs.Reads.{BuildsNothing, FieldRefused, MayBuildTouched};
+ghost use Rattle.comp_mutator.specs.Writes.{entry_by, Adds, DataRefused, ReferenceRefused, Writes};
+
+use crate::finding::{Found, Held, find, take_fresh, take_found};
+use crate::refusal::Refusal;
+use cell_steps::pass::Pass;
+use comp_journal::refusal::JournalRefusal;
+use heap_layout::kind::Kind;
+use page_cells::cells::Cells;
+use page_cells::taking::Taken;
+use page_plan::builder::Builder;
+use std::alloc::Global;
+
+/// Writes one entry into a page that was taken, and puts the page back. After a refusal the page is put back as it was.
+pub(crate) fn write_taken<B: Builder>(
+    cells: &Cells<B>,
+    pass: &mut Pass,
+    mut taken: Taken,
+    kind: Kind,
+    offset: u8,
+    value: u64,
+) -> Result<u64, Refusal>
+    requires of { IsPassOf cells.now pass.old }
+    requires has { Has cells.now pass.old taken × (offset < 64) }
+    requires fits { Fits (setup_of cells.now) (page_number taken) (journal_of taken) kind (number_of pass.old) offset value }
+    requires leads { kind ≡ kinds.Reference → MayRefer pass.old value }
+    ensures of { IsPassOf cells.now pass.new × Rests pass.new }
+    ensures grows { Grows pass.old pass.new × (builds_of pass.new ≡ builds_of pass.old) }
+    ensures adds { IfOk result (λ stamp. Adds (page_number taken) (entry_by pass.old stamp kind offset value) pass.old pass.new) }
+    ensures start { OnOk result (kind ≡ kinds.Header → KnowsFresh pass.new (page_number taken) offset) }
+    ensures refused { IfErr result (λ refusal. (did pass.new ≡ did pass.old) × PageTakesNone (page_number taken) pass.new refusal) }
+{
+    let p = taken.page();
+    let written = cells.append(pass, &mut taken, kind, offset, value);
+    cells.put_back(pass, taken);
+    match written {
+        Ok(stamp) => Ok(stamp),
+        Err(JournalRefusal::JournalFull) => Err(Refusal::JournalFull(p)),
+        Err(JournalRefusal::OutOfMemory) => Err(Refusal::OutOfMemory),
+    }
+}
+
+/// Writes a value into a field that was found.
+fn write_found<B: Builder>(
+    alloc: Global,
+    cells: &Cells<B>,
+    pass: &mut Pass,
+    object: u64,
+    field: u16,
+    kind: Kind,
+    found: Found,
+    value: u64,
+) -> Result<u64, Refusal>
+    requires of { IsPassOf cells.now pass.old × Rests pass.old }
+    requires found { IsFound (setup_of cells.now) pass.old kind object field found }
+    requires kind { kind ≢ kinds.Header }
+    requires leads { kind ≡ kinds.Reference → MayRefer pass.old value }
+    ensures of { IsPassOf cells.now pass.new × Rests pass.new }
+    ensures grows { Grows pass.old pass.new }
+    ensures wrote { IfOk result (Writes (setup_of cells.now) pass.old pass.new kind object field value) }
+    ensures builds { OnOk result (MayBuildTouched (setup_of cells.now) pass.old pass.new kind object field) }
+    ensures did { IfErr result (λ _. did pass.new ≡ did pass.old) }
+    ensures refused { IfErr result (DataRefused (setup_of cells.now) pass.old pass.new kind object field) }
+{
+    let held = take_found(alloc, cells, pass, object, field, kind, found)?;
+    let Held { taken, offset } = held;
+    write_taken(cells, pass, taken, kind, offset, value)
+}
+
+/// Writes a data field, and answers the entry's stamp.
+pub(crate) fn try_write_data<B: Builder>(
+    alloc: Global,
+    cells: &Cells<B>,
+    pass: &mut Pass,
+    object: u64,
+    field: u16,
+    value: u64,
+) -> Result<u64, Refusal>
+    requires { IsPassOf cells.now pass.old × Rests pass.old }
+    ensures of { IsPassOf cells.now pass.new × Rests pass.new }
+    ensures grows { Grows pass.old pass.new }
+    ensures wrote { IfOk result (Writes (setup_of cells.now) pass.old pass.new kinds.Data object field value) }
+    ensures builds { OnOk result (MayBuildTouched (setup_of cells.now) pass.old pass.new kinds.Data object field) }
+    ensures did { IfErr result (λ _. did pass.new ≡ did pass.old) }
+    ensures refused { IfErr result (DataRefused (setup_of cells.now) pass.old pass.new kinds.Data object field) }
+{
+    let found = find(cells, pass, object, field, Kind::Data)?;
+    write_found(alloc, cells, pass, object, field, Kind::Data, found, value)
+}
+
+/// Whether a reference may be written: null, or a start that the pass then knows.
+fn may_store<B: Builder>(cells: &Cells<B>, pass: &mut Pass, value: u64) -> bool
+    requires { IsPassOf cells.now pass.old × Rests pass.old }
+    ensures of { IsPassOf cells.now pass.new × Rests pass.new }
+    ensures grows { Grows pass.old pass.new × (did pass.new ≡ did pass.old) }
+    ensures builds { builds_of pass.new ≡ builds_of pass.old }
+    ensures target { MatchBool result (MayRefer pass.new value) ((value ≢ 0) × (KnowsStart pass.old value → ⊥)) }
+{
+    value == 0 || cells.start_known(pass, value)
+}
+
+/// Tells whether a field that was found is there. The header of an object that an allocation made is looked up on its page.
+fn check_found<B: Builder>(
+    alloc: Global,
+    cells: &Cells<B>,
+    pass: &mut Pass,
+    object: u64,
+    field: u16,
+    kind: Kind,
+    found: Found,
+) -> Result<(), Refusal>
+    requires of { IsPassOf cells.now pass.old × Rests pass.old }
+    requires found { IsFound (setup_of cells.now) pass.old kind object field found }
+    ensures of { IsPassOf cells.now pass.new × Rests pass.new }
+    ensures grows { Grows pass.old pass.new × (did pass.new ≡ did pass.old) }
+    ensures there { OnOk result (((place : ℕ) × IsFieldOf (setup_of cells.now) (seen pass.new) kind object field place) × BuildsNothing pass.old pass.new) }
+    ensures refused { IfErr result (FieldRefused (setup_of cells.now) pass.old pass.new kind object field) }
+{
+    if let Found::Fresh = found {
+        let Held { taken, offset: _ } = take_fresh(alloc, cells, pass, object, field, kind)?;
+        cells.put_back(pass, taken);
+    }
+    Ok(())
+}
+
+/// Writes a reference field, and answers the entry's stamp.
+pub(crate) fn try_write_ref<B: Builder>(
+    alloc: Global,
+    cells: &Cells<B>,
+    pass: &mut Pass,
+    object: u64,
+    field: u16,
+    value: u64,
+) -> Result<u64, Refusal>
+    requires { IsPassOf cells.now pass.old × Rests pass.old }
+    ensures of { IsPassOf cells.now pass.new × Rests pass.new }
+    ensures grows { Grows pass.old pass.new }
+    ensures wrote { IfOk result (Writes (setup_of cells.now) pass.old pass.new kinds.Reference object field value) }
+    ensures builds { OnOk result (MayBuildTouched (setup_of cells.now) pass.old pass.new kinds.Reference object field) }
+    ensures did { IfErr result (λ _. did pass.new ≡ did pass.old) }
+    ensures refused { IfErr result (ReferenceRefused (setup_of cells.now) pass.old pass.new kinds.Reference object field value) }
+{
+    let found = find(cells, pass, object, field, Kind::Reference)?;
+    if !may_store(cells, pass, value) {
+        check_found(alloc, cells, pass, object, field, Kind::Reference, found)?;
+        return Err(Refusal::NotAStart(value));
+    }
+    write_found(alloc, cells, pass, object, field, Kind::Reference, found, value)
+}
