@@ -3,12 +3,11 @@ ghost use Rattle.std.specs.Prelude.{◌≡◌, IfOk};
 ghost use Rattle.cell_steps.specs.Passes.{Rests};
 ghost use Rattle.page_cells.specs.Cells.{heap_of, steps_of, mutators_of, IsNew, IsPassOf};
 
+use crate::builders::{Meeting, Refusing};
 use crate::heaps::{T, heap, three};
 use comp_journal::entry::Entry;
 use comp_journal::refusal::JournalRefusal;
-use heap_layout::fault::OutOfMemory;
 use heap_layout::kind::Kind;
-use heap_layout::page_words::PageWords;
 use page_cells::Pass;
 use page_cells::cells::Cells;
 use page_cells::refusal::CellRefusal;
@@ -17,12 +16,8 @@ use page_plan::plan::Plan;
 use std::alloc::Global;
 use std::process::Abort;
 use std::sync::Arc;
-use std::sync::atomic::{AtomicU64, Ordering};
 use std::test::Fail;
 use std::thread;
-
-// How often a build waits at most for the other one.
-const TURNS: u64 = 10_000_000;
 
 // New cells with two passes.
 fn two<B: Builder>(
@@ -156,51 +151,12 @@ fn refuses_a_page_that_is_held(rt: HostRuntime) -> Result<(), Fail> {
     Ok(())
 }
 
-// A plan that builds pages 0 and 1 only when both builds have begun.
-#[derive(Drop)]
-struct Meeting {
-    plan: Plan,
-    begun: [AtomicU64; 2],
-}
-
-impl Builder for Meeting {
-    ghost heap = { λ meeting. meeting.plan };
-
-    fn plan(&self) -> &Plan {
-        &self.plan
-    }
-
-    fn build(&self, alloc: Global, p: u64) -> Result<PageWords, OutOfMemory> {
-        if p == 0 && !met(&self.begun[0], &self.begun[1]) {
-            return Err(OutOfMemory);
-        }
-        if p == 1 && !met(&self.begun[1], &self.begun[0]) {
-            return Err(OutOfMemory);
-        }
-        self.plan.build_page(alloc, p)
-    }
-}
-
-// Says that one build has begun, and waits some turns until the other has.
-fn met(own: &AtomicU64, other: &AtomicU64) -> bool {
-    own.store(1, Ordering::SeqCst);
-    for _ in 0..TURNS {
-        if other.load(Ordering::SeqCst) == 1 {
-            return true;
-        }
-    }
-    false
-}
-
 #[test]
 fn builds_two_pages_at_once(rt: HostRuntime) -> Result<(), Fail> {
     let alloc = rt.alloc();
     let mut words = vec![in alloc; 0u64; 255]?;
     words.insert(0, 16_711_680)?;
-    let builder = Meeting {
-        plan: Plan::new(alloc, heap(alloc, &words, &[0], &[])?)?,
-        begun: [AtomicU64::new(0), AtomicU64::new(0)],
-    };
+    let builder = Meeting::new(Plan::new(alloc, heap(alloc, &words, &[0], &[])?)?);
     let (cells, mut first, mut second) = two(&rt, alloc, builder)?;
     assert_eq!(rt; cells.pages(), 4);
     let (one, other) = thread::join(
@@ -213,35 +169,10 @@ fn builds_two_pages_at_once(rt: HostRuntime) -> Result<(), Fail> {
     Ok(())
 }
 
-// A plan whose first build finds no memory.
-#[derive(Drop)]
-struct Refusing {
-    plan: Plan,
-    calls: AtomicU64,
-}
-
-impl Builder for Refusing {
-    ghost heap = { λ refusing. refusing.plan };
-
-    fn plan(&self) -> &Plan {
-        &self.plan
-    }
-
-    fn build(&self, alloc: Global, p: u64) -> Result<PageWords, OutOfMemory> {
-        if self.calls.fetch_add(1, Ordering::SeqCst) == 0 {
-            return Err(OutOfMemory);
-        }
-        self.plan.build_page(alloc, p)
-    }
-}
-
 #[test]
 fn builds_after_a_refusal(rt: HostRuntime) -> Result<(), Fail> {
     let alloc = rt.alloc();
-    let builder = Refusing {
-        plan: Plan::new(alloc, three(alloc)?)?,
-        calls: AtomicU64::new(0),
-    };
+    let builder = Refusing::new(Plan::new(alloc, three(alloc)?)?);
     let (cells, mut first, _second) = two(&rt, alloc, builder)?;
     assert_eq!(rt;
         visit(alloc, &cells, &mut first, 0),
