@@ -1,6 +1,5 @@
 -- A call that met a busy page leaves the mutator as one that waits.
-use Rattle.std.proofs.Common.{◌≡◌, ℕ, inl, inr, ◌++◌, ◌∷◌, [], List, Bool, true, false, refl, sym, ap, ◌∙◌, subst, append_assoc}
-use Rattle.std.proofs.lemmas.List.{append-nil}
+use Rattle.std.proofs.Common.{◌≡◌, ℕ, inl, inr, ◌++◌, ◌∷◌, [], List, Bool, true, false, ap, ◌∙◌, subst, append_assoc}
 use Rattle.heap_layout.specs.declared.kind.Kind.{Kind}
 use Rattle.cell_steps.specs.Setup.{Setup}
 use Rattle.cell_steps.specs.Lists.{StartsWith}

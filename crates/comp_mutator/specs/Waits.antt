@@ -1,5 +1,5 @@
 -- What calls that repeat leave behind.
-use Rattle.std.specs.Prelude.{◌≡◌, ℕ, ◌++◌, List}
+use Rattle.std.specs.Prelude.{◌≡◌}
 use Rattle.cell_steps.specs.Lists.{StartsWith}
 use Rattle.cell_steps.specs.Passes.{builds_of, did}
 use Rattle.cell_steps.specs.declared.pass.Pass.{Pass}

@@ -14,13 +14,11 @@ ghost use Rattle.comp_mutator.specs.Writes.{DataRefused, ReferenceRefused, Write
 ghost use Rattle.comp_mutator.specs.declared.pages.Touched.TheVariants.{AlreadyBuilt};
 ghost use Rattle.comp_mutator.specs.declared.refusal.Refusal.TheVariants.{Busy};
 
-use crate::allocating;
 use crate::mutator::{Hand, Mutator};
 use crate::pages::{self, PageCopy, Touched};
-use crate::reading;
 use crate::refusal::Refusal;
 use crate::space::Space;
-use crate::writing;
+use crate::{allocating, reading, writing};
 use heap_layout::header::Header;
 use page_plan::builder::Builder;
 use std::alloc::Global;

@@ -13,7 +13,7 @@ ghost use Rattle.comp_mutator.specs.Copies.{PageTakesNone};
 ghost use Rattle.comp_mutator.specs.Reads.{BuildsNothing, FieldRefused, MayBuildTouched};
 ghost use Rattle.comp_mutator.specs.Writes.{entry_by, Adds, DataRefused, ReferenceRefused, Writes};
 
-use crate::finding::{Found, Held, find, take_fresh, take_found};
+use crate::finding::{Found, Held, find, take_found, take_fresh};
 use crate::refusal::Refusal;
 use cell_steps::pass::Pass;
 use comp_journal::refusal::JournalRefusal;
@@ -158,5 +158,14 @@ pub(crate) fn try_write_ref<B: Builder>(
         check_found(alloc, cells, pass, object, field, Kind::Reference, found)?;
         return Err(Refusal::NotAStart(value));
     }
-    write_found(alloc, cells, pass, object, field, Kind::Reference, found, value)
+    write_found(
+        alloc,
+        cells,
+        pass,
+        object,
+        field,
+        Kind::Reference,
+        found,
+        value,
+    )
 }

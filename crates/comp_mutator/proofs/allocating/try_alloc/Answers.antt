@@ -1,6 +1,5 @@
-use Rattle.std.proofs.Common.{◌≡◌, ◌+◌, ◌<◌, ◌≤◌, ℕ, List, get_or, set, sym, ap, subst, refl, ◌∙◌, arith}
+use Rattle.std.proofs.Common.{◌≡◌, ◌+◌, ◌≤◌, get_or, set, sym, ap, subst, refl, ◌∙◌, arith}
 use Rattle.heap_layout.specs.Header.{size_of}
-use Rattle.comp_journal.specs.declared.entry.Entry.{Entry}
 use Rattle.cell_steps.specs.Setup.{address}
 use Rattle.cell_steps.specs.Lists.{by, on}
 use Rattle.cell_steps.specs.Lawful.{IsLawful, IsNext}
@@ -30,7 +29,7 @@ write_taken-requires-clause-fits g c κs within =
     let ends = subst (λ s. get_or c.args.fills.now index 0 + s ≤ 64) size chosen.room in
     let next = next_own u n index c.word.result _ journal _ c.requires.of.0.numbered (c.requires.counts.there index chosen.inside) lawful mine (c.requires.counts.used index chosen.inside) ends in
     subst (λ p. IsNext u p journal (number_of c.take.new.pass) (get_or c.args.fills.now index 0) c.word.result) (sym (taken.taken.0 ∙ own))
-        (subst (λ k. IsNext u (own_page u n index) journal k (get_or c.args.fills.now index 0) c.word.result) (sym c.take.ensures.grows.0.number) next)
+    (subst (λ k. IsNext u (own_page u n index) journal k (get_or c.args.fills.now index 0) c.word.result) (sym c.take.ensures.grows.0.number) next)
 
 pub returns-in_err-write_taken-clause-grows : goal.returns-in_err-write_taken-clause-grows
 returns-in_err-write_taken-clause-grows g c = grows_then c.args.pass.now c.take.new.pass c.write_taken.new.pass c.take.ensures.grows.0 c.write_taken.ensures.grows.0
@@ -49,8 +48,8 @@ returns-in_err-write_taken-clause-refused g c =
     let lowest = lowest_own u old c.args.fills.now c.size-size.result index c.requires.counts chosen.inside chosen.room chosen.first in
     let built = subst (λ q. MayHaveBuilt q old middle) (sym taken.taken.0) c.take.ensures.builds in
     err_anyway c.from_residual-in_err-write_taken.result _ c.in_err-write_taken.field-0.0 c.from_residual-in_err-write_taken.ensures.1
-        (allocation_refused u old new (size_of c.args.header) p _ (index, subst (λ s. IsLowest u old s index) c.size-size.ensures lowest, own)
-            (built_before old middle new p built c.write_taken.ensures.grows.1) c.in_err-write_taken.ensures.refused.1)
+    (allocation_refused u old new (size_of c.args.header) p _ (index, subst (λ s. IsLowest u old s index) c.size-size.ensures lowest, own)
+    (built_before old middle new p built c.write_taken.ensures.grows.1) c.in_err-write_taken.ensures.refused.1)
 
 pub returns-clause-grows : goal.returns-clause-grows
 returns-clause-grows g c = grows_then c.args.pass.now c.take.new.pass c.write_taken.new.pass c.take.ensures.grows.0 c.write_taken.ensures.grows.0

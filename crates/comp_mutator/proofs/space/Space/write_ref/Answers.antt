@@ -1,4 +1,4 @@
-use Rattle.std.proofs.Common.{◌≡◌, ◌∙◌}
+use Rattle.std.proofs.Common.{◌∙◌}
 use Rattle.heap_layout.specs.declared.kind.Kind.TheVariants.{Reference}
 use Rattle.comp_mutator.specs.Mutators.{pass_of, setup_of}
 use Rattle.comp_mutator.proofs.BusyPages.{waits_reference}
