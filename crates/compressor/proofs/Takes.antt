@@ -38,7 +38,7 @@ pub word_at : (steps : Steps) (pass : Pass) (taken : Taken) (index : ℕ) → Ha
     → slice_index (words_of taken) (index % 64) ≡ slice_index (slid_words (live (about steps).heap)) index
 word_at steps pass taken index h number below none part =
     let base : (page_of taken).base ≡ page (live (about steps).heap) (index / 64) = ap (λ (x : Journaled). x.base) h.page ∙ ap (base_of (about steps)) number
-        ∙ sym (cond_below (index / 64) (about steps).compacted (page (live (about steps).heap) (index / 64)) (replicate 64 0) below) in
+    ∙ sym (cond_below (index / 64) (about steps).compacted (page (live (about steps).heap) (index / 64)) (replicate 64 0) below) in
     let words : words_of taken ≡ page (live (about steps).heap) (index / 64) = ap (λ (l : List Entry). replayed (page_of taken).base l) none ∙ base in
     let whole : 64 * (index / 64) + index % 64 ≡ index = omega arith in
     let inside : index % 64 < 64 = omega arith in
