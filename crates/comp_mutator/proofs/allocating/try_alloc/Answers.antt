@@ -4,10 +4,10 @@ use Rattle.comp_journal.specs.declared.entry.Entry.{Entry}
 use Rattle.cell_steps.specs.Setup.{address}
 use Rattle.cell_steps.specs.Lists.{by, on}
 use Rattle.cell_steps.specs.Lawful.{IsLawful, IsNext}
-use Rattle.cell_steps.specs.Passes.{did, number_of, KnowsFresh}
+use Rattle.cell_steps.specs.Passes.{did, number_of, seen, KnowsFresh}
 use Rattle.page_cells.specs.Cells.{setup_of, page_number, journal_of}
 use Rattle.page_cells.specs.Calls.{MayHaveBuilt}
-use Rattle.comp_mutator.specs.Allocations.{own_page, used, Counts, IsLowest}
+use Rattle.comp_mutator.specs.Allocations.{own_page, used, AreZero, Counts, IsLowest}
 use Rattle.comp_mutator.proofs.Answering.{err_anyway}
 use Rattle.comp_mutator.proofs.Growing.{built_before, grows_then}
 use Rattle.comp_mutator.proofs.OwnPages.{counts_more, lowest_own, made_own, next_own}
@@ -85,6 +85,9 @@ returns-clause-allocated g c =
     let place = c.requires.counts.used index chosen.inside in
     let lowest = lowest_own u old c.args.fills.now c.size-size.result index c.requires.counts chosen.inside chosen.room chosen.first in
     let known = c.in_ok-write_taken.ensures.start refl in
+    let zero_there = subst (λ p. AreZero u (seen new) p (get_or c.args.fills.now index 0) (get_or c.args.fills.now index 0 + size_of c.word.result)) (taken.taken.0 ∙ page) (c.in_ok-write_taken.ensures.zero refl) in
+    let zero_word = subst (λ h. AreZero u (seen new) (own_page u (number_of old) index) (get_or c.args.fills.now index 0) (get_or c.args.fills.now index 0 + size_of h)) c.word.ensures zero_there in
+    let zero = subst (λ n. AreZero u (seen new) (own_page u (number_of old) index) n (n + size_of c.args.header)) place zero_word in
     record {
       index = index;
       lowest = subst (λ s. IsLowest u old s index) c.size-size.ensures lowest;
@@ -92,5 +95,6 @@ returns-clause-allocated g c =
       stamp = c.in_ok-write_taken.field-0;
       adds = made_own u old middle new index c.args.header c.word.result _ _ c.in_ok-write_taken.field-0 c.take.ensures.grows (taken.taken.0 ∙ page) place c.word.ensures c.in_ok-write_taken.ensures.adds;
       known = subst (λ p. KnowsFresh new p (used u old index)) (taken.taken.0 ∙ page) (subst (KnowsFresh new (page_number c.in_ok-taken.taken)) place known);
+      zero = zero;
       builds = built_before old middle new (own_page u (number_of old) index) (subst (λ p. MayHaveBuilt p old middle) page c.take.ensures.builds) c.write_taken.ensures.grows.1;
     }
