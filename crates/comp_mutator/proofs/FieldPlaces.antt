@@ -1,6 +1,6 @@
 -- Where the fields of objects are.
-use Rattle.std.proofs.Common.{◌≡◌, ℕ, ◌+◌, ◌-◌, ◌*◌, ◌/◌, ◌<◌, ◌≤◌, [], refl, sym, ap, subst, inr, ◌∙◌, arith}
-use Rattle.heap_layout.specs.Header.{refs_of, data_of, size_of}
+use Rattle.std.proofs.Common.{◌≡◌, ℕ, ◌+◌, ◌*◌, ◌<◌, ◌≤◌, [], sym, subst, inr, ◌∙◌, arith}
+use Rattle.heap_layout.specs.Header.{size_of}
 use Rattle.heap_layout.specs.declared.kind.Kind.{Kind}
 use Rattle.heap_layout.specs.declared.kind.Kind.TheVariants.{Header, Reference, Data}
 use Rattle.page_plan.specs.Sliding.{to_address}

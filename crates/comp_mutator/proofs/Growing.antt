@@ -1,5 +1,5 @@
 -- What a pass knows grows from call to call.
-use Rattle.std.proofs.Common.{◌≡◌, ℕ, zero, suc, ◌+◌, ◌<◌, ◌≤◌, List, [], ◌∷◌, ◌++◌, Bool, length, get_or, All, refl, sym, ap, ◌∙◌, arith, subst, append_assoc, inl, inr, length-append}
+use Rattle.std.proofs.Common.{◌≡◌, ℕ, zero, suc, ◌<◌, List, [], ◌∷◌, ◌++◌, length, get_or, All, sym, ap, ◌∙◌, arith, subst, append_assoc, inl, inr, length-append}
 use Rattle.std.proofs.Math.ListN.{get_or-append}
 use mathlib.Core.Option.{some, some-ne-none}
 use lib.ListN.{get_elem?}
@@ -8,11 +8,11 @@ use Rattle.comp_journal.specs.declared.entry.Entry.{Entry}
 use Rattle.cell_steps.specs.Setup.{Setup}
 use Rattle.cell_steps.specs.Lists.{StartsWith}
 use Rattle.cell_steps.specs.Starts.{IsPlace}
-use Rattle.cell_steps.specs.Passes.{builds_of, did, number_of, seen, view_of, KnowsFresh, KnowsStart, MayRefer}
+use Rattle.cell_steps.specs.Passes.{builds_of, did, seen, view_of, KnowsStart, MayRefer}
 use Rattle.cell_steps.specs.declared.pass.Pass.{Pass}
 use Rattle.cell_steps.specs.declared.steps.Steps.{Steps}
 use Rattle.page_cells.specs.Cells.{Works}
-use Rattle.page_cells.specs.Calls.{builds_with, Grows, MayHaveBuilt, WroteNothing}
+use Rattle.page_cells.specs.Calls.{builds_with, Grows, MayHaveBuilt}
 use Rattle.page_cells.specs.Objects.{page_at, offset_at, HasHeader, HasShape}
 use Rattle.comp_mutator.specs.Fields.{IsFieldOf}
 use Rattle.comp_mutator.specs.Finds.{IsFound}
@@ -56,7 +56,6 @@ pub same_about : (table : Steps) (mutators : ℕ) (a b : Pass) → Works table m
 same_about table mutators a b of_a of_b = of_b.of.about ∙ sym of_a.of.about
 
 module _ (table : Steps) (mutators : ℕ) (a b : Pass) (of_a : Works table mutators a) (of_b : Works table mutators b) (h : Grows a b) where
-
   -- a start that a pass knew, it knows
   pub knows_more : (x : ℕ) → KnowsStart a x → KnowsStart b x
   knows_more x (inl place) = inl (subst (λ (u : Setup). IsPlace u.heap x) (sym (same_about table mutators a b of_a of_b)) place)

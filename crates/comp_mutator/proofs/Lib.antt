@@ -6,3 +6,4 @@ pub mod OwnPages
 pub mod FillCounts
 pub mod SpacePasses
 pub mod Made
+pub mod BusyPages

@@ -1,5 +1,5 @@
 -- Why calls are refused, from why their parts are.
-use Rattle.std.proofs.Common.{◌≡◌, ◌≢◌, ℕ, ◌<◌, ◌⊎◌, length, ap, ◌∙◌, sym, subst, inl, inr, arith}
+use Rattle.std.proofs.Common.{◌≡◌, ℕ, ◌<◌, ◌⊎◌, ◌∙◌, sym, subst, inl, inr, arith}
 use Rattle.heap_layout.specs.declared.kind.Kind.{Kind}
 use Rattle.cell_steps.specs.Setup.{Setup}
 use Rattle.cell_steps.specs.Passes.{builds_of, lost, seen, KnowsStart}
@@ -14,7 +14,7 @@ use Rattle.comp_mutator.specs.Writes.{EntryRefused}
 use Rattle.comp_mutator.specs.Allocations.{AllocationRefused, IsLowestPage}
 use Rattle.comp_mutator.specs.declared.refusal.Refusal.{Refusal}
 use Rattle.comp_mutator.specs.declared.refusal.Refusal.TheVariants.{Null, NotAStart, NoSuchField, ObjectTooLarge, OutOfPages, Busy, JournalFull, OutOfMemory}
-use Rattle.comp_mutator.proofs.Growing.{built_after, built_before}
+use Rattle.comp_mutator.proofs.Growing.{built_after}
 
 -- an object that an allocation made lies on one page
 pub touches_fresh : (u : Setup) (pass : Pass) (kind : Kind) (object field p : ℕ) → IsFreshObject u pass object → p ≡ page_at object → Touches u kind object field p

@@ -3,10 +3,12 @@ use Rattle.std.specs.Prelude.{◌≡◌, ℕ, ◌+◌, ◌*◌, ◌<◌, ◌≤�
 use Rattle.heap_layout.specs.Header.{size_of}
 use Rattle.heap_layout.specs.declared.kind.Kind.{Kind}
 use Rattle.heap_layout.specs.declared.kind.Kind.TheVariants.{Header, Reference, Data}
+use Rattle.comp_journal.specs.Journal.{replayed}
 use Rattle.comp_journal.specs.declared.entry.Entry.{Entry}
-use Rattle.cell_steps.specs.Setup.{Setup, address, fresh_page}
+use Rattle.cell_steps.specs.Setup.{Setup, address, base_of, fresh_page}
 use Rattle.cell_steps.specs.Lists.{on, total}
 use Rattle.cell_steps.specs.Lawful.{filled}
+use Rattle.cell_steps.specs.Locks.{Journals}
 use Rattle.cell_steps.specs.Passes.{did, lost, number_of, seen, KnowsFresh}
 use Rattle.cell_steps.specs.declared.pass.Pass.{Pass}
 use Rattle.page_cells.specs.Calls.{MayHaveBuilt}
@@ -42,7 +44,12 @@ HasNoRoom u pass size = (index : ℕ) → HasOwn u pass index → 64 < used u pa
 abbrev pub IsLowestPage : Setup → Pass → ℕ → ℕ → Type 0
 IsLowestPage u pass size p = (index : ℕ) × IsLowest u pass size index × (p ≡ own_page u (number_of pass) index)
 
--- An object with this header was made at the address, behind the objects on the lowest own page with room, by one entry. The pass knows that start.
+-- the words of page p behind one offset and before another are zero
+abbrev pub AreZero : Setup → Journals → ℕ → ℕ → ℕ → Type 0
+AreZero u journals p before after = (o : ℕ) → before < o → o < after → slice_index (replayed (base_of u p) (journals p)) o ≡ 0
+
+-- An object with this header was made at the address, behind the objects on the lowest own page with room, by one entry. Its fields are zero, and
+-- the pass knows that start.
 pub record Allocates (u : Setup) (old new : Pass) (header place : ℕ) : Type 0 where
   pub index : ℕ
   pub lowest : IsLowest u old (size_of header) index
@@ -50,6 +57,7 @@ pub record Allocates (u : Setup) (old new : Pass) (header place : ℕ) : Type 0 
   pub stamp : ℕ
   pub adds : Adds (own_page u (number_of old) index) (entry_by old stamp Header (used u old index) header) old new
   pub known : KnowsFresh new (own_page u (number_of old) index) (used u old index)
+  pub zero : AreZero u (seen new) (own_page u (number_of old) index) (used u old index) (used u old index + size_of header)
   pub builds : MayHaveBuilt (own_page u (number_of old) index) old new
 
 -- why an allocation is refused

@@ -1,5 +1,5 @@
 -- What is found of a field before and after its page is taken.
-use Rattle.std.specs.Prelude.{◌≡◌, ℕ, ◌+◌, ◌*◌, ◌<◌, ◌≤◌}
+use Rattle.std.specs.Prelude.{◌≡◌, ℕ, ◌<◌, ◌≤◌}
 use Rattle.heap_layout.specs.declared.kind.Kind.{Kind}
 use Rattle.page_plan.specs.Sliding.{to_address}
 use Rattle.cell_steps.specs.Setup.{Setup, pages}

@@ -1,5 +1,5 @@
 -- What a read answers, and why a call on a field is refused.
-use Rattle.std.specs.Prelude.{◌≡◌, ◌≢◌, ℕ, ◌<◌, ◌≤◌, ◌⊎◌}
+use Rattle.std.specs.Prelude.{◌≡◌, ◌≢◌, ℕ, ◌<◌, ◌⊎◌}
 use Rattle.heap_layout.specs.declared.kind.Kind.{Kind}
 use Rattle.cell_steps.specs.Setup.{Setup}
 use Rattle.cell_steps.specs.Locks.{Journals}

@@ -1,5 +1,5 @@
 //! The calls of a mutator on its space. None waits or repeats: an exchange that another mutator won is answered by `Busy`.
-ghost use Rattle.std.specs.Prelude.{◌≡◌, ℕ, ◌+◌, ◌<◌, ◌≤◌, [], Ok, IfErr, IfOk, OnErr, OnOk};
+ghost use Rattle.std.specs.Prelude.{◌≡◌, ℕ, ◌+◌, ◌<◌, ◌≤◌, [], Ok, IfErr, IfOk, IsErrOf, OnErr, OnOk};
 ghost use Rattle.heap_layout.specs.Header.{header_word, size_of};
 ghost use Rattle.heap_layout.specs.declared.kind.Kind.TheVariants as kinds;
 ghost use Rattle.cell_steps.specs.Lists.{by, on};
@@ -12,14 +12,13 @@ ghost use Rattle.comp_mutator.specs.Mutators.{pass_of, setup_of, unposted_of, Is
 ghost use Rattle.comp_mutator.specs.Reads.{FieldRefused, KnowsBuilt, MayBuildTouched, Reads};
 ghost use Rattle.comp_mutator.specs.Writes.{DataRefused, ReferenceRefused, Writes};
 ghost use Rattle.comp_mutator.specs.declared.pages.Touched.TheVariants.{AlreadyBuilt};
+ghost use Rattle.comp_mutator.specs.declared.refusal.Refusal.TheVariants.{Busy};
 
-use crate::allocating;
 use crate::mutator::{Hand, Mutator};
 use crate::pages::{self, PageCopy, Touched};
-use crate::reading;
 use crate::refusal::Refusal;
 use crate::space::Space;
-use crate::writing;
+use crate::{allocating, reading, writing};
 use heap_layout::header::Header;
 use page_plan::builder::Builder;
 use std::alloc::Global;
@@ -168,6 +167,7 @@ impl<B: Builder> Space<B> {
         ensures grows { Grows (pass_of m.old) (pass_of m.new) × WroteNothing (pass_of m.old) (pass_of m.new) }
         ensures unposted { unposted_of m.new ≡ unposted_of m.old }
         ensures touched { IfOk result (λ touched. HasSeenBuilt (pass_of m.new) p × (builds_of (pass_of m.new) ≡ builds_after (builds_of (pass_of m.old)) p touched)) }
+        ensures alone { (setup_of self.now).mutators ≡ 1 → (q : ℕ) → IsErrOf result (Busy q) → ⊥ }
         ensures known { KnowsBuilt (pass_of m.old) p → result ≡ Ok AlreadyBuilt }
         ensures refused { IfErr result (λ refusal. (builds_of (pass_of m.new) ≡ builds_of (pass_of m.old)) × PageRefused p (pass_of m.old) (pass_of m.new) refusal) }
     {
@@ -187,6 +187,7 @@ impl<B: Builder> Space<B> {
         ensures of { IsMutatorOf self.now m.new }
         ensures grows { Grows (pass_of m.old) (pass_of m.new) × (did (pass_of m.new) ≡ did (pass_of m.old)) }
         ensures unposted { unposted_of m.new ≡ unposted_of m.old }
+        ensures alone { (setup_of self.now).mutators ≡ 1 → (q : ℕ) → IsErrOf result (Busy q) → ⊥ }
         ensures copy { IfOk result (IsCopy (setup_of self.now) (seen (pass_of m.new)) p) }
         ensures own { IfOk result (λ copy. by (number_of (pass_of m.old)) copy.journal.items ≡ on p (did (pass_of m.old))) }
         ensures strangers { IfOk result (λ copy. number_of (pass_of m.old) ≡ 0 → (k : ℕ) → (setup_of self.now).mutators ≤ k → by k copy.journal.items ≡ []) }

@@ -12,4 +12,5 @@ mod reading;
 pub mod refusal;
 pub mod space;
 mod taking;
+mod waiting;
 mod writing;

@@ -28,12 +28,7 @@ pub struct Mutator {
 }
 
 /// The counts of the own fresh pages of the mutator of this number, where there are `fresh` fresh pages and `mutators` mutators.
-fn empty_fills(
-    alloc: Global,
-    number: u8,
-    fresh: u32,
-    mutators: u32,
-) -> Result<Vec<u8>, OutOfMemory>
+fn empty_fills(alloc: Global, number: u8, fresh: u32, mutators: u32) -> Result<Vec<u8>, OutOfMemory>
     requires fresh { fresh ≤ 4096 }
     requires some { (1 ≤ mutators) × (mutators ≤ 64) }
     ensures few { IfOk result (λ fills. length fills.items ≤ 4096) }

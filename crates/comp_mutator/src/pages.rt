@@ -1,5 +1,5 @@
 //! Whole pages: touched, and copied.
-ghost use Rattle.std.specs.Prelude.{◌≡◌, ℕ, ◌<◌, ◌≤◌, [], Ok, length, IfErr, IfOk, slice_index};
+ghost use Rattle.std.specs.Prelude.{◌≡◌, ℕ, ◌<◌, ◌≤◌, [], Ok, length, IfErr, IfOk, IsErrOf, slice_index};
 ghost use Rattle.cell_steps.specs.Lists.{by, on};
 ghost use Rattle.cell_steps.specs.Passes.{builds_of, did, number_of, seen, HasSeenBuilt, Rests};
 ghost use Rattle.page_cells.specs.Cells.{journal_of, mutators_of, pages_of, setup_of, words_of, Has, IsPassOf};
@@ -7,6 +7,7 @@ ghost use Rattle.page_cells.specs.Calls.{Grows, MayHaveBuilt, WroteNothing};
 ghost use Rattle.comp_mutator.specs.Copies.{builds_after, CopyRefused, IsCopy, PageRefused};
 ghost use Rattle.comp_mutator.specs.Reads.{KnowsBuilt};
 ghost use Rattle.comp_mutator.specs.declared.pages.Touched.TheVariants.{AlreadyBuilt};
+ghost use Rattle.comp_mutator.specs.declared.refusal.Refusal.TheVariants.{Busy};
 
 use crate::refusal::Refusal;
 use crate::taking::take;
@@ -50,6 +51,7 @@ pub(crate) fn try_touch<B: Builder>(
     ensures of { IsPassOf cells.now pass.new × Rests pass.new }
     ensures grows { Grows pass.old pass.new × WroteNothing pass.old pass.new }
     ensures touched { IfOk result (λ touched. HasSeenBuilt pass.new p × (builds_of pass.new ≡ builds_after (builds_of pass.old) p touched)) }
+    ensures alone { mutators_of cells.now ≡ 1 → (q : ℕ) → IsErrOf result (Busy q) → ⊥ }
     ensures known { KnowsBuilt pass.old p → result ≡ Ok AlreadyBuilt }
     ensures refused { IfErr result (λ refusal. (builds_of pass.new ≡ builds_of pass.old) × PageRefused p pass.old pass.new refusal) }
 {
@@ -122,6 +124,7 @@ pub(crate) fn page_copy<B: Builder>(
     requires inside { p < pages_of cells.now }
     ensures of { IsPassOf cells.now pass.new × Rests pass.new }
     ensures grows { Grows pass.old pass.new × (did pass.new ≡ did pass.old) }
+    ensures alone { mutators_of cells.now ≡ 1 → (q : ℕ) → IsErrOf result (Busy q) → ⊥ }
     ensures copy { IfOk result (IsCopy (setup_of cells.now) (seen pass.new) p) }
     ensures own { IfOk result (λ copy. by (number_of pass.old) copy.journal.items ≡ on p (did pass.old)) }
     ensures strangers { IfOk result (λ copy. number_of pass.old ≡ 0 → (k : ℕ) → mutators_of cells.now ≤ k → by k copy.journal.items ≡ []) }

@@ -1,11 +1,12 @@
 //! Pages, taken for a call.
-ghost use Rattle.std.specs.Prelude.{◌≡◌, ℕ, ◌<◌, ◌≤◌, [], IfOk, IfErr};
+ghost use Rattle.std.specs.Prelude.{◌≡◌, ℕ, ◌<◌, ◌≤◌, [], IfOk, IfErr, IsErrOf};
 ghost use Rattle.cell_steps.specs.Lists.{by, on};
 ghost use Rattle.cell_steps.specs.Lawful.{HasHead, IsLawful};
 ghost use Rattle.cell_steps.specs.Passes.{builds_of, did, number_of, KnowsFresh, Rests};
 ghost use Rattle.page_cells.specs.Cells.{journal_of, mutators_of, page_number, pages_of, setup_of, Has, IsPassOf};
 ghost use Rattle.page_cells.specs.Calls.{Grows, MayHaveBuilt};
 ghost use Rattle.comp_mutator.specs.Copies.{PageRefused};
+ghost use Rattle.comp_mutator.specs.declared.refusal.Refusal.TheVariants.{Busy};
 
 use crate::refusal::Refusal;
 use cell_steps::pass::Pass;
@@ -26,6 +27,7 @@ pub(crate) fn take<B: Builder>(
     requires inside { p < pages_of cells.now }
     ensures of { IsPassOf cells.now pass.new }
     ensures grows { Grows pass.old pass.new × (did pass.new ≡ did pass.old) }
+    ensures alone { mutators_of cells.now ≡ 1 → (q : ℕ) → IsErrOf result (Busy q) → ⊥ }
     ensures taken { IfOk result (λ taken. (page_number taken ≡ p) × Has cells.now pass.new taken) }
     ensures lawful { IfOk result (λ taken. IsLawful (setup_of cells.now) p (journal_of taken)) }
     ensures heads { IfOk result (λ taken. (offset : ℕ) → KnowsFresh pass.old p offset → HasHead (journal_of taken) offset) }

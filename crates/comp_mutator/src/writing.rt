@@ -1,5 +1,6 @@
 //! Writes of fields.
-ghost use Rattle.std.specs.Prelude.{◌≡◌, ◌≢◌, ◌⊎◌, ℕ, ◌<◌, IfOk, IfErr, OnOk, MatchBool};
+ghost use Rattle.std.specs.Prelude.{◌≡◌, ◌≢◌, ◌⊎◌, ℕ, ◌+◌, ◌<◌, IfOk, IfErr, OnOk, MatchBool};
+ghost use Rattle.heap_layout.specs.Header.{size_of};
 ghost use Rattle.heap_layout.specs.declared.kind.Kind.TheVariants as kinds;
 ghost use Rattle.cell_steps.specs.Lawful.{Fits};
 ghost use Rattle.cell_steps.specs.Passes.{builds_of, did, number_of, seen, KnowsFresh, KnowsStart, MayRefer, Rests};
@@ -7,11 +8,12 @@ ghost use Rattle.page_cells.specs.Cells.{journal_of, page_number, setup_of, Has,
 ghost use Rattle.page_cells.specs.Calls.{Grows};
 ghost use Rattle.comp_mutator.specs.Fields.{IsFieldOf};
 ghost use Rattle.comp_mutator.specs.Finds.{IsFound};
+ghost use Rattle.comp_mutator.specs.Allocations.{AreZero};
 ghost use Rattle.comp_mutator.specs.Copies.{PageTakesNone};
 ghost use Rattle.comp_mutator.specs.Reads.{BuildsNothing, FieldRefused, MayBuildTouched};
 ghost use Rattle.comp_mutator.specs.Writes.{entry_by, Adds, DataRefused, ReferenceRefused, Writes};
 
-use crate::finding::{Found, Held, find, take_fresh, take_found};
+use crate::finding::{Found, Held, find, take_found, take_fresh};
 use crate::refusal::Refusal;
 use cell_steps::pass::Pass;
 use comp_journal::refusal::JournalRefusal;
@@ -38,6 +40,7 @@ pub(crate) fn write_taken<B: Builder>(
     ensures grows { Grows pass.old pass.new × (builds_of pass.new ≡ builds_of pass.old) }
     ensures adds { IfOk result (λ stamp. Adds (page_number taken) (entry_by pass.old stamp kind offset value) pass.old pass.new) }
     ensures start { OnOk result (kind ≡ kinds.Header → KnowsFresh pass.new (page_number taken) offset) }
+    ensures zero { OnOk result (kind ≡ kinds.Header → AreZero (setup_of cells.now) (seen pass.new) (page_number taken) offset (offset + size_of value)) }
     ensures refused { IfErr result (λ refusal. (did pass.new ≡ did pass.old) × PageTakesNone (page_number taken) pass.new refusal) }
 {
     let p = taken.page();
@@ -155,5 +158,14 @@ pub(crate) fn try_write_ref<B: Builder>(
         check_found(alloc, cells, pass, object, field, Kind::Reference, found)?;
         return Err(Refusal::NotAStart(value));
     }
-    write_found(alloc, cells, pass, object, field, Kind::Reference, found, value)
+    write_found(
+        alloc,
+        cells,
+        pass,
+        object,
+        field,
+        Kind::Reference,
+        found,
+        value,
+    )
 }

@@ -1,13 +1,12 @@
-use Rattle.std.proofs.Common.{◌≡◌, ◌+◌, ◌<◌, ◌≤◌, ℕ, List, get_or, set, sym, ap, subst, refl, ◌∙◌, arith}
+use Rattle.std.proofs.Common.{◌≡◌, ◌+◌, ◌≤◌, get_or, set, sym, ap, subst, refl, ◌∙◌, arith}
 use Rattle.heap_layout.specs.Header.{size_of}
-use Rattle.comp_journal.specs.declared.entry.Entry.{Entry}
 use Rattle.cell_steps.specs.Setup.{address}
 use Rattle.cell_steps.specs.Lists.{by, on}
 use Rattle.cell_steps.specs.Lawful.{IsLawful, IsNext}
-use Rattle.cell_steps.specs.Passes.{did, number_of, KnowsFresh}
+use Rattle.cell_steps.specs.Passes.{did, number_of, seen, KnowsFresh}
 use Rattle.page_cells.specs.Cells.{setup_of, page_number, journal_of}
 use Rattle.page_cells.specs.Calls.{MayHaveBuilt}
-use Rattle.comp_mutator.specs.Allocations.{own_page, used, Counts, IsLowest}
+use Rattle.comp_mutator.specs.Allocations.{own_page, used, AreZero, Counts, IsLowest}
 use Rattle.comp_mutator.proofs.Answering.{err_anyway}
 use Rattle.comp_mutator.proofs.Growing.{built_before, grows_then}
 use Rattle.comp_mutator.proofs.OwnPages.{counts_more, lowest_own, made_own, next_own}
@@ -30,7 +29,7 @@ write_taken-requires-clause-fits g c κs within =
     let ends = subst (λ s. get_or c.args.fills.now index 0 + s ≤ 64) size chosen.room in
     let next = next_own u n index c.word.result _ journal _ c.requires.of.0.numbered (c.requires.counts.there index chosen.inside) lawful mine (c.requires.counts.used index chosen.inside) ends in
     subst (λ p. IsNext u p journal (number_of c.take.new.pass) (get_or c.args.fills.now index 0) c.word.result) (sym (taken.taken.0 ∙ own))
-        (subst (λ k. IsNext u (own_page u n index) journal k (get_or c.args.fills.now index 0) c.word.result) (sym c.take.ensures.grows.0.number) next)
+    (subst (λ k. IsNext u (own_page u n index) journal k (get_or c.args.fills.now index 0) c.word.result) (sym c.take.ensures.grows.0.number) next)
 
 pub returns-in_err-write_taken-clause-grows : goal.returns-in_err-write_taken-clause-grows
 returns-in_err-write_taken-clause-grows g c = grows_then c.args.pass.now c.take.new.pass c.write_taken.new.pass c.take.ensures.grows.0 c.write_taken.ensures.grows.0
@@ -49,8 +48,8 @@ returns-in_err-write_taken-clause-refused g c =
     let lowest = lowest_own u old c.args.fills.now c.size-size.result index c.requires.counts chosen.inside chosen.room chosen.first in
     let built = subst (λ q. MayHaveBuilt q old middle) (sym taken.taken.0) c.take.ensures.builds in
     err_anyway c.from_residual-in_err-write_taken.result _ c.in_err-write_taken.field-0.0 c.from_residual-in_err-write_taken.ensures.1
-        (allocation_refused u old new (size_of c.args.header) p _ (index, subst (λ s. IsLowest u old s index) c.size-size.ensures lowest, own)
-            (built_before old middle new p built c.write_taken.ensures.grows.1) c.in_err-write_taken.ensures.refused.1)
+    (allocation_refused u old new (size_of c.args.header) p _ (index, subst (λ s. IsLowest u old s index) c.size-size.ensures lowest, own)
+    (built_before old middle new p built c.write_taken.ensures.grows.1) c.in_err-write_taken.ensures.refused.1)
 
 pub returns-clause-grows : goal.returns-clause-grows
 returns-clause-grows g c = grows_then c.args.pass.now c.take.new.pass c.write_taken.new.pass c.take.ensures.grows.0 c.write_taken.ensures.grows.0
@@ -85,6 +84,9 @@ returns-clause-allocated g c =
     let place = c.requires.counts.used index chosen.inside in
     let lowest = lowest_own u old c.args.fills.now c.size-size.result index c.requires.counts chosen.inside chosen.room chosen.first in
     let known = c.in_ok-write_taken.ensures.start refl in
+    let zero_there = subst (λ p. AreZero u (seen new) p (get_or c.args.fills.now index 0) (get_or c.args.fills.now index 0 + size_of c.word.result)) (taken.taken.0 ∙ page) (c.in_ok-write_taken.ensures.zero refl) in
+    let zero_word = subst (λ h. AreZero u (seen new) (own_page u (number_of old) index) (get_or c.args.fills.now index 0) (get_or c.args.fills.now index 0 + size_of h)) c.word.ensures zero_there in
+    let zero = subst (λ n. AreZero u (seen new) (own_page u (number_of old) index) n (n + size_of c.args.header)) place zero_word in
     record {
       index = index;
       lowest = subst (λ s. IsLowest u old s index) c.size-size.ensures lowest;
@@ -92,5 +94,6 @@ returns-clause-allocated g c =
       stamp = c.in_ok-write_taken.field-0;
       adds = made_own u old middle new index c.args.header c.word.result _ _ c.in_ok-write_taken.field-0 c.take.ensures.grows (taken.taken.0 ∙ page) place c.word.ensures c.in_ok-write_taken.ensures.adds;
       known = subst (λ p. KnowsFresh new p (used u old index)) (taken.taken.0 ∙ page) (subst (KnowsFresh new (page_number c.in_ok-taken.taken)) place known);
+      zero = zero;
       builds = built_before old middle new (own_page u (number_of old) index) (subst (λ p. MayHaveBuilt p old middle) page c.take.ensures.builds) c.write_taken.ensures.grows.1;
     }

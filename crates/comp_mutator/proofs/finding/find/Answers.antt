@@ -1,4 +1,4 @@
-use Rattle.std.proofs.Common.{◌≡◌, ℕ, [], sym, ◌∙◌}
+use Rattle.std.proofs.Common.{[], sym}
 use Rattle.comp_mutator.proofs.FieldPlaces.{slid_field}
 use Rattle.comp_mutator.proofs.finding.find.Goals as goal
 

@@ -1,4 +1,3 @@
-use Rattle.std.proofs.Common.{◌≡◌, ℕ, sym, ◌∙◌}
 use Rattle.std.proofs.lemmas.Result.{IfErr-weaker}
 use Rattle.page_cells.specs.Cells.{setup_of}
 use Rattle.comp_mutator.proofs.Growing.{still_then, knows_more}
@@ -16,5 +15,5 @@ returns-clause-refused g c =
     let first = c.find.ensures in
     let knows = knows_more _ _ old c.find.new.pass c.requires.0 first.of.0 first.grows.0 in
     IfErr-weaker c.take_found.result _ _
-        (λ e h. (h.0, refused_after (setup_of c.args.cells.now) c.args.kind c.args.object c.args.field old c.find.new.pass c.take_found.new.pass first.grows.0 first.builds knows e h.1))
-        c.take_found.ensures.refused
+    (λ e h. (h.0, refused_after (setup_of c.args.cells.now) c.args.kind c.args.object c.args.field old c.find.new.pass c.take_found.new.pass first.grows.0 first.builds knows e h.1))
+    c.take_found.ensures.refused

@@ -1,4 +1,4 @@
-use Rattle.std.proofs.Common.{◌≡◌, ℕ, sym, subst, ap, ◌∙◌}
+use Rattle.std.proofs.Common.{sym, subst, ◌∙◌}
 use Rattle.cell_steps.specs.Passes.{KnowsFresh}
 use Rattle.page_cells.specs.Cells.{setup_of}
 use Rattle.page_cells.specs.Calls.{MayHaveBuilt}
@@ -27,7 +27,7 @@ returns-in_err-taken-clause-refused g c =
     let touched = touches_fresh u c.args.pass.now c.args.kind c.args.object c.args.field c.page_at.result c.requires.fresh c.page_at.ensures in
     let refused = c.in_err-taken.ensures.refused in
     err_anyway c.from_residual.result _ c.in_err-taken.field-0.0 c.from_residual.ensures.1
-        (refused.0, page_refused u c.args.kind c.args.object c.args.field c.args.pass.now c.take.new.pass c.page_at.result _ touched c.take.ensures.builds refused.1)
+    (refused.0, page_refused u c.args.kind c.args.object c.args.field c.args.pass.now c.take.new.pass c.page_at.result _ touched c.take.ensures.builds refused.1)
 
 pub returns-in-Some-clause-field : goal.returns-in-Some-clause-field
 returns-in-Some-clause-field g c =
@@ -35,8 +35,8 @@ returns-in-Some-clause-field g c =
     let header = c.held_header-header.ensures in
     let place = c.in-Some.ensures.some in
     holds_fresh (setup_of c.args.cells.now) c.args.pass.now c.take.new.pass c.args.kind c.args.object c.args.field _ _ c.held_header-header.result c.in-Some.place c.requires.fresh
-        (number ∙ c.page_at.ensures) header.shape header.fields header.ends place.0 place.1 c.offset_at.ensures.offset
-        (subst (λ n. MayHaveBuilt n c.args.pass.now c.take.new.pass) (sym number) c.take.ensures.builds)
+    (number ∙ c.page_at.ensures) header.shape header.fields header.ends place.0 place.1 c.offset_at.ensures.offset
+    (subst (λ n. MayHaveBuilt n c.args.pass.now c.take.new.pass) (sym number) c.take.ensures.builds)
 
 pub returns-in-None-clause-grows : goal.returns-in-None-clause-grows
 returns-in-None-clause-grows g c =

@@ -1,4 +1,4 @@
-use Rattle.std.proofs.Common.{◌≡◌, subst}
+use Rattle.std.proofs.Common.{subst}
 use Rattle.page_cells.specs.Cells.{Works}
 use Rattle.comp_mutator.proofs.SpacePasses.{next_at}
 use Rattle.comp_mutator.proofs.flipping.new_mutators.Goals as goal

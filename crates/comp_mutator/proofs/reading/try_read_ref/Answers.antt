@@ -1,4 +1,4 @@
-use Rattle.std.proofs.Common.{◌≡◌, subst, sym}
+use Rattle.std.proofs.Common.{◌≡◌, subst}
 use Rattle.cell_steps.specs.declared.pass.Pass.{Pass}
 use Rattle.cell_steps.specs.Passes.{did, MayRefer}
 use Rattle.page_cells.specs.Calls.{Grows}
@@ -16,4 +16,4 @@ returns-clause-known g c =
     let same = c.held_reference-word.ensures.same in
     let grows = subst (λ (m : Pass). Grows m c.put_back.new.pass) same c.put_back.ensures.grows.0 in
     refers_more _ _ c.hold.new.pass c.put_back.new.pass c.hold.ensures.of c.put_back.ensures.of.0 grows c.held_reference-word.result
-        (subst (λ (m : Pass). MayRefer m c.held_reference-word.result) same c.held_reference-word.ensures.leads)
+    (subst (λ (m : Pass). MayRefer m c.held_reference-word.result) same c.held_reference-word.ensures.leads)

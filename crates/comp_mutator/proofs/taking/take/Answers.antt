@@ -1,4 +1,4 @@
-use Rattle.std.proofs.Common.{◌≡◌, ⊎_elim, ap, Err}
+use Rattle.std.proofs.Common.{⊎_elim, ap, Err}
 use Rattle.comp_mutator.proofs.taking.take.Goals as goal
 
 pub returns-in-Err-OutOfMemory-clause-refused : goal.returns-in-Err-OutOfMemory-clause-refused

@@ -1,4 +1,4 @@
-use Rattle.std.proofs.Common.{◌≡◌, subst, inr, ◌∙◌}
+use Rattle.std.proofs.Common.{subst, inr}
 use Rattle.std.proofs.lemmas.Result.{IfErr-weaker, IfOk-weaker}
 use Rattle.page_cells.specs.Cells.{setup_of}
 use Rattle.page_cells.specs.Objects.{page_at}
@@ -26,13 +26,13 @@ returns-clause-wrote g c =
     let grows = c.take_found.ensures.grows in
     let field = field_more u middle new c.write_taken.ensures.grows.0 kind c.args.object c.args.field held.place held.field_of in
     IfOk-weaker c.write_taken.result _ _
-        (λ stamp adds. record {
-          place = held.place;
-          field_of = field;
-          adds = subst (λ o. Adds (page_at held.place) (entry_by old stamp kind o value) old new) held.offset_is
-            (subst (λ p. Adds p (entry_by old stamp kind c.in_ok-held.held.offset value) old new) held.page_is (adds_after old middle new grows.0 grows.1 _ stamp kind _ value adds));
-        })
-        c.write_taken.ensures.adds
+    (λ stamp adds. record {
+      place = held.place;
+      field_of = field;
+      adds = subst (λ o. Adds (page_at held.place) (entry_by old stamp kind o value) old new) held.offset_is
+          (subst (λ p. Adds p (entry_by old stamp kind c.in_ok-held.held.offset value) old new) held.page_is (adds_after old middle new grows.0 grows.1 _ stamp kind _ value adds));
+    })
+    c.write_taken.ensures.adds
 
 pub returns-clause-refused : goal.returns-clause-refused
 returns-clause-refused g c =
@@ -42,5 +42,5 @@ returns-clause-refused g c =
     let held = c.in_ok-held.ensures.field in
     let p = c.in_ok-held.held.taken.number in
     IfErr-weaker c.write_taken.result _ _
-        (λ e h. inr (entry_refused (setup_of c.args.cells.now) c.args.kind c.args.object c.args.field old new p e held.touched (built_before old middle new p held.builds c.write_taken.ensures.grows.1) h.1))
-        c.write_taken.ensures.refused
+    (λ e h. inr (entry_refused (setup_of c.args.cells.now) c.args.kind c.args.object c.args.field old new p e held.touched (built_before old middle new p held.builds c.write_taken.ensures.grows.1) h.1))
+    c.write_taken.ensures.refused

@@ -1,4 +1,4 @@
-use Rattle.std.proofs.Common.{◌≡◌, ◌*◌, ◌≤◌, length, sum, ap, ◌∙◌, sym, arith}
+use Rattle.std.proofs.Common.{◌*◌, ◌≤◌, length, sum, ap, ◌∙◌, arith}
 use Rattle.cell_steps.specs.Passes.{did, number_of}
 use Rattle.comp_mutator.specs.Allocations.{allocated, own_page, used}
 use Rattle.comp_mutator.specs.Mutators.{setup_of}

@@ -1,5 +1,5 @@
-use Rattle.std.proofs.Common.{◌≡◌, subst, sym, ◌∙◌}
-use Rattle.heap_layout.specs.declared.kind.Kind.TheVariants.{Header, Data}
+use Rattle.std.proofs.Common.{subst, sym, ◌∙◌}
+use Rattle.heap_layout.specs.declared.kind.Kind.TheVariants.{Data}
 use Rattle.cell_steps.specs.Setup.{Setup}
 use Rattle.comp_mutator.specs.Allocations.{Counts}
 use Rattle.comp_mutator.specs.Mutators.{setup_of}
