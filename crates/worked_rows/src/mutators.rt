@@ -10,8 +10,6 @@ use comp_mutator::mutator::Mutator;
 use comp_mutator::pages::{PageCopy, Touched};
 use comp_mutator::refusal::{FlipFault, Refusal};
 use comp_mutator::space::Space;
-use heap_layout::header::Header;
-use heap_layout::heap::MarkedHeap;
 use heap_layout::kind::Kind;
 use page_plan::builder::Builder;
 use page_plan::plan::Plan;
@@ -29,7 +27,19 @@ pub fn one<B: Builder>(
 ) -> Result<(Space<B>, Mutator), Fail>
     ensures of { IfOk result (λ made. IsMutatorOf made.0 made.1) }
 {
-    let (space, mut mutators) = flip(alloc, Arc::new(alloc, builder)?, 1, fresh_pages)?;
+    one_shared(rt, alloc, Arc::new(alloc, builder)?, fresh_pages)
+}
+
+/// A flipped heap with one mutator, whose builder the test holds too.
+pub fn one_shared<B: Builder>(
+    rt: &impl Abort,
+    alloc: Global,
+    builder: Arc<B>,
+    fresh_pages: u32,
+) -> Result<(Space<B>, Mutator), Fail>
+    ensures of { IfOk result (λ made. IsMutatorOf made.0 made.1) }
+{
+    let (space, mut mutators) = flip(alloc, builder, 1, fresh_pages)?;
     let first = mutators.pop().expect(rt, "the mutator");
     Ok((space, first))
 }
@@ -354,8 +364,7 @@ fn touches_after_a_refusal(rt: HostRuntime) -> Result<(), Fail> {
 fn builds_at_the_first_touch(rt: HostRuntime) -> Result<(), Fail> {
     let alloc = rt.alloc();
     let builder = Arc::new(alloc, Counting::new(three_plan(alloc)?))?;
-    let (space, mut mutators) = flip(alloc, builder.clone()?, 1, 4)?;
-    let mut m = mutators.pop().expect(&rt, "the mutator");
+    let (space, mut m) = one_shared(&rt, alloc, builder.clone()?, 4)?;
     assert_eq!(rt; builder.count(), 0);
     assert_eq!(rt; touch(&rt, alloc, &space, &mut m, 0), Ok(Touched::Built));
     assert_eq!(rt;
