@@ -5,11 +5,11 @@ ghost use Rattle.comp_journal.specs.declared.entry.Entry.{Entry};
 
 use crate::view::View;
 use atomic_table::{Join, Play, Split};
-use comp_journal::journaled_page::JournaledPage;
+use comp_journal::boxed_page::BoxedPage;
 use std::marker::{Brand, PhantomData};
 
 /// What a cell's slot holds.
-pub type Slot = Option<JournaledPage>;
+pub type Slot = Option<BoxedPage>;
 
 /// A load of a state word.
 pub struct LoadState;

@@ -2,9 +2,10 @@
 use Rattle.std.specs.Prelude.{◌≡◌, ℕ, ◌+◌, List, [], ◌∷◌, ◌++◌, Result, Ok, Err}
 use Rattle.std.specs.Fmt.{decimal}
 use Rattle.heap_layout.specs.Counted.{CountsFailure}
+use Rattle.comp_mutator.specs.declared.refusal.Refusal.TheVariants as mutators
 use Rattle.compressor.specs.declared.refusal.Input.TheVariants.{Image}
 use Rattle.compressor.specs.declared.refusal.Refusal.{Refusal}
-use Rattle.compressor.specs.declared.refusal.Refusal.TheVariants.{Layout, CannotOpen, CannotPrint, NoSuchWord, OutOfMemory}
+use Rattle.compressor.specs.declared.refusal.Refusal.TheVariants.{Layout, Mutator, CannotOpen, CannotPrint, NoSuchWord, OutOfMemory}
 
 -- a number as it is printed: its decimal digits and a line feed
 abbrev pub line_of : ℕ → List ℕ
@@ -40,5 +41,6 @@ IsOfOpening _ = ⊥
 abbrev pub IsOfWord : Refusal → Type 0
 IsOfWord (Layout _) = Unit {0}
 IsOfWord (NoSuchWord _) = Unit {0}
+IsOfWord (Mutator refusal) = refusal ≡ mutators.OutOfMemory
 IsOfWord OutOfMemory = Unit {0}
 IsOfWord _ = ⊥

@@ -5,9 +5,10 @@ use Rattle.heap_layout.specs.Heap.{Heap, live, IsStored}
 use Rattle.heap_layout.specs.Faults.{IsAccepted}
 use Rattle.heap_layout.specs.Encoding.{encoding, Refuses}
 use Rattle.page_plan.specs.Sliding.{slid_words, pages}
+use Rattle.comp_mutator.specs.declared.refusal.Refusal.TheVariants as mutators
 use Rattle.compressor.specs.Printing.{line_of}
 use Rattle.compressor.specs.declared.refusal.Refusal.{Refusal}
-use Rattle.compressor.specs.declared.refusal.Refusal.TheVariants.{Layout, CannotPrint, NoSuchWord, OutOfMemory}
+use Rattle.compressor.specs.declared.refusal.Refusal.TheVariants.{Layout, Mutator, CannotPrint, NoSuchWord, OutOfMemory}
 
 -- the bytes are the image of an accepted heap of which P holds
 abbrev pub IsImage : (Heap → Type 0) → List ℕ → Type 0
@@ -24,16 +25,18 @@ pub record PrintsWordAt (index : ℕ) (before after : Option (List ℕ)) (heap :
   pub is_at : IsWordAt index word heap
   pub printed : Appends before after (line_of word)
 
--- the index is past the last page, or a growth was refused
+-- the index is past the last page, or a growth was refused, which a mutator tells where it wanted memory
 abbrev pub IsPast : ℕ → Heap → Refusal → Type 0
 IsPast index heap (NoSuchWord past) = (past ≡ index) × (64 * pages (live heap) ≤ index)
+IsPast index heap (Mutator refusal) = refusal ≡ mutators.OutOfMemory
 IsPast index heap OutOfMemory = Unit {0}
 IsPast index heap _ = ⊥
 
--- why there is no word at this index: the image is refused, or the index is past the last page
+-- why there is no word at this index: the image is refused, the index is past the last page, or a growth was refused
 abbrev pub RefusesWord : ℕ → Refusal → List ℕ → Type 0
 RefusesWord index (Layout fault) bytes = Refuses fault bytes
 RefusesWord index (NoSuchWord past) bytes = (past ≡ index) × IsImage (λ heap. 64 * pages (live heap) ≤ index) bytes
+RefusesWord index (Mutator refusal) bytes = refusal ≡ mutators.OutOfMemory
 RefusesWord index OutOfMemory bytes = Unit {0}
 RefusesWord index _ bytes = ⊥
 

@@ -1,6 +1,7 @@
 ghost use Rattle.std.specs.Prelude.{◌≡◌};
 ghost use Rattle.compressor.specs.declared.refusal.Refusal.TheVariants as refusal;
 
+use comp_mutator::refusal as mutators;
 use heap_layout::fault::{self, LayoutFault};
 use std::alloc::AllocError;
 use std::fmt;
@@ -26,6 +27,9 @@ pub enum Refusal {
     /// The image is refused.
     #[error("{0}")]
     Layout(LayoutFault),
+    /// A mutator is refused what it asked.
+    #[error("{0}")]
+    Mutator(mutators::Refusal),
     /// The file could not be opened.
     #[error("P1 CannotOpen({0})")]
     CannotOpen(Input),
@@ -45,6 +49,14 @@ impl From<LayoutFault> for Refusal {
 
     fn from(fault: LayoutFault) -> Refusal {
         Refusal::Layout(fault)
+    }
+}
+
+impl From<mutators::Refusal> for Refusal {
+    ghost from_gives = { λ refused given. given ≡ refusal.Mutator refused };
+
+    fn from(refused: mutators::Refusal) -> Refusal {
+        Refusal::Mutator(refused)
     }
 }
 

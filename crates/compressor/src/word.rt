@@ -1,9 +1,11 @@
 //! The command `word`.
-ghost use Rattle.std.specs.Prelude.{◌≡◌, ◌*◌, ◌-◌, ◌/◌, ◌^◌, ◌<◌, ◌≤◌, slice_index, IfOk, IfErr, IfSome, OnOk, OnErr, Err};
+ghost use Rattle.std.specs.Prelude.{◌≡◌, ◌*◌, ◌-◌, ◌/◌, ◌^◌, ◌<◌, ◌≤◌, map, slice_index, IfOk, IfErr, IfSome, OnOk, OnErr, Err};
 ghost use Rattle.heap_layout.specs.Counted.{inner_of, failures_of};
 ghost use Rattle.heap_layout.specs.Heap.{live};
-ghost use Rattle.page_plan.specs.Sliding.{slid_words};
-ghost use Rattle.page_cells.specs.Cells.{heap_of, mutators_of, setup_of, steps_of, IsNew};
+ghost use Rattle.page_plan.specs.Sliding.{pages, slid_words};
+ghost use Rattle.page_cells.specs.Cells.{steps_of, AreNew, IsNew};
+ghost use Rattle.comp_mutator.specs.Mutators.{cells_of, pass_of, setup_of};
+ghost use Rattle.comp_mutator.specs.declared.refusal.Refusal.TheVariants as refusals;
 ghost use Rattle.std.specs.Io.KnownBytes.{Appends};
 ghost use Rattle.compressor.specs.Printing.{line_of, CountsPrint, CountsRead, IsOfWord};
 ghost use Rattle.compressor.specs.Word.{IsImage, IsWordAt, IsPast, PrintsWordAt, RefusesWord, RefusesPrint};
@@ -11,12 +13,13 @@ ghost use Rattle.compressor.specs.Word.{IsImage, IsWordAt, IsPast, PrintsWordAt,
 use crate::image::open_image;
 use crate::print::{print_digits, print_text};
 use crate::refusal::Refusal;
+use comp_mutator::flipping::flip;
+use comp_mutator::mutator::Mutator;
+use comp_mutator::refusal as mutators;
+use comp_mutator::refusal::FlipFault;
+use comp_mutator::space::Space;
 use heap_layout::counted::Counted;
-use heap_layout::fault::OutOfMemory;
 use heap_layout::image::read_image;
-use page_cells::Pass;
-use page_cells::cells::Cells;
-use page_cells::refusal::CellRefusal;
 use page_plan::laws::pages_are_parts;
 use page_plan::plan::Plan;
 use std::alloc::Global;
@@ -80,7 +83,7 @@ pub fn word_in<R: Read>(alloc: Global, r: &mut Counted<R>, index: u64) -> Result
     word_of(alloc, plan, index)
 }
 
-/// The slid word at an index. It is read from its page, which the one pass of new cells takes.
+/// The slid word at an index. The heap is flipped for one mutator, with no fresh page, and the word is that of the mutator's copy of its page.
 pub fn word_of(alloc: Global, plan: Plan, index: u64) -> Result<u64, Refusal>
     ensures word { IfOk result (λ word. IsWordAt index word plan) }
     ensures cause { IfErr result (IsPast index plan) }
@@ -89,31 +92,42 @@ pub fn word_of(alloc: Global, plan: Plan, index: u64) -> Result<u64, Refusal>
         return Err(Refusal::NoSuchWord(index));
     }
     let plan = Arc::new(alloc, plan).map_err(|_| Refusal::OutOfMemory)?;
-    let (cells, mut passes) = Cells::new(alloc, plan, 0, 1)?;
-    Ok(taken_word(alloc, &cells, &mut passes[0], index)?)
+    let (space, mut made) = flip_alone(alloc, plan)?;
+    Ok(copied_word(alloc, &space, &mut made[0], index)?)
 }
 
-// The slid word at an index, by a pass that is alone and did nothing yet: it takes the word's page and puts it back.
-fn taken_word(
+// Flips the heap of a plan for one mutator, with no fresh page.
+fn flip_alone(
     alloc: Global,
-    cells: &Cells<Plan>,
-    pass: &mut Pass,
-    index: u64,
-) -> Result<u64, OutOfMemory>
-    requires alone { mutators_of cells.now ≡ 1 }
-    requires new { IsNew (steps_of cells.now) 1 0 pass.old }
-    requires inside { index / 64 < (setup_of cells.now).compacted }
-    ensures { IfOk result (λ word. word ≡ slice_index (slid_words (live (heap_of cells.now))) index) }
+    plan: Arc<Plan>,
+) -> Result<(Space<Plan>, Vec<Mutator>), mutators::Refusal>
+    ensures heap { IfOk result (λ flipped. (setup_of flipped.0).heap ≡ plan.value) }
+    ensures compacted { IfOk result (λ flipped. (setup_of flipped.0).compacted ≡ pages (live plan.value)) }
+    ensures alone { IfOk result (λ flipped. (setup_of flipped.0).mutators ≡ 1) }
+    ensures new { IfOk result (λ flipped. AreNew (steps_of (cells_of flipped.0)) 1 (map pass_of flipped.1.items)) }
+    ensures cause { IfErr result (λ refusal. refusal ≡ refusals.OutOfMemory) }
 {
-    let taken = match cells.try_take(alloc, pass, index / 64) {
-        Ok(taken) => taken,
-        Err(CellRefusal::OutOfMemory) => return Err(OutOfMemory),
-        Err(CellRefusal::Busy(_) | CellRefusal::NoSuchPage | CellRefusal::PassMissing(_)) => {
-            unreachable!()
-        }
-    };
-    let word = cells.held_word(pass, &taken, (index % 64) as u8);
-    cells.put_back(pass, taken);
+    match flip(alloc, plan, 1, 0) {
+        Ok(flipped) => Ok(flipped),
+        Err(FlipFault::OutOfMemory) => Err(mutators::Refusal::OutOfMemory),
+        Err(FlipFault::BadCounts) => unreachable!(),
+    }
+}
+
+// The slid word at an index, by a mutator that is alone and did nothing yet: it copies the word's page.
+fn copied_word(
+    alloc: Global,
+    space: &Space<Plan>,
+    m: &mut Mutator,
+    index: u64,
+) -> Result<u64, mutators::Refusal>
+    requires alone { (setup_of space.now).mutators ≡ 1 }
+    requires new { IsNew (steps_of (cells_of space.now)) 1 0 (pass_of m.old) }
+    requires inside { index / 64 < (setup_of space.now).compacted }
+    ensures word { IfOk result (λ word. word ≡ slice_index (slid_words (live (setup_of space.now).heap)) index) }
+    ensures cause { IfErr result (λ refusal. refusal ≡ refusals.OutOfMemory) }
+{
+    let copy = space.page_copy(alloc, m, index / 64)?;
     pages_are_parts();
-    Ok(word)
+    Ok(copy.words.get((index % 64) as u8))
 }

@@ -1,4 +1,4 @@
-ghost use Rattle.std.specs.Prelude.{◌≡◌, ◌↔◌, ℕ, ◌+◌, ◌<◌, ◌≤◌, Ok, false, true, IfOk, OnOk, OnErr, IsErrOf};
+ghost use Rattle.std.specs.Prelude.{◌≡◌, ◌↔◌, ℕ, ◌+◌, ◌<◌, ◌≤◌, [], Ok, false, true, IfOk, OnOk, OnErr, IsErrOf};
 ghost use Rattle.cell_steps.specs.Setup.{base_of};
 ghost use Rattle.cell_steps.specs.Passes.{builds_of, last, lost, HasSeenBuilt, KnowsFresh, Rests};
 ghost use Rattle.page_cells.specs.Cells.{mutators_of, pages_of, setup_of, IsPassOf};
@@ -8,6 +8,7 @@ ghost use Rattle.page_cells.specs.declared.refusal.CellRefusal.TheVariants.{Busy
 use crate::cells::Cells;
 use crate::refusal::CellRefusal;
 use cell_steps::pass::Pass;
+use comp_journal::boxed_page::BoxedPage;
 use comp_journal::journaled_page::JournaledPage;
 use heap_layout::fault::OutOfMemory;
 use heap_layout::page_words::PageWords;
@@ -58,6 +59,15 @@ impl<B: Builder> Cells<B> {
         }
     }
 
+    /// Page `p` as it begins, in a box.
+    fn base_page(&self, alloc: Global, p: u64) -> Result<BoxedPage, OutOfMemory>
+        requires { p < pages_of self.now }
+        ensures { IfOk result (λ built. built.page ≡ record { base = base_of (setup_of self.now) p; journal = [] }) }
+    {
+        let words = self.base_words(alloc, p)?;
+        BoxedPage::new(alloc, JournaledPage::new(alloc, words))
+    }
+
     /// Builds page `p` into its cell, which the pass last found empty, and sends it home. Room for telling the build is reserved before the cell
     /// is claimed.
     pub(crate) fn build_into(
@@ -84,9 +94,8 @@ impl<B: Builder> Cells<B> {
         if self.steps.claim_empty(pass, p) != 0 {
             return Err(CellRefusal::Busy(p));
         }
-        match self.base_words(alloc, p) {
-            Ok(words) => {
-                let page = JournaledPage::new(alloc, words);
+        match self.base_page(alloc, p) {
+            Ok(page) => {
                 self.steps.send_new_home(pass, p, page);
                 Ok(())
             }

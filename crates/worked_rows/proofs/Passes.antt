@@ -1,9 +1,10 @@
 -- Passes in a list.
-use Rattle.std.proofs.Common.{◌≡◌, ℕ, zero, suc, List, [], ◌∷◌, ◌++◌, length, Option, Some, refl, sym, ap, ◌∙◌, subst}
+use Rattle.std.proofs.Common.{◌≡◌, ℕ, zero, suc, List, [], ◌∷◌, ◌++◌, map, length, Option, Some, refl, sym, ap, ◌∙◌, subst}
 use Rattle.std.specs.Option.{option_to_list}
 use mathlib.Core.Option.{some, some-injective, some-ne-none}
 use lib.ListN.{get_elem?}
 use Rattle.cell_steps.specs.Lists.{Each}
+use Rattle.page_cells.proofs.Rows.{at_map}
 
 at_end : {A : Type 0} (ys : List A) (x : A) → get_elem? (ys ++ x ∷ []) (length ys) ≡ some x
 at_end [] x = refl
@@ -31,3 +32,7 @@ pub of_two : {A : Type 0} (P : A → Type 0) (x y : A) → P x → P y → Each 
 of_two P x y px py zero p e = subst P (some-injective x p e) px
 of_two P x y px py (suc zero) p e = subst P (some-injective y p e) py
 of_two P x y px py (suc (suc k)) p e = absurd (some-ne-none p (sym e))
+
+-- what holds of each image holds of each element's image
+pub of_images : {A B : Type 0} (f : A → B) (P : B → Type 0) (xs : List A) → Each (map f xs) P → Each xs (λ (x : A). P (f x))
+of_images f P xs h k x e = h k (f x) (at_map f xs k x e)

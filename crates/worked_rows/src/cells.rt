@@ -1,16 +1,13 @@
 //! Pages taken, written and built through their cells.
 ghost use Rattle.std.specs.Prelude.{◌≡◌, IfOk};
-ghost use Rattle.heap_layout.specs.declared.kind.Kind.TheVariants.{Data};
 ghost use Rattle.cell_steps.specs.Passes.{Rests};
 ghost use Rattle.page_cells.specs.Cells.{heap_of, steps_of, mutators_of, IsNew, IsPassOf};
-ghost use Rattle.page_cells.specs.Kinds.{MayWrite};
 
+use crate::builders::{Meeting, Refusing};
 use crate::heaps::{T, heap, three};
 use comp_journal::entry::Entry;
 use comp_journal::refusal::JournalRefusal;
-use heap_layout::fault::OutOfMemory;
 use heap_layout::kind::Kind;
-use heap_layout::page_words::PageWords;
 use page_cells::Pass;
 use page_cells::cells::Cells;
 use page_cells::refusal::CellRefusal;
@@ -19,12 +16,8 @@ use page_plan::plan::Plan;
 use std::alloc::Global;
 use std::process::Abort;
 use std::sync::Arc;
-use std::sync::atomic::{AtomicU64, Ordering};
 use std::test::Fail;
 use std::thread;
-
-// How often a build waits at most for the other one.
-const TURNS: u64 = 10_000_000;
 
 // New cells with two passes.
 fn two<B: Builder>(
@@ -42,18 +35,7 @@ fn two<B: Builder>(
     Ok((cells, first, second))
 }
 
-// The plan of the three objects, whose word 1 is a word of data.
-fn three_plan(alloc: Global) -> Result<Plan, Fail>
-    ensures { IfOk result (λ plan. MayWrite plan 0 1 Data 7) }
-{
-    let plan = Plan::new(alloc, three(alloc)?)?;
-    match plan.shape_at(T) {
-        Some(header) if header.refs() == 0 && header.data_words() > 0 => Ok(plan),
-        _ => Err(Fail::from(CellRefusal::NoSuchPage)),
-    }
-}
-
-// Writes 7 at offset 1 of page 0.
+// Writes 7 into the first data word of the object at the beginning of page 0, which has no references.
 fn write_seven<B: Builder>(
     alloc: Global,
     cells: &Cells<B>,
@@ -61,8 +43,13 @@ fn write_seven<B: Builder>(
 ) -> Result<Result<u64, JournalRefusal>, CellRefusal>
     requires of { IsPassOf cells.now pass.old }
     requires rests { Rests pass.old }
-    requires lawful { MayWrite (heap_of cells.now) 0 1 Data 7 }
 {
+    let Some(header) = cells.compacted_header(T) else {
+        return Err(CellRefusal::NoSuchPage);
+    };
+    if header.refs() != 0 || header.data_words() == 0 {
+        return Err(CellRefusal::NoSuchPage);
+    }
     let mut taken = cells.try_take(alloc, pass, 0)?;
     let stamp = cells.append(pass, &mut taken, Kind::Data, 1, 7);
     cells.put_back(pass, taken);
@@ -102,7 +89,7 @@ fn visit<B: Builder>(
 #[test]
 fn reads_a_write_of_another_pass(rt: HostRuntime) -> Result<(), Fail> {
     let alloc = rt.alloc();
-    let (cells, mut first, mut second) = two(&rt, alloc, three_plan(alloc)?)?;
+    let (cells, mut first, mut second) = two(&rt, alloc, Plan::new(alloc, three(alloc)?)?)?;
     let (written, _) = thread::join(&rt, || write_seven(alloc, &cells, &mut first), || ());
     assert_eq!(rt; written, Ok(Ok(0)));
 
@@ -164,51 +151,12 @@ fn refuses_a_page_that_is_held(rt: HostRuntime) -> Result<(), Fail> {
     Ok(())
 }
 
-// A plan that builds pages 0 and 1 only when both builds have begun.
-#[derive(Drop)]
-struct Meeting {
-    plan: Plan,
-    begun: [AtomicU64; 2],
-}
-
-impl Builder for Meeting {
-    ghost heap = { λ meeting. meeting.plan };
-
-    fn plan(&self) -> &Plan {
-        &self.plan
-    }
-
-    fn build(&self, alloc: Global, p: u64) -> Result<PageWords, OutOfMemory> {
-        if p == 0 && !met(&self.begun[0], &self.begun[1]) {
-            return Err(OutOfMemory);
-        }
-        if p == 1 && !met(&self.begun[1], &self.begun[0]) {
-            return Err(OutOfMemory);
-        }
-        self.plan.build_page(alloc, p)
-    }
-}
-
-// Says that one build has begun, and waits some turns until the other has.
-fn met(own: &AtomicU64, other: &AtomicU64) -> bool {
-    own.store(1, Ordering::SeqCst);
-    for _ in 0..TURNS {
-        if other.load(Ordering::SeqCst) == 1 {
-            return true;
-        }
-    }
-    false
-}
-
 #[test]
 fn builds_two_pages_at_once(rt: HostRuntime) -> Result<(), Fail> {
     let alloc = rt.alloc();
     let mut words = vec![in alloc; 0u64; 255]?;
     words.insert(0, 16_711_680)?;
-    let builder = Meeting {
-        plan: Plan::new(alloc, heap(alloc, &words, &[0], &[])?)?,
-        begun: [AtomicU64::new(0), AtomicU64::new(0)],
-    };
+    let builder = Meeting::new(Plan::new(alloc, heap(alloc, &words, &[0], &[])?)?);
     let (cells, mut first, mut second) = two(&rt, alloc, builder)?;
     assert_eq!(rt; cells.pages(), 4);
     let (one, other) = thread::join(
@@ -221,35 +169,10 @@ fn builds_two_pages_at_once(rt: HostRuntime) -> Result<(), Fail> {
     Ok(())
 }
 
-// A plan whose first build finds no memory.
-#[derive(Drop)]
-struct Refusing {
-    plan: Plan,
-    calls: AtomicU64,
-}
-
-impl Builder for Refusing {
-    ghost heap = { λ refusing. refusing.plan };
-
-    fn plan(&self) -> &Plan {
-        &self.plan
-    }
-
-    fn build(&self, alloc: Global, p: u64) -> Result<PageWords, OutOfMemory> {
-        if self.calls.fetch_add(1, Ordering::SeqCst) == 0 {
-            return Err(OutOfMemory);
-        }
-        self.plan.build_page(alloc, p)
-    }
-}
-
 #[test]
 fn builds_after_a_refusal(rt: HostRuntime) -> Result<(), Fail> {
     let alloc = rt.alloc();
-    let builder = Refusing {
-        plan: Plan::new(alloc, three(alloc)?)?,
-        calls: AtomicU64::new(0),
-    };
+    let builder = Refusing::new(Plan::new(alloc, three(alloc)?)?);
     let (cells, mut first, _second) = two(&rt, alloc, builder)?;
     assert_eq!(rt;
         visit(alloc, &cells, &mut first, 0),

@@ -2,6 +2,8 @@
 #![tactic(auto)]
 
 #[cfg(test)]
+mod builders;
+#[cfg(test)]
 mod cells;
 #[cfg(test)]
 mod faults;
@@ -10,10 +12,16 @@ mod heaps;
 #[cfg(test)]
 mod images;
 #[cfg(test)]
+mod mutators;
+#[cfg(test)]
 mod pages;
+#[cfg(test)]
+mod plain_objects;
 #[cfg(test)]
 mod plain_walk;
 #[cfg(test)]
 mod readers;
 #[cfg(test)]
 mod tables;
+#[cfg(test)]
+mod threads;

@@ -1,6 +1,6 @@
 //! Pages of slid heaps.
+use crate::builders::Counting;
 use crate::heaps::{F, T, counting_object, heap, three};
-use heap_layout::fault::OutOfMemory;
 use heap_layout::header::Header;
 use heap_layout::heap::MarkedHeap;
 use heap_layout::page_words::PageWords;
@@ -8,7 +8,6 @@ use page_plan::builder::Builder;
 use page_plan::plan::Plan;
 use std::alloc::Global;
 use std::process::Abort;
-use std::sync::atomic::{AtomicU64, Ordering};
 use std::test::Fail;
 
 // The page begins with these words, and all others are 0.
@@ -89,26 +88,6 @@ fn builds_no_page_of_an_empty_heap(rt: HostRuntime) -> Result<(), Fail> {
     Ok(())
 }
 
-// A plan whose builds are counted.
-#[derive(Drop)]
-struct Counting {
-    plan: Plan,
-    builds: AtomicU64,
-}
-
-impl Builder for Counting {
-    ghost heap = { λ counting. counting.plan };
-
-    fn plan(&self) -> &Plan {
-        &self.plan
-    }
-
-    fn build(&self, alloc: Global, p: u64) -> Result<PageWords, OutOfMemory> {
-        self.builds.fetch_add(1, Ordering::SeqCst);
-        self.plan.build_page(alloc, p)
-    }
-}
-
 // Builds page `p` by a builder of any kind.
 fn build_by<B: Builder>(
     rt: &(impl Abort + AllocGlobal),
@@ -121,18 +100,15 @@ fn build_by<B: Builder>(
 
 #[test]
 fn builds_by_any_builder(rt: HostRuntime) -> Result<(), Fail> {
-    let counting = Counting {
-        plan: Plan::new(rt.alloc(), three(rt.alloc())?)?,
-        builds: AtomicU64::new(0),
-    };
-    assert_eq!(rt; counting.builds.load(Ordering::SeqCst), 0);
+    let counting = Counting::new(Plan::new(rt.alloc(), three(rt.alloc())?)?);
+    assert_eq!(rt; counting.count(), 0);
     let page = build_by(&rt, &counting, 0)?;
     expect_page(
         &rt,
         &page,
         &[4_295_032_832, 11, 12_884_901_889, 8_589_934_592],
     );
-    assert_eq!(rt; counting.builds.load(Ordering::SeqCst), 1);
+    assert_eq!(rt; counting.count(), 1);
     expect_page(
         &rt,
         &build_by(&rt, &counting.plan, 0)?,

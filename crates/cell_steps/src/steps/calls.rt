@@ -13,8 +13,8 @@ ghost use Rattle.cell_steps.specs.Passes.{about, pages_of, view_of, number_of, c
 use crate::pass::Pass;
 use crate::plays::{ClaimEmpty, ClaimHome, Draft, DrawStamp, GiveUp, LoadState, SendHeld, SendNew};
 use crate::steps::Steps;
+use comp_journal::boxed_page::BoxedPage;
 use comp_journal::entry::Entry;
-use comp_journal::journaled_page::JournaledPage;
 use std::marker::Brand;
 
 /// The state word of a page that the pass of this number builds.
@@ -72,7 +72,7 @@ impl Steps {
     }
 
     /// Takes page `p` out of its slot, where it is home. Answers the state word that it met, where that is not 1.
-    pub fn claim_home(&self, pass: &mut Pass, p: u64) -> Result<JournaledPage, u64>
+    pub fn claim_home(&self, pass: &mut Pass, p: u64) -> Result<BoxedPage, u64>
         requires of { IsPassOf self.now pass.old }
         requires rests { Rests pass.old }
         requires inside { p < pages_of self.now }
@@ -104,7 +104,7 @@ impl Steps {
     }
 
     /// Sends page `p` home after it was built, and tells the build. It takes no memory.
-    pub fn send_new_home(&self, pass: &mut Pass, p: u64, built: JournaledPage)
+    pub fn send_new_home(&self, pass: &mut Pass, p: u64, built: BoxedPage)
         requires of { IsPassOf self.now pass.old }
         requires builds { Builds p pass.old }
         requires inside { p < pages_of self.now }
@@ -120,7 +120,7 @@ impl Steps {
     }
 
     /// Sends page `p` home after it was held. It takes no memory.
-    pub fn send_home(&self, pass: &mut Pass, p: u64, page: JournaledPage)
+    pub fn send_home(&self, pass: &mut Pass, p: u64, page: BoxedPage)
         requires of { IsPassOf self.now pass.old }
         requires holds { Holds p pass.old }
         requires inside { p < pages_of self.now }
@@ -150,7 +150,7 @@ impl Steps {
     }
 
     /// Writes an entry into page `p`, which the pass holds: its stamp is the clock, which then goes on. It takes no memory.
-    pub fn draw_stamp(&self, pass: &mut Pass, p: u64, page: &mut JournaledPage, draft: Entry) -> u64
+    pub fn draw_stamp(&self, pass: &mut Pass, p: u64, page: &mut BoxedPage, draft: Entry) -> u64
         requires of { IsPassOf self.now pass.old }
         requires holds { Holds p pass.old }
         requires inside { p < pages_of self.now }
@@ -206,7 +206,7 @@ impl Steps {
     }
 
     /// Moves a page out of the slot that the pass took last.
-    fn take_out(&self, pass: &mut Pass, p: u64) -> JournaledPage
+    fn take_out(&self, pass: &mut Pass, p: u64) -> BoxedPage
         requires table { pass.old.seat.table_id ≡ self.now.table.shared.table_id }
         requires there { (taken : Reserved) × (carried pass.old ≡ (p, Some taken) ∷ []) }
         ensures table { (pass.new.seat.table_id ≡ pass.old.seat.table_id) × KeepsRoom pass.old pass.new }
@@ -221,7 +221,7 @@ impl Steps {
     }
 
     /// Moves a page into the empty slot that the pass took last.
-    fn put_in(&self, pass: &mut Pass, p: u64, page: JournaledPage)
+    fn put_in(&self, pass: &mut Pass, p: u64, page: BoxedPage)
         requires table { pass.old.seat.table_id ≡ self.now.table.shared.table_id }
         requires empty { carried pass.old ≡ (p, None) ∷ [] }
         ensures table { (pass.new.seat.table_id ≡ pass.old.seat.table_id) × KeepsRoom pass.old pass.new }

@@ -8,6 +8,7 @@ use crate::cells::Cells;
 use crate::closing::{Closed, NotClosed, order};
 use crate::refusal::CellRefusal;
 use cell_steps::pass::Pass;
+use comp_journal::boxed_page::BoxedPage;
 use comp_journal::journaled_page::JournaledPage;
 use heap_layout::fault::OutOfMemory;
 use page_plan::builder::Builder;
@@ -17,6 +18,7 @@ use std::alloc::Global;
 #[derive(Drop)]
 struct Room {
     row: Vec<Pass>,
+    boxed: Vec<Option<BoxedPage>>,
     pages: Vec<Option<JournaledPage>>,
     builds: Vec<Vec<u64>>,
 }
@@ -26,14 +28,38 @@ impl Room {
     fn reserve(alloc: Global, pages: u64, mutators: u8) -> Result<Room, OutOfMemory>
         requires { pages < 2 ^ 31 }
         ensures row { IfOk result (λ room. (room.row.items ≡ []) × (mutators ≤ vec_capacity room.row)) }
+        ensures boxed { IfOk result (λ room. (room.boxed.items ≡ []) × (pages ≤ vec_capacity room.boxed)) }
         ensures pages { IfOk result (λ room. (room.pages.items ≡ []) × (pages ≤ vec_capacity room.pages)) }
         ensures builds { IfOk result (λ room. (room.builds.items ≡ []) × (mutators ≤ vec_capacity room.builds)) }
     {
         let row = Vec::with_capacity(alloc, usize::from(mutators))?;
         let builds = Vec::with_capacity(alloc, usize::from(mutators))?;
+        let boxed = Vec::with_capacity(alloc, pages as usize)?;
         let pages = Vec::with_capacity(alloc, pages as usize)?;
-        Ok(Room { row, pages, builds })
+        Ok(Room {
+            row,
+            boxed,
+            pages,
+            builds,
+        })
     }
+}
+
+/// The pages, out of their boxes.
+fn unboxed(
+    boxed: Vec<Option<BoxedPage>>,
+    mut pages: Vec<Option<JournaledPage>>,
+) -> Vec<Option<JournaledPage>>
+    requires { (pages.items ≡ []) × (length boxed.items ≤ vec_capacity pages) }
+    ensures { result.items ≡ boxed.items }
+{
+    for slot in boxed {
+        pages.push_reserved(match slot {
+            Some(page) => Some(page.into_page()),
+            None => None,
+        });
+    }
+    pages
 }
 
 /// What each pass built.
@@ -79,11 +105,17 @@ impl<B: Builder> Cells<B> {
         requires of { AreOf self passes.items }
         requires all { (k : ℕ) → k < mutators_of self → HasNumber passes.items k }
         requires row { (room.row.items ≡ []) × (mutators_of self ≤ vec_capacity room.row) }
+        requires boxed { (room.boxed.items ≡ []) × (pages_of self ≤ vec_capacity room.boxed) }
         requires pages { (room.pages.items ≡ []) × (pages_of self ≤ vec_capacity room.pages) }
         requires builds { (room.builds.items ≡ []) × (mutators_of self ≤ vec_capacity room.builds) }
         ensures { (row : List Made) × IsRow (mutators_of self) passes.items row × IsEnd (about (steps_of self)) row result.pages.items × (lists result.builds.items ≡ map builds_of row) }
     {
-        let Room { row, pages, builds } = room;
+        let Room {
+            row,
+            boxed,
+            pages,
+            builds,
+        } = room;
         let Cells {
             steps,
             builder: _,
@@ -92,9 +124,9 @@ impl<B: Builder> Cells<B> {
             mutators,
         } = self;
         let mut row = order::in_order(passes, mutators, row);
-        let pages = steps.close(&mut row, pages);
+        let boxed = steps.close(&mut row, boxed);
         Closed {
-            pages,
+            pages: unboxed(boxed, pages),
             builds: builds_of_all(row, builds),
         }
     }

@@ -1,8 +1,8 @@
-use Rattle.std.proofs.Common.{arith}
-use Rattle.compressor.proofs.Takes.{at_first}
+use Rattle.comp_mutator.specs.Mutators.{cells_of}
+use Rattle.page_cells.specs.Cells.{steps_of}
+use Rattle.compressor.proofs.Copied.{first_is_new}
 use Rattle.compressor.proofs.word.word_of.Goals as goal
 
-pub taken_word-requires-clause-new : goal.taken_word-requires-clause-new
-taken_word-requires-clause-new c =
-    let passes = c.in_ok-cells.ensures.passes in
-    passes.new 0 c.index_mut.result.now (at_first c.in_ok-cells.passes.items c.index_mut.result.now (omega (arith, passes.count)) c.index_mut.ensures.value)
+pub copied_word-requires-clause-new : goal.copied_word-requires-clause-new
+copied_word-requires-clause-new c =
+    first_is_new (steps_of (cells_of c.in_ok-space.space)) c.in_ok-space.made.items c.index_mut.result.now c.in_ok-space.ensures.new c.index_mut.ensures.value

@@ -2,7 +2,7 @@ use Rattle.std.proofs.Common.{◌≡◌, ℕ, List, [], ◌∷◌, ◌++◌, sym
 use Rattle.cell_steps.specs.Lists.{Each}
 use Rattle.cell_steps.specs.Passes.{Rests}
 use Rattle.cell_steps.specs.declared.pass.Pass.{Pass}
-use Rattle.page_cells.specs.Cells.{Works}
+use Rattle.page_cells.specs.Cells.{mutators_of, Works}
 use Rattle.page_cells.specs.Ends.{AllRest}
 use Rattle.worked_rows.proofs.Passes.{of_two}
 use Rattle.worked_rows.proofs.cells.closes_when_no_pass_is_missing.Goals as goal
@@ -13,9 +13,9 @@ close-requires-2-after_bounds g c κs =
     let first = c.visit.new.pass in
     let second = c.in_ok-cells.second in
     let all : c.push.new.self.items ≡ second ∷ first ∷ [] = c.in_ok-push.ensures.items ∙ ap (λ (l : List Pass). l ++ first ∷ []) (c.in-Err.ensures.back.1 ∙ c.in_ok-vec.ensures.items) in
-    let made : AllRest cells.steps cells.mutators (second ∷ first ∷ []) = record {
-      works = of_two (Works cells.steps cells.mutators) second first c.in_ok-cells.ensures.second.0 c.visit.ensures.of;
+    let made : AllRest cells.steps (mutators_of cells) (second ∷ first ∷ []) = record {
+      works = of_two (Works cells.steps (mutators_of cells)) second first c.in_ok-cells.ensures.second.0 c.visit.ensures.of;
       rest = of_two Rests second first c.in_ok-cells.ensures.second.1 c.visit.ensures.rests;
     } in
-    subst (λ x. AllRest x.steps x.mutators c.push.new.self.items) (sym c.in-Err.ensures.back.0)
-    (subst (λ (l : List Pass). AllRest cells.steps cells.mutators l) (sym all) made)
+    subst (λ x. AllRest x.steps (mutators_of x) c.push.new.self.items) (sym c.in-Err.ensures.back.0)
+    (subst (λ (l : List Pass). AllRest cells.steps (mutators_of cells) l) (sym all) made)

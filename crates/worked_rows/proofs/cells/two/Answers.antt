@@ -2,13 +2,13 @@ use Rattle.std.proofs.Common.{ℕ, sym, subst}
 use Rattle.cell_steps.specs.Lists.{Each}
 use Rattle.cell_steps.specs.Passes.{Rests}
 use Rattle.cell_steps.specs.declared.pass.Pass.{Pass}
-use Rattle.page_cells.specs.Cells.{Works}
+use Rattle.page_cells.specs.Cells.{Works, IsPassOf}
 use Rattle.worked_rows.proofs.Passes.{last_of, before_last}
 use Rattle.worked_rows.proofs.cells.two.Goals as goal
 
 -- the pass is one of these cells', and has no page
 abbrev IsReady : (g : _) (c : goal.After-drop-passes g) → Pass → Type 0
-IsReady g c pass = Works c.in_ok-cells.cells.steps c.in_ok-cells.cells.mutators pass × Rests pass
+IsReady g c pass = IsPassOf c.in_ok-cells.cells pass × Rests pass
 
 all_ready : (g : _) (c : goal.After-drop-passes g) → Each c.in_ok-cells.passes.items (IsReady g c)
 all_ready g c k pass e = let new = c.in_ok-cells.ensures.passes.new k pass e in

@@ -1,0 +1,48 @@
+-- The words of a page that was copied while nobody wrote into it.
+use Rattle.std.proofs.Common.{◌≡◌, ℕ, zero, suc, ◌+◌, ◌*◌, ◌/◌, ◌%◌, ◌<◌, ◌≤◌, List, [], ◌∷◌, length, get_or, cond, slice_index, replicate, map, refl, sym, ap, ◌∙◌, arith, eq-eqb}
+use mathlib.Core.Option.{some}
+use Rattle.heap_layout.specs.Heap.{live}
+use Rattle.page_plan.specs.Sliding.{page, slid_words, IsPartFrom}
+use Rattle.comp_journal.specs.Journal.{replayed}
+use Rattle.comp_journal.specs.declared.entry.Entry.{Entry}
+use Rattle.cell_steps.specs.Lists.{by}
+use Rattle.std.proofs.lemmas.Bool.{cond_below}
+use Rattle.cell_steps.specs.Setup.{Setup, base_of}
+use Rattle.cell_steps.specs.Passes.{seen}
+use Rattle.cell_steps.specs.declared.pass.Pass.{Pass}
+use Rattle.cell_steps.specs.declared.steps.Steps.{Steps}
+use Rattle.page_cells.specs.Cells.{AreNew, IsNew}
+use Rattle.comp_mutator.specs.Copies.{IsCopy}
+use Rattle.comp_mutator.specs.Mutators.{pass_of}
+use Rattle.comp_mutator.specs.declared.mutator.Mutator.{Mutator}
+use Rattle.comp_mutator.specs.declared.pages.PageCopy.{PageCopy}
+
+-- a journal in which no writer has an entry is empty
+pub none_wrote : (journal : List Entry) → ((k : ℕ) → by k journal ≡ []) → journal ≡ []
+none_wrote [] none = refl
+none_wrote (e ∷ es) none =
+    let one : e ∷ by e.writer es ≡ [] = sym (ap (λ b. cond b (e ∷ by e.writer es) (by e.writer es)) (eq-eqb e.writer e.writer refl)) ∙ none e.writer in
+    absurd (omega (arith, ap length one))
+
+-- nobody wrote where neither the first of so many writers nor another one did
+pub by_none : (journal : List Entry) (mutators : ℕ) → mutators ≡ 1 → by 0 journal ≡ [] → ((k : ℕ) → mutators ≤ k → by k journal ≡ []) → (k : ℕ) → by k journal ≡ []
+by_none journal mutators one first others zero = first
+by_none journal mutators one first others (suc k) = others (suc k) (omega arith)
+
+-- the word of a page without writes, at an offset, is the slid word at its index
+pub word_at : (u : Setup) (pass : Pass) (copy : PageCopy) (index : ℕ) → IsCopy u (seen pass) (index / 64) copy → index / 64 < u.compacted
+    → copy.journal.items ≡ [] → IsPartFrom (slid_words (live u.heap)) (64 * (index / 64)) (page (live u.heap) (index / 64))
+    → slice_index copy.words (index % 64) ≡ slice_index (slid_words (live u.heap)) index
+word_at u pass copy index h below none part =
+    let none_seen : seen pass (index / 64) ≡ [] = sym h.journal ∙ none in
+    let base : base_of u (index / 64) ≡ page (live u.heap) (index / 64) =
+    sym (cond_below (index / 64) u.compacted (page (live u.heap) (index / 64)) (replicate 64 0) below) in
+    let words : replayed (base_of u (index / 64)) (seen pass (index / 64)) ≡ page (live u.heap) (index / 64) = ap (replayed (base_of u (index / 64))) none_seen ∙ base in
+    let whole : 64 * (index / 64) + index % 64 ≡ index = omega arith in
+    let inside : index % 64 < 64 = omega arith in
+    h.words (index % 64) inside ∙ ap (λ l. slice_index l (index % 64)) words ∙ part (index % 64) inside ∙ ap (slice_index (slid_words (live u.heap))) whole
+
+-- the first of the mutators of a new space is new
+pub first_is_new : (table : Steps) (made : List Mutator) (m : Mutator) → AreNew table 1 (map pass_of made) → m ≡ get_or made 0 m → IsNew table 1 0 (pass_of m)
+first_is_new table [] m new e = absurd (omega (arith, new.count))
+first_is_new table (x ∷ xs) m new e = new.new 0 (pass_of m) (ap (λ a. some (pass_of a)) (sym e))

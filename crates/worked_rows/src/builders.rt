@@ -1,0 +1,123 @@
+//! Builders that tests watch, refuse or hold.
+use heap_layout::fault::OutOfMemory;
+use heap_layout::page_words::PageWords;
+use page_plan::builder::Builder;
+use page_plan::plan::Plan;
+use std::alloc::Global;
+use std::sync::atomic::{AtomicU64, Ordering};
+
+// How often a build waits at most for the other one.
+const TURNS: u64 = 10_000_000;
+
+/// A plan whose builds are counted.
+#[derive(Drop)]
+pub struct Counting {
+    pub plan: Plan,
+    pub builds: AtomicU64,
+}
+
+impl Counting {
+    /// Over a plan, with no build so far.
+    pub fn new(plan: Plan) -> Counting {
+        Counting {
+            plan,
+            builds: AtomicU64::new(0),
+        }
+    }
+
+    /// How many builds were asked for.
+    pub fn count(&self) -> u64 {
+        self.builds.load(Ordering::SeqCst)
+    }
+}
+
+impl Builder for Counting {
+    ghost heap = { λ counting. counting.plan };
+
+    fn plan(&self) -> &Plan {
+        &self.plan
+    }
+
+    fn build(&self, alloc: Global, p: u64) -> Result<PageWords, OutOfMemory> {
+        self.builds.fetch_add(1, Ordering::SeqCst);
+        self.plan.build_page(alloc, p)
+    }
+}
+
+/// A plan that builds pages 0 and 1 only when both builds have begun.
+#[derive(Drop)]
+pub struct Meeting {
+    plan: Plan,
+    begun: [AtomicU64; 2],
+}
+
+impl Meeting {
+    /// Over a plan, with no build begun.
+    pub fn new(plan: Plan) -> Meeting {
+        Meeting {
+            plan,
+            begun: [AtomicU64::new(0), AtomicU64::new(0)],
+        }
+    }
+}
+
+impl Builder for Meeting {
+    ghost heap = { λ meeting. meeting.plan };
+
+    fn plan(&self) -> &Plan {
+        &self.plan
+    }
+
+    fn build(&self, alloc: Global, p: u64) -> Result<PageWords, OutOfMemory> {
+        if p == 0 && !met(&self.begun[0], &self.begun[1]) {
+            return Err(OutOfMemory);
+        }
+        if p == 1 && !met(&self.begun[1], &self.begun[0]) {
+            return Err(OutOfMemory);
+        }
+        self.plan.build_page(alloc, p)
+    }
+}
+
+// Says that one build has begun, and waits some turns until the other has.
+fn met(own: &AtomicU64, other: &AtomicU64) -> bool {
+    own.store(1, Ordering::SeqCst);
+    for _ in 0..TURNS {
+        if other.load(Ordering::SeqCst) == 1 {
+            return true;
+        }
+    }
+    false
+}
+
+/// A plan whose first build finds no memory.
+#[derive(Drop)]
+pub struct Refusing {
+    plan: Plan,
+    calls: AtomicU64,
+}
+
+impl Refusing {
+    /// Over a plan, with no build asked for.
+    pub fn new(plan: Plan) -> Refusing {
+        Refusing {
+            plan,
+            calls: AtomicU64::new(0),
+        }
+    }
+}
+
+impl Builder for Refusing {
+    ghost heap = { λ refusing. refusing.plan };
+
+    fn plan(&self) -> &Plan {
+        &self.plan
+    }
+
+    fn build(&self, alloc: Global, p: u64) -> Result<PageWords, OutOfMemory> {
+        if self.calls.fetch_add(1, Ordering::SeqCst) == 0 {
+            return Err(OutOfMemory);
+        }
+        self.plan.build_page(alloc, p)
+    }
+}
