@@ -1,7 +1,6 @@
 use Rattle.std.proofs.Common.{◌≡◌, ℕ, ◌+◌, ◌<◌, subst, sym, arith}
 use Rattle.heap_layout.specs.Header.{refs_of, data_of}
 use Rattle.heap_layout.specs.declared.kind.Kind.TheVariants.{Data}
-use Rattle.comp_journal.specs.declared.entry.Entry.{Entry}
 use Rattle.cell_steps.specs.Lawful.{IsField}
 use Rattle.page_cells.specs.Cells.{journal_of, setup_of}
 use Rattle.page_cells.specs.Objects.{offset_at, page_at}

@@ -2,7 +2,6 @@ use Rattle.std.proofs.Common.{ℕ, sym, subst}
 use Rattle.cell_steps.specs.Lists.{Each}
 use Rattle.page_cells.specs.Cells.{Works}
 use Rattle.comp_mutator.specs.Mutators.{cells_of, pass_of, setup_of, IsMutatorOf}
-use Rattle.comp_mutator.specs.declared.mutator.Mutator.{Mutator}
 use Rattle.worked_rows.proofs.Passes.{of_images, last_of, before_last}
 use Rattle.worked_rows.proofs.mutators.two.Goals as goal
 
