@@ -1,6 +1,5 @@
 -- What the command `plan` prints.
-use Rattle.std.specs.Prelude.{ℕ, List, ◌++◌, Option, unwrap_or, map, codes}
-use Rattle.std.specs.Io.KnownBytes.{Appends}
+use Rattle.std.specs.Prelude.{ℕ, List, ◌++◌, unwrap_or, map, codes}
 use Rattle.std.specs.List.{flat_map, range_with_len, enumerate_from}
 use Rattle.heap_layout.specs.Heap.{Heap, Object, live}
 use Rattle.heap_layout.specs.Encoding.{Refuses}

@@ -1,11 +1,11 @@
-use Rattle.std.proofs.Common.{◌≡◌, List, ℕ, ◌++◌, map, ap, ◌∙◌, subst}
+use Rattle.std.proofs.Common.{◌≡◌, List, ℕ, ◌++◌, map, ◌∙◌, subst}
 use Rattle.std.proofs.KnownBytes.{Appends-trans}
 use Rattle.std.proofs.lemmas.Result.{on_ok_weaker}
 use Rattle.std.specs.Io.KnownBytes.{Appends}
 use Rattle.heap_layout.specs.Counted.{inner_of}
 use Rattle.heap_layout.specs.Heap.{live}
 use Rattle.page_plan.specs.Sliding.{forward, forwarded}
-use Rattle.compressor.specs.Plan.{plan_text, count_lines, page_lines, root_lines}
+use Rattle.compressor.specs.Plan.{count_lines, page_lines, root_lines}
 use Rattle.compressor.proofs.Lines.{each-given}
 use Rattle.compressor.proofs.plan.write_plan.Goals as goal
 
