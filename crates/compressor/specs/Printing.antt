@@ -1,6 +1,7 @@
 -- What a call tells of the output and of the file that is read: a refusal for a device comes exactly where one of its calls failed.
-use Rattle.std.specs.Prelude.{◌≡◌, ℕ, ◌+◌, List, [], ◌∷◌, ◌++◌, Result, Ok, Err}
+use Rattle.std.specs.Prelude.{◌≡◌, ℕ, ◌+◌, List, [], ◌∷◌, ◌++◌, Option, Result, Ok, Err}
 use Rattle.std.specs.Fmt.{decimal}
+use Rattle.std.specs.Io.KnownBytes.{Keeps}
 use Rattle.heap_layout.specs.Counted.{CountsFailure}
 use Rattle.comp_mutator.specs.declared.refusal.Refusal.TheVariants as mutators
 use Rattle.compressor.specs.declared.refusal.Input.TheVariants.{Image}
@@ -24,6 +25,12 @@ abbrev pub CountsPrint : {T : Type 0} → ℕ → ℕ → Result T Refusal → T
 CountsPrint before after (Ok _) = after ≡ before
 CountsPrint before after (Err CannotPrint) = after ≡ before + 1
 CountsPrint before after (Err _) = after ≡ before
+
+-- a refused call left the output as it was, except where a call of the output failed
+abbrev pub RefusedUnprinted : {T : Type 0} → Option (List ℕ) → Option (List ℕ) → Result T Refusal → Type 0
+RefusedUnprinted before after (Ok _) = Unit {0}
+RefusedUnprinted before after (Err CannotPrint) = Unit {0}
+RefusedUnprinted before after (Err _) = Keeps before after
 
 -- a call answers `Device` exactly where one more call of the reader failed
 abbrev pub CountsRead : {T : Type 0} → ℕ → ℕ → Result T Refusal → Type 0

@@ -3,7 +3,7 @@ ghost use Rattle.std.specs.Prelude.{◌≡◌, ◌-◌, ◌^◌, ◌<◌, IfErr,
 ghost use Rattle.std.specs.Io.KnownBytes.{Appends};
 ghost use Rattle.heap_layout.specs.Counted.{inner_of, failures_of};
 ghost use Rattle.heap_layout.specs.Heap.{live};
-ghost use Rattle.compressor.specs.Printing.{CountsPrint, CountsRead};
+ghost use Rattle.compressor.specs.Printing.{CountsPrint, CountsRead, RefusedUnprinted};
 ghost use Rattle.compressor.specs.Plan.{plan_text, count_lines, page_lines, root_lines, IsOfPrinting, RefusesPlan};
 ghost use Rattle.compressor.specs.Word.{IsImage};
 
@@ -25,6 +25,7 @@ pub fn print_plan<R: Files + AllocGlobal, O: Write>(
 ) -> Result<(), Refusal>
     requires { failures_of out.old < 2 ^ 64 - 1 }
     ensures counts { CountsPrint (failures_of out.old) (failures_of out.new) result }
+    ensures unprinted { RefusedUnprinted (O.contents (inner_of out.old)) (O.contents (inner_of out.new)) result }
 {
     print_plan_in(rt.alloc(), &mut open_image(rt, path)?, out)
 }
@@ -43,6 +44,7 @@ pub fn print_plan_in<R: Read, O: Write>(
     ensures cause { IfErr result (λ refusal. IfSome (R.remaining (inner_of r.old)) (RefusesPlan refusal)) }
     ensures reads { CountsRead (failures_of r.old) (failures_of r.new) result }
     ensures counts { CountsPrint (failures_of out.old) (failures_of out.new) result }
+    ensures unprinted { RefusedUnprinted (O.contents (inner_of out.old)) (O.contents (inner_of out.new)) result }
 {
     let heap = read_image(alloc, r)?;
     let plan = Plan::new(alloc, heap)?;
@@ -55,6 +57,7 @@ fn write_plan<O: Write>(alloc: Global, plan: &Plan, out: &mut Counted<O>) -> Res
     ensures printed { OnOk result (Appends (O.contents (inner_of out.old)) (O.contents (inner_of out.new)) (plan_text plan.now)) }
     ensures cause { IfErr result IsOfPrinting }
     ensures counts { CountsPrint (failures_of out.old) (failures_of out.new) result }
+    ensures unprinted { RefusedUnprinted (O.contents (inner_of out.old)) (O.contents (inner_of out.new)) result }
 {
     let roots = plan.forward_roots(alloc)?;
     write_counts(plan, out)?;

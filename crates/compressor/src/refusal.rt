@@ -1,4 +1,4 @@
-ghost use Rattle.std.specs.Prelude.{◌≡◌};
+ghost use Rattle.std.specs.Prelude.{◌≡◌, Some, codes};
 ghost use Rattle.compressor.specs.declared.refusal.Refusal.TheVariants as refusal;
 
 use comp_mutator::refusal as mutators;
@@ -14,6 +14,8 @@ pub enum Input {
 }
 
 impl fmt::Display for Input {
+    ghost output = { λ _. Some (codes "image") };
+
     fn fmt<W: fmt::Write>(&self, f: &mut fmt::Formatter<W>) -> fmt::Result {
         f.write_str(match self {
             Input::Image => "image",

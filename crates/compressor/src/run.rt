@@ -1,6 +1,7 @@
-ghost use Rattle.std.specs.Prelude.{◌-◌, ◌^◌, ◌<◌, ◌≤◌};
-ghost use Rattle.heap_layout.specs.Counted.{failures_of};
-ghost use Rattle.compressor.specs.Printing.{CountsPrint};
+ghost use Rattle.std.specs.Prelude.{◌≡◌, ◌-◌, ◌^◌, ◌<◌, ◌≤◌, OnOk, OnErr};
+ghost use Rattle.std.specs.Io.KnownBytes.{Keeps};
+ghost use Rattle.heap_layout.specs.Counted.{inner_of, failures_of};
+ghost use Rattle.compressor.specs.Printing.{CountsPrint, RefusedUnprinted};
 
 use crate::plan::print_plan;
 use crate::print::{flush, print_text};
@@ -30,7 +31,8 @@ pub fn run<R: Files + AllocGlobal, O: Write, E: Write>(
     out: &mut O,
     err: &mut E,
 ) -> u8
-    ensures { result ≤ 2 }
+    ensures status { result ≤ 2 }
+    ensures misused { result ≡ 2 → Keeps (O.contents out.old) (O.contents out.new) }
 {
     let mut out = Counted::new(out);
     match read_task(rt.alloc(), &words) {
@@ -55,6 +57,7 @@ fn perform<R: Files + AllocGlobal, O: Write>(
 ) -> Result<(), Refusal>
     requires { failures_of out.old < 2 ^ 64 - 1 }
     ensures counts { CountsPrint (failures_of out.old) (failures_of out.new) result }
+    ensures unprinted { RefusedUnprinted (O.contents (inner_of out.old)) (O.contents (inner_of out.new)) result }
 {
     match task {
         Task::Plan { image } => print_plan(rt, image, out)?,
@@ -70,6 +73,7 @@ fn print_help<O: Write>(
 ) -> Result<(), Refusal>
     requires { failures_of out.old < 2 ^ 64 - 1 }
     ensures counts { CountsPrint (failures_of out.old) (failures_of out.new) result }
+    ensures unprinted { RefusedUnprinted (O.contents (inner_of out.old)) (O.contents (inner_of out.new)) result }
 {
     print_text(&help.to_string(alloc)?, out)?;
     flush(out)
@@ -77,7 +81,8 @@ fn print_help<O: Write>(
 
 // The status of a task; a refusal is told. There is nowhere left to tell that telling failed.
 fn told<E: Write>(outcome: Result<(), Refusal>, err: &mut E) -> u8
-    ensures { result ≤ 1 }
+    ensures done { OnOk outcome (result ≡ 0) }
+    ensures refused { OnErr outcome (result ≡ 1) }
 {
     match outcome {
         Ok(()) => DONE,

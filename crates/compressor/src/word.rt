@@ -7,7 +7,7 @@ ghost use Rattle.page_cells.specs.Cells.{steps_of, AreNew, IsNew};
 ghost use Rattle.comp_mutator.specs.Mutators.{cells_of, pass_of, setup_of};
 ghost use Rattle.comp_mutator.specs.declared.refusal.Refusal.TheVariants as refusals;
 ghost use Rattle.std.specs.Io.KnownBytes.{Appends};
-ghost use Rattle.compressor.specs.Printing.{line_of, CountsPrint, CountsRead, IsOfWord};
+ghost use Rattle.compressor.specs.Printing.{line_of, CountsPrint, CountsRead, IsOfWord, RefusedUnprinted};
 ghost use Rattle.compressor.specs.Word.{IsImage, IsWordAt, IsPast, PrintsWordAt, RefusesWord, RefusesPrint};
 
 use crate::image::open_image;
@@ -36,6 +36,7 @@ pub fn print_word<R: Files + AllocGlobal, O: Write>(
 ) -> Result<(), Refusal>
     requires { failures_of out.old < 2 ^ 64 - 1 }
     ensures counts { CountsPrint (failures_of out.old) (failures_of out.new) result }
+    ensures unprinted { RefusedUnprinted (O.contents (inner_of out.old)) (O.contents (inner_of out.new)) result }
 {
     print_word_in(rt.alloc(), &mut open_image(rt, path)?, index, out)
 }
@@ -54,6 +55,7 @@ pub fn print_word_in<R: Read, O: Write>(
     ensures cause { IfErr result (λ refusal. IfSome (R.remaining (inner_of r.old)) (RefusesPrint index refusal)) }
     ensures reads { CountsRead (failures_of r.old) (failures_of r.new) result }
     ensures counts { CountsPrint (failures_of out.old) (failures_of out.new) result }
+    ensures unprinted { RefusedUnprinted (O.contents (inner_of out.old)) (O.contents (inner_of out.new)) result }
 {
     let word = word_in(alloc, r, index)?;
     print_number(word, out)
