@@ -9,7 +9,7 @@ use Rattle.page_cells.specs.Calls.{builds_with, Grows, MayHaveBuilt}
 use Rattle.comp_mutator.specs.Allocations.{AllocationRefused}
 use Rattle.comp_mutator.specs.Reads.{FieldRefused}
 use Rattle.comp_mutator.specs.Waits.{Waits}
-use Rattle.comp_mutator.specs.Writes.{DataRefused, ReferenceRefused, ValueRefused, EntryRefused}
+use Rattle.comp_mutator.specs.Writes.{DataRefused, EntryRefused, ReferenceRefused, ValueRefused}
 use Rattle.comp_mutator.specs.declared.refusal.Refusal.{Refusal}
 use Rattle.comp_mutator.specs.declared.refusal.Refusal.TheVariants.{Busy}
 use Rattle.comp_mutator.proofs.Growing.{grows_then}
@@ -35,10 +35,7 @@ module _ (a b c : Pass) (h : Waits a b) (grows : Grows b c) (same : did c ≡ di
     waits_data refusal q e r = elim r [ inl f ↦ waits_field refusal q e f | inr n ↦ absurd (subst (EntryRefused u b c kind object field) e n) ]
 
     pub waits_reference : (value : ℕ) (refusal : Refusal) (q : ℕ) → refusal ≡ Busy q → ReferenceRefused u b c kind object field value refusal → Waits a c
-    waits_reference value refusal q e r = elim r [
-      | inl f ↦ waits_field refusal q e f
-      | inr s ↦ elim s [ inl v ↦ absurd (subst (ValueRefused u b c kind object field value) e v) | inr n ↦ absurd (subst (EntryRefused u b c kind object field) e n) ]
-    ]
+    waits_reference value refusal q e r = elim r [ inl d ↦ waits_data refusal q e d.0 | inr v ↦ absurd (subst (ValueRefused u b c kind object field value) e v) ]
 
   pub waits_allocation : (u : Setup) (size : ℕ) (refusal : Refusal) (q : ℕ) → refusal ≡ Busy q → AllocationRefused u b c size refusal → Waits a c
   waits_allocation u size refusal q e r = waits_built q (subst (AllocationRefused u b c size) e r).2

@@ -10,8 +10,8 @@ use Rattle.cell_steps.specs.Passes.{seen}
 use Rattle.cell_steps.specs.declared.pass.Pass.{Pass}
 use Rattle.page_cells.specs.Calls.{MayHaveBuilt}
 use Rattle.page_cells.specs.Objects.{page_at, offset_at, HasFields, HasShape, HasSlid, IsFieldAt}
-use Rattle.comp_mutator.specs.Fields.{count_of, place_of}
-use Rattle.comp_mutator.specs.Finds.{HoldsField, IsFreshObject, IsSlidField}
+use Rattle.comp_mutator.specs.Fields.{count_of, place_of, IsFreshObject}
+use Rattle.comp_mutator.specs.Finds.{HoldsField, IsSlidField}
 
 -- a field's word is one of the object's words
 inside_of : (kind : Kind) (object header field : ℕ) → field < count_of kind header → (object ≤ place_of kind object header field) × (place_of kind object header field < object + size_of header)
@@ -57,7 +57,7 @@ same_page kind object header field place low ends lt e =
     on_one_page object place (size_of header) low ends above below
 
 -- a field of an object that an allocation made, on the object's page
-pub holds_fresh : (u : Setup) (old new : Pass) (kind : Kind) (object field page offset header place : ℕ) → IsFreshObject u old object → page ≡ page_at object
+pub holds_fresh : (u : Setup) (old new : Pass) (kind : Kind) (object field page offset header place : ℕ) → IsFreshObject u new object → page ≡ page_at object
     → HasShape u (seen new) object header → HasFields u (seen new) object header → offset_at object + size_of header ≤ 64 → field < count_of kind header
     → place ≡ place_of kind object header field → offset ≡ offset_at place → MayHaveBuilt page old new → HoldsField u old new kind object field page offset
 holds_fresh u old new kind object field page offset header place fresh page_is shape fields ends lt e offset_is builds = record {
@@ -66,6 +66,6 @@ holds_fresh u old new kind object field page offset header place fresh page_is s
   field_at = subst (IsFieldAt u (seen new) kind) (sym e) (field_at u (seen new) kind object header field fields lt);
   page_is = page_is ∙ sym (same_page kind object header field place fresh.begins ends lt e);
   offset_is = offset_is;
-  touched = inr (fresh.apart, page_is);
+  touched = inr (fresh, page_is);
   builds = builds;
 }

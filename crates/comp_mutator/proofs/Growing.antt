@@ -14,7 +14,7 @@ use Rattle.cell_steps.specs.declared.steps.Steps.{Steps}
 use Rattle.page_cells.specs.Cells.{Works}
 use Rattle.page_cells.specs.Calls.{builds_with, Grows, MayHaveBuilt}
 use Rattle.page_cells.specs.Objects.{page_at, offset_at, HasHeader, HasShape}
-use Rattle.comp_mutator.specs.Fields.{IsFieldOf}
+use Rattle.comp_mutator.specs.Fields.{IsFieldOf, IsFreshObject, Touches}
 use Rattle.comp_mutator.specs.Finds.{IsFound}
 use Rattle.comp_mutator.specs.Writes.{entry_by, Adds}
 use Rattle.comp_mutator.specs.declared.finding.Found.{Found}
@@ -84,10 +84,19 @@ module _ (u : Setup) (a b : Pass) (h : Grows a b) where
   pub field_more : (kind : Kind) (object field place : ℕ) → IsFieldOf u (seen a) kind object field place → IsFieldOf u (seen b) kind object field place
   field_more kind object field place f = record { header = f.header; shape = shape_more object f.header f.shape; inside = f.inside; place_is = f.place_is }
 
+  -- a start of an object that an allocation made stays known
+  pub fresh_more : (object : ℕ) → IsFreshObject u a object → IsFreshObject u b object
+  fresh_more object f = record { apart = f.apart; begins = f.begins; ends = f.ends; fresh = f.fresh; known = h.starts (page_at object) (offset_at object) f.known }
+
+  -- the page that a call touches stays the same
+  pub touches_more : (kind : Kind) (object field p : ℕ) → Touches u a kind object field p → Touches u b kind object field p
+  touches_more kind object field p (inl slid) = inl slid
+  touches_more kind object field p (inr fresh) = inr (fresh_more object fresh.0, fresh.1)
+
   -- what was found stays so
   pub found_more : (kind : Kind) (object field : ℕ) (found : Found) → IsFound u a kind object field found → IsFound u b kind object field found
   found_more kind object field (Slid place) f = f
-  found_more kind object field Fresh f = record { apart = f.apart; begins = f.begins; ends = f.ends; fresh = f.fresh; known = h.starts (page_at object) (offset_at object) f.known }
+  found_more kind object field Fresh f = fresh_more object f
 
 -- what holds of each element of a list holds of each of its beginning
 pub all_before : (P : Entry → Type 0) (whole front : List Entry) → StartsWith whole front → All P whole → All P front

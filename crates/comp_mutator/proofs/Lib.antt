@@ -1,6 +1,8 @@
 pub mod FieldPlaces
 pub mod Growing
 pub mod Refusing
+pub mod Judging
+pub mod KnownStarts
 pub mod Answering
 pub mod OwnPages
 pub mod FillCounts

@@ -1,5 +1,5 @@
 -- What an allocation does, and why one is refused. A mutator makes its objects side by side on its own fresh pages.
-use Rattle.std.specs.Prelude.{◌≡◌, ℕ, ◌+◌, ◌*◌, ◌<◌, ◌≤◌, List, length, slice_index}
+use Rattle.std.specs.Prelude.{◌≡◌, ℕ, ◌+◌, ◌*◌, ◌<◌, ◌≤◌, ◌⊎◌, List, length, slice_index}
 use Rattle.heap_layout.specs.Header.{size_of}
 use Rattle.heap_layout.specs.declared.kind.Kind.{Kind}
 use Rattle.heap_layout.specs.declared.kind.Kind.TheVariants.{Header, Reference, Data}
@@ -12,7 +12,7 @@ use Rattle.cell_steps.specs.Locks.{Journals}
 use Rattle.cell_steps.specs.Passes.{did, lost, number_of, seen, KnowsFresh}
 use Rattle.cell_steps.specs.declared.pass.Pass.{Pass}
 use Rattle.page_cells.specs.Calls.{MayHaveBuilt}
-use Rattle.comp_mutator.specs.Reads.{BuildsNothing}
+use Rattle.comp_mutator.specs.Reads.{BuildsNothing, SeesFull, SeesNothingNew, WantsPage}
 use Rattle.comp_mutator.specs.Writes.{entry_by, Adds}
 use Rattle.comp_mutator.specs.declared.refusal.Refusal.{Refusal}
 use Rattle.comp_mutator.specs.declared.refusal.Refusal.TheVariants.{Null, NotAStart, NoSuchField, ObjectTooLarge, OutOfPages, Busy, JournalFull, OutOfMemory}
@@ -65,11 +65,11 @@ abbrev pub AllocationRefused : Setup → Pass → Pass → ℕ → Refusal → T
 AllocationRefused u old new size Null = ⊥
 AllocationRefused u old new size (NotAStart a) = ⊥
 AllocationRefused u old new size NoSuchField = ⊥
-AllocationRefused u old new size ObjectTooLarge = (64 < size) × BuildsNothing old new
-AllocationRefused u old new size OutOfPages = (size ≤ 64) × HasNoRoom u old size × BuildsNothing old new
-AllocationRefused u old new size (Busy p) = IsLowestPage u old size p × (lost old p < lost new p) × MayHaveBuilt p old new
-AllocationRefused u old new size (JournalFull p) = IsLowestPage u old size p × (length (seen new p) ≡ 1024) × MayHaveBuilt p old new
-AllocationRefused u old new size OutOfMemory = (p : ℕ) × IsLowestPage u old size p × MayHaveBuilt p old new
+AllocationRefused u old new size ObjectTooLarge = (64 < size) × BuildsNothing old new × SeesNothingNew old new
+AllocationRefused u old new size OutOfPages = (size ≤ 64) × HasNoRoom u old size × BuildsNothing old new × SeesNothingNew old new
+AllocationRefused u old new size (Busy p) = IsLowestPage u old size p × (lost old p < lost new p) × MayHaveBuilt p old new × SeesNothingNew old new
+AllocationRefused u old new size (JournalFull p) = IsLowestPage u old size p × SeesFull new p × MayHaveBuilt p old new
+AllocationRefused u old new size OutOfMemory = (p : ℕ) × IsLowestPage u old size p × (WantsPage old new p ⊎ (SeesFull new p → ⊥)) × MayHaveBuilt p old new
 
 -- These are the used words of the pass's own pages, in order.
 pub record Counts (u : Setup) (pass : Pass) (fills : List ℕ) : Type 0 where

@@ -1,14 +1,14 @@
 -- What a call on a page does, and why one is refused.
-use Rattle.std.specs.Prelude.{◌≡◌, ℕ, ◌<◌, List, true, false, length, slice_index}
+use Rattle.std.specs.Prelude.{◌≡◌, ℕ, ◌<◌, List, true, false, slice_index}
 use Rattle.comp_journal.specs.Journal.{replayed}
 use Rattle.comp_journal.specs.declared.entry.Entry.{Entry}
 use Rattle.cell_steps.specs.Setup.{Setup, base_of}
 use Rattle.cell_steps.specs.Lawful.{IsLawful}
 use Rattle.cell_steps.specs.Locks.{Journals}
-use Rattle.cell_steps.specs.Passes.{lost, seen}
+use Rattle.cell_steps.specs.Passes.{lost}
 use Rattle.cell_steps.specs.declared.pass.Pass.{Pass}
 use Rattle.page_cells.specs.Calls.{builds_with}
-use Rattle.comp_mutator.specs.Reads.{KnowsBuilt}
+use Rattle.comp_mutator.specs.Reads.{KnowsBuilt, SeesFull}
 use Rattle.comp_mutator.specs.declared.pages.PageCopy.{PageCopy}
 use Rattle.comp_mutator.specs.declared.pages.Touched.{Touched}
 use Rattle.comp_mutator.specs.declared.pages.Touched.TheVariants.{Built, AlreadyBuilt}
@@ -34,8 +34,8 @@ PageTakesNone p new NoSuchField = ⊥
 PageTakesNone p new ObjectTooLarge = ⊥
 PageTakesNone p new OutOfPages = ⊥
 PageTakesNone p new (Busy q) = ⊥
-PageTakesNone p new (JournalFull q) = (q ≡ p) × (length (seen new p) ≡ 1024)
-PageTakesNone p new OutOfMemory = Unit {0}
+PageTakesNone p new (JournalFull q) = (q ≡ p) × SeesFull new p
+PageTakesNone p new OutOfMemory = SeesFull new p → ⊥
 
 -- these are the words of page p, where it has this journal
 abbrev pub AreWordsOf : Setup → ℕ → List Entry → List ℕ → Type 0

@@ -3,10 +3,13 @@ use Rattle.std.specs.Prelude.{◌≡◌, ℕ, ◌+◌, ◌<◌, ◌≤◌, ◌�
 use Rattle.heap_layout.specs.Header.{refs_of, data_of}
 use Rattle.heap_layout.specs.declared.kind.Kind.{Kind}
 use Rattle.heap_layout.specs.declared.kind.Kind.TheVariants.{Header, Reference, Data}
-use Rattle.cell_steps.specs.Setup.{Setup}
+use Rattle.page_plan.specs.Sliding.{to_address}
+use Rattle.cell_steps.specs.Setup.{Setup, pages}
 use Rattle.cell_steps.specs.Locks.{Journals}
 use Rattle.cell_steps.specs.Starts.{IsPlace}
-use Rattle.page_cells.specs.Objects.{page_at, HasShape, HasSlid}
+use Rattle.cell_steps.specs.Passes.{seen, KnowsFresh, KnowsStart}
+use Rattle.cell_steps.specs.declared.pass.Pass.{Pass}
+use Rattle.page_cells.specs.Objects.{offset_at, page_at, HasShape, HasSlid}
 
 -- how many fields of a kind an object with this header has
 abbrev pub count_of : Kind → ℕ → ℕ
@@ -33,8 +36,33 @@ pub record LacksField (u : Setup) (journals : Journals) (kind : Kind) (object fi
   pub shape : HasShape u journals object header
   pub outside : count_of kind header ≤ field
 
--- The page that a call on a field touches: that of the field's word. An object that an allocation made lies on one page.
-abbrev pub Touches : Setup → Kind → ℕ → ℕ → ℕ → Type 0
-Touches u kind object field p =
-    ((header : ℕ) × HasSlid u object header × (p ≡ page_at (place_of kind object header field)))
-    ⊎ ((IsPlace u.heap object → ⊥) × (p ≡ page_at object))
+-- The pass knows the object's start, and the object has this field, whose word is on page p.
+pub record KnowsFieldOn (u : Setup) (pass : Pass) (kind : Kind) (object field p : ℕ) : Type 0 where
+  pub known : KnowsStart pass object
+  pub place : ℕ
+  pub field_of : IsFieldOf u (seen pass) kind object field place
+  pub page_is : p ≡ page_at place
+
+-- An object of the slid heap has this field, whose word is on page p.
+pub record HasSlidFieldOn (u : Setup) (kind : Kind) (object field p : ℕ) : Type 0 where
+  pub header : ℕ
+  pub slid : HasSlid u object header
+  pub inside : field < count_of kind header
+  pub page_is : p ≡ page_at (place_of kind object header field)
+
+-- The pass knows that an object that an allocation made starts at the address.
+pub record IsFreshObject (u : Setup) (pass : Pass) (object : ℕ) : Type 0 where
+  pub apart : IsPlace u.heap object → ⊥
+  pub begins : to_address 0 ≤ object
+  pub ends : page_at object < pages u
+  pub fresh : u.compacted ≤ page_at object
+  pub known : KnowsFresh pass (page_at object) (offset_at object)
+
+-- the pass knows an object that an allocation made, which lies on page p
+abbrev pub LiesFreshOn : Setup → Pass → ℕ → ℕ → Type 0
+LiesFreshOn u pass object p = IsFreshObject u pass object × (p ≡ page_at object)
+
+-- The page that a call on a field touches: of a slid object, which has the field, that of the field's word; of an object that an allocation made, and that
+-- the pass knows, the object's.
+abbrev pub Touches : Setup → Pass → Kind → ℕ → ℕ → ℕ → Type 0
+Touches u pass kind object field p = HasSlidFieldOn u kind object field p ⊎ LiesFreshOn u pass object p

@@ -1,13 +1,14 @@
 -- What a read answers, and why a call on a field is refused.
-use Rattle.std.specs.Prelude.{◌≡◌, ◌≢◌, ℕ, ◌<◌, ◌⊎◌}
+use Rattle.std.specs.Prelude.{◌≡◌, ◌≢◌, ℕ, ◌<◌, ◌⊎◌, length}
 use Rattle.heap_layout.specs.declared.kind.Kind.{Kind}
 use Rattle.cell_steps.specs.Setup.{Setup}
 use Rattle.cell_steps.specs.Locks.{Journals}
+use Rattle.cell_steps.specs.Starts.{IsPlace}
 use Rattle.cell_steps.specs.Passes.{builds_of, lost, seen, HasSeenBuilt, KnowsFresh, KnowsStart}
 use Rattle.cell_steps.specs.declared.pass.Pass.{Pass}
 use Rattle.page_cells.specs.Calls.{MayHaveBuilt}
 use Rattle.page_cells.specs.Objects.{word_at}
-use Rattle.comp_mutator.specs.Fields.{IsFieldOf, LacksField, Touches}
+use Rattle.comp_mutator.specs.Fields.{HasSlidFieldOn, IsFieldOf, LacksField, Touches}
 use Rattle.comp_mutator.specs.declared.refusal.Refusal.{Refusal}
 use Rattle.comp_mutator.specs.declared.refusal.Refusal.TheVariants.{Null, NotAStart, NoSuchField, ObjectTooLarge, OutOfPages, Busy, JournalFull, OutOfMemory}
 
@@ -21,27 +22,43 @@ pub record Reads (u : Setup) (journals : Journals) (kind : Kind) (object field w
 abbrev pub BuildsNothing : Pass → Pass → Type 0
 BuildsNothing old new = builds_of new ≡ builds_of old
 
+-- the call saw nothing new of any page
+abbrev pub SeesNothingNew : Pass → Pass → Type 0
+SeesNothingNew old new = (p : ℕ) → seen new p ≡ seen old p
+
+-- the call built no page, and of an object of the slid heap, whose header stands on no page that it needs, it saw none
+abbrev pub NeedsNoPage : Setup → Pass → Pass → ℕ → Type 0
+NeedsNoPage u old new object = BuildsNothing old new × (IsPlace u.heap object → SeesNothingNew old new)
+
 -- the call built no page but the one that it touches
 abbrev pub MayBuildTouched : Setup → Pass → Pass → Kind → ℕ → ℕ → Type 0
-MayBuildTouched u old new kind object field = (p : ℕ) × Touches u kind object field p × MayHaveBuilt p old new
+MayBuildTouched u old new kind object field = (p : ℕ) × Touches u new kind object field p × MayHaveBuilt p old new
 
 -- the pass knows that page p is built: it has seen it built, or knows a start on it
 abbrev pub KnowsBuilt : Pass → ℕ → Type 0
 KnowsBuilt pass p = HasSeenBuilt pass p ⊎ ((offset : ℕ) × KnowsFresh pass p offset)
 
--- the page that the call touches was not known to be built, and memory to build it was wanting
+-- the journal of page p is full, as the pass has seen it
+abbrev pub SeesFull : Pass → ℕ → Type 0
+SeesFull pass p = length (seen pass p) ≡ 1024
+
+-- page p was not known to be built, and memory to build it was wanting
+abbrev pub WantsPage : Pass → Pass → ℕ → Type 0
+WantsPage old new p = (KnowsBuilt old p → ⊥) × SeesNothingNew old new
+
+-- memory to build the page of a slid object's field was wanting; that of an object that an allocation made, and that the mutator knows, is built
 abbrev pub WantsMemory : Setup → Pass → Pass → Kind → ℕ → ℕ → Type 0
-WantsMemory u old new kind object field = (p : ℕ) × Touches u kind object field p × (KnowsBuilt old p → ⊥) × MayHaveBuilt p old new
+WantsMemory u old new kind object field = (p : ℕ) × HasSlidFieldOn u kind object field p × WantsPage old new p × MayHaveBuilt p old new
 
 -- the call met the page that it touches where another mutator was there first
 abbrev pub IsBusy : Setup → Pass → Pass → Kind → ℕ → ℕ → ℕ → Type 0
-IsBusy u old new kind object field p = Touches u kind object field p × (lost old p < lost new p) × MayHaveBuilt p old new
+IsBusy u old new kind object field p = Touches u new kind object field p × (lost old p < lost new p) × MayHaveBuilt p old new × SeesNothingNew old new
 
 -- why a call on a field is refused
 abbrev pub FieldRefused : Setup → Pass → Pass → Kind → ℕ → ℕ → Refusal → Type 0
-FieldRefused u old new kind object field Null = (object ≡ 0) × BuildsNothing old new
-FieldRefused u old new kind object field (NotAStart a) = (a ≡ object) × (object ≢ 0) × (KnowsStart old object → ⊥) × BuildsNothing old new
-FieldRefused u old new kind object field NoSuchField = LacksField u (seen new) kind object field × BuildsNothing old new
+FieldRefused u old new kind object field Null = (object ≡ 0) × BuildsNothing old new × SeesNothingNew old new
+FieldRefused u old new kind object field (NotAStart a) = (a ≡ object) × (object ≢ 0) × (KnowsStart old object → ⊥) × BuildsNothing old new × SeesNothingNew old new
+FieldRefused u old new kind object field NoSuchField = KnowsStart new object × LacksField u (seen new) kind object field × NeedsNoPage u old new object
 FieldRefused u old new kind object field ObjectTooLarge = ⊥
 FieldRefused u old new kind object field OutOfPages = ⊥
 FieldRefused u old new kind object field (Busy p) = IsBusy u old new kind object field p

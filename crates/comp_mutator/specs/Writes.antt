@@ -1,15 +1,16 @@
 -- What a write does, and why one is refused.
-use Rattle.std.specs.Prelude.{◌≡◌, ◌≢◌, ℕ, ◌<◌, ◌⊎◌, List, [], ◌∷◌, ◌++◌, length, All}
+use Rattle.std.specs.Prelude.{◌≡◌, ◌≢◌, ℕ, ◌<◌, ◌⊎◌, List, [], ◌∷◌, ◌++◌, All}
 use Rattle.heap_layout.specs.declared.kind.Kind.{Kind}
 use Rattle.comp_journal.specs.declared.entry.Entry.{Entry}
 use Rattle.cell_steps.specs.Setup.{Setup}
 use Rattle.cell_steps.specs.Lists.{StartsWith}
-use Rattle.cell_steps.specs.Passes.{did, number_of, seen, KnowsStart}
+use Rattle.cell_steps.specs.Starts.{IsPlace}
+use Rattle.cell_steps.specs.Passes.{did, number_of, seen, KnowsStart, MayRefer}
 use Rattle.cell_steps.specs.declared.pass.Pass.{Pass}
 use Rattle.page_cells.specs.Calls.{MayHaveBuilt}
 use Rattle.page_cells.specs.Objects.{offset_at, page_at}
-use Rattle.comp_mutator.specs.Fields.{IsFieldOf, Touches}
-use Rattle.comp_mutator.specs.Reads.{BuildsNothing, FieldRefused, MayBuildTouched}
+use Rattle.comp_mutator.specs.Fields.{IsFieldOf, KnowsFieldOn, Touches}
+use Rattle.comp_mutator.specs.Reads.{FieldRefused, NeedsNoPage, SeesFull}
 use Rattle.comp_mutator.specs.declared.refusal.Refusal.{Refusal}
 use Rattle.comp_mutator.specs.declared.refusal.Refusal.TheVariants.{Null, NotAStart, NoSuchField, ObjectTooLarge, OutOfPages, Busy, JournalFull, OutOfMemory}
 
@@ -33,12 +34,17 @@ pub record Writes (u : Setup) (old new : Pass) (kind : Kind) (object field value
 
 -- the journal of the page that the call touches is full
 abbrev pub IsFull : Setup → Pass → Pass → Kind → ℕ → ℕ → ℕ → Type 0
-IsFull u old new kind object field p = Touches u kind object field p × (length (seen new p) ≡ 1024) × MayHaveBuilt p old new
+IsFull u old new kind object field p = Touches u new kind object field p × KnowsFieldOn u new kind object field p × SeesFull new p × MayHaveBuilt p old new
 
--- the object has the field, and the value is neither null nor a start that the pass knew
+-- the journal of the page that the call touches is not full, and memory for an entry there was wanting
+abbrev pub WantsEntry : Setup → Pass → Pass → Kind → ℕ → ℕ → Type 0
+WantsEntry u old new kind object field =
+    (p : ℕ) × Touches u new kind object field p × KnowsFieldOn u new kind object field p × (SeesFull new p → ⊥) × MayHaveBuilt p old new
+
+-- the object, which the pass knows, has the field, and the value is neither null nor a start that the pass knew
 abbrev pub IsNoTarget : Setup → Pass → Pass → Kind → ℕ → ℕ → ℕ → Type 0
 IsNoTarget u old new kind object field value =
-    ((place : ℕ) × IsFieldOf u (seen new) kind object field place) × (value ≢ 0) × (KnowsStart old value → ⊥) × BuildsNothing old new
+    ((p : ℕ) × KnowsFieldOn u new kind object field p) × (value ≢ 0) × (KnowsStart old value → ⊥) × NeedsNoPage u old new object
 
 -- why a value is refused that was to be written into a field
 abbrev pub ValueRefused : Setup → Pass → Pass → Kind → ℕ → ℕ → ℕ → Refusal → Type 0
@@ -60,13 +66,25 @@ EntryRefused u old new kind object field ObjectTooLarge = ⊥
 EntryRefused u old new kind object field OutOfPages = ⊥
 EntryRefused u old new kind object field (Busy p) = ⊥
 EntryRefused u old new kind object field (JournalFull p) = IsFull u old new kind object field p
-EntryRefused u old new kind object field OutOfMemory = MayBuildTouched u old new kind object field
+EntryRefused u old new kind object field OutOfMemory = WantsEntry u old new kind object field
 
 -- why a write of data is refused
 abbrev pub DataRefused : Setup → Pass → Pass → Kind → ℕ → ℕ → Refusal → Type 0
 DataRefused u old new kind object field refusal = FieldRefused u old new kind object field refusal ⊎ EntryRefused u old new kind object field refusal
 
--- why a write of a reference is refused
+-- The value is judged before this refusal: a page is refused only where the value may be stored. Of an object that an allocation made the page, which has the
+-- header, is taken first.
+abbrev pub IsJudgedBefore : Setup → Pass → ℕ → ℕ → Refusal → Type 0
+IsJudgedBefore u new object value Null = Unit {0}
+IsJudgedBefore u new object value (NotAStart a) = Unit {0}
+IsJudgedBefore u new object value NoSuchField = Unit {0}
+IsJudgedBefore u new object value ObjectTooLarge = Unit {0}
+IsJudgedBefore u new object value OutOfPages = Unit {0}
+IsJudgedBefore u new object value (Busy p) = IsPlace u.heap object → MayRefer new value
+IsJudgedBefore u new object value (JournalFull p) = MayRefer new value
+IsJudgedBefore u new object value OutOfMemory = MayRefer new value
+
+-- why a write of a reference is refused: as a write of data is, where the value is judged before, or for the value
 abbrev pub ReferenceRefused : Setup → Pass → Pass → Kind → ℕ → ℕ → ℕ → Refusal → Type 0
 ReferenceRefused u old new kind object field value refusal =
-    FieldRefused u old new kind object field refusal ⊎ ValueRefused u old new kind object field value refusal ⊎ EntryRefused u old new kind object field refusal
+    (DataRefused u old new kind object field refusal × IsJudgedBefore u new object value refusal) ⊎ ValueRefused u old new kind object field value refusal

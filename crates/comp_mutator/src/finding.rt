@@ -4,8 +4,8 @@ ghost use Rattle.heap_layout.specs.Header.{size_of};
 ghost use Rattle.cell_steps.specs.Passes.{builds_of, did, Rests};
 ghost use Rattle.page_cells.specs.Cells.{page_number, setup_of, Has, IsPassOf};
 ghost use Rattle.page_cells.specs.Calls.{Grows, WroteNothing};
-ghost use Rattle.comp_mutator.specs.Fields.{count_of, place_of};
-ghost use Rattle.comp_mutator.specs.Finds.{HoldsField, IsFound, IsFreshObject};
+ghost use Rattle.comp_mutator.specs.Fields.{count_of, place_of, IsFreshObject};
+ghost use Rattle.comp_mutator.specs.Finds.{HoldsField, IsEarly, IsFound};
 ghost use Rattle.comp_mutator.specs.Reads.{FieldRefused};
 
 use crate::places::{offset_at, page_at};
@@ -63,6 +63,7 @@ pub(crate) fn find<B: Builder>(
     ensures builds { builds_of pass.new ≡ builds_of pass.old }
     ensures found { IfOk result (IsFound (setup_of cells.now) pass.new kind object field) }
     ensures refused { IfErr result (FieldRefused (setup_of cells.now) pass.old pass.new kind object field) }
+    ensures early { IfErr result IsEarly }
 {
     if object == 0 {
         return Err(Refusal::Null);

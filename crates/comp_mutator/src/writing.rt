@@ -1,16 +1,17 @@
 //! Writes of fields.
-ghost use Rattle.std.specs.Prelude.{◌≡◌, ◌≢◌, ◌⊎◌, ℕ, ◌+◌, ◌<◌, IfOk, IfErr, OnOk, MatchBool};
+ghost use Rattle.std.specs.Prelude.{◌≡◌, ◌≢◌, ◌⊎◌, ℕ, ◌+◌, ◌<◌, IfOk, IfErr, OnErr, OnOk, MatchBool};
 ghost use Rattle.heap_layout.specs.Header.{size_of};
 ghost use Rattle.heap_layout.specs.declared.kind.Kind.TheVariants as kinds;
 ghost use Rattle.cell_steps.specs.Lawful.{Fits};
+ghost use Rattle.cell_steps.specs.Starts.{IsPlace};
 ghost use Rattle.cell_steps.specs.Passes.{builds_of, did, number_of, seen, KnowsFresh, KnowsStart, MayRefer, Rests};
 ghost use Rattle.page_cells.specs.Cells.{journal_of, page_number, setup_of, Has, IsPassOf};
-ghost use Rattle.page_cells.specs.Calls.{Grows};
-ghost use Rattle.comp_mutator.specs.Fields.{IsFieldOf};
+ghost use Rattle.page_cells.specs.Calls.{Grows, WroteNothing};
+ghost use Rattle.comp_mutator.specs.Fields.{KnowsFieldOn};
 ghost use Rattle.comp_mutator.specs.Finds.{IsFound};
 ghost use Rattle.comp_mutator.specs.Allocations.{AreZero};
 ghost use Rattle.comp_mutator.specs.Copies.{PageTakesNone};
-ghost use Rattle.comp_mutator.specs.Reads.{BuildsNothing, FieldRefused, MayBuildTouched};
+ghost use Rattle.comp_mutator.specs.Reads.{FieldRefused, MayBuildTouched, NeedsNoPage};
 ghost use Rattle.comp_mutator.specs.Writes.{entry_by, Adds, DataRefused, ReferenceRefused, Writes};
 
 use crate::finding::{Found, Held, find, take_found, take_fresh};
@@ -105,7 +106,7 @@ pub(crate) fn try_write_data<B: Builder>(
 fn may_store<B: Builder>(cells: &Cells<B>, pass: &mut Pass, value: u64) -> bool
     requires { IsPassOf cells.now pass.old × Rests pass.old }
     ensures of { IsPassOf cells.now pass.new × Rests pass.new }
-    ensures grows { Grows pass.old pass.new × (did pass.new ≡ did pass.old) }
+    ensures grows { Grows pass.old pass.new × WroteNothing pass.old pass.new }
     ensures builds { builds_of pass.new ≡ builds_of pass.old }
     ensures target { MatchBool result (MayRefer pass.new value) ((value ≢ 0) × (KnowsStart pass.old value → ⊥)) }
 {
@@ -126,8 +127,9 @@ fn check_found<B: Builder>(
     requires found { IsFound (setup_of cells.now) pass.old kind object field found }
     ensures of { IsPassOf cells.now pass.new × Rests pass.new }
     ensures grows { Grows pass.old pass.new × (did pass.new ≡ did pass.old) }
-    ensures there { OnOk result (((place : ℕ) × IsFieldOf (setup_of cells.now) (seen pass.new) kind object field place) × BuildsNothing pass.old pass.new) }
+    ensures there { OnOk result (((p : ℕ) × KnowsFieldOn (setup_of cells.now) pass.new kind object field p) × NeedsNoPage (setup_of cells.now) pass.old pass.new object) }
     ensures refused { IfErr result (FieldRefused (setup_of cells.now) pass.old pass.new kind object field) }
+    ensures apart { OnErr result (IsPlace (setup_of cells.now).heap object → ⊥) }
 {
     if let Found::Fresh = found {
         let Held { taken, offset: _ } = take_fresh(alloc, cells, pass, object, field, kind)?;

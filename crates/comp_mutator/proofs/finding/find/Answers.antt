@@ -1,5 +1,6 @@
-use Rattle.std.proofs.Common.{[], sym}
+use Rattle.std.proofs.Common.{[], inl, refl, sym}
 use Rattle.comp_mutator.proofs.FieldPlaces.{slid_field}
+use Rattle.comp_mutator.proofs.KnownStarts.{knows_slid}
 use Rattle.comp_mutator.proofs.finding.find.Goals as goal
 
 pub field_place-requires : goal.field_place-requires
@@ -9,3 +10,9 @@ pub returns-in-Some-field_place-clause-found : goal.returns-in-Some-field_place-
 returns-in-Some-field_place-clause-found g c =
     let found = c.in-Some-field_place.ensures.some in
     slid_field _ c.args.kind c.args.object c.in-Some.header c.args.field _ (sym c.in-Some.ensures.shape) c.in-Some.ensures.fields found.0 found.1
+
+pub returns-in-None-clause-refused : goal.returns-in-None-clause-refused
+returns-in-None-clause-refused g c =
+    let slid = sym c.in-Some.ensures.shape in
+    let known = knows_slid _ _ c.args.pass.now c.requires.0 c.args.object c.in-Some.header slid in
+    (known, record { header = c.in-Some.header; shape = inl slid; outside = c.in-None.ensures.none }, (refl, λ place p. refl))

@@ -14,5 +14,5 @@ returns-clause-refused g c =
     let first = c.find.ensures in
     let knows = knows_more _ _ old c.find.new.pass c.requires.0 first.of.0 first.grows.0 in
     IfErr-weaker c.write_found.result _ _
-    (λ e h. write_refused_after (setup_of c.args.cells.now) Data c.args.object c.args.field old c.find.new.pass c.write_found.new.pass first.grows.0 first.builds knows e h)
+    (λ e h. write_refused_after (setup_of c.args.cells.now) Data c.args.object c.args.field old c.find.new.pass c.write_found.new.pass first.grows.0 first.builds first.grows.1.seen knows e h)
     c.write_found.ensures.refused
