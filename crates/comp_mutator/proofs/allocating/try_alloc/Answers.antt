@@ -10,7 +10,7 @@ use Rattle.comp_mutator.specs.Allocations.{own_page, used, AreZero, Counts, IsLo
 use Rattle.comp_mutator.proofs.Answering.{err_anyway}
 use Rattle.comp_mutator.proofs.Growing.{built_before, grows_then}
 use Rattle.comp_mutator.proofs.OwnPages.{counts_more, lowest_own, made_own, next_own}
-use Rattle.comp_mutator.proofs.Refusing.{allocation_refused}
+use Rattle.comp_mutator.proofs.Refusing.{allocation_page_refused, allocation_refused}
 use Rattle.comp_mutator.proofs.allocating.try_alloc.Goals as goal
 
 pub write_taken-requires-clause-fits : goal.write_taken-requires-clause-fits
@@ -30,6 +30,20 @@ write_taken-requires-clause-fits g c κs within =
     let next = next_own u n index c.word.result _ journal _ c.requires.of.0.numbered (c.requires.counts.there index chosen.inside) lawful mine (c.requires.counts.used index chosen.inside) ends in
     subst (λ p. IsNext u p journal (number_of c.take.new.pass) (get_or c.args.fills.now index 0) c.word.result) (sym (taken.taken.0 ∙ own))
     (subst (λ k. IsNext u (own_page u n index) journal k (get_or c.args.fills.now index 0) c.word.result) (sym c.take.ensures.grows.0.number) next)
+
+pub returns-in_err-taken-clause-refused : goal.returns-in_err-taken-clause-refused
+returns-in_err-taken-clause-refused g c =
+    let u = setup_of c.args.cells.now in
+    let old = c.args.pass.now in
+    let new = c.take.new.pass in
+    let index = c.in-Some.index in
+    let chosen = c.in-Some.ensures in
+    let own = c.own_page-page.ensures.page ∙ ap (λ k. own_page u k index) c.number.ensures in
+    let lowest = lowest_own u old c.args.fills.now c.size-size.result index c.requires.counts chosen.inside chosen.room chosen.first in
+    let refused = c.in_err-taken.ensures.refused in
+    err_anyway c.from_residual.result _ c.in_err-taken.field-0.0 c.from_residual.ensures.1
+    (allocation_page_refused u old new (size_of c.args.header) c.own_page-page.result _ (index, subst (λ s. IsLowest u old s index) c.size-size.ensures lowest, own)
+    c.take.ensures.builds refused.1 refused.2)
 
 pub returns-in_err-write_taken-clause-grows : goal.returns-in_err-write_taken-clause-grows
 returns-in_err-write_taken-clause-grows g c = grows_then c.args.pass.now c.take.new.pass c.write_taken.new.pass c.take.ensures.grows.0 c.write_taken.ensures.grows.0

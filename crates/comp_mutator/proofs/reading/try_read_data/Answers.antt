@@ -1,8 +1,10 @@
-use Rattle.std.proofs.Common.{◌≡◌, subst}
+use Rattle.std.proofs.Common.{◌≡◌, ap, subst, ◌∙◌}
+use Rattle.heap_layout.specs.declared.kind.Kind.TheVariants.{Data}
 use Rattle.cell_steps.specs.declared.pass.Pass.{Pass}
-use Rattle.cell_steps.specs.Passes.{did}
+use Rattle.cell_steps.specs.Passes.{builds_of, did}
+use Rattle.page_cells.specs.Cells.{setup_of}
 use Rattle.page_cells.specs.Calls.{Grows}
-use Rattle.comp_mutator.proofs.Growing.{still_then}
+use Rattle.comp_mutator.proofs.Growing.{built_before, still_then, touches_more}
 use Rattle.comp_mutator.proofs.reading.try_read_data.Goals as goal
 
 pub returns-clause-grows : goal.returns-clause-grows
@@ -10,3 +12,14 @@ returns-clause-grows g c =
     let back = c.put_back.ensures.grows in
     let last = subst (λ (m : Pass). Grows m c.put_back.new.pass × (did c.put_back.new.pass ≡ did m)) c.held_word-word.ensures.same (back.0, back.1.did) in
     still_then c.args.pass.now c.hold.new.pass c.put_back.new.pass c.hold.ensures.grows last
+
+pub returns-clause-builds : goal.returns-clause-builds
+returns-clause-builds g c =
+    let middle = c.hold.new.pass in
+    let new = c.put_back.new.pass in
+    let held = c.in_ok-held.ensures.field in
+    let same = c.held_word-word.ensures.same in
+    let p = c.in_ok-held.held.taken.number in
+    let grows = subst (λ (m : Pass). Grows m new) same c.put_back.ensures.grows.0 in
+    let touched = touches_more (setup_of c.args.cells.now) middle new grows Data c.args.object c.args.field p held.touched in
+    (p, touched, built_before c.args.pass.now middle new p held.builds (c.put_back.ensures.builds ∙ ap builds_of same))

@@ -2,8 +2,10 @@ use Rattle.std.proofs.Common.{inl, inr, refl, ◌∙◌}
 use Rattle.std.proofs.lemmas.Result.{IfErr-weaker, IfOk-weaker}
 use Rattle.heap_layout.specs.declared.kind.Kind.TheVariants.{Reference}
 use Rattle.page_cells.specs.Cells.{setup_of}
+use Rattle.comp_mutator.specs.Reads.{SeesNothingNew}
 use Rattle.comp_mutator.proofs.Answering.{err_anyway}
-use Rattle.comp_mutator.proofs.Growing.{adds_after, found_more, grows_then, knows_more}
+use Rattle.comp_mutator.proofs.Growing.{adds_after, found_more, grows_then, knows_more, refers_more}
+use Rattle.comp_mutator.proofs.Judging.{early_unjudged, fresh_unjudged, known_judged}
 use Rattle.comp_mutator.proofs.Refusing.{refused_after, write_refused_after}
 use Rattle.comp_mutator.proofs.writing.try_write_ref.Goals as goal
 
@@ -28,8 +30,12 @@ returns-in_err-check_found-clause-refused g c =
     let store = c.may_store.ensures in
     let grows = grows_then old c.find.new.pass middle first.grows.0 store.grows.0 in
     let knows = knows_more _ _ old middle c.requires.0 store.of.0 grows in
+    let u = setup_of c.args.cells.now in
+    let new = c.check_found.new.pass in
+    let saw : SeesNothingNew old middle = λ p. store.grows.1.seen p ∙ first.grows.1.seen p in
+    let refused = refused_after u Reference c.args.object c.args.field old middle new grows (store.builds ∙ first.builds) saw knows _ c.in_err-check_found.ensures.refused in
     err_anyway c.from_residual-in_err-check_found.result _ c.in_err-check_found.field-0.0 c.from_residual-in_err-check_found.ensures.1
-    (inl (refused_after (setup_of c.args.cells.now) Reference c.args.object c.args.field old middle c.check_found.new.pass grows (store.builds ∙ first.builds) knows _ c.in_err-check_found.ensures.refused))
+    (inl (inl refused, fresh_unjudged u new c.args.object c.args.value old Reference c.args.field c.in_err-check_found.ensures.apart _ refused))
 
 pub returns-then-not-may_store-clause-grows : goal.returns-then-not-may_store-clause-grows
 returns-then-not-may_store-clause-grows g c =
@@ -43,7 +49,15 @@ returns-then-not-may_store-clause-refused g c =
     let there = c.in_ok-check_found.ensures.there in
     let target = c.if-not-may_store.ensures.target in
     let knows = knows_more _ _ c.args.pass.now c.find.new.pass c.requires.0 first.of.0 first.grows.0 in
-    inr (inl (refl, (there.0, target.0, (λ known. target.1 (knows c.args.value known)), there.1 ∙ store.builds ∙ first.builds)))
+    inr (
+      refl,
+      (
+        there.0,
+        target.0,
+        (λ known. target.1 (knows c.args.value known)),
+        (there.1.0 ∙ store.builds ∙ first.builds, λ place p. there.1.1 place p ∙ store.grows.1.seen p ∙ first.grows.1.seen p),
+      ),
+    )
 
 pub returns-clause-grows : goal.returns-clause-grows
 returns-clause-grows g c =
@@ -62,7 +76,7 @@ returns-clause-wrote g c =
     (λ stamp wrote. record {
       place = wrote.place;
       field_of = wrote.field_of;
-      adds = adds_after old middle new grows (store.grows.1 ∙ first.grows.1.did) _ stamp Reference _ c.args.value wrote.adds;
+      adds = adds_after old middle new grows (store.grows.1.did ∙ first.grows.1.did) _ stamp Reference _ c.args.value wrote.adds;
     })
     c.write_found.ensures.wrote
 
@@ -75,6 +89,14 @@ returns-clause-refused g c =
     let store = c.may_store.ensures in
     let grows = grows_then old c.find.new.pass middle first.grows.0 store.grows.0 in
     let knows = knows_more _ _ old middle c.requires.0 store.of.0 grows in
+    let u = setup_of c.args.cells.now in
+    let saw : SeesNothingNew old middle = λ p. store.grows.1.seen p ∙ first.grows.1.seen p in
+    let may = refers_more _ _ middle new store.of.0 c.write_found.ensures.of.0 c.write_found.ensures.grows c.args.value c.if-not-may_store.ensures.target in
     IfErr-weaker c.write_found.result _ _
-    (λ e h. elim (write_refused_after (setup_of c.args.cells.now) Reference c.args.object c.args.field old middle new grows (store.builds ∙ first.builds) knows e h) [ inl r ↦ inl r | inr r ↦ inr (inr r) ])
+    (λ e h. inl (write_refused_after u Reference c.args.object c.args.field old middle new grows (store.builds ∙ first.builds) saw knows e h, known_judged u new c.args.object c.args.value may e))
     c.write_found.ensures.refused
+
+pub returns-in_err-found-clause-refused : goal.returns-in_err-found-clause-refused
+returns-in_err-found-clause-refused g c =
+    err_anyway c.from_residual.result _ c.in_err-found.field-0.0 c.from_residual.ensures.1
+    (inl (inl c.in_err-found.ensures.refused, early_unjudged (setup_of c.args.cells.now) c.find.new.pass c.args.object c.args.value _ c.in_err-found.ensures.early))

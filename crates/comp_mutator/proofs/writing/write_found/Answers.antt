@@ -2,9 +2,11 @@ use Rattle.std.proofs.Common.{subst, inr}
 use Rattle.std.proofs.lemmas.Result.{IfErr-weaker, IfOk-weaker}
 use Rattle.page_cells.specs.Cells.{setup_of}
 use Rattle.page_cells.specs.Objects.{page_at}
+use Rattle.comp_mutator.specs.Reads.{MayBuildTouched}
 use Rattle.comp_mutator.specs.Writes.{entry_by, Adds}
+use Rattle.comp_mutator.proofs.Answering.{ok_anyway}
 use Rattle.comp_mutator.proofs.Growing.{adds_after, built_before, field_more, grows_then, refers_more, touches_more}
-use Rattle.comp_mutator.proofs.KnownStarts.{knows_touched}
+use Rattle.comp_mutator.proofs.KnownStarts.{knows_held}
 use Rattle.comp_mutator.proofs.Refusing.{entry_refused}
 use Rattle.comp_mutator.proofs.writing.write_found.Goals as goal
 
@@ -35,6 +37,16 @@ returns-clause-wrote g c =
     })
     c.write_taken.ensures.adds
 
+pub returns-clause-builds : goal.returns-clause-builds
+returns-clause-builds g c =
+    let u = setup_of c.args.cells.now in
+    let held = c.in_ok-held.ensures.field in
+    let grows = c.write_taken.ensures.grows in
+    let new = c.write_taken.new.pass in
+    let p = c.in_ok-held.held.taken.number in
+    ok_anyway c.write_taken.result (MayBuildTouched u c.args.pass.now new c.args.kind c.args.object c.args.field)
+    (p, touches_more u c.take_found.new.pass new grows.0 c.args.kind c.args.object c.args.field p held.touched, built_before c.args.pass.now c.take_found.new.pass new p held.builds grows.1)
+
 pub returns-clause-refused : goal.returns-clause-refused
 returns-clause-refused g c =
     let u = setup_of c.args.cells.now in
@@ -48,12 +60,7 @@ returns-clause-refused g c =
     let p = c.in_ok-held.held.taken.number in
     let grows = c.write_taken.ensures.grows in
     let touched = touches_more u middle new grows.0 kind object field p held.touched in
-    let known = knows_touched _ _ new c.write_taken.ensures.of.0 kind object field p touched in
-    let there = field_more u middle new grows.0 kind object field held.place held.field_of in
-    let on_page = record { known = known; place = held.place; field_of = there; page_is = held.page_is } in
+    let known = knows_held _ _ new c.write_taken.ensures.of.0 old middle kind object field p _ held grows.0 in
     IfErr-weaker c.write_taken.result _ _
-    (λ e h. inr (entry_refused u kind object field old new p e touched on_page (built_before old middle new p held.builds grows.1) h.1))
+    (λ e h. inr (entry_refused u kind object field old new p e touched known (built_before old middle new p held.builds grows.1) h.1))
     c.write_taken.ensures.refused
-
-pub returns-clause-builds : goal.returns-clause-builds
-returns-clause-builds g c = ?
