@@ -8,7 +8,7 @@ use Rattle.cell_steps.specs.Locks.{Journals}
 use Rattle.cell_steps.specs.Passes.{lost}
 use Rattle.cell_steps.specs.declared.pass.Pass.{Pass}
 use Rattle.page_cells.specs.Calls.{builds_with}
-use Rattle.comp_mutator.specs.Reads.{KnowsBuilt, SeesFull}
+use Rattle.comp_mutator.specs.Reads.{KnowsBuilt, SeesFull, SeesNothingNew}
 use Rattle.comp_mutator.specs.declared.pages.PageCopy.{PageCopy}
 use Rattle.comp_mutator.specs.declared.pages.Touched.{Touched}
 use Rattle.comp_mutator.specs.declared.pages.Touched.TheVariants.{Built, AlreadyBuilt}
@@ -48,7 +48,7 @@ CopyRefused p old new (NotAStart a) = ⊥
 CopyRefused p old new NoSuchField = ⊥
 CopyRefused p old new ObjectTooLarge = ⊥
 CopyRefused p old new OutOfPages = ⊥
-CopyRefused p old new (Busy q) = (q ≡ p) × (lost old p < lost new p)
+CopyRefused p old new (Busy q) = (q ≡ p) × (lost old p < lost new p) × SeesNothingNew old new
 CopyRefused p old new (JournalFull q) = ⊥
 CopyRefused p old new OutOfMemory = Unit {0}
 

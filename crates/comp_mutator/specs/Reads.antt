@@ -26,7 +26,7 @@ BuildsNothing old new = builds_of new ≡ builds_of old
 abbrev pub SeesNothingNew : Pass → Pass → Type 0
 SeesNothingNew old new = (p : ℕ) → seen new p ≡ seen old p
 
--- the call built no page, and of an object of the slid heap, whose header stands on no page that it needs, it saw none
+-- the call built no page, and for an object of the slid heap, whose header the plan has, it saw nothing new of one
 abbrev pub NeedsNoPage : Setup → Pass → Pass → ℕ → Type 0
 NeedsNoPage u old new object = BuildsNothing old new × (IsPlace u.heap object → SeesNothingNew old new)
 
@@ -42,7 +42,7 @@ KnowsBuilt pass p = HasSeenBuilt pass p ⊎ ((offset : ℕ) × KnowsFresh pass p
 abbrev pub SeesFull : Pass → ℕ → Type 0
 SeesFull pass p = length (seen pass p) ≡ 1024
 
--- page p was not known to be built, and memory to build it was wanting
+-- page p was not known to be built, and memory to build it was wanting: the call saw nothing new of any page
 abbrev pub WantsPage : Pass → Pass → ℕ → Type 0
 WantsPage old new p = (KnowsBuilt old p → ⊥) × SeesNothingNew old new
 
@@ -50,7 +50,7 @@ WantsPage old new p = (KnowsBuilt old p → ⊥) × SeesNothingNew old new
 abbrev pub WantsMemory : Setup → Pass → Pass → Kind → ℕ → ℕ → Type 0
 WantsMemory u old new kind object field = (p : ℕ) × HasSlidFieldOn u kind object field p × WantsPage old new p × MayHaveBuilt p old new
 
--- the call met the page that it touches where another mutator was there first
+-- the call met the page that it touches where another mutator was there first, and saw nothing new of any page
 abbrev pub IsBusy : Setup → Pass → Pass → Kind → ℕ → ℕ → ℕ → Type 0
 IsBusy u old new kind object field p = Touches u new kind object field p × (lost old p < lost new p) × MayHaveBuilt p old new × SeesNothingNew old new
 
