@@ -19,6 +19,14 @@ use page_cells::taking::Taken;
 use page_plan::builder::Builder;
 use std::alloc::Global;
 
+/// The field that a call is about: of this object, the field of this kind and index.
+#[derive(Clone, Copy)]
+pub(crate) struct FieldName {
+    pub(crate) object: u64,
+    pub(crate) field: u16,
+    pub(crate) kind: Kind,
+}
+
 /// Where a field was found.
 #[derive(Clone, Copy)]
 pub(crate) enum Found {
@@ -35,11 +43,16 @@ pub(crate) struct Held {
 }
 
 /// The address of a field's word, where the object has such a field.
-fn field_place(header: Header, object: u64, field: u16, kind: Kind) -> Option<u64>
-    requires { object + size_of header < 2 ^ 64 }
-    ensures some { IfSome result (λ place. (field < count_of kind header) × (place ≡ place_of kind object header field)) }
-    ensures none { IfNone result (count_of kind header ≤ field) }
+fn field_place(header: Header, name: FieldName) -> Option<u64>
+    requires { name.object + size_of header < 2 ^ 64 }
+    ensures some { IfSome result (λ place. (name.field < count_of name.kind header) × (place ≡ place_of name.kind name.object header name.field)) }
+    ensures none { IfNone result (count_of name.kind header ≤ name.field) }
 {
+    let FieldName {
+        object,
+        field,
+        kind,
+    } = name;
     match kind {
         Kind::Reference if field < header.refs() => Some(object + 1 + u64::from(field)),
         Kind::Data if field < header.data_words() => {
@@ -53,23 +66,22 @@ fn field_place(header: Header, object: u64, field: u16, kind: Kind) -> Option<u6
 pub(crate) fn find<B: Builder>(
     cells: &Cells<B>,
     pass: &mut Pass,
-    object: u64,
-    field: u16,
-    kind: Kind,
+    name: FieldName,
 ) -> Result<Found, Refusal>
     requires { IsPassOf cells.now pass.old × Rests pass.old }
     ensures of { IsPassOf cells.now pass.new × Rests pass.new }
     ensures grows { Grows pass.old pass.new × WroteNothing pass.old pass.new }
     ensures builds { builds_of pass.new ≡ builds_of pass.old }
-    ensures found { IfOk result (IsFound (setup_of cells.now) pass.new kind object field) }
-    ensures refused { IfErr result (FieldRefused (setup_of cells.now) pass.old pass.new kind object field) }
+    ensures found { IfOk result (IsFound (setup_of cells.now) pass.new name.kind name.object name.field) }
+    ensures refused { IfErr result (FieldRefused (setup_of cells.now) pass.old pass.new name.kind name.object name.field) }
     ensures early { IfErr result IsEarly }
 {
+    let object = name.object;
     if object == 0 {
         return Err(Refusal::Null);
     }
     if let Some(header) = cells.compacted_header(object) {
-        return match field_place(header, object, field, kind) {
+        return match field_place(header, name) {
             Some(place) => Ok(Found::Slid(place)),
             None => Err(Refusal::NoSuchField),
         };
@@ -86,22 +98,20 @@ pub(crate) fn take_fresh<B: Builder>(
     alloc: Global,
     cells: &Cells<B>,
     pass: &mut Pass,
-    object: u64,
-    field: u16,
-    kind: Kind,
+    name: FieldName,
 ) -> Result<Held, Refusal>
     requires of { IsPassOf cells.now pass.old × Rests pass.old }
-    requires fresh { IsFreshObject (setup_of cells.now) pass.old object }
+    requires fresh { IsFreshObject (setup_of cells.now) pass.old name.object }
     ensures of { IsPassOf cells.now pass.new }
     ensures grows { Grows pass.old pass.new × (did pass.new ≡ did pass.old) }
     ensures builds { builds_of pass.new ≡ builds_of pass.old }
     ensures held { IfOk result (λ held. Has cells.now pass.new held.taken × (held.offset < 64)) }
-    ensures field { IfOk result (λ held. HoldsField (setup_of cells.now) pass.old pass.new kind object field (page_number held.taken) held.offset) }
-    ensures refused { IfErr result (λ refusal. Rests pass.new × FieldRefused (setup_of cells.now) pass.old pass.new kind object field refusal) }
+    ensures field { IfOk result (λ held. HoldsField (setup_of cells.now) pass.old pass.new name.kind name.object name.field (page_number held.taken) held.offset) }
+    ensures refused { IfErr result (λ refusal. Rests pass.new × FieldRefused (setup_of cells.now) pass.old pass.new name.kind name.object name.field refusal) }
 {
-    let taken = take(alloc, cells, pass, page_at(object))?;
-    let header = cells.held_header(pass, &taken, object);
-    match field_place(header, object, field, kind) {
+    let taken = take(alloc, cells, pass, page_at(name.object))?;
+    let header = cells.held_header(pass, &taken, name.object);
+    match field_place(header, name) {
         Some(place) => Ok(Held {
             taken,
             offset: offset_at(place),
@@ -118,18 +128,16 @@ pub(crate) fn take_found<B: Builder>(
     alloc: Global,
     cells: &Cells<B>,
     pass: &mut Pass,
-    object: u64,
-    field: u16,
-    kind: Kind,
+    name: FieldName,
     found: Found,
 ) -> Result<Held, Refusal>
     requires of { IsPassOf cells.now pass.old × Rests pass.old }
-    requires found { IsFound (setup_of cells.now) pass.old kind object field found }
+    requires found { IsFound (setup_of cells.now) pass.old name.kind name.object name.field found }
     ensures of { IsPassOf cells.now pass.new }
     ensures grows { Grows pass.old pass.new × (did pass.new ≡ did pass.old) }
     ensures held { IfOk result (λ held. Has cells.now pass.new held.taken × (held.offset < 64)) }
-    ensures field { IfOk result (λ held. HoldsField (setup_of cells.now) pass.old pass.new kind object field (page_number held.taken) held.offset) }
-    ensures refused { IfErr result (λ refusal. Rests pass.new × FieldRefused (setup_of cells.now) pass.old pass.new kind object field refusal) }
+    ensures field { IfOk result (λ held. HoldsField (setup_of cells.now) pass.old pass.new name.kind name.object name.field (page_number held.taken) held.offset) }
+    ensures refused { IfErr result (λ refusal. Rests pass.new × FieldRefused (setup_of cells.now) pass.old pass.new name.kind name.object name.field refusal) }
 {
     match found {
         Found::Slid(place) => {
@@ -139,7 +147,7 @@ pub(crate) fn take_found<B: Builder>(
                 offset: offset_at(place),
             })
         }
-        Found::Fresh => take_fresh(alloc, cells, pass, object, field, kind),
+        Found::Fresh => take_fresh(alloc, cells, pass, name),
     }
 }
 
@@ -148,17 +156,15 @@ pub(crate) fn hold<B: Builder>(
     alloc: Global,
     cells: &Cells<B>,
     pass: &mut Pass,
-    object: u64,
-    field: u16,
-    kind: Kind,
+    name: FieldName,
 ) -> Result<Held, Refusal>
     requires { IsPassOf cells.now pass.old × Rests pass.old }
     ensures of { IsPassOf cells.now pass.new }
     ensures grows { Grows pass.old pass.new × (did pass.new ≡ did pass.old) }
     ensures held { IfOk result (λ held. Has cells.now pass.new held.taken × (held.offset < 64)) }
-    ensures field { IfOk result (λ held. HoldsField (setup_of cells.now) pass.old pass.new kind object field (page_number held.taken) held.offset) }
-    ensures refused { IfErr result (λ refusal. Rests pass.new × FieldRefused (setup_of cells.now) pass.old pass.new kind object field refusal) }
+    ensures field { IfOk result (λ held. HoldsField (setup_of cells.now) pass.old pass.new name.kind name.object name.field (page_number held.taken) held.offset) }
+    ensures refused { IfErr result (λ refusal. Rests pass.new × FieldRefused (setup_of cells.now) pass.old pass.new name.kind name.object name.field refusal) }
 {
-    let found = find(cells, pass, object, field, kind)?;
-    take_found(alloc, cells, pass, object, field, kind, found)
+    let found = find(cells, pass, name)?;
+    take_found(alloc, cells, pass, name, found)
 }

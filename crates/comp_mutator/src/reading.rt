@@ -6,7 +6,7 @@ ghost use Rattle.page_cells.specs.Cells.{setup_of, IsPassOf};
 ghost use Rattle.page_cells.specs.Calls.{Grows};
 ghost use Rattle.comp_mutator.specs.Reads.{FieldRefused, MayBuildTouched, Reads};
 
-use crate::finding::{Held, hold};
+use crate::finding::{FieldName, Held, hold};
 use crate::refusal::Refusal;
 use cell_steps::pass::Pass;
 use heap_layout::kind::Kind;
@@ -30,7 +30,12 @@ pub(crate) fn try_read_ref<B: Builder>(
     ensures builds { OnOk result (MayBuildTouched (setup_of cells.now) pass.old pass.new kind.Reference object field) }
     ensures refused { IfErr result (FieldRefused (setup_of cells.now) pass.old pass.new kind.Reference object field) }
 {
-    let held = hold(alloc, cells, pass, object, field, Kind::Reference)?;
+    let name = FieldName {
+        object,
+        field,
+        kind: Kind::Reference,
+    };
+    let held = hold(alloc, cells, pass, name)?;
     let Held { taken, offset } = held;
     let word = cells.held_reference(pass, &taken, offset);
     cells.put_back(pass, taken);
@@ -52,7 +57,12 @@ pub(crate) fn try_read_data<B: Builder>(
     ensures builds { OnOk result (MayBuildTouched (setup_of cells.now) pass.old pass.new kind.Data object field) }
     ensures refused { IfErr result (FieldRefused (setup_of cells.now) pass.old pass.new kind.Data object field) }
 {
-    let held = hold(alloc, cells, pass, object, field, Kind::Data)?;
+    let name = FieldName {
+        object,
+        field,
+        kind: Kind::Data,
+    };
+    let held = hold(alloc, cells, pass, name)?;
     let Held { taken, offset } = held;
     let word = cells.held_word(pass, &taken, offset);
     cells.put_back(pass, taken);

@@ -14,7 +14,7 @@ ghost use Rattle.comp_mutator.specs.Copies.{PageTakesNone};
 ghost use Rattle.comp_mutator.specs.Reads.{FieldRefused, MayBuildTouched, NeedsNoPage};
 ghost use Rattle.comp_mutator.specs.Writes.{entry_by, Adds, DataRefused, ReferenceRefused, Writes};
 
-use crate::finding::{Found, Held, find, take_found, take_fresh};
+use crate::finding::{FieldName, Found, Held, find, take_found, take_fresh};
 use crate::refusal::Refusal;
 use cell_steps::pass::Pass;
 use comp_journal::refusal::JournalRefusal;
@@ -59,26 +59,24 @@ fn write_found<B: Builder>(
     alloc: Global,
     cells: &Cells<B>,
     pass: &mut Pass,
-    object: u64,
-    field: u16,
-    kind: Kind,
+    name: FieldName,
     found: Found,
     value: u64,
 ) -> Result<u64, Refusal>
     requires of { IsPassOf cells.now pass.old × Rests pass.old }
-    requires found { IsFound (setup_of cells.now) pass.old kind object field found }
-    requires kind { kind ≢ kinds.Header }
-    requires leads { kind ≡ kinds.Reference → MayRefer pass.old value }
+    requires found { IsFound (setup_of cells.now) pass.old name.kind name.object name.field found }
+    requires kind { name.kind ≢ kinds.Header }
+    requires leads { name.kind ≡ kinds.Reference → MayRefer pass.old value }
     ensures of { IsPassOf cells.now pass.new × Rests pass.new }
     ensures grows { Grows pass.old pass.new }
-    ensures wrote { IfOk result (Writes (setup_of cells.now) pass.old pass.new kind object field value) }
-    ensures builds { OnOk result (MayBuildTouched (setup_of cells.now) pass.old pass.new kind object field) }
+    ensures wrote { IfOk result (Writes (setup_of cells.now) pass.old pass.new name.kind name.object name.field value) }
+    ensures builds { OnOk result (MayBuildTouched (setup_of cells.now) pass.old pass.new name.kind name.object name.field) }
     ensures did { IfErr result (λ _. did pass.new ≡ did pass.old) }
-    ensures refused { IfErr result (DataRefused (setup_of cells.now) pass.old pass.new kind object field) }
+    ensures refused { IfErr result (DataRefused (setup_of cells.now) pass.old pass.new name.kind name.object name.field) }
 {
-    let held = take_found(alloc, cells, pass, object, field, kind, found)?;
+    let held = take_found(alloc, cells, pass, name, found)?;
     let Held { taken, offset } = held;
-    write_taken(cells, pass, taken, kind, offset, value)
+    write_taken(cells, pass, taken, name.kind, offset, value)
 }
 
 /// Writes a data field, and answers the entry's stamp.
@@ -98,8 +96,13 @@ pub(crate) fn try_write_data<B: Builder>(
     ensures did { IfErr result (λ _. did pass.new ≡ did pass.old) }
     ensures refused { IfErr result (DataRefused (setup_of cells.now) pass.old pass.new kinds.Data object field) }
 {
-    let found = find(cells, pass, object, field, Kind::Data)?;
-    write_found(alloc, cells, pass, object, field, Kind::Data, found, value)
+    let name = FieldName {
+        object,
+        field,
+        kind: Kind::Data,
+    };
+    let found = find(cells, pass, name)?;
+    write_found(alloc, cells, pass, name, found, value)
 }
 
 /// Whether a reference may be written: null, or a start that the pass then knows.
@@ -118,21 +121,19 @@ fn check_found<B: Builder>(
     alloc: Global,
     cells: &Cells<B>,
     pass: &mut Pass,
-    object: u64,
-    field: u16,
-    kind: Kind,
+    name: FieldName,
     found: Found,
 ) -> Result<(), Refusal>
     requires of { IsPassOf cells.now pass.old × Rests pass.old }
-    requires found { IsFound (setup_of cells.now) pass.old kind object field found }
+    requires found { IsFound (setup_of cells.now) pass.old name.kind name.object name.field found }
     ensures of { IsPassOf cells.now pass.new × Rests pass.new }
     ensures grows { Grows pass.old pass.new × (did pass.new ≡ did pass.old) }
-    ensures there { OnOk result (((p : ℕ) × KnowsFieldOn (setup_of cells.now) pass.new kind object field p) × NeedsNoPage (setup_of cells.now) pass.old pass.new object) }
-    ensures refused { IfErr result (FieldRefused (setup_of cells.now) pass.old pass.new kind object field) }
-    ensures apart { OnErr result (IsPlace (setup_of cells.now).heap object → ⊥) }
+    ensures there { OnOk result (((p : ℕ) × KnowsFieldOn (setup_of cells.now) pass.new name.kind name.object name.field p) × NeedsNoPage (setup_of cells.now) pass.old pass.new name.object) }
+    ensures refused { IfErr result (FieldRefused (setup_of cells.now) pass.old pass.new name.kind name.object name.field) }
+    ensures apart { OnErr result (IsPlace (setup_of cells.now).heap name.object → ⊥) }
 {
     if let Found::Fresh = found {
-        let Held { taken, offset: _ } = take_fresh(alloc, cells, pass, object, field, kind)?;
+        let Held { taken, offset: _ } = take_fresh(alloc, cells, pass, name)?;
         cells.put_back(pass, taken);
     }
     Ok(())
@@ -155,19 +156,15 @@ pub(crate) fn try_write_ref<B: Builder>(
     ensures did { IfErr result (λ _. did pass.new ≡ did pass.old) }
     ensures refused { IfErr result (ReferenceRefused (setup_of cells.now) pass.old pass.new kinds.Reference object field value) }
 {
-    let found = find(cells, pass, object, field, Kind::Reference)?;
-    if !may_store(cells, pass, value) {
-        check_found(alloc, cells, pass, object, field, Kind::Reference, found)?;
-        return Err(Refusal::NotAStart(value));
-    }
-    write_found(
-        alloc,
-        cells,
-        pass,
+    let name = FieldName {
         object,
         field,
-        Kind::Reference,
-        found,
-        value,
-    )
+        kind: Kind::Reference,
+    };
+    let found = find(cells, pass, name)?;
+    if !may_store(cells, pass, value) {
+        check_found(alloc, cells, pass, name, found)?;
+        return Err(Refusal::NotAStart(value));
+    }
+    write_found(alloc, cells, pass, name, found, value)
 }

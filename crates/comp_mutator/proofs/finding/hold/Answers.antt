@@ -15,5 +15,5 @@ returns-clause-refused g c =
     let first = c.find.ensures in
     let knows = knows_more _ _ old c.find.new.pass c.requires.0 first.of.0 first.grows.0 in
     IfErr-weaker c.take_found.result _ _
-    (λ e h. (h.0, refused_after (setup_of c.args.cells.now) c.args.kind c.args.object c.args.field old c.find.new.pass c.take_found.new.pass first.grows.0 first.builds first.grows.1.seen knows e h.1))
+    (λ e h. (h.0, refused_after (setup_of c.args.cells.now) c.args.name.kind c.args.name.object c.args.name.field old c.find.new.pass c.take_found.new.pass first.grows.0 first.builds first.grows.1.seen knows e h.1))
     c.take_found.ensures.refused

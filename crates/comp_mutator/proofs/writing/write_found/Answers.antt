@@ -23,11 +23,11 @@ returns-clause-wrote g c =
     let middle = c.take_found.new.pass in
     let new = c.write_taken.new.pass in
     let u = setup_of c.args.cells.now in
-    let kind = c.args.kind in
+    let kind = c.args.name.kind in
     let value = c.args.value in
     let held = c.in_ok-held.ensures.field in
     let grows = c.take_found.ensures.grows in
-    let field = field_more u middle new c.write_taken.ensures.grows.0 kind c.args.object c.args.field held.place held.field_of in
+    let field = field_more u middle new c.write_taken.ensures.grows.0 kind c.args.name.object c.args.name.field held.place held.field_of in
     IfOk-weaker c.write_taken.result _ _
     (λ stamp adds. record {
       place = held.place;
@@ -44,15 +44,15 @@ returns-clause-builds g c =
     let grows = c.write_taken.ensures.grows in
     let new = c.write_taken.new.pass in
     let p = c.in_ok-held.held.taken.number in
-    ok_anyway c.write_taken.result (MayBuildTouched u c.args.pass.now new c.args.kind c.args.object c.args.field)
-    (p, touches_more u c.take_found.new.pass new grows.0 c.args.kind c.args.object c.args.field p held.touched, built_before c.args.pass.now c.take_found.new.pass new p held.builds grows.1)
+    ok_anyway c.write_taken.result (MayBuildTouched u c.args.pass.now new c.args.name.kind c.args.name.object c.args.name.field)
+    (p, touches_more u c.take_found.new.pass new grows.0 c.args.name.kind c.args.name.object c.args.name.field p held.touched, built_before c.args.pass.now c.take_found.new.pass new p held.builds grows.1)
 
 pub returns-clause-refused : goal.returns-clause-refused
 returns-clause-refused g c =
     let u = setup_of c.args.cells.now in
-    let kind = c.args.kind in
-    let object = c.args.object in
-    let field = c.args.field in
+    let kind = c.args.name.kind in
+    let object = c.args.name.object in
+    let field = c.args.name.field in
     let old = c.args.pass.now in
     let middle = c.take_found.new.pass in
     let new = c.write_taken.new.pass in
