@@ -8,10 +8,12 @@ use comp_mutator::pages::{PageCopy, Touched};
 use comp_mutator::refusal::Refusal;
 use comp_mutator::space::Space;
 use page_plan::builder::Builder;
+use page_plan::plan::Plan;
 use std::alloc::Global;
 use std::process::Abort;
 use std::sync::Arc;
 use std::test::Fail;
+use worked_heaps::heaps::{planned, three};
 
 /// A flipped heap with one mutator.
 pub fn one<B: Builder>(
@@ -53,6 +55,29 @@ pub fn two<B: Builder>(
     let second = mutators.pop().expect(rt, "the second mutator");
     let first = mutators.pop().expect(rt, "the first mutator");
     Ok((space, first, second))
+}
+
+/// The three objects, flipped with one mutator.
+pub fn one_of_three(
+    rt: &impl Abort,
+    alloc: Global,
+    fresh_pages: u32,
+) -> Result<(Space<Plan>, Mutator), Fail>
+    ensures of { IfOk result (λ made. IsMutatorOf made.0 made.1) }
+{
+    one(rt, alloc, planned(alloc, three(alloc)?)?, fresh_pages)
+}
+
+/// The three objects, flipped with two mutators.
+pub fn two_of_three(
+    rt: &impl Abort,
+    alloc: Global,
+    fresh_pages: u32,
+) -> Result<(Space<Plan>, Mutator, Mutator), Fail>
+    ensures first { IfOk result (λ made. IsMutatorOf made.0 made.1) }
+    ensures second { IfOk result (λ made. IsMutatorOf made.0 made.2) }
+{
+    two(rt, alloc, planned(alloc, three(alloc)?)?, fresh_pages)
 }
 
 /// Reads a reference field.

@@ -2,7 +2,8 @@
 ghost use Rattle.comp_mutator.specs.Mutators.{IsMutatorOf};
 
 use crate::flipped::{
-    allocate, copy, one, one_shared, read_data, read_ref, touch, two, write_data, write_ref,
+    allocate, copy, one, one_of_three, one_shared, read_data, read_ref, touch, two_of_three,
+    write_data, write_ref,
 };
 use comp_journal::entry::Entry;
 use comp_mutator::flipping::flip;
@@ -30,6 +31,24 @@ fn expect_words(rt: &impl Abort, page: &PageCopy, begin: &[u64]) {
 // The mutator has built these pages, in this order.
 fn expect_builds(rt: &impl Abort, m: &Mutator, pages: &[u64]) {
     assert_eq!(rt; m.builds(), pages);
+}
+
+// Page `p`, which is there, begins with these words, and all others are 0; nothing was written into it.
+fn expect_unwritten<B: Builder>(
+    rt: &impl Abort,
+    alloc: Global,
+    space: &Space<B>,
+    m: &mut Mutator,
+    p: u64,
+    begin: &[u64],
+) -> Result<(), Fail>
+    requires of { IsMutatorOf space.now m.old }
+    ensures of { IsMutatorOf space.now m.new }
+{
+    let page = copy(rt, alloc, space, m, p)?;
+    expect_words(rt, &page, begin);
+    assert_eq!(rt; page.journal.len(), 0);
+    Ok(())
 }
 
 // A touch of page `p`, which is there, is answered so.
@@ -141,10 +160,7 @@ fn touches_a_page(rt: HostRuntime) -> Result<(), Fail> {
     assert_eq!(rt; space.roots().len(), 1);
     expect_touch(&rt, alloc, &space, &mut m, 0, Ok(Touched::Built));
     expect_touch(&rt, alloc, &space, &mut m, 0, Ok(Touched::AlreadyBuilt));
-    let page = copy(&rt, alloc, &space, &mut m, 0)?;
-    expect_words(&rt, &page, &[30_064_771_072]);
-    assert_eq!(rt; page.journal.len(), 0);
-    Ok(())
+    expect_unwritten(&rt, alloc, &space, &mut m, 0, &[30_064_771_072])
 }
 
 #[test]
@@ -174,8 +190,7 @@ fn touches_the_last_page_first(rt: HostRuntime) -> Result<(), Fail> {
     assert_eq!(rt; space.pages(), 17);
     expect_touch(&rt, alloc, &space, &mut m, 16, Ok(Touched::Built));
     expect_builds(&rt, &m, &[16]);
-    let page = copy(&rt, alloc, &space, &mut m, 16)?;
-    expect_words(&rt, &page, &[1023]);
+    expect_unwritten(&rt, alloc, &space, &mut m, 16, &[1023])?;
     expect_builds(&rt, &m, &[16]);
     Ok(())
 }
@@ -183,32 +198,40 @@ fn touches_the_last_page_first(rt: HostRuntime) -> Result<(), Fail> {
 #[test]
 fn writes_data_like_an_address(rt: HostRuntime) -> Result<(), Fail> {
     let alloc = rt.alloc();
-    let (space, mut m) = one(&rt, alloc, planned(alloc, three(alloc)?)?, 0)?;
+    let (space, mut m) = one_of_three(&rt, alloc, 0)?;
     let stamp = write_data(alloc, &space, &mut m, T, 0, 4_294_967_296);
     assert_eq!(rt; stamp, Ok(0));
     expect_data(&rt, alloc, &space, &mut m, T, 0, Ok(4_294_967_296));
     Ok(())
 }
 
+// Where the second slid object starts.
+const SECOND: u64 = T + 2;
+
+// A data word of the first one.
+const INNER: u64 = T + 1;
+
+// Where the first fresh page begins.
+const FRESH: u64 = T + 64;
+
 #[test]
 fn refuses_what_is_no_start(rt: HostRuntime) -> Result<(), Fail> {
     let alloc = rt.alloc();
-    let (space, mut m) = one(&rt, alloc, planned(alloc, three(alloc)?)?, 1)?;
+    let (space, mut m) = one_of_three(&rt, alloc, 1)?;
     assert_eq!(rt;
-        write_ref(alloc, &space, &mut m, T + 2, 0, T + 1),
+        write_ref(alloc, &space, &mut m, SECOND, 0, INNER),
         Err(Refusal::NotAStart(8_589_934_593))
     );
     expect_data(&rt, alloc, &space, &mut m, 0, 0, Err(Refusal::Null));
     let answer = Err(Refusal::NotAStart(4_294_967_296));
     expect_data(&rt, alloc, &space, &mut m, F, 0, answer);
     let answer = Err(Refusal::NotAStart(8_589_934_656));
-    expect_data(&rt, alloc, &space, &mut m, T + 64, 0, answer);
+    expect_data(&rt, alloc, &space, &mut m, FRESH, 0, answer);
     let answer = Err(Refusal::NotAStart(u64::MAX));
     expect_data(&rt, alloc, &space, &mut m, u64::MAX, 0, answer);
     expect_builds(&rt, &m, &[]);
-    let page = copy(&rt, alloc, &space, &mut m, 0)?;
-    assert_eq!(rt; page.journal.len(), 0);
-    Ok(())
+    let begin = [4_295_032_832, 11, 12_884_901_889, 8_589_934_592];
+    expect_unwritten(&rt, alloc, &space, &mut m, 0, &begin)
 }
 
 #[test]
@@ -238,7 +261,7 @@ fn fills_fresh_pages(rt: HostRuntime) -> Result<(), Fail> {
 #[test]
 fn fills_a_journal(rt: HostRuntime) -> Result<(), Fail> {
     let alloc = rt.alloc();
-    let (space, mut m) = one(&rt, alloc, planned(alloc, three(alloc)?)?, 0)?;
+    let (space, mut m) = one_of_three(&rt, alloc, 0)?;
     for value in 0..1024 {
         assert_eq!(rt; write_data(alloc, &space, &mut m, T, 0, value), Ok(value));
     }
@@ -285,7 +308,7 @@ fn read_and_clear<B: Builder>(rt: &impl Abort, alloc: Global, space: &Space<B>, 
 #[test]
 fn writes_and_allocates(rt: HostRuntime) -> Result<(), Fail> {
     let alloc = rt.alloc();
-    let (space, mut m0, mut m1) = two(&rt, alloc, planned(alloc, three(alloc)?)?, 2)?;
+    let (space, mut m0, mut m1) = two_of_three(&rt, alloc, 2)?;
     link_two(&rt, alloc, &space, &mut m0);
     read_and_clear(&rt, alloc, &space, &mut m1);
     let page = copy(&rt, alloc, &space, &mut m0, 1)?;

@@ -2,7 +2,7 @@
 ghost use Rattle.std.specs.Prelude.{◌≡◌, IfOk};
 ghost use Rattle.comp_mutator.specs.Mutators.{IsMutatorOf};
 
-use crate::flipped::{copy, one, read_data, touch, two};
+use crate::flipped::{copy, one_of_three, read_data, touch, two, two_of_three};
 use comp_journal::entry::Entry;
 use comp_mutator::mutator::Mutator;
 use comp_mutator::pages::{PageCopy, Touched};
@@ -16,7 +16,7 @@ use std::sync::Wait;
 use std::test::Fail;
 use std::thread;
 use worked_heaps::builders::Meeting;
-use worked_heaps::heaps::{T, counting_heap, planned, three};
+use worked_heaps::heaps::{T, counting_heap, planned};
 
 // Writes 7 into the first data word of the first object, and reads it.
 fn write_seven<B: Builder>(
@@ -34,7 +34,7 @@ fn write_seven<B: Builder>(
 #[test]
 fn reads_what_another_thread_wrote(rt: HostRuntime) -> Result<(), Fail> {
     let alloc = rt.alloc();
-    let (space, mut m0, mut m1) = two(&rt, alloc, planned(alloc, three(alloc)?)?, 2)?;
+    let (space, mut m0, mut m1) = two_of_three(&rt, alloc, 2)?;
     let ((stamp, word), _) = thread::join(&rt, || write_seven(alloc, &space, &mut m0), || ());
     assert_eq!(rt; stamp, Ok(0));
     assert_eq!(rt; word, Ok(7));
@@ -59,7 +59,7 @@ fn expect_seven(rt: &impl Abort, page: &PageCopy) {
 #[test]
 fn builds_once_in_a_race(rt: HostRuntime) -> Result<(), Fail> {
     let alloc = rt.alloc();
-    let (space, mut m0, mut m1) = two(&rt, alloc, planned(alloc, three(alloc)?)?, 0)?;
+    let (space, mut m0, mut m1) = two_of_three(&rt, alloc, 0)?;
     let (one, other) = thread::join(
         &rt,
         || touch(&rt, alloc, &space, &mut m0, 0),
@@ -157,7 +157,7 @@ fn expect_rising(rt: &impl Abort, journal: &[Entry], writer: u8, first: u64) {
 #[test]
 fn writes_one_page_by_turns(rt: HostRuntime) -> Result<(), Fail> {
     let alloc = rt.alloc();
-    let (space, m0, m1) = two(&rt, alloc, planned(alloc, three(alloc)?)?, 0)?;
+    let (space, m0, m1) = two_of_three(&rt, alloc, 0)?;
     let ((one, mut m0), (other, _m1)) = thread::join(
         &rt,
         || write_rising(&rt, alloc, &space, m0, 0),
@@ -228,7 +228,7 @@ fn fill_at_last<B: Builder, R: Abort + Wait>(
 #[test]
 fn answers_at_once_when_no_page_is_busy(rt: HostRuntime) -> Result<(), Fail> {
     let alloc = rt.alloc();
-    let (space, mut m) = one(&rt, alloc, planned(alloc, three(alloc)?)?, 1)?;
+    let (space, mut m) = one_of_three(&rt, alloc, 1)?;
     let touched = touch_at_last(&rt, alloc, &space, &mut m, 0);
     assert_eq!(rt; touched, Ok(Touched::Built));
     let touched = touch_at_last(&rt, alloc, &space, &mut m, 0);

@@ -12,6 +12,9 @@ use worked_heaps::heaps::{F, T, counting_heap, empty, planned, seventeen_pages, 
 // The words of the three objects once they have slid: the one page begins with them.
 const SLID_THREE: [u64; 4] = [4_295_032_832, 11, 12_884_901_889, 8_589_934_592];
 
+// The address of the last of the three objects.
+const LAST: u64 = F + 5;
+
 // References in the heap of the three objects that name no marked object.
 const NO_OBJECTS: [u64; 7] = [F + 1, F + 2, F + 6, F + 7, 1, T, u64::MAX];
 
@@ -49,10 +52,10 @@ fn built(rt: &(impl Abort + AllocGlobal), heap: MarkedHeap, p: u64) -> Result<Pa
 fn slides_a_gap_shut(rt: HostRuntime) -> Result<(), Fail> {
     let plan = planned(rt.alloc(), three(rt.alloc())?)?;
     expect_counts(&rt, &plan, 4, 1);
-    expect_forward(&rt, &plan, F + 5, Some(8_589_934_594));
+    expect_forward(&rt, &plan, LAST, Some(8_589_934_594));
     expect_forward(&rt, &plan, F, Some(T));
     expect_forward(&rt, &plan, 0, Some(0));
-    for reference in NO_OBJECTS {
+    for &reference in &NO_OBJECTS {
         expect_forward(&rt, &plan, reference, None);
     }
     expect_page(&rt, &built(&rt, three(rt.alloc())?, 0)?, &SLID_THREE);

@@ -77,6 +77,18 @@ fn expect_shape(rt: &impl Abort, plan: &Plan, address: u64, header: Option<Heade
     assert_eq!(rt; plan.shape_at(address), header, "at {address}");
 }
 
+// The last object of `step`.
+const LAST: u64 = F + 50;
+
+// A word of it.
+const INNER: u64 = F + 51;
+
+// The object before it.
+const UNMARKED: u64 = F + 40;
+
+// Where the last object starts once it has slid.
+const SLID_LAST: u64 = T + 40;
+
 // Addresses at which no object starts once the three objects of `step` have slid.
 const NO_STARTS: [u64; 7] = [0, F, T + 1, T + 39, T + 41, T + 81, u64::MAX];
 
@@ -84,16 +96,16 @@ const NO_STARTS: [u64; 7] = [0, F, T + 1, T + 39, T + 41, T + 81, u64::MAX];
 fn tells_first_objects(rt: HostRuntime) -> Result<(), Fail> {
     let plan = planned(rt.alloc(), step(rt.alloc())?)?;
     expect_counts(&rt, &plan, 81, 2);
-    for (p, first) in [(0, Some(0)), (1, Some(50)), (2, None), (u64::MAX, None)] {
+    for &(p, first) in &[(0, Some(0)), (1, Some(50)), (2, None), (u64::MAX, None)] {
         expect_first_object(&rt, &plan, p, first);
     }
-    expect_forward(&rt, &plan, F + 50, Some(8_589_934_632));
-    expect_forward(&rt, &plan, F + 40, None);
-    expect_forward(&rt, &plan, F + 51, None);
+    expect_forward(&rt, &plan, LAST, Some(8_589_934_632));
+    expect_forward(&rt, &plan, UNMARKED, None);
+    expect_forward(&rt, &plan, INNER, None);
     expect_forward(&rt, &plan, 0, Some(0));
     expect_shape(&rt, &plan, T, Some(Header::new(0, 39, 0)));
-    expect_shape(&rt, &plan, T + 40, Some(Header::new(1, 39, 0)));
-    for address in NO_STARTS {
+    expect_shape(&rt, &plan, SLID_LAST, Some(Header::new(1, 39, 0)));
+    for &address in &NO_STARTS {
         expect_shape(&rt, &plan, address, None);
     }
     Ok(())
