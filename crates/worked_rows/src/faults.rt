@@ -1,11 +1,12 @@
 //! Why heaps are refused.
-use crate::heaps::{F, THREE, judged};
 use heap_layout::fault::LayoutFault;
+use std::process::Abort;
 use std::test::Fail;
+use worked_heaps::heaps::{F, THREE, judged};
 
 // The first fault of a heap, where it has one.
 fn fault(
-    rt: &HostRuntime,
+    rt: &impl AllocGlobal,
     words: &[u64],
     marks: &[u32],
     roots: &[u64],
@@ -13,48 +14,50 @@ fn fault(
     Ok(judged(rt.alloc(), words, marks, roots)?.err())
 }
 
-#[test]
-fn names_the_first_fault(rt: HostRuntime) -> Result<(), Fail> {
-    let root = [F + 5];
-    let inner = {
-        let mut words = THREE;
-        words[6] = F + 2;
-        words
-    };
-    assert_eq!(rt; fault(&rt, &THREE, &[0, 5], &root)?, None);
+// That is the first fault of the heap of the three objects with these marks and this root.
+fn expect_fault(
+    rt: &(impl Abort + AllocGlobal),
+    marks: &[u32],
+    root: u64,
+    wanted: Option<LayoutFault>,
+) -> Result<(), Fail> {
+    assert_eq!(rt; fault(rt, &THREE, marks, &[root])?, wanted);
+    Ok(())
+}
+
+// That is the first fault of a heap of these words, without marks and roots.
+fn expect_fault_of_words(
+    rt: &(impl Abort + AllocGlobal),
+    words: &[u64],
+    wanted: Option<LayoutFault>,
+) -> Result<(), Fail> {
+    assert_eq!(rt; fault(rt, words, &[], &[])?, wanted);
+    Ok(())
+}
+
+// The three objects, whose last refers to the one that is not marked.
+fn expect_fault_of_inner(rt: &(impl Abort + AllocGlobal)) -> Result<(), Fail> {
+    let mut words = THREE;
+    words[6] = F + 2;
     assert_eq!(rt;
-        fault(&rt, &THREE, &[0, 5], &[F + 1])?,
-        Some(LayoutFault::BadRoot(0))
-    );
-    assert_eq!(rt;
-        fault(&rt, &inner, &[0, 5], &root)?,
+        fault(rt, &words, &[0, 5], &[F + 5])?,
         Some(LayoutFault::UnmarkedTarget(6))
     );
-    assert_eq!(rt;
-        fault(&rt, &THREE, &[0, 1], &root)?,
-        Some(LayoutFault::MarkNotStart(1))
-    );
-    assert_eq!(rt;
-        fault(&rt, &THREE, &[0, 7], &root)?,
-        Some(LayoutFault::MarkNotStart(7))
-    );
-    assert_eq!(rt;
-        fault(&rt, &THREE, &[5, 0], &root)?,
-        Some(LayoutFault::MarksNotRising(0))
-    );
-    assert_eq!(rt;
-        fault(&rt, &THREE, &[5, 5], &root)?,
-        Some(LayoutFault::MarksNotRising(5))
-    );
-    assert_eq!(rt;
-        fault(&rt, &[67_108_864], &[], &[])?,
-        Some(LayoutFault::ObjectTooLong(0))
-    );
-    assert_eq!(rt;
-        fault(&rt, &[65_536], &[], &[])?,
-        Some(LayoutFault::ObjectPastEnd(0))
-    );
-    assert_eq!(rt; fault(&rt, &[], &[], &[])?, None);
+    Ok(())
+}
+
+#[test]
+fn names_the_first_fault(rt: HostRuntime) -> Result<(), Fail> {
+    expect_fault(&rt, &[0, 5], F + 5, None)?;
+    expect_fault(&rt, &[0, 5], F + 1, Some(LayoutFault::BadRoot(0)))?;
+    expect_fault_of_inner(&rt)?;
+    expect_fault(&rt, &[0, 1], F + 5, Some(LayoutFault::MarkNotStart(1)))?;
+    expect_fault(&rt, &[0, 7], F + 5, Some(LayoutFault::MarkNotStart(7)))?;
+    expect_fault(&rt, &[5, 0], F + 5, Some(LayoutFault::MarksNotRising(0)))?;
+    expect_fault(&rt, &[5, 5], F + 5, Some(LayoutFault::MarksNotRising(5)))?;
+    expect_fault_of_words(&rt, &[67_108_864], Some(LayoutFault::ObjectTooLong(0)))?;
+    expect_fault_of_words(&rt, &[65_536], Some(LayoutFault::ObjectPastEnd(0)))?;
+    expect_fault_of_words(&rt, &[], None)?;
     Ok(())
 }
 

@@ -1,15 +1,48 @@
 //! Images: read whole, cut, changed, and from readers that fail.
-use crate::heaps::{F, THREE, image, three_image};
 use crate::readers::Pieces;
 use heap_layout::counted::Counted;
 use heap_layout::fault::LayoutFault;
 use heap_layout::heap::MarkedHeap;
 use heap_layout::image::read_image;
+use std::alloc::{AllocError, Global};
 use std::io::ErrorKind;
+use std::process::Abort;
 use std::test::Fail;
+use worked_heaps::heaps::{F, THREE};
+
+// An image, field by field.
+fn image(
+    alloc: Global,
+    version: u32,
+    words: &[u64],
+    marks: &[u32],
+    roots: &[u64],
+) -> Result<Vec<u8>, AllocError> {
+    let mut bytes = b"COMPHEAP".to_vec(alloc)?;
+    bytes.extend_from_slice(&version.to_le_bytes())?;
+    for count in [words.len(), marks.len(), roots.len()] {
+        let count = u32::try_from(count).unwrap_or(u32::MAX);
+        bytes.extend_from_slice(&count.to_le_bytes())?;
+    }
+    for word in words {
+        bytes.extend_from_slice(&word.to_le_bytes())?;
+    }
+    for mark in marks {
+        bytes.extend_from_slice(&mark.to_le_bytes())?;
+    }
+    for root in roots {
+        bytes.extend_from_slice(&root.to_le_bytes())?;
+    }
+    Ok(bytes)
+}
+
+// The image of the three objects: 96 bytes.
+fn three_image(alloc: Global) -> Result<Vec<u8>, AllocError> {
+    image(alloc, 1, &THREE, &[0, 5], &[F + 5])
+}
 
 // What an image is read as.
-fn read(rt: &HostRuntime, bytes: &[u8]) -> Result<MarkedHeap, LayoutFault> {
+fn read(rt: &impl AllocGlobal, bytes: &[u8]) -> Result<MarkedHeap, LayoutFault> {
     read_image(rt.alloc(), &mut Counted::new(bytes))
 }
 
@@ -34,52 +67,93 @@ fn reads_an_image(rt: HostRuntime) -> Result<(), Fail> {
     Ok(())
 }
 
-#[test]
-fn refuses_what_is_no_image(rt: HostRuntime) -> Result<(), Fail> {
-    let alloc = rt.alloc();
-    let bytes = three_image(alloc)?;
+// Whatever comes before the image's end is cut short.
+fn expect_truncated(rt: &(impl Abort + AllocGlobal), bytes: &[u8]) {
     for n in 0..bytes.len() {
         assert_eq!(rt;
-            read(&rt, &bytes[..n]).err(),
+            read(rt, &bytes[..n]).err(),
             Some(LayoutFault::Truncated),
             "first {n}"
         );
     }
+}
+
+// The beginning of an image that has more words than any heap.
+fn huge(alloc: Global) -> Result<Vec<u8>, AllocError> {
+    let counts = [1, 0, 0, 0, 255, 255, 255, 255, 0, 0, 0, 0, 0, 0, 0, 0];
+    let mut bytes = b"COMPHEAP".to_vec(alloc)?;
+    bytes.extend_from_slice(&counts)?;
+    Ok(bytes)
+}
+
+#[test]
+fn refuses_what_is_no_image(rt: HostRuntime) -> Result<(), Fail> {
+    let alloc = rt.alloc();
+    let bytes = three_image(alloc)?;
+    expect_truncated(&rt, &bytes);
     let mut longer = bytes.clone()?;
     longer.push(0)?;
     assert_eq!(rt; read(&rt, &longer).err(), Some(LayoutFault::TrailingBytes));
     let newer = image(alloc, 2, &THREE, &[0, 5], &[F + 5])?;
     assert_eq!(rt; read(&rt, &newer).err(), Some(LayoutFault::BadMagic));
-    let counts = [1, 0, 0, 0, 255, 255, 255, 255, 0, 0, 0, 0, 0, 0, 0, 0];
-    let mut huge = b"COMPHEAP".to_vec(alloc)?;
-    huge.extend_from_slice(&counts)?;
-    assert_eq!(rt; read(&rt, &huge).err(), Some(LayoutFault::TooLarge));
+    assert_eq!(rt; read(&rt, &huge(alloc)?).err(), Some(LayoutFault::TooLarge));
+    Ok(())
+}
+
+// An image of the three objects with this value at a byte, where `right` stood, is refused, or is the image of the heap that is read.
+fn expect_judged(
+    rt: &(impl Abort + AllocGlobal),
+    bytes: &Vec<u8>,
+    at: usize,
+    value: u8,
+    right: u8,
+) -> Result<(), Fail> {
+    match read(rt, bytes) {
+        Ok(heap) => {
+            let again = image(rt.alloc(), 1, heap.words(), heap.marks(), heap.roots())?;
+            assert!(rt; again == *bytes, "byte {at} as {value}");
+        }
+        Err(fault) => {
+            assert!(rt; value != right, "byte {at} as {value}");
+            assert!(rt; fault != LayoutFault::OutOfMemory && fault != LayoutFault::Device);
+            assert!(rt; at >= 12 || fault == LayoutFault::BadMagic);
+        }
+    }
     Ok(())
 }
 
 #[test]
 fn takes_no_other_bytes_for_a_heap(rt: HostRuntime) -> Result<(), Fail> {
-    let alloc = rt.alloc();
-    let mut bytes = three_image(alloc)?;
+    let mut bytes = three_image(rt.alloc())?;
     for at in 0..bytes.len() {
         let right = bytes[at];
         for value in 0..=255u8 {
             bytes[at] = value;
-            match read(&rt, &bytes) {
-                Ok(heap) => {
-                    let again = image(alloc, 1, heap.words(), heap.marks(), heap.roots())?;
-                    assert!(rt; again == bytes, "byte {at} as {value}");
-                }
-                Err(fault) => {
-                    assert!(rt; value != right, "byte {at} as {value}");
-                    assert!(rt; fault != LayoutFault::OutOfMemory && fault != LayoutFault::Device);
-                    assert!(rt; at >= 12 || fault == LayoutFault::BadMagic);
-                }
-            }
+            expect_judged(&rt, &bytes, at, value, right)?;
         }
         bytes[at] = right;
     }
     Ok(())
+}
+
+// The image of the three objects is read whole, or a call of the reader fails, and that is what is told.
+fn expect_three_or_device(
+    rt: &(impl Abort + AllocGlobal),
+    bytes: &[u8],
+    piece: usize,
+    failing: (u64, ErrorKind),
+) {
+    let mut reader = Counted::new(Pieces::new(bytes, piece, Some(failing)));
+    match read_image(rt.alloc(), &mut reader) {
+        Ok(heap) => {
+            assert!(rt; is_three(&heap));
+            assert_eq!(rt; reader.failures(), 0);
+        }
+        Err(fault) => {
+            assert_eq!(rt; fault, LayoutFault::Device);
+            assert_eq!(rt; reader.failures(), 1);
+        }
+    }
 }
 
 #[test]
@@ -88,17 +162,7 @@ fn tells_of_each_failing_call(rt: HostRuntime) -> Result<(), Fail> {
     for piece in [1usize, 8, 96] {
         for kind in [ErrorKind::Other, ErrorKind::Interrupted] {
             for call in 0..200 {
-                let mut reader = Counted::new(Pieces::new(&bytes, piece, Some((call, kind))));
-                match read_image(rt.alloc(), &mut reader) {
-                    Ok(heap) => {
-                        assert!(rt; is_three(&heap));
-                        assert_eq!(rt; reader.failures(), 0);
-                    }
-                    Err(fault) => {
-                        assert_eq!(rt; fault, LayoutFault::Device);
-                        assert_eq!(rt; reader.failures(), 1);
-                    }
-                }
+                expect_three_or_device(&rt, &bytes, piece, (call, kind));
             }
         }
     }

@@ -1,54 +1,46 @@
 //! Where live words go, by the tables and by a plain walk.
-use crate::heaps::{F, T, counting_object, heap, three};
+use crate::larger_heaps::{across_blocks, every_second, scattered, step};
+use crate::pages::{expect_counts, expect_forward, page_of};
 use crate::plain_walk;
 use heap_layout::header::Header;
 use heap_layout::heap::MarkedHeap;
+use heap_layout::page_words::PageWords;
 use mark_tables::tables::Tables;
 use page_plan::plan::Plan;
-use std::alloc::{AllocError, Global};
 use std::process::Abort;
 use std::test::Fail;
+use worked_heaps::heaps::{F, T, counting_heap, counting_object, empty, heap, planned, three};
 
-// Adds an object without references, whose data words are zeros.
-fn push_object(words: &mut Vec<u64>, header: Header, data_words: u32) -> Result<(), AllocError> {
-    words.push(header.word())?;
-    for _ in 0..data_words {
-        words.push(0)?;
+// The tables of a heap say where each of these words goes, and which are live.
+fn expect_places(
+    rt: &(impl Abort + AllocGlobal),
+    heap: &MarkedHeap,
+    places: &[(u64, Option<u64>)],
+) -> Result<(), Fail> {
+    let tables = Tables::build(rt.alloc(), heap)?;
+    for &(i, place) in places {
+        assert_eq!(rt; tables.new_place(i), place, "of {i}");
+        assert_eq!(rt; tables.is_live(i), place.is_some(), "of {i}");
     }
     Ok(())
 }
 
-// Three objects of 40, 10 and 41 words, of which the first and the last are marked; the last refers to itself, and its data counts from 1.
-fn step(alloc: Global) -> Result<MarkedHeap, Fail> {
-    let mut words = Vec::new(alloc);
-    push_object(&mut words, Header::new(0, 39, 0), 39)?;
-    push_object(&mut words, Header::new(0, 9, 0), 9)?;
-    words.push(Header::new(1, 39, 0).word())?;
-    words.push(F + 50)?;
-    for k in 1..40u64 {
-        words.push(k)?;
-    }
-    heap(alloc, &words, &[0, 50], &[])
-}
-
-// As many objects of one word as are asked for, each with its index as tag, and every second one marked.
-fn every_second(alloc: Global, count: u32) -> Result<MarkedHeap, Fail> {
-    let mut words = Vec::new(alloc);
-    let mut marks = Vec::new(alloc);
-    for i in 0..count {
-        words.push(Header::new(0, 0, i).word())?;
-        if i % 2 == 0 {
-            marks.push(i)?;
-        }
-    }
-    heap(alloc, &words, &marks, &[])
+// The tables of a heap count as many live words.
+fn expect_live_words(
+    rt: &(impl Abort + AllocGlobal),
+    heap: &MarkedHeap,
+    live_words: u64,
+) -> Result<(), Fail> {
+    let tables = Tables::build(rt.alloc(), heap)?;
+    assert_eq!(rt; tables.live_words(), live_words);
+    Ok(())
 }
 
 #[test]
 fn tells_places(rt: HostRuntime) -> Result<(), Fail> {
-    let tables = Tables::build(rt.alloc(), &step(rt.alloc())?)?;
-    assert_eq!(rt; tables.live_words(), 81);
-    for (i, place) in [
+    let step = step(rt.alloc())?;
+    expect_live_words(&rt, &step, 81)?;
+    let places = [
         (0, Some(0)),
         (39, Some(39)),
         (40, None),
@@ -57,64 +49,70 @@ fn tells_places(rt: HostRuntime) -> Result<(), Fail> {
         (90, Some(80)),
         (91, None),
         (u64::MAX, None),
-    ] {
-        assert_eq!(rt; tables.new_place(i), place, "of {i}");
-        assert_eq!(rt; tables.is_live(i), place.is_some(), "of {i}");
-    }
-    let tables = Tables::build(rt.alloc(), &three(rt.alloc())?)?;
-    for (i, place) in [(5, Some(2)), (6, Some(3)), (2, None), (7, None)] {
-        assert_eq!(rt; tables.new_place(i), place, "of {i}");
-    }
-    Ok(())
+    ];
+    expect_places(&rt, &step, &places)?;
+    let places = [(5, Some(2)), (6, Some(3)), (2, None), (7, None)];
+    expect_places(&rt, &three(rt.alloc())?, &places)
 }
 
 #[test]
 fn tells_places_across_blocks(rt: HostRuntime) -> Result<(), Fail> {
-    let mut words = Vec::new(rt.alloc());
-    push_object(&mut words, Header::new(0, 62, 0), 62)?;
-    words.extend_from_slice(&[Header::new(0, 2, 0).word(), 5, 6])?;
-    let tables = Tables::build(rt.alloc(), &heap(rt.alloc(), &words, &[63], &[])?)?;
-    for (i, place) in [
+    let places = [
         (62, None),
         (63, Some(0)),
         (64, Some(1)),
         (65, Some(2)),
         (66, None),
-    ] {
-        assert_eq!(rt; tables.new_place(i), place, "of {i}");
-    }
-    Ok(())
+    ];
+    expect_places(&rt, &across_blocks(rt.alloc())?, &places)
 }
+
+// Page `p` begins in this object.
+fn expect_first_object(rt: &impl Abort, plan: &Plan, p: u64, first: Option<u64>) {
+    assert_eq!(rt; plan.first_object(p), first, "of {p}");
+}
+
+// An object of this header starts at the address once it has slid.
+fn expect_shape(rt: &impl Abort, plan: &Plan, address: u64, header: Option<Header>) {
+    assert_eq!(rt; plan.shape_at(address), header, "at {address}");
+}
+
+// The last object of `step`.
+const LAST: u64 = F + 50;
+
+// A word of it.
+const INNER: u64 = F + 51;
+
+// The object before it.
+const UNMARKED: u64 = F + 40;
+
+// Where the last object starts once it has slid.
+const SLID_LAST: u64 = T + 40;
+
+// Addresses at which no object starts once the three objects of `step` have slid.
+const NO_STARTS: [u64; 7] = [0, F, T + 1, T + 39, T + 41, T + 81, u64::MAX];
 
 #[test]
 fn tells_first_objects(rt: HostRuntime) -> Result<(), Fail> {
-    let plan = Plan::new(rt.alloc(), step(rt.alloc())?)?;
-    assert_eq!(rt; plan.live_words(), 81);
-    assert_eq!(rt; plan.pages(), 2);
-    for (p, first) in [(0, Some(0)), (1, Some(50)), (2, None), (u64::MAX, None)] {
-        assert_eq!(rt; plan.first_object(p), first, "of {p}");
+    let plan = planned(rt.alloc(), step(rt.alloc())?)?;
+    expect_counts(&rt, &plan, 81, 2);
+    for &(p, first) in &[(0, Some(0)), (1, Some(50)), (2, None), (u64::MAX, None)] {
+        expect_first_object(&rt, &plan, p, first);
     }
-    for (reference, place) in [
-        (F + 50, Some(8_589_934_632)),
-        (F + 40, None),
-        (F + 51, None),
-        (0, Some(0)),
-    ] {
-        assert_eq!(rt; plan.forward(reference), place, "of {reference}");
-    }
-    assert_eq!(rt; plan.shape_at(T), Some(Header::new(0, 39, 0)));
-    assert_eq!(rt; plan.shape_at(T + 40), Some(Header::new(1, 39, 0)));
-    for address in [0, F, T + 1, T + 39, T + 41, T + 81, u64::MAX] {
-        assert_eq!(rt; plan.shape_at(address), None, "at {address}");
+    expect_forward(&rt, &plan, LAST, Some(8_589_934_632));
+    expect_forward(&rt, &plan, UNMARKED, None);
+    expect_forward(&rt, &plan, INNER, None);
+    expect_forward(&rt, &plan, 0, Some(0));
+    expect_shape(&rt, &plan, T, Some(Header::new(0, 39, 0)));
+    expect_shape(&rt, &plan, SLID_LAST, Some(Header::new(1, 39, 0)));
+    for &address in &NO_STARTS {
+        expect_shape(&rt, &plan, address, None);
     }
     Ok(())
 }
 
-#[test]
-fn builds_a_page_before_the_first(rt: HostRuntime) -> Result<(), Fail> {
-    let plan = Plan::new(rt.alloc(), step(rt.alloc())?)?;
-    assert_eq!(rt; plan.pages(), 2);
-    let page = plan.build_page(rt.alloc(), 1)?;
+// The data of the last object of `step` goes on from 23 on its second page, and zeros follow.
+fn expect_second_page(rt: &impl Abort, page: &PageWords) {
     for offset in 0..64u8 {
         let wanted = if offset < 17 {
             u64::from(offset) + 23
@@ -123,13 +121,20 @@ fn builds_a_page_before_the_first(rt: HostRuntime) -> Result<(), Fail> {
         };
         assert_eq!(rt; page.get(offset), wanted, "at {offset}");
     }
-    assert_eq!(rt; plan.build_page(rt.alloc(), 0)?.get(41), 8_589_934_632);
+}
+
+#[test]
+fn builds_a_page_before_the_first(rt: HostRuntime) -> Result<(), Fail> {
+    let plan = planned(rt.alloc(), step(rt.alloc())?)?;
+    assert_eq!(rt; plan.pages(), 2);
+    expect_second_page(&rt, &page_of(&rt, &plan, 1)?);
+    assert_eq!(rt; page_of(&rt, &plan, 0)?.get(41), 8_589_934_632);
     Ok(())
 }
 
 #[test]
 fn forwards_roots(rt: HostRuntime) -> Result<(), Fail> {
-    let plan = Plan::new(rt.alloc(), three(rt.alloc())?)?;
+    let plan = planned(rt.alloc(), three(rt.alloc())?)?;
     assert_eq!(rt;
         plan.forward_roots(rt.alloc())?.as_slice(),
         [8_589_934_594].as_slice()
@@ -139,88 +144,70 @@ fn forwards_roots(rt: HostRuntime) -> Result<(), Fail> {
 
 #[test]
 fn slides_many_small_objects(rt: HostRuntime) -> Result<(), Fail> {
-    let plan = Plan::new(rt.alloc(), every_second(rt.alloc(), 134_400)?)?;
-    assert_eq!(rt; plan.live_words(), 67_200);
-    assert_eq!(rt; plan.pages(), 1_050);
-    assert_eq!(rt; plan.first_object(1_049), Some(134_272));
-    assert_eq!(rt;
-        plan.build_page(rt.alloc(), 1_049)?.get(0),
-        576_693_848_768_512
+    let plan = planned(rt.alloc(), every_second(rt.alloc(), 134_400)?)?;
+    expect_counts(&rt, &plan, 67_200, 1_050);
+    expect_first_object(&rt, &plan, 1_049, Some(134_272));
+    assert_eq!(rt; page_of(&rt, &plan, 1_049)?.get(0), 576_693_848_768_512);
+    expect_places(&rt, plan.heap(), &[(134_398, Some(67_199))])
+}
+
+// Page `p` of the plan, and its first object, are those of the plain walk.
+fn expect_plain_page(rt: &(impl Abort + AllocGlobal), plan: &Plan, p: u32) -> Result<(), Fail> {
+    let words = plan.heap().words();
+    let marks = plan.heap().marks();
+    let page = page_of(rt, plan, u64::from(p))?;
+    assert!(rt;
+        *page.as_array() == plain_walk::page(words, marks, p),
+        "page {p}"
     );
-    let tables = Tables::build(rt.alloc(), plan.heap())?;
-    assert_eq!(rt; tables.new_place(134_398), Some(67_199));
     Ok(())
 }
 
-// The plan of a heap is that of the plain walk: its counts, its first objects and all words of its pages.
-fn expect_plain(rt: &(impl Abort + AllocGlobal), heap: MarkedHeap) -> Result<(), Fail> {
-    let plan = Plan::new(rt.alloc(), heap)?;
+// The plan's counts, its first objects and all words of its pages are those of the plain walk.
+fn expect_plain_pages(rt: &(impl Abort + AllocGlobal), plan: &Plan) -> Result<(), Fail> {
     let words = plan.heap().words();
     let marks = plan.heap().marks();
-    assert_eq!(rt; plan.live_words(), plain_walk::live_words(words, marks));
-    assert_eq!(rt; plan.pages(), plain_walk::pages(words, marks));
+    expect_counts(
+        rt,
+        plan,
+        plain_walk::live_words(words, marks),
+        plain_walk::pages(words, marks),
+    );
     for p in 0..2_000u32 {
-        assert_eq!(rt;
-            plan.first_object(u64::from(p)),
-            plain_walk::first_object(words, marks, p)
-        );
+        let first = plain_walk::first_object(words, marks, p);
+        expect_first_object(rt, plan, u64::from(p), first);
         if u64::from(p) >= plan.pages() {
             break;
         }
-        let page = plan.build_page(rt.alloc(), u64::from(p))?;
-        assert!(rt;
-            *page.as_array() == plain_walk::page(words, marks, p),
-            "page {p}"
-        );
+        expect_plain_page(rt, plan, p)?;
     }
+    Ok(())
+}
+
+// References lead where they lead by the plain walk, and objects start where they do by it.
+fn expect_plain_references(rt: &impl Abort, plan: &Plan) {
+    let words = plan.heap().words();
+    let marks = plan.heap().marks();
     for i in 0..600u64 {
-        assert_eq!(rt;
-            plan.forward(F + i),
-            plain_walk::forward(words, marks, F + i)
-        );
-        assert_eq!(rt;
-            plan.shape_at(T + i),
-            plain_walk::shape_at(words, marks, T + i)
-        );
+        let place = plain_walk::forward(words, marks, F + i);
+        expect_forward(rt, plan, F + i, place);
+        let header = plain_walk::shape_at(words, marks, T + i);
+        expect_shape(rt, plan, T + i, header);
     }
+}
+
+// The plan of a heap is that of the plain walk, and so are the places of its words.
+fn expect_plain(rt: &(impl Abort + AllocGlobal), heap: MarkedHeap) -> Result<(), Fail> {
+    let plan = planned(rt.alloc(), heap)?;
+    expect_plain_pages(rt, &plan)?;
+    expect_plain_references(rt, &plan);
     let tables = Tables::build(rt.alloc(), plan.heap())?;
+    let words = plan.heap().words();
+    let marks = plan.heap().marks();
     for i in 0..600u64 {
         assert_eq!(rt; tables.new_place(i), plain_walk::new_place(words, marks, i));
     }
     Ok(())
-}
-
-// A heap of small objects, by numbers that look random: about half are marked, and references go to the marked object before.
-fn scattered(
-    alloc: Global,
-    seed: u64,
-    objects: u32,
-    often: u64,
-) -> Result<(Vec<u64>, Vec<u32>), AllocError> {
-    let mut words = Vec::new(alloc);
-    let mut marks = Vec::new(alloc);
-    let mut state = seed;
-    let mut target = 0;
-    for _ in 0..objects {
-        state = state
-            .wrapping_mul(6_364_136_223_846_793_005)
-            .wrapping_add(1_442_695_040_888_963_407);
-        let start = words.len();
-        if (state >> 20) % 4 < often {
-            marks.push(u32::try_from(start).unwrap_or(u32::MAX))?;
-            target = F.saturating_add(start as u64);
-        }
-        let refs = ((state >> 33) % 4) as u16;
-        let data_words = ((state >> 40) % 5) as u16;
-        words.push(Header::new(refs, data_words, 7).word())?;
-        for _ in 0..refs {
-            words.push(target)?;
-        }
-        for k in 0..data_words {
-            words.push(state ^ u64::from(k))?;
-        }
-    }
-    Ok((words, marks))
 }
 
 #[test]
@@ -229,21 +216,15 @@ fn agrees_with_a_plain_walk(rt: HostRuntime) -> Result<(), Fail> {
     expect_plain(&rt, step(alloc)?)?;
     expect_plain(&rt, three(alloc)?)?;
     expect_plain(&rt, every_second(alloc, 1_000)?)?;
-    expect_plain(&rt, heap(alloc, &[], &[], &[])?)?;
+    expect_plain(&rt, empty(alloc)?)?;
     for data_words in [62, 63, 64, 127, 128, 150, 1_023] {
-        expect_plain(
-            &rt,
-            heap(alloc, &counting_object(alloc, data_words)?, &[0], &[])?,
-        )?;
-        expect_plain(
-            &rt,
-            heap(alloc, &counting_object(alloc, data_words)?, &[], &[])?,
-        )?;
+        expect_plain(&rt, counting_heap(alloc, data_words)?)?;
+        let unmarked = heap(alloc, &counting_object(alloc, data_words)?, &[], &[])?;
+        expect_plain(&rt, unmarked)?;
     }
     for seed in 0..8u64 {
         for often in [0, 1, 2, 4] {
-            let (words, marks) = scattered(alloc, seed, 300, often)?;
-            expect_plain(&rt, heap(alloc, &words, &marks, &[])?)?;
+            expect_plain(&rt, scattered(alloc, seed, 300, often)?)?;
         }
     }
     Ok(())

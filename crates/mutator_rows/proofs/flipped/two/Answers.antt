@@ -1,0 +1,20 @@
+use Rattle.std.proofs.Common.{ℕ, sym, subst}
+use Rattle.cell_steps.specs.Lists.{Each}
+use Rattle.page_cells.specs.Cells.{Works}
+use Rattle.comp_mutator.specs.Mutators.{cells_of, pass_of, setup_of, IsMutatorOf}
+use Rattle.mutator_rows.proofs.Passes.{of_images, last_of, before_last}
+use Rattle.mutator_rows.proofs.flipped.two.Goals as goal
+
+-- each mutator is one of the space's
+all_of : (g : _) (c : goal.After-drop-mutators g) → Each c.in_ok-space.mutators.items (IsMutatorOf c.in_ok-space.space)
+all_of g c = let space = c.in_ok-space.space in
+    of_images pass_of (Works (cells_of space).steps ((setup_of space).mutators)) c.in_ok-space.mutators.items
+    (λ k pass e. subst (λ (n : ℕ). Works (cells_of space).steps n pass) (sym c.in_ok-space.ensures.mutators) (c.in_ok-space.ensures.new.new k pass e).works)
+
+pub returns-clause-second : goal.returns-clause-second
+returns-clause-second g c = last_of (IsMutatorOf c.in_ok-space.space) c.in_ok-space.mutators.items c.pop.new.self.items c.pop.result c.expect-second.result c.pop.ensures.items c.expect-second.ensures (all_of g c)
+
+pub returns-clause-first : goal.returns-clause-first
+returns-clause-first g c =
+    let rest = before_last (IsMutatorOf c.in_ok-space.space) c.in_ok-space.mutators.items c.pop.new.self.items c.pop.result c.expect-second.result c.pop.ensures.items c.expect-second.ensures (all_of g c) in
+    last_of (IsMutatorOf c.in_ok-space.space) c.pop.new.self.items c.pop-2.new.self.items c.pop-2.result c.expect-first.result c.pop-2.ensures.items c.expect-first.ensures rest

@@ -1,0 +1,8 @@
+use Rattle.comp_mutator.specs.Mutators.{IsMutatorOf}
+use Rattle.mutator_rows.proofs.plain_objects.agrees_with_plain_objects.Given as goal
+
+abbrev pub invariant-loop : goal.invariant-loop
+invariant-loop g l = record {
+  first : IsMutatorOf l.space l.m0;
+  second : IsMutatorOf l.space l.m1;
+}

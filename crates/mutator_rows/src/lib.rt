@@ -1,0 +1,13 @@
+//! Cells and mutators at work on worked heaps, alone, at random and in threads: what no contract says, with values from outside.
+#![tactic(auto)]
+
+#[cfg(test)]
+mod cells;
+#[cfg(test)]
+mod flipped;
+#[cfg(test)]
+mod mutators;
+#[cfg(test)]
+mod plain_objects;
+#[cfg(test)]
+mod threads;

@@ -1,0 +1,89 @@
+//! The heaps of the tests, written by a second hand.
+use heap_layout::fault::LayoutFault;
+use heap_layout::header::Header;
+use heap_layout::heap::MarkedHeap;
+use page_plan::plan::Plan;
+use std::alloc::{AllocError, Global};
+use std::test::Fail;
+
+/// The address of from-space word 0.
+pub const F: u64 = 4_294_967_296;
+
+/// The address of to-space word 0.
+pub const T: u64 = 8_589_934_592;
+
+/// Three objects, of which the first and the last are marked.
+pub const THREE: [u64; 7] = [
+    4_295_032_832,
+    11,
+    8_590_000_129,
+    0,
+    22,
+    12_884_901_889,
+    4_294_967_296,
+];
+
+/// The heap of these parts, or its fault.
+pub fn judged(
+    alloc: Global,
+    words: &[u64],
+    marks: &[u32],
+    roots: &[u64],
+) -> Result<Result<MarkedHeap, LayoutFault>, AllocError> {
+    Ok(MarkedHeap::from_parts(
+        words.to_vec(alloc)?,
+        marks.to_vec(alloc)?,
+        roots.to_vec(alloc)?,
+    ))
+}
+
+/// The heap of these parts, which is accepted.
+pub fn heap(
+    alloc: Global,
+    words: &[u64],
+    marks: &[u32],
+    roots: &[u64],
+) -> Result<MarkedHeap, Fail> {
+    Ok(judged(alloc, words, marks, roots)??)
+}
+
+/// The three objects, with the last as root.
+pub fn three(alloc: Global) -> Result<MarkedHeap, Fail> {
+    heap(alloc, &THREE, &[0, 5], &[F + 5])
+}
+
+/// An object without references, whose data words count from 1.
+pub fn counting_object(alloc: Global, data_words: u16) -> Result<Vec<u64>, AllocError> {
+    let mut words = vec![in alloc; Header::new(0, data_words, 0).word()]?;
+    for k in 0..data_words {
+        words.push(u64::from(k) + 1)?;
+    }
+    Ok(words)
+}
+
+/// Such an object alone in its heap, marked.
+pub fn counting_heap(alloc: Global, data_words: u16) -> Result<MarkedHeap, Fail> {
+    heap(alloc, &counting_object(alloc, data_words)?, &[0], &[])
+}
+
+/// The smallest heap: one object of one word, which is a root.
+pub fn smallest(alloc: Global) -> Result<MarkedHeap, Fail> {
+    heap(alloc, &[30_064_771_072], &[0], &[F])
+}
+
+/// No object at all.
+pub fn empty(alloc: Global) -> Result<MarkedHeap, Fail> {
+    heap(alloc, &[], &[], &[])
+}
+
+/// An object of one word and one of 1,024, which ends alone on page 16. Both are marked.
+pub fn seventeen_pages(alloc: Global) -> Result<MarkedHeap, Fail> {
+    let mut words = counting_object(alloc, 1_023)?;
+    words.insert(0, 0)?;
+    heap(alloc, &words, &[0, 1], &[])
+}
+
+/// The plan of a heap.
+pub fn planned(alloc: Global, heap: MarkedHeap) -> Result<Plan, Fail> {
+    Ok(Plan::new(alloc, heap)?)
+}

@@ -1,8 +1,0 @@
-use Rattle.comp_mutator.specs.Mutators.{IsMutatorOf}
-use Rattle.worked_rows.proofs.plain_objects.agrees_with_plain_objects.Given as goal
-
-abbrev pub invariant-loop : goal.invariant-loop
-invariant-loop g l = record {
-  first : IsMutatorOf l.space l.m0;
-  second : IsMutatorOf l.space l.m1;
-}
