@@ -1,5 +1,5 @@
 -- What a clause reads of a `Counted`.
-use Rattle.std.specs.Prelude.{◌≡◌, ℕ, ◌+◌, ◌-◌, ◌^◌, ◌<◌, min, List, length, take, Option, Result, Ok, Err}
+use Rattle.std.specs.Prelude.{◌≡◌, ℕ, ◌+◌, ◌-◌, ◌^◌, ◌<◌, min, List, length, take, Bool, Option, Result, Ok, Err}
 use Rattle.std.specs.Io.KnownBytes.{Appends}
 use Rattle.heap_layout.specs.declared.counted.Counted.{Counted}
 use Rattle.heap_layout.specs.declared.fault.LayoutFault.{LayoutFault}
@@ -12,6 +12,10 @@ inner_of counted = counted.inner
 -- how many of its calls failed
 abbrev pub failures_of : {R : Type 0} → Counted R → ℕ
 failures_of counted = counted.failures
+
+-- whether all that the writer took has been flushed since
+abbrev pub is_flushed_of : {R : Type 0} → Counted R → Bool
+is_flushed_of counted = counted.flushed
 
 -- a count of failed calls, and one more of them; it stays at the largest number
 abbrev pub one_more : ℕ → ℕ

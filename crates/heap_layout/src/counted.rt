@@ -1,25 +1,32 @@
-ghost use Rattle.std.specs.Prelude.{◌≡◌, ◌<◌, length, IfOk, OnOk, OnErr};
+ghost use Rattle.std.specs.Prelude.{◌≡◌, ◌<◌, true, false, length, IfOk, OnOk, OnErr};
 ghost use Rattle.std.specs.Io.{ReadsAtMost, WritesAtMost};
 ghost use Rattle.std.specs.Io.KnownBytes.{Appends, Keeps, ReadConsumes, WriteAppends};
-ghost use Rattle.heap_layout.specs.Counted.{inner_of, failures_of, one_more, AppendsBeginning};
+ghost use Rattle.heap_layout.specs.Counted.{inner_of, failures_of, is_flushed_of, one_more, AppendsBeginning};
 
 use std::io::{Error, ErrorKind, Read, Result, Write};
 
 /// A reader or a writer, with the number of its calls that failed: those that answered an error and, of a writer, those that took none of a part
-/// that is not empty.
+/// that is not empty. Of a writer it also knows whether all that was taken has been flushed since.
 #[derive(Debug, Drop)]
 pub struct Counted<R> {
     inner: R,
     failures: u64,
+    // Only the calls of a writer change it.
+    flushed: bool,
 }
 
 impl<R> Counted<R> {
-    /// Around a reader or a writer, no call of which has failed so far.
+    /// Around a reader or a writer, no call of which has failed so far. Nothing has been written through it, so nothing is left to flush.
     pub fn new(inner: R) -> Counted<R>
         ensures inner { inner_of result ≡ inner }
         ensures none { failures_of result ≡ 0 }
+        ensures flushed { is_flushed_of result ≡ true }
     {
-        Counted { inner, failures: 0 }
+        Counted {
+            inner,
+            failures: 0,
+            flushed: true,
+        }
     }
 
     /// How many calls have failed; it stays at `u64::MAX`.
@@ -27,6 +34,13 @@ impl<R> Counted<R> {
         ensures { result ≡ failures_of self.now }
     {
         self.failures
+    }
+
+    /// Whether all that the writer took through it has been flushed since.
+    pub fn is_flushed(&self) -> bool
+        ensures { result ≡ is_flushed_of self.now }
+    {
+        self.flushed
     }
 
     /// The reader or writer itself.
@@ -40,6 +54,7 @@ impl<R> Counted<R> {
     fn count_failure(&mut self)
         ensures inner { inner_of self.new ≡ inner_of self.old }
         ensures counted { failures_of self.new ≡ one_more (failures_of self.old) }
+        ensures flushed { is_flushed_of self.new ≡ is_flushed_of self.old }
     {
         self.failures = self.failures.saturating_add(1);
     }
@@ -53,6 +68,7 @@ impl<R: Read> Read for Counted<R> {
         ensures bytes { ReadConsumes (R.remaining (inner_of self.old)) (R.remaining (inner_of self.new)) result buf.new }
         ensures ok { OnOk result (failures_of self.new ≡ failures_of self.old) }
         ensures err { OnErr result (failures_of self.new ≡ one_more (failures_of self.old)) }
+        ensures flushed { is_flushed_of self.new ≡ is_flushed_of self.old }
     {
         let result = self.inner.read(buf);
         if result.is_err() {
@@ -72,14 +88,15 @@ impl<W: Write> Write for Counted<W> {
         ensures empty { OnOk result (length buf.now ≡ 0 → failures_of self.new ≡ failures_of self.old) }
         ensures none_taken { IfOk result (λ n. n ≡ 0 → 0 < length buf.now → failures_of self.new ≡ one_more (failures_of self.old)) }
         ensures err { OnErr result (failures_of self.new ≡ one_more (failures_of self.old)) }
+        ensures unflushed { IfOk result (λ n. 0 < n → is_flushed_of self.new ≡ false) }
+        ensures flushed { IfOk result (λ n. n ≡ 0 → is_flushed_of self.new ≡ is_flushed_of self.old) }
+        ensures refused { OnErr result (is_flushed_of self.new ≡ is_flushed_of self.old) }
     {
         let result = self.inner.write(buf);
-        let failed = match &result {
-            Ok(taken) => *taken == 0 && !buf.is_empty(),
-            Err(_) => true,
-        };
-        if failed {
-            self.count_failure();
+        match &result {
+            Ok(0) if buf.is_empty() => (),
+            Ok(0) | Err(_) => self.count_failure(),
+            Ok(_) => self.flushed = false,
         }
         result
     }
@@ -88,10 +105,13 @@ impl<W: Write> Write for Counted<W> {
         ensures bytes { Keeps (W.contents (inner_of self.old)) (W.contents (inner_of self.new)) }
         ensures ok { OnOk result (failures_of self.new ≡ failures_of self.old) }
         ensures err { OnErr result (failures_of self.new ≡ one_more (failures_of self.old)) }
+        ensures flushed { OnOk result (is_flushed_of self.new ≡ true) }
+        ensures refused { OnErr result (is_flushed_of self.new ≡ is_flushed_of self.old) }
     {
         let result = self.inner.flush();
-        if result.is_err() {
-            self.count_failure();
+        match &result {
+            Ok(()) => self.flushed = true,
+            Err(_) => self.count_failure(),
         }
         result
     }
@@ -105,6 +125,8 @@ impl<W: Write> Counted<W> {
         ensures begun { OnErr result (AppendsBeginning (W.contents (inner_of self.old)) (W.contents (inner_of self.new)) part.now) }
         ensures ok { OnOk result (failures_of self.new ≡ failures_of self.old) }
         ensures err { OnErr result (failures_of self.new ≡ one_more (failures_of self.old)) }
+        ensures unflushed { OnOk result (0 < length part.now → is_flushed_of self.new ≡ false) }
+        ensures empty { length part.now ≡ 0 → is_flushed_of self.new ≡ is_flushed_of self.old }
     {
         let mut taken = 0;
         while taken < part.len() {
