@@ -1,13 +1,13 @@
 //! The command `plan`.
-ghost use Rattle.std.specs.Prelude.{◌≡◌, ◌-◌, ◌^◌, ◌<◌, IfErr, IfSome, OnOk, OnErr, Err};
+ghost use Rattle.std.specs.Prelude.{◌≡◌, ◌-◌, ◌^◌, ◌<◌, IfErr, OnOk, OnErr, Err};
 ghost use Rattle.std.specs.Io.KnownBytes.{Appends};
 ghost use Rattle.heap_layout.specs.Counted.{inner_of, failures_of};
 ghost use Rattle.heap_layout.specs.Heap.{live};
 ghost use Rattle.compressor.specs.Printing.{CountsPrint, CountsRead, RefusedUnprinted};
-ghost use Rattle.compressor.specs.Plan.{plan_text, count_lines, page_lines, root_lines, IsOfPrinting, RefusesPlan};
-ghost use Rattle.compressor.specs.Word.{IsImage};
+ghost use Rattle.compressor.specs.Plan.{plan_text, count_lines, page_lines, root_lines, IsOfPrinting, PrintsPlan, RefusesPlan};
+ghost use Rattle.compressor.specs.Images.{IsImageOf, SomeGiven, RefusesAt};
 
-use crate::image::open_image;
+use crate::images::Images;
 use crate::print::{print_line, print_numbered};
 use crate::refusal::Refusal;
 use heap_layout::counted::Counted;
@@ -15,19 +15,23 @@ use heap_layout::image::read_image;
 use page_plan::plan::Plan;
 use std::alloc::Global;
 use std::io::{Read, Write};
-use std::rt::Files;
 
-/// Prints the plan of the heap whose image is in a file.
-pub fn print_plan<R: Files + AllocGlobal, O: Write>(
-    rt: &R,
+/// Prints the plan of the heap whose image lies at a path.
+pub fn print_plan<I: Images, O: Write>(
+    alloc: Global,
+    images: &I,
     path: &str,
     out: &mut Counted<O>,
 ) -> Result<(), Refusal>
     requires { failures_of out.old < 2 ^ 64 - 1 }
+    ensures printed { OnOk result (SomeGiven (I.gives images.now path.now) I.Reader.remaining
+        (IsImageOf (PrintsPlan (O.contents (inner_of out.old)) (O.contents (inner_of out.new))))) }
+    ensures cause { IfErr result (RefusesAt (I.lacks images.now path.now) (I.gives images.now path.now) I.Reader.remaining RefusesPlan) }
     ensures counts { CountsPrint (failures_of out.old) (failures_of out.new) result }
     ensures unprinted { RefusedUnprinted (O.contents (inner_of out.old)) (O.contents (inner_of out.new)) result }
 {
-    print_plan_in(rt.alloc(), &mut open_image(rt, path)?, out)
+    let mut reader = Counted::new(images.open(path)?);
+    print_plan_in(alloc, &mut reader, out)
 }
 
 /// Prints the plan of the heap whose image is all that the reader has left: the live words, the pages, the first object of each page and where each
@@ -39,9 +43,9 @@ pub fn print_plan_in<R: Read, O: Write>(
 ) -> Result<(), Refusal>
     requires read { failures_of r.old < 2 ^ 64 - 1 }
     requires written { failures_of out.old < 2 ^ 64 - 1 }
-    ensures printed { OnOk result (IfSome (R.remaining (inner_of r.old))
-        (IsImage (λ heap. Appends (O.contents (inner_of out.old)) (O.contents (inner_of out.new)) (plan_text heap)))) }
-    ensures cause { IfErr result (λ refusal. IfSome (R.remaining (inner_of r.old)) (RefusesPlan refusal)) }
+    ensures printed { OnOk result (IsImageOf (PrintsPlan (O.contents (inner_of out.old)) (O.contents (inner_of out.new)))
+        (R.remaining (inner_of r.old))) }
+    ensures cause { IfErr result (λ refusal. RefusesPlan refusal (R.remaining (inner_of r.old))) }
     ensures reads { CountsRead (failures_of r.old) (failures_of r.new) result }
     ensures counts { CountsPrint (failures_of out.old) (failures_of out.new) result }
     ensures unprinted { RefusedUnprinted (O.contents (inner_of out.old)) (O.contents (inner_of out.new)) result }

@@ -1,8 +1,8 @@
 //! Printing to the program's output, whose failed calls are counted.
-ghost use Rattle.std.specs.Prelude.{◌≡◌, ◌-◌, ◌^◌, ◌<◌, OnOk, OnErr, Err};
+ghost use Rattle.std.specs.Prelude.{◌≡◌, ◌-◌, ◌^◌, ◌<◌, true, OnOk, OnErr, Err};
 ghost use Rattle.std.specs.Fmt.{decimal};
 ghost use Rattle.std.specs.Io.KnownBytes.{Appends, Keeps};
-ghost use Rattle.heap_layout.specs.Counted.{inner_of, failures_of};
+ghost use Rattle.heap_layout.specs.Counted.{inner_of, failures_of, is_flushed_of};
 ghost use Rattle.compressor.specs.Printing.{named, numbered, CountsPrint};
 
 use crate::refusal::Refusal;
@@ -67,6 +67,7 @@ pub fn print_numbered<O: Write>(
 pub fn flush<O: Write>(out: &mut Counted<O>) -> Result<(), Refusal>
     requires { failures_of out.old < 2 ^ 64 - 1 }
     ensures kept { Keeps (O.contents (inner_of out.old)) (O.contents (inner_of out.new)) }
+    ensures flushed { OnOk result (is_flushed_of out.new ≡ true) }
     ensures cause { OnErr result (result ≡ Err Refusal.CannotPrint) }
     ensures counts { CountsPrint (failures_of out.old) (failures_of out.new) result }
 {
