@@ -1,6 +1,6 @@
 ghost use Rattle.std.specs.Prelude.{◌≡◌, ◌-◌, ◌^◌, ◌<◌, ◌≤◌, true, IfErr, OnOk, OnErr};
 ghost use Rattle.std.specs.Io.KnownBytes.{Keeps};
-ghost use Rattle.heap_layout.specs.Counted.{inner_of, failures_of, is_flushed_of};
+ghost use Rattle.heap_layout.specs.Counted.{inner_of, failures_of, is_flushed_of, writer_of};
 ghost use Rattle.compressor.specs.Printing.{CountsPrint, PrintsHelp, RefusedUnprinted};
 ghost use Rattle.compressor.specs.Tasks.{Answers, DoesTask, HasPrinted, RefusesTask};
 
@@ -47,15 +47,16 @@ pub fn respond<I: Images, O: Write, E: Write>(
     alloc: Global,
     images: &I,
     asked: Result<Option<Task>, clap::Error>,
-    out: &mut Counted<O>,
+    out: &mut Counted<&mut O>,
     err: &mut E,
 ) -> u8
     requires { failures_of out.old < 2 ^ 64 - 1 }
     ensures status { result ≤ 2 }
-    ensures done { result ≡ 0 → Answers (I.gives images.now) I.Reader.remaining (O.contents (inner_of out.old)) (O.contents (inner_of out.new)) asked.entry }
+    ensures done { result ≡ 0 → Answers (I.gives images.now) I.Reader.remaining (O.contents (inner_of out.old).now) (O.contents (inner_of out.new).now) asked.entry }
     ensures flushed { result ≡ 0 → is_flushed_of out.new ≡ true }
-    ensures refused { result ≡ 1 → failures_of out.new ≡ failures_of out.old → Keeps (O.contents (inner_of out.old)) (O.contents (inner_of out.new)) }
-    ensures misused { result ≡ 2 → Keeps (O.contents (inner_of out.old)) (O.contents (inner_of out.new)) }
+    ensures refused { result ≡ 1 → failures_of out.new ≡ failures_of out.old → Keeps (O.contents (inner_of out.old).now) (O.contents (inner_of out.new).now) }
+    ensures misused { result ≡ 2 → Keeps (O.contents (inner_of out.old).now) (O.contents (inner_of out.new).now) }
+    ensures same_writer { writer_of out.new ≡ writer_of out.old }
 {
     match asked {
         Ok(Some(task)) => told(perform(alloc, images, task, out), err),
@@ -77,14 +78,15 @@ pub fn perform<I: Images, O: Write>(
     alloc: Global,
     images: &I,
     task: Task,
-    out: &mut Counted<O>,
+    out: &mut Counted<&mut O>,
 ) -> Result<(), Refusal>
     requires { failures_of out.old < 2 ^ 64 - 1 }
-    ensures done { OnOk result (DoesTask (I.gives images.now) I.Reader.remaining (O.contents (inner_of out.old)) (O.contents (inner_of out.new)) task.entry) }
+    ensures done { OnOk result (DoesTask (I.gives images.now) I.Reader.remaining (O.contents (inner_of out.old).now) (O.contents (inner_of out.new).now) task.entry) }
     ensures cause { IfErr result (RefusesTask (I.lacks images.now) (I.gives images.now) I.Reader.remaining task.entry) }
     ensures flushed { OnOk result (is_flushed_of out.new ≡ true) }
     ensures counts { CountsPrint (failures_of out.old) (failures_of out.new) result }
-    ensures unprinted { RefusedUnprinted (O.contents (inner_of out.old)) (O.contents (inner_of out.new)) result }
+    ensures same_writer { writer_of out.new ≡ writer_of out.old }
+    ensures unprinted { RefusedUnprinted (O.contents (inner_of out.old).now) (O.contents (inner_of out.new).now) result }
 {
     match task {
         Task::Plan { image } => print_plan(alloc, images, image, out)?,
@@ -97,13 +99,14 @@ pub fn perform<I: Images, O: Write>(
 fn print_help<O: Write>(
     alloc: Global,
     help: &clap::Error,
-    out: &mut Counted<O>,
+    out: &mut Counted<&mut O>,
 ) -> Result<(), Refusal>
     requires { failures_of out.old < 2 ^ 64 - 1 }
-    ensures printed { OnOk result (PrintsHelp (O.contents (inner_of out.old)) (O.contents (inner_of out.new))) }
+    ensures printed { OnOk result (PrintsHelp (O.contents (inner_of out.old).now) (O.contents (inner_of out.new).now)) }
     ensures flushed { OnOk result (is_flushed_of out.new ≡ true) }
     ensures counts { CountsPrint (failures_of out.old) (failures_of out.new) result }
-    ensures unprinted { RefusedUnprinted (O.contents (inner_of out.old)) (O.contents (inner_of out.new)) result }
+    ensures same_writer { writer_of out.new ≡ writer_of out.old }
+    ensures unprinted { RefusedUnprinted (O.contents (inner_of out.old).now) (O.contents (inner_of out.new).now) result }
 {
     let text = help.to_string(alloc)?;
     print_text(text.trim_end(), out)?;

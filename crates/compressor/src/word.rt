@@ -1,6 +1,6 @@
 //! The command `word`.
 ghost use Rattle.std.specs.Prelude.{◌≡◌, ◌*◌, ◌-◌, ◌/◌, ◌^◌, ◌<◌, ◌≤◌, map, slice_index, IfOk, IfErr, OnOk, OnErr, Err};
-ghost use Rattle.heap_layout.specs.Counted.{inner_of, failures_of};
+ghost use Rattle.heap_layout.specs.Counted.{inner_of, failures_of, writer_of};
 ghost use Rattle.heap_layout.specs.Heap.{live};
 ghost use Rattle.page_plan.specs.Sliding.{pages, slid_words};
 ghost use Rattle.page_cells.specs.Cells.{steps_of, AreNew, IsNew};
@@ -33,14 +33,15 @@ pub fn print_word<I: Images, O: Write>(
     images: &I,
     path: &str,
     index: u64,
-    out: &mut Counted<O>,
+    out: &mut Counted<&mut O>,
 ) -> Result<(), Refusal>
     requires { failures_of out.old < 2 ^ 64 - 1 }
     ensures printed { OnOk result (SomeGiven (I.gives images.now path.now) I.Reader.remaining
-        (IsImageOf (PrintsWordAt index (O.contents (inner_of out.old)) (O.contents (inner_of out.new))))) }
+        (IsImageOf (PrintsWordAt index (O.contents (inner_of out.old).now) (O.contents (inner_of out.new).now)))) }
     ensures cause { IfErr result (RefusesAt (I.lacks images.now path.now) (I.gives images.now path.now) I.Reader.remaining (RefusesPrint index)) }
     ensures counts { CountsPrint (failures_of out.old) (failures_of out.new) result }
-    ensures unprinted { RefusedUnprinted (O.contents (inner_of out.old)) (O.contents (inner_of out.new)) result }
+    ensures same_writer { writer_of out.new ≡ writer_of out.old }
+    ensures unprinted { RefusedUnprinted (O.contents (inner_of out.old).now) (O.contents (inner_of out.new).now) result }
 {
     let mut reader = Counted::new(images.open(path)?);
     print_word_in(alloc, &mut reader, index, out)
@@ -51,27 +52,29 @@ pub fn print_word_in<R: Read, O: Write>(
     alloc: Global,
     r: &mut Counted<R>,
     index: u64,
-    out: &mut Counted<O>,
+    out: &mut Counted<&mut O>,
 ) -> Result<(), Refusal>
     requires read { failures_of r.old < 2 ^ 64 - 1 }
     requires written { failures_of out.old < 2 ^ 64 - 1 }
-    ensures printed { OnOk result (IsImageOf (PrintsWordAt index (O.contents (inner_of out.old)) (O.contents (inner_of out.new)))
+    ensures printed { OnOk result (IsImageOf (PrintsWordAt index (O.contents (inner_of out.old).now) (O.contents (inner_of out.new).now))
         (R.remaining (inner_of r.old))) }
     ensures cause { IfErr result (λ refusal. RefusesPrint index refusal (R.remaining (inner_of r.old))) }
     ensures reads { CountsRead (failures_of r.old) (failures_of r.new) result }
     ensures counts { CountsPrint (failures_of out.old) (failures_of out.new) result }
-    ensures unprinted { RefusedUnprinted (O.contents (inner_of out.old)) (O.contents (inner_of out.new)) result }
+    ensures same_writer { writer_of out.new ≡ writer_of out.old }
+    ensures unprinted { RefusedUnprinted (O.contents (inner_of out.old).now) (O.contents (inner_of out.new).now) result }
 {
     let word = word_in(alloc, r, index)?;
     print_number(word, out)
 }
 
 // Prints a number and a line feed.
-fn print_number<O: Write>(number: u64, out: &mut Counted<O>) -> Result<(), Refusal>
+fn print_number<O: Write>(number: u64, out: &mut Counted<&mut O>) -> Result<(), Refusal>
     requires { failures_of out.old < 2 ^ 64 - 1 }
-    ensures printed { OnOk result (Appends (O.contents (inner_of out.old)) (O.contents (inner_of out.new)) (line_of number)) }
+    ensures printed { OnOk result (Appends (O.contents (inner_of out.old).now) (O.contents (inner_of out.new).now) (line_of number)) }
     ensures cause { OnErr result (result ≡ Err Refusal.CannotPrint) }
     ensures counts { CountsPrint (failures_of out.old) (failures_of out.new) result }
+    ensures same_writer { writer_of out.new ≡ writer_of out.old }
 {
     print_digits(number, out)?;
     print_text("\n", out)

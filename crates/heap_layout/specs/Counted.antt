@@ -1,5 +1,6 @@
 -- What a clause reads of a `Counted`.
 use Rattle.std.specs.Prelude.{◌≡◌, ℕ, ◌+◌, ◌-◌, ◌^◌, ◌<◌, min, List, length, take, Bool, Option, Result, Ok, Err}
+use Rattle.std.specs.Borrow.{MutBor}
 use Rattle.std.specs.Io.KnownBytes.{Appends}
 use Rattle.heap_layout.specs.declared.counted.Counted.{Counted}
 use Rattle.heap_layout.specs.declared.fault.LayoutFault.{LayoutFault}
@@ -8,6 +9,10 @@ use Rattle.heap_layout.specs.declared.fault.LayoutFault.TheVariants.{Device}
 -- the reader or writer below
 abbrev pub inner_of : {R : Type 0} → Counted R → R
 inner_of counted = counted.inner
+
+-- which writer it borrows
+abbrev pub writer_of : {W : Type 0} → Counted (MutBor W) → ℕ
+writer_of counted = counted.inner.ghost_name
 
 -- how many of its calls failed
 abbrev pub failures_of : {R : Type 0} → Counted R → ℕ

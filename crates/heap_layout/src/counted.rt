@@ -1,7 +1,7 @@
 ghost use Rattle.std.specs.Prelude.{◌≡◌, ◌<◌, true, false, length, IfOk, OnOk, OnErr};
 ghost use Rattle.std.specs.Io.{ReadsAtMost, WritesAtMost};
 ghost use Rattle.std.specs.Io.KnownBytes.{Appends, Keeps, ReadConsumes, WriteAppends};
-ghost use Rattle.heap_layout.specs.Counted.{inner_of, failures_of, is_flushed_of, one_more, AppendsBeginning};
+ghost use Rattle.heap_layout.specs.Counted.{inner_of, failures_of, is_flushed_of, writer_of, one_more, AppendsBeginning};
 
 use std::io::{Error, ErrorKind, Read, Result, Write};
 
@@ -78,12 +78,12 @@ impl<R: Read> Read for Counted<R> {
     }
 }
 
-impl<W: Write> Write for Counted<W> {
-    ghost contents = { λ counted. W.contents (inner_of counted) };
+impl<W: Write> Write for Counted<&mut W> {
+    ghost contents = { λ counted. W.contents (inner_of counted).now };
 
     fn write(&mut self, buf: &[u8]) -> Result<usize>
         ensures bound { WritesAtMost result buf.now }
-        ensures bytes { WriteAppends (W.contents (inner_of self.old)) (W.contents (inner_of self.new)) result buf.now }
+        ensures bytes { WriteAppends (W.contents (inner_of self.old).now) (W.contents (inner_of self.new).now) result buf.now }
         ensures taken { IfOk result (λ n. 0 < n → failures_of self.new ≡ failures_of self.old) }
         ensures empty { OnOk result (length buf.now ≡ 0 → failures_of self.new ≡ failures_of self.old) }
         ensures none_taken { IfOk result (λ n. n ≡ 0 → 0 < length buf.now → failures_of self.new ≡ one_more (failures_of self.old)) }
@@ -91,8 +91,9 @@ impl<W: Write> Write for Counted<W> {
         ensures unflushed { IfOk result (λ n. 0 < n → is_flushed_of self.new ≡ false) }
         ensures flushed { IfOk result (λ n. n ≡ 0 → is_flushed_of self.new ≡ is_flushed_of self.old) }
         ensures refused { OnErr result (is_flushed_of self.new ≡ is_flushed_of self.old) }
+        ensures same_writer { writer_of self.new ≡ writer_of self.old }
     {
-        let result = self.inner.write(buf);
+        let result = (*self.inner).write(buf);
         match &result {
             Ok(0) if buf.is_empty() => (),
             Ok(0) | Err(_) => self.count_failure(),
@@ -102,13 +103,14 @@ impl<W: Write> Write for Counted<W> {
     }
 
     fn flush(&mut self) -> Result<()>
-        ensures bytes { Keeps (W.contents (inner_of self.old)) (W.contents (inner_of self.new)) }
+        ensures bytes { Keeps (W.contents (inner_of self.old).now) (W.contents (inner_of self.new).now) }
         ensures ok { OnOk result (failures_of self.new ≡ failures_of self.old) }
         ensures err { OnErr result (failures_of self.new ≡ one_more (failures_of self.old)) }
         ensures flushed { OnOk result (is_flushed_of self.new ≡ true) }
         ensures refused { OnErr result (is_flushed_of self.new ≡ is_flushed_of self.old) }
+        ensures same_writer { writer_of self.new ≡ writer_of self.old }
     {
-        let result = self.inner.flush();
+        let result = (*self.inner).flush();
         match &result {
             Ok(()) => self.flushed = true,
             Err(_) => self.count_failure(),
@@ -117,16 +119,17 @@ impl<W: Write> Write for Counted<W> {
     }
 }
 
-impl<W: Write> Counted<W> {
+impl<W: Write> Counted<&mut W> {
     /// Writes a whole part, by as many calls as the writer wants. The first call that fails ends the writing, an interrupted one too; what was taken
     /// before it stays written.
     pub fn write_part(&mut self, part: &[u8]) -> Result<()>
-        ensures written { OnOk result (Appends (W.contents (inner_of self.old)) (W.contents (inner_of self.new)) part.now) }
-        ensures begun { OnErr result (AppendsBeginning (W.contents (inner_of self.old)) (W.contents (inner_of self.new)) part.now) }
+        ensures written { OnOk result (Appends (W.contents (inner_of self.old).now) (W.contents (inner_of self.new).now) part.now) }
+        ensures begun { OnErr result (AppendsBeginning (W.contents (inner_of self.old).now) (W.contents (inner_of self.new).now) part.now) }
         ensures ok { OnOk result (failures_of self.new ≡ failures_of self.old) }
         ensures err { OnErr result (failures_of self.new ≡ one_more (failures_of self.old)) }
         ensures unflushed { OnOk result (0 < length part.now → is_flushed_of self.new ≡ false) }
         ensures empty { length part.now ≡ 0 → is_flushed_of self.new ≡ is_flushed_of self.old }
+        ensures same_writer { writer_of self.new ≡ writer_of self.old }
     {
         let mut taken = 0;
         while taken < part.len() {

@@ -8,7 +8,7 @@ pub returns-clause-printed : goal.returns-clause-printed
 returns-clause-printed g c =
     let contents = g.O.Write.contents in
     let text = c.trim_end.result.now in
-    let whole = Appends-trans (contents (inner_of c.args.out.now)) (contents (inner_of c.print_text.new.out)) (contents (inner_of c.print_text-2.new.out))
+    let whole = Appends-trans (contents (inner_of c.args.out.now).now) (contents (inner_of c.print_text.new.out).now) (contents (inner_of c.print_text-2.new.out).now)
     text (10 ∷ []) c.in_ok-print_text.ensures.printed c.in_ok-print_text-2.ensures.printed in
-    let printed : PrintsHelp (contents (inner_of c.args.out.now)) (contents (inner_of c.flush.new.out)) = (text, Appends-kept _ _ _ _ whole c.flush.ensures.kept) in
+    let printed : PrintsHelp (contents (inner_of c.args.out.now).now) (contents (inner_of c.flush.new.out).now) = (text, Appends-kept _ _ _ _ whole c.flush.ensures.kept) in
     search rules
