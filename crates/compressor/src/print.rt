@@ -80,5 +80,5 @@ pub fn flush<O: Write>(out: &mut Counted<&mut O>) -> Result<(), Refusal>
     ensures counts { CountsPrint (failures_of out.old) (failures_of out.new) result }
     ensures same_writer { writer_of out.new ≡ writer_of out.old }
 {
-    out.flush().map_err(|_| Refusal::CannotPrint)
+    out.flush_all().map_err(|_| Refusal::CannotPrint)
 }

@@ -58,6 +58,34 @@ impl<R> Counted<R> {
     {
         self.failures = self.failures.saturating_add(1);
     }
+
+    // Notes what a writer answered to a part: a failure is counted, and what was taken is left to flush.
+    fn note_write(&mut self, answer: &Result<usize>, part: &[u8])
+        ensures inner { inner_of self.new ≡ inner_of self.old }
+        ensures taken { IfOk answer.now (λ n. 0 < n → (failures_of self.new ≡ failures_of self.old) × (is_flushed_of self.new ≡ false)) }
+        ensures empty { OnOk answer.now (length part.now ≡ 0 → failures_of self.new ≡ failures_of self.old) }
+        ensures none_taken { IfOk answer.now (λ n. n ≡ 0 → 0 < length part.now → failures_of self.new ≡ one_more (failures_of self.old)) }
+        ensures flushed { IfOk answer.now (λ n. n ≡ 0 → is_flushed_of self.new ≡ is_flushed_of self.old) }
+        ensures err { OnErr answer.now ((failures_of self.new ≡ one_more (failures_of self.old)) × (is_flushed_of self.new ≡ is_flushed_of self.old)) }
+    {
+        match answer {
+            Ok(0) if part.is_empty() => (),
+            Ok(0) | Err(_) => self.count_failure(),
+            Ok(_) => self.flushed = false,
+        }
+    }
+
+    // Notes what a writer answered to a flush.
+    fn note_flush(&mut self, answer: &Result<()>)
+        ensures inner { inner_of self.new ≡ inner_of self.old }
+        ensures ok { OnOk answer.now ((failures_of self.new ≡ failures_of self.old) × (is_flushed_of self.new ≡ true)) }
+        ensures err { OnErr answer.now ((failures_of self.new ≡ one_more (failures_of self.old)) × (is_flushed_of self.new ≡ is_flushed_of self.old)) }
+    {
+        match answer {
+            Ok(()) => self.flushed = true,
+            Err(_) => self.count_failure(),
+        }
+    }
 }
 
 impl<R: Read> Read for Counted<R> {
@@ -78,12 +106,12 @@ impl<R: Read> Read for Counted<R> {
     }
 }
 
-impl<W: Write> Write for Counted<&mut W> {
-    ghost contents = { λ counted. W.contents (inner_of counted).now };
+impl<W: Write> Write for Counted<W> {
+    ghost contents = { λ counted. W.contents (inner_of counted) };
 
     fn write(&mut self, buf: &[u8]) -> Result<usize>
         ensures bound { WritesAtMost result buf.now }
-        ensures bytes { WriteAppends (W.contents (inner_of self.old).now) (W.contents (inner_of self.new).now) result buf.now }
+        ensures bytes { WriteAppends (W.contents (inner_of self.old)) (W.contents (inner_of self.new)) result buf.now }
         ensures taken { IfOk result (λ n. 0 < n → failures_of self.new ≡ failures_of self.old) }
         ensures empty { OnOk result (length buf.now ≡ 0 → failures_of self.new ≡ failures_of self.old) }
         ensures none_taken { IfOk result (λ n. n ≡ 0 → 0 < length buf.now → failures_of self.new ≡ one_more (failures_of self.old)) }
@@ -91,35 +119,41 @@ impl<W: Write> Write for Counted<&mut W> {
         ensures unflushed { IfOk result (λ n. 0 < n → is_flushed_of self.new ≡ false) }
         ensures flushed { IfOk result (λ n. n ≡ 0 → is_flushed_of self.new ≡ is_flushed_of self.old) }
         ensures refused { OnErr result (is_flushed_of self.new ≡ is_flushed_of self.old) }
-        ensures same_writer { writer_of self.new ≡ writer_of self.old }
     {
-        let result = (*self.inner).write(buf);
-        match &result {
-            Ok(0) if buf.is_empty() => (),
-            Ok(0) | Err(_) => self.count_failure(),
-            Ok(_) => self.flushed = false,
-        }
+        let result = self.inner.write(buf);
+        self.note_write(&result, buf);
         result
     }
 
     fn flush(&mut self) -> Result<()>
-        ensures bytes { Keeps (W.contents (inner_of self.old).now) (W.contents (inner_of self.new).now) }
+        ensures bytes { Keeps (W.contents (inner_of self.old)) (W.contents (inner_of self.new)) }
         ensures ok { OnOk result (failures_of self.new ≡ failures_of self.old) }
         ensures err { OnErr result (failures_of self.new ≡ one_more (failures_of self.old)) }
         ensures flushed { OnOk result (is_flushed_of self.new ≡ true) }
         ensures refused { OnErr result (is_flushed_of self.new ≡ is_flushed_of self.old) }
-        ensures same_writer { writer_of self.new ≡ writer_of self.old }
     {
-        let result = (*self.inner).flush();
-        match &result {
-            Ok(()) => self.flushed = true,
-            Err(_) => self.count_failure(),
-        }
+        let result = self.inner.flush();
+        self.note_flush(&result);
         result
     }
 }
 
+/// A writer that is lent: what these calls print is then in that very writer, which its owner gets back.
 impl<W: Write> Counted<&mut W> {
+    // Writes the beginning of a part.
+    fn write_some(&mut self, part: &[u8]) -> Result<usize>
+        ensures bound { WritesAtMost result part.now }
+        ensures bytes { WriteAppends (W.contents (inner_of self.old).now) (W.contents (inner_of self.new).now) result part.now }
+        ensures taken { IfOk result (λ n. 0 < n → (failures_of self.new ≡ failures_of self.old) × (is_flushed_of self.new ≡ false)) }
+        ensures none_taken { IfOk result (λ n. n ≡ 0 → 0 < length part.now → failures_of self.new ≡ one_more (failures_of self.old)) }
+        ensures err { OnErr result (failures_of self.new ≡ one_more (failures_of self.old)) }
+        ensures same_writer { writer_of self.new ≡ writer_of self.old }
+    {
+        let answer = (*self.inner).write(part);
+        self.note_write(&answer, part);
+        answer
+    }
+
     /// Writes a whole part, by as many calls as the writer wants. The first call that fails ends the writing, an interrupted one too; what was taken
     /// before it stays written.
     pub fn write_part(&mut self, part: &[u8]) -> Result<()>
@@ -133,12 +167,26 @@ impl<W: Write> Counted<&mut W> {
     {
         let mut taken = 0;
         while taken < part.len() {
-            let n = self.write(&part[taken..])?;
+            let n = self.write_some(&part[taken..])?;
             if n == 0 {
                 return Err(Error::from(ErrorKind::WriteZero));
             }
             taken += n;
         }
         Ok(())
+    }
+
+    /// Sends on what the writer still holds, by one call.
+    pub fn flush_all(&mut self) -> Result<()>
+        ensures kept { Keeps (W.contents (inner_of self.old).now) (W.contents (inner_of self.new).now) }
+        ensures ok { OnOk result (failures_of self.new ≡ failures_of self.old) }
+        ensures err { OnErr result (failures_of self.new ≡ one_more (failures_of self.old)) }
+        ensures flushed { OnOk result (is_flushed_of self.new ≡ true) }
+        ensures refused { OnErr result (is_flushed_of self.new ≡ is_flushed_of self.old) }
+        ensures same_writer { writer_of self.new ≡ writer_of self.old }
+    {
+        let answer = (*self.inner).flush();
+        self.note_flush(&answer);
+        answer
     }
 }

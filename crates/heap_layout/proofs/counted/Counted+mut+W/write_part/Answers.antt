@@ -17,7 +17,7 @@ loop-taken-preserved g c =
       written = subst (Appends _ _) (ap (λ more. front ++ take n more) (take_rest part taken) ∙ sym (take-add taken n part))
           (Appends-trans _ _ _ front (take n rest) c.loop-taken.invariant.written c.in_ok-n.ensures.bytes);
       same_writer = c.in_ok-n.ensures.same_writer ∙ c.loop-taken.invariant.same_writer;
-      unflushed = λ _. let more : 0 < n = omega (arith, c.if-n-eq0.false) in c.in_ok-n.ensures.unflushed more;
+      unflushed = λ _. let more : 0 < n = omega (arith, c.if-n-eq0.false) in (c.in_ok-n.ensures.taken more).1;
       untouched = λ none. absurd (omega (arith, none, c.if-n-eq0.false));
-      none_failed = omega (arith, c.in_ok-n.ensures.taken, c.if-n-eq0.false, c.loop-taken.invariant.none_failed);
+      none_failed = let more : 0 < n = omega (arith, c.if-n-eq0.false) in (c.in_ok-n.ensures.taken more).0 ∙ c.loop-taken.invariant.none_failed;
     }
