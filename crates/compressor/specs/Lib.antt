@@ -1,3 +1,5 @@
 pub mod Printing
+pub mod Images
 pub mod Word
 pub mod Plan
+pub mod Tasks

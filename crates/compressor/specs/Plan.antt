@@ -1,5 +1,6 @@
 -- What the command `plan` prints.
-use Rattle.std.specs.Prelude.{ℕ, List, ◌++◌, unwrap_or, map, codes}
+use Rattle.std.specs.Prelude.{ℕ, List, Option, ◌++◌, unwrap_or, map, codes, IfSome}
+use Rattle.std.specs.Io.KnownBytes.{Appends}
 use Rattle.std.specs.List.{flat_map, range_with_len, enumerate_from}
 use Rattle.heap_layout.specs.Heap.{Heap, Object, live}
 use Rattle.heap_layout.specs.Encoding.{Refuses}
@@ -36,9 +37,13 @@ IsOfPrinting CannotPrint = Unit {0}
 IsOfPrinting OutOfMemory = Unit {0}
 IsOfPrinting _ = ⊥
 
+-- what was printed, between these two contents of the output, is the plan
+abbrev pub PrintsPlan : Option (List ℕ) → Option (List ℕ) → Heap → Type 0
+PrintsPlan before after heap = Appends before after (plan_text heap)
+
 -- why it was not printed: the image is refused, a call of the output failed, which `CountsPrint` tells, or a growth was refused
-abbrev pub RefusesPlan : Refusal → List ℕ → Type 0
-RefusesPlan (Layout fault) bytes = Refuses fault bytes
-RefusesPlan CannotPrint bytes = Unit {0}
-RefusesPlan OutOfMemory bytes = Unit {0}
-RefusesPlan _ bytes = ⊥
+abbrev pub RefusesPlan : Refusal → Option (List ℕ) → Type 0
+RefusesPlan (Layout fault) known = IfSome known (Refuses fault)
+RefusesPlan CannotPrint known = Unit {0}
+RefusesPlan OutOfMemory known = Unit {0}
+RefusesPlan _ known = ⊥

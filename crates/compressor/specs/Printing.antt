@@ -1,12 +1,11 @@
 -- What a call tells of the output and of the file that is read: a refusal for a device comes exactly where one of its calls failed.
 use Rattle.std.specs.Prelude.{◌≡◌, ℕ, ◌+◌, List, [], ◌∷◌, ◌++◌, Option, Result, Ok, Err}
 use Rattle.std.specs.Fmt.{decimal}
-use Rattle.std.specs.Io.KnownBytes.{Keeps}
+use Rattle.std.specs.Io.KnownBytes.{Appends, Keeps}
 use Rattle.heap_layout.specs.Counted.{CountsFailure}
-use Rattle.comp_mutator.specs.declared.refusal.Refusal.TheVariants as mutators
 use Rattle.compressor.specs.declared.refusal.Input.TheVariants.{Image}
 use Rattle.compressor.specs.declared.refusal.Refusal.{Refusal}
-use Rattle.compressor.specs.declared.refusal.Refusal.TheVariants.{Layout, Mutator, CannotOpen, CannotPrint, NoSuchWord, OutOfMemory}
+use Rattle.compressor.specs.declared.refusal.Refusal.TheVariants.{Layout, CannotOpen, CannotPrint, OutOfMemory}
 
 -- a number as it is printed: its decimal digits and a line feed
 abbrev pub line_of : ℕ → List ℕ
@@ -38,16 +37,12 @@ CountsRead before after (Ok _) = after ≡ before
 CountsRead {T = T} before after (Err (Layout fault)) = CountsFailure {T = T} before after (Err fault)
 CountsRead before after (Err _) = after ≡ before
 
--- the image could not be opened, or a growth was refused
-abbrev pub IsOfOpening : Refusal → Type 0
-IsOfOpening (CannotOpen Image) = Unit {0}
-IsOfOpening OutOfMemory = Unit {0}
-IsOfOpening _ = ⊥
+-- why an image could not be opened: there is none, as `lacks` says, or a growth was refused
+abbrev pub IsOfOpening : Type 0 → Refusal → Type 0
+IsOfOpening lacks (CannotOpen Image) = lacks
+IsOfOpening lacks OutOfMemory = Unit {0}
+IsOfOpening lacks _ = ⊥
 
--- the image is refused, the index is past the last page, or a growth was refused
-abbrev pub IsOfWord : Refusal → Type 0
-IsOfWord (Layout _) = Unit {0}
-IsOfWord (NoSuchWord _) = Unit {0}
-IsOfWord (Mutator refusal) = refusal ≡ mutators.OutOfMemory
-IsOfWord OutOfMemory = Unit {0}
-IsOfWord _ = ⊥
+-- the text of a help answer was printed, ended by a line feed
+abbrev pub PrintsHelp : Option (List ℕ) → Option (List ℕ) → Type 0
+PrintsHelp before after = (text : List ℕ) × Appends before after (text ++ 10 ∷ [])

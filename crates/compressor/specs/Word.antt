@@ -1,18 +1,14 @@
--- What the command `word` answers, from the bytes of an image.
-use Rattle.std.specs.Prelude.{◌≡◌, ℕ, ◌*◌, ◌<◌, ◌≤◌, List, Option, slice_index}
+-- What the command `word` answers, from what is known of the bytes of an image.
+use Rattle.std.specs.Prelude.{◌≡◌, ℕ, ◌*◌, ◌<◌, ◌≤◌, List, Option, IfSome, slice_index}
 use Rattle.std.specs.Io.KnownBytes.{Appends}
-use Rattle.heap_layout.specs.Heap.{Heap, live, IsStored}
-use Rattle.heap_layout.specs.Faults.{IsAccepted}
-use Rattle.heap_layout.specs.Encoding.{encoding, Refuses}
+use Rattle.heap_layout.specs.Heap.{Heap, live}
+use Rattle.heap_layout.specs.Encoding.{Refuses}
 use Rattle.page_plan.specs.Sliding.{slid_words, pages}
 use Rattle.comp_mutator.specs.declared.refusal.Refusal.TheVariants as mutators
+use Rattle.compressor.specs.Images.{IsImageOf}
 use Rattle.compressor.specs.Printing.{line_of}
 use Rattle.compressor.specs.declared.refusal.Refusal.{Refusal}
 use Rattle.compressor.specs.declared.refusal.Refusal.TheVariants.{Layout, Mutator, CannotPrint, NoSuchWord, OutOfMemory}
-
--- the bytes are the image of an accepted heap of which P holds
-abbrev pub IsImage : (Heap → Type 0) → List ℕ → Type 0
-IsImage P bytes = (heap : Heap) × IsStored heap × IsAccepted heap × (bytes ≡ encoding heap) × P heap
 
 -- the word at this index of the slid words, which lies on one of their pages; it is 0 behind the last live word
 pub record IsWordAt (index word : ℕ) (heap : Heap) : Type 0 where
@@ -33,14 +29,14 @@ IsPast index heap OutOfMemory = Unit {0}
 IsPast index heap _ = ⊥
 
 -- why there is no word at this index: the image is refused, the index is past the last page, or a growth was refused
-abbrev pub RefusesWord : ℕ → Refusal → List ℕ → Type 0
-RefusesWord index (Layout fault) bytes = Refuses fault bytes
-RefusesWord index (NoSuchWord past) bytes = (past ≡ index) × IsImage (λ heap. 64 * pages (live heap) ≤ index) bytes
-RefusesWord index (Mutator refusal) bytes = refusal ≡ mutators.OutOfMemory
-RefusesWord index OutOfMemory bytes = Unit {0}
-RefusesWord index _ bytes = ⊥
+abbrev pub RefusesWord : ℕ → Refusal → Option (List ℕ) → Type 0
+RefusesWord index (Layout fault) known = IfSome known (Refuses fault)
+RefusesWord index (NoSuchWord past) known = (past ≡ index) × IsImageOf (λ heap. 64 * pages (live heap) ≤ index) known
+RefusesWord index (Mutator refusal) known = refusal ≡ mutators.OutOfMemory
+RefusesWord index OutOfMemory known = Unit {0}
+RefusesWord index _ known = ⊥
 
 -- why it was not printed: there is no such word, or a call of the output failed, which `CountsPrint` tells
-abbrev pub RefusesPrint : ℕ → Refusal → List ℕ → Type 0
-RefusesPrint index CannotPrint bytes = Unit {0}
-RefusesPrint index refusal bytes = RefusesWord index refusal bytes
+abbrev pub RefusesPrint : ℕ → Refusal → Option (List ℕ) → Type 0
+RefusesPrint index CannotPrint known = Unit {0}
+RefusesPrint index refusal known = RefusesWord index refusal known

@@ -1,7 +1,7 @@
 //! The program: reads its words, does what they ask, and tells what it refuses.
 #![tactic(auto)]
 
-mod image;
+mod images;
 mod plan;
 mod print;
 mod refusal;

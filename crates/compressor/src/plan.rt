@@ -1,13 +1,13 @@
 //! The command `plan`.
-ghost use Rattle.std.specs.Prelude.{◌≡◌, ◌-◌, ◌^◌, ◌<◌, IfErr, IfSome, OnOk, OnErr, Err};
+ghost use Rattle.std.specs.Prelude.{◌≡◌, ◌-◌, ◌^◌, ◌<◌, IfErr, OnOk, OnErr, Err};
 ghost use Rattle.std.specs.Io.KnownBytes.{Appends};
-ghost use Rattle.heap_layout.specs.Counted.{inner_of, failures_of};
+ghost use Rattle.heap_layout.specs.Counted.{inner_of, failures_of, writer_of};
 ghost use Rattle.heap_layout.specs.Heap.{live};
 ghost use Rattle.compressor.specs.Printing.{CountsPrint, CountsRead, RefusedUnprinted};
-ghost use Rattle.compressor.specs.Plan.{plan_text, count_lines, page_lines, root_lines, IsOfPrinting, RefusesPlan};
-ghost use Rattle.compressor.specs.Word.{IsImage};
+ghost use Rattle.compressor.specs.Plan.{plan_text, count_lines, page_lines, root_lines, IsOfPrinting, PrintsPlan, RefusesPlan};
+ghost use Rattle.compressor.specs.Images.{IsImageOf, SomeGiven, RefusesAt};
 
-use crate::image::open_image;
+use crate::images::Images;
 use crate::print::{print_line, print_numbered};
 use crate::refusal::Refusal;
 use heap_layout::counted::Counted;
@@ -15,19 +15,24 @@ use heap_layout::image::read_image;
 use page_plan::plan::Plan;
 use std::alloc::Global;
 use std::io::{Read, Write};
-use std::rt::Files;
 
-/// Prints the plan of the heap whose image is in a file.
-pub fn print_plan<R: Files + AllocGlobal, O: Write>(
-    rt: &R,
+/// Prints the plan of the heap whose image lies at a path.
+pub fn print_plan<I: Images, O: Write>(
+    alloc: Global,
+    images: &I,
     path: &str,
-    out: &mut Counted<O>,
+    out: &mut Counted<&mut O>,
 ) -> Result<(), Refusal>
     requires { failures_of out.old < 2 ^ 64 - 1 }
+    ensures printed { OnOk result (SomeGiven (I.gives images.now path.now) I.Reader.remaining
+        (IsImageOf (PrintsPlan (O.contents (inner_of out.old).now) (O.contents (inner_of out.new).now)))) }
+    ensures cause { IfErr result (RefusesAt (I.lacks images.now path.now) (I.gives images.now path.now) I.Reader.remaining RefusesPlan) }
     ensures counts { CountsPrint (failures_of out.old) (failures_of out.new) result }
-    ensures unprinted { RefusedUnprinted (O.contents (inner_of out.old)) (O.contents (inner_of out.new)) result }
+    ensures same_writer { writer_of out.new ≡ writer_of out.old }
+    ensures unprinted { RefusedUnprinted (O.contents (inner_of out.old).now) (O.contents (inner_of out.new).now) result }
 {
-    print_plan_in(rt.alloc(), &mut open_image(rt, path)?, out)
+    let mut reader = Counted::new(images.open(path)?);
+    print_plan_in(alloc, &mut reader, out)
 }
 
 /// Prints the plan of the heap whose image is all that the reader has left: the live words, the pages, the first object of each page and where each
@@ -35,16 +40,17 @@ pub fn print_plan<R: Files + AllocGlobal, O: Write>(
 pub fn print_plan_in<R: Read, O: Write>(
     alloc: Global,
     r: &mut Counted<R>,
-    out: &mut Counted<O>,
+    out: &mut Counted<&mut O>,
 ) -> Result<(), Refusal>
     requires read { failures_of r.old < 2 ^ 64 - 1 }
     requires written { failures_of out.old < 2 ^ 64 - 1 }
-    ensures printed { OnOk result (IfSome (R.remaining (inner_of r.old))
-        (IsImage (λ heap. Appends (O.contents (inner_of out.old)) (O.contents (inner_of out.new)) (plan_text heap)))) }
-    ensures cause { IfErr result (λ refusal. IfSome (R.remaining (inner_of r.old)) (RefusesPlan refusal)) }
+    ensures printed { OnOk result (IsImageOf (PrintsPlan (O.contents (inner_of out.old).now) (O.contents (inner_of out.new).now))
+        (R.remaining (inner_of r.old))) }
+    ensures cause { IfErr result (λ refusal. RefusesPlan refusal (R.remaining (inner_of r.old))) }
     ensures reads { CountsRead (failures_of r.old) (failures_of r.new) result }
     ensures counts { CountsPrint (failures_of out.old) (failures_of out.new) result }
-    ensures unprinted { RefusedUnprinted (O.contents (inner_of out.old)) (O.contents (inner_of out.new)) result }
+    ensures same_writer { writer_of out.new ≡ writer_of out.old }
+    ensures unprinted { RefusedUnprinted (O.contents (inner_of out.old).now) (O.contents (inner_of out.new).now) result }
 {
     let heap = read_image(alloc, r)?;
     let plan = Plan::new(alloc, heap)?;
@@ -52,12 +58,17 @@ pub fn print_plan_in<R: Read, O: Write>(
 }
 
 // All lines of a plan.
-fn write_plan<O: Write>(alloc: Global, plan: &Plan, out: &mut Counted<O>) -> Result<(), Refusal>
+fn write_plan<O: Write>(
+    alloc: Global,
+    plan: &Plan,
+    out: &mut Counted<&mut O>,
+) -> Result<(), Refusal>
     requires { failures_of out.old < 2 ^ 64 - 1 }
-    ensures printed { OnOk result (Appends (O.contents (inner_of out.old)) (O.contents (inner_of out.new)) (plan_text plan.now)) }
+    ensures printed { OnOk result (Appends (O.contents (inner_of out.old).now) (O.contents (inner_of out.new).now) (plan_text plan.now)) }
     ensures cause { IfErr result IsOfPrinting }
     ensures counts { CountsPrint (failures_of out.old) (failures_of out.new) result }
-    ensures unprinted { RefusedUnprinted (O.contents (inner_of out.old)) (O.contents (inner_of out.new)) result }
+    ensures same_writer { writer_of out.new ≡ writer_of out.old }
+    ensures unprinted { RefusedUnprinted (O.contents (inner_of out.old).now) (O.contents (inner_of out.new).now) result }
 {
     let roots = plan.forward_roots(alloc)?;
     write_counts(plan, out)?;
@@ -66,22 +77,24 @@ fn write_plan<O: Write>(alloc: Global, plan: &Plan, out: &mut Counted<O>) -> Res
 }
 
 // The live words and the pages.
-fn write_counts<O: Write>(plan: &Plan, out: &mut Counted<O>) -> Result<(), Refusal>
+fn write_counts<O: Write>(plan: &Plan, out: &mut Counted<&mut O>) -> Result<(), Refusal>
     requires { failures_of out.old < 2 ^ 64 - 1 }
-    ensures printed { OnOk result (Appends (O.contents (inner_of out.old)) (O.contents (inner_of out.new)) (count_lines (live plan.now))) }
+    ensures printed { OnOk result (Appends (O.contents (inner_of out.old).now) (O.contents (inner_of out.new).now) (count_lines (live plan.now))) }
     ensures cause { OnErr result (result ≡ Err Refusal.CannotPrint) }
     ensures counts { CountsPrint (failures_of out.old) (failures_of out.new) result }
+    ensures same_writer { writer_of out.new ≡ writer_of out.old }
 {
     print_line("live ", plan.live_words(), out)?;
     print_line("pages ", plan.pages(), out)
 }
 
 // The first object of each page.
-fn write_pages<O: Write>(plan: &Plan, out: &mut Counted<O>) -> Result<(), Refusal>
+fn write_pages<O: Write>(plan: &Plan, out: &mut Counted<&mut O>) -> Result<(), Refusal>
     requires { failures_of out.old < 2 ^ 64 - 1 }
-    ensures printed { OnOk result (Appends (O.contents (inner_of out.old)) (O.contents (inner_of out.new)) (page_lines (live plan.now))) }
+    ensures printed { OnOk result (Appends (O.contents (inner_of out.old).now) (O.contents (inner_of out.new).now) (page_lines (live plan.now))) }
     ensures cause { OnErr result (result ≡ Err Refusal.CannotPrint) }
     ensures counts { CountsPrint (failures_of out.old) (failures_of out.new) result }
+    ensures same_writer { writer_of out.new ≡ writer_of out.old }
 {
     for p in 0..plan.pages() {
         let first = plan.first_object(p).unwrap_or(0);
@@ -91,11 +104,12 @@ fn write_pages<O: Write>(plan: &Plan, out: &mut Counted<O>) -> Result<(), Refusa
 }
 
 // Where each root leads.
-fn write_roots<O: Write>(roots: &[u64], out: &mut Counted<O>) -> Result<(), Refusal>
+fn write_roots<O: Write>(roots: &[u64], out: &mut Counted<&mut O>) -> Result<(), Refusal>
     requires { failures_of out.old < 2 ^ 64 - 1 }
-    ensures printed { OnOk result (Appends (O.contents (inner_of out.old)) (O.contents (inner_of out.new)) (root_lines roots.now)) }
+    ensures printed { OnOk result (Appends (O.contents (inner_of out.old).now) (O.contents (inner_of out.new).now) (root_lines roots.now)) }
     ensures cause { OnErr result (result ≡ Err Refusal.CannotPrint) }
     ensures counts { CountsPrint (failures_of out.old) (failures_of out.new) result }
+    ensures same_writer { writer_of out.new ≡ writer_of out.old }
 {
     for (number, address) in roots.iter().enumerate() {
         print_numbered("root ", number as u64, " ", *address, out)?;

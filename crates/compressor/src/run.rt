@@ -1,8 +1,10 @@
-ghost use Rattle.std.specs.Prelude.{◌≡◌, ◌-◌, ◌^◌, ◌<◌, ◌≤◌, OnOk, OnErr};
+ghost use Rattle.std.specs.Prelude.{◌≡◌, ◌-◌, ◌^◌, ◌<◌, ◌≤◌, true, IfErr, OnOk, OnErr};
 ghost use Rattle.std.specs.Io.KnownBytes.{Keeps};
-ghost use Rattle.heap_layout.specs.Counted.{inner_of, failures_of};
-ghost use Rattle.compressor.specs.Printing.{CountsPrint, RefusedUnprinted};
+ghost use Rattle.heap_layout.specs.Counted.{inner_of, failures_of, is_flushed_of, writer_of};
+ghost use Rattle.compressor.specs.Printing.{CountsPrint, PrintsHelp, RefusedUnprinted};
+ghost use Rattle.compressor.specs.Tasks.{Answers, DoesTask, HasPrinted, RefusesTask};
 
+use crate::images::{FileImages, Images};
 use crate::plan::print_plan;
 use crate::print::{flush, print_text};
 use crate::refusal::Refusal;
@@ -32,11 +34,32 @@ pub fn run<R: Files + AllocGlobal, O: Write, E: Write>(
     err: &mut E,
 ) -> u8
     ensures status { result ≤ 2 }
+    ensures done { result ≡ 0 → HasPrinted (O.contents out.old) (O.contents out.new) }
     ensures misused { result ≡ 2 → Keeps (O.contents out.old) (O.contents out.new) }
 {
     let mut out = Counted::new(out);
-    match read_task(rt.alloc(), &words) {
-        Ok(Some(task)) => told(perform(rt, task, &mut out), err),
+    let asked = read_task(rt.alloc(), &words);
+    respond(rt.alloc(), &FileImages::new(rt), asked, &mut out, err)
+}
+
+/// Does what is asked, and answers the status. A refusal is one line on `err`; a call of `out` that fails is one.
+pub fn respond<I: Images, O: Write, E: Write>(
+    alloc: Global,
+    images: &I,
+    asked: Result<Option<Task>, clap::Error>,
+    out: &mut Counted<&mut O>,
+    err: &mut E,
+) -> u8
+    requires { failures_of out.old < 2 ^ 64 - 1 }
+    ensures status { result ≤ 2 }
+    ensures done { result ≡ 0 → Answers (I.gives images.now) I.Reader.remaining (O.contents (inner_of out.old).now) (O.contents (inner_of out.new).now) asked.entry }
+    ensures flushed { result ≡ 0 → is_flushed_of out.new ≡ true }
+    ensures refused { result ≡ 1 → failures_of out.new ≡ failures_of out.old → Keeps (O.contents (inner_of out.old).now) (O.contents (inner_of out.new).now) }
+    ensures misused { result ≡ 2 → Keeps (O.contents (inner_of out.old).now) (O.contents (inner_of out.new).now) }
+    ensures same_writer { writer_of out.new ≡ writer_of out.old }
+{
+    match asked {
+        Ok(Some(task)) => told(perform(alloc, images, task, out), err),
         Ok(None) => MISUSED,
         Err(error) if error.kind() == ErrorKind::OutOfMemory => told(
             Err(Refusal::OutOfMemory),
@@ -46,36 +69,48 @@ pub fn run<R: Files + AllocGlobal, O: Write, E: Write>(
             let _ = write!(err, "{error}");
             MISUSED
         }
-        Err(help) => told(print_help(rt.alloc(), &help, &mut out), err),
+        Err(help) => told(print_help(alloc, &help, out), err),
     }
 }
 
-fn perform<R: Files + AllocGlobal, O: Write>(
-    rt: &R,
+/// Does a task.
+pub fn perform<I: Images, O: Write>(
+    alloc: Global,
+    images: &I,
     task: Task,
-    out: &mut Counted<O>,
+    out: &mut Counted<&mut O>,
 ) -> Result<(), Refusal>
     requires { failures_of out.old < 2 ^ 64 - 1 }
+    ensures done { OnOk result (DoesTask (I.gives images.now) I.Reader.remaining (O.contents (inner_of out.old).now) (O.contents (inner_of out.new).now) task.entry) }
+    ensures cause { IfErr result (RefusesTask (I.lacks images.now) (I.gives images.now) I.Reader.remaining task.entry) }
+    ensures flushed { OnOk result (is_flushed_of out.new ≡ true) }
     ensures counts { CountsPrint (failures_of out.old) (failures_of out.new) result }
-    ensures unprinted { RefusedUnprinted (O.contents (inner_of out.old)) (O.contents (inner_of out.new)) result }
+    ensures same_writer { writer_of out.new ≡ writer_of out.old }
+    ensures unprinted { RefusedUnprinted (O.contents (inner_of out.old).now) (O.contents (inner_of out.new).now) result }
 {
     match task {
-        Task::Plan { image } => print_plan(rt, image, out)?,
-        Task::Word { image, index } => print_word(rt, image, index, out)?,
+        Task::Plan { image } => print_plan(alloc, images, image, out)?,
+        Task::Word { image, index } => print_word(alloc, images, image, index, out)?,
     }
     flush(out)
 }
 
+// Prints the text of a help answer. Its last line ends with a line feed, however it is laid out.
 fn print_help<O: Write>(
     alloc: Global,
     help: &clap::Error,
-    out: &mut Counted<O>,
+    out: &mut Counted<&mut O>,
 ) -> Result<(), Refusal>
     requires { failures_of out.old < 2 ^ 64 - 1 }
+    ensures printed { OnOk result (PrintsHelp (O.contents (inner_of out.old).now) (O.contents (inner_of out.new).now)) }
+    ensures flushed { OnOk result (is_flushed_of out.new ≡ true) }
     ensures counts { CountsPrint (failures_of out.old) (failures_of out.new) result }
-    ensures unprinted { RefusedUnprinted (O.contents (inner_of out.old)) (O.contents (inner_of out.new)) result }
+    ensures same_writer { writer_of out.new ≡ writer_of out.old }
+    ensures unprinted { RefusedUnprinted (O.contents (inner_of out.old).now) (O.contents (inner_of out.new).now) result }
 {
-    print_text(&help.to_string(alloc)?, out)?;
+    let text = help.to_string(alloc)?;
+    print_text(text.trim_end(), out)?;
+    print_text("\n", out)?;
     flush(out)
 }
 

@@ -1,16 +1,17 @@
 //! The command `word`.
-ghost use Rattle.std.specs.Prelude.{◌≡◌, ◌*◌, ◌-◌, ◌/◌, ◌^◌, ◌<◌, ◌≤◌, map, slice_index, IfOk, IfErr, IfSome, OnOk, OnErr, Err};
-ghost use Rattle.heap_layout.specs.Counted.{inner_of, failures_of};
+ghost use Rattle.std.specs.Prelude.{◌≡◌, ◌*◌, ◌-◌, ◌/◌, ◌^◌, ◌<◌, ◌≤◌, map, slice_index, IfOk, IfErr, OnOk, OnErr, Err};
+ghost use Rattle.heap_layout.specs.Counted.{inner_of, failures_of, writer_of};
 ghost use Rattle.heap_layout.specs.Heap.{live};
 ghost use Rattle.page_plan.specs.Sliding.{pages, slid_words};
 ghost use Rattle.page_cells.specs.Cells.{steps_of, AreNew, IsNew};
 ghost use Rattle.comp_mutator.specs.Mutators.{cells_of, pass_of, setup_of};
 ghost use Rattle.comp_mutator.specs.declared.refusal.Refusal.TheVariants as refusals;
 ghost use Rattle.std.specs.Io.KnownBytes.{Appends};
-ghost use Rattle.compressor.specs.Printing.{line_of, CountsPrint, CountsRead, IsOfWord, RefusedUnprinted};
-ghost use Rattle.compressor.specs.Word.{IsImage, IsWordAt, IsPast, PrintsWordAt, RefusesWord, RefusesPrint};
+ghost use Rattle.compressor.specs.Printing.{line_of, CountsPrint, CountsRead, RefusedUnprinted};
+ghost use Rattle.compressor.specs.Images.{IsImageOf, SomeGiven, RefusesAt};
+ghost use Rattle.compressor.specs.Word.{IsWordAt, IsPast, PrintsWordAt, RefusesWord, RefusesPrint};
 
-use crate::image::open_image;
+use crate::images::Images;
 use crate::print::{print_digits, print_text};
 use crate::refusal::Refusal;
 use comp_mutator::flipping::flip;
@@ -24,21 +25,26 @@ use page_plan::laws::pages_are_parts;
 use page_plan::plan::Plan;
 use std::alloc::Global;
 use std::io::{Read, Write};
-use std::rt::Files;
 use std::sync::Arc;
 
-/// Prints the slid word at an index, of the heap whose image is in a file.
-pub fn print_word<R: Files + AllocGlobal, O: Write>(
-    rt: &R,
+/// Prints the slid word at an index, of the heap whose image lies at a path.
+pub fn print_word<I: Images, O: Write>(
+    alloc: Global,
+    images: &I,
     path: &str,
     index: u64,
-    out: &mut Counted<O>,
+    out: &mut Counted<&mut O>,
 ) -> Result<(), Refusal>
     requires { failures_of out.old < 2 ^ 64 - 1 }
+    ensures printed { OnOk result (SomeGiven (I.gives images.now path.now) I.Reader.remaining
+        (IsImageOf (PrintsWordAt index (O.contents (inner_of out.old).now) (O.contents (inner_of out.new).now)))) }
+    ensures cause { IfErr result (RefusesAt (I.lacks images.now path.now) (I.gives images.now path.now) I.Reader.remaining (RefusesPrint index)) }
     ensures counts { CountsPrint (failures_of out.old) (failures_of out.new) result }
-    ensures unprinted { RefusedUnprinted (O.contents (inner_of out.old)) (O.contents (inner_of out.new)) result }
+    ensures same_writer { writer_of out.new ≡ writer_of out.old }
+    ensures unprinted { RefusedUnprinted (O.contents (inner_of out.old).now) (O.contents (inner_of out.new).now) result }
 {
-    print_word_in(rt.alloc(), &mut open_image(rt, path)?, index, out)
+    let mut reader = Counted::new(images.open(path)?);
+    print_word_in(alloc, &mut reader, index, out)
 }
 
 /// Prints the slid word at an index, of the heap whose image is all that the reader has left: its decimal digits and a line feed.
@@ -46,27 +52,29 @@ pub fn print_word_in<R: Read, O: Write>(
     alloc: Global,
     r: &mut Counted<R>,
     index: u64,
-    out: &mut Counted<O>,
+    out: &mut Counted<&mut O>,
 ) -> Result<(), Refusal>
     requires read { failures_of r.old < 2 ^ 64 - 1 }
     requires written { failures_of out.old < 2 ^ 64 - 1 }
-    ensures printed { OnOk result (IfSome (R.remaining (inner_of r.old))
-        (IsImage (PrintsWordAt index (O.contents (inner_of out.old)) (O.contents (inner_of out.new))))) }
-    ensures cause { IfErr result (λ refusal. IfSome (R.remaining (inner_of r.old)) (RefusesPrint index refusal)) }
+    ensures printed { OnOk result (IsImageOf (PrintsWordAt index (O.contents (inner_of out.old).now) (O.contents (inner_of out.new).now))
+        (R.remaining (inner_of r.old))) }
+    ensures cause { IfErr result (λ refusal. RefusesPrint index refusal (R.remaining (inner_of r.old))) }
     ensures reads { CountsRead (failures_of r.old) (failures_of r.new) result }
     ensures counts { CountsPrint (failures_of out.old) (failures_of out.new) result }
-    ensures unprinted { RefusedUnprinted (O.contents (inner_of out.old)) (O.contents (inner_of out.new)) result }
+    ensures same_writer { writer_of out.new ≡ writer_of out.old }
+    ensures unprinted { RefusedUnprinted (O.contents (inner_of out.old).now) (O.contents (inner_of out.new).now) result }
 {
     let word = word_in(alloc, r, index)?;
     print_number(word, out)
 }
 
 // Prints a number and a line feed.
-fn print_number<O: Write>(number: u64, out: &mut Counted<O>) -> Result<(), Refusal>
+fn print_number<O: Write>(number: u64, out: &mut Counted<&mut O>) -> Result<(), Refusal>
     requires { failures_of out.old < 2 ^ 64 - 1 }
-    ensures printed { OnOk result (Appends (O.contents (inner_of out.old)) (O.contents (inner_of out.new)) (line_of number)) }
+    ensures printed { OnOk result (Appends (O.contents (inner_of out.old).now) (O.contents (inner_of out.new).now) (line_of number)) }
     ensures cause { OnErr result (result ≡ Err Refusal.CannotPrint) }
     ensures counts { CountsPrint (failures_of out.old) (failures_of out.new) result }
+    ensures same_writer { writer_of out.new ≡ writer_of out.old }
 {
     print_digits(number, out)?;
     print_text("\n", out)
@@ -75,9 +83,8 @@ fn print_number<O: Write>(number: u64, out: &mut Counted<O>) -> Result<(), Refus
 /// The slid word at an index, of the heap whose image is all that the reader has left.
 pub fn word_in<R: Read>(alloc: Global, r: &mut Counted<R>, index: u64) -> Result<u64, Refusal>
     requires { failures_of r.old < 2 ^ 64 - 1 }
-    ensures word { IfOk result (λ word. IfSome (R.remaining (inner_of r.old)) (IsImage (IsWordAt index word))) }
-    ensures cause { IfErr result (λ refusal. IfSome (R.remaining (inner_of r.old)) (RefusesWord index refusal)) }
-    ensures kind { IfErr result IsOfWord }
+    ensures word { IfOk result (λ word. IsImageOf (IsWordAt index word) (R.remaining (inner_of r.old))) }
+    ensures cause { IfErr result (λ refusal. RefusesWord index refusal (R.remaining (inner_of r.old))) }
     ensures reads { CountsRead (failures_of r.old) (failures_of r.new) result }
 {
     let heap = read_image(alloc, r)?;

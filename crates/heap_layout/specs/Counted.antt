@@ -1,5 +1,6 @@
 -- What a clause reads of a `Counted`.
-use Rattle.std.specs.Prelude.{◌≡◌, ℕ, ◌+◌, ◌-◌, ◌^◌, ◌<◌, min, List, length, take, Option, Result, Ok, Err}
+use Rattle.std.specs.Prelude.{◌≡◌, ℕ, ◌+◌, ◌-◌, ◌^◌, ◌<◌, min, List, length, take, Bool, Option, Result, Ok, Err}
+use Rattle.std.specs.Borrow.{MutBor}
 use Rattle.std.specs.Io.KnownBytes.{Appends}
 use Rattle.heap_layout.specs.declared.counted.Counted.{Counted}
 use Rattle.heap_layout.specs.declared.fault.LayoutFault.{LayoutFault}
@@ -9,9 +10,17 @@ use Rattle.heap_layout.specs.declared.fault.LayoutFault.TheVariants.{Device}
 abbrev pub inner_of : {R : Type 0} → Counted R → R
 inner_of counted = counted.inner
 
+-- which writer it borrows
+abbrev pub writer_of : {W : Type 0} → Counted (MutBor W) → ℕ
+writer_of counted = counted.inner.ghost_name
+
 -- how many of its calls failed
 abbrev pub failures_of : {R : Type 0} → Counted R → ℕ
 failures_of counted = counted.failures
+
+-- whether all that the writer took has been flushed since
+abbrev pub is_flushed_of : {R : Type 0} → Counted R → Bool
+is_flushed_of counted = counted.flushed
 
 -- a count of failed calls, and one more of them; it stays at the largest number
 abbrev pub one_more : ℕ → ℕ

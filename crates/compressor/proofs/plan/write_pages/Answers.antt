@@ -12,4 +12,5 @@ loop-p-preserved g c =
     record {
       printed = rw (numbered-next (page_line objects) p) (Appends-trans _ _ _ _ _ c.loop-p.invariant.printed (search rules));
       none_failed = c.in_ok-print_numbered.ensures.counts ∙ c.loop-p.invariant.none_failed;
+      same_writer = c.in_ok-print_numbered.ensures.same_writer ∙ c.loop-p.invariant.same_writer;
     }

@@ -12,4 +12,5 @@ loop-number-preserved g c =
     record {
       printed = rw (enumerated-next root_line roots k lt) (Appends-trans _ _ _ _ _ c.loop-number.invariant.printed (search rules));
       none_failed = c.in_ok-print_numbered.ensures.counts ∙ c.loop-number.invariant.none_failed;
+      same_writer = c.in_ok-print_numbered.ensures.same_writer ∙ c.loop-number.invariant.same_writer;
     }

@@ -1,9 +1,9 @@
-use Rattle.std.proofs.Common.{◌∙◌, ◌-◌, ◌++◌, ap, length, sym, subst, take, drop, rules, arith}
+use Rattle.std.proofs.Common.{◌∙◌, ◌-◌, ◌<◌, ◌++◌, ap, length, sym, subst, take, drop, rules, arith}
 use Rattle.std.proofs.lemmas.List.{take_rest}
 use Rattle.std.proofs.Math.Seq.{take-add}
 use Rattle.std.specs.Io.KnownBytes.{Appends}
 use Rattle.std.proofs.KnownBytes.{Appends-trans}
-use Rattle.heap_layout.proofs.counted.Counted.write_part.Goals as goal
+use Rattle.heap_layout.proofs.counted.Counted+mut+W.write_part.Goals as goal
 
 pub loop-taken-preserved : goal.loop-taken-preserved
 loop-taken-preserved g c =
@@ -16,5 +16,8 @@ loop-taken-preserved g c =
       within = search rules;
       written = subst (Appends _ _) (ap (λ more. front ++ take n more) (take_rest part taken) ∙ sym (take-add taken n part))
           (Appends-trans _ _ _ front (take n rest) c.loop-taken.invariant.written c.in_ok-n.ensures.bytes);
-      none_failed = omega (arith, c.in_ok-n.ensures.taken, c.if-n-eq0.false, c.loop-taken.invariant.none_failed);
+      same_writer = c.in_ok-n.ensures.same_writer ∙ c.loop-taken.invariant.same_writer;
+      unflushed = λ _. let more : 0 < n = omega (arith, c.if-n-eq0.false) in (c.in_ok-n.ensures.taken more).1;
+      untouched = λ none. absurd (omega (arith, none, c.if-n-eq0.false));
+      none_failed = let more : 0 < n = omega (arith, c.if-n-eq0.false) in (c.in_ok-n.ensures.taken more).0 ∙ c.loop-taken.invariant.none_failed;
     }

@@ -1,0 +1,22 @@
+-- What is promised from the path of an image on.
+use Rattle.std.specs.Prelude.{◌≡◌, ℕ, List, Option, IfSome}
+use Rattle.heap_layout.specs.Heap.{Heap, IsStored}
+use Rattle.heap_layout.specs.Faults.{IsAccepted}
+use Rattle.heap_layout.specs.Encoding.{encoding}
+use Rattle.compressor.specs.declared.refusal.Input.TheVariants.{Image}
+use Rattle.compressor.specs.declared.refusal.Refusal.{Refusal}
+use Rattle.compressor.specs.declared.refusal.Refusal.TheVariants.{CannotOpen, OutOfMemory}
+
+-- P holds of an accepted heap; where the bytes of the image are known, they are the heap's encoding
+abbrev pub IsImageOf : (Heap → Type 0) → Option (List ℕ) → Type 0
+IsImageOf P known = (heap : Heap) × IsStored heap × IsAccepted heap × IfSome known (λ bytes. bytes ≡ encoding heap) × P heap
+
+-- P holds of what some reader that is given tells of its bytes
+abbrev pub SomeGiven : {R : Type 0} → (R → Type 0) → (R → Option (List ℕ)) → (Option (List ℕ) → Type 0) → Type 0
+SomeGiven {R = R} gives remaining P = (reader : R) × gives reader × P (remaining reader)
+
+-- why a task on an image is refused: there is none at the path; or a growth was refused; or P tells why, of what some reader that is given tells
+abbrev pub RefusesAt : {R : Type 0} → Type 0 → (R → Type 0) → (R → Option (List ℕ)) → (Refusal → Option (List ℕ) → Type 0) → Refusal → Type 0
+RefusesAt lacks gives remaining P (CannotOpen Image) = lacks
+RefusesAt lacks gives remaining P OutOfMemory = Unit {0}
+RefusesAt lacks gives remaining P refusal = SomeGiven gives remaining (P refusal)

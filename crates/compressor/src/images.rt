@@ -1,0 +1,52 @@
+//! Where the images lie.
+ghost use Rattle.std.specs.Prelude.{ℕ, List, IfOk, IfErr};
+ghost use Rattle.compressor.specs.Printing.{IsOfOpening};
+
+use crate::refusal::{Input, Refusal};
+use std::alloc::Global;
+use std::fs;
+use std::io::{BufReader, Read};
+use std::rt::Files;
+
+/// Where the images lie that the program is given by their paths.
+pub trait Images {
+    type Reader: Read + Drop;
+
+    // what is known of each reader that a path gives
+    ghost gives: { Self → List ℕ → Self.Reader → Type 0 };
+
+    // what is known where a path gives none
+    ghost lacks: { Self → List ℕ → Type 0 };
+
+    /// Opens the image at a path, to be read from its first byte.
+    fn open(&self, path: &str) -> Result<Self::Reader, Refusal>
+        ensures given { IfOk result (gives self.now path.now) }
+        ensures cause { IfErr result (IsOfOpening (lacks self.now path.now)) };
+}
+
+/// The images that lie in files, which are read through a buffer.
+#[derive(Drop)]
+pub struct FileImages<'a, R> {
+    rt: &'a R,
+}
+
+impl<'a, R> FileImages<'a, R> {
+    /// The files of a runtime.
+    pub fn new(rt: &'a R) -> FileImages<'a, R> {
+        FileImages { rt }
+    }
+}
+
+impl<R: Files + AllocGlobal> Images for FileImages<'_, R> {
+    type Reader = BufReader<R::File, Global>;
+
+    // Which file a path leads to, and what a file holds, the kit's contracts do not say: each reader may be given, and each path may give none.
+    ghost gives = { λ _ _ _. Unit {0} };
+
+    ghost lacks = { λ _ _. Unit {0} };
+
+    fn open(&self, path: &str) -> Result<BufReader<R::File, Global>, Refusal> {
+        let file = fs::open(self.rt, path).map_err(|_| Refusal::CannotOpen(Input::Image))?;
+        BufReader::new(self.rt.alloc(), file).map_err(|_| Refusal::OutOfMemory)
+    }
+}
