@@ -1,11 +1,12 @@
--- A task that is done has printed a word of some accepted heap, or the plan of one.
+-- A task that is done has printed a word of some accepted heap, the plan of one, or a text of help.
 use Rattle.std.proofs.Common.{ℕ, List, Option, inl, inr, Some, None, Ok, Err, Result}
+use Rattle.std.specs.String.{string_bytes}
 use Rattle.clap.specs.declared.error.Error.{Error}
 use Rattle.heap_layout.specs.Heap.{Heap}
 use Rattle.compressor.specs.Images.{IsImageOf, SomeGiven}
 use Rattle.compressor.specs.Tasks.{Answers, HasPrinted, SomeHeap}
 use Rattle.compressor.specs.declared.words.Task.{Task}
-use Rattle.compressor.specs.declared.words.Task.TheVariants.{Plan, Word}
+use Rattle.compressor.specs.declared.words.Task.TheVariants.{Plan, Word, Help}
 
 -- the heap whose image was given is accepted
 heap_of : {R : Type 0} (gives : R → Type 0) (remaining : R → Option (List ℕ)) (P : Heap → Type 0) → SomeGiven gives remaining (IsImageOf P) → SomeHeap P
@@ -16,5 +17,6 @@ pub answered : {R : Type 0} (gives : List ℕ → R → Type 0) (remaining : R �
     → Answers gives remaining before after asked → HasPrinted before after
 answered gives remaining before after (Ok (Some (Plan image))) h = inr (inl (heap_of _ _ _ h))
 answered gives remaining before after (Ok (Some (Word image index))) h = inl (index, heap_of _ _ _ h)
+answered gives remaining before after (Ok (Some (Help text))) h = inr (inr (string_bytes text, h))
 answered gives remaining before after (Ok None) h = absurd h
-answered gives remaining before after (Err error) h = inr (inr h.1)
+answered gives remaining before after (Err error) h = absurd h

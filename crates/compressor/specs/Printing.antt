@@ -1,7 +1,11 @@
 -- What a call tells of the output and of the file that is read: a refusal for a device comes exactly where one of its calls failed.
-use Rattle.std.specs.Prelude.{◌≡◌, ℕ, ◌+◌, List, [], ◌∷◌, ◌++◌, Option, Result, Ok, Err}
+use Rattle.std.specs.Prelude.{◌≡◌, ◌≢◌, ℕ, ◌+◌, List, [], ◌∷◌, ◌++◌, Option, Result, Ok, Err}
 use Rattle.std.specs.Fmt.{decimal}
-use Rattle.std.specs.Io.KnownBytes.{Appends, Keeps}
+use Rattle.std.specs.Io.KnownBytes.{Keeps}
+use Rattle.std.specs.Str.{trim_end}
+use Rattle.clap.specs.Values.{kind_of}
+use Rattle.clap.specs.declared.error.Error.{Error}
+use Rattle.clap.specs.declared.error.kind.ErrorKind.TheVariants.{DisplayHelp, DisplayVersion}
 use Rattle.heap_layout.specs.Counted.{CountsFailure}
 use Rattle.compressor.specs.declared.refusal.Input.TheVariants.{Image}
 use Rattle.compressor.specs.declared.refusal.Refusal.{Refusal}
@@ -18,6 +22,10 @@ named name number = name ++ line_of number
 -- a name and its number, and then a second name with its number and a line feed
 abbrev pub numbered : List ℕ → ℕ → List ℕ → ℕ → List ℕ
 numbered name number second value = name ++ decimal number ++ named second value
+
+-- a text of help as it is printed: without white space at its end, and then a line feed
+abbrev pub help_lines : List ℕ → List ℕ
+help_lines text = trim_end text ++ 10 ∷ []
 
 -- a call answers `CannotPrint` exactly where one more call of the output failed
 abbrev pub CountsPrint : {T : Type 0} → ℕ → ℕ → Result T Refusal → Type 0
@@ -43,6 +51,6 @@ IsOfOpening lacks (CannotOpen Image) = lacks
 IsOfOpening lacks OutOfMemory = Unit {0}
 IsOfOpening lacks _ = ⊥
 
--- the text of a help answer was printed, ended by a line feed
-abbrev pub PrintsHelp : Option (List ℕ) → Option (List ℕ) → Type 0
-PrintsHelp before after = (text : List ℕ) × Appends before after (text ++ 10 ∷ [])
+-- the parser's answer is a text of help, or of the version
+abbrev pub IsHelp : Error → Type 0
+IsHelp error = ¬ ((kind_of error ≢ DisplayHelp) × (kind_of error ≢ DisplayVersion))

@@ -1,37 +1,36 @@
 -- What the program answers to what it is asked.
-use Rattle.std.specs.Prelude.{◌≡◌, ◌≢◌, ◌⊎◌, ℕ, List, Option, Some, None, Result, Ok, Err}
-use Rattle.clap.specs.Values.{kind_of}
+use Rattle.std.specs.Prelude.{◌≡◌, ◌⊎◌, ℕ, List, Option, Some, None, Result, Ok, Err}
+use Rattle.std.specs.Io.KnownBytes.{Appends}
+use Rattle.std.specs.String.{string_bytes}
 use Rattle.clap.specs.declared.error.Error.{Error}
-use Rattle.clap.specs.declared.error.kind.ErrorKind.TheVariants.{DisplayHelp, DisplayVersion}
 use Rattle.heap_layout.specs.Heap.{Heap, IsStored}
 use Rattle.heap_layout.specs.Faults.{IsAccepted}
 use Rattle.compressor.specs.Images.{IsImageOf, SomeGiven, RefusesAt}
 use Rattle.compressor.specs.Plan.{PrintsPlan, RefusesPlan}
-use Rattle.compressor.specs.Printing.{PrintsHelp}
+use Rattle.compressor.specs.Printing.{help_lines}
 use Rattle.compressor.specs.Word.{PrintsWordAt, RefusesPrint}
 use Rattle.compressor.specs.declared.refusal.Refusal.{Refusal}
+use Rattle.compressor.specs.declared.refusal.Refusal.TheVariants.{CannotPrint}
 use Rattle.compressor.specs.declared.words.Task.{Task}
-use Rattle.compressor.specs.declared.words.Task.TheVariants.{Plan, Word}
+use Rattle.compressor.specs.declared.words.Task.TheVariants.{Plan, Word, Help}
 
--- a task is done: between these two contents of the output, what it asks of the image at its path was printed
+-- a task is done: between these two contents of the output, what it asks of the image at its path was printed, or the text of help
 abbrev pub DoesTask : {R : Type 0} → (List ℕ → R → Type 0) → (R → Option (List ℕ)) → Option (List ℕ) → Option (List ℕ) → Task → Type 0
 DoesTask gives remaining before after (Plan image) = SomeGiven (gives image.now) remaining (IsImageOf (PrintsPlan before after))
 DoesTask gives remaining before after (Word image index) = SomeGiven (gives image.now) remaining (IsImageOf (PrintsWordAt index before after))
+DoesTask gives remaining before after (Help text) = Appends before after (help_lines (string_bytes text))
 
--- why a task is refused
+-- why a task is refused; help, only since a call of the output failed, which `CountsPrint` tells
 abbrev pub RefusesTask : {R : Type 0} → (List ℕ → Type 0) → (List ℕ → R → Type 0) → (R → Option (List ℕ)) → Task → Refusal → Type 0
 RefusesTask lacks gives remaining (Plan image) refusal = RefusesAt (lacks image.now) (gives image.now) remaining RefusesPlan refusal
 RefusesTask lacks gives remaining (Word image index) refusal = RefusesAt (lacks image.now) (gives image.now) remaining (RefusesPrint index) refusal
+RefusesTask lacks gives remaining (Help text) refusal = refusal ≡ CannotPrint
 
--- the words ask for help, or for the version
-abbrev pub IsHelp : Error → Type 0
-IsHelp error = ¬ ((kind_of error ≢ DisplayHelp) × (kind_of error ≢ DisplayVersion))
-
--- what the words ask is done: their task, or help was printed
+-- what the words ask is done
 abbrev pub Answers : {R : Type 0} → (List ℕ → R → Type 0) → (R → Option (List ℕ)) → Option (List ℕ) → Option (List ℕ) → Result (Option Task) Error → Type 0
 Answers gives remaining before after (Ok (Some task)) = DoesTask gives remaining before after task
 Answers gives remaining before after (Ok None) = ⊥
-Answers gives remaining before after (Err error) = IsHelp error × PrintsHelp before after
+Answers gives remaining before after (Err error) = ⊥
 
 -- P holds of some accepted heap
 abbrev pub SomeHeap : (Heap → Type 0) → Type 0
@@ -39,4 +38,4 @@ SomeHeap P = (heap : Heap) × IsStored heap × IsAccepted heap × P heap
 
 -- a word of some accepted heap was printed, or the plan of one, or a text of help
 abbrev pub HasPrinted : Option (List ℕ) → Option (List ℕ) → Type 0
-HasPrinted before after = ((index : ℕ) × SomeHeap (PrintsWordAt index before after)) ⊎ SomeHeap (PrintsPlan before after) ⊎ PrintsHelp before after
+HasPrinted before after = ((index : ℕ) × SomeHeap (PrintsWordAt index before after)) ⊎ SomeHeap (PrintsPlan before after) ⊎ ((text : List ℕ) × Appends before after (help_lines text))

@@ -3,7 +3,7 @@ ghost use Rattle.std.specs.Prelude.{◌≡◌, ◌-◌, ◌^◌, ◌<◌, true, 
 ghost use Rattle.std.specs.Fmt.{decimal};
 ghost use Rattle.std.specs.Io.KnownBytes.{Appends, Keeps};
 ghost use Rattle.heap_layout.specs.Counted.{inner_of, failures_of, is_flushed_of, writer_of};
-ghost use Rattle.compressor.specs.Printing.{named, numbered, CountsPrint};
+ghost use Rattle.compressor.specs.Printing.{help_lines, named, numbered, CountsPrint};
 
 use crate::refusal::Refusal;
 use heap_layout::counted::Counted;
@@ -69,6 +69,18 @@ pub fn print_numbered<O: Write>(
     print_text(name, out)?;
     print_digits(number, out)?;
     print_line(second, value, out)
+}
+
+/// Prints a text of help: its lines, without white space at their end, and a line feed.
+pub fn print_help<O: Write>(text: &str, out: &mut Counted<&mut O>) -> Result<(), Refusal>
+    requires { failures_of out.old < 2 ^ 64 - 1 }
+    ensures printed { OnOk result (Appends (O.contents (inner_of out.old).now) (O.contents (inner_of out.new).now) (help_lines text.now)) }
+    ensures cause { OnErr result (result ≡ Err Refusal.CannotPrint) }
+    ensures counts { CountsPrint (failures_of out.old) (failures_of out.new) result }
+    ensures same_writer { writer_of out.new ≡ writer_of out.old }
+{
+    print_text(text.trim_end(), out)?;
+    print_text("\n", out)
 }
 
 /// Sends on what the output still holds.

@@ -1,12 +1,12 @@
 ghost use Rattle.std.specs.Prelude.{◌≡◌, ◌-◌, ◌^◌, ◌<◌, ◌≤◌, true, IfErr, OnOk, OnErr};
 ghost use Rattle.std.specs.Io.KnownBytes.{Keeps};
 ghost use Rattle.heap_layout.specs.Counted.{inner_of, failures_of, is_flushed_of, writer_of};
-ghost use Rattle.compressor.specs.Printing.{CountsPrint, PrintsHelp, RefusedUnprinted};
+ghost use Rattle.compressor.specs.Printing.{CountsPrint, RefusedUnprinted};
 ghost use Rattle.compressor.specs.Tasks.{Answers, DoesTask, HasPrinted, RefusesTask};
 
 use crate::images::{FileImages, Images};
 use crate::plan::print_plan;
-use crate::print::{flush, print_text};
+use crate::print::{flush, print_help};
 use crate::refusal::Refusal;
 use crate::word::print_word;
 use crate::words::{Task, read_task};
@@ -65,11 +65,10 @@ pub fn respond<I: Images, O: Write, E: Write>(
             Err(Refusal::OutOfMemory),
             err,
         ),
-        Err(error) if error.use_stderr() => {
+        Err(error) => {
             let _ = write!(err, "{error}");
             MISUSED
         }
-        Err(help) => told(print_help(alloc, &help, out), err),
     }
 }
 
@@ -91,26 +90,8 @@ pub fn perform<I: Images, O: Write>(
     match task {
         Task::Plan { image } => print_plan(alloc, images, image, out)?,
         Task::Word { image, index } => print_word(alloc, images, image, index, out)?,
+        Task::Help { text } => print_help(&text, out)?,
     }
-    flush(out)
-}
-
-// Prints the text of a help answer. Its last line ends with a line feed, however it is laid out.
-fn print_help<O: Write>(
-    alloc: Global,
-    help: &clap::Error,
-    out: &mut Counted<&mut O>,
-) -> Result<(), Refusal>
-    requires { failures_of out.old < 2 ^ 64 - 1 }
-    ensures printed { OnOk result (PrintsHelp (O.contents (inner_of out.old).now) (O.contents (inner_of out.new).now)) }
-    ensures flushed { OnOk result (is_flushed_of out.new ≡ true) }
-    ensures counts { CountsPrint (failures_of out.old) (failures_of out.new) result }
-    ensures same_writer { writer_of out.new ≡ writer_of out.old }
-    ensures unprinted { RefusedUnprinted (O.contents (inner_of out.old).now) (O.contents (inner_of out.new).now) result }
-{
-    let text = help.to_string(alloc)?;
-    print_text(text.trim_end(), out)?;
-    print_text("\n", out)?;
     flush(out)
 }
 

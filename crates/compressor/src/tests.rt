@@ -1,5 +1,12 @@
 //! Runs of the program: what it prints, and its status.
-use crate::run::run;
+ghost use Rattle.std.specs.Prelude.{◌≡◌, ◌≢◌, All, Any};
+
+use crate::images::Images;
+use crate::refusal::{Input, Refusal};
+use crate::run::{perform, run};
+use crate::words::Task;
+use heap_layout::counted::Counted;
+use heap_layout::fault::LayoutFault;
 use std::alloc::Global;
 use std::fs;
 use std::io::{Error, ErrorKind, Result as IoResult, Write};
@@ -76,6 +83,86 @@ fn prints_words_and_plans(rt: HostRuntime) -> Result<(), Fail> {
         assert_eq!(rt; ran.err.as_str(), "");
     }
     fs::remove_file(&rt, "three.tests.img")?;
+    Ok(())
+}
+
+// An image in memory.
+#[derive(Drop)]
+struct Image<'a> {
+    path: &'a str,
+    bytes: &'a [u8],
+}
+
+// Images in memory, each at its path.
+#[derive(Drop)]
+struct Memory<'a> {
+    images: &'a [Image<'a>],
+}
+
+impl<'a> Images for Memory<'a> {
+    type Reader = &'a [u8];
+
+    ghost gives = { λ memory path reader. Any (λ image. (image.path.now ≡ path) × (image.bytes.now ≡ reader.now)) memory.images.now };
+
+    ghost lacks = { λ memory path. All (λ image. image.path.now ≢ path) memory.images.now };
+
+    fn open(&self, path: &str) -> Result<&'a [u8], Refusal> {
+        match self.images.iter().find(|image| image.path == path) {
+            Some(image) => Ok(image.bytes),
+            None => Err(Refusal::CannotOpen(Input::Image)),
+        }
+    }
+}
+
+// Does a task on images, wherever they lie, and tells what it answers and prints.
+fn performed<I: Images>(
+    alloc: Global,
+    images: &I,
+    task: Task,
+) -> Result<(Result<(), Refusal>, String), Fail> {
+    let mut bytes = Vec::new(alloc);
+    let mut out = Counted::new(&mut bytes);
+    let answer = perform(alloc, images, task, &mut out);
+    Ok((answer, String::from_utf8(bytes)?))
+}
+
+#[test]
+fn performs_tasks_on_images_in_memory(rt: HostRuntime) -> Result<(), Fail> {
+    let bytes = three_image(rt.alloc())?;
+    let images = [
+        Image {
+            path: "empty.img",
+            bytes: b"",
+        },
+        Image {
+            path: "three.img",
+            bytes: bytes.as_slice(),
+        },
+    ];
+    let memory = Memory { images: &images };
+    for (image, index, answer, text) in [
+        ("three.img", 2, Ok(()), "12884901889\n"),
+        ("three.img", 3, Ok(()), "8589934592\n"),
+        ("three.img", 63, Ok(()), "0\n"),
+        ("three.img", 64, Err(Refusal::NoSuchWord(64)), ""),
+        (
+            "empty.img",
+            2,
+            Err(Refusal::Layout(LayoutFault::Truncated)),
+            "",
+        ),
+        ("", 2, Err(Refusal::CannotOpen(Input::Image)), ""),
+    ] {
+        let (answered, printed) = performed(rt.alloc(), &memory, Task::Word { image, index })?;
+        assert_eq!(rt; answered, answer);
+        assert_eq!(rt; printed.as_str(), text);
+    }
+    let (answered, printed) = performed(rt.alloc(), &memory, Task::Plan { image: "three.img" })?;
+    assert_eq!(rt; answered, Ok(()));
+    assert_eq!(rt;
+        printed.as_str(),
+        "live 4\npages 1\npage 0 first 0\nroot 0 8589934594\n"
+    );
     Ok(())
 }
 

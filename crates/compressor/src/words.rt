@@ -1,4 +1,7 @@
 //! The words of the command line.
+ghost use Rattle.std.specs.Prelude.{OnOk};
+ghost use Rattle.compressor.specs.Printing.{IsHelp};
+
 use clap::{Arg, ArgMatches, Command, Error, value_parser};
 use std::alloc::{AllocError, Global};
 
@@ -9,17 +12,32 @@ pub enum Task<'a> {
     Plan { image: &'a str },
     /// The slid word at an index, of the heap in an image.
     Word { image: &'a str, index: u64 },
+    /// This text of help.
+    Help { text: String },
 }
 
 /// Reads the words after the program's name. None comes only where the parser lets through words that lack a command or an argument, which it never
 /// does.
 pub fn read_task<'a>(alloc: Global, words: &'a [String]) -> Result<Option<Task<'a>>, Error> {
-    let matches = command(alloc)?.try_get_matches_from(words)?;
-    Ok(match matches.subcommand() {
-        Some(("plan", found)) => plan_task(found),
-        Some(("word", found)) => word_task(found),
-        _ => None,
-    })
+    match command(alloc)?.try_get_matches_from(words) {
+        Ok(matches) => Ok(match matches.subcommand() {
+            Some(("plan", found)) => plan_task(found),
+            Some(("word", found)) => word_task(found),
+            _ => None,
+        }),
+        Err(error) => Ok(Some(help_task(alloc, error)?)),
+    }
+}
+
+// The text of help where that is what the parser answers, and else its error.
+fn help_task<'a>(alloc: Global, error: Error) -> Result<Task<'a>, Error>
+    ensures { OnOk result (IsHelp error) }
+{
+    if error.use_stderr() {
+        return Err(error);
+    }
+    let text = error.to_string(alloc)?;
+    Ok(Task::Help { text })
 }
 
 fn command<'a>(alloc: Global) -> Result<Command<'a>, AllocError> {
