@@ -1,8 +1,6 @@
-//! Cells and mutators at work on worked heaps, alone, at random and in threads: what no contract says, with values from outside.
+//! Mutators at work on worked heaps, alone, at random and in threads: what no contract says, with values from outside.
 #![tactic(auto)]
 
-#[cfg(test)]
-mod cells;
 #[cfg(test)]
 mod flipped;
 #[cfg(test)]

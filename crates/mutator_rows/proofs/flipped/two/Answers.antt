@@ -2,7 +2,8 @@ use Rattle.std.proofs.Common.{ℕ, sym, subst}
 use Rattle.cell_steps.specs.Lists.{Each}
 use Rattle.page_cells.specs.Cells.{Works}
 use Rattle.comp_mutator.specs.Mutators.{cells_of, pass_of, setup_of, IsMutatorOf}
-use Rattle.mutator_rows.proofs.Passes.{of_images, last_of, before_last}
+use Rattle.worked_heaps.proofs.LastOf.{last_of, before_last}
+use Rattle.mutator_rows.proofs.Images.{of_images}
 use Rattle.mutator_rows.proofs.flipped.two.Goals as goal
 
 -- each mutator is one of the space's

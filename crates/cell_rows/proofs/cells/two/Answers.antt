@@ -3,8 +3,8 @@ use Rattle.cell_steps.specs.Lists.{Each}
 use Rattle.cell_steps.specs.Passes.{Rests}
 use Rattle.cell_steps.specs.declared.pass.Pass.{Pass}
 use Rattle.page_cells.specs.Cells.{Works, IsPassOf}
-use Rattle.mutator_rows.proofs.Passes.{last_of, before_last}
-use Rattle.mutator_rows.proofs.cells.two.Goals as goal
+use Rattle.worked_heaps.proofs.LastOf.{last_of, before_last}
+use Rattle.cell_rows.proofs.cells.two.Goals as goal
 
 -- the pass is one of these cells', and has no page
 abbrev IsReady : (g : _) (c : goal.After-drop-passes g) → Pass → Type 0

@@ -1,7 +1,7 @@
 //! Pages taken, written and built through their cells.
 ghost use Rattle.std.specs.Prelude.{◌≡◌, IfOk};
 ghost use Rattle.cell_steps.specs.Passes.{Rests};
-ghost use Rattle.page_cells.specs.Cells.{heap_of, steps_of, mutators_of, IsNew, IsPassOf};
+ghost use Rattle.page_cells.specs.Cells.{heap_of, IsPassOf};
 
 use comp_journal::entry::Entry;
 use comp_journal::refusal::JournalRefusal;
