@@ -34,6 +34,12 @@ Answers gives remaining before after (Ok (Some task)) = DoesTask gives remaining
 Answers gives remaining before after (Ok None) = ⊥
 Answers gives remaining before after (Err error) = ⊥
 
+-- why what the words ask is refused: their task is, by some refusal with its cause, or the words could not be read for want of memory
+abbrev pub IsRefused : {R : Type 0} → (List ℕ → Type 0) → (List ℕ → R → Type 0) → (R → Option (List ℕ)) → Result (Option Task) Error → Type 0
+IsRefused lacks gives remaining (Ok (Some task)) = (refusal : Refusal) × RefusesTask lacks gives remaining task refusal
+IsRefused lacks gives remaining (Ok None) = ⊥
+IsRefused lacks gives remaining (Err error) = kind_of error ≡ OutOfMemory
+
 -- what was read of the words is no task, and memory was not what was missing
 abbrev pub AreWrong : Result (Option Task) Error → Type 0
 AreWrong (Ok (Some task)) = ⊥

@@ -5,8 +5,8 @@ ghost use Rattle.heap_layout.specs.Counted.{inner_of, failures_of, is_flushed_of
 
 use std::io::{Error, ErrorKind, Read, Result, Write};
 
-/// A reader or a writer, with the number of its calls that failed: those that answered an error and, of a writer, those that took none of a part
-/// that is not empty. Of a writer it also knows whether all that was taken has been flushed since.
+/// A reader, or a writer that is borrowed, with the number of its calls that failed: those that answered an error and, of a writer, those that took
+/// none of a part that is not empty. Of a writer it also knows whether all that was taken has been flushed since.
 #[derive(Debug, Drop)]
 pub struct Counted<R> {
     inner: R,
