@@ -1,10 +1,11 @@
 -- What the command `plan` prints.
-use Rattle.std.specs.Prelude.{ℕ, List, Option, ◌++◌, unwrap_or, map, codes, IfSome}
+use Rattle.std.specs.Prelude.{ℕ, List, Option, ◌++◌, unwrap_or, map, codes, IfSome, ⊤}
 use Rattle.std.specs.Io.KnownBytes.{Appends}
 use Rattle.std.specs.List.{flat_map, range_with_len, enumerate_from}
 use Rattle.heap_layout.specs.Heap.{Heap, Object, live}
 use Rattle.heap_layout.specs.Encoding.{Refuses}
 use Rattle.page_plan.specs.Sliding.{live_words, pages, first_object, forwarded}
+use Rattle.compressor.specs.Images.{IsImageOf}
 use Rattle.compressor.specs.Printing.{named, numbered}
 use Rattle.compressor.specs.declared.refusal.Refusal.{Refusal}
 use Rattle.compressor.specs.declared.refusal.Refusal.TheVariants.{Layout, CannotPrint, OutOfMemory}
@@ -41,9 +42,9 @@ IsOfPrinting _ = ⊥
 abbrev pub PrintsPlan : Option (List ℕ) → Option (List ℕ) → Heap → Type 0
 PrintsPlan before after heap = Appends before after (plan_text heap)
 
--- why it was not printed: the image is refused, a call of the output failed, which `CountsPrint` tells, or a growth was refused
+-- why it was not printed: the image is refused; or it has a heap, and a call of the output failed, which `CountsPrint` tells; or a growth was refused
 abbrev pub RefusesPlan : Refusal → Option (List ℕ) → Type 0
 RefusesPlan (Layout fault) known = IfSome known (Refuses fault)
-RefusesPlan CannotPrint known = Unit {0}
+RefusesPlan CannotPrint known = IsImageOf (λ _. ⊤) known
 RefusesPlan OutOfMemory known = Unit {0}
 RefusesPlan _ known = ⊥

@@ -1,8 +1,10 @@
 -- What the program answers to what it is asked.
-use Rattle.std.specs.Prelude.{◌≡◌, ◌⊎◌, ℕ, List, Option, Some, None, Result, Ok, Err}
+use Rattle.std.specs.Prelude.{◌≡◌, ◌≢◌, ◌⊎◌, ℕ, List, Option, Some, None, Result, Ok, Err}
 use Rattle.std.specs.Io.KnownBytes.{Appends}
 use Rattle.std.specs.String.{string_bytes}
+use Rattle.clap.specs.Values.{kind_of}
 use Rattle.clap.specs.declared.error.Error.{Error}
+use Rattle.clap.specs.declared.error.kind.ErrorKind.TheVariants.{OutOfMemory}
 use Rattle.heap_layout.specs.Heap.{Heap, IsStored}
 use Rattle.heap_layout.specs.Faults.{IsAccepted}
 use Rattle.compressor.specs.Images.{IsImageOf, SomeGiven, RefusesAt}
@@ -31,6 +33,18 @@ abbrev pub Answers : {R : Type 0} → (List ℕ → R → Type 0) → (R → Opt
 Answers gives remaining before after (Ok (Some task)) = DoesTask gives remaining before after task
 Answers gives remaining before after (Ok None) = ⊥
 Answers gives remaining before after (Err error) = ⊥
+
+-- why what the words ask is refused: their task is, by some refusal with its cause, or the words could not be read for want of memory
+abbrev pub IsRefused : {R : Type 0} → (List ℕ → Type 0) → (List ℕ → R → Type 0) → (R → Option (List ℕ)) → Result (Option Task) Error → Type 0
+IsRefused lacks gives remaining (Ok (Some task)) = (refusal : Refusal) × RefusesTask lacks gives remaining task refusal
+IsRefused lacks gives remaining (Ok None) = ⊥
+IsRefused lacks gives remaining (Err error) = kind_of error ≡ OutOfMemory
+
+-- what was read of the words is no task, and memory was not what was missing
+abbrev pub AreWrong : Result (Option Task) Error → Type 0
+AreWrong (Ok (Some task)) = ⊥
+AreWrong (Ok None) = Unit {0}
+AreWrong (Err error) = kind_of error ≢ OutOfMemory
 
 -- P holds of some accepted heap
 abbrev pub SomeHeap : (Heap → Type 0) → Type 0

@@ -36,7 +36,7 @@ RefusesWord index (Mutator refusal) known = refusal ≡ mutators.OutOfMemory
 RefusesWord index OutOfMemory known = Unit {0}
 RefusesWord index _ known = ⊥
 
--- why it was not printed: there is no such word, or a call of the output failed, which `CountsPrint` tells
+-- why it was not printed: there is no such word; or there is one, and a call of the output failed, which `CountsPrint` tells
 abbrev pub RefusesPrint : ℕ → Refusal → Option (List ℕ) → Type 0
-RefusesPrint index CannotPrint known = Unit {0}
+RefusesPrint index CannotPrint known = (word : ℕ) × IsImageOf (IsWordAt index word) known
 RefusesPrint index refusal known = RefusesWord index refusal known

@@ -24,17 +24,10 @@ pub trait Images {
         ensures cause { IfErr result (IsOfOpening (lacks self.now path.now)) };
 }
 
-/// The images that lie in files, which are read through a buffer.
+/// The images that lie in the files of a runtime, which are read through a buffer.
 #[derive(Drop)]
 pub struct FileImages<'a, R> {
-    rt: &'a R,
-}
-
-impl<'a, R> FileImages<'a, R> {
-    /// The files of a runtime.
-    pub fn new(rt: &'a R) -> FileImages<'a, R> {
-        FileImages { rt }
-    }
+    pub rt: &'a R,
 }
 
 impl<R: Files + AllocGlobal> Images for FileImages<'_, R> {

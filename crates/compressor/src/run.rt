@@ -2,7 +2,7 @@ ghost use Rattle.std.specs.Prelude.{◌≡◌, ◌-◌, ◌^◌, ◌<◌, ◌≤
 ghost use Rattle.std.specs.Io.KnownBytes.{Keeps};
 ghost use Rattle.heap_layout.specs.Counted.{inner_of, failures_of, is_flushed_of, writer_of};
 ghost use Rattle.compressor.specs.Printing.{CountsPrint, RefusedUnprinted};
-ghost use Rattle.compressor.specs.Tasks.{Answers, DoesTask, HasPrinted, RefusesTask};
+ghost use Rattle.compressor.specs.Tasks.{Answers, AreWrong, DoesTask, HasPrinted, IsRefused, RefusesTask};
 
 use crate::images::{FileImages, Images};
 use crate::plan::print_plan;
@@ -39,7 +39,7 @@ pub fn run<R: Files + AllocGlobal, O: Write, E: Write>(
 {
     let mut out = Counted::new(out);
     let asked = read_task(rt.alloc(), &words);
-    respond(rt.alloc(), &FileImages::new(rt), asked, &mut out, err)
+    respond(rt.alloc(), &FileImages { rt }, asked, &mut out, err)
 }
 
 /// Does what is asked, and answers the status. A refusal is one line on `err`; a call of `out` that fails is one.
@@ -54,7 +54,9 @@ pub fn respond<I: Images, O: Write, E: Write>(
     ensures status { result ≤ 2 }
     ensures done { result ≡ 0 → Answers (I.gives images.now) I.Reader.remaining (O.contents (inner_of out.old).now) (O.contents (inner_of out.new).now) asked.entry }
     ensures flushed { result ≡ 0 → is_flushed_of out.new ≡ true }
-    ensures refused { result ≡ 1 → failures_of out.new ≡ failures_of out.old → Keeps (O.contents (inner_of out.old).now) (O.contents (inner_of out.new).now) }
+    ensures refused { result ≡ 1 → IsRefused (I.lacks images.now) (I.gives images.now) I.Reader.remaining asked.entry }
+    ensures unprinted { result ≡ 1 → failures_of out.new ≡ failures_of out.old → Keeps (O.contents (inner_of out.old).now) (O.contents (inner_of out.new).now) }
+    ensures wrong { result ≡ 2 → AreWrong asked.entry }
     ensures misused { result ≡ 2 → Keeps (O.contents (inner_of out.old).now) (O.contents (inner_of out.new).now) }
     ensures same_writer { writer_of out.new ≡ writer_of out.old }
 {

@@ -114,16 +114,17 @@ impl<'a> Images for Memory<'a> {
     }
 }
 
-// Does a task on images, wherever they lie, and tells what it answers and prints.
+// Does a task on images, wherever they lie, and tells what it answers, whether nothing is left to flush, and what it prints.
 fn performed<I: Images>(
     alloc: Global,
     images: &I,
     task: Task,
-) -> Result<(Result<(), Refusal>, String), Fail> {
+) -> Result<(Result<(), Refusal>, bool, String), Fail> {
     let mut bytes = Vec::new(alloc);
     let mut out = Counted::new(&mut bytes);
     let answer = perform(alloc, images, task, &mut out);
-    Ok((answer, String::from_utf8(bytes)?))
+    let flushed = out.is_flushed();
+    Ok((answer, flushed, String::from_utf8(bytes)?))
 }
 
 #[test]
@@ -153,12 +154,22 @@ fn performs_tasks_on_images_in_memory(rt: HostRuntime) -> Result<(), Fail> {
         ),
         ("", 2, Err(Refusal::CannotOpen(Input::Image)), ""),
     ] {
-        let (answered, printed) = performed(rt.alloc(), &memory, Task::Word { image, index })?;
+        let (answered, flushed, printed) = performed(
+            rt.alloc(),
+            &memory,
+            Task::Word { image, index },
+        )?;
         assert_eq!(rt; answered, answer);
+        assert!(rt; flushed);
         assert_eq!(rt; printed.as_str(), text);
     }
-    let (answered, printed) = performed(rt.alloc(), &memory, Task::Plan { image: "three.img" })?;
+    let (answered, flushed, printed) = performed(
+        rt.alloc(),
+        &memory,
+        Task::Plan { image: "three.img" },
+    )?;
     assert_eq!(rt; answered, Ok(()));
+    assert!(rt; flushed);
     assert_eq!(rt;
         printed.as_str(),
         "live 4\npages 1\npage 0 first 0\nroot 0 8589934594\n"

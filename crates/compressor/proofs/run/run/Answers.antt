@@ -1,4 +1,4 @@
-use Rattle.std.proofs.Common.{rules, ◌≡◌}
+use Rattle.std.proofs.Common.{rules}
 use Rattle.compressor.proofs.Answered.{answered}
 use Rattle.compressor.proofs.run.run.Goals as goal
 
