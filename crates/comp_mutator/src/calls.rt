@@ -89,6 +89,7 @@ impl<B: Builder> Space<B> {
         ensures grows { Grows (pass_of m.old) (pass_of m.new) }
         ensures unposted { unposted_of m.new ≡ unposted_of m.old }
         ensures wrote { IfOk result (Writes (setup_of self.now) (pass_of m.old) (pass_of m.new) kinds.Reference object field value) }
+        ensures target { OnOk result (MayRefer (pass_of m.new) value) }
         ensures builds { OnOk result (MayBuildTouched (setup_of self.now) (pass_of m.old) (pass_of m.new) kinds.Reference object field) }
         ensures did { OnErr result (did (pass_of m.new) ≡ did (pass_of m.old)) }
         ensures refused { IfErr result (ReferenceRefused (setup_of self.now) (pass_of m.old) (pass_of m.new) kinds.Reference object field value) }

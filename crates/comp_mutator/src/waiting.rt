@@ -110,6 +110,7 @@ impl<B: Builder> Space<B> {
         ensures unposted { unposted_of m.new ≡ unposted_of m.old }
         ensures busy { (q : ℕ) → IsErrOf result (Busy q) → ⊥ }
         ensures wrote { IfOk result (Writes (setup_of self.now) (pass_of m.old) (pass_of m.new) kinds.Reference object field value) }
+        ensures target { OnOk result (MayRefer (pass_of m.new) value) }
         ensures did { OnErr result (did (pass_of m.new) ≡ did (pass_of m.old)) }
         ensures refused { IfErr result (λ refusal. AtLast (pass_of m.old) (λ last. ReferenceRefused (setup_of self.now) last (pass_of m.new) kinds.Reference object field value refusal)) }
     {

@@ -152,6 +152,7 @@ pub(crate) fn try_write_ref<B: Builder>(
     ensures of { IsPassOf cells.now pass.new × Rests pass.new }
     ensures grows { Grows pass.old pass.new }
     ensures wrote { IfOk result (Writes (setup_of cells.now) pass.old pass.new kinds.Reference object field value) }
+    ensures target { OnOk result (MayRefer pass.new value) }
     ensures builds { OnOk result (MayBuildTouched (setup_of cells.now) pass.old pass.new kinds.Reference object field) }
     ensures did { IfErr result (λ _. did pass.new ≡ did pass.old) }
     ensures refused { IfErr result (ReferenceRefused (setup_of cells.now) pass.old pass.new kinds.Reference object field value) }

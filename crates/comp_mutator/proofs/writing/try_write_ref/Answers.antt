@@ -3,7 +3,7 @@ use Rattle.std.proofs.lemmas.Result.{IfErr-weaker, IfOk-weaker}
 use Rattle.heap_layout.specs.declared.kind.Kind.TheVariants.{Reference}
 use Rattle.page_cells.specs.Cells.{setup_of}
 use Rattle.comp_mutator.specs.Reads.{SeesNothingNew}
-use Rattle.comp_mutator.proofs.Answering.{err_anyway}
+use Rattle.comp_mutator.proofs.Answering.{err_anyway, ok_anyway}
 use Rattle.comp_mutator.proofs.Growing.{adds_after, found_more, grows_then, knows_more, refers_more}
 use Rattle.comp_mutator.proofs.Judging.{early_unjudged, fresh_unjudged, known_judged}
 use Rattle.comp_mutator.proofs.Refusing.{refused_after, write_refused_after}
@@ -79,6 +79,11 @@ returns-clause-wrote g c =
       adds = adds_after old middle new grows (store.grows.1.did ∙ first.grows.1.did) _ stamp Reference _ c.args.value wrote.adds;
     })
     c.write_found.ensures.wrote
+
+pub returns-clause-target : goal.returns-clause-target
+returns-clause-target g c =
+    ok_anyway c.write_found.result _
+    (refers_more _ _ c.may_store.new.pass c.write_found.new.pass c.may_store.ensures.of.0 c.write_found.ensures.of.0 c.write_found.ensures.grows c.args.value c.if-not-may_store.ensures.target)
 
 pub returns-clause-refused : goal.returns-clause-refused
 returns-clause-refused g c =
