@@ -8,8 +8,7 @@ ghost use Rattle.page_cells.specs.Calls.{Grows, WroteNothing};
 ghost use Rattle.comp_mutator.specs.Allocations.{AllocationRefused, Allocates};
 ghost use Rattle.comp_mutator.specs.Copies.{builds_after, PageRefused};
 ghost use Rattle.comp_mutator.specs.Mutators.{pass_of, setup_of, unposted_of, IsMutatorOf};
-ghost use Rattle.comp_mutator.specs.Reads.{FieldRefused, KnowsBuilt, Reads};
-ghost use Rattle.comp_mutator.specs.Waits.{AtLast};
+ghost use Rattle.comp_mutator.specs.Reads.{FieldRefused, KnowsBuilt, MayBuildTouched, Reads};
 ghost use Rattle.comp_mutator.specs.Writes.{DataRefused, ReferenceRefused, Writes};
 ghost use Rattle.comp_mutator.specs.declared.pages.Touched.TheVariants.{AlreadyBuilt};
 ghost use Rattle.comp_mutator.specs.declared.refusal.Refusal.TheVariants.{Busy};
@@ -50,7 +49,8 @@ impl<B: Builder> Space<B> {
         ensures busy { (q : ℕ) → IsErrOf result (Busy q) → ⊥ }
         ensures read { IfOk result (Reads (setup_of self.now) (seen (pass_of m.new)) kinds.Reference object field) }
         ensures known { IfOk result (MayRefer (pass_of m.new)) }
-        ensures refused { IfErr result (λ refusal. AtLast (pass_of m.old) (λ last. FieldRefused (setup_of self.now) last (pass_of m.new) kinds.Reference object field refusal)) }
+        ensures builds { OnOk result (MayBuildTouched (setup_of self.now) (pass_of m.old) (pass_of m.new) kinds.Reference object field) }
+        ensures refused { IfErr result (FieldRefused (setup_of self.now) (pass_of m.old) (pass_of m.new) kinds.Reference object field) }
     {
         for _ in rt.forever() {
             match self.try_read_ref(alloc, m, object, field) {
@@ -80,7 +80,8 @@ impl<B: Builder> Space<B> {
         ensures unposted { unposted_of m.new ≡ unposted_of m.old }
         ensures busy { (q : ℕ) → IsErrOf result (Busy q) → ⊥ }
         ensures read { IfOk result (Reads (setup_of self.now) (seen (pass_of m.new)) kinds.Data object field) }
-        ensures refused { IfErr result (λ refusal. AtLast (pass_of m.old) (λ last. FieldRefused (setup_of self.now) last (pass_of m.new) kinds.Data object field refusal)) }
+        ensures builds { OnOk result (MayBuildTouched (setup_of self.now) (pass_of m.old) (pass_of m.new) kinds.Data object field) }
+        ensures refused { IfErr result (FieldRefused (setup_of self.now) (pass_of m.old) (pass_of m.new) kinds.Data object field) }
     {
         for _ in rt.forever() {
             match self.try_read_data(alloc, m, object, field) {
@@ -111,8 +112,9 @@ impl<B: Builder> Space<B> {
         ensures unposted { unposted_of m.new ≡ unposted_of m.old }
         ensures busy { (q : ℕ) → IsErrOf result (Busy q) → ⊥ }
         ensures wrote { IfOk result (Writes (setup_of self.now) (pass_of m.old) (pass_of m.new) kinds.Reference object field value) }
+        ensures builds { OnOk result (MayBuildTouched (setup_of self.now) (pass_of m.old) (pass_of m.new) kinds.Reference object field) }
         ensures did { OnErr result (did (pass_of m.new) ≡ did (pass_of m.old)) }
-        ensures refused { IfErr result (λ refusal. AtLast (pass_of m.old) (λ last. ReferenceRefused (setup_of self.now) last (pass_of m.new) kinds.Reference object field value refusal)) }
+        ensures refused { IfErr result (ReferenceRefused (setup_of self.now) (pass_of m.old) (pass_of m.new) kinds.Reference object field value) }
     {
         for _ in rt.forever() {
             match self.try_write_ref(alloc, m, object, field, value) {
@@ -143,8 +145,9 @@ impl<B: Builder> Space<B> {
         ensures unposted { unposted_of m.new ≡ unposted_of m.old }
         ensures busy { (q : ℕ) → IsErrOf result (Busy q) → ⊥ }
         ensures wrote { IfOk result (Writes (setup_of self.now) (pass_of m.old) (pass_of m.new) kinds.Data object field value) }
+        ensures builds { OnOk result (MayBuildTouched (setup_of self.now) (pass_of m.old) (pass_of m.new) kinds.Data object field) }
         ensures did { OnErr result (did (pass_of m.new) ≡ did (pass_of m.old)) }
-        ensures refused { IfErr result (λ refusal. AtLast (pass_of m.old) (λ last. DataRefused (setup_of self.now) last (pass_of m.new) kinds.Data object field refusal)) }
+        ensures refused { IfErr result (DataRefused (setup_of self.now) (pass_of m.old) (pass_of m.new) kinds.Data object field) }
     {
         for _ in rt.forever() {
             match self.try_write_data(alloc, m, object, field, value) {
@@ -174,9 +177,9 @@ impl<B: Builder> Space<B> {
         ensures grows { Grows (pass_of m.old) (pass_of m.new) }
         ensures busy { (q : ℕ) → IsErrOf result (Busy q) → ⊥ }
         ensures unposted { OnOk result (unposted_of m.new ≡ unposted_of m.old + size_of (header_word refs data_words tag)) }
-        ensures allocated { IfOk result (λ place. AtLast (pass_of m.old) (λ last. Allocates (setup_of self.now) last (pass_of m.new) (header_word refs data_words tag) place)) }
+        ensures allocated { IfOk result (Allocates (setup_of self.now) (pass_of m.old) (pass_of m.new) (header_word refs data_words tag)) }
         ensures did { OnErr result ((did (pass_of m.new) ≡ did (pass_of m.old)) × (unposted_of m.new ≡ unposted_of m.old)) }
-        ensures refused { IfErr result (λ refusal. AtLast (pass_of m.old) (λ last. AllocationRefused (setup_of self.now) last (pass_of m.new) (size_of (header_word refs data_words tag)) refusal)) }
+        ensures refused { IfErr result (AllocationRefused (setup_of self.now) (pass_of m.old) (pass_of m.new) (size_of (header_word refs data_words tag))) }
     {
         for _ in rt.forever() {
             match self.try_alloc(alloc, m, refs, data_words, tag) {
