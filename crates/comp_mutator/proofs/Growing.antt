@@ -12,8 +12,9 @@ use Rattle.cell_steps.specs.Passes.{builds_of, did, seen, view_of, KnowsStart, M
 use Rattle.cell_steps.specs.declared.pass.Pass.{Pass}
 use Rattle.cell_steps.specs.declared.steps.Steps.{Steps}
 use Rattle.page_cells.specs.Cells.{Works}
-use Rattle.page_cells.specs.Calls.{builds_with, Grows, MayHaveBuilt}
+use Rattle.page_cells.specs.Calls.{Grows}
 use Rattle.page_cells.specs.Objects.{page_at, offset_at, HasHeader, HasShape}
+use Rattle.comp_mutator.specs.Reads.{KnowsBuilt}
 use Rattle.comp_mutator.specs.Fields.{IsFieldOf, IsFreshObject, Touches}
 use Rattle.comp_mutator.specs.Finds.{IsFound}
 use Rattle.comp_mutator.specs.Writes.{entry_by, Adds}
@@ -43,13 +44,11 @@ module _ (a b c : Pass) where
   pub unbuilt_then : Grows a b × (builds_of b ≡ builds_of a) → Grows b c × (builds_of c ≡ builds_of b) → Grows a c × (builds_of c ≡ builds_of a)
   unbuilt_then h k = (grows_then h.0 k.0, k.1 ∙ h.1)
 
-  -- a page that may have been built, before a call that built nothing
-  pub built_before : (p : ℕ) → MayHaveBuilt p a b → builds_of c ≡ builds_of b → MayHaveBuilt p a c
-  built_before p h same = (h.0, same ∙ h.1)
-
-  -- a page that may have been built, after a call that built nothing
-  pub built_after : (p : ℕ) → builds_of b ≡ builds_of a → MayHaveBuilt p b c → MayHaveBuilt p a c
-  built_after p same h = (h.0, h.1 ∙ ap (λ l. builds_with l p h.0) same)
+module _ (a b : Pass) (h : Grows a b) where
+  -- a page that a pass knew to be built, it knows to be
+  pub known_more : (p : ℕ) → KnowsBuilt a p → KnowsBuilt b p
+  known_more p (inl seen) = inl (h.built p seen)
+  known_more p (inr start) = inr (start.0, h.starts p start.0 start.1)
 
 -- two passes of one table are about the same heap
 pub same_about : (table : Steps) (mutators : ℕ) (a b : Pass) → Works table mutators a → Works table mutators b → (view_of b).about ≡ (view_of a).about

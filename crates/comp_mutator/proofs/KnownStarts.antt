@@ -12,6 +12,7 @@ use Rattle.page_cells.specs.Calls.{Grows}
 use Rattle.page_cells.specs.Objects.{offset_at, page_at, HasSlid}
 use Rattle.comp_mutator.specs.Fields.{IsFreshObject, KnowsFieldOn, Touches}
 use Rattle.comp_mutator.specs.Finds.{HoldsField, IsSlidField}
+use Rattle.comp_mutator.proofs.Building.{touched_of}
 use Rattle.comp_mutator.proofs.Growing.{field_more, touches_more}
 
 -- an address is that of its offset on its page
@@ -44,7 +45,7 @@ module _ (table : Steps) (mutators : ℕ) (pass : Pass) (of : Works table mutato
   pub knows_held : (old middle : Pass) (kind : Kind) (object field page offset : ℕ) → HoldsField (about table) old middle kind object field page offset → Grows middle pass
       → KnowsFieldOn (about table) pass kind object field page
   knows_held old middle kind object field page offset held grows = record {
-    known = knows_touched kind object field page (touches_more (about table) middle pass grows kind object field page held.touched);
+    known = knows_touched kind object field page (touches_more (about table) middle pass grows kind object field page (touched_of (about table) kind object field page old middle held.touched));
     place = held.place;
     field_of = field_more (about table) middle pass grows kind object field held.place held.field_of;
     page_is = held.page_is;

@@ -1,5 +1,8 @@
 pub mod FieldPlaces
 pub mod Growing
+pub mod Building
+pub mod Earlier
+pub mod LowestPages
 pub mod Refusing
 pub mod Judging
 pub mod KnownStarts

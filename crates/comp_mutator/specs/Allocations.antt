@@ -11,8 +11,7 @@ use Rattle.cell_steps.specs.Lawful.{filled}
 use Rattle.cell_steps.specs.Locks.{Journals}
 use Rattle.cell_steps.specs.Passes.{did, lost, number_of, seen, KnowsFresh}
 use Rattle.cell_steps.specs.declared.pass.Pass.{Pass}
-use Rattle.page_cells.specs.Calls.{MayHaveBuilt}
-use Rattle.comp_mutator.specs.Reads.{BuildsNothing, SeesFull, SeesNothingNew, WantsPage}
+use Rattle.comp_mutator.specs.Reads.{BuildsNothing, MayBuild, SeesFull, SeesNothingNew, WantsPage}
 use Rattle.comp_mutator.specs.Writes.{entry_by, Adds}
 use Rattle.comp_mutator.specs.declared.refusal.Refusal.{Refusal}
 use Rattle.comp_mutator.specs.declared.refusal.Refusal.TheVariants.{Null, NotAStart, NoSuchField, ObjectTooLarge, OutOfPages, Busy, JournalFull, OutOfMemory}
@@ -58,7 +57,7 @@ pub record Allocates (u : Setup) (old new : Pass) (header place : ℕ) : Type 0 
   pub adds : Adds (own_page u (number_of old) index) (entry_by old stamp Header (used u old index) header) old new
   pub known : KnowsFresh new (own_page u (number_of old) index) (used u old index)
   pub zero : AreZero u (seen new) (own_page u (number_of old) index) (used u old index) (used u old index + size_of header)
-  pub builds : MayHaveBuilt (own_page u (number_of old) index) old new
+  pub builds : MayBuild (own_page u (number_of old) index) old new
 
 -- why an allocation is refused
 abbrev pub AllocationRefused : Setup → Pass → Pass → ℕ → Refusal → Type 0
@@ -67,9 +66,9 @@ AllocationRefused u old new size (NotAStart a) = ⊥
 AllocationRefused u old new size NoSuchField = ⊥
 AllocationRefused u old new size ObjectTooLarge = (64 < size) × BuildsNothing old new × SeesNothingNew old new
 AllocationRefused u old new size OutOfPages = (size ≤ 64) × HasNoRoom u old size × BuildsNothing old new × SeesNothingNew old new
-AllocationRefused u old new size (Busy p) = IsLowestPage u old size p × (lost old p < lost new p) × MayHaveBuilt p old new × SeesNothingNew old new
-AllocationRefused u old new size (JournalFull p) = IsLowestPage u old size p × SeesFull new p × MayHaveBuilt p old new
-AllocationRefused u old new size OutOfMemory = (p : ℕ) × IsLowestPage u old size p × (WantsPage old new p ⊎ (SeesFull new p → ⊥)) × MayHaveBuilt p old new
+AllocationRefused u old new size (Busy p) = IsLowestPage u old size p × (lost old p < lost new p) × MayBuild p old new × SeesNothingNew old new
+AllocationRefused u old new size (JournalFull p) = IsLowestPage u old size p × SeesFull new p × MayBuild p old new
+AllocationRefused u old new size OutOfMemory = (p : ℕ) × IsLowestPage u old size p × (WantsPage old new p ⊎ (SeesFull new p → ⊥)) × MayBuild p old new
 
 -- These are the used words of the pass's own pages, in order.
 pub record Counts (u : Setup) (pass : Pass) (fills : List ℕ) : Type 0 where

@@ -35,6 +35,8 @@ pub record LacksField (u : Setup) (journals : Journals) (kind : Kind) (object fi
   pub header : ℕ
   pub shape : HasShape u journals object header
   pub outside : count_of kind header ≤ field
+  -- of a slid object that header is its own
+  pub slid : (other : ℕ) → HasSlid u object other → other ≡ header
 
 -- The pass knows the object's start, and the object has this field, whose word is on page p.
 pub record KnowsFieldOn (u : Setup) (pass : Pass) (kind : Kind) (object field p : ℕ) : Type 0 where

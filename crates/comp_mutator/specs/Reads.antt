@@ -1,14 +1,13 @@
 -- What a read answers, and why a call on a field is refused.
-use Rattle.std.specs.Prelude.{◌≡◌, ◌≢◌, ℕ, ◌<◌, ◌⊎◌, length}
+use Rattle.std.specs.Prelude.{◌≡◌, ◌≢◌, ℕ, ◌<◌, ◌⊎◌, [], ◌∷◌, ◌++◌, length}
 use Rattle.heap_layout.specs.declared.kind.Kind.{Kind}
 use Rattle.cell_steps.specs.Setup.{Setup}
 use Rattle.cell_steps.specs.Locks.{Journals}
 use Rattle.cell_steps.specs.Starts.{IsPlace}
 use Rattle.cell_steps.specs.Passes.{builds_of, lost, seen, HasSeenBuilt, KnowsFresh, KnowsStart}
 use Rattle.cell_steps.specs.declared.pass.Pass.{Pass}
-use Rattle.page_cells.specs.Calls.{MayHaveBuilt}
 use Rattle.page_cells.specs.Objects.{word_at}
-use Rattle.comp_mutator.specs.Fields.{HasSlidFieldOn, IsFieldOf, LacksField, Touches}
+use Rattle.comp_mutator.specs.Fields.{HasSlidFieldOn, IsFieldOf, LacksField, LiesFreshOn}
 use Rattle.comp_mutator.specs.declared.refusal.Refusal.{Refusal}
 use Rattle.comp_mutator.specs.declared.refusal.Refusal.TheVariants.{Null, NotAStart, NoSuchField, ObjectTooLarge, OutOfPages, Busy, JournalFull, OutOfMemory}
 
@@ -30,13 +29,26 @@ SeesNothingNew old new = (p : ℕ) → seen new p ≡ seen old p
 abbrev pub NeedsNoPage : Setup → Pass → Pass → ℕ → Type 0
 NeedsNoPage u old new object = BuildsNothing old new × (IsPlace u.heap object → SeesNothingNew old new)
 
--- the call built no page but the one that it touches
-abbrev pub MayBuildTouched : Setup → Pass → Pass → Kind → ℕ → ℕ → Type 0
-MayBuildTouched u old new kind object field = (p : ℕ) × Touches u new kind object field p × MayHaveBuilt p old new
-
 -- the pass knows that page p is built: it has seen it built, or knows a start on it
 abbrev pub KnowsBuilt : Pass → ℕ → Type 0
 KnowsBuilt pass p = HasSeenBuilt pass p ⊎ ((offset : ℕ) × KnowsFresh pass p offset)
+
+-- the call built page p alone, which was not known to be built, and has then seen it built
+abbrev pub BuildsPage : ℕ → Pass → Pass → Type 0
+BuildsPage p old new = (builds_of new ≡ builds_of old ++ p ∷ []) × (KnowsBuilt old p → ⊥) × HasSeenBuilt new p
+
+-- the call built no page but p
+abbrev pub MayBuild : ℕ → Pass → Pass → Type 0
+MayBuild p old new = BuildsNothing old new ⊎ BuildsPage p old new
+
+-- page p is the one that the call touches, and the call built no other: the page of a slid object's field it may have built; that of an object that an allocation
+-- made, and that the pass knows, was built before
+abbrev pub TouchesOnly : Setup → Pass → Pass → Kind → ℕ → ℕ → ℕ → Type 0
+TouchesOnly u old new kind object field p = (HasSlidFieldOn u kind object field p × MayBuild p old new) ⊎ (LiesFreshOn u new object p × BuildsNothing old new)
+
+-- the call built no page but the one that it touches
+abbrev pub MayBuildTouched : Setup → Pass → Pass → Kind → ℕ → ℕ → Type 0
+MayBuildTouched u old new kind object field = (p : ℕ) × TouchesOnly u old new kind object field p
 
 -- the journal of page p is full, as the pass has seen it
 abbrev pub SeesFull : Pass → ℕ → Type 0
@@ -48,11 +60,11 @@ WantsPage old new p = (KnowsBuilt old p → ⊥) × SeesNothingNew old new
 
 -- memory to build the page of a slid object's field was wanting; that of an object that an allocation made, and that the mutator knows, is built
 abbrev pub WantsMemory : Setup → Pass → Pass → Kind → ℕ → ℕ → Type 0
-WantsMemory u old new kind object field = (p : ℕ) × HasSlidFieldOn u kind object field p × WantsPage old new p × MayHaveBuilt p old new
+WantsMemory u old new kind object field = (p : ℕ) × HasSlidFieldOn u kind object field p × WantsPage old new p × MayBuild p old new
 
 -- the call met the page that it touches where another mutator was there first, and saw nothing new of any page
 abbrev pub IsBusy : Setup → Pass → Pass → Kind → ℕ → ℕ → ℕ → Type 0
-IsBusy u old new kind object field p = Touches u new kind object field p × (lost old p < lost new p) × MayHaveBuilt p old new × SeesNothingNew old new
+IsBusy u old new kind object field p = TouchesOnly u old new kind object field p × (lost old p < lost new p) × SeesNothingNew old new
 
 -- why a call on a field is refused
 abbrev pub FieldRefused : Setup → Pass → Pass → Kind → ℕ → ℕ → Refusal → Type 0

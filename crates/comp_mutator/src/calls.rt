@@ -5,11 +5,11 @@ ghost use Rattle.heap_layout.specs.declared.kind.Kind.TheVariants as kinds;
 ghost use Rattle.cell_steps.specs.Lists.{by, on};
 ghost use Rattle.cell_steps.specs.Setup as setups;
 ghost use Rattle.cell_steps.specs.Passes.{builds_of, did, number_of, seen, HasSeenBuilt, MayRefer};
-ghost use Rattle.page_cells.specs.Calls.{Grows, MayHaveBuilt, WroteNothing};
+ghost use Rattle.page_cells.specs.Calls.{Grows, WroteNothing};
 ghost use Rattle.comp_mutator.specs.Allocations.{AllocationRefused, Allocates};
 ghost use Rattle.comp_mutator.specs.Copies.{builds_after, CopyRefused, IsCopy, PageRefused};
 ghost use Rattle.comp_mutator.specs.Mutators.{pass_of, setup_of, unposted_of, IsMutatorOf};
-ghost use Rattle.comp_mutator.specs.Reads.{FieldRefused, KnowsBuilt, MayBuildTouched, Reads};
+ghost use Rattle.comp_mutator.specs.Reads.{FieldRefused, KnowsBuilt, MayBuild, MayBuildTouched, Reads};
 ghost use Rattle.comp_mutator.specs.Writes.{DataRefused, ReferenceRefused, Writes};
 ghost use Rattle.comp_mutator.specs.declared.pages.Touched.TheVariants.{AlreadyBuilt};
 ghost use Rattle.comp_mutator.specs.declared.refusal.Refusal.TheVariants.{Busy};
@@ -192,7 +192,7 @@ impl<B: Builder> Space<B> {
         ensures copy { IfOk result (IsCopy (setup_of self.now) (seen (pass_of m.new)) p) }
         ensures own { IfOk result (λ copy. by (number_of (pass_of m.old)) copy.journal.items ≡ on p (did (pass_of m.old))) }
         ensures strangers { IfOk result (λ copy. number_of (pass_of m.old) ≡ 0 → (k : ℕ) → (setup_of self.now).mutators ≤ k → by k copy.journal.items ≡ []) }
-        ensures builds { MayHaveBuilt p (pass_of m.old) (pass_of m.new) }
+        ensures builds { MayBuild p (pass_of m.old) (pass_of m.new) }
         ensures refused { IfErr result (CopyRefused p (pass_of m.old) (pass_of m.new)) }
     {
         let Mutator { hand } = m;

@@ -4,9 +4,9 @@ ghost use Rattle.cell_steps.specs.Lists.{by, on};
 ghost use Rattle.cell_steps.specs.Lawful.{HasHead, IsLawful};
 ghost use Rattle.cell_steps.specs.Passes.{builds_of, did, number_of, KnowsFresh, Rests};
 ghost use Rattle.page_cells.specs.Cells.{journal_of, mutators_of, page_number, pages_of, setup_of, Has, IsPassOf};
-ghost use Rattle.page_cells.specs.Calls.{Grows, MayHaveBuilt};
+ghost use Rattle.page_cells.specs.Calls.{Grows};
 ghost use Rattle.comp_mutator.specs.Copies.{PageRefused};
-ghost use Rattle.comp_mutator.specs.Reads.{SeesNothingNew};
+ghost use Rattle.comp_mutator.specs.Reads.{MayBuild, SeesNothingNew};
 ghost use Rattle.comp_mutator.specs.declared.refusal.Refusal.TheVariants.{Busy};
 
 use crate::refusal::Refusal;
@@ -34,7 +34,7 @@ pub(crate) fn take<B: Builder>(
     ensures heads { IfOk result (λ taken. (offset : ℕ) → KnowsFresh pass.old p offset → HasHead (journal_of taken) offset) }
     ensures own { IfOk result (λ taken. by (number_of pass.old) (journal_of taken) ≡ on p (did pass.old)) }
     ensures strangers { IfOk result (λ taken. number_of pass.old ≡ 0 → (k : ℕ) → mutators_of cells.now ≤ k → by k (journal_of taken) ≡ []) }
-    ensures builds { MayHaveBuilt p pass.old pass.new }
+    ensures builds { MayBuild p pass.old pass.new }
     ensures known { (offset : ℕ) → KnowsFresh pass.old p offset → builds_of pass.new ≡ builds_of pass.old }
     ensures refused { IfErr result (λ refusal. Rests pass.new × SeesNothingNew pass.old pass.new × PageRefused p pass.old pass.new refusal) }
 {

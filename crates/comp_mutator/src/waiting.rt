@@ -1,16 +1,16 @@
 //! The calls of a mutator that repeat while the page is busy. That they return is not promised.
-ghost use Rattle.std.specs.Prelude.{◌≡◌, ℕ, ◌+◌, ◌<◌, IfErr, IfOk, IsErrOf, MatchBool, OnErr, OnOk};
+ghost use Rattle.std.specs.Prelude.{◌≡◌, ℕ, ◌+◌, ◌<◌, Ok, IfErr, IfOk, IsErrOf, MatchBool, OnErr, OnOk};
 ghost use Rattle.heap_layout.specs.Header.{header_word, size_of};
 ghost use Rattle.heap_layout.specs.declared.kind.Kind.TheVariants as kinds;
 ghost use Rattle.cell_steps.specs.Setup as setups;
 ghost use Rattle.cell_steps.specs.Passes.{builds_of, did, seen, HasSeenBuilt, MayRefer};
-ghost use Rattle.page_cells.specs.Calls.{Grows};
+ghost use Rattle.page_cells.specs.Calls.{Grows, WroteNothing};
 ghost use Rattle.comp_mutator.specs.Allocations.{AllocationRefused, Allocates};
 ghost use Rattle.comp_mutator.specs.Copies.{builds_after, PageRefused};
 ghost use Rattle.comp_mutator.specs.Mutators.{pass_of, setup_of, unposted_of, IsMutatorOf};
-ghost use Rattle.comp_mutator.specs.Reads.{FieldRefused, Reads};
-ghost use Rattle.comp_mutator.specs.Waits.{AtLast};
+ghost use Rattle.comp_mutator.specs.Reads.{FieldRefused, KnowsBuilt, MayBuildTouched, Reads};
 ghost use Rattle.comp_mutator.specs.Writes.{DataRefused, ReferenceRefused, Writes};
+ghost use Rattle.comp_mutator.specs.declared.pages.Touched.TheVariants.{AlreadyBuilt};
 ghost use Rattle.comp_mutator.specs.declared.refusal.Refusal.TheVariants.{Busy};
 
 use crate::mutator::Mutator;
@@ -49,7 +49,8 @@ impl<B: Builder> Space<B> {
         ensures busy { (q : ℕ) → IsErrOf result (Busy q) → ⊥ }
         ensures read { IfOk result (Reads (setup_of self.now) (seen (pass_of m.new)) kinds.Reference object field) }
         ensures known { IfOk result (MayRefer (pass_of m.new)) }
-        ensures refused { IfErr result (λ refusal. AtLast (pass_of m.old) (λ last. FieldRefused (setup_of self.now) last (pass_of m.new) kinds.Reference object field refusal)) }
+        ensures builds { OnOk result (MayBuildTouched (setup_of self.now) (pass_of m.old) (pass_of m.new) kinds.Reference object field) }
+        ensures refused { IfErr result (FieldRefused (setup_of self.now) (pass_of m.old) (pass_of m.new) kinds.Reference object field) }
     {
         for _ in rt.forever() {
             match self.try_read_ref(alloc, m, object, field) {
@@ -79,7 +80,8 @@ impl<B: Builder> Space<B> {
         ensures unposted { unposted_of m.new ≡ unposted_of m.old }
         ensures busy { (q : ℕ) → IsErrOf result (Busy q) → ⊥ }
         ensures read { IfOk result (Reads (setup_of self.now) (seen (pass_of m.new)) kinds.Data object field) }
-        ensures refused { IfErr result (λ refusal. AtLast (pass_of m.old) (λ last. FieldRefused (setup_of self.now) last (pass_of m.new) kinds.Data object field refusal)) }
+        ensures builds { OnOk result (MayBuildTouched (setup_of self.now) (pass_of m.old) (pass_of m.new) kinds.Data object field) }
+        ensures refused { IfErr result (FieldRefused (setup_of self.now) (pass_of m.old) (pass_of m.new) kinds.Data object field) }
     {
         for _ in rt.forever() {
             match self.try_read_data(alloc, m, object, field) {
@@ -111,8 +113,9 @@ impl<B: Builder> Space<B> {
         ensures busy { (q : ℕ) → IsErrOf result (Busy q) → ⊥ }
         ensures wrote { IfOk result (Writes (setup_of self.now) (pass_of m.old) (pass_of m.new) kinds.Reference object field value) }
         ensures target { OnOk result (MayRefer (pass_of m.new) value) }
+        ensures builds { OnOk result (MayBuildTouched (setup_of self.now) (pass_of m.old) (pass_of m.new) kinds.Reference object field) }
         ensures did { OnErr result (did (pass_of m.new) ≡ did (pass_of m.old)) }
-        ensures refused { IfErr result (λ refusal. AtLast (pass_of m.old) (λ last. ReferenceRefused (setup_of self.now) last (pass_of m.new) kinds.Reference object field value refusal)) }
+        ensures refused { IfErr result (ReferenceRefused (setup_of self.now) (pass_of m.old) (pass_of m.new) kinds.Reference object field value) }
     {
         for _ in rt.forever() {
             match self.try_write_ref(alloc, m, object, field, value) {
@@ -143,8 +146,9 @@ impl<B: Builder> Space<B> {
         ensures unposted { unposted_of m.new ≡ unposted_of m.old }
         ensures busy { (q : ℕ) → IsErrOf result (Busy q) → ⊥ }
         ensures wrote { IfOk result (Writes (setup_of self.now) (pass_of m.old) (pass_of m.new) kinds.Data object field value) }
+        ensures builds { OnOk result (MayBuildTouched (setup_of self.now) (pass_of m.old) (pass_of m.new) kinds.Data object field) }
         ensures did { OnErr result (did (pass_of m.new) ≡ did (pass_of m.old)) }
-        ensures refused { IfErr result (λ refusal. AtLast (pass_of m.old) (λ last. DataRefused (setup_of self.now) last (pass_of m.new) kinds.Data object field refusal)) }
+        ensures refused { IfErr result (DataRefused (setup_of self.now) (pass_of m.old) (pass_of m.new) kinds.Data object field) }
     {
         for _ in rt.forever() {
             match self.try_write_data(alloc, m, object, field, value) {
@@ -174,9 +178,9 @@ impl<B: Builder> Space<B> {
         ensures grows { Grows (pass_of m.old) (pass_of m.new) }
         ensures busy { (q : ℕ) → IsErrOf result (Busy q) → ⊥ }
         ensures unposted { OnOk result (unposted_of m.new ≡ unposted_of m.old + size_of (header_word refs data_words tag)) }
-        ensures allocated { IfOk result (λ place. AtLast (pass_of m.old) (λ last. Allocates (setup_of self.now) last (pass_of m.new) (header_word refs data_words tag) place)) }
+        ensures allocated { IfOk result (Allocates (setup_of self.now) (pass_of m.old) (pass_of m.new) (header_word refs data_words tag)) }
         ensures did { OnErr result ((did (pass_of m.new) ≡ did (pass_of m.old)) × (unposted_of m.new ≡ unposted_of m.old)) }
-        ensures refused { IfErr result (λ refusal. AtLast (pass_of m.old) (λ last. AllocationRefused (setup_of self.now) last (pass_of m.new) (size_of (header_word refs data_words tag)) refusal)) }
+        ensures refused { IfErr result (AllocationRefused (setup_of self.now) (pass_of m.old) (pass_of m.new) (size_of (header_word refs data_words tag))) }
     {
         for _ in rt.forever() {
             match self.try_alloc(alloc, m, refs, data_words, tag) {
@@ -202,11 +206,12 @@ impl<B: Builder> Space<B> {
         requires of { IsMutatorOf self.now m.old }
         requires inside { p < setups.pages (setup_of self.now) }
         ensures of { IsMutatorOf self.now m.new }
-        ensures grows { Grows (pass_of m.old) (pass_of m.new) × (did (pass_of m.new) ≡ did (pass_of m.old)) }
+        ensures grows { Grows (pass_of m.old) (pass_of m.new) × WroteNothing (pass_of m.old) (pass_of m.new) }
         ensures unposted { unposted_of m.new ≡ unposted_of m.old }
         ensures busy { (q : ℕ) → IsErrOf result (Busy q) → ⊥ }
-        ensures touched { IfOk result (λ touched. HasSeenBuilt (pass_of m.new) p × AtLast (pass_of m.old) (λ last. builds_of (pass_of m.new) ≡ builds_after (builds_of last) p touched)) }
-        ensures refused { IfErr result (λ refusal. AtLast (pass_of m.old) (λ last. PageRefused p last (pass_of m.new) refusal)) }
+        ensures touched { IfOk result (λ touched. HasSeenBuilt (pass_of m.new) p × (builds_of (pass_of m.new) ≡ builds_after (builds_of (pass_of m.old)) p touched)) }
+        ensures known { KnowsBuilt (pass_of m.old) p → result ≡ Ok AlreadyBuilt }
+        ensures refused { IfErr result (λ refusal. (builds_of (pass_of m.new) ≡ builds_of (pass_of m.old)) × PageRefused p (pass_of m.old) (pass_of m.new) refusal) }
     {
         for _ in rt.forever() {
             match self.try_touch(alloc, m, p) {

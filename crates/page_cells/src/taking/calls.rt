@@ -1,4 +1,4 @@
-ghost use Rattle.std.specs.Prelude.{◌≡◌, ◌↔◌, ℕ, ◌+◌, ◌<◌, ◌≤◌, [], IfOk, OnOk, OnErr, IsErrOf, slice_index};
+ghost use Rattle.std.specs.Prelude.{◌≡◌, ◌↔◌, ◌⊎◌, ℕ, ◌+◌, ◌<◌, ◌≤◌, [], IfOk, OnOk, OnErr, IsErrOf, slice_index};
 ghost use Rattle.heap_layout.specs.declared.kind.Kind.TheVariants.{Reference};
 ghost use Rattle.cell_steps.specs.Lists.{by, on, StartsWith};
 ghost use Rattle.cell_steps.specs.Lawful.{HasHead, IsField, IsLawful};
@@ -51,6 +51,7 @@ impl<B: Builder> Cells<B> {
         ensures strangers { IfOk result (λ taken. number_of pass.old ≡ 0 → (k : ℕ) → mutators_of self.now ≤ k → by k (journal_of taken) ≡ []) }
         ensures others { (q : ℕ) → (q ≡ p → ⊥) → seen pass.new q ≡ seen pass.old q }
         ensures builds { MayHaveBuilt p pass.old pass.new }
+        ensures told { (builds_of pass.new ≡ builds_of pass.old) ⊎ HasSeenBuilt pass.new p }
         ensures built { HasSeenBuilt pass.old p → builds_of pass.new ≡ builds_of pass.old }
         ensures known { (offset : ℕ) → KnowsFresh pass.old p offset → builds_of pass.new ≡ builds_of pass.old }
         ensures memory { HasSeenBuilt pass.old p → IsErrOf result OutOfMemory → ⊥ }
@@ -77,6 +78,7 @@ impl<B: Builder> Cells<B> {
         ensures alone { mutators_of self.now ≡ 1 → (q : ℕ) → IsErrOf result (Busy q) → ⊥ }
         ensures home { OnOk result (last pass.new p ≡ 1) }
         ensures builds { MayHaveBuilt p pass.old pass.new }
+        ensures told { (builds_of pass.new ≡ builds_of pass.old) ⊎ HasSeenBuilt pass.new p }
         ensures built { HasSeenBuilt pass.old p → builds_of pass.new ≡ builds_of pass.old }
         ensures known { (offset : ℕ) → KnowsFresh pass.old p offset → builds_of pass.new ≡ builds_of pass.old }
         ensures memory { HasSeenBuilt pass.old p → IsErrOf result OutOfMemory → ⊥ }

@@ -5,10 +5,11 @@ use Rattle.cell_steps.specs.Lists.{by, on}
 use Rattle.cell_steps.specs.Lawful.{IsLawful, IsNext}
 use Rattle.cell_steps.specs.Passes.{did, number_of, seen, KnowsFresh}
 use Rattle.page_cells.specs.Cells.{setup_of, page_number, journal_of}
-use Rattle.page_cells.specs.Calls.{MayHaveBuilt}
 use Rattle.comp_mutator.specs.Allocations.{own_page, used, AreZero, Counts, IsLowest}
+use Rattle.comp_mutator.specs.Reads.{MayBuild}
 use Rattle.comp_mutator.proofs.Answering.{err_anyway}
-use Rattle.comp_mutator.proofs.Growing.{built_before, grows_then}
+use Rattle.comp_mutator.proofs.Building.{builds_before}
+use Rattle.comp_mutator.proofs.Growing.{grows_then}
 use Rattle.comp_mutator.proofs.OwnPages.{counts_more, lowest_own, made_own, next_own}
 use Rattle.comp_mutator.proofs.Refusing.{allocation_page_refused, allocation_refused}
 use Rattle.comp_mutator.proofs.allocating.try_alloc.Goals as goal
@@ -60,10 +61,10 @@ returns-in_err-write_taken-clause-refused g c =
     let p = page_number c.in_ok-taken.taken in
     let own = taken.taken.0 ∙ c.own_page-page.ensures.page ∙ ap (λ k. own_page u k index) c.number.ensures in
     let lowest = lowest_own u old c.args.fills.now c.size-size.result index c.requires.counts chosen.inside chosen.room chosen.first in
-    let built = subst (λ q. MayHaveBuilt q old middle) (sym taken.taken.0) c.take.ensures.builds in
+    let built = subst (λ q. MayBuild q old middle) (sym taken.taken.0) c.take.ensures.builds in
     err_anyway c.from_residual-in_err-write_taken.result _ c.in_err-write_taken.field-0.0 c.from_residual-in_err-write_taken.ensures.1
     (allocation_refused u old new (size_of c.args.header) p _ (index, subst (λ s. IsLowest u old s index) c.size-size.ensures lowest, own)
-    (built_before old middle new p built c.write_taken.ensures.grows.1) c.in_err-write_taken.ensures.refused.1)
+    (builds_before old middle new p built c.write_taken.ensures.grows.0 c.write_taken.ensures.grows.1) c.in_err-write_taken.ensures.refused.1)
 
 pub returns-clause-grows : goal.returns-clause-grows
 returns-clause-grows g c = grows_then c.args.pass.now c.take.new.pass c.write_taken.new.pass c.take.ensures.grows.0 c.write_taken.ensures.grows.0
@@ -109,5 +110,5 @@ returns-clause-allocated g c =
       adds = made_own u old middle new index c.args.header c.word.result _ _ c.in_ok-write_taken.field-0 c.take.ensures.grows (taken.taken.0 ∙ page) place c.word.ensures c.in_ok-write_taken.ensures.adds;
       known = subst (λ p. KnowsFresh new p (used u old index)) (taken.taken.0 ∙ page) (subst (KnowsFresh new (page_number c.in_ok-taken.taken)) place known);
       zero = zero;
-      builds = built_before old middle new (own_page u (number_of old) index) (subst (λ p. MayHaveBuilt p old middle) page c.take.ensures.builds) c.write_taken.ensures.grows.1;
+      builds = builds_before old middle new (own_page u (number_of old) index) (subst (λ p. MayBuild p old middle) page c.take.ensures.builds) c.write_taken.ensures.grows.0 c.write_taken.ensures.grows.1;
     }

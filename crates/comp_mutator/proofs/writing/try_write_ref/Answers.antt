@@ -1,12 +1,13 @@
 use Rattle.std.proofs.Common.{inl, inr, refl, ◌∙◌}
-use Rattle.std.proofs.lemmas.Result.{IfErr-weaker, IfOk-weaker}
+use Rattle.std.proofs.lemmas.Result.{IfErr-weaker, IfOk-weaker, on_ok_weaker}
 use Rattle.heap_layout.specs.declared.kind.Kind.TheVariants.{Reference}
 use Rattle.page_cells.specs.Cells.{setup_of}
-use Rattle.comp_mutator.specs.Reads.{SeesNothingNew}
+use Rattle.comp_mutator.specs.Reads.{MayBuildTouched, SeesNothingNew}
 use Rattle.comp_mutator.proofs.Answering.{err_anyway, ok_anyway}
+use Rattle.comp_mutator.proofs.Earlier.{may_build_then, refused_then, write_refused_then}
 use Rattle.comp_mutator.proofs.Growing.{adds_after, found_more, grows_then, knows_more, refers_more}
 use Rattle.comp_mutator.proofs.Judging.{early_unjudged, fresh_unjudged, known_judged}
-use Rattle.comp_mutator.proofs.Refusing.{refused_after, write_refused_after}
+use Rattle.comp_mutator.proofs.KnownStarts.{knows_slid}
 use Rattle.comp_mutator.proofs.writing.try_write_ref.Goals as goal
 
 pub check_found-requires-clause-found : goal.check_found-requires-clause-found
@@ -33,7 +34,9 @@ returns-in_err-check_found-clause-refused g c =
     let u = setup_of c.args.cells.now in
     let new = c.check_found.new.pass in
     let saw : SeesNothingNew old middle = λ p. store.grows.1.seen p ∙ first.grows.1.seen p in
-    let refused = refused_after u Reference c.args.object c.args.field old middle new grows (store.builds ∙ first.builds) saw knows _ c.in_err-check_found.ensures.refused in
+    let refused =
+    refused_then u Reference c.args.object c.args.field old middle new grows c.check_found.ensures.grows.0 (inl (store.builds ∙ first.builds)) saw knows
+    (λ place. knows_slid _ _ middle store.of.0 c.args.object place.0 place.1) _ c.in_err-check_found.ensures.refused in
     err_anyway c.from_residual-in_err-check_found.result _ c.in_err-check_found.field-0.0 c.from_residual-in_err-check_found.ensures.1
     (inl (inl refused, fresh_unjudged u new c.args.object c.args.value old Reference c.args.field c.in_err-check_found.ensures.apart _ refused))
 
@@ -98,10 +101,26 @@ returns-clause-refused g c =
     let saw : SeesNothingNew old middle = λ p. store.grows.1.seen p ∙ first.grows.1.seen p in
     let may = refers_more _ _ middle new store.of.0 c.write_found.ensures.of.0 c.write_found.ensures.grows c.args.value c.if-not-may_store.ensures.target in
     IfErr-weaker c.write_found.result _ _
-    (λ e h. inl (write_refused_after u Reference c.args.object c.args.field old middle new grows (store.builds ∙ first.builds) saw knows e h, known_judged u new c.args.object c.args.value may e))
+    (λ e h. inl (
+      write_refused_then u Reference c.args.object c.args.field old middle new grows c.write_found.ensures.grows (inl (store.builds ∙ first.builds)) saw knows
+          (λ place. knows_slid _ _ middle store.of.0 c.args.object place.0 place.1) e h,
+      known_judged u new c.args.object c.args.value may e,
+    ))
     c.write_found.ensures.refused
 
 pub returns-in_err-found-clause-refused : goal.returns-in_err-found-clause-refused
 returns-in_err-found-clause-refused g c =
     err_anyway c.from_residual.result _ c.in_err-found.field-0.0 c.from_residual.ensures.1
     (inl (inl c.in_err-found.ensures.refused, early_unjudged (setup_of c.args.cells.now) c.find.new.pass c.args.object c.args.value _ c.in_err-found.ensures.early))
+
+pub returns-clause-builds : goal.returns-clause-builds
+returns-clause-builds g c =
+    let u = setup_of c.args.cells.now in
+    let old = c.args.pass.now in
+    let middle = c.may_store.new.pass in
+    let new = c.write_found.new.pass in
+    let first = c.find.ensures in
+    let store = c.may_store.ensures in
+    let grows = grows_then old c.find.new.pass middle first.grows.0 store.grows.0 in
+    on_ok_weaker c.write_found.result
+    (λ (touched : MayBuildTouched u middle new Reference c.args.object c.args.field). may_build_then u Reference c.args.object c.args.field old middle new grows c.write_found.ensures.grows (inl (store.builds ∙ first.builds)) touched) c.write_found.ensures.builds

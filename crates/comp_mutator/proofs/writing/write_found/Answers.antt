@@ -5,7 +5,8 @@ use Rattle.page_cells.specs.Objects.{page_at}
 use Rattle.comp_mutator.specs.Reads.{MayBuildTouched}
 use Rattle.comp_mutator.specs.Writes.{entry_by, Adds}
 use Rattle.comp_mutator.proofs.Answering.{ok_anyway}
-use Rattle.comp_mutator.proofs.Growing.{adds_after, built_before, field_more, grows_then, refers_more, touches_more}
+use Rattle.comp_mutator.proofs.Building.{only_before}
+use Rattle.comp_mutator.proofs.Growing.{adds_after, field_more, grows_then, refers_more}
 use Rattle.comp_mutator.proofs.KnownStarts.{knows_held}
 use Rattle.comp_mutator.proofs.Refusing.{entry_refused}
 use Rattle.comp_mutator.proofs.writing.write_found.Goals as goal
@@ -45,7 +46,7 @@ returns-clause-builds g c =
     let new = c.write_taken.new.pass in
     let p = c.in_ok-held.held.taken.number in
     ok_anyway c.write_taken.result (MayBuildTouched u c.args.pass.now new c.args.name.kind c.args.name.object c.args.name.field)
-    (p, touches_more u c.take_found.new.pass new grows.0 c.args.name.kind c.args.name.object c.args.name.field p held.touched, built_before c.args.pass.now c.take_found.new.pass new p held.builds grows.1)
+    (p, only_before u c.args.name.kind c.args.name.object c.args.name.field p c.args.pass.now c.take_found.new.pass new held.touched grows.0 grows.1)
 
 pub returns-clause-refused : goal.returns-clause-refused
 returns-clause-refused g c =
@@ -59,8 +60,8 @@ returns-clause-refused g c =
     let held = c.in_ok-held.ensures.field in
     let p = c.in_ok-held.held.taken.number in
     let grows = c.write_taken.ensures.grows in
-    let touched = touches_more u middle new grows.0 kind object field p held.touched in
+    let touched = only_before u kind object field p old middle new held.touched grows.0 grows.1 in
     let known = knows_held _ _ new c.write_taken.ensures.of.0 old middle kind object field p _ held grows.0 in
     IfErr-weaker c.write_taken.result _ _
-    (λ e h. inr (entry_refused u kind object field old new p e touched known (built_before old middle new p held.builds grows.1) h.1))
+    (λ e h. inr (entry_refused u kind object field old new p e touched known h.1))
     c.write_taken.ensures.refused
