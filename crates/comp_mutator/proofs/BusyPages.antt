@@ -32,8 +32,8 @@ module _ (u : Setup) (kind : Kind) (object field : ℕ) (a b c : Pass) where
   one_touched p (inr fresh) = inl fresh.1
 
   -- the judged value, after one busy round more
-  judged_then : (value p : ℕ) → BuildsNothing a b ⊎ MayRefer b value → (MayRefer b value → MayRefer c value) → TouchesOnly u b c kind object field p → (IsPlace u.heap object → MayRefer c value)
-      → BuildsNothing a c ⊎ MayRefer c value
+  judged_then : (value p : ℕ) → BuildsNothing a b ⊎ MayRefer b value → (MayRefer b value → MayRefer c value) → TouchesOnly u b c kind object field p
+      → (IsPlace u.heap object → MayRefer c value) → BuildsNothing a c ⊎ MayRefer c value
   judged_then value p (inr may) more t now = inr (more may)
   judged_then value p (inl none) more (inl slid) now = inr (now (slid.0.header, slid.0.slid))
   judged_then value p (inl none) more (inr fresh) now = inl (fresh.1 ∙ none)
@@ -57,7 +57,8 @@ module _ (u : Setup) (kind : Kind) (object field : ℕ) (a b c : Pass) where
       pub waits_reference : Waits (HasSlidFieldOn u kind object field) a c
       waits_reference = elim r [ inl d ↦ waits_data refusal q e d.0 | inr v ↦ absurd (subst (ValueRefused u b c kind object field value) e v) ]
 
-      judged_busy : BuildsNothing a b ⊎ MayRefer b value → (MayRefer b value → MayRefer c value) → ReferenceRefused u b c kind object field value (Busy q) → BuildsNothing a c ⊎ MayRefer c value
+      judged_busy : BuildsNothing a b ⊎ MayRefer b value → (MayRefer b value → MayRefer c value) → ReferenceRefused u b c kind object field value (Busy q)
+          → BuildsNothing a c ⊎ MayRefer c value
       judged_busy before more (inl d) = elim d.0 [ inl f ↦ judged_then value q before more f.0 d.1 | inr n ↦ absurd n ]
       judged_busy before more (inr v) = absurd v
 
@@ -84,7 +85,8 @@ module _ (a b c : Pass) where
   wrote_then h k = record { did = k.did ∙ h.did; seen = λ p. k.seen p ∙ h.seen p }
 
   -- the builds after a touch, before which nothing was built
-  pub touched_after : (p : ℕ) (touched : Touched) → builds_of b ≡ builds_of a → builds_of c ≡ builds_after (builds_of b) p touched → builds_of c ≡ builds_after (builds_of a) p touched
+  pub touched_after : (p : ℕ) (touched : Touched) → builds_of b ≡ builds_of a → builds_of c ≡ builds_after (builds_of b) p touched
+      → builds_of c ≡ builds_after (builds_of a) p touched
   touched_after p touched same e = e ∙ ap (λ l. builds_after l p touched) same
 
   -- why a page was not to be had at last

@@ -42,8 +42,9 @@ module _ (u : Setup) (kind : Kind) (object field : ℕ) where
   one_page p q x y = x.page_is ∙ ap (λ h. page_at (place_of kind object h field)) (one_header x.header y.header x.slid y.slid) ∙ sym y.page_is
 
   -- a slid object that has the field does not lack it
-  has_field : (new : Pass) (p : ℕ) → HasSlidFieldOn u kind object field p → (header : ℕ) → ((other : ℕ) → HasSlid u object other → other ≡ header) → count_of kind header ≤ field → ⊥
-  has_field new p x header own outside =
+  has_field : (p : ℕ) → HasSlidFieldOn u kind object field p → (header : ℕ) → ((other : ℕ) → HasSlid u object other → other ≡ header)
+      → count_of kind header ≤ field → ⊥
+  has_field p x header own outside =
       let inside : field < count_of kind header = subst (λ h. field < count_of kind h) (own x.header x.slid) x.inside in
       omega (arith, inside, outside)
 
@@ -94,7 +95,7 @@ module _ (u : Setup) (kind : Kind) (object field : ℕ) where
       needs_then none r = (r.0 ∙ none, λ place. saw_then (r.1 place))
 
       lacks_then : LacksField u (seen c) kind object field → NeedsNoPage u b c object → NeedsNoPage u a c object
-      lacks_then lacks r = needs_then (none_if (λ p slid. has_field c p slid lacks.header lacks.slid lacks.outside)) r
+      lacks_then lacks r = needs_then (none_if (λ p slid. has_field p slid lacks.header lacks.slid lacks.outside)) r
 
       -- why a call on a field is refused
       pub refused_then : (refusal : Refusal) → FieldRefused u b c kind object field refusal → FieldRefused u a c kind object field refusal

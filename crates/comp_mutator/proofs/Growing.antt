@@ -15,7 +15,7 @@ use Rattle.page_cells.specs.Cells.{Works}
 use Rattle.page_cells.specs.Calls.{Grows}
 use Rattle.page_cells.specs.Objects.{page_at, offset_at, HasHeader, HasShape}
 use Rattle.comp_mutator.specs.Reads.{KnowsBuilt}
-use Rattle.comp_mutator.specs.Fields.{IsFieldOf, IsFreshObject, Touches}
+use Rattle.comp_mutator.specs.Fields.{IsFieldOf, IsFreshObject}
 use Rattle.comp_mutator.specs.Finds.{IsFound}
 use Rattle.comp_mutator.specs.Writes.{entry_by, Adds}
 use Rattle.comp_mutator.specs.declared.finding.Found.{Found}
@@ -86,11 +86,6 @@ module _ (u : Setup) (a b : Pass) (h : Grows a b) where
   -- a start of an object that an allocation made stays known
   pub fresh_more : (object : ℕ) → IsFreshObject u a object → IsFreshObject u b object
   fresh_more object f = record { apart = f.apart; begins = f.begins; ends = f.ends; fresh = f.fresh; known = h.starts (page_at object) (offset_at object) f.known }
-
-  -- the page that a call touches stays the same
-  pub touches_more : (kind : Kind) (object field p : ℕ) → Touches u a kind object field p → Touches u b kind object field p
-  touches_more kind object field p (inl slid) = inl slid
-  touches_more kind object field p (inr fresh) = inr (fresh_more object fresh.0, fresh.1)
 
   -- what was found stays so
   pub found_more : (kind : Kind) (object field : ℕ) (found : Found) → IsFound u a kind object field found → IsFound u b kind object field found

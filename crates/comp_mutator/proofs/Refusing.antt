@@ -6,14 +6,14 @@ use Rattle.cell_steps.specs.Passes.{KnowsFresh}
 use Rattle.cell_steps.specs.declared.pass.Pass.{Pass}
 use Rattle.page_cells.specs.Calls.{Grows}
 use Rattle.page_cells.specs.Objects.{offset_at}
-use Rattle.comp_mutator.specs.Fields.{KnowsFieldOn, Touches}
+use Rattle.comp_mutator.specs.Fields.{KnowsFieldOn}
 use Rattle.comp_mutator.specs.Copies.{PageRefused, PageTakesNone}
 use Rattle.comp_mutator.specs.Reads.{FieldRefused, KnowsBuilt, MayBuild, SeesNothingNew, TouchesOnly, WantsMemory}
 use Rattle.comp_mutator.specs.Writes.{EntryRefused}
 use Rattle.comp_mutator.specs.Allocations.{AllocationRefused, IsLowestPage}
 use Rattle.comp_mutator.specs.declared.refusal.Refusal.{Refusal}
 use Rattle.comp_mutator.specs.declared.refusal.Refusal.TheVariants.{Null, NotAStart, NoSuchField, ObjectTooLarge, OutOfPages, Busy, JournalFull, OutOfMemory}
-use Rattle.comp_mutator.proofs.Building.{only_of}
+use Rattle.comp_mutator.proofs.Building.{only_of, Touches}
 
 -- the page on which an object was to be made was not to be had
 pub allocation_page_refused : (u : Setup) (old new : Pass) (size p : ℕ) (refusal : Refusal) → IsLowestPage u old size p → MayBuild p old new → SeesNothingNew old new
@@ -47,8 +47,8 @@ module _ (u : Setup) (kind : Kind) (object field : ℕ) where
   wants_memory old new p (inr fresh) b s r = absurd (r (inr (offset_at object, subst (λ n. KnowsFresh old n (offset_at object)) (sym fresh.1) fresh.0.known)))
 
   -- the page that a call touches was not to be had
-  pub page_refused : (old new : Pass) → Grows old new → (p : ℕ) (refusal : Refusal) → Touches u old kind object field p → MayBuild p old new → SeesNothingNew old new
-      → PageRefused p old new refusal → FieldRefused u old new kind object field refusal
+  pub page_refused : (old new : Pass) → Grows old new → (p : ℕ) (refusal : Refusal) → Touches u old kind object field p → MayBuild p old new
+      → SeesNothingNew old new → PageRefused p old new refusal → FieldRefused u old new kind object field refusal
   page_refused old new h p Null t b s r = absurd r
   page_refused old new h p (NotAStart a) t b s r = absurd r
   page_refused old new h p NoSuchField t b s r = absurd r
