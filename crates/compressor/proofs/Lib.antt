@@ -1,3 +1,4 @@
+pub mod Levels
 pub mod Lines
 pub mod Copied
 pub mod Answered

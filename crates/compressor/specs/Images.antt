@@ -7,9 +7,13 @@ use Rattle.compressor.specs.declared.refusal.Input.TheVariants.{Image}
 use Rattle.compressor.specs.declared.refusal.Refusal.{Refusal}
 use Rattle.compressor.specs.declared.refusal.Refusal.TheVariants.{CannotOpen, OutOfMemory}
 
+-- P holds of some accepted heap
+abbrev pub SomeHeap : (Heap → Type 0) → Type 0
+SomeHeap P = (heap : Heap) × IsStored heap × IsAccepted heap × P heap
+
 -- P holds of an accepted heap; where the bytes of the image are known, they are the heap's encoding
 abbrev pub IsImageOf : (Heap → Type 0) → Option (List ℕ) → Type 0
-IsImageOf P known = (heap : Heap) × IsStored heap × IsAccepted heap × IfSome known (λ bytes. bytes ≡ encoding heap) × P heap
+IsImageOf P known = SomeHeap (λ heap. IfSome known (λ bytes. bytes ≡ encoding heap) × P heap)
 
 -- P holds of what some reader that is given tells of its bytes
 abbrev pub SomeGiven : {R : Type 0} → (R → Type 0) → (R → Option (List ℕ)) → (Option (List ℕ) → Type 0) → Type 0

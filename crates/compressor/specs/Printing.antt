@@ -8,6 +8,8 @@ use Rattle.clap.specs.declared.error.Error.{Error}
 use Rattle.clap.specs.declared.error.kind.ErrorKind.TheVariants.{DisplayHelp, DisplayVersion}
 use Rattle.heap_layout.specs.Counted.{CountsFailure}
 use Rattle.compressor.specs.declared.refusal.Input.TheVariants.{Image}
+use Rattle.compressor.specs.declared.words.Task.{Task}
+use Rattle.compressor.specs.declared.words.Task.TheVariants.{Plan, Word, Help}
 use Rattle.compressor.specs.declared.refusal.Refusal.{Refusal}
 use Rattle.compressor.specs.declared.refusal.Refusal.TheVariants.{Layout, CannotOpen, CannotPrint, OutOfMemory}
 
@@ -54,3 +56,9 @@ IsOfOpening lacks _ = ⊥
 -- the parser's answer is a text of help, or of the version
 abbrev pub IsHelp : Error → Type 0
 IsHelp error = ¬ ((kind_of error ≢ DisplayHelp) × (kind_of error ≢ DisplayVersion))
+
+-- the task is a text of help
+abbrev pub IsText : Task → Type 0
+IsText (Plan image) = ⊥
+IsText (Word image index) = ⊥
+IsText (Help text) = Unit {0}

@@ -1,13 +1,12 @@
 -- What the program answers to what it is asked.
-use Rattle.std.specs.Prelude.{◌≡◌, ◌≢◌, ◌⊎◌, ℕ, List, Option, Some, None, Result, Ok, Err}
+use Rattle.std.specs.Prelude.{◌≡◌, ◌≢◌, ◌⊎◌, ℕ, List, Option, Result, Ok, Err}
 use Rattle.std.specs.Io.KnownBytes.{Appends}
 use Rattle.std.specs.String.{string_bytes}
 use Rattle.clap.specs.Values.{kind_of}
 use Rattle.clap.specs.declared.error.Error.{Error}
 use Rattle.clap.specs.declared.error.kind.ErrorKind.TheVariants.{OutOfMemory}
-use Rattle.heap_layout.specs.Heap.{Heap, IsStored}
-use Rattle.heap_layout.specs.Faults.{IsAccepted}
-use Rattle.compressor.specs.Images.{IsImageOf, SomeGiven, RefusesAt}
+use Rattle.compressor.specs.Asked.{AsksHelp, AsksPlan, AsksWord}
+use Rattle.compressor.specs.Images.{IsImageOf, SomeGiven, SomeHeap, RefusesAt}
 use Rattle.compressor.specs.Plan.{PrintsPlan, RefusesPlan}
 use Rattle.compressor.specs.Printing.{help_lines}
 use Rattle.compressor.specs.Word.{PrintsWordAt, RefusesPrint}
@@ -29,27 +28,23 @@ RefusesTask lacks gives remaining (Word image index) refusal = RefusesAt (lacks 
 RefusesTask lacks gives remaining (Help text) refusal = refusal ≡ CannotPrint
 
 -- what the words ask is done
-abbrev pub Answers : {R : Type 0} → (List ℕ → R → Type 0) → (R → Option (List ℕ)) → Option (List ℕ) → Option (List ℕ) → Result (Option Task) Error → Type 0
-Answers gives remaining before after (Ok (Some task)) = DoesTask gives remaining before after task
-Answers gives remaining before after (Ok None) = ⊥
+abbrev pub Answers : {R : Type 0} → (List ℕ → R → Type 0) → (R → Option (List ℕ)) → Option (List ℕ) → Option (List ℕ) → Result Task Error → Type 0
+Answers gives remaining before after (Ok task) = DoesTask gives remaining before after task
 Answers gives remaining before after (Err error) = ⊥
 
 -- why what the words ask is refused: their task is, by some refusal with its cause, or the words could not be read for want of memory
-abbrev pub IsRefused : {R : Type 0} → (List ℕ → Type 0) → (List ℕ → R → Type 0) → (R → Option (List ℕ)) → Result (Option Task) Error → Type 0
-IsRefused lacks gives remaining (Ok (Some task)) = (refusal : Refusal) × RefusesTask lacks gives remaining task refusal
-IsRefused lacks gives remaining (Ok None) = ⊥
+abbrev pub IsRefused : {R : Type 0} → (List ℕ → Type 0) → (List ℕ → R → Type 0) → (R → Option (List ℕ)) → Result Task Error → Type 0
+IsRefused lacks gives remaining (Ok task) = (refusal : Refusal) × RefusesTask lacks gives remaining task refusal
 IsRefused lacks gives remaining (Err error) = kind_of error ≡ OutOfMemory
 
 -- what was read of the words is no task, and memory was not what was missing
-abbrev pub AreWrong : Result (Option Task) Error → Type 0
-AreWrong (Ok (Some task)) = ⊥
-AreWrong (Ok None) = Unit {0}
+abbrev pub AreWrong : Result Task Error → Type 0
+AreWrong (Ok task) = ⊥
 AreWrong (Err error) = kind_of error ≢ OutOfMemory
 
--- P holds of some accepted heap
-abbrev pub SomeHeap : (Heap → Type 0) → Type 0
-SomeHeap P = (heap : Heap) × IsStored heap × IsAccepted heap × P heap
-
--- a word of some accepted heap was printed, or the plan of one, or a text of help
-abbrev pub HasPrinted : Option (List ℕ) → Option (List ℕ) → Type 0
-HasPrinted before after = ((index : ℕ) × SomeHeap (PrintsWordAt index before after)) ⊎ SomeHeap (PrintsPlan before after) ⊎ ((text : List ℕ) × Appends before after (help_lines text))
+-- what the words ask was printed, between these two contents of the output: the plan of some accepted heap, the word at their index of one, or a text of help
+abbrev pub HasAnswered : List (List ℕ) → Option (List ℕ) → Option (List ℕ) → Type 0
+HasAnswered words before after =
+    ((path : List ℕ) × AsksPlan words path × SomeHeap (PrintsPlan before after))
+    ⊎ ((path : List ℕ) × (index : ℕ) × AsksWord words path index × SomeHeap (PrintsWordAt index before after))
+    ⊎ (AsksHelp words × (text : List ℕ) × Appends before after (help_lines text))

@@ -1,8 +1,10 @@
-ghost use Rattle.std.specs.Prelude.{◌≡◌, ◌-◌, ◌^◌, ◌<◌, ◌≤◌, true, IfErr, OnOk, OnErr};
+ghost use Rattle.std.specs.Prelude.{◌≡◌, ◌-◌, ◌^◌, ◌<◌, ◌≤◌, true, map, IfErr, OnOk, OnErr};
+ghost use Rattle.std.specs.String.{string_bytes};
 ghost use Rattle.std.specs.Io.KnownBytes.{Keeps};
 ghost use Rattle.heap_layout.specs.Counted.{inner_of, failures_of, is_flushed_of, writer_of};
+ghost use Rattle.compressor.specs.Asked.{AsksNeither};
 ghost use Rattle.compressor.specs.Printing.{CountsPrint, RefusedUnprinted};
-ghost use Rattle.compressor.specs.Tasks.{Answers, AreWrong, DoesTask, HasPrinted, IsRefused, RefusesTask};
+ghost use Rattle.compressor.specs.Tasks.{Answers, AreWrong, DoesTask, HasAnswered, IsRefused, RefusesTask};
 
 use crate::images::{FileImages, Images};
 use crate::plan::print_plan;
@@ -34,7 +36,8 @@ pub fn run<R: Files + AllocGlobal, O: Write, E: Write>(
     err: &mut E,
 ) -> u8
     ensures status { result ≤ 2 }
-    ensures done { result ≡ 0 → HasPrinted (O.contents out.old) (O.contents out.new) }
+    ensures done { result ≡ 0 → HasAnswered (map string_bytes words.entry.items) (O.contents out.old) (O.contents out.new) }
+    ensures wrong { result ≡ 2 → AsksNeither (map string_bytes words.entry.items) }
     ensures misused { result ≡ 2 → Keeps (O.contents out.old) (O.contents out.new) }
 {
     let mut out = Counted::new(out);
@@ -46,7 +49,7 @@ pub fn run<R: Files + AllocGlobal, O: Write, E: Write>(
 pub fn respond<I: Images, O: Write, E: Write>(
     alloc: Global,
     images: &I,
-    asked: Result<Option<Task>, clap::Error>,
+    asked: Result<Task, clap::Error>,
     out: &mut Counted<&mut O>,
     err: &mut E,
 ) -> u8
@@ -61,8 +64,7 @@ pub fn respond<I: Images, O: Write, E: Write>(
     ensures same_writer { writer_of out.new ≡ writer_of out.old }
 {
     match asked {
-        Ok(Some(task)) => told(perform(alloc, images, task, out), err),
-        Ok(None) => MISUSED,
+        Ok(task) => told(perform(alloc, images, task, out), err),
         Err(error) if error.kind() == ErrorKind::OutOfMemory => told(
             Err(Refusal::OutOfMemory),
             err,

@@ -1,6 +1,11 @@
 //! The words of the command line.
-ghost use Rattle.std.specs.Prelude.{OnOk};
-ghost use Rattle.compressor.specs.Printing.{IsHelp};
+ghost use Rattle.std.specs.Prelude.{◌≡◌, ◌≢◌, ◌⊎◌, ℕ, [], true, map, is_some, Some, IsSomeAnd, IfSome, IfOk, IfErr, OnOk};
+ghost use Rattle.std.specs.String.{string_bytes};
+ghost use Rattle.clap.specs.Words.{app_of, fault_of, first_of, found_of, kind_of, one_of, rows_of, rule_of, subcommand_of, subcommand_rows_of};
+ghost use Rattle.clap.specs.declared.error.kind.ErrorKind.TheVariants.{OutOfMemory};
+ghost use Rattle.compressor.specs.Asked.{Asks, AsksNeither, IsNumber};
+ghost use Rattle.compressor.specs.Parser.{image_rule, plan_app, program, word_app};
+ghost use Rattle.compressor.specs.Printing.{IsHelp, IsText};
 
 use clap::{Arg, ArgMatches, Command, Error, value_parser};
 use std::alloc::{AllocError, Global};
@@ -16,22 +21,62 @@ pub enum Task<'a> {
     Help { text: String },
 }
 
-/// Reads the words after the program's name. None comes only where the parser lets through words that lack a command or an argument, which it never
-/// does.
-pub fn read_task<'a>(alloc: Global, words: &'a [String]) -> Result<Option<Task<'a>>, Error> {
+/// Reads the words after the program's name: the task is the one that they ask. An error comes where they ask none, or for want of memory.
+pub fn read_task<'a>(alloc: Global, words: &'a [String]) -> Result<Task<'a>, Error>
+    ensures asked { IfOk result (Asks (map string_bytes words.entry.now)) }
+    ensures none { IfErr result (λ error. kind_of error ≢ OutOfMemory → AsksNeither (map string_bytes words.entry.now)) }
+{
     match command(alloc)?.try_get_matches_from(words) {
-        Ok(matches) => Ok(match matches.subcommand() {
-            Some(("plan", found)) => plan_task(found),
-            Some(("word", found)) => word_task(found),
-            _ => None,
-        }),
-        Err(error) => Ok(Some(help_task(alloc, error)?)),
+        Ok(matches) => Ok(task_of(words, &matches)),
+        Err(error) => help_task(alloc, error),
+    }
+}
+
+// The task that the parser found in the words.
+fn task_of<'a>(words: &'a [String], matches: &ArgMatches<'a>) -> Task<'a>
+    requires taken { fault_of program (map string_bytes words.now) ≡ [] }
+    requires found { subcommand_rows_of matches.now ≡ subcommand_of program (map string_bytes words.now) }
+    ensures { Asks (map string_bytes words.entry.now) result }
+{
+    match matches.subcommand() {
+        Some(("plan", found)) => Task::Plan {
+            image: text_of(found, "IMAGE"),
+        },
+        Some(("word", found)) => Task::Word {
+            image: text_of(found, "IMAGE"),
+            index: number_of(found, "INDEX"),
+        },
+        _ => unreachable!(),
+    }
+}
+
+// The text of an argument that was found.
+fn text_of<'a>(found: &ArgMatches<'a>, id: &str) -> &'a str
+    requires { is_some (first_of id.now (rows_of (found_of found.now))) ≡ true }
+    ensures { first_of id.now (rows_of (found_of found.now)) ≡ Some result.now }
+{
+    match found.get_str(id) {
+        Some(text) => text,
+        None => unreachable!(),
+    }
+}
+
+// The number of an argument that was found.
+fn number_of(found: &ArgMatches, id: &str) -> u64
+    requires { IsSomeAnd (one_of id.now (rows_of (found_of found.now))) (λ text. (number : ℕ) × IsNumber text number) }
+    ensures { IfSome (one_of id.now (rows_of (found_of found.now))) (λ text. IsNumber text result) }
+{
+    match found.get_one::<u64>(id) {
+        Some(number) => number,
+        None => unreachable!(),
     }
 }
 
 // The text of help where that is what the parser answers, and else its error.
 fn help_task<'a>(alloc: Global, error: Error) -> Result<Task<'a>, Error>
-    ensures { OnOk result (IsHelp error) }
+    ensures help { OnOk result (IsHelp error) }
+    ensures text { IfOk result IsText }
+    ensures error { IfErr result (λ told. (kind_of told ≡ OutOfMemory) ⊎ (kind_of told ≡ kind_of error)) }
 {
     if error.use_stderr() {
         return Err(error);
@@ -40,7 +85,9 @@ fn help_task<'a>(alloc: Global, error: Error) -> Result<Task<'a>, Error>
     Ok(Task::Help { text })
 }
 
-fn command<'a>(alloc: Global) -> Result<Command<'a>, AllocError> {
+fn command<'a>(alloc: Global) -> Result<Command<'a>, AllocError>
+    ensures { IfOk result (λ made. app_of made ≡ program) }
+{
     Command::new(alloc, "compressor")
         .bin_name("compressor")?
         .about("Compacts marked heaps by sliding, page by page")
@@ -50,13 +97,17 @@ fn command<'a>(alloc: Global) -> Result<Command<'a>, AllocError> {
         .subcommand(word_command(alloc)?)
 }
 
-fn plan_command<'a>(alloc: Global) -> Result<Command<'a>, AllocError> {
+fn plan_command<'a>(alloc: Global) -> Result<Command<'a>, AllocError>
+    ensures { IfOk result (λ made. app_of made ≡ plan_app) }
+{
     Command::new(alloc, "plan")
         .about("Prints where the live objects of a heap slide")
         .arg(image_argument(alloc))
 }
 
-fn word_command<'a>(alloc: Global) -> Result<Command<'a>, AllocError> {
+fn word_command<'a>(alloc: Global) -> Result<Command<'a>, AllocError>
+    ensures { IfOk result (λ made. app_of made ≡ word_app) }
+{
     Command::new(alloc, "word")
         .about("Prints the to-space word at an index")
         .arg(image_argument(alloc))?
@@ -68,21 +119,10 @@ fn word_command<'a>(alloc: Global) -> Result<Command<'a>, AllocError> {
         )
 }
 
-fn image_argument<'a>(alloc: Global) -> Arg<'a> {
+fn image_argument<'a>(alloc: Global) -> Arg<'a>
+    ensures { rule_of result ≡ image_rule }
+{
     Arg::new(alloc, "IMAGE")
         .required(true)
         .help("The heap's image")
-}
-
-fn plan_task<'a>(found: &ArgMatches<'a>) -> Option<Task<'a>> {
-    Some(Task::Plan {
-        image: found.get_str("IMAGE")?,
-    })
-}
-
-fn word_task<'a>(found: &ArgMatches<'a>) -> Option<Task<'a>> {
-    Some(Task::Word {
-        image: found.get_str("IMAGE")?,
-        index: found.get_one::<u64>("INDEX")?,
-    })
 }
