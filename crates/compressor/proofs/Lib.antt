@@ -1,4 +1,6 @@
 pub mod Levels
+pub mod Parsed
+pub mod Found
 pub mod Lines
 pub mod Copied
 pub mod Answered

@@ -1,11 +1,11 @@
 -- What a call tells of the output and of the file that is read: a refusal for a device comes exactly where one of its calls failed.
-use Rattle.std.specs.Prelude.{◌≡◌, ◌≢◌, ℕ, ◌+◌, List, [], ◌∷◌, ◌++◌, Option, Result, Ok, Err}
+use Rattle.std.specs.Prelude.{◌≡◌, ℕ, ◌+◌, List, [], ◌∷◌, ◌++◌, Option, Result, Ok, Err}
 use Rattle.std.specs.Fmt.{decimal}
 use Rattle.std.specs.Io.KnownBytes.{Keeps}
 use Rattle.std.specs.Str.{trim_end}
 use Rattle.clap.specs.Values.{kind_of}
 use Rattle.clap.specs.declared.error.Error.{Error}
-use Rattle.clap.specs.declared.error.kind.ErrorKind.TheVariants.{DisplayHelp, DisplayVersion}
+use Rattle.clap.specs.declared.error.kind.ErrorKind.TheVariants.{DisplayHelp}
 use Rattle.heap_layout.specs.Counted.{CountsFailure}
 use Rattle.compressor.specs.declared.refusal.Input.TheVariants.{Image}
 use Rattle.compressor.specs.declared.words.Task.{Task}
@@ -53,9 +53,9 @@ IsOfOpening lacks (CannotOpen Image) = lacks
 IsOfOpening lacks OutOfMemory = Unit {0}
 IsOfOpening lacks _ = ⊥
 
--- the parser's answer is a text of help, or of the version
+-- the parser's answer is a text of help
 abbrev pub IsHelp : Error → Type 0
-IsHelp error = ¬ ((kind_of error ≢ DisplayHelp) × (kind_of error ≢ DisplayVersion))
+IsHelp error = kind_of error ≡ DisplayHelp
 
 -- the task is a text of help
 abbrev pub IsText : Task → Type 0

@@ -1,12 +1,13 @@
 //! The words of the command line.
-ghost use Rattle.std.specs.Prelude.{◌≡◌, ◌≢◌, ◌⊎◌, ℕ, [], true, map, is_some, Some, IsSomeAnd, IfSome, IfOk, IfErr, OnOk};
+ghost use Rattle.std.specs.Prelude.{◌≡◌, ◌≢◌, ◌⊎◌, ℕ, [], true, false, map, is_some, Some, IsSomeAnd, IfSome, IfOk, IfErr, OnOk};
 ghost use Rattle.std.specs.String.{string_bytes};
-ghost use Rattle.clap.specs.Words.{app_of, fault_of, first_of, found_of, kind_of, one_of, rows_of, rule_of, subcommand_of, subcommand_rows_of};
+ghost use Rattle.clap.specs.Words.{app_of, fault_of, first_value, found_of, kind_of, one_text, rule_of, subcommand_of, subcommand_rows_of};
 ghost use Rattle.clap.specs.declared.error.kind.ErrorKind.TheVariants.{OutOfMemory};
 ghost use Rattle.compressor.specs.Asked.{Asks, AsksNeither, IsNumber};
 ghost use Rattle.compressor.specs.Parser.{image_rule, plan_app, program, word_app};
 ghost use Rattle.compressor.specs.Printing.{IsHelp, IsText};
 
+use clap::error::ErrorKind;
 use clap::{Arg, ArgMatches, Command, Error, value_parser};
 use std::alloc::{AllocError, Global};
 
@@ -52,8 +53,8 @@ fn task_of<'a>(words: &'a [String], matches: &ArgMatches<'a>) -> Task<'a>
 
 // The text of an argument that was found.
 fn text_of<'a>(found: &ArgMatches<'a>, id: &str) -> &'a str
-    requires { is_some (first_of id.now (rows_of (found_of found.now))) ≡ true }
-    ensures { first_of id.now (rows_of (found_of found.now)) ≡ Some result.now }
+    requires { is_some (first_value (found_of found.now) id.now) ≡ true }
+    ensures { Some result.now ≡ first_value (found_of found.now) id.now }
 {
     match found.get_str(id) {
         Some(text) => text,
@@ -63,8 +64,8 @@ fn text_of<'a>(found: &ArgMatches<'a>, id: &str) -> &'a str
 
 // The number of an argument that was found.
 fn number_of(found: &ArgMatches, id: &str) -> u64
-    requires { IsSomeAnd (one_of id.now (rows_of (found_of found.now))) (λ text. (number : ℕ) × IsNumber text number) }
-    ensures { IfSome (one_of id.now (rows_of (found_of found.now))) (λ text. IsNumber text result) }
+    requires { IsSomeAnd (one_text (found_of found.now) id.now) (λ text. (number : ℕ) × IsNumber text number) }
+    ensures { IfSome (one_text (found_of found.now) id.now) (λ text. IsNumber text result) }
 {
     match found.get_one::<u64>(id) {
         Some(number) => number,
@@ -78,11 +79,12 @@ fn help_task<'a>(alloc: Global, error: Error) -> Result<Task<'a>, Error>
     ensures text { IfOk result IsText }
     ensures error { IfErr result (λ told. (kind_of told ≡ OutOfMemory) ⊎ (kind_of told ≡ kind_of error)) }
 {
-    if error.use_stderr() {
-        return Err(error);
+    match error.kind() {
+        ErrorKind::DisplayHelp => Ok(Task::Help {
+            text: error.to_string(alloc)?,
+        }),
+        _ => Err(error),
     }
-    let text = error.to_string(alloc)?;
-    Ok(Task::Help { text })
 }
 
 fn command<'a>(alloc: Global) -> Result<Command<'a>, AllocError>
@@ -120,7 +122,8 @@ fn word_command<'a>(alloc: Global) -> Result<Command<'a>, AllocError>
 }
 
 fn image_argument<'a>(alloc: Global) -> Arg<'a>
-    ensures { rule_of result ≡ image_rule }
+    ensures rule { rule_of result ≡ image_rule }
+    ensures local { result.global ≡ false }
 {
     Arg::new(alloc, "IMAGE")
         .required(true)

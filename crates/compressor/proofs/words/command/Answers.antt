@@ -1,0 +1,20 @@
+use Rattle.std.proofs.Common.{rules, ◌∙◌, ◌≡◌, ap, ap₂, refl, true}
+use Rattle.std.proofs.lemmas.Result.{IfOk-weaker}
+use Rattle.clap.specs.Words.{App, app_of, shape_of, with_subcommand}
+use Rattle.clap.proofs.SimpleLemmas.{plain_fields}
+use Rattle.compressor.specs.Parser.{empty_app, plan_app, program, word_app}
+use Rattle.compressor.proofs.words.command.Goals as goal
+
+pub returns : goal.returns
+returns c =
+    let plan = c.in_ok-plan_command.field-0 in
+    let word = c.in_ok-word_command.field-0 in
+    let plan_is : app_of plan ≡ plan_app = search rules in
+    let word_is : app_of word ≡ word_app = search rules in
+    let plan_local = plain_fields plan (ap (λ (a : App). a.top.is_plain) plan_is) in
+    let word_local = plain_fields word (ap (λ (a : App). a.top.is_plain) word_is) in
+    let empty_is : app_of c.subcommand_required.result ≡ empty_app = search rules in
+    let planned = c.in_ok-subcommand.ensures.shape plan_local.globals
+    ∙ ap₂ with_subcommand empty_is (ap (λ (a : App). a.top) plan_is) in
+    IfOk-weaker c.subcommand-2.result _ _ (λ made adds. adds.shape word_local.globals
+    ∙ ap₂ with_subcommand planned (ap (λ (a : App). a.top) word_is)) c.subcommand-2.ensures
