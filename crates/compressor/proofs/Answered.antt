@@ -1,10 +1,13 @@
--- A task that is done has printed a word of some accepted heap, the plan of one, or a text of help.
-use Rattle.std.proofs.Common.{ℕ, List, Option, inl, inr, Some, None, Ok, Err, Result}
+-- From what a run answers to what its words ask.
+use Rattle.std.proofs.Common.{◌≢◌, ℕ, List, Option, inl, inr, Ok, Err, IfErr, IfOk, Result}
 use Rattle.std.specs.String.{string_bytes}
+use Rattle.clap.specs.Words.{kind_of}
 use Rattle.clap.specs.declared.error.Error.{Error}
+use Rattle.clap.specs.declared.error.kind.ErrorKind.TheVariants.{OutOfMemory}
 use Rattle.heap_layout.specs.Heap.{Heap}
-use Rattle.compressor.specs.Images.{IsImageOf, SomeGiven}
-use Rattle.compressor.specs.Tasks.{Answers, HasPrinted, SomeHeap}
+use Rattle.compressor.specs.Asked.{Asks, AsksNeither}
+use Rattle.compressor.specs.Images.{IsImageOf, SomeGiven, SomeHeap}
+use Rattle.compressor.specs.Tasks.{Answers, AreWrong, HasAnswered}
 use Rattle.compressor.specs.declared.words.Task.{Task}
 use Rattle.compressor.specs.declared.words.Task.TheVariants.{Plan, Word, Help}
 
@@ -12,11 +15,15 @@ use Rattle.compressor.specs.declared.words.Task.TheVariants.{Plan, Word, Help}
 heap_of : {R : Type 0} (gives : R → Type 0) (remaining : R → Option (List ℕ)) (P : Heap → Type 0) → SomeGiven gives remaining (IsImageOf P) → SomeHeap P
 heap_of gives remaining P (reader, given, image) = (image.0, image.1, image.2, image.4)
 
--- what was asked is done, so something was printed
-pub answered : {R : Type 0} (gives : List ℕ → R → Type 0) (remaining : R → Option (List ℕ)) (before after : Option (List ℕ)) (asked : Result (Option Task) Error)
-    → Answers gives remaining before after asked → HasPrinted before after
-answered gives remaining before after (Ok (Some (Plan image))) h = inr (inl (heap_of _ _ _ h))
-answered gives remaining before after (Ok (Some (Word image index))) h = inl (index, heap_of _ _ _ h)
-answered gives remaining before after (Ok (Some (Help text))) h = inr (inr (string_bytes text, h))
-answered gives remaining before after (Ok None) h = absurd h
-answered gives remaining before after (Err error) h = absurd h
+-- what the words ask was printed, where the task that was read of them is done
+pub answered : {R : Type 0} (gives : List ℕ → R → Type 0) (remaining : R → Option (List ℕ)) (before after : Option (List ℕ)) (words : List (List ℕ)) (asked : Result Task Error)
+    → IfOk asked (Asks words) → Answers gives remaining before after asked → HasAnswered words before after
+answered gives remaining before after words (Ok (Plan image)) asks h = inl (image.now, asks, heap_of _ _ _ h)
+answered gives remaining before after words (Ok (Word image index)) asks h = inr (inl (image.now, index, asks, heap_of _ _ _ h))
+answered gives remaining before after words (Ok (Help text)) asks h = inr (inr (asks, string_bytes text, h))
+answered gives remaining before after words (Err error) asks h = absurd h
+
+-- words of which no task was read, with memory there, ask neither
+pub misused : (words : List (List ℕ)) (asked : Result Task Error) → IfErr asked (λ error. kind_of error ≢ OutOfMemory → AsksNeither words) → AreWrong asked → AsksNeither words
+misused words (Ok task) neither wrong = absurd wrong
+misused words (Err error) neither wrong = neither wrong

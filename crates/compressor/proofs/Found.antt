@@ -41,9 +41,9 @@ plan_is_not_word e =
     absurd (omega (arith, bad))
 
 -- what was found where the words are `plan`: a path, which they ask
-pub plan_found : (words : List (List ℕ)) (f : Found) → All IsUtf8 words → fault_of program words ≡ [] → subcommand_of program words ≡ Some (codes "plan", rows_of f)
+pub plan_asked : (words : List (List ℕ)) (f : Found) → All IsUtf8 words → fault_of program words ≡ [] → subcommand_of program words ≡ Some (codes "plan", rows_of f)
     → (path : List ℕ) × (first_value f (codes "IMAGE") ≡ Some path) × AsksPlan words path
-plan_found words f utf8 taken found = elim (parsed words utf8 taken) [
+plan_asked words f utf8 taken found = elim (parsed words utf8 taken) [
   | inl p ↦
       let rows = same_rows _ (codes "plan") (codes "plan") (rows_of f) p.rows found p.found in
       (p.path, first_value-rows f (codes "IMAGE") ∙ (ap (first_of (codes "IMAGE")) rows ∙ p.image), p.asks)
@@ -51,10 +51,10 @@ plan_found words f utf8 taken found = elim (parsed words utf8 taken) [
 ]
 
 -- what was found where the words are `word`: a path and an index, which they ask
-pub word_found : (words : List (List ℕ)) (f : Found) → All IsUtf8 words → fault_of program words ≡ [] → subcommand_of program words ≡ Some (codes "word", rows_of f)
+pub word_asked : (words : List (List ℕ)) (f : Found) → All IsUtf8 words → fault_of program words ≡ [] → subcommand_of program words ≡ Some (codes "word", rows_of f)
     → (path : List ℕ) × (digits : List ℕ) × (first_value f (codes "IMAGE") ≡ Some path) × (one_text f (codes "INDEX") ≡ Some digits)
     × ((n : ℕ) × IsNumber digits n) × ((n : ℕ) → IsNumber digits n → AsksWord words path n)
-word_found words f utf8 taken found = elim (parsed words utf8 taken) [
+word_asked words f utf8 taken found = elim (parsed words utf8 taken) [
   | inl p ↦ absurd (plan_is_not_word (same_name _ (codes "plan") (codes "word") p.rows (rows_of f) p.found found))
   | inr w ↦
       let rows = same_rows _ (codes "word") (codes "word") (rows_of f) w.rows found w.found in (

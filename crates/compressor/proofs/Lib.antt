@@ -1,5 +1,4 @@
 pub mod Levels
-pub mod Parsed
 pub mod Found
 pub mod Lines
 pub mod Copied

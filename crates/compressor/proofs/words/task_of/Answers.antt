@@ -3,26 +3,26 @@ use Rattle.std.specs.String.{string_bytes}
 use Rattle.clap.specs.Words.{rows_of, found_of, subcommand_of}
 use Rattle.compressor.specs.Asked.{AsksPlan, AsksWord, IsNumber}
 use Rattle.compressor.specs.Parser.{program}
-use Rattle.compressor.proofs.Found.{other_found, plan_found, same_name, same_text, texts_utf8, word_found}
+use Rattle.compressor.proofs.Found.{other_found, plan_asked, same_name, same_text, texts_utf8, word_asked}
 use Rattle.compressor.proofs.words.task_of.Goals.{in_default-via-in-Some+in_default, in_default-via-in_default}
 use Rattle.compressor.proofs.words.task_of.Goals as goal
 
 pub text_of-requires : goal.text_of-requires
 text_of-requires c =
     let found : subcommand_of program (map string_bytes c.args.words.now) ≡ Some (codes "plan", rows_of (found_of c.in-Some-plan-default.found.now)) = search rules in
-    let got = plan_found _ (found_of c.in-Some-plan-default.found.now) (texts_utf8 c.args.words.now) c.requires.taken found in
+    let got = plan_asked _ (found_of c.in-Some-plan-default.found.now) (texts_utf8 c.args.words.now) c.requires.taken found in
     ap (λ (o : Option (List ℕ)). is_some o) got.1
 
 pub text_of-requires-in-Some-word-default : goal.text_of-requires-in-Some-word-default
 text_of-requires-in-Some-word-default c =
     let found : subcommand_of program (map string_bytes c.args.words.now) ≡ Some (codes "word", rows_of (found_of c.in-Some-word-default.found.now)) = search rules in
-    let got = word_found _ (found_of c.in-Some-word-default.found.now) (texts_utf8 c.args.words.now) c.requires.taken found in
+    let got = word_asked _ (found_of c.in-Some-word-default.found.now) (texts_utf8 c.args.words.now) c.requires.taken found in
     ap (λ (o : Option (List ℕ)). is_some o) got.2
 
 pub number_of-requires : goal.number_of-requires
 number_of-requires c =
     let found : subcommand_of program (map string_bytes c.args.words.now) ≡ Some (codes "word", rows_of (found_of c.in-Some-word-default.found.now)) = search rules in
-    let got = word_found _ (found_of c.in-Some-word-default.found.now) (texts_utf8 c.args.words.now) c.requires.taken found in
+    let got = word_asked _ (found_of c.in-Some-word-default.found.now) (texts_utf8 c.args.words.now) c.requires.taken found in
     subst (λ (o : Option (List ℕ)). IsSomeAnd o (λ text. (n : ℕ) × IsNumber text n)) (sym got.3) got.4
 
 pub unreachable-requires : goal.unreachable-requires
@@ -41,14 +41,14 @@ unreachable-requires c = elim c.in_default.branch [
 pub returns-in-Some-plan-default : goal.returns-in-Some-plan-default
 returns-in-Some-plan-default c =
     let found : subcommand_of program (map string_bytes c.args.words.now) ≡ Some (codes "plan", rows_of (found_of c.in-Some-plan-default.found.now)) = search rules in
-    let got = plan_found _ (found_of c.in-Some-plan-default.found.now) (texts_utf8 c.args.words.now) c.requires.taken found in
+    let got = plan_asked _ (found_of c.in-Some-plan-default.found.now) (texts_utf8 c.args.words.now) c.requires.taken found in
     let same : c.text_of.result.now ≡ got.0 = same_text _ _ (c.text_of.ensures ∙ got.1) in
     subst (AsksPlan (map string_bytes c.args.words.now)) (sym same) got.2
 
 pub returns-in-Some-word-default : goal.returns-in-Some-word-default
 returns-in-Some-word-default c =
     let found : subcommand_of program (map string_bytes c.args.words.now) ≡ Some (codes "word", rows_of (found_of c.in-Some-word-default.found.now)) = search rules in
-    let got = word_found _ (found_of c.in-Some-word-default.found.now) (texts_utf8 c.args.words.now) c.requires.taken found in
+    let got = word_asked _ (found_of c.in-Some-word-default.found.now) (texts_utf8 c.args.words.now) c.requires.taken found in
     let same : c.text_of-in-Some-word-default.result.now ≡ got.0 = same_text _ _ (c.text_of-in-Some-word-default.ensures ∙ got.2) in
     let number : IsNumber got.1 c.number_of.result = subst (λ (o : Option (List ℕ)). IfSome o (λ text. IsNumber text c.number_of.result)) got.3 c.number_of.ensures in
     subst (λ (path : List ℕ). AsksWord (map string_bytes c.args.words.now) path c.number_of.result) (sym same) (got.5 c.number_of.result number)
