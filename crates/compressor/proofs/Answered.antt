@@ -13,7 +13,7 @@ use Rattle.compressor.specs.declared.words.Task.TheVariants.{Plan, Word, Help}
 
 -- the heap whose image was given is accepted
 heap_of : {R : Type 0} (gives : R → Type 0) (remaining : R → Option (List ℕ)) (P : Heap → Type 0) → SomeGiven gives remaining (IsImageOf P) → SomeHeap P
-heap_of gives remaining P (reader, given, image) = (image.0, image.1, image.2, image.4)
+heap_of gives remaining P (reader, given, image) = (image.0, image.1, image.2, image.3.1)
 
 -- what the words ask was printed, where the task that was read of them is done
 pub answered : {R : Type 0} (gives : List ℕ → R → Type 0) (remaining : R → Option (List ℕ)) (before after : Option (List ℕ)) (words : List (List ℕ)) (asked : Result Task Error)

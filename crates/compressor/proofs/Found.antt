@@ -17,7 +17,8 @@ use Rattle.compressor.specs.Parser.{program}
 use Rattle.compressor.specs.Printing.{IsHelp, IsText}
 use Rattle.compressor.specs.declared.words.Task.{Task}
 use Rattle.compressor.specs.declared.words.Task.TheVariants.{Plan, Word, Help}
-use Rattle.compressor.proofs.Parsed.{FoundPlan, FoundWord, parsed, faulty, helped, program_free}
+use Rattle.compressor.proofs.Parsed.{FoundPlan, FoundWord, parsed, faulty, helped}
+use Rattle.compressor.proofs.TopLevel.{program_free}
 
 pub same_text : (a b : List ℕ) → Some a ≡ Some b → a ≡ b
 same_text a b e = ap (λ (o : Option (List ℕ)). unwrap_or o a) e
@@ -83,7 +84,7 @@ some_kind k (x ∷ xs) among e = cc
 pub refused_neither : (words : List (List ℕ)) (error : Error) → All IsUtf8 words → HasKind (fault_of program words) error → kind_of error ≢ OutOfMemory → AsksNeither words
 refused_neither words error utf8 kind other = elim kind [
   | inl memory ↦ absurd (other memory)
-  | inr among ↦ faulty words utf8 (some_kind (kind_of error) (fault_of program words) among)
+  | inr among ↦ faulty words (some_kind (kind_of error) (fault_of program words) among)
 ]
 
 -- and one for help only where they ask nothing, and some word is for help
@@ -94,7 +95,7 @@ help_asked words error utf8 kind help = elim kind [
       cc
   | inr among ↦
       let here : IsAmong DisplayHelp (fault_of program words) = subst (λ k. IsAmong k (fault_of program words)) help among in
-      (faulty words utf8 (some_kind DisplayHelp (fault_of program words) here), helped words utf8 here)
+      (faulty words (some_kind DisplayHelp (fault_of program words) here), helped words utf8 here)
 ]
 
 -- the kinds of error of a command that is the program's

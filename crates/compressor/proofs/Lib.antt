@@ -1,4 +1,8 @@
 pub mod Levels
+pub mod TopLevel
+pub mod PlanLevel
+pub mod WordLevel
+pub mod Parsed
 pub mod Found
 pub mod Lines
 pub mod Copied

@@ -36,8 +36,8 @@ pub fn run<R: Files + AllocGlobal, O: Write, E: Write>(
     err: &mut E,
 ) -> u8
     ensures status { result ≤ 2 }
-    ensures done { result ≡ 0 → HasAnswered (map string_bytes words.entry.items) (O.contents out.old) (O.contents out.new) }
-    ensures wrong { result ≡ 2 → AsksNeither (map string_bytes words.entry.items) }
+    ensures done { result ≡ 0 → HasAnswered (map string_bytes words.items) (O.contents out.old) (O.contents out.new) }
+    ensures wrong { result ≡ 2 → AsksNeither (map string_bytes words.items) }
     ensures misused { result ≡ 2 → Keeps (O.contents out.old) (O.contents out.new) }
 {
     let mut out = Counted::new(out);

@@ -1,9 +1,20 @@
-use Rattle.std.proofs.Common.{rules}
+use Rattle.std.proofs.Common.{◌≡◌, ◌≢◌, rules, subst, IfErr, IfOk, List, String, Global, map}
+use Rattle.std.specs.String.{string_bytes}
+use Rattle.clap.specs.Words.{kind_of}
+use Rattle.clap.specs.declared.error.kind.ErrorKind.TheVariants.{OutOfMemory}
+use Rattle.compressor.specs.Asked.{Asks, AsksNeither}
 use Rattle.compressor.proofs.Answered.{answered, misused}
 use Rattle.compressor.proofs.run.run.Goals as goal
 
 pub returns-clause-done : goal.returns-clause-done
-returns-clause-done g c = λ zero. let h = answered _ _ _ _ _ _ c.read_task.ensures.asked (c.respond.ensures.done zero) in search rules
+returns-clause-done g c = λ zero.
+    let words : c.deref.result.now ≡ c.args.words.items = search rules in
+    let asks = subst (λ (xs : List (String Global)). IfOk c.read_task-asked.result (Asks (map string_bytes xs))) words c.read_task-asked.ensures.asked in
+    let h = answered _ _ _ _ (map string_bytes c.args.words.items) _ asks (c.respond.ensures.done zero) in
+    search rules
 
 pub returns-clause-wrong : goal.returns-clause-wrong
-returns-clause-wrong g c = λ two. misused _ _ c.read_task.ensures.none (c.respond.ensures.wrong two)
+returns-clause-wrong g c = λ two.
+    let words : c.deref.result.now ≡ c.args.words.items = search rules in
+    let neither = misused _ _ c.read_task-asked.ensures.none (c.respond.ensures.wrong two) in
+    subst (λ (xs : List (String Global)). AsksNeither (map string_bytes xs)) words neither
