@@ -1,5 +1,6 @@
 pub mod Levels
 pub mod TopLevel
+pub mod LevelSteps
 pub mod PlanLevel
 pub mod WordLevel
 pub mod Parsed
