@@ -1,6 +1,9 @@
 //! The program: reads its words, does what they ask, and tells what it refuses.
 #![tactic(auto)]
 
+ghost use Rattle.std.specs.Prelude.{◌≡◌, ◌≤◌, IfOk, IfErr};
+ghost use Rattle.compressor.specs.declared.refusal.Refusal.TheVariants as refusals;
+
 mod images;
 mod plan;
 mod print;
@@ -28,7 +31,10 @@ fn main(rt: HostRuntime) -> ExitCode {
 }
 
 // Fetches the words and sets up standard output, which is written through a buffer.
-fn start(rt: &HostRuntime) -> Result<u8, Refusal> {
+fn start(rt: &HostRuntime) -> Result<u8, Refusal>
+    ensures status { IfOk result (λ status. status ≤ 2) }
+    ensures cause { IfErr result (λ refusal. refusal ≡ refusals.OutOfMemory) }
+{
     let words: Vec<String> = env::args(rt)
         .map_err(|_| Refusal::OutOfMemory)?
         .skip(1)

@@ -70,6 +70,8 @@ fn prints_words_and_plans(rt: HostRuntime) -> Result<(), Fail> {
     fs::write(&rt, "three.tests.img", three_image(rt.alloc())?.as_slice())?;
     for (line, text) in [
         ("word three.tests.img 2", "12884901889\n"),
+        ("word -- three.tests.img 2", "12884901889\n"),
+        ("word three.tests.img +02 --", "12884901889\n"),
         ("word three.tests.img 3", "8589934592\n"),
         ("word three.tests.img 63", "0\n"),
         (
