@@ -1,5 +1,7 @@
 pub mod Levels
 pub mod LevelSteps
+pub mod LevelWords
+pub mod LevelKinds
 pub mod PlanLevel
 pub mod WordLevel
 pub mod Lines
