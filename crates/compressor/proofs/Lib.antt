@@ -1,6 +1,8 @@
 pub mod Levels
 pub mod TopLevel
 pub mod LevelSteps
+pub mod LevelWords
+pub mod LevelKinds
 pub mod PlanLevel
 pub mod WordLevel
 pub mod Parsed

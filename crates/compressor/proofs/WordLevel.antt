@@ -1,11 +1,10 @@
 -- What the words behind the command name `word` are where clap takes them.
-use Rattle.std.proofs.Common.{◌≡◌, ◌∙◌, ◌⊎◌, ◌||◌, ◌==◌, ◌<◌, ◌≤◌, ◌^◌, ℕ, Bool, cond, codes, true, false, refl, sym, ap, subst, arith, List, [], ◌∷◌, Option, Some, None, inl, inr, true≢false, zero-le}
-use Rattle.std.specs.List.{All}
+use Rattle.std.proofs.Common.{◌≡◌, ◌∙◌, ◌==◌, ◌<◌, ◌≤◌, ◌^◌, ℕ, Bool, cond, codes, true, false, refl, sym, ap, arith, List, [], ◌∷◌, Some, None, inl, inr, zero-le}
+use Rattle.std.specs.List.{All, Any}
 use Rattle.std.specs.Str.{IsUtf8, bytes_eq}
 use Rattle.std.specs.Str.Parse.{digits_value, without_leading_plus}
-use Rattle.std.proofs.lemmas.Slice.Eq.{bytes_eq-Decides}
-use Rattle.std.proofs.lemmas.Bool.{eqb-true}
-use Rattle.clap.specs.Walk.{Rule, Text, arg_by_index, arg_by_long, arg_by_short, finished, first_of, is_multiple, one_of, rows_after, walked}
+use Rattle.clap.specs.Walk.{Rule, Text, arg_by_id, arg_by_index, finished, first_of, one_of, rows_after, walked}
+use Rattle.clap.specs.Kinds.{IsAmong}
 use Rattle.clap.specs.Faults.{defaults_fault, walk_fault}
 use Rattle.clap.specs.Values.{Accepts}
 use Rattle.clap.specs.ValueTests.{accepts}
@@ -14,57 +13,66 @@ use Rattle.clap.specs.declared.builder.value_parser.ValueParser.{ValueParser}
 use Rattle.clap.specs.declared.builder.value_parser.ValueParser.TheVariants.{Unsigned}
 use Rattle.clap.specs.declared.error.kind.ErrorKind.TheVariants as kind
 use Rattle.clap.specs.Simple.{filled, with_index}
-use Rattle.compressor.specs.Parser.{image_rule, index_rule}
-use Rattle.compressor.specs.Asked.{IsNumber, given}
+use Rattle.compressor.specs.Parser.{index_rule}
+use Rattle.compressor.specs.Asked.{IsNumber, given, is_help}
 use Rattle.compressor.proofs.Levels.{level, word_shape}
-use Rattle.compressor.proofs.LevelSteps.{HasHelpAlone, built_help, at, fault_from, level_is, Gives, Reading, end_from, gives_these, one_kind, reading, values_alone, flag_fails}
+use Rattle.compressor.proofs.LevelSteps.{HasHelpAlone, at, built_help, end_from, fault_from, found, image_built, level_is}
+use Rattle.compressor.proofs.LevelWords.{Gives, Reading, flag_fails, gives_these, one_kind, reading, values_alone}
+use Rattle.compressor.proofs.LevelKinds.{HasPlainUses, IsNoRequest, IsPlainRule, help_is_asked, never_version}
 
--- the arguments of a built command
-abbrev image_built : Rule
-image_built = with_index 1 (filled image_rule)
-
+-- the argument `INDEX` of a built command
 abbrev index_built : Rule
 index_built = with_index 2 (filled index_rule)
 
-some_rule : (x a : Rule) → Some x ≡ Some a → (is_multiple x ≡ false) × (x.trailing_var_arg ≡ false) → (is_multiple a ≡ false) × (a.trailing_var_arg ≡ false)
-some_rule x a e h = subst (λ r. (is_multiple r ≡ false) × (r.trailing_var_arg ≡ false)) (the_rule x a e) h
-  where
-    the_rule : (x a : Rule) → Some x ≡ Some a → x ≡ a
-    the_rule x a e = cc
-
--- a name that is no other flag's
-word_long : (name : Text) (t : Bool) → bytes_eq (codes "help") name ≡ t
-    → (arg_by_long word_shape.rules name ≡ None) ⊎ ((arg_by_long word_shape.rules name ≡ Some built_help) × (name ≡ codes "help"))
-word_long name true e = inr (rw e refl, sym ((bytes_eq-Decides (codes "help") name).0 e))
-word_long name false e = inl (rw e refl)
-
-word_short : (c : ℕ) (t : Bool) → (104 == c) ≡ t → (arg_by_short word_shape.rules c ≡ None) ⊎ ((arg_by_short word_shape.rules c ≡ Some built_help) × (c ≡ 104))
-word_short c true e = inr (rw e refl, sym (eqb-true 104 c e))
-word_short c false e = inl (rw e refl)
-
-word_index : (i : ℕ) (a : Rule) (t u : Bool) → (1 == i) ≡ t → (2 == i) ≡ u → arg_by_index word_shape.rules i ≡ Some a → (is_multiple a ≡ false) × (a.trailing_var_arg ≡ false)
+-- each argument with a position takes one value, is found by its own name and is no request
+word_index : (i : ℕ) (a : Rule) (t u : Bool) → (1 == i) ≡ t → (2 == i) ≡ u → arg_by_index word_shape.rules i ≡ Some a → IsPlainRule word_shape.rules a
 word_index i a true u e f h =
-    let found : Some image_built ≡ Some a = rw e at h in
-    some_rule image_built a found (refl, refl)
+    let one : Some image_built ≡ Some a = rw e at h in
+    found (IsPlainRule word_shape.rules) image_built a one (record { one = refl; ends = refl; named = refl; request = refl })
 word_index i a false true e f h =
-    let found : Some index_built ≡ Some a = rw (e, f) at h in
-    some_rule index_built a found (refl, refl)
+    let one : Some index_built ≡ Some a = rw (e, f) at h in
+    found (IsPlainRule word_shape.rules) index_built a one (record { one = refl; ends = refl; named = refl; request = refl })
 word_index i a false false e f h =
-    let found : None ≡ Some a = rw (e, f) at h in
+    let none : None ≡ Some a = rw (e, f) at h in
     absurd cc
 
+-- what is found by a name is no request, but for help
+word_id : (id : Text) (a : Rule) (t u v : Bool) → bytes_eq (codes "IMAGE") id ≡ t → bytes_eq (codes "INDEX") id ≡ u → bytes_eq (codes "help") id ≡ v → arg_by_id word_shape.rules id ≡ Some a → IsNoRequest a
+word_id id a true u v e f g h =
+    let one : Some image_built ≡ Some a = rw e at h in
+    found IsNoRequest image_built a one (inr refl)
+word_id id a false true v e f g h =
+    let one : Some index_built ≡ Some a = rw (e, f) at h in
+    found IsNoRequest index_built a one (inr refl)
+word_id id a false false true e f g h =
+    let one : Some built_help ≡ Some a = rw (e, f, g) at h in
+    found IsNoRequest built_help a one (inl refl)
+word_id id a false false false e f g h =
+    let none : None ≡ Some a = rw (e, f, g) at h in
+    absurd cc
+
+-- its one flag is for help, and each position takes one value
 word_alone : HasHelpAlone word_shape.rules
 word_alone = record {
-  long = λ name. word_long name (bytes_eq (codes "help") name) refl;
-  short = λ c. word_short c (104 == c) refl;
-  one = λ i a. word_index i a (1 == i) (2 == i) refl refl;
+  long = λ name. refl;
+  short = λ c. refl;
+  one = λ i a h. let rule = word_index i a (1 == i) (2 == i) refl refl h in (rule.one, rule.ends);
 }
 
--- what is wrong where each word is a value
+-- its one request is for help
+word_plain : HasPlainUses word_shape.rules
+word_plain = record {
+  named = λ i a h. let rule = word_index i a (1 == i) (2 == i) refl refl h in (rule.named, rule.request);
+  by_id = λ id a. word_id id a (bytes_eq (codes "IMAGE") id) (bytes_eq (codes "INDEX") id) (bytes_eq (codes "help") id) refl refl refl;
+  defaults = refl;
+}
+
+-- behind a first `--` no word is too few
 word_none : fault_from word_shape (at [] None 1 true) [] ≡ kind.MissingRequiredArgument ∷ []
 unfolding fault_from walk_fault defaults_fault walked
 word_none = refl
 
+-- one word is too few
 word_one : (path : Text) → fault_from word_shape (at [] None 1 true) (path ∷ []) ≡ kind.MissingRequiredArgument ∷ []
 unfolding fault_from walk_fault defaults_fault walked
 word_one path = refl
@@ -73,15 +81,18 @@ word_one path = refl
 abbrev as_index : ValueParser
 as_index = Unsigned 0 18446744073709551615
 
+-- two words are taken where the parser of the index takes the second
 word_two : (path digits : Text) (t : Bool) → accepts false as_index digits ≡ t → fault_from word_shape (at [] None 1 true) (path ∷ digits ∷ []) ≡ cond t [] (kind.ValueValidation ∷ [])
 unfolding fault_from walk_fault defaults_fault walked
 word_two path digits true e = rw e refl
 word_two path digits false e = rw e refl
 
+-- three words are too many
 word_more : (path digits word : Text) (rest : List Text) → fault_from word_shape (at [] None 1 true) (path ∷ digits ∷ word ∷ rest) ≡ kind.UnknownArgument ∷ []
 unfolding fault_from walk_fault defaults_fault walked
 word_more path digits word rest = refl
 
+-- the first word is what is found for `IMAGE`, and the second for `INDEX`
 word_first : (path digits : Text) → first_of (codes "IMAGE") (finished word_shape.rules (end_from word_shape (at [] None 1 true) (path ∷ digits ∷ []))) ≡ Some path
 unfolding walked
 word_first path digits = refl
@@ -94,6 +105,7 @@ word_second path digits = refl
 is_number : (digits : Text) → Accepts false as_index digits → IsNumber digits (digits_value 10 (without_leading_plus digits))
 is_number digits h = record { numeral = h.0; value = refl; fits = h.1 }
 
+-- a number of 64 bits is at most the greatest
 within_u64 : (n : ℕ) → n < 2 ^ 64 → n ≤ 18446744073709551615
 within_u64 n h = omega arith
 
@@ -108,11 +120,11 @@ abbrev WordTaken : List Text → Type 0
 WordTaken rest = (path : Text) × (digits : Text) × ((n : ℕ) × IsNumber digits n) × (given rest ≡ Some (path ∷ digits ∷ []))
     × (first_of (codes "IMAGE") (rows_after word_shape.rules [] rest) ≡ Some path) × (one_of (codes "INDEX") (rows_after word_shape.rules [] rest) ≡ Some digits)
 
+-- where two values are taken, the words are so
 two_taken : (rest : List Text) (path digits : Text) → given rest ≡ Some (path ∷ digits ∷ []) → Gives rest (path ∷ digits ∷ []) → (t : Bool) → accepts false as_index digits ≡ t
     → fault_from word_shape (at [] None 1 true) (path ∷ digits ∷ []) ≡ [] → WordTaken rest
 two_taken rest path digits is gives true e none =
-    let same = (values_alone word_shape word_alone gives [] None 1).1 in
-    (
+    let same = (values_alone word_shape word_alone gives [] None 1).1 in (
       path,
       digits,
       (digits_value 10 (without_leading_plus digits), is_number digits (accepts-Accepts false as_index digits e)),
@@ -122,6 +134,7 @@ two_taken rest path digits is gives true e none =
     )
 two_taken rest path digits is gives false e none = absurd (one_kind kind.ValueValidation (sym (word_two path digits false e) ∙ none))
 
+-- the same of each list of values
 taken_values : (rest values : List Text) → given rest ≡ Some values → Gives rest values → fault_from word_shape (at [] None 1 true) values ≡ [] → WordTaken rest
 taken_values rest [] is gives none = absurd (one_kind kind.MissingRequiredArgument (sym word_none ∙ none))
 taken_values rest (path ∷ []) is gives none = absurd (one_kind kind.MissingRequiredArgument (sym (word_one path) ∙ none))
@@ -142,3 +155,11 @@ pub word_takes : (rest : List Text) (path digits : Text) (n : ℕ) → IsNumber 
 word_takes rest path digits n number is =
     level_is word_shape rest ∙ (values_alone word_shape word_alone (gives_these rest (path ∷ digits ∷ []) is) [] None 1).0
     ∙ word_two path digits true (takes_number digits n number)
+
+-- the answer to a flag for help comes only where a word behind `word` is for help
+pub word_help : (rest : List Text) → All IsUtf8 rest → IsAmong kind.DisplayHelp (level word_shape rest) → Any (λ word. is_help word ≡ true) rest
+word_help = help_is_asked word_shape word_alone word_plain
+
+-- no word behind `word` asks for a version
+pub word_no_version : (rest : List Text) → ¬ (IsAmong kind.DisplayVersion (level word_shape rest))
+word_no_version = never_version word_shape word_alone word_plain
