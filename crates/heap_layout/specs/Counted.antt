@@ -1,5 +1,5 @@
 -- What a clause reads of a `Counted`.
-use Rattle.std.specs.Prelude.{◌≡◌, ℕ, ◌+◌, ◌-◌, ◌^◌, ◌<◌, min, List, length, take, Bool, Option, Result, Ok, Err}
+use Rattle.std.specs.Prelude.{◌≡◌, ℕ, ◌+◌, ◌-◌, ◌^◌, ◌<◌, min, List, length, take, Bool, false, Option, Result, Ok, Err}
 use Rattle.std.specs.Borrow.{MutBor}
 use Rattle.std.specs.Io.KnownBytes.{Appends}
 use Rattle.heap_layout.specs.declared.counted.Counted.{Counted}
@@ -26,9 +26,13 @@ is_flushed_of counted = counted.flushed
 abbrev pub one_more : ℕ → ℕ
 one_more failures = min (failures + 1) (2 ^ 64 - 1)
 
--- the known bytes grew by a beginning of a part, not by all of it
-abbrev pub AppendsBeginning : Option (List ℕ) → Option (List ℕ) → List ℕ → Type 0
-AppendsBeginning before after part = (n : ℕ) × (n < length part) × Appends before after (take n part)
+-- The known bytes grew by a beginning of a part, not by all of it, which is left to flush where it is not empty.
+pub record AppendsBeginning (before after : Option (List ℕ)) (was_flushed is_flushed : Bool) (part : List ℕ) : Type 0 where
+  pub taken : ℕ
+  pub not_all : taken < length part
+  pub bytes : Appends before after (take taken part)
+  pub nothing : taken ≡ 0 → is_flushed ≡ was_flushed
+  pub something : 0 < taken → is_flushed ≡ false
 
 -- a call answers `Device` exactly where one more call of the device failed
 abbrev pub CountsFailure : {T : Type 0} → ℕ → ℕ → Result T LayoutFault → Type 0

@@ -145,8 +145,11 @@ impl<W: Write> Counted<&mut W> {
         ensures bound { WritesAtMost result part.now }
         ensures bytes { WriteAppends (W.contents (inner_of self.old).now) (W.contents (inner_of self.new).now) result part.now }
         ensures taken { IfOk result (λ n. 0 < n → (failures_of self.new ≡ failures_of self.old) × (is_flushed_of self.new ≡ false)) }
+        ensures empty { OnOk result (length part.now ≡ 0 → failures_of self.new ≡ failures_of self.old) }
         ensures none_taken { IfOk result (λ n. n ≡ 0 → 0 < length part.now → failures_of self.new ≡ one_more (failures_of self.old)) }
         ensures err { OnErr result (failures_of self.new ≡ one_more (failures_of self.old)) }
+        ensures flushed { IfOk result (λ n. n ≡ 0 → is_flushed_of self.new ≡ is_flushed_of self.old) }
+        ensures refused { OnErr result (is_flushed_of self.new ≡ is_flushed_of self.old) }
         ensures same_writer { writer_of self.new ≡ writer_of self.old }
     {
         let answer = (*self.inner).write(part);
@@ -158,7 +161,7 @@ impl<W: Write> Counted<&mut W> {
     /// before it stays written.
     pub fn write_part(&mut self, part: &[u8]) -> Result<()>
         ensures written { OnOk result (Appends (W.contents (inner_of self.old).now) (W.contents (inner_of self.new).now) part.now) }
-        ensures begun { OnErr result (AppendsBeginning (W.contents (inner_of self.old).now) (W.contents (inner_of self.new).now) part.now) }
+        ensures begun { OnErr result (AppendsBeginning (W.contents (inner_of self.old).now) (W.contents (inner_of self.new).now) (is_flushed_of self.old) (is_flushed_of self.new) part.now) }
         ensures ok { OnOk result (failures_of self.new ≡ failures_of self.old) }
         ensures err { OnErr result (failures_of self.new ≡ one_more (failures_of self.old)) }
         ensures unflushed { OnOk result (0 < length part.now → is_flushed_of self.new ≡ false) }
