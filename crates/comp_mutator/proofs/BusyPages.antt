@@ -5,11 +5,11 @@ use Rattle.cell_steps.specs.Setup.{Setup}
 use Rattle.cell_steps.specs.Starts.{IsPlace}
 use Rattle.cell_steps.specs.Passes.{builds_of, did, MayRefer}
 use Rattle.cell_steps.specs.declared.pass.Pass.{Pass}
-use Rattle.page_cells.specs.Calls.{Grows, WroteNothing}
+use Rattle.page_cells.specs.Calls.{Grows, SeesNothingNew, WroteNothing}
 use Rattle.comp_mutator.specs.Allocations.{AllocationRefused, IsLowestPage}
 use Rattle.comp_mutator.specs.Copies.{builds_after, PageRefused}
 use Rattle.comp_mutator.specs.Fields.{HasSlidFieldOn}
-use Rattle.comp_mutator.specs.Reads.{BuildsNothing, FieldRefused, IsBusy, SeesNothingNew, TouchesOnly}
+use Rattle.comp_mutator.specs.Reads.{BuildsNothing, FieldRefused, IsBusy, TouchesOnly}
 use Rattle.comp_mutator.specs.Writes.{DataRefused, EntryRefused, ReferenceRefused, ValueRefused}
 use Rattle.comp_mutator.specs.declared.pages.Touched.{Touched}
 use Rattle.comp_mutator.specs.declared.refusal.Refusal.{Refusal}

@@ -11,7 +11,8 @@ use Rattle.cell_steps.specs.Lawful.{filled}
 use Rattle.cell_steps.specs.Locks.{Journals}
 use Rattle.cell_steps.specs.Passes.{did, lost, number_of, seen, KnowsFresh}
 use Rattle.cell_steps.specs.declared.pass.Pass.{Pass}
-use Rattle.comp_mutator.specs.Reads.{BuildsNothing, MayBuild, SeesFull, SeesNothingNew, WantsPage}
+use Rattle.page_cells.specs.Calls.{SeesNothingNew}
+use Rattle.comp_mutator.specs.Reads.{BuildsNothing, MayBuild, SeesFull, WantsPage}
 use Rattle.comp_mutator.specs.Writes.{entry_by, Adds}
 use Rattle.comp_mutator.specs.declared.refusal.Refusal.{Refusal}
 use Rattle.comp_mutator.specs.declared.refusal.Refusal.TheVariants.{Null, NotAStart, NoSuchField, ObjectTooLarge, OutOfPages, Busy, JournalFull, OutOfMemory}

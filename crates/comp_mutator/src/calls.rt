@@ -36,6 +36,7 @@ impl<B: Builder> Space<B> {
         ensures of { IsMutatorOf self.now m.new }
         ensures grows { Grows (pass_of m.old) (pass_of m.new) × (did (pass_of m.new) ≡ did (pass_of m.old)) }
         ensures unposted { unposted_of m.new ≡ unposted_of m.old }
+        ensures alone { (setup_of self.now).mutators ≡ 1 → (q : ℕ) → IsErrOf result (Busy q) → ⊥ }
         ensures read { IfOk result (Reads (setup_of self.now) (seen (pass_of m.new)) kinds.Reference object field) }
         ensures known { IfOk result (MayRefer (pass_of m.new)) }
         ensures builds { OnOk result (MayBuildTouched (setup_of self.now) (pass_of m.old) (pass_of m.new) kinds.Reference object field) }
@@ -62,6 +63,7 @@ impl<B: Builder> Space<B> {
         ensures of { IsMutatorOf self.now m.new }
         ensures grows { Grows (pass_of m.old) (pass_of m.new) × (did (pass_of m.new) ≡ did (pass_of m.old)) }
         ensures unposted { unposted_of m.new ≡ unposted_of m.old }
+        ensures alone { (setup_of self.now).mutators ≡ 1 → (q : ℕ) → IsErrOf result (Busy q) → ⊥ }
         ensures read { IfOk result (Reads (setup_of self.now) (seen (pass_of m.new)) kinds.Data object field) }
         ensures builds { OnOk result (MayBuildTouched (setup_of self.now) (pass_of m.old) (pass_of m.new) kinds.Data object field) }
         ensures refused { IfErr result (FieldRefused (setup_of self.now) (pass_of m.old) (pass_of m.new) kinds.Data object field) }
@@ -88,6 +90,7 @@ impl<B: Builder> Space<B> {
         ensures of { IsMutatorOf self.now m.new }
         ensures grows { Grows (pass_of m.old) (pass_of m.new) }
         ensures unposted { unposted_of m.new ≡ unposted_of m.old }
+        ensures alone { (setup_of self.now).mutators ≡ 1 → (q : ℕ) → IsErrOf result (Busy q) → ⊥ }
         ensures wrote { IfOk result (Writes (setup_of self.now) (pass_of m.old) (pass_of m.new) kinds.Reference object field value) }
         ensures target { OnOk result (MayRefer (pass_of m.new) value) }
         ensures builds { OnOk result (MayBuildTouched (setup_of self.now) (pass_of m.old) (pass_of m.new) kinds.Reference object field) }
@@ -116,6 +119,7 @@ impl<B: Builder> Space<B> {
         ensures of { IsMutatorOf self.now m.new }
         ensures grows { Grows (pass_of m.old) (pass_of m.new) }
         ensures unposted { unposted_of m.new ≡ unposted_of m.old }
+        ensures alone { (setup_of self.now).mutators ≡ 1 → (q : ℕ) → IsErrOf result (Busy q) → ⊥ }
         ensures wrote { IfOk result (Writes (setup_of self.now) (pass_of m.old) (pass_of m.new) kinds.Data object field value) }
         ensures builds { OnOk result (MayBuildTouched (setup_of self.now) (pass_of m.old) (pass_of m.new) kinds.Data object field) }
         ensures did { OnErr result (did (pass_of m.new) ≡ did (pass_of m.old)) }
@@ -144,6 +148,7 @@ impl<B: Builder> Space<B> {
         ensures of { IsMutatorOf self.now m.new }
         ensures grows { Grows (pass_of m.old) (pass_of m.new) }
         ensures unposted { OnOk result (unposted_of m.new ≡ unposted_of m.old + size_of (header_word refs data_words tag)) }
+        ensures alone { (setup_of self.now).mutators ≡ 1 → (q : ℕ) → IsErrOf result (Busy q) → ⊥ }
         ensures allocated { IfOk result (Allocates (setup_of self.now) (pass_of m.old) (pass_of m.new) (header_word refs data_words tag)) }
         ensures did { OnErr result ((did (pass_of m.new) ≡ did (pass_of m.old)) × (unposted_of m.new ≡ unposted_of m.old)) }
         ensures refused { IfErr result (AllocationRefused (setup_of self.now) (pass_of m.old) (pass_of m.new) (size_of (header_word refs data_words tag))) }

@@ -4,10 +4,14 @@ use Rattle.cell_steps.specs.Lists.{StartsWith}
 use Rattle.cell_steps.specs.declared.pass.Pass.{Pass}
 use Rattle.cell_steps.specs.Passes.{number_of, builds_of, seen, did, lost, HasSeenBuilt, KnowsFresh}
 
--- No journal was changed by the call, and what the pass has seen is the same.
+-- the call saw nothing new of any page
+abbrev pub SeesNothingNew : Pass → Pass → Type 0
+SeesNothingNew old new = (p : ℕ) → seen new p ≡ seen old p
+
+-- No journal was changed by the call, and it saw nothing new.
 pub record WroteNothing (old new : Pass) : Type 0 where
   pub did : did new ≡ did old
-  pub seen : (p : ℕ) → seen new p ≡ seen old p
+  pub seen : SeesNothingNew old new
 
 -- What the pass knows does not shrink.
 pub record Grows (old new : Pass) : Type 0 where

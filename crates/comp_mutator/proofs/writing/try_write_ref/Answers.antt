@@ -1,8 +1,9 @@
 use Rattle.std.proofs.Common.{inl, inr, refl, ◌∙◌}
 use Rattle.std.proofs.lemmas.Result.{IfErr-weaker, IfOk-weaker, on_ok_weaker}
 use Rattle.heap_layout.specs.declared.kind.Kind.TheVariants.{Reference}
+use Rattle.page_cells.specs.Calls.{SeesNothingNew}
 use Rattle.page_cells.specs.Cells.{setup_of}
-use Rattle.comp_mutator.specs.Reads.{MayBuildTouched, SeesNothingNew}
+use Rattle.comp_mutator.specs.Reads.{MayBuildTouched}
 use Rattle.comp_mutator.proofs.Answering.{err_anyway, ok_anyway}
 use Rattle.comp_mutator.proofs.Earlier.{may_build_then, refused_then, write_refused_then}
 use Rattle.comp_mutator.proofs.Growing.{adds_after, found_more, grows_then, knows_more, refers_more}
