@@ -1,5 +1,5 @@
 -- From what the parser found to what the words ask.
-use Rattle.std.proofs.Common.{◌≡◌, ◌≢◌, ◌⊎◌, ◌∙◌, ℕ, List, [], Option, Some, None, refl, sym, ap, subst, inl, inr, codes, map, unwrap_or, slice_index, arith, true, ◌∷◌, IfOk, IfErr, OnOk, Result, Ok, Err}
+use Rattle.std.proofs.Common.{◌≡◌, ◌≢◌, ◌⊎◌, ◌∙◌, ℕ, List, [], Option, Some, sym, ap, subst, inl, inr, codes, map, unwrap_or, slice_index, arith, true, ◌∷◌, IfOk, IfErr, OnOk, Result, Ok, Err}
 use Rattle.std.specs.Prelude.{IsUtf8}
 use Rattle.std.specs.String.{string_bytes}
 use Rattle.std.specs.declared.string.String.{String}
@@ -17,7 +17,7 @@ use Rattle.compressor.specs.Parser.{program}
 use Rattle.compressor.specs.Printing.{IsHelp, IsText}
 use Rattle.compressor.specs.declared.words.Task.{Task}
 use Rattle.compressor.specs.declared.words.Task.TheVariants.{Plan, Word, Help}
-use Rattle.compressor.proofs.Parsed.{FoundPlan, FoundWord, parsed, faulty, helped}
+use Rattle.compressor.proofs.Parsed.{parsed, faulty, helped}
 use Rattle.compressor.proofs.TopLevel.{program_free}
 
 pub same_text : (a b : List ℕ) → Some a ≡ Some b → a ≡ b
