@@ -30,6 +30,11 @@ neither (k ∷ ks) b e = absurd cc
 pub one_kind : (k : ErrorKind) → k ∷ [] ≡ [] → ⊥
 one_kind k e = cc
 
+-- nor are kinds among which there is one
+pub some_kind : (k : ErrorKind) (kinds : Kinds) → IsAmong k kinds → kinds ≡ [] → ⊥
+some_kind k [] among e = among
+some_kind k (x ∷ xs) among e = cc
+
 -- a kind of the first or else the second is of one of them
 pub among_or : (k : ErrorKind) (a b : Kinds) → IsAmong k (or_else a b) → IsAmong k a ⊎ IsAmong k b
 among_or k [] b h = inr h

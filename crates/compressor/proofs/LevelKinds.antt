@@ -1,5 +1,6 @@
 -- Behind a command's name, the words fail by the kind for help only where one of them is for help.
-use Rattle.std.proofs.Common.{◌≡◌, ◌⊎◌, ◌&&◌, ◌||◌, ◌==◌, ℕ, Bool, cond, true, false, not, refl, sym, ap, ap₂, subst, List, [], ◌∷◌, length, Option, Some, None, inl, inr, true≢false}
+use Rattle.std.proofs.Common.{◌≡◌, ◌⊎◌, ◌&&◌, ◌||◌, ◌==◌, ◌∷◌, ℕ, Bool, List, Option, Some, None}
+use Rattle.std.proofs.Common.{cond, true, false, not, refl, sym, ap, ap₂, subst, [], length, inl, inr, true≢false}
 use Rattle.std.specs.Prelude.{nat_lt}
 use Rattle.std.specs.List.{All, Any, list_all, list_any}
 use Rattle.std.specs.Option.{option_map_or}
@@ -11,9 +12,11 @@ use Rattle.clap.specs.Facts.{parser_of_value, unwrap_or_range}
 use Rattle.clap.specs.Values.{is_request, refused_kind}
 use Rattle.clap.specs.ValueTests.{accepts}
 use Rattle.clap.specs.Kinds.{IsAmong, Kinds, check_kinds, or_else, range_kinds, value_kinds, values_kinds}
-use Rattle.clap.specs.Walk.{Row, Rule, Text, action_of, arg_by_id, arg_by_index, has_row, is_empty, is_multiple, is_pending, most_values, settled, finished, takes_several, values_or_missing, with_default}
+use Rattle.clap.specs.Walk.{Row, Rule, Text}
+use Rattle.clap.specs.Walk.{action_of, arg_by_index, has_row, is_empty, is_pending, most_values, settled, finished, takes_several, values_or_missing, with_default}
 use Rattle.clap.specs.Simple.{Shape}
-use Rattle.clap.specs.Faults.{action_fault, check_fault, count_fault, defaults_fault, given_default_fault, positional_fault, repeat_fault, set_fault, settle_fault, stray_fault, use_fault, values_fault}
+use Rattle.clap.specs.Faults.{action_fault, check_fault, count_fault, defaults_fault, given_default_fault, positional_fault}
+use Rattle.clap.specs.Faults.{repeat_fault, set_fault, settle_fault, stray_fault, use_fault, values_fault}
 use Rattle.clap.specs.declared.builder.action.ArgAction.{ArgAction}
 use Rattle.clap.specs.declared.builder.action.ArgAction.TheVariants as action
 use Rattle.clap.specs.declared.builder.value_parser.ValueParser.{ValueParser}
@@ -27,42 +30,42 @@ use Rattle.compressor.proofs.LevelSteps.{HasHelpAlone, at, end_fault, fault_at_e
 use Rattle.compressor.proofs.LevelWords.{HasFlag, Reading, after_flag, after_plain, after_trailing, reading, values_alone}
 use Rattle.compressor.proofs.LevelWords.HasFlag.{here, later}
 
--- ---- a use of an argument that is no request fails by other kinds
+-- ---- a use of an argument that is no request
 
--- a wrong count of values
+-- no help comes of a wrong count of values
 range_no_help : (least most n : ℕ) → NoHelp (range_kinds least most n)
 range_no_help least most n =
     no_help_cond (nat_lt 0 least && n == 0) (kind.InvalidValue ∷ []) _ refl
     (no_help_cond (least == most) _ _ (no_help_cond (least == n) [] (kind.WrongNumberOfValues ∷ []) refl refl)
     (no_help_cond (nat_lt n least) (kind.TooFewValues ∷ []) _ refl (no_help_cond (nat_lt most n) (kind.TooManyValues ∷ []) [] refl refl)))
 
--- a value that the parser refuses
+-- nor of a value that a parser refuses
 refused_no_help : (p : ValueParser) → NoHelp (refused_kind p ∷ [])
 refused_no_help vp.NonEmptyString = refl
 refused_no_help _ = refl
 
 module _ (ignore_case : Bool) (p : ValueParser) where
-  -- a value
+  -- nor of any value
   value_no_help : (text : Text) → NoHelp (value_kinds ignore_case p text)
   value_no_help text = no_help_cond (accepts ignore_case p text) [] (refused_kind p ∷ []) refl (refused_no_help p)
 
-  -- values
+  -- nor of several
   values_no_help : (texts : List Text) → NoHelp (values_kinds ignore_case p texts)
   values_no_help [] = refl
   values_no_help (v ∷ vs) = no_help_or (value_kinds ignore_case p v) (values_kinds ignore_case p vs) (value_no_help v) (values_no_help vs)
 
 module _ (again : Bool) (a : Rule) (rows : List Row) where
-  -- a value that is set
+  -- nor of values that are set
   set_no_help : (values : List Text) → NoHelp (set_fault again a values rows)
   set_no_help values = no_help_or (repeat_fault again a.id rows) (values_fault a values)
       (no_help_cond (has_row a.id rows && not again) (kind.ArgumentConflict ∷ []) [] refl refl) (values_no_help a.ignore_case (parser_of_value a.parser) values)
 
-  -- a count
+  -- nor of a count
   count_no_help : (values : List Text) → NoHelp (count_fault a values rows)
   count_no_help [] = value_no_help a.ignore_case (parser_of_value a.parser) _
   count_no_help (v ∷ vs) = values_no_help a.ignore_case (parser_of_value a.parser) (v ∷ vs)
 
-  -- any action that is no request
+  -- nor of any action that is no request
   action_no_help : (x : ArgAction) (values : List Text) → is_request x ≡ false → NoHelp (action_fault x again a values rows)
   action_no_help action.Set values h = set_no_help values
   action_no_help action.SetTrue values h = set_no_help values
@@ -71,26 +74,14 @@ module _ (again : Bool) (a : Rule) (rows : List Row) where
   action_no_help action.Count values h = count_no_help values
   action_no_help _ values h = absurd (true≢false h)
 
-  -- a use of such an argument
+  -- nor of a use of an argument with such an action
   use_no_help : (values : List Text) → is_request (action_of a) ≡ false → NoHelp (use_fault again a values rows)
   use_no_help values h =
       let least : ℕ = (unwrap_or_range a.range).start_inclusive in
       no_help_or (range_kinds least (most_values a) (length values)) (action_fault (action_of a) again a (values_or_missing a values) rows)
       (range_no_help least (most_values a) (length values)) (action_no_help (action_of a) (values_or_missing a values) h)
 
--- ---- a command whose one request is its flag for help
-
--- the argument takes one value, which ends nothing, is found by its own name and is no request
-pub record IsPlainRule (rules : List Rule) (a : Rule) : Type 0 where
-  pub one : is_multiple a ≡ false
-  pub ends : a.trailing_var_arg ≡ false
-  pub named : arg_by_id rules a.id ≡ Some a
-  pub request : is_request (action_of a) ≡ false
-
--- the arguments with a position are found by their names and are no requests, and no argument has a default value
-pub record HasPlainUses (rules : List Rule) : Type 0 where
-  pub named : (position : ℕ) (a : Rule) → arg_by_index rules position ≡ Some a → (arg_by_id rules a.id ≡ Some a) × (is_request (action_of a) ≡ false)
-  pub defaults : list_all (λ a. is_empty a.defaults) rules ≡ true
+-- ---- the end of the words
 
 -- where no argument has a default value, none is wrong
 no_defaults : (rules : List Rule) (rows : List Row) → list_all (λ a. is_empty a.defaults) rules ≡ true → defaults_fault rows rules ≡ []
@@ -99,11 +90,12 @@ no_defaults [] rows h = refl
 no_defaults (a ∷ rest) rows h =
     ap₂ or_else (cond_or (has_row a.id rows) (is_empty a.defaults) (given_default_fault a a.defaults) (both _ _ h).0) (no_defaults rest (with_default rows a) (both _ _ h).1)
   where
+    -- where a second test passes, nothing is chosen
     cond_or : (b c : Bool) (x : Kinds) → c ≡ true → cond (b || c) [] x ≡ []
     cond_or true c x e = refl
     cond_or false c x e = rw e refl
 
--- the last checks fail by other kinds than the one for help
+-- no help comes of the last checks
 check_no_help : (a b c : Bool) → NoHelp (check_kinds a b c)
 check_no_help true b c = refl
 check_no_help false true c = refl
@@ -112,13 +104,13 @@ check_no_help false false false = refl
 
 -- ---- the kind for help where a word is for help
 
-module _ (s : Shape) (alone : HasHelpAlone s.rules) (plain : HasPlainUses s.rules) where
+module _ (s : Shape) (alone : HasHelpAlone s.rules) where
   -- what is pending is no request
   abbrev Calm : Option (Text × List Text) → Type 0
   Calm pending = (rows : List Row) → NoHelp (settle_fault s.rules s.args_override_self (holding rows pending))
 
   module _ (rows : List Row) (pending : Option (Text × List Text)) (position : ℕ) (calm : Calm pending) where
-    -- then no help comes at a word that is a value
+    -- then no help comes of a word that is a value
     value_calm : NoHelp (value_fault s rows pending position)
     value_calm = go (arg_by_index s.rules position)
       where
@@ -133,15 +125,15 @@ module _ (s : Shape) (alone : HasHelpAlone s.rules) (plain : HasPlainUses s.rule
         go : {then : Option (Text × List Text)} → (then ≡ pending) ⊎ ((a : Rule) × (arg_by_index s.rules position ≡ Some a) × (then ≡ Some (a.id, word ∷ []))) → Calm then
         go (inl same) = subst Calm (sym same) calm
         go (inr (a, is, same)) = subst Calm (sym same)
-            (λ rows. let h = plain.named position a is in rw h.0 (use_no_help s.args_override_self a rows (word ∷ []) h.1))
+            (λ rows. let plain = alone.plain position a is in rw plain.named (use_no_help s.args_override_self a rows (word ∷ []) plain.request))
 
-    -- nor does help come at the end
+    -- nor does help come of the end of the words
     end_calm : NoHelp (end_fault s (holding rows pending))
     end_calm = no_help_or (settle_fault s.rules s.args_override_self (holding rows pending)) _ (calm rows)
         (subst (λ k. NoHelp (or_else k (check_fault s (finished s.rules (holding rows pending)) false)))
-        (sym (no_defaults s.rules (settled s.rules (holding rows pending)).rows plain.defaults)) (check_no_help _ _ _))
+        (sym (no_defaults s.rules (settled s.rules (holding rows pending)).rows alone.defaults)) (check_no_help _ _ _))
 
-  -- behind a first `--` no word is for help
+  -- no help comes of words behind a first `--`
   trailing_no_help : (values : List Text) (rows : List Row) (pending : Option (Text × List Text)) (position : ℕ) → Calm pending
       → NoHelp (fault_from s (at rows pending position true) values)
   trailing_no_help [] rows pending position calm = subst NoHelp (sym (fault_at_end s (at rows pending position true))) (end_calm rows pending position calm)
@@ -151,7 +143,7 @@ module _ (s : Shape) (alone : HasHelpAlone s.rules) (plain : HasPlainUses s.rule
       (no_help_or (value_fault s rows pending position) (fault_from s (at next.0 next.1 next.2 true) rest)
       (value_calm rows pending position calm) (trailing_no_help rest next.0 next.1 next.2 (next_calm rows pending position calm word)))
 
-  -- at words with a flag before a first `--`, help comes only where one is for help
+  -- help comes of words with a flag before a first `--` only where one is for help
   flags_help : {rest : List Text} → HasFlag rest → All IsUtf8 rest → (rows : List Row) (pending : Option (Text × List Text)) (position : ℕ) → Calm pending
       → IsAmong kind.DisplayHelp (fault_from s (at rows pending position false) rest) → list_any is_help rest ≡ true
   flags_help (here {word} {rest} e f) utf8 rows pending position calm h =

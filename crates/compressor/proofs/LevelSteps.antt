@@ -1,13 +1,16 @@
 -- The steps by which a command whose one flag is for help takes its words.
 use Rattle.std.proofs.Common.{◌≡◌, ◌∙◌, ◌⊎◌, ◌==◌, ℕ, Bool, cond, codes, true, false, refl, sym, ap, subst, List, [], ◌∷◌, Option, Some, None, inl, inr}
 use Rattle.std.specs.Prelude.{min, ◌+◌}
-use Rattle.std.specs.List.{fold}
+use Rattle.std.specs.List.{fold, list_all}
 use Rattle.std.specs.Str.{IsUtf8, bytes_eq}
 use Rattle.std.proofs.lemmas.Bool.{and_right, eqb-true, or_parts}
 use Rattle.std.proofs.lemmas.Option.{same_Some}
 use Rattle.std.proofs.lemmas.Slice.Eq.{bytes_eq-Decides}
 use Rattle.clap.specs.Lexer.{usize_max}
-use Rattle.clap.specs.Walk.{Held, Names, Row, Rule, Text, Walk, idle, value, arg_by_index, arg_by_long, arg_by_short, has_long, has_short, is_multiple, positional_held, to_positional, finished, settled, settled_rows, is_pending, is_append, action_of, pushed, subcommand_met, takes_several, walked}
+use Rattle.clap.specs.Values.{is_request}
+use Rattle.clap.specs.Walk.{Held, Names, Row, Rule, Text, Walk, idle, value}
+use Rattle.clap.specs.Walk.{arg_by_index, arg_by_long, arg_by_short, has_long, has_short, is_multiple, is_pending, is_append, action_of, takes_several, arg_by_id, is_empty}
+use Rattle.clap.specs.Walk.{positional_held, to_positional, finished, settled, settled_rows, pushed, subcommand_met, walked}
 use Rattle.clap.specs.Kinds.{IsAmong, Kinds, or_else}
 use Rattle.clap.specs.Simple.{Shape, filled, help_rule}
 use Rattle.clap.specs.Faults.{bundle_fault, check_fault, defaults_fault, flags_fault, long_fault, settle_fault, step_fault, turn_fault, walk_fault, word_fault}
@@ -111,11 +114,19 @@ module _ (s : Shape) (rows : List Row) (pending : Option (Text × List Text)) (p
 abbrev pub built_help : Rule
 built_help = filled help_rule
 
--- no name finds another flag than the one for help, and each position takes one value
+-- the argument takes one value, which ends nothing, is found by its own name and is no request
+pub record IsPlainRule (rules : List Rule) (a : Rule) : Type 0 where
+  pub one : is_multiple a ≡ false
+  pub ends : a.trailing_var_arg ≡ false
+  pub named : arg_by_id rules a.id ≡ Some a
+  pub request : is_request (action_of a) ≡ false
+
+-- no name finds another flag than the one for help, each argument with a position is plain, and no argument has a default value
 pub record HasHelpAlone (rules : List Rule) : Type 0 where
   pub long : (name : Text) → arg_by_long rules name ≡ cond (has_long built_help name) (Some built_help) None
   pub short : (c : ℕ) → arg_by_short rules c ≡ cond (has_short built_help c) (Some built_help) None
-  pub one : (position : ℕ) (a : Rule) → arg_by_index rules position ≡ Some a → (is_multiple a ≡ false) × (a.trailing_var_arg ≡ false)
+  pub plain : (position : ℕ) (a : Rule) → arg_by_index rules position ≡ Some a → IsPlainRule rules a
+  pub defaults : list_all (λ a. is_empty a.defaults) rules ≡ true
 
 -- nothing was found, or the flag for help, and then this holds
 abbrev Finds : Option Rule → Type 0 → Type 0
@@ -154,7 +165,7 @@ module _ (rules : List Rule) (again : Bool) (held : Held) (word : Text) where
   keep_flag_fault a b (inr (inl e)) = inr (inl (rw e refl))
   keep_flag_fault a b (inr (inr e)) = inr (inr (e.0, rw e.1 (or_else_twice (settle_fault rules again held) [] b kind.DisplayHelp)))
 
-  -- it is one
+  -- the fault of a flag is not none
   pub is_no_fault : (kinds : Kinds) → IsFlagFault rules again held word kinds → kinds ≡ [] → ⊥
   is_no_fault kinds (inl e) none = one_kind kind.UnknownArgument (sym e ∙ none)
   is_no_fault kinds (inr (inl e)) none = one_kind kind.TooManyValues (sym e ∙ none)
@@ -167,6 +178,7 @@ module _ (rules : List Rule) (again : Bool) (held : Held) (word : Text) where
   flag_helps kinds (inr (inr e)) h = e.0
 
 module _ (s : Shape) (alone : HasHelpAlone s.rules) (rows : List Row) (pending : Option (Text × List Text)) (word : Text) where
+  -- the kinds are a flag's fault
   abbrev IsFault : Kinds → Type 0
   IsFault = IsFlagFault s.rules s.args_override_self (holding rows pending) word
 
@@ -216,18 +228,18 @@ module _ (s : Shape) (alone : HasHelpAlone s.rules) (rows : List Row) (pending :
   behind_value : (t : Bool) (a : Rule) → arg_by_index s.rules position ≡ Some a
       → behind s rows pending position t word ≡ at (settled_rows s.rules pending rows) (Some (a.id, word ∷ [])) (min (position + 1) usize_max) t
   behind_value true a e =
-      let one = alone.one position a e in
-      rw (e, one.0, one_value s.rules a word rows pending one.0) refl
+      let plain = alone.plain position a e in
+      rw (e, plain.one, one_value s.rules a word rows pending plain.one) refl
   behind_value false a e =
-      let one = alone.one position a e in
-      rw (e, one.0, one.1, one_value s.rules a word rows pending one.0) refl
+      let plain = alone.plain position a e in
+      rw (e, plain.one, plain.ends, one_value s.rules a word rows pending plain.one) refl
 
-  -- a place: what is held there, where the last value either changed nothing of what is pending, or is pending for its argument
+  -- a place behind the value, the same before and behind a first `--`: what was pending is so still, or the value is, for its argument
   abbrev NextPlace : Type 0
   NextPlace = (after : List Row) × (then : Option (Text × List Text)) × (i : ℕ) × ((t : Bool) → behind s rows pending position t word ≡ at after then i t)
       × ((then ≡ pending) ⊎ ((a : Rule) × (arg_by_index s.rules position ≡ Some a) × (then ≡ Some (a.id, word ∷ []))))
 
-  -- the place behind a value is such a one, the same before and behind a first `--`
+  -- there is such a place
   pub next_place : NextPlace
   next_place = go (arg_by_index s.rules position) refl
     where

@@ -10,7 +10,9 @@ use Rattle.clap.specs.Simple.{Shape}
 use Rattle.compressor.specs.Asked.{given, is_flag}
 use Rattle.compressor.proofs.KindLists.{neither}
 use Rattle.compressor.proofs.Levels.{level}
-use Rattle.compressor.proofs.LevelSteps.{HasHelpAlone, IsFlagFault, at, dashes_place, dashes_turn, end_from, fault_after, fault_at_end, fault_from, flag_turn, holding, is_no_fault, keep_flag_fault, level_is, next_place, plain_place, plain_turn, trailing_place, value_fault}
+use Rattle.compressor.proofs.LevelSteps.{HasHelpAlone, IsFlagFault, at, end_from, fault_after, fault_at_end}
+use Rattle.compressor.proofs.LevelSteps.{fault_from, holding, is_no_fault, keep_flag_fault, level_is, value_fault}
+use Rattle.compressor.proofs.LevelSteps.{dashes_place, dashes_turn, flag_turn, next_place, plain_place, plain_turn, trailing_place}
 
 -- ---- words and their values
 

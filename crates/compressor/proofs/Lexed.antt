@@ -1,5 +1,6 @@
 -- Words as clap's lexer reads them: a flag is a long one or a bundle of short ones, and another word is neither.
-use Rattle.std.proofs.Common.{◌≡◌, ◌∙◌, ◌⊎◌, ◌==◌, ℕ, Bool, codes, true, false, refl, sym, ap, subst, arith, List, [], ◌∷◌, length, get_or, Option, Some, None, inl, inr, true≢false, lt-ltb, eq-eqb}
+use Rattle.std.proofs.Common.{◌≡◌, ◌∙◌, ◌⊎◌, ◌==◌, ◌∷◌, ℕ, Bool, List, Option, Some, None}
+use Rattle.std.proofs.Common.{codes, true, false, refl, sym, ap, subst, arith, [], length, get_or, inl, inr, true≢false, lt-ltb, eq-eqb}
 use Rattle.std.specs.Prelude.{slice_get, encode_utf8_all}
 use Rattle.std.specs.List.{after_first}
 use Rattle.std.specs.Str.{IsUtf8, bytes_eq, chars}

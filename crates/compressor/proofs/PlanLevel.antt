@@ -9,11 +9,11 @@ use Rattle.clap.specs.declared.error.kind.ErrorKind.TheVariants as kind
 use Rattle.compressor.specs.Asked.{given, is_help}
 use Rattle.compressor.proofs.KindLists.{one_kind}
 use Rattle.compressor.proofs.Levels.{image_built, level, plan_shape}
-use Rattle.compressor.proofs.LevelSteps.{HasHelpAlone, at, end_from, fault_from, found}
+use Rattle.compressor.proofs.LevelSteps.{HasHelpAlone, IsPlainRule, at, end_from, fault_from, found}
 use Rattle.compressor.proofs.LevelWords.{Taken, level_given, taken}
-use Rattle.compressor.proofs.LevelKinds.{HasPlainUses, IsPlainRule, help_is_asked}
+use Rattle.compressor.proofs.LevelKinds.{help_is_asked}
 
--- each argument with a position takes one value, is found by its own name and is no request
+-- each argument of `plan` with a position is plain
 plan_index : (i : ℕ) (a : Rule) (t : Bool) → (1 == i) ≡ t → arg_by_index plan_shape.rules i ≡ Some a → IsPlainRule plan_shape.rules a
 plan_index i a true e h =
     let one : Some image_built ≡ Some a = rw e at h in
@@ -22,18 +22,12 @@ plan_index i a false e h =
     let none : None ≡ Some a = rw e at h in
     absurd cc
 
--- its one flag is for help, and each position takes one value
+-- the command's one flag is for help, and its arguments are plain
 plan_alone : HasHelpAlone plan_shape.rules
 plan_alone = record {
   long = λ name. refl;
   short = λ c. refl;
-  one = λ i a h. let rule = plan_index i a (1 == i) refl h in (rule.one, rule.ends);
-}
-
--- its one request is for help
-plan_plain : HasPlainUses plan_shape.rules
-plan_plain = record {
-  named = λ i a h. let rule = plan_index i a (1 == i) refl h in (rule.named, rule.request);
+  plain = λ i a. plan_index i a (1 == i) refl;
   defaults = refl;
 }
 
@@ -52,7 +46,7 @@ plan_more : (path word : Text) (rest : List Text) → fault_from plan_shape (at 
 unfolding fault_from walk_fault defaults_fault walked
 plan_more path word rest = refl
 
--- that word is what is found for `IMAGE`
+-- where there is one word, it is what is found for `IMAGE`
 plan_path : (path : Text) → first_of (codes "IMAGE") (finished plan_shape.rules (end_from plan_shape (at [] None 1 true) (path ∷ []))) ≡ Some path
 unfolding walked
 plan_path path = refl
@@ -76,4 +70,4 @@ plan_takes rest path is = level_given plan_shape plan_alone rest (path ∷ []) i
 
 -- the answer to a flag for help comes only where a word behind `plan` is for help
 pub plan_help : (rest : List Text) → All IsUtf8 rest → IsAmong kind.DisplayHelp (level plan_shape rest) → Any (λ word. is_help word ≡ true) rest
-plan_help = help_is_asked plan_shape plan_alone plan_plain
+plan_help = help_is_asked plan_shape plan_alone

@@ -117,12 +117,13 @@ none_first : AreRefused [] (fault_of program [])
 unfolding clap_on_literals
 none_first = refused [] MissingSubcommand [] refl
 
--- the one flag is for help
+-- its one flag is for help, and no argument has a position or a default value
 top_alone : HasHelpAlone top_rules
 top_alone = record {
   long = λ name. refl;
   short = λ c. refl;
-  one = λ position a none. cc;
+  plain = λ position a none. absurd cc;
+  defaults = refl;
 }
 
 module _ (word : Text) (rest : List Text) where
@@ -161,9 +162,11 @@ first_decides [] utf8 = inr (inr none_first)
 first_decides (word ∷ rest) utf8 =
     go (bytes_eq (codes "plan") word) (bytes_eq (codes "word") word) (bytes_eq (codes "help") word) (bytes_eq word (codes "--")) refl refl refl refl
   where
+    -- a name that the word is stands first
     named : (name : Text) → bytes_eq name word ≡ true → word ∷ rest ≡ name ∷ rest
     named name same = ap (λ (first : Text). first ∷ rest) (sym ((bytes_eq-Decides name word).0 same))
 
+    -- words are refused where they are refused with that name
     refused_as : (name : Text) → word ∷ rest ≡ name ∷ rest → AreRefused (name ∷ rest) (fault_of program (name ∷ rest)) → Decided (word ∷ rest)
     refused_as name is h = inr (inr (subst (λ words. AreRefused words (fault_of program words)) (sym is) h))
 

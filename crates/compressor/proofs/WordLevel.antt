@@ -17,15 +17,15 @@ use Rattle.compressor.specs.Parser.{index_rule}
 use Rattle.compressor.specs.Asked.{IsNumber, given, is_help}
 use Rattle.compressor.proofs.KindLists.{one_kind}
 use Rattle.compressor.proofs.Levels.{image_built, level, word_shape}
-use Rattle.compressor.proofs.LevelSteps.{HasHelpAlone, at, end_from, fault_from, found}
+use Rattle.compressor.proofs.LevelSteps.{HasHelpAlone, IsPlainRule, at, end_from, fault_from, found}
 use Rattle.compressor.proofs.LevelWords.{Taken, level_given, taken}
-use Rattle.compressor.proofs.LevelKinds.{HasPlainUses, IsPlainRule, help_is_asked}
+use Rattle.compressor.proofs.LevelKinds.{help_is_asked}
 
 -- the argument `INDEX` of a built command
 abbrev index_built : Rule
 index_built = with_index 2 (filled index_rule)
 
--- each argument with a position takes one value, is found by its own name and is no request
+-- each argument of `word` with a position is plain
 word_index : (i : ℕ) (a : Rule) (t u : Bool) → (1 == i) ≡ t → (2 == i) ≡ u → arg_by_index word_shape.rules i ≡ Some a → IsPlainRule word_shape.rules a
 word_index i a true u e f h =
     let one : Some image_built ≡ Some a = rw e at h in
@@ -37,18 +37,12 @@ word_index i a false false e f h =
     let none : None ≡ Some a = rw (e, f) at h in
     absurd cc
 
--- its one flag is for help, and each position takes one value
+-- the command's one flag is for help, and its arguments are plain
 word_alone : HasHelpAlone word_shape.rules
 word_alone = record {
   long = λ name. refl;
   short = λ c. refl;
-  one = λ i a h. let rule = word_index i a (1 == i) (2 == i) refl refl h in (rule.one, rule.ends);
-}
-
--- its one request is for help
-word_plain : HasPlainUses word_shape.rules
-word_plain = record {
-  named = λ i a h. let rule = word_index i a (1 == i) (2 == i) refl refl h in (rule.named, rule.request);
+  plain = λ i a. word_index i a (1 == i) (2 == i) refl refl;
   defaults = refl;
 }
 
@@ -67,7 +61,8 @@ abbrev as_index : ValueParser
 as_index = Unsigned 0 18446744073709551615
 
 -- two words are taken where the parser of the index takes the second
-word_two : (path digits : Text) (t : Bool) → accepts false as_index digits ≡ t → fault_from word_shape (at [] None 1 true) (path ∷ digits ∷ []) ≡ cond t [] (kind.ValueValidation ∷ [])
+word_two : (path digits : Text) (t : Bool) → accepts false as_index digits ≡ t
+    → fault_from word_shape (at [] None 1 true) (path ∷ digits ∷ []) ≡ cond t [] (kind.ValueValidation ∷ [])
 unfolding fault_from walk_fault defaults_fault walked
 word_two path digits true e = rw e refl
 word_two path digits false e = rw e refl
@@ -77,7 +72,7 @@ word_more : (path digits word : Text) (rest : List Text) → fault_from word_sha
 unfolding fault_from walk_fault defaults_fault walked
 word_more path digits word rest = refl
 
--- the first word is what is found for `IMAGE`
+-- of two words, the first is what is found for `IMAGE`
 word_path : (path digits : Text) → first_of (codes "IMAGE") (finished word_shape.rules (end_from word_shape (at [] None 1 true) (path ∷ digits ∷ []))) ≡ Some path
 unfolding walked
 word_path path digits = refl
@@ -110,6 +105,7 @@ WordTaken rest = (path : Text) × (digits : Text) × ((n : ℕ) × IsNumber digi
 pub word_taken : (rest : List Text) → All IsUtf8 rest → level word_shape rest ≡ [] → WordTaken rest
 word_taken rest utf8 none = go (taken word_shape word_alone rest utf8 none)
   where
+    -- so are two values, of which the parser of the index takes the second
     numbered : (path digits : Text) → given rest ≡ Some (path ∷ digits ∷ []) → fault_from word_shape (at [] None 1 true) (path ∷ digits ∷ []) ≡ []
         → rows_after word_shape.rules [] rest ≡ finished word_shape.rules (end_from word_shape (at [] None 1 true) (path ∷ digits ∷ []))
         → (t : Bool) → accepts false as_index digits ≡ t → WordTaken rest
@@ -135,4 +131,4 @@ word_takes rest path digits n number is = level_given word_shape word_alone rest
 
 -- the answer to a flag for help comes only where a word behind `word` is for help
 pub word_help : (rest : List Text) → All IsUtf8 rest → IsAmong kind.DisplayHelp (level word_shape rest) → Any (λ word. is_help word ≡ true) rest
-word_help = help_is_asked word_shape word_alone word_plain
+word_help = help_is_asked word_shape word_alone
