@@ -1,5 +1,6 @@
 -- From what the parser found to what the words ask.
-use Rattle.std.proofs.Common.{◌≡◌, ◌≢◌, ◌⊎◌, ◌∙◌, ℕ, List, [], Option, Some, None, refl, sym, ap, subst, inl, inr, codes, map, unwrap_or, slice_index, arith, true, ◌∷◌, IfOk, IfErr, OnOk, Result, Ok, Err}
+use Rattle.std.proofs.Common.{◌≡◌, ◌≢◌, ◌⊎◌, ◌∙◌, ℕ, List, Option, Some, IfOk, IfErr, OnOk, Result, Ok, Err}
+use Rattle.std.proofs.Common.{[], sym, ap, subst, inl, inr, codes, map, unwrap_or, slice_index, arith, true}
 use Rattle.std.specs.Prelude.{IsUtf8}
 use Rattle.std.specs.String.{string_bytes}
 use Rattle.std.specs.declared.string.String.{String}
@@ -8,7 +9,6 @@ use Rattle.std.proofs.lemmas.List.Elements.{All-map}
 use Rattle.std.proofs.lemmas.Str.{IsUtf8-string_bytes}
 use Rattle.clap.specs.Words.{App, IsAmong, HasKind, Row, fault_of, first_of, first_value, is_simple_and_free, kind_of, one_of, one_text, rows_of, subcommand_of}
 use Rattle.clap.specs.declared.error.Error.{Error}
-use Rattle.clap.specs.declared.error.kind.ErrorKind.{ErrorKind}
 use Rattle.clap.specs.declared.error.kind.ErrorKind.TheVariants.{DisplayHelp, OutOfMemory}
 use Rattle.clap.specs.declared.parser.matches.Found.{Found}
 use Rattle.clap.proofs.WalkLemmas.{first_value-rows, one_text-rows}
@@ -17,9 +17,11 @@ use Rattle.compressor.specs.Parser.{program}
 use Rattle.compressor.specs.Printing.{IsHelp, IsText}
 use Rattle.compressor.specs.declared.words.Task.{Task}
 use Rattle.compressor.specs.declared.words.Task.TheVariants.{Plan, Word, Help}
-use Rattle.compressor.proofs.Parsed.{FoundPlan, FoundWord, parsed, faulty, helped}
+use Rattle.compressor.proofs.KindLists.{some_kind}
+use Rattle.compressor.proofs.Parsed.{parsed, faulty, helped}
 use Rattle.compressor.proofs.TopLevel.{program_free}
 
+-- a text that is found is the one text there
 pub same_text : (a b : List ℕ) → Some a ≡ Some b → a ≡ b
 same_text a b e = ap (λ (o : Option (List ℕ)). unwrap_or o a) e
 
@@ -27,15 +29,19 @@ same_text a b e = ap (λ (o : Option (List ℕ)). unwrap_or o a) e
 pub texts_utf8 : {Z : Type 0} (xs : List (String Z)) → All IsUtf8 (map string_bytes xs)
 texts_utf8 xs = All-map IsUtf8 string_bytes xs (λ k d lt. IsUtf8-string_bytes (slice_index_or xs k d))
 
+-- the name of the command that was entered, and what was found behind it
 abbrev pub Entered : Type 0
 Entered = Option (List ℕ × List Row)
 
+-- there is one name
 pub same_name : (o : Entered) (a b : List ℕ) (x y : List Row) → o ≡ Some (a, x) → o ≡ Some (b, y) → a ≡ b
 same_name o a b x y e f = ap (λ (w : Entered). (unwrap_or w (a, x)).0) (sym e ∙ f)
 
+-- and what was found behind it is one
 same_rows : (o : Entered) (a b : List ℕ) (x y : List Row) → o ≡ Some (a, x) → o ≡ Some (b, y) → x ≡ y
 same_rows o a b x y e f = ap (λ (w : Entered). (unwrap_or w (a, x)).1) (sym e ∙ f)
 
+-- the names of the commands differ
 plan_is_not_word : codes "plan" ≡ codes "word" → ⊥
 plan_is_not_word e =
     let bad : 112 ≡ 119 = ap (λ (xs : List ℕ). slice_index xs 0) e in
@@ -76,19 +82,15 @@ other_found words o utf8 taken found no_plan no_word = elim (parsed words utf8 t
   | inr w ↦ no_word w.rows (sym found ∙ w.found)
 ]
 
-some_kind : (k : ErrorKind) (kinds : List ErrorKind) → IsAmong k kinds → kinds ≡ [] → ⊥
-some_kind k [] among e = among
-some_kind k (x ∷ xs) among e = cc
-
 -- an error for another cause than memory comes only where the words ask nothing
-pub refused_neither : (words : List (List ℕ)) (error : Error) → All IsUtf8 words → HasKind (fault_of program words) error → kind_of error ≢ OutOfMemory → AsksNeither words
+refused_neither : (words : List (List ℕ)) (error : Error) → All IsUtf8 words → HasKind (fault_of program words) error → kind_of error ≢ OutOfMemory → AsksNeither words
 refused_neither words error utf8 kind other = elim kind [
   | inl memory ↦ absurd (other memory)
   | inr among ↦ faulty words (some_kind (kind_of error) (fault_of program words) among)
 ]
 
 -- and one for help only where they ask nothing, and some word is for help
-pub help_asked : (words : List (List ℕ)) (error : Error) → All IsUtf8 words → HasKind (fault_of program words) error → kind_of error ≡ DisplayHelp → AsksHelp words
+help_asked : (words : List (List ℕ)) (error : Error) → All IsUtf8 words → HasKind (fault_of program words) error → kind_of error ≡ DisplayHelp → AsksHelp words
 help_asked words error utf8 kind help = elim kind [
   | inl memory ↦
       let bad : DisplayHelp ≡ OutOfMemory = sym help ∙ memory in
@@ -99,7 +101,8 @@ help_asked words error utf8 kind help = elim kind [
 ]
 
 -- the kinds of error of a command that is the program's
-pub kind_at : (a : App) (words : List (List ℕ)) (error : Error) → a ≡ program → (is_simple_and_free a ≡ true → HasKind (fault_of a words) error) → HasKind (fault_of program words) error
+pub kind_at : (a : App) (words : List (List ℕ)) (error : Error) → a ≡ program
+    → (is_simple_and_free a ≡ true → HasKind (fault_of a words) error) → HasKind (fault_of program words) error
 kind_at a words error e h = subst (λ (x : App). HasKind (fault_of x words) error) e (h (ap is_simple_and_free e ∙ program_free))
 
 -- a text of help is what the words ask

@@ -1,22 +1,24 @@
 -- The steps by which a command whose one flag is for help takes its words.
-use Rattle.std.proofs.Common.{◌≡◌, ◌∙◌, ◌⊎◌, ◌||◌, ◌==◌, ℕ, Bool, cond, codes, true, false, refl, sym, ap, subst, arith, List, [], ◌∷◌, ◌++◌, length, Option, Some, None, inl, inr, true≢false, lt-ltb, one-add}
-use Rattle.std.specs.Prelude.{min, ◌+◌, slice_get, encode_utf8_all}
-use Rattle.std.specs.List.{fold, list_any, before_first, after_first}
-use Rattle.std.specs.Str.{IsUtf8, bytes_eq, chars}
-use Rattle.std.proofs.lemmas.Str.{encode_ascii, encodes-chars}
-use Rattle.std.proofs.lemmas.Slice.Eq.{bytes_eq-Decides}
+use Rattle.std.proofs.Common.{◌≡◌, ◌∙◌, ◌⊎◌, ◌==◌, ℕ, Bool, cond, codes, true, false, refl, sym, ap, subst, List, [], ◌∷◌, Option, Some, None, inl, inr}
+use Rattle.std.specs.Prelude.{min, ◌+◌}
+use Rattle.std.specs.List.{fold, list_all}
+use Rattle.std.specs.Str.{IsUtf8, bytes_eq}
 use Rattle.std.proofs.lemmas.Bool.{and_right, eqb-true, or_parts}
-use Rattle.clap.specs.Lexer.{usize_max, long_of, short_of, has_byte, name_and_value}
-use Rattle.clap.specs.Walk.{Held, Row, Rule, Text, Walk, idle, value, arg_by_index, arg_by_long, arg_by_short, has_long, has_short, is_multiple, positional_held, to_positional, finished, settled, settled_rows, is_pending, is_append, action_of, pushed, takes_several, walked}
-use Rattle.clap.specs.Kinds.{Kinds, or_else}
-use Rattle.clap.specs.Simple.{Shape, filled, help_rule, with_index}
-use Rattle.clap.specs.Faults.{check_fault, defaults_fault, flags_fault, long_fault, settle_fault, step_fault, turn_fault, walk_fault, word_fault}
-use Rattle.clap.specs.declared.error.kind.ErrorKind.{ErrorKind}
+use Rattle.std.proofs.lemmas.Option.{same_Some}
+use Rattle.std.proofs.lemmas.Slice.Eq.{bytes_eq-Decides}
+use Rattle.clap.specs.Lexer.{usize_max}
+use Rattle.clap.specs.Values.{is_request}
+use Rattle.clap.specs.Walk.{Held, Names, Row, Rule, Text, Walk, idle, value}
+use Rattle.clap.specs.Walk.{arg_by_index, arg_by_long, arg_by_short, has_long, has_short, is_multiple, is_pending, is_append, action_of, takes_several, arg_by_id, is_empty}
+use Rattle.clap.specs.Walk.{positional_held, to_positional, finished, settled, settled_rows, pushed, subcommand_met, walked}
+use Rattle.clap.specs.Kinds.{IsAmong, Kinds, or_else}
+use Rattle.clap.specs.Simple.{Shape, filled, help_rule}
+use Rattle.clap.specs.Faults.{bundle_fault, check_fault, defaults_fault, flags_fault, long_fault, settle_fault, step_fault, turn_fault, walk_fault, word_fault}
 use Rattle.clap.specs.declared.error.kind.ErrorKind.TheVariants as kind
-use Rattle.clap.proofs.WalkLemmas.{both}
-use Rattle.compressor.specs.Parser.{image_rule}
 use Rattle.compressor.specs.Asked.{is_flag, is_help}
+use Rattle.compressor.proofs.KindLists.{neither, no_help_among, one_kind, or_else_in, or_else_twice}
 use Rattle.compressor.proofs.Levels.{level}
+use Rattle.compressor.proofs.Lexed.{IsBundle, IsLong, flag_read, plain_read}
 
 -- ---- places of a walk
 
@@ -48,11 +50,6 @@ end_fault s end =
 unfoldable pub fault_from : Shape → Walk → List Text → Kinds
 fault_from s w words = or_else (walk_fault s [] w words) (end_fault s (end_from s w words))
 
--- which of three comes first does not hang on how they are bracketed
-or_else_in : (a b c : Kinds) → or_else (or_else a b) c ≡ or_else a (or_else b c)
-or_else_in [] b c = refl
-or_else_in (k ∷ ks) b c = refl
-
 -- what is wrong with all the words is what is wrong from the first place on
 pub level_is : (s : Shape) (rest : List Text) → level s rest ≡ fault_from s (at [] None 1 false) rest
 unfolding fault_from
@@ -69,25 +66,6 @@ pub fault_after : (s : Shape) (w : Walk) (word : Text) (rest : List Text)
 unfolding fault_from walk_fault
 fault_after s w word rest = or_else_in (turn_fault s [] w word) (walk_fault s [] (walked s.rules [] w word) rest) (end_fault s (end_from s w (word ∷ rest)))
 
--- ---- what a word looks like
-
--- a flag has a hyphen and one byte more
-flag_bytes : (word : Text) → is_flag word ≡ true → (c : ℕ) × (cs : Text) × (word ≡ 45 ∷ c ∷ cs)
-flag_bytes [] h = absurd (true≢false (sym h))
-flag_bytes (b ∷ []) h = absurd (true≢false (sym (both _ _ h).1))
-flag_bytes (b ∷ c ∷ cs) h = (c, cs, ap (λ x. x ∷ c ∷ cs) (eqb-true b 45 (both _ _ h).0))
-
--- a word that is no flag has neither a long name nor short ones
-plain_by : (t : Bool) (b : ℕ) (bs : Text) → (b == 45) ≡ t → is_flag (b ∷ bs) ≡ false → (long_of (b ∷ bs) ≡ None) × (short_of (b ∷ bs) ≡ None)
-plain_by false b bs e h = (rw e, rw e)
-plain_by true b [] e h = (rw e, rw e)
-plain_by true b (c ∷ cs) e h = absurd (true≢false (sym (lt-ltb 1 (length (b ∷ c ∷ cs)) (omega arith)) ∙ rw e at h))
-
--- the same of each word that is no flag
-plain_names : (word : Text) → is_flag word ≡ false → (long_of word ≡ None) × (short_of word ≡ None)
-plain_names [] h = (refl, refl)
-plain_names (b ∷ bs) h = plain_by (b == 45) b bs refl h
-
 -- ---- what a word that is a value does
 
 -- what is wrong with a value at a place
@@ -100,31 +78,35 @@ behind s rows pending position is_trailing word =
     to_positional s.rules (arg_by_index s.rules position) word (at rows pending position is_trailing) (holding rows pending)
 
 module _ (s : Shape) (rows : List Row) (pending : Option (Text × List Text)) (position : ℕ) where
-  -- behind a first `--`, each word is a value: what is wrong with it, and the place behind it
-  pub trailing_turn : (word : Text) → turn_fault s [] (at rows pending position true) word ≡ value_fault s rows pending position
-  trailing_turn word = refl
-
+  -- behind a first `--` each word is a value, and the place behind it is the one behind that
   pub trailing_place : (word : Text) → walked s.rules [] (at rows pending position true) word ≡ behind s rows pending position true word
   unfolding walked
   trailing_place word = refl
 
-  -- so is before it a word that is neither a flag nor `--`, with the same two facts
+  -- before it a word that is neither a flag nor `--` is a value: what is wrong with it is what is wrong with that
   pub plain_turn : (word : Text) → bytes_eq word (codes "--") ≡ false → is_flag word ≡ false
       → turn_fault s [] (at rows pending position false) word ≡ value_fault s rows pending position
-  plain_turn word dashes flag = rw (dashes, (plain_names word flag).0, (plain_names word flag).1)
+  plain_turn word dashes flag = rw (dashes, (plain_read word flag).0, (plain_read word flag).1)
 
+  -- and the place behind it is the one behind that
   pub plain_place : (word : Text) → bytes_eq word (codes "--") ≡ false → is_flag word ≡ false
       → walked s.rules [] (at rows pending position false) word ≡ behind s rows pending position false word
   unfolding walked
-  plain_place word dashes flag = rw (dashes, (plain_names word flag).0, (plain_names word flag).1)
+  plain_place word dashes flag = rw (dashes, (plain_read word flag).0, (plain_read word flag).1)
 
-  -- a first `--` is no fault, and says that values alone follow
+  -- a first `--` is no fault
   pub dashes_turn : (word : Text) → bytes_eq word (codes "--") ≡ true → turn_fault s [] (at rows pending position false) word ≡ []
   dashes_turn word dashes = rw dashes
 
+  -- and says that values alone follow
   pub dashes_place : (word : Text) → bytes_eq word (codes "--") ≡ true → walked s.rules [] (at rows pending position false) word ≡ at rows pending position true
   unfolding walked
   dashes_place word dashes = rw dashes
+
+  -- what is wrong with a word that names no command is what is wrong with it where there are none
+  pub unnamed_turn : (names : Names) (word : Text) → subcommand_met names idle word ≡ None
+      → turn_fault s names (at rows pending position false) word ≡ turn_fault s [] (at rows pending position false) word
+  unnamed_turn names word none = rw none refl
 
 -- ---- what a flag does
 
@@ -132,164 +114,101 @@ module _ (s : Shape) (rows : List Row) (pending : Option (Text × List Text)) (p
 abbrev pub built_help : Rule
 built_help = filled help_rule
 
--- the argument `IMAGE` of a built command
-abbrev pub image_built : Rule
-image_built = with_index 1 (filled image_rule)
+-- the argument takes one value, which ends nothing, is found by its own name and is no request
+pub record IsPlainRule (rules : List Rule) (a : Rule) : Type 0 where
+  pub one : is_multiple a ≡ false
+  pub ends : a.trailing_var_arg ≡ false
+  pub named : arg_by_id rules a.id ≡ Some a
+  pub request : is_request (action_of a) ≡ false
 
--- no name finds another flag than the one for help, and each position takes one value
+-- no name finds another flag than the one for help, each argument with a position is plain, and no argument has a default value
 pub record HasHelpAlone (rules : List Rule) : Type 0 where
   pub long : (name : Text) → arg_by_long rules name ≡ cond (has_long built_help name) (Some built_help) None
   pub short : (c : ℕ) → arg_by_short rules c ≡ cond (has_short built_help c) (Some built_help) None
-  pub one : (position : ℕ) (a : Rule) → arg_by_index rules position ≡ Some a → (is_multiple a ≡ false) × (a.trailing_var_arg ≡ false)
+  pub plain : (position : ℕ) (a : Rule) → arg_by_index rules position ≡ Some a → IsPlainRule rules a
+  pub defaults : list_all (λ a. is_empty a.defaults) rules ≡ true
+
+-- nothing was found, or the flag for help, and then this holds
+abbrev Finds : Option Rule → Type 0 → Type 0
+Finds rule P = (rule ≡ None) ⊎ ((rule ≡ Some built_help) × P)
 
 module _ (rules : List Rule) (alone : HasHelpAlone rules) where
   -- a long name finds nothing, or is `help`
-  pub by_long : (name : Text) → (arg_by_long rules name ≡ None) ⊎ ((arg_by_long rules name ≡ Some built_help) × (name ≡ codes "help"))
+  by_long : (name : Text) → Finds (arg_by_long rules name) (name ≡ codes "help")
   by_long name = go (bytes_eq (codes "help") name) refl
     where
-      go : (t : Bool) → bytes_eq (codes "help") name ≡ t → (arg_by_long rules name ≡ None) ⊎ ((arg_by_long rules name ≡ Some built_help) × (name ≡ codes "help"))
+      go : (t : Bool) → bytes_eq (codes "help") name ≡ t → Finds (arg_by_long rules name) (name ≡ codes "help")
       go true e = inr (alone.long name ∙ rw e refl, sym ((bytes_eq-Decides (codes "help") name).0 e))
       go false e = inl (alone.long name ∙ rw e refl)
 
   -- a short one finds nothing, or is `h`
-  pub by_short : (c : ℕ) → (arg_by_short rules c ≡ None) ⊎ ((arg_by_short rules c ≡ Some built_help) × (c ≡ 104))
+  by_short : (c : ℕ) → Finds (arg_by_short rules c) (c ≡ 104)
   by_short c = go (104 == c) refl
     where
-      go : (t : Bool) → (104 == c) ≡ t → (arg_by_short rules c ≡ None) ⊎ ((arg_by_short rules c ≡ Some built_help) × (c ≡ 104))
+      go : (t : Bool) → (104 == c) ≡ t → Finds (arg_by_short rules c) (c ≡ 104)
       go true e = inr (alone.short c ∙ rw e refl, sym (eqb-true 104 c e))
       go false e = inl (alone.short c ∙ rw e refl)
 
 -- what holds of a rule holds of one that is found to be it
 pub found : (P : Rule → Type 0) (x a : Rule) → Some x ≡ Some a → P x → P a
-found P x a e h = subst P (same x a e) h
-  where
-    same : (x a : Rule) → Some x ≡ Some a → x ≡ a
-    same x a e = cc
+found P x a e h = subst P (same_Some x a e) h
 
 -- what is wrong with a flag: it is unknown, has a value where none is taken, or is for help
 abbrev pub IsFlagFault : List Rule → Bool → Held → Text → Kinds → Type 0
 IsFlagFault rules again held word kinds = (kinds ≡ kind.UnknownArgument ∷ []) ⊎ ((kinds ≡ kind.TooManyValues ∷ [])
     ⊎ ((is_help word ≡ true) × (kinds ≡ or_else (settle_fault rules again held) (kind.DisplayHelp ∷ []))))
 
--- a character whose bytes begin a text is an `h` only where the text's first byte is
-h_first : (x b : ℕ) (xs bs : List ℕ) → encode_utf8_all (x ∷ xs) ≡ b ∷ bs → x ≡ 104 → b ≡ 104
-h_first x b xs bs e is = cons_head b 104 bs (encode_utf8_all xs) (sym e ∙ ap (λ c. encode_utf8_all (c ∷ xs)) is ∙ ap (λ l. l ++ encode_utf8_all xs) (encode_ascii 104 (omega arith)))
-  where
-    cons_head : (m n : ℕ) (ms ns : List ℕ) → m ∷ ms ≡ n ∷ ns → m ≡ n
-    cons_head m n ms ns e = cc
+module _ (rules : List Rule) (again : Bool) (held : Held) (word : Text) where
+  -- the fault of a flag comes before any later one
+  pub keep_flag_fault : (a b : Kinds) → IsFlagFault rules again held word a → IsFlagFault rules again held word (or_else a b)
+  keep_flag_fault a b (inl e) = inl (rw e refl)
+  keep_flag_fault a b (inr (inl e)) = inr (inl (rw e refl))
+  keep_flag_fault a b (inr (inr e)) = inr (inr (e.0, rw e.1 (or_else_twice (settle_fault rules again held) [] b kind.DisplayHelp)))
 
--- characters that spell a text have a first one, an `h` only where the first byte is
-first_of_chars : (b : ℕ) (bs cs : List ℕ) → encode_utf8_all cs ≡ b ∷ bs → (x : ℕ) × (slice_get cs 0 ≡ Some x) × (x ≡ 104 → b ≡ 104)
-first_of_chars b bs [] e = absurd cc
-first_of_chars b bs (x ∷ xs) e = (x, refl, h_first x b xs bs e)
+  -- the fault of a flag is not none
+  pub is_no_fault : (kinds : Kinds) → IsFlagFault rules again held word kinds → kinds ≡ [] → ⊥
+  is_no_fault kinds (inl e) none = one_kind kind.UnknownArgument (sym e ∙ none)
+  is_no_fault kinds (inr (inl e)) none = one_kind kind.TooManyValues (sym e ∙ none)
+  is_no_fault kinds (inr (inr e)) none = one_kind kind.DisplayHelp (neither (settle_fault rules again held) (kind.DisplayHelp ∷ []) (sym e.1 ∙ none)).1
 
--- behind a hyphen stands a first character, and it is an `h` only where its first byte is
-first_char : (b : ℕ) (bs : Text) → IsUtf8 (45 ∷ b ∷ bs) → (x : ℕ) × (slice_get (chars (b ∷ bs)) 0 ≡ Some x) × (x ≡ 104 → b ≡ 104)
-unfolding chars
-first_char b bs utf8 =
-    let spelled : encode_utf8_all (45 ∷ chars (b ∷ bs)) ≡ 45 ∷ b ∷ bs = encodes-chars (45 ∷ b ∷ bs) utf8 in
-    let begun : 45 ∷ encode_utf8_all (chars (b ∷ bs)) ≡ 45 ∷ b ∷ bs = sym (ap (λ l. l ++ encode_utf8_all (chars (b ∷ bs))) (encode_ascii 45 (omega arith))) ∙ spelled in
-    first_of_chars b bs (chars (b ∷ bs)) cc
+  -- it is the one for help only where the flag is for help
+  pub flag_helps : (kinds : Kinds) → IsFlagFault rules again held word kinds → IsAmong kind.DisplayHelp kinds → is_help word ≡ true
+  flag_helps kinds (inl e) h = absurd (no_help_among (kind.UnknownArgument ∷ []) refl (subst (IsAmong kind.DisplayHelp) e h))
+  flag_helps kinds (inr (inl e)) h = absurd (no_help_among (kind.TooManyValues ∷ []) refl (subst (IsAmong kind.DisplayHelp) e h))
+  flag_helps kinds (inr (inr e)) h = e.0
 
--- ---- the kinds of a flag's fault
+module _ (s : Shape) (alone : HasHelpAlone s.rules) (rows : List Row) (pending : Option (Text × List Text)) (word : Text) where
+  -- the kinds are a flag's fault
+  abbrev IsFault : Kinds → Type 0
+  IsFault = IsFlagFault s.rules s.args_override_self (holding rows pending) word
 
--- a first error stays before any other
-or_else_twice : (a b c : Kinds) (k : ErrorKind) → or_else (or_else a (k ∷ b)) c ≡ or_else a (k ∷ b)
-or_else_twice [] b c k = refl
-or_else_twice (x ∷ xs) b c k = refl
-
-module _ (rules : List Rule) (alone : HasHelpAlone rules) (again : Bool) (rows : List Row) (pending : Option (Text × List Text)) (word : Text) where
-  -- what is wrong with a long flag, where the word is for help if the name is `help` and has no value
-  long_kinds : (name : Text) (v : Option Text) → (name ≡ codes "help" → v ≡ None → is_help word ≡ true) → IsFlagFault rules again (holding rows pending) word (long_fault rules again (arg_by_long rules name) v (holding rows pending))
-  long_kinds name v help = go v (by_long rules alone name) help
+  -- what is wrong with a long flag
+  long_turn : (flag : IsLong word) → IsFault (long_fault s.rules s.args_override_self (arg_by_long s.rules flag.name) flag.value (holding rows pending))
+  long_turn flag = go flag.value flag.help (by_long s.rules alone flag.name)
     where
-      go : (v : Option Text) → (arg_by_long rules name ≡ None) ⊎ ((arg_by_long rules name ≡ Some built_help) × (name ≡ codes "help")) → (name ≡ codes "help" → v ≡ None → is_help word ≡ true)
-          → IsFlagFault rules again (holding rows pending) word (long_fault rules again (arg_by_long rules name) v (holding rows pending))
-      go v (inl none) help = inl (rw none refl)
-      go None (inr found) help = inr (inr (help found.1 refl, rw found.0 refl))
-      go (Some x) (inr found) help = inr (inl (rw found.0 refl))
+      go : (v : Option Text) → (flag.name ≡ codes "help" → v ≡ None → is_help word ≡ true) → Finds (arg_by_long s.rules flag.name) (flag.name ≡ codes "help")
+          → IsFault (long_fault s.rules s.args_override_self (arg_by_long s.rules flag.name) v (holding rows pending))
+      go v help (inl none) = inl (rw none refl)
+      go None help (inr found) = inr (inr (help found.1 refl, rw found.0 refl))
+      go (Some x) help (inr found) = inr (inl (rw found.0 refl))
 
-  -- what is wrong with short flags, where the word is for help if the first of them is `h`
-  short_kinds : (b : ℕ) (bs : Text) (x : ℕ) → slice_get (chars (b ∷ bs)) 0 ≡ Some x → (x ≡ 104 → is_help word ≡ true) → IsFlagFault rules again (holding rows pending) word (flags_fault rules again (length (b ∷ bs)) (b ∷ bs) 0 (holding rows pending))
+  -- what is wrong with a bundle
+  bundle_turn : (flag : IsBundle word) → IsFault (bundle_fault s.rules s.args_override_self (flag.byte ∷ flag.bytes) (holding rows pending))
   unfolding flags_fault
-  short_kinds b bs x first help = go (by_short rules alone x)
+  bundle_turn flag = go (by_short s.rules alone flag.first)
     where
-      go : (arg_by_short rules x ≡ None) ⊎ ((arg_by_short rules x ≡ Some built_help) × (x ≡ 104)) → IsFlagFault rules again (holding rows pending) word (flags_fault rules again (length (b ∷ bs)) (b ∷ bs) 0 (holding rows pending))
-      go (inl none) = inl (rw (first, none) refl)
-      go (inr found) = inr (inr (help found.1, rw (first, found.0) (or_else_twice _ _ _ _)))
+      go : Finds (arg_by_short s.rules flag.first) (flag.first ≡ 104) → IsFault (bundle_fault s.rules s.args_override_self (flag.byte ∷ flag.bytes) (holding rows pending))
+      go (inl none) = inl (rw (flag.begins, none) refl)
+      go (inr found) = inr (inr (flag.help found.1, rw (flag.begins, found.0) (or_else_twice _ _ _ _)))
 
--- the fault of a flag comes before any later one
-keep_flag_fault : (rules : List Rule) (again : Bool) (held : Held) (word : Text) (a b : Kinds) → IsFlagFault rules again held word a → IsFlagFault rules again held word (or_else a b)
-keep_flag_fault rules again held word a b (inl e) = inl (rw e refl)
-keep_flag_fault rules again held word a b (inr (inl e)) = inr (inl (rw e refl))
-keep_flag_fault rules again held word a b (inr (inr e)) = inr (inr (e.0, rw e.1 (or_else_twice (settle_fault rules again held) [] b kind.DisplayHelp)))
-
--- where no element passes, all stand before the first
-all_before : (p : ℕ → Bool) (xs : List ℕ) → list_any p xs ≡ false → before_first p xs ≡ xs
-all_before p [] h = refl
-all_before p (x ∷ xs) h = go (p x) refl (all_before p xs)
-  where
-    go : (t : Bool) → p x ≡ t → (list_any p xs ≡ false → before_first p xs ≡ xs) → before_first p (x ∷ xs) ≡ x ∷ xs
-    go true e rest = absurd (true≢false (sym (ap (λ b. b || list_any p xs) e) ∙ h))
-    go false e rest = rw (e, one-add) (ap (λ l. x ∷ l) (rest (sym (ap (λ b. b || list_any p xs) e) ∙ h)))
-
--- a long name with no value is all that stands behind the hyphens
-bare_name : (text : Text) → (name_and_value text).1 ≡ None → (name_and_value text).0 ≡ text
-bare_name text h = go (has_byte 61 text) refl
-  where
-    go : (t : Bool) → has_byte 61 text ≡ t → (name_and_value text).0 ≡ text
-    go true e = let found : Some (after_first (λ x. x == 61) text) ≡ None = rw e at h in absurd cc
-    go false e = all_before (λ x. x == 61) text e
-
--- two flags are one where what follows the hyphen is
-second_byte : (m n : ℕ) (ms ns : List ℕ) → m ≡ n → ms ≡ ns → 45 ∷ m ∷ ms ≡ 45 ∷ n ∷ ns
-second_byte m n ms ns e f = cc
-
--- a flag that begins with an `h` is for help
-is_help_h : (c : ℕ) (cs : Text) → c ≡ 104 → is_help (45 ∷ c ∷ cs) ≡ true
-is_help_h c cs e = rw e refl
-
-module _ (s : Shape) (alone : HasHelpAlone s.rules) (rows : List Row) (pending : Option (Text × List Text)) where
-  -- a word of two hyphens and more is a long flag
-  is_long : (c d : ℕ) (ds : Text) → (c == 45) ≡ true → word_fault s [] false idle (45 ∷ c ∷ d ∷ ds) (holding rows pending)
-      ≡ long_fault s.rules s.args_override_self (arg_by_long s.rules (name_and_value (d ∷ ds)).0) (name_and_value (d ∷ ds)).1 (holding rows pending)
-  is_long c d ds e = rw e refl
-
-  -- its fault is one of a flag
-  long_flag : (c d : ℕ) (ds : Text) → (c == 45) ≡ true → IsFlagFault s.rules s.args_override_self (holding rows pending) (45 ∷ c ∷ d ∷ ds) (word_fault s [] false idle (45 ∷ c ∷ d ∷ ds) (holding rows pending))
-  long_flag c d ds e = subst (IsFlagFault s.rules s.args_override_self (holding rows pending) (45 ∷ c ∷ d ∷ ds)) (sym (is_long c d ds e))
-      (long_kinds s.rules alone s.args_override_self rows pending (45 ∷ c ∷ d ∷ ds) (name_and_value (d ∷ ds)).0 (name_and_value (d ∷ ds)).1
-      (λ is none. ap is_help (second_byte c 45 (d ∷ ds) (codes "help") (eqb-true c 45 e) (sym (bare_name (d ∷ ds) none) ∙ is))))
-
-  -- a word of one hyphen and more is a bundle of short flags
-  is_bundle : (c : ℕ) (cs : Text) → (c == 45) ≡ false → word_fault s [] false idle (45 ∷ c ∷ cs) (holding rows pending) ≡ flags_fault s.rules s.args_override_self (length (c ∷ cs)) (c ∷ cs) 0 (holding rows pending)
-  is_bundle c cs e = rw (e, e) refl
-
-  -- its fault is one of a flag
-  short_flag : (c : ℕ) (cs : Text) → IsUtf8 (45 ∷ c ∷ cs) → (c == 45) ≡ false → IsFlagFault s.rules s.args_override_self (holding rows pending) (45 ∷ c ∷ cs) (word_fault s [] false idle (45 ∷ c ∷ cs) (holding rows pending))
-  short_flag c cs utf8 e =
-      let first = first_char c cs utf8 in
-      subst (IsFlagFault s.rules s.args_override_self (holding rows pending) (45 ∷ c ∷ cs)) (sym (is_bundle c cs e))
-      (short_kinds s.rules alone s.args_override_self rows pending (45 ∷ c ∷ cs) c cs first.0 first.1 (λ is. is_help_h c cs (first.2 is)))
-
-  -- the fault of either is one of a flag
-  flag_word : (c : ℕ) (cs : Text) → IsUtf8 (45 ∷ c ∷ cs) → bytes_eq (45 ∷ c ∷ cs) (codes "--") ≡ false → IsFlagFault s.rules s.args_override_self (holding rows pending) (45 ∷ c ∷ cs) (word_fault s [] false idle (45 ∷ c ∷ cs) (holding rows pending))
-  flag_word c cs utf8 dashes = go (c == 45) refl cs utf8 dashes
+  -- what is wrong with either, before a first `--`
+  pub flag_turn : (position : ℕ) → IsUtf8 word → bytes_eq word (codes "--") ≡ false → is_flag word ≡ true → IsFault (turn_fault s [] (at rows pending position false) word)
+  flag_turn position utf8 dashes flag =
+      keep_flag_fault s.rules s.args_override_self (holding rows pending) word _ _ (go (flag_read word utf8 dashes flag))
     where
-      go : (t : Bool) → (c == 45) ≡ t → (cs : Text) → IsUtf8 (45 ∷ c ∷ cs) → bytes_eq (45 ∷ c ∷ cs) (codes "--") ≡ false
-          → IsFlagFault s.rules s.args_override_self (holding rows pending) (45 ∷ c ∷ cs) (word_fault s [] false idle (45 ∷ c ∷ cs) (holding rows pending))
-      go true e [] utf8 dashes = absurd (true≢false (rw e at dashes))
-      go true e (d ∷ ds) utf8 dashes = long_flag c d ds e
-      go false e cs utf8 dashes = short_flag c cs utf8 e
-
-  -- so is the fault of a turn at a flag
-  pub flag_turn : (position : ℕ) (word : Text) → IsUtf8 word → bytes_eq word (codes "--") ≡ false → is_flag word ≡ true
-      → IsFlagFault s.rules s.args_override_self (holding rows pending) word (turn_fault s [] (at rows pending position false) word)
-  flag_turn position word utf8 dashes flag =
-      let bytes = flag_bytes word flag in
-      let at_bytes : IsUtf8 word → bytes_eq word (codes "--") ≡ false → IsFlagFault s.rules s.args_override_self (holding rows pending) word (word_fault s [] false idle word (holding rows pending)) =
-      subst (λ w. IsUtf8 w → bytes_eq w (codes "--") ≡ false → IsFlagFault s.rules s.args_override_self (holding rows pending) w (word_fault s [] false idle w (holding rows pending))) (sym bytes.2) (flag_word bytes.0 bytes.1) in
-      keep_flag_fault s.rules s.args_override_self (holding rows pending) word _ _ (at_bytes utf8 dashes)
+      go : IsLong word ⊎ IsBundle word → IsFault (word_fault s [] false idle word (holding rows pending))
+      go (inl long) = rw (dashes, long.read) (long_turn long)
+      go (inr bundle) = rw (dashes, bundle.no_long, bundle.read) (bundle_turn bundle)
 
 -- ---- the places behind a value
 
@@ -302,23 +221,28 @@ one_value rules a word rows pending one =
 
 module _ (s : Shape) (alone : HasHelpAlone s.rules) (rows : List Row) (pending : Option (Text × List Text)) (position : ℕ) (word : Text) where
   -- a value that no argument takes changes nothing
-  pub behind_stray : (t : Bool) → arg_by_index s.rules position ≡ None → behind s rows pending position t word ≡ at rows pending position t
+  behind_stray : (t : Bool) → arg_by_index s.rules position ≡ None → behind s rows pending position t word ≡ at rows pending position t
   behind_stray t e = rw e refl
 
   -- a value that an argument takes settles the one before it
-  pub behind_value : (t : Bool) (a : Rule) → arg_by_index s.rules position ≡ Some a
+  behind_value : (t : Bool) (a : Rule) → arg_by_index s.rules position ≡ Some a
       → behind s rows pending position t word ≡ at (settled_rows s.rules pending rows) (Some (a.id, word ∷ [])) (min (position + 1) usize_max) t
   behind_value true a e =
-      let one = alone.one position a e in
-      rw (e, one.0, one_value s.rules a word rows pending one.0) refl
+      let plain = alone.plain position a e in
+      rw (e, plain.one, one_value s.rules a word rows pending plain.one) refl
   behind_value false a e =
-      let one = alone.one position a e in
-      rw (e, one.0, one.1, one_value s.rules a word rows pending one.0) refl
+      let plain = alone.plain position a e in
+      rw (e, plain.one, plain.ends, one_value s.rules a word rows pending plain.one) refl
 
-  -- the place behind a value is the same before and behind a first `--`
-  pub next_place : (after : List Row) × (then : Option (Text × List Text)) × (i : ℕ) × ((t : Bool) → behind s rows pending position t word ≡ at after then i t)
+  -- a place behind the value, the same before and behind a first `--`: what was pending is so still, or the value is, for its argument
+  abbrev NextPlace : Type 0
+  NextPlace = (after : List Row) × (then : Option (Text × List Text)) × (i : ℕ) × ((t : Bool) → behind s rows pending position t word ≡ at after then i t)
+      × ((then ≡ pending) ⊎ ((a : Rule) × (arg_by_index s.rules position ≡ Some a) × (then ≡ Some (a.id, word ∷ []))))
+
+  -- there is such a place
+  pub next_place : NextPlace
   next_place = go (arg_by_index s.rules position) refl
     where
-      go : (r : Option Rule) → arg_by_index s.rules position ≡ r → (after : List Row) × (then : Option (Text × List Text)) × (i : ℕ) × ((t : Bool) → behind s rows pending position t word ≡ at after then i t)
-      go None e = (rows, pending, position, λ t. behind_stray t e)
-      go (Some a) e = (settled_rows s.rules pending rows, Some (a.id, word ∷ []), min (position + 1) usize_max, λ t. behind_value t a e)
+      go : (r : Option Rule) → arg_by_index s.rules position ≡ r → NextPlace
+      go None e = (rows, pending, position, λ t. behind_stray t e, inl refl)
+      go (Some a) e = (settled_rows s.rules pending rows, Some (a.id, word ∷ []), min (position + 1) usize_max, λ t. behind_value t a e, inr (a, e, refl))

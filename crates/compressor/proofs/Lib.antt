@@ -1,8 +1,10 @@
+pub mod KindLists
 pub mod Levels
-pub mod TopLevel
+pub mod Lexed
 pub mod LevelSteps
 pub mod LevelWords
 pub mod LevelKinds
+pub mod TopLevel
 pub mod PlanLevel
 pub mod WordLevel
 pub mod Parsed

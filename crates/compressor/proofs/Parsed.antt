@@ -3,13 +3,13 @@ use Rattle.std.proofs.Common.{◌≡◌, ◌∙◌, ◌⊎◌, ℕ, suc, true, L
 use Rattle.std.proofs.lemmas.List.Elements.{All-tail}
 use Rattle.clap.specs.Words.{IsAmong, Row, Text, fault_of, first_of, one_of, subcommand_of}
 use Rattle.clap.specs.Walk.{rows_after}
-use Rattle.clap.specs.declared.error.kind.ErrorKind.TheVariants.{DisplayHelp, DisplayVersion}
+use Rattle.clap.specs.declared.error.kind.ErrorKind.TheVariants.{DisplayHelp}
 use Rattle.compressor.specs.Asked.{AsksNeither, AsksPlan, AsksWord, IsNumber, is_help}
 use Rattle.compressor.specs.Parser.{program}
 use Rattle.compressor.proofs.Levels.{level, plan_shape, word_shape}
-use Rattle.compressor.proofs.PlanLevel.{plan_help, plan_no_version, plan_taken, plan_takes}
+use Rattle.compressor.proofs.PlanLevel.{plan_help, plan_taken, plan_takes}
 use Rattle.compressor.proofs.TopLevel.{BeginWithHelp, Decided, first_decides, plan_first, plan_found, word_first, word_found}
-use Rattle.compressor.proofs.WordLevel.{word_help, word_no_version, word_taken, word_takes}
+use Rattle.compressor.proofs.WordLevel.{word_help, word_taken, word_takes}
 
 -- the words ask the plan of an image, and so does what clap found in them
 pub record FoundPlan (words : List Text) : Type 0 where
@@ -31,8 +31,8 @@ pub record FoundWord (words : List Text) : Type 0 where
   pub asks : (n : ℕ) → IsNumber digits n → AsksWord words path n
 
 -- the words behind the first are texts too
-behind : (words : List Text) (name : Text) (rest : List Text) → words ≡ name ∷ rest → All IsUtf8 words → All IsUtf8 rest
-behind words name rest is utf8 = All-tail IsUtf8 name rest (subst (All IsUtf8) is utf8)
+texts_behind : (words : List Text) (name : Text) (rest : List Text) → words ≡ name ∷ rest → All IsUtf8 words → All IsUtf8 rest
+texts_behind words name rest is utf8 = All-tail IsUtf8 name rest (subst (All IsUtf8) is utf8)
 
 -- one of the words is for help where the first is
 one_first : (words : List Text) → BeginWithHelp words → Any (λ word. is_help word ≡ true) words
@@ -55,7 +55,7 @@ module _ (words rest : List Text) where
 -- words that begin with `plan` and are taken ask a plan
 found_plan : (words rest : List Text) → All IsUtf8 words → words ≡ codes "plan" ∷ rest → fault_of program words ≡ [] → FoundPlan words
 found_plan words rest utf8 is none =
-    let taken = plan_taken rest (behind words (codes "plan") rest is utf8) (sym (plan_kinds words rest is) ∙ none) in
+    let taken = plan_taken rest (texts_behind words (codes "plan") rest is utf8) (sym (plan_kinds words rest is) ∙ none) in
     record {
       path = taken.0;
       rows = rows_after plan_shape.rules [] rest;
@@ -67,7 +67,7 @@ found_plan words rest utf8 is none =
 -- words that begin with `word` and are taken ask a word
 found_word : (words rest : List Text) → All IsUtf8 words → words ≡ codes "word" ∷ rest → fault_of program words ≡ [] → FoundWord words
 found_word words rest utf8 is none =
-    let taken = word_taken rest (behind words (codes "word") rest is utf8) (sym (word_kinds words rest is) ∙ none) in
+    let taken = word_taken rest (texts_behind words (codes "word") rest is utf8) (sym (word_kinds words rest is) ∙ none) in
     record {
       path = taken.0;
       digits = taken.1;
@@ -101,16 +101,7 @@ helped words utf8 help = go (first_decides words utf8)
   where
     go : Decided words → Any (λ word. is_help word ≡ true) words
     go (inl (rest, is)) =
-        one_behind words (codes "plan") rest is (plan_help rest (behind words (codes "plan") rest is utf8) (subst (IsAmong DisplayHelp) (plan_kinds words rest is) help))
+        one_behind words (codes "plan") rest is (plan_help rest (texts_behind words (codes "plan") rest is utf8) (subst (IsAmong DisplayHelp) (plan_kinds words rest is) help))
     go (inr (inl (rest, is))) =
-        one_behind words (codes "word") rest is (word_help rest (behind words (codes "word") rest is utf8) (subst (IsAmong DisplayHelp) (word_kinds words rest is) help))
+        one_behind words (codes "word") rest is (word_help rest (texts_behind words (codes "word") rest is utf8) (subst (IsAmong DisplayHelp) (word_kinds words rest is) help))
     go (inr (inr refused)) = one_first words (refused.help help)
-
--- a version is never answered
-pub no_version : (words : List Text) → All IsUtf8 words → ¬ (IsAmong DisplayVersion (fault_of program words))
-no_version words utf8 version = go (first_decides words utf8)
-  where
-    go : Decided words → ⊥
-    go (inl (rest, is)) = plan_no_version rest (subst (IsAmong DisplayVersion) (plan_kinds words rest is) version)
-    go (inr (inl (rest, is))) = word_no_version rest (subst (IsAmong DisplayVersion) (word_kinds words rest is) version)
-    go (inr (inr refused)) = refused.version version

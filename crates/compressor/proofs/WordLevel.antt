@@ -1,9 +1,9 @@
 -- What the words behind the command name `word` are where clap takes them.
-use Rattle.std.proofs.Common.{◌≡◌, ◌∙◌, ◌==◌, ◌<◌, ◌≤◌, ◌^◌, ℕ, Bool, cond, codes, true, false, refl, sym, ap, arith, List, [], ◌∷◌, Some, None, inl, inr, zero-le}
+use Rattle.std.proofs.Common.{◌≡◌, ◌∙◌, ◌==◌, ◌<◌, ◌≤◌, ◌^◌, ℕ, Bool, cond, codes, true, false, refl, sym, ap, arith, List, [], ◌∷◌, Some, None, zero-le}
 use Rattle.std.specs.List.{All, Any}
-use Rattle.std.specs.Str.{IsUtf8, bytes_eq}
+use Rattle.std.specs.Str.{IsUtf8}
 use Rattle.std.specs.Str.Parse.{digits_value, without_leading_plus}
-use Rattle.clap.specs.Walk.{Rule, Text, arg_by_id, arg_by_index, finished, first_of, one_of, rows_after, walked}
+use Rattle.clap.specs.Walk.{Rule, Text, arg_by_index, finished, first_of, one_of, rows_after, walked}
 use Rattle.clap.specs.Kinds.{IsAmong}
 use Rattle.clap.specs.Faults.{defaults_fault, walk_fault}
 use Rattle.clap.specs.Values.{Accepts}
@@ -15,16 +15,17 @@ use Rattle.clap.specs.declared.error.kind.ErrorKind.TheVariants as kind
 use Rattle.clap.specs.Simple.{filled, with_index}
 use Rattle.compressor.specs.Parser.{index_rule}
 use Rattle.compressor.specs.Asked.{IsNumber, given, is_help}
-use Rattle.compressor.proofs.Levels.{level, word_shape}
-use Rattle.compressor.proofs.LevelSteps.{HasHelpAlone, at, built_help, end_from, fault_from, found, image_built, level_is}
-use Rattle.compressor.proofs.LevelWords.{Gives, Reading, flag_fails, gives_these, one_kind, reading, values_alone}
-use Rattle.compressor.proofs.LevelKinds.{HasPlainUses, IsNoRequest, IsPlainRule, help_is_asked, never_version}
+use Rattle.compressor.proofs.KindLists.{one_kind}
+use Rattle.compressor.proofs.Levels.{image_built, level, word_shape}
+use Rattle.compressor.proofs.LevelSteps.{HasHelpAlone, IsPlainRule, at, end_from, fault_from, found}
+use Rattle.compressor.proofs.LevelWords.{Taken, level_given, taken}
+use Rattle.compressor.proofs.LevelKinds.{help_is_asked}
 
 -- the argument `INDEX` of a built command
 abbrev index_built : Rule
 index_built = with_index 2 (filled index_rule)
 
--- each argument with a position takes one value, is found by its own name and is no request
+-- each argument of `word` with a position is plain
 word_index : (i : ℕ) (a : Rule) (t u : Bool) → (1 == i) ≡ t → (2 == i) ≡ u → arg_by_index word_shape.rules i ≡ Some a → IsPlainRule word_shape.rules a
 word_index i a true u e f h =
     let one : Some image_built ≡ Some a = rw e at h in
@@ -36,34 +37,12 @@ word_index i a false false e f h =
     let none : None ≡ Some a = rw (e, f) at h in
     absurd cc
 
--- what is found by a name is no request, but for help
-word_id : (id : Text) (a : Rule) (t u v : Bool) → bytes_eq (codes "IMAGE") id ≡ t → bytes_eq (codes "INDEX") id ≡ u → bytes_eq (codes "help") id ≡ v → arg_by_id word_shape.rules id ≡ Some a → IsNoRequest a
-word_id id a true u v e f g h =
-    let one : Some image_built ≡ Some a = rw e at h in
-    found IsNoRequest image_built a one (inr refl)
-word_id id a false true v e f g h =
-    let one : Some index_built ≡ Some a = rw (e, f) at h in
-    found IsNoRequest index_built a one (inr refl)
-word_id id a false false true e f g h =
-    let one : Some built_help ≡ Some a = rw (e, f, g) at h in
-    found IsNoRequest built_help a one (inl refl)
-word_id id a false false false e f g h =
-    let none : None ≡ Some a = rw (e, f, g) at h in
-    absurd cc
-
--- its one flag is for help, and each position takes one value
+-- the command's one flag is for help, and its arguments are plain
 word_alone : HasHelpAlone word_shape.rules
 word_alone = record {
   long = λ name. refl;
   short = λ c. refl;
-  one = λ i a h. let rule = word_index i a (1 == i) (2 == i) refl refl h in (rule.one, rule.ends);
-}
-
--- its one request is for help
-word_plain : HasPlainUses word_shape.rules
-word_plain = record {
-  named = λ i a h. let rule = word_index i a (1 == i) (2 == i) refl refl h in (rule.named, rule.request);
-  by_id = λ id a. word_id id a (bytes_eq (codes "IMAGE") id) (bytes_eq (codes "INDEX") id) (bytes_eq (codes "help") id) refl refl refl;
+  plain = λ i a. word_index i a (1 == i) (2 == i) refl refl;
   defaults = refl;
 }
 
@@ -82,7 +61,8 @@ abbrev as_index : ValueParser
 as_index = Unsigned 0 18446744073709551615
 
 -- two words are taken where the parser of the index takes the second
-word_two : (path digits : Text) (t : Bool) → accepts false as_index digits ≡ t → fault_from word_shape (at [] None 1 true) (path ∷ digits ∷ []) ≡ cond t [] (kind.ValueValidation ∷ [])
+word_two : (path digits : Text) (t : Bool) → accepts false as_index digits ≡ t
+    → fault_from word_shape (at [] None 1 true) (path ∷ digits ∷ []) ≡ cond t [] (kind.ValueValidation ∷ [])
 unfolding fault_from walk_fault defaults_fault walked
 word_two path digits true e = rw e refl
 word_two path digits false e = rw e refl
@@ -92,14 +72,15 @@ word_more : (path digits word : Text) (rest : List Text) → fault_from word_sha
 unfolding fault_from walk_fault defaults_fault walked
 word_more path digits word rest = refl
 
--- the first word is what is found for `IMAGE`, and the second for `INDEX`
-word_first : (path digits : Text) → first_of (codes "IMAGE") (finished word_shape.rules (end_from word_shape (at [] None 1 true) (path ∷ digits ∷ []))) ≡ Some path
+-- of two words, the first is what is found for `IMAGE`
+word_path : (path digits : Text) → first_of (codes "IMAGE") (finished word_shape.rules (end_from word_shape (at [] None 1 true) (path ∷ digits ∷ []))) ≡ Some path
 unfolding walked
-word_first path digits = refl
+word_path path digits = refl
 
-word_second : (path digits : Text) → one_of (codes "INDEX") (finished word_shape.rules (end_from word_shape (at [] None 1 true) (path ∷ digits ∷ []))) ≡ Some digits
+-- and the second for `INDEX`
+word_digits : (path digits : Text) → one_of (codes "INDEX") (finished word_shape.rules (end_from word_shape (at [] None 1 true) (path ∷ digits ∷ []))) ≡ Some digits
 unfolding walked
-word_second path digits = refl
+word_digits path digits = refl
 
 -- the digits that the parser of the index takes are a number of 64 bits
 is_number : (digits : Text) → Accepts false as_index digits → IsNumber digits (digits_value 10 (without_leading_plus digits))
@@ -116,50 +97,38 @@ takes_number digits n h =
     Accepts-accepts false as_index digits (h.numeral, fits, zero-le, within_u64 (digits_value 10 (without_leading_plus digits)) fits)
 
 -- the words are a path and the digits of a number, which are what is found for `IMAGE` and `INDEX`
-abbrev WordTaken : List Text → Type 0
+abbrev pub WordTaken : List Text → Type 0
 WordTaken rest = (path : Text) × (digits : Text) × ((n : ℕ) × IsNumber digits n) × (given rest ≡ Some (path ∷ digits ∷ []))
     × (first_of (codes "IMAGE") (rows_after word_shape.rules [] rest) ≡ Some path) × (one_of (codes "INDEX") (rows_after word_shape.rules [] rest) ≡ Some digits)
 
--- where two values are taken, the words are so
-two_taken : (rest : List Text) (path digits : Text) → given rest ≡ Some (path ∷ digits ∷ []) → Gives rest (path ∷ digits ∷ []) → (t : Bool) → accepts false as_index digits ≡ t
-    → fault_from word_shape (at [] None 1 true) (path ∷ digits ∷ []) ≡ [] → WordTaken rest
-two_taken rest path digits is gives true e none =
-    let same = (values_alone word_shape word_alone gives [] None 1).1 in (
+-- where clap takes the words behind `word`, they are so
+pub word_taken : (rest : List Text) → All IsUtf8 rest → level word_shape rest ≡ [] → WordTaken rest
+word_taken rest utf8 none = go (taken word_shape word_alone rest utf8 none)
+  where
+    -- so are two values, of which the parser of the index takes the second
+    numbered : (path digits : Text) → given rest ≡ Some (path ∷ digits ∷ []) → fault_from word_shape (at [] None 1 true) (path ∷ digits ∷ []) ≡ []
+        → rows_after word_shape.rules [] rest ≡ finished word_shape.rules (end_from word_shape (at [] None 1 true) (path ∷ digits ∷ []))
+        → (t : Bool) → accepts false as_index digits ≡ t → WordTaken rest
+    numbered path digits is none found false e = absurd (one_kind kind.ValueValidation (sym (word_two path digits false e) ∙ none))
+    numbered path digits is none found true e = (
       path,
       digits,
       (digits_value 10 (without_leading_plus digits), is_number digits (accepts-Accepts false as_index digits e)),
       is,
-      ap (λ h. first_of (codes "IMAGE") (finished word_shape.rules h)) same ∙ word_first path digits,
-      ap (λ h. one_of (codes "INDEX") (finished word_shape.rules h)) same ∙ word_second path digits,
+      ap (first_of (codes "IMAGE")) found ∙ word_path path digits,
+      ap (one_of (codes "INDEX")) found ∙ word_digits path digits,
     )
-two_taken rest path digits is gives false e none = absurd (one_kind kind.ValueValidation (sym (word_two path digits false e) ∙ none))
 
--- the same of each list of values
-taken_values : (rest values : List Text) → given rest ≡ Some values → Gives rest values → fault_from word_shape (at [] None 1 true) values ≡ [] → WordTaken rest
-taken_values rest [] is gives none = absurd (one_kind kind.MissingRequiredArgument (sym word_none ∙ none))
-taken_values rest (path ∷ []) is gives none = absurd (one_kind kind.MissingRequiredArgument (sym (word_one path) ∙ none))
-taken_values rest (path ∷ digits ∷ []) is gives none = two_taken rest path digits is gives (accepts false as_index digits) refl none
-taken_values rest (path ∷ digits ∷ word ∷ more) is gives none = absurd (one_kind kind.UnknownArgument (sym (word_more path digits word more) ∙ none))
-
--- where clap takes the words behind `word`, they are one path and the digits of one number
-pub word_taken : (rest : List Text) → All IsUtf8 rest → level word_shape rest ≡ [] → (path : Text) × (digits : Text) × ((n : ℕ) × IsNumber digits n) × (given rest ≡ Some (path ∷ digits ∷ []))
-    × (first_of (codes "IMAGE") (rows_after word_shape.rules [] rest) ≡ Some path) × (one_of (codes "INDEX") (rows_after word_shape.rules [] rest) ≡ Some digits)
-word_taken rest utf8 none = go (reading rest)
-  where
-    go : Reading rest → WordTaken rest
-    go (inl r) = taken_values rest r.0 r.1 r.2 (sym (values_alone word_shape word_alone r.2 [] None 1).0 ∙ sym (level_is word_shape rest) ∙ none)
-    go (inr r) = absurd (flag_fails word_shape word_alone r.1 utf8 [] None 1 (sym (level_is word_shape rest) ∙ none))
+    go : Taken word_shape word_alone rest → WordTaken rest
+    go ([], is, none, found) = absurd (one_kind kind.MissingRequiredArgument (sym word_none ∙ none))
+    go (path ∷ [], is, none, found) = absurd (one_kind kind.MissingRequiredArgument (sym (word_one path) ∙ none))
+    go (path ∷ digits ∷ [], is, none, found) = numbered path digits is none found (accepts false as_index digits) refl
+    go (path ∷ digits ∷ word ∷ more, is, none, found) = absurd (one_kind kind.UnknownArgument (sym (word_more path digits word more) ∙ none))
 
 -- clap takes one path and the digits of one number behind `word`
 pub word_takes : (rest : List Text) (path digits : Text) (n : ℕ) → IsNumber digits n → given rest ≡ Some (path ∷ digits ∷ []) → level word_shape rest ≡ []
-word_takes rest path digits n number is =
-    level_is word_shape rest ∙ (values_alone word_shape word_alone (gives_these rest (path ∷ digits ∷ []) is) [] None 1).0
-    ∙ word_two path digits true (takes_number digits n number)
+word_takes rest path digits n number is = level_given word_shape word_alone rest (path ∷ digits ∷ []) is ∙ word_two path digits true (takes_number digits n number)
 
 -- the answer to a flag for help comes only where a word behind `word` is for help
 pub word_help : (rest : List Text) → All IsUtf8 rest → IsAmong kind.DisplayHelp (level word_shape rest) → Any (λ word. is_help word ≡ true) rest
-word_help = help_is_asked word_shape word_alone word_plain
-
--- no word behind `word` asks for a version
-pub word_no_version : (rest : List Text) → ¬ (IsAmong kind.DisplayVersion (level word_shape rest))
-word_no_version = never_version word_shape word_alone word_plain
+word_help = help_is_asked word_shape word_alone

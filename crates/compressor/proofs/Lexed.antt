@@ -1,0 +1,114 @@
+-- Words as clap's lexer reads them: a flag is a long one or a bundle of short ones, and another word is neither.
+use Rattle.std.proofs.Common.{◌≡◌, ◌∙◌, ◌⊎◌, ◌==◌, ◌∷◌, ℕ, Bool, List, Option, Some, None}
+use Rattle.std.proofs.Common.{codes, true, false, refl, sym, ap, subst, arith, [], length, get_or, inl, inr, true≢false, lt-ltb, eq-eqb}
+use Rattle.std.specs.Prelude.{slice_get, encode_utf8_all}
+use Rattle.std.specs.List.{after_first}
+use Rattle.std.specs.Str.{IsUtf8, bytes_eq, chars}
+use Rattle.std.proofs.lemmas.Bool.{eqb-true}
+use Rattle.std.proofs.lemmas.List.Folds.{list_any_at}
+use Rattle.std.proofs.lemmas.Str.{IsCharBoundary-after_ascii, IsUtf8-drop, byte_from_char, encodes-chars}
+use Rattle.clap.specs.Lexer.{has_byte, long_of, name_and_value, short_of}
+use Rattle.clap.specs.Walk.{Text}
+use Rattle.clap.proofs.CutLemmas.{Lacks, before_first-Lacks}
+use Rattle.clap.proofs.WalkLemmas.{both}
+use Rattle.compressor.specs.Asked.{is_flag, is_help}
+
+-- ---- a word that is no flag
+
+-- it is neither, by whether a hyphen stands first
+plain_by : (t : Bool) (b : ℕ) (bs : Text) → (b == 45) ≡ t → is_flag (b ∷ bs) ≡ false → (long_of (b ∷ bs) ≡ None) × (short_of (b ∷ bs) ≡ None)
+plain_by false b bs e h = (rw e, rw e)
+plain_by true b [] e h = (rw e, rw e)
+plain_by true b (c ∷ cs) e h = absurd (true≢false (sym (lt-ltb 1 (length (b ∷ c ∷ cs)) (omega arith)) ∙ rw e at h))
+
+-- a word that is no flag is neither a long flag nor a bundle of short ones
+pub plain_read : (word : Text) → is_flag word ≡ false → (long_of word ≡ None) × (short_of word ≡ None)
+plain_read [] h = (refl, refl)
+plain_read (b ∷ bs) h = plain_by (b == 45) b bs refl h
+
+-- ---- a flag
+
+-- the word is a long flag, and is for help where its name is `help` and it has no value
+pub record IsLong (word : Text) : Type 0 where
+  pub name : Text
+  pub value : Option Text
+  pub read : long_of word ≡ Some (name, value)
+  pub help : name ≡ codes "help" → value ≡ None → is_help word ≡ true
+
+-- the word is a bundle of short flags, and is for help where the first is `h`
+pub record IsBundle (word : Text) : Type 0 where
+  pub byte : ℕ
+  pub bytes : Text
+  pub first : ℕ
+  pub no_long : long_of word ≡ None
+  pub read : short_of word ≡ Some (byte ∷ bytes)
+  pub begins : slice_get (chars (byte ∷ bytes)) 0 ≡ Some first
+  pub help : first ≡ 104 → is_help word ≡ true
+
+-- a flag is a hyphen and at least one byte more
+flag_bytes : (word : Text) → is_flag word ≡ true → (c : ℕ) × (cs : Text) × (word ≡ 45 ∷ c ∷ cs)
+flag_bytes [] h = absurd (true≢false (sym h))
+flag_bytes (b ∷ []) h = absurd (true≢false (sym (both _ _ h).1))
+flag_bytes (b ∷ c ∷ cs) h = (c, cs, ap (λ x. x ∷ c ∷ cs) (eqb-true b 45 (both _ _ h).0))
+
+-- a text in which the lexer finds no `=` has none
+lacks : (text : Text) → has_byte 61 text ≡ false → Lacks 61 text
+lacks text none i lt is = absurd (true≢false (sym (list_any_at (λ x. x == 61) text i 0 lt (eq-eqb (get_or text i 0) 61 is)) ∙ none))
+
+-- a name without a value is the whole text
+bare_name : (text : Text) → (name_and_value text).1 ≡ None → (name_and_value text).0 ≡ text
+bare_name text h = go (has_byte 61 text) refl
+  where
+    go : (t : Bool) → has_byte 61 text ≡ t → (name_and_value text).0 ≡ text
+    go true e = let found : Some (after_first (λ x. x == 61) text) ≡ None = rw e at h in absurd cc
+    go false e = before_first-Lacks 61 text (lacks text e)
+
+-- characters that spell a text have a first one, an `h` only where the first byte is
+first_of_chars : (b : ℕ) (bs cs : List ℕ) → encode_utf8_all cs ≡ b ∷ bs → (x : ℕ) × (slice_get cs 0 ≡ Some x) × (x ≡ 104 → b ≡ 104)
+first_of_chars b bs [] e = absurd cc
+first_of_chars b bs (x ∷ xs) e =
+    (x, refl, λ is. byte_from_char (b ∷ bs) (encode_utf8_all xs) 104 (sym e ∙ ap (λ c. encode_utf8_all (c ∷ xs)) is) (omega arith))
+
+-- behind a hyphen stands a first character, an `h` only where the first byte is
+first_char : (b : ℕ) (bs : Text) → IsUtf8 (45 ∷ b ∷ bs) → (x : ℕ) × (slice_get (chars (b ∷ bs)) 0 ≡ Some x) × (x ≡ 104 → b ≡ 104)
+first_char b bs utf8 =
+    let behind : IsUtf8 (b ∷ bs) = IsUtf8-drop (45 ∷ b ∷ bs) 1 utf8 (IsCharBoundary-after_ascii (45 ∷ b ∷ bs) 0 utf8 (omega arith) (omega arith)) in
+    first_of_chars b bs (chars (b ∷ bs)) (encodes-chars (b ∷ bs) behind)
+
+-- two hyphens and the name `help` are for help
+help_long : (c : ℕ) (text : Text) → c ≡ 45 → text ≡ codes "help" → is_help (45 ∷ c ∷ text) ≡ true
+help_long c text e f = rw (e, f) refl
+
+-- and so is a flag that begins with an `h`
+help_short : (c : ℕ) (cs : Text) → c ≡ 104 → is_help (45 ∷ c ∷ cs) ≡ true
+help_short c cs e = rw e refl
+
+-- a hyphen and bytes are a long flag where another hyphen follows, and else a bundle
+bytes_read : (c : ℕ) (cs : Text) → IsUtf8 (45 ∷ c ∷ cs) → bytes_eq (45 ∷ c ∷ cs) (codes "--") ≡ false → IsLong (45 ∷ c ∷ cs) ⊎ IsBundle (45 ∷ c ∷ cs)
+bytes_read c cs utf8 dashes = go (c == 45) refl cs utf8 dashes
+  where
+    go : (t : Bool) → (c == 45) ≡ t → (cs : Text) → IsUtf8 (45 ∷ c ∷ cs) → bytes_eq (45 ∷ c ∷ cs) (codes "--") ≡ false → IsLong (45 ∷ c ∷ cs) ⊎ IsBundle (45 ∷ c ∷ cs)
+    go true e [] utf8 dashes = absurd (true≢false (rw e at dashes))
+    go true e (d ∷ ds) utf8 dashes = inl (record {
+      name = (name_and_value (d ∷ ds)).0;
+      value = (name_and_value (d ∷ ds)).1;
+      read = rw e refl;
+      help = λ is none. help_long c (d ∷ ds) (eqb-true c 45 e) (sym (bare_name (d ∷ ds) none) ∙ is);
+    })
+    go false e cs utf8 dashes =
+        let first = first_char c cs utf8 in
+        inr (record {
+          byte = c;
+          bytes = cs;
+          first = first.0;
+          no_long = rw e refl;
+          read = rw e refl;
+          begins = first.1;
+          help = λ is. help_short c cs (first.2 is);
+        })
+
+-- a flag other than `--` is a long flag or a bundle
+pub flag_read : (word : Text) → IsUtf8 word → bytes_eq word (codes "--") ≡ false → is_flag word ≡ true → IsLong word ⊎ IsBundle word
+flag_read word utf8 dashes flag =
+    let bytes = flag_bytes word flag in
+    subst (λ w. IsUtf8 w → bytes_eq w (codes "--") ≡ false → IsLong w ⊎ IsBundle w) (sym bytes.2) (bytes_read bytes.0 bytes.1) utf8 dashes
