@@ -21,10 +21,6 @@ use Rattle.compressor.proofs.KindLists.{some_kind}
 use Rattle.compressor.proofs.Parsed.{parsed, faulty, helped}
 use Rattle.compressor.proofs.TopLevel.{program_free}
 
--- a text that is found is the one text there
-pub same_text : (a b : List ℕ) → Some a ≡ Some b → a ≡ b
-same_text a b e = ap (λ (o : Option (List ℕ)). unwrap_or o a) e
-
 -- the bytes of texts are UTF-8
 pub texts_utf8 : {Z : Type 0} (xs : List (String Z)) → All IsUtf8 (map string_bytes xs)
 texts_utf8 xs = All-map IsUtf8 string_bytes xs (λ k d lt. IsUtf8-string_bytes (slice_index_or xs k d))

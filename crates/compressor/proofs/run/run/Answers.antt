@@ -1,7 +1,5 @@
-use Rattle.std.proofs.Common.{◌≡◌, ◌≢◌, rules, subst, IfErr, IfOk, List, String, Global, map}
+use Rattle.std.proofs.Common.{◌≡◌, rules, subst, IfOk, List, String, Global, map}
 use Rattle.std.specs.String.{string_bytes}
-use Rattle.clap.specs.Words.{kind_of}
-use Rattle.clap.specs.declared.error.kind.ErrorKind.TheVariants.{OutOfMemory}
 use Rattle.compressor.specs.Asked.{Asks, AsksNeither}
 use Rattle.compressor.proofs.Answered.{answered, misused}
 use Rattle.compressor.proofs.run.run.Goals as goal

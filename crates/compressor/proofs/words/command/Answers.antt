@@ -1,8 +1,8 @@
-use Rattle.std.proofs.Common.{rules, ◌∙◌, ◌≡◌, ap, ap₂, refl, true}
+use Rattle.std.proofs.Common.{rules, ◌∙◌, ◌≡◌, ap, ap₂}
 use Rattle.std.proofs.lemmas.Result.{IfOk-weaker}
-use Rattle.clap.specs.Words.{App, app_of, shape_of, with_subcommand}
+use Rattle.clap.specs.Words.{App, app_of, with_subcommand}
 use Rattle.clap.proofs.SimpleLemmas.{plain_fields}
-use Rattle.compressor.specs.Parser.{empty_app, plan_app, program, word_app}
+use Rattle.compressor.specs.Parser.{empty_app, plan_app, word_app}
 use Rattle.compressor.proofs.words.command.Goals as goal
 
 pub returns : goal.returns

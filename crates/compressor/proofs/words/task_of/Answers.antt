@@ -1,9 +1,10 @@
 use Rattle.std.proofs.Common.{rules, ◌≡◌, ◌∙◌, codes, is_some, ap, Option, List, ℕ, None, Some, refl, IsSomeAnd, IfSome, sym, map, subst}
 use Rattle.std.specs.String.{string_bytes}
+use Rattle.std.proofs.lemmas.Option.{same_Some}
 use Rattle.clap.specs.Words.{rows_of, found_of, subcommand_of}
 use Rattle.compressor.specs.Asked.{AsksPlan, AsksWord, IsNumber}
 use Rattle.compressor.specs.Parser.{program}
-use Rattle.compressor.proofs.Found.{other_found, plan_asked, same_name, same_text, texts_utf8, word_asked}
+use Rattle.compressor.proofs.Found.{other_found, plan_asked, same_name, texts_utf8, word_asked}
 use Rattle.compressor.proofs.words.task_of.Goals.{in_default-via-in-Some+in_default, in_default-via-in_default}
 use Rattle.compressor.proofs.words.task_of.Goals as goal
 
@@ -42,13 +43,13 @@ pub returns-in-Some-plan-default : goal.returns-in-Some-plan-default
 returns-in-Some-plan-default c =
     let found : subcommand_of program (map string_bytes c.args.words.now) ≡ Some (codes "plan", rows_of (found_of c.in-Some-plan-default.found.now)) = search rules in
     let got = plan_asked _ (found_of c.in-Some-plan-default.found.now) (texts_utf8 c.args.words.now) c.requires.taken found in
-    let same : c.text_of.result.now ≡ got.0 = same_text _ _ (c.text_of.ensures ∙ got.1) in
+    let same : c.text_of.result.now ≡ got.0 = same_Some _ _ (c.text_of.ensures ∙ got.1) in
     subst (AsksPlan (map string_bytes c.args.words.now)) (sym same) got.2
 
 pub returns-in-Some-word-default : goal.returns-in-Some-word-default
 returns-in-Some-word-default c =
     let found : subcommand_of program (map string_bytes c.args.words.now) ≡ Some (codes "word", rows_of (found_of c.in-Some-word-default.found.now)) = search rules in
     let got = word_asked _ (found_of c.in-Some-word-default.found.now) (texts_utf8 c.args.words.now) c.requires.taken found in
-    let same : c.text_of-in-Some-word-default.result.now ≡ got.0 = same_text _ _ (c.text_of-in-Some-word-default.ensures ∙ got.2) in
+    let same : c.text_of-in-Some-word-default.result.now ≡ got.0 = same_Some _ _ (c.text_of-in-Some-word-default.ensures ∙ got.2) in
     let number : IsNumber got.1 c.number_of.result = subst (λ (o : Option (List ℕ)). IfSome o (λ text. IsNumber text c.number_of.result)) got.3 c.number_of.ensures in
     subst (λ (path : List ℕ). AsksWord (map string_bytes c.args.words.now) path c.number_of.result) (sym same) (got.5 c.number_of.result number)
