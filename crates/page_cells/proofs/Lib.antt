@@ -1,5 +1,5 @@
 mod Fields
-mod Growing
+pub mod Growing
 mod Heads
 mod Held
 mod Leading
