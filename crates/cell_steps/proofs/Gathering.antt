@@ -158,6 +158,7 @@ module _ (u : Setup) (s : State Slot View) (js : Journals) (id : ℕ) (v : View)
         rises = (get_or s.words (clock_at u) 0, wrote.rises);
         begins = λ p. subst (λ l. StartsWith l (look [] last.1.known.seen p)) (sym (journal_is p)) (wrote.begins p);
         once = λ p. omega (arith, term_le (told_at p) s.views last.0 last.1 last.2, (page_ends p).once);
+        seen = λ p lt. let built = (k.locks.placed last.0 last.1 last.2).built p lt in (page_ends p).built ((k.locks.cells p built.0).told ∙ built.1);
       }
 
   -- references lead to older starts

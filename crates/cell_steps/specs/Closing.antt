@@ -57,6 +57,8 @@ pub record Complete (slots : List Slot) (k : ℕ) (known : Known) : Type 0 where
   pub begins : (p : ℕ) → StartsWith (journal_at slots p) (look [] known.seen p)
   -- it built no page twice
   pub once : (p : ℕ) → times p known.told ≤ 1
+  -- a page that it has seen built is there
+  pub seen : (p : ℕ) → 0 < times p known.built → IsSome (page_at slots p)
 
 -- The pages at the end, and what the passes knew.
 pub record Gathered (u : Setup) (slots : List Slot) (passes : List Known) : Type 0 where

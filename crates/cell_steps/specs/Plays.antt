@@ -106,6 +106,8 @@ pub record Tells (v : View) (p : ℕ) (journal : List Entry) : Type 0 where
   pub begins : StartsWith journal (seen_of v p)
   -- it is lawful
   pub lawful : IsLawful v.about p journal
+  -- its stamps rise
+  pub rises : (n : ℕ) × Rises 0 journal n
   -- the starts on the page that the pass knew have their headers in it
   pub heads : (offset : ℕ) → KnowsFresh v p offset → HasHead journal offset
   -- the starts that it names are starts that the pass then knows

@@ -175,6 +175,7 @@ impl<B: Builder> Space<B> {
         ensures touched { IfOk result (λ touched. HasSeenBuilt (pass_of m.new) p × (builds_of (pass_of m.new) ≡ builds_after (builds_of (pass_of m.old)) p touched)) }
         ensures alone { (setup_of self.now).mutators ≡ 1 → (q : ℕ) → IsErrOf result (Busy q) → ⊥ }
         ensures known { KnowsBuilt (pass_of m.old) p → result ≡ Ok AlreadyBuilt }
+        ensures unbuilt { (q : ℕ) → IsErrOf result (Busy q) → HasSeenBuilt (pass_of m.new) p → ⊥ }
         ensures refused { IfErr result (λ refusal. (builds_of (pass_of m.new) ≡ builds_of (pass_of m.old)) × PageRefused p (pass_of m.old) (pass_of m.new) refusal) }
     {
         let Mutator { hand } = m;
@@ -194,9 +195,7 @@ impl<B: Builder> Space<B> {
         ensures grows { Grows (pass_of m.old) (pass_of m.new) × (did (pass_of m.new) ≡ did (pass_of m.old)) }
         ensures unposted { unposted_of m.new ≡ unposted_of m.old }
         ensures alone { (setup_of self.now).mutators ≡ 1 → (q : ℕ) → IsErrOf result (Busy q) → ⊥ }
-        ensures copy { IfOk result (IsCopy (setup_of self.now) (seen (pass_of m.new)) p) }
-        ensures own { IfOk result (λ copy. by (number_of (pass_of m.old)) copy.journal.items ≡ on p (did (pass_of m.old))) }
-        ensures strangers { IfOk result (λ copy. number_of (pass_of m.old) ≡ 0 → (k : ℕ) → (setup_of self.now).mutators ≤ k → by k copy.journal.items ≡ []) }
+        ensures copy { IfOk result (IsCopy (setup_of self.now) (pass_of m.new) p) }
         ensures builds { MayBuild p (pass_of m.old) (pass_of m.new) }
         ensures refused { IfErr result (CopyRefused p (pass_of m.old) (pass_of m.new)) }
     {

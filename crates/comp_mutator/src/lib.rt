@@ -5,6 +5,7 @@ mod allocating;
 mod calls;
 mod finding;
 pub mod flipping;
+pub mod laws;
 pub mod mutator;
 pub mod pages;
 mod places;

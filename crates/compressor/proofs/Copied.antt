@@ -1,11 +1,9 @@
 -- The words of a page that was copied while nobody wrote into it.
-use Rattle.std.proofs.Common.{◌≡◌, ℕ, zero, suc, ◌+◌, ◌*◌, ◌/◌, ◌%◌, ◌<◌, ◌≤◌, List, [], ◌∷◌, length, get_or, cond, slice_index, replicate, map, refl, sym, ap, ◌∙◌, arith, eq-eqb}
+use Rattle.std.proofs.Common.{◌≡◌, ℕ, ◌+◌, ◌*◌, ◌/◌, ◌%◌, ◌<◌, List, [], ◌∷◌, get_or, cond, slice_index, replicate, map, refl, sym, ap, ◌∙◌, arith}
 use mathlib.Core.Option.{some}
 use Rattle.heap_layout.specs.Heap.{live}
 use Rattle.page_plan.specs.Sliding.{page, slid_words, IsPartFrom}
 use Rattle.comp_journal.specs.Journal.{replayed}
-use Rattle.comp_journal.specs.declared.entry.Entry.{Entry}
-use Rattle.cell_steps.specs.Lists.{by}
 use Rattle.std.proofs.lemmas.Bool.{cond_below}
 use Rattle.cell_steps.specs.Setup.{Setup, base_of}
 use Rattle.cell_steps.specs.Passes.{seen}
@@ -17,20 +15,8 @@ use Rattle.comp_mutator.specs.Mutators.{pass_of}
 use Rattle.comp_mutator.specs.declared.mutator.Mutator.{Mutator}
 use Rattle.comp_mutator.specs.declared.pages.PageCopy.{PageCopy}
 
--- a journal in which no writer has an entry is empty
-pub none_wrote : (journal : List Entry) → ((k : ℕ) → by k journal ≡ []) → journal ≡ []
-none_wrote [] none = refl
-none_wrote (e ∷ es) none =
-    let one : e ∷ by e.writer es ≡ [] = sym (ap (λ b. cond b (e ∷ by e.writer es) (by e.writer es)) (eq-eqb e.writer e.writer refl)) ∙ none e.writer in
-    absurd (omega (arith, ap length one))
-
--- nobody wrote where neither the first of so many writers nor another one did
-pub by_none : (journal : List Entry) (mutators : ℕ) → mutators ≡ 1 → by 0 journal ≡ [] → ((k : ℕ) → mutators ≤ k → by k journal ≡ []) → (k : ℕ) → by k journal ≡ []
-by_none journal mutators one first others zero = first
-by_none journal mutators one first others (suc k) = others (suc k) (omega arith)
-
 -- the word of a page without writes, at an offset, is the slid word at its index
-pub word_at : (u : Setup) (pass : Pass) (copy : PageCopy) (index : ℕ) → IsCopy u (seen pass) (index / 64) copy → index / 64 < u.compacted
+pub word_at : (u : Setup) (pass : Pass) (copy : PageCopy) (index : ℕ) → IsCopy u pass (index / 64) copy → index / 64 < u.compacted
     → copy.journal.items ≡ [] → IsPartFrom (slid_words (live u.heap)) (64 * (index / 64)) (page (live u.heap) (index / 64))
     → slice_index copy.words (index % 64) ≡ slice_index (slid_words (live u.heap)) index
 word_at u pass copy index h below none part =

@@ -15,6 +15,7 @@ use crate::images::Images;
 use crate::print::{print_digits, print_text};
 use crate::refusal::Refusal;
 use comp_mutator::flipping::flip;
+use comp_mutator::laws::alone_sees_its_own;
 use comp_mutator::mutator::Mutator;
 use comp_mutator::refusal as mutators;
 use comp_mutator::refusal::FlipFault;
@@ -137,6 +138,7 @@ fn copied_word(
     ensures cause { IfErr result (λ refusal. refusal ≡ refusals.OutOfMemory) }
 {
     let copy = space.page_copy(alloc, m, index / 64)?;
+    alone_sees_its_own(space);
     pages_are_parts();
     Ok(copy.words.get((index % 64) as u8))
 }

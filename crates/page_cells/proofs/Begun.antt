@@ -3,15 +3,16 @@ use Rattle.std.proofs.Common.{◌≡◌, ℕ, zero, suc, ◌+◌, ◌≤◌, ◌
 use mathlib.Core.Option.{some, some-injective, some-ne-none}
 use lib.ListN.{get_elem?}
 use Rattle.page_cells.proofs.Rows.{at_set, at_longer, at_below}
-use Rattle.cell_steps.specs.Lists.{look}
+use Rattle.cell_steps.specs.Setup.{Setup, address}
+use Rattle.cell_steps.specs.Lists.{look, on, times}
 use Rattle.cell_steps.specs.View.{Known, blank}
 use Rattle.cell_steps.specs.Whole.{first_view}
 use Rattle.cell_steps.specs.Plays.{making, made}
-use Rattle.cell_steps.specs.Passes.{about, view_of, known_of, number_of, carried, IsPassOf, Rests, MakesNext}
+use Rattle.cell_steps.specs.Passes.{about, view_of, known_of, number_of, did, seen, carried, IsPassOf, Rests, MakesNext}
 use Rattle.cell_steps.specs.declared.pass.Pass.{Pass}
 use Rattle.cell_steps.specs.declared.steps.Steps.{Steps}
 use Rattle.cell_steps.specs.declared.view.View.{View}
-use Rattle.page_cells.specs.Cells.{AreNew}
+use Rattle.page_cells.specs.Cells.{AreNew, Remembers}
 
 -- the port of the pass that pass k makes next, when there are n passes
 abbrev next_of : ℕ → ℕ → ℕ
@@ -90,16 +91,34 @@ makes_all : (n k : ℕ) (pass : Pass) → known_of pass ≡ blank (k + 1) (next_
 makes_all n zero pass known first = ap (λ (x : Known). x.next) known
 makes_all n (suc k) pass known first = let number = number_is n (suc k) pass known in absurd (omega arith)
 
+-- a pass that did nothing remembers a page of which it has seen nothing
+remembers_none : (u : Setup) (mutators : ℕ) (pass : Pass) (p : ℕ) → on p (did pass) ≡ [] → Remembers u mutators pass p []
+remembers_none u mutators pass p none = record {
+  own = sym none;
+  strangers = λ first k le. refl;
+  rises = (0, omega arith);
+  lawful = tt;
+  references = λ i e at. absurd (some-ne-none e (sym at));
+}
+
 -- the passes are new
 pub all_new : (steps : Steps) (n : ℕ) (passes : List Pass) → AreBegun steps n passes → AreNew steps n passes
 all_new steps n passes h = record {
   count = h.count;
   new = λ k pass e. let one = h.begun k pass e in let below = at_below passes k pass e in let number = number_is n k pass one.known in record {
-    works = record { of = one.of; numbered = omega (arith, h.count); makes = makes_all n k pass one.known };
+    works = record {
+      of = one.of;
+      numbered = omega (arith, h.count);
+      makes = makes_all n k pass one.known;
+      remembers = λ p. subst (Remembers (about steps) n pass p) (sym (ap (λ (x : Known). look [] x.seen p) one.known))
+          (remembers_none (about steps) n pass p (ap (λ (x : Known). on p x.did) one.known));
+    };
     rests = one.rests;
     number = number;
     seen = λ p. ap (λ (x : Known). look [] x.seen p) one.known;
     did = ap (λ (x : Known). x.did) one.known;
     builds = ap (λ (x : Known). x.told) one.known;
+    built = λ p more. absurd (omega (arith, more, ap (λ (x : Known). times p x.built) one.known));
+    starts = λ p offset known. absurd (some-ne-none (address p offset) (sym (sym (ap (λ (x : Known). get_elem? x.starts known.seen.0) one.known) ∙ known.seen.1)));
   };
 }

@@ -85,6 +85,7 @@ module _ (u : Setup) (slots : List Slot) (row : List Pass) (numbers : (k : ℕ) 
     rises = all.rises;
     begins = all.begins;
     once = all.once;
+    seen_built = all.seen;
   }
 
   -- what the passes knew gives what is known at the end

@@ -2,20 +2,18 @@
 use Rattle.std.proofs.Common.{◌≡◌, ℕ, [], sym, inl, inr, ⊎_elim, arith, subst}
 use mathlib.Core.Option.{some}
 use lib.ListN.{get_elem?}
-use Rattle.heap_layout.specs.declared.kind.Kind.TheVariants.{Reference}
+use Rattle.heap_layout.specs.declared.kind.Kind.TheVariants.{Header}
 use Rattle.comp_journal.specs.declared.entry.Entry.{Entry}
 use Rattle.cell_steps.specs.Setup.{Setup}
-use Rattle.cell_steps.specs.Lawful.{FitsEntry, IsLawful}
 use Rattle.cell_steps.specs.Starts.{IsPlace, KnowsFresh, MayRefer}
 use Rattle.cell_steps.specs.Knowing.{KnowsAsBefore, WritesEntry}
 use Rattle.cell_steps.specs.declared.view.View.{View}
 use Rattle.cell_steps.specs.declared.pass.Pass.{Pass}
 use Rattle.cell_steps.specs.declared.steps.Steps.{Steps}
 use Rattle.cell_steps.specs.Passes as passes
-use Rattle.cell_steps.specs.Passes.{about, pages_of, page_with, seen, view_of, Holds}
-use Rattle.page_cells.specs.Cells.{HasTaken}
+use Rattle.cell_steps.specs.Passes.{page_with, seen, view_of, Holds}
+use Rattle.page_cells.specs.Cells.{HasTaken, KnowsObjects}
 use Rattle.page_cells.specs.declared.taking.Taken.{Taken}
-use Rattle.page_cells.proofs.Heads.{lawful_more}
 use Rattle.page_cells.proofs.Rows.{at_longer}
 
 -- what the pass might refer to, it may still
@@ -26,35 +24,29 @@ refers_more v w a same starts h = ⊎_elim
     h
 
 -- the pass still holds the page
-pub holds_still : (table : Steps) (old new : Pass) (taken : Taken) → (view_of new).about ≡ (view_of old).about → (Holds taken.number old → Holds taken.number new)
-    → KnowsAsBefore (view_of old) (view_of new) → HasTaken table old taken → HasTaken table new taken
-holds_still table old new taken same holds k h =
+pub holds_still : (table : Steps) (old new : Pass) (taken : Taken) → (Holds taken.number old → Holds taken.number new) → KnowsAsBefore (view_of old) (view_of new) → HasTaken table old taken → HasTaken table new taken
+holds_still table old new taken holds k h =
     let journal : seen new taken.number ≡ seen old taken.number = k.seen taken.number in
     record {
       inside = h.inside;
       holds = holds h.holds;
       page = subst (λ l. taken.page.page ≡ page_with table taken.number l) (sym journal) h.page;
-      lawful = subst (IsLawful (about table) taken.number) (sym journal) h.lawful;
-      references = λ i e at kind. refers_more (view_of old) (view_of new) e.value same k.grows.starts (h.references i e (subst (λ l. get_elem? l i ≡ some e) journal at) kind);
+      starts = λ i e at kind. k.grows.starts taken.number e.offset (h.starts i e (subst (λ l. get_elem? l i ≡ some e) journal at) kind);
     }
 
--- the pass holds the page with one entry more
-pub holds_more : (table : Steps) (old new : Pass) (before after : Taken) (e : Entry) → HasTaken table old before → (view_of new).about ≡ (view_of old).about
-    → after.number ≡ before.number → Holds before.number new → after.page.page ≡ page_with table before.number (seen new before.number)
-    → WritesEntry before.number e (view_of old) (view_of new) → FitsEntry (about table) before.number (seen old before.number) e → (e.kind ≡ Reference → passes.MayRefer old e.value)
-    → HasTaken table new after
-holds_more table old new before after e h same number holds page w fits leads =
+-- the pass holds the page with one entry more, and knows the start where that is a header
+pub holds_more : (table : Steps) (old new : Pass) (before after : Taken) (e : Entry) → HasTaken table old before → after.number ≡ before.number → Holds before.number new
+    → after.page.page ≡ page_with table before.number (seen new before.number) → WritesEntry before.number e (view_of old) (view_of new)
+    → (e.kind ≡ Header → passes.KnowsFresh new before.number e.offset) → HasTaken table new after
+holds_more table old new before after e h number holds page w start =
     let p = before.number in
-    let lawful = subst (IsLawful (about table) p) (sym w.here) (lawful_more (about table) p (seen old p) [] e h.lawful fits) in
-    let references : (i : ℕ) (x : Entry) → get_elem? (seen new p) i ≡ some x → x.kind ≡ Reference → passes.MayRefer new x.value =
-    λ i x at kind. refers_more (view_of old) (view_of new) x.value same w.grows.starts (⊎_elim
-    (λ before_. h.references i x before_ kind)
-    (λ last. subst (λ (y : Entry). y.kind ≡ Reference → passes.MayRefer old y.value) last.1 leads kind)
-    (at_longer (seen old p) e x i (subst (λ l. get_elem? l i ≡ some x) w.here at))) in
+    let starts : KnowsObjects new p (seen new p) = λ i x at kind. ⊎_elim
+        (λ was. w.grows.starts p x.offset (h.starts i x was kind))
+        (λ last. subst (λ (y : Entry). y.kind ≡ Header → passes.KnowsFresh new p y.offset) last.1 start kind)
+        (at_longer (seen old p) e x i (subst (λ l. get_elem? l i ≡ some x) w.here at)) in
     record {
       inside = omega (arith, number, h.inside);
       holds = subst (λ n. Holds n new) (sym number) holds;
       page = subst (λ n. after.page.page ≡ page_with table n (seen new n)) (sym number) page;
-      lawful = subst (λ n. IsLawful (about table) n (seen new n)) (sym number) lawful;
-      references = subst (λ n. (i : ℕ) (x : Entry) → get_elem? (seen new n) i ≡ some x → x.kind ≡ Reference → passes.MayRefer new x.value) (sym number) references;
+      starts = subst (λ n. KnowsObjects new n (seen new n)) (sym number) starts;
     }

@@ -8,17 +8,19 @@ use mathlib.Core.Option as maybe
 use mathlib.Core.Logic.{dite}
 use native.Mathlib.Decide.{ℕ_discrete}
 use lib.ListN.{get_elem?}
-use Rattle.heap_layout.specs.Heap.{Object, live}
+use Rattle.heap_layout.specs.Heap.{live}
 use Rattle.heap_layout.specs.declared.kind.Kind.{Kind}
 use Rattle.heap_layout.specs.declared.kind.Kind.TheVariants.{Header, Reference, Data}
 use Rattle.page_plan.specs.Sliding as sliding
-use Rattle.page_plan.specs.Sliding.{slid_words, kind, IsPartFrom, LeadsToPlace, ReferencesLead}
+use Rattle.page_plan.specs.Sliding.{LeadsToPlace}
 use Rattle.comp_journal.specs.Journal.{written, replayed}
 use Rattle.comp_journal.specs.declared.entry.Entry.{Entry}
 use Rattle.cell_steps.specs.Setup.{Setup, base_of}
 use Rattle.cell_steps.specs.Lawful.{kind_at, Fits, LawfulAfter, IsLawful, IsField}
 use Rattle.cell_steps.specs.Starts.{MayRefer}
 use Rattle.cell_steps.specs.declared.view.View.{View}
+use Rattle.page_plan.proofs.Pages.{page-length, page-at}
+use Rattle.page_plan.proofs.References.{lead-slid}
 use Rattle.page_cells.proofs.Heads.{kind_stays, first_kind, kinds_differ, one_on}
 use Rattle.page_cells.proofs.Fields.{compacted_kind, fresh_base, zeros_long}
 
@@ -56,37 +58,38 @@ from_entries u p o (e ∷ es) before words h long lt at =
     ⊎_elim (λ word. inr (zero, e, refl, reference, word ∙ get_or-set_at words e.offset o e.value 0 same inside)) (λ w. inr (later e es _ w)) rest)
     (λ other. ⊎_elim (λ word. inl (word ∙ get_or-set_other words e.offset o e.value 0 other)) (λ w. inr (later e es _ w)) rest)
 
--- what is known of the slid words
-pub record AreLaws (objects : List Object) : Type 0 where
-  pub long : (p : ℕ) → length (sliding.page objects p) ≡ 64
-  pub parts : (p : ℕ) → IsPartFrom (slid_words objects) (64 * p) (sliding.page objects p)
-  pub lead : ReferencesLead objects
-
 -- the base of a compacted page
 slid_base : (u : Setup) (p : ℕ) → p < u.compacted → base_of u p ≡ sliding.page (live u.heap) p
 slid_base u p lt = let z : ltb p u.compacted ≡ true = grind (arith, nat_tests) in ap (λ b. cond b (sliding.page (live u.heap) p) (replicate 64 0)) z
 
-base_long : (u : Setup) (p : ℕ) → AreLaws (live u.heap) → length (base_of u p) ≡ 64
-base_long u p laws = ⊎_elim (λ (lt : p < u.compacted). ap length (slid_base u p lt) ∙ laws.long p) (λ (le : u.compacted ≤ p). ap length (fresh_base u p le) ∙ zeros_long) (cases_lt p u.compacted)
+-- a base has 64 words
+pub base_long : (u : Setup) (p : ℕ) → length (base_of u p) ≡ 64
+base_long u p = ⊎_elim
+    (λ (lt : p < u.compacted). ap length (slid_base u p lt) ∙ page-length (live u.heap) p)
+    (λ (le : u.compacted ≤ p). ap length (fresh_base u p le) ∙ zeros_long)
+    (cases_lt p u.compacted)
 
 -- a reference of the base is null, or leads to a slid object
-base_leads : (u : Setup) (p o : ℕ) (journal : List Entry) → AreLaws (live u.heap) → IsField u p journal Reference o → LeadsToPlace (live u.heap) (get_or (base_of u p) o 0)
-base_leads u p o journal laws field = ⊎_elim
+base_leads : (u : Setup) (p o : ℕ) (journal : List Entry) → IsField u p journal Reference o → LeadsToPlace (live u.heap) (get_or (base_of u p) o 0)
+base_leads u p o journal field = ⊎_elim
     (λ (lt : p < u.compacted).
-    let word = ap (λ l. get_or l o 0) (slid_base u p lt) ∙ laws.parts p o field.inside in
-    subst (LeadsToPlace (live u.heap)) (sym word) (laws.lead (64 * p + o) (sym (compacted_kind u p journal o lt) ∙ field.kind_is)))
+    let word = ap (λ l. get_or l o 0) (slid_base u p lt) ∙ page-at (live u.heap) p o field.inside in
+    subst (LeadsToPlace (live u.heap)) (sym word) (lead-slid (live u.heap) (live u.heap) (64 * p + o) (sym (compacted_kind u p journal o lt) ∙ field.kind_is)))
     (λ (le : u.compacted ≤ p). inl (ap (λ l. get_or l o 0) (fresh_base u p le) ∙ get_or-replicate 64 o 0 0 field.inside))
     (cases_lt p u.compacted)
 
--- a reference of the page is null, or leads to a start that the pass knows
-pub reference_leads : (u : Setup) (v : View) (p o : ℕ) (journal : List Entry) (word : ℕ) → v.about ≡ u → AreLaws (live u.heap) → IsLawful u p journal
-    → ((i : ℕ) (e : Entry) → get_elem? journal i ≡ maybe.some e → e.kind ≡ Reference → MayRefer v e.value) → IsField u p journal Reference o → word ≡ get_or (replayed (base_of u p) journal) o 0
-    → MayRefer v word
+-- what holds of null, of the places of slid objects and of each reference that was written holds of each reference of the page
+pub each_reference : (u : Setup) (p o : ℕ) (journal : List Entry) (P : ℕ → Type 0) → IsLawful u p journal → ((a : ℕ) → LeadsToPlace (live u.heap) a → P a)
+    → ((i : ℕ) (e : Entry) → get_elem? journal i ≡ maybe.some e → e.kind ≡ Reference → P e.value) → IsField u p journal Reference o → P (get_or (replayed (base_of u p) journal) o 0)
 unfolding WasWritten
-reference_leads u v p o journal word about laws lawful references field is =
-    subst (MayRefer v) (sym is)
-    (⊎_elim
-    (λ same. subst (MayRefer v) (sym same)
-    (⊎_elim (λ null. inl null) (λ place. inr (inl (subst (λ (w : Setup). sliding.IsPlace (live w.heap) (get_or (base_of u p) o 0)) (sym about) place))) (base_leads u p o journal laws field)))
-    (λ w. subst (MayRefer v) (sym w.4) (references w.0 w.1 w.2 w.3))
-    (from_entries u p o journal [] (base_of u p) lawful (base_long u p laws) field.inside field.kind_is))
+each_reference u p o journal P lawful places written field = ⊎_elim
+    (λ same. subst P (sym same) (places (get_or (base_of u p) o 0) (base_leads u p o journal field)))
+    (λ w. subst P (sym w.4) (written w.0 w.1 w.2 w.3))
+    (from_entries u p o journal [] (base_of u p) lawful (base_long u p) field.inside field.kind_is)
+
+-- a reference of the page is null, or leads to a start that the pass knows
+pub reference_leads : (u : Setup) (v : View) (p o : ℕ) (journal : List Entry) → v.about ≡ u → IsLawful u p journal
+    → ((i : ℕ) (e : Entry) → get_elem? journal i ≡ maybe.some e → e.kind ≡ Reference → MayRefer v e.value) → IsField u p journal Reference o
+    → MayRefer v (get_or (replayed (base_of u p) journal) o 0)
+reference_leads u v p o journal about lawful = each_reference u p o journal (MayRefer v) lawful
+    (λ a leads. ⊎_elim (λ null. inl null) (λ place. inr (inl (subst (λ (w : Setup). sliding.IsPlace (live w.heap) a) (sym about) place))) leads)

@@ -2,7 +2,11 @@ mod Fields
 pub mod Growing
 mod Heads
 mod Held
+mod Remembering
 mod Leading
+mod LastWord
+mod OneHeader
+mod LonePass
 mod Places
 mod Zeros
 pub mod Begun

@@ -11,7 +11,7 @@ use Rattle.cell_steps.specs.Lists.{times, only, below, stamps, by, on, StartsWit
 use Rattle.cell_steps.specs.History.{entry_of}
 use Rattle.cell_steps.specs.View.{Slot}
 use Rattle.cell_steps.specs.Closing.{journal_at, page_at, HasBase, LeadsToStart}
-use Rattle.cell_steps.specs.Passes.{number_of, builds_of, seen, did, Rests}
+use Rattle.cell_steps.specs.Passes.{number_of, builds_of, seen, did, HasSeenBuilt, Rests}
 use Rattle.cell_steps.specs.declared.pass.Pass.{Pass}
 use Rattle.cell_steps.specs.declared.steps.Steps.{Steps}
 use Rattle.page_plan.specs.declared.builder.Builder.{Ghosts}
@@ -81,6 +81,8 @@ pub record Ends (slots : List Slot) (pass : Pass) : Type 0 where
   pub begins : (p : ℕ) → StartsWith (journal_at slots p) (seen pass p)
   -- it built no page twice
   pub once : (p : ℕ) → times p (builds_of pass) ≤ 1
+  -- a page that it has seen built is there
+  pub seen_built : (p : ℕ) → HasSeenBuilt pass p → IsSome (page_at slots p)
 
 -- The pages at the end, for these passes in the order of their numbers.
 pub record IsEnd (u : Setup) (row : List Pass) (slots : List Slot) : Type 0 where

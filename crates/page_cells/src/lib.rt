@@ -5,6 +5,7 @@ mod appending;
 mod building;
 pub mod cells;
 pub mod closing;
+pub mod laws;
 mod opening;
 pub mod refusal;
 mod starting;

@@ -8,12 +8,12 @@ ghost use Rattle.page_cells.specs.Calls.{Grows, MayHaveBuilt, WroteNothing};
 ghost use Rattle.page_cells.specs.declared.refusal.CellRefusal.TheVariants.{Busy, NoSuchPage, OutOfMemory, PassMissing};
 
 use crate::cells::Cells;
+use crate::laws;
 use crate::refusal::CellRefusal;
 use crate::taking::Taken;
 use cell_steps::pass::Pass;
 use comp_journal::entry::Entry;
 use page_plan::builder::Builder;
-use page_plan::laws;
 use std::alloc::Global;
 
 impl Taken {
@@ -45,10 +45,7 @@ impl<B: Builder> Cells<B> {
         ensures alone { mutators_of self.now ≡ 1 → (q : ℕ) → IsErrOf result (Busy q) → ⊥ }
         ensures taken { IfOk result (λ taken. (page_number taken ≡ p) × Has self.now pass.new taken × HasSeenBuilt pass.new p) }
         ensures journal { IfOk result (λ taken. StartsWith (journal_of taken) (seen pass.old p)) }
-        ensures lawful { IfOk result (λ taken. IsLawful (setup_of self.now) p (journal_of taken)) }
         ensures heads { IfOk result (λ taken. (offset : ℕ) → KnowsFresh pass.old p offset → HasHead (journal_of taken) offset) }
-        ensures own { IfOk result (λ taken. by (number_of pass.old) (journal_of taken) ≡ on p (did pass.old)) }
-        ensures strangers { IfOk result (λ taken. number_of pass.old ≡ 0 → (k : ℕ) → mutators_of self.now ≤ k → by k (journal_of taken) ≡ []) }
         ensures others { (q : ℕ) → (q ≡ p → ⊥) → seen pass.new q ≡ seen pass.old q }
         ensures builds { MayHaveBuilt p pass.old pass.new }
         ensures told { (builds_of pass.new ≡ builds_of pass.old) ⊎ HasSeenBuilt pass.new p }
@@ -106,10 +103,7 @@ impl<B: Builder> Cells<B> {
         ensures alone { mutators_of self.now ≡ 1 → OnErr result ⊥ }
         ensures taken { IfOk result (λ taken. (page_number taken ≡ p) × Has self.now pass.new taken × HasSeenBuilt pass.new p) }
         ensures journal { IfOk result (λ taken. StartsWith (journal_of taken) (seen pass.old p)) }
-        ensures lawful { IfOk result (λ taken. IsLawful (setup_of self.now) p (journal_of taken)) }
         ensures heads { IfOk result (λ taken. (offset : ℕ) → KnowsFresh pass.old p offset → HasHead (journal_of taken) offset) }
-        ensures own { IfOk result (λ taken. by (number_of pass.old) (journal_of taken) ≡ on p (did pass.old)) }
-        ensures strangers { IfOk result (λ taken. number_of pass.old ≡ 0 → (k : ℕ) → mutators_of self.now ≤ k → by k (journal_of taken) ≡ []) }
         ensures others { (q : ℕ) → (q ≡ p → ⊥) → seen pass.new q ≡ seen pass.old q }
         ensures builds { builds_of pass.new ≡ builds_of pass.old }
         ensures refused { OnErr result (Rests pass.new × WroteNothing pass.old pass.new) }
@@ -139,8 +133,7 @@ impl<B: Builder> Cells<B> {
         ensures leads { MayRefer _pass.new result }
         ensures same { _pass.new ≡ _pass.old }
     {
-        laws::references_lead(self.builder.plan());
-        laws::pages_are_parts();
+        laws::seen_references_lead(self);
         self.held_word(_pass, taken, offset)
     }
 

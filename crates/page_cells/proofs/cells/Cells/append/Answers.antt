@@ -12,13 +12,7 @@ use Rattle.page_cells.proofs.cells.Cells.append.Goals as goal
 pub returns-clause-of : goal.returns-clause-of
 returns-clause-of g c =
     let h = c.write_reserved.ensures in
-    let table = c.args.self.now.steps in
-    let old = c.args.pass.now in
-    let before = c.args.taken.now in
-    let journal = ap (λ (page : Journaled). page.journal) c.requires.has.page in
-    let fits = subst (λ l. Fits (about table) before.number l c.args.kind (number_of old) c.args.offset c.args.value) journal c.requires.fits in
-    let written = subst (λ writer. Fits (about table) before.number (seen old before.number) c.args.kind writer c.args.offset c.args.value) (sym c.number.ensures) fits in
-    (h.of.0, holds_more table old c.write_reserved.new.pass before c.write_reserved.new.taken _ c.requires.has (h.of.0.of.about ∙ sym c.requires.of.of.about) h.page.0 h.holds h.page.1 h.writes written c.requires.leads)
+    (h.of.0, holds_more c.args.self.now.steps c.args.pass.now c.write_reserved.new.pass c.args.taken.now c.write_reserved.new.taken _ c.requires.has h.page.0 h.holds h.page.1 h.writes h.start)
 
 pub returns-clause-grows : goal.returns-clause-grows
 returns-clause-grows g c =
@@ -40,4 +34,4 @@ returns-clause-zeros g c =
     let written = subst (λ writer. Fits u p before c.args.kind writer c.args.offset c.args.value) (sym c.number.ensures) fits in
     let words = ap (λ (page : Journaled). replayed page.base page.journal) h.page.1 ∙ ap (replayed (base_of u p)) h.writes.here in
     λ head o lt below.
-    ap (λ (l : List ℕ). get_or l o 0) words ∙ new_zeros u p before _ o has.lawful (next_of u p before c.args.kind c.number.result c.args.offset c.args.value head written) lt below
+    ap (λ (l : List ℕ). get_or l o 0) words ∙ new_zeros u p before _ o (c.requires.of.remembers p).lawful (next_of u p before c.args.kind c.number.result c.args.offset c.args.value head written) lt below

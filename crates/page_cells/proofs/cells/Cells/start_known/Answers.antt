@@ -4,6 +4,8 @@ use Rattle.cell_steps.specs.declared.view.View.{View}
 use Rattle.page_cells.proofs.Growing.{grows_knowing}
 use Rattle.page_cells.proofs.Held.{holds_still}
 use Rattle.page_cells.proofs.Places.{knows_place}
+use Rattle.page_cells.specs.Cells.{mutators_of}
+use Rattle.page_cells.proofs.Remembering.{works_knowing}
 use Rattle.page_cells.proofs.cells.Cells.start_known.Goals as goal
 
 pub returns-then-is_some-clause-known : goal.returns-then-is_some-clause-known
@@ -18,4 +20,9 @@ returns-clause-grows g c =
 pub returns-clause-has : goal.returns-clause-has
 returns-clause-has g c =
     let h = c.load_starts-bits.ensures in
-    λ taken. holds_still c.args.self.now.steps c.args.pass.now c.load_starts-bits.new.pass taken (h.of.0.about ∙ sym c.requires.of.about) (λ holds. record { at = ap (λ (v : View). v.at) h.view ∙ holds.at; mode = ap (λ (v : View). v.mode) h.view ∙ holds.mode; owes = ap (λ (v : View). v.owes) h.view ∙ holds.owes; carried = h.carried ∙ holds.carried }) h.knows
+    λ taken. holds_still c.args.self.now.steps c.args.pass.now c.load_starts-bits.new.pass taken (λ holds. record { at = ap (λ (v : View). v.at) h.view ∙ holds.at; mode = ap (λ (v : View). v.mode) h.view ∙ holds.mode; owes = ap (λ (v : View). v.owes) h.view ∙ holds.owes; carried = h.carried ∙ holds.carried }) h.knows
+
+pub returns-clause-of : goal.returns-clause-of
+returns-clause-of g c =
+    let h = c.load_starts-bits.ensures in
+    works_knowing c.args.self.now.steps (mutators_of c.args.self.now) c.args.pass.now c.load_starts-bits.new.pass c.requires h.of.0 h.of.1.0 h.knows
