@@ -1,0 +1,10 @@
+use Rattle.std.proofs.Common.{rules, sym, subst}
+use Rattle.cell_steps.specs.Passes.{MayRefer}
+use Rattle.comp_mutator.specs.Mutators.{pass_of}
+use Rattle.contract_rows.proofs.copied.store_reference.Goals as goal
+
+pub returns : goal.returns
+returns g c =
+    let leads : MayRefer (pass_of c.args.m.now) c.get-value.result =
+    subst (MayRefer (pass_of c.args.m.now)) (sym c.get-value.ensures.word) (c.requires.copied.references c.args.offset c.requires.reference) in
+    record { stored = search (rules, leads) }

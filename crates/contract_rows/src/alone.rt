@@ -1,0 +1,70 @@
+//! What a mutator that is alone reads of what it wrote and made.
+ghost use Rattle.std.specs.Prelude.{◌≡◌, IfOk};
+ghost use Rattle.comp_mutator.specs.Mutators.{setup_of, IsMutatorOf};
+
+use comp_mutator::laws;
+use comp_mutator::mutator::Mutator;
+use comp_mutator::refusal::Refusal;
+use comp_mutator::space::Space;
+use page_cells::laws as pages;
+use page_plan::builder::Builder;
+use std::alloc::Global;
+
+/// Writes a value into a data field and reads the field: where both are done, the word is the value.
+pub fn write_and_read<B: Builder>(
+    alloc: Global,
+    space: &Space<B>,
+    m: &mut Mutator,
+    object: u64,
+    field: u16,
+    value: u64,
+) -> (Result<u64, Refusal>, Result<u64, Refusal>)
+    requires of { IsMutatorOf space.now m.old }
+    requires alone { (setup_of space.now).mutators ≡ 1 }
+    ensures read { IfOk result.0 (λ stamp. IfOk result.1 (λ word. word ≡ value)) }
+{
+    let stamp = space.try_write_data(alloc, m, object, field, value);
+    let word = space.try_read_data(alloc, m, object, field);
+    laws::alone_sees_its_own(space);
+    laws::places_are_one(space);
+    pages::last_written();
+    (stamp, word)
+}
+
+/// Writes 7 into a data field and reads the field: where both are done, the word is 7.
+pub fn write_seven_and_read<B: Builder>(
+    alloc: Global,
+    space: &Space<B>,
+    m: &mut Mutator,
+    object: u64,
+    field: u16,
+) -> Result<u64, Refusal>
+    requires of { IsMutatorOf space.now m.old }
+    requires alone { (setup_of space.now).mutators ≡ 1 }
+    ensures seven { IfOk result (λ word. word ≡ 7) }
+{
+    let (stamp, word) = write_and_read(alloc, space, m, object, field, 7);
+    stamp?;
+    word
+}
+
+/// Makes an object of one reference and one data word and reads both fields: where they are read, they are null and 0.
+pub fn make_and_read<B: Builder>(
+    alloc: Global,
+    space: &Space<B>,
+    m: &mut Mutator,
+    tag: u32,
+) -> Result<(Result<u64, Refusal>, Result<u64, Refusal>), Refusal>
+    requires of { IsMutatorOf space.now m.old }
+    requires alone { (setup_of space.now).mutators ≡ 1 }
+    ensures null { IfOk result (λ words. IfOk words.0 (λ reference. reference ≡ 0)) }
+    ensures zero { IfOk result (λ words. IfOk words.1 (λ word. word ≡ 0)) }
+{
+    let object = space.try_alloc(alloc, m, 1, 1, tag)?;
+    let reference = space.try_read_ref(alloc, m, object, 0);
+    let data = space.try_read_data(alloc, m, object, 0);
+    laws::alone_sees_its_own(space);
+    laws::places_are_one(space);
+    laws::made_objects_start(space);
+    Ok((reference, data))
+}
