@@ -139,7 +139,7 @@ fn builds_a_page_once(rt: HostRuntime) -> Result<(), Fail> {
         assert_eq!(rt; other, Ok(true));
         (one, second.builds())
     };
-    assert_eq!(rt; builds.first().copied(), Some(0));
+    assert_eq!(rt; builds, [0].as_slice());
     assert!(rt;
         lost == Ok(false) || lost == Err(CellRefusal::Busy(0)),
         "{lost:?}"

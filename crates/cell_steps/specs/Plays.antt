@@ -86,7 +86,7 @@ stamped e stamp = record e { stamp = stamp }
 abbrev pub FindsLast : View → ℕ → ℕ → Type 0
 FindsLast v p n = v.known.next ≡ 2 → n ≡ look 0 v.last p
 
--- A load. A page that the pass has seen built, or on which it knows a start, is home or held, and the pass's own number is found only where it is.
+-- A load. A page that the pass has seen built, or on which it knows a fresh start, is home or held, and the pass's own number is found only where it is.
 -- The pass that makes the others finds no number that it has not given.
 abbrev pub loads : Play
 loads st m r n =
@@ -108,7 +108,7 @@ pub record Tells (v : View) (p : ℕ) (journal : List Entry) : Type 0 where
   pub lawful : IsLawful v.about p journal
   -- its stamps rise
   pub rises : (n : ℕ) × Rises 0 journal n
-  -- the starts on the page that the pass knew have their headers in it
+  -- the fresh starts on the page that the pass knew have their headers in it
   pub heads : (offset : ℕ) → KnowsFresh v p offset → HasHead journal offset
   -- the starts that it names are starts that the pass then knows
   pub fresh : (i : ℕ) (e : Entry) → get_elem? journal i ≡ some e → e.kind ≡ Header → KnowsFresh (seeing v p journal) p e.offset

@@ -8,4 +8,6 @@ mod mutators;
 #[cfg(test)]
 mod plain_objects;
 #[cfg(test)]
+mod refusals;
+#[cfg(test)]
 mod threads;

@@ -37,7 +37,8 @@ fn all_passes(
 }
 
 impl<B: Builder> Cells<B> {
-    /// The cells of all pages of the builder's plan and of the fresh pages behind them, all of them empty, and their passes, in order.
+    /// The cells of all pages of the builder's plan and of the fresh pages behind them, and their passes, in order. No pass has built or seen a page,
+    /// or knows a fresh start.
     pub fn new(
         alloc: Global,
         builder: Arc<B>,

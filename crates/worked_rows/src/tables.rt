@@ -9,7 +9,7 @@ use mark_tables::tables::Tables;
 use page_plan::plan::Plan;
 use std::process::Abort;
 use std::test::Fail;
-use worked_heaps::heaps::{F, T, counting_heap, counting_object, empty, heap, planned, three};
+use worked_heaps::heaps::{F, T, counting_heap, counting_object, empty, heap, planned, seventeen_pages, three};
 
 // The tables of a heap say where each of these words goes, and which are live.
 fn expect_places(
@@ -91,6 +91,14 @@ const SLID_LAST: u64 = T + 40;
 
 // Addresses at which no object starts once the three objects of `step` have slid.
 const NO_STARTS: [u64; 7] = [0, F, T + 1, T + 39, T + 41, T + 81, u64::MAX];
+
+#[test]
+fn tells_the_object_in_which_a_page_begins(rt: HostRuntime) -> Result<(), Fail> {
+    let plan = planned(rt.alloc(), seventeen_pages(rt.alloc())?)?;
+    expect_counts(&rt, &plan, 1_025, 17);
+    expect_first_object(&rt, &plan, 16, Some(1));
+    Ok(())
+}
 
 #[test]
 fn tells_first_objects(rt: HostRuntime) -> Result<(), Fail> {

@@ -1,0 +1,52 @@
+//! The refusals of journals, cells and mutators as they are printed.
+use comp_journal::refusal::JournalRefusal;
+use comp_mutator::refusal::{FlipFault, Refusal};
+use page_cells::refusal::CellRefusal;
+use std::test::Fail;
+
+#[test]
+fn prints_refusals_of_journals(rt: HostRuntime) -> Result<(), Fail> {
+    for (refusal, text) in [
+        (JournalRefusal::JournalFull, "J1 JournalFull"),
+        (JournalRefusal::OutOfMemory, "J2 OutOfMemory"),
+    ] {
+        assert_eq!(rt; refusal.to_string(rt.alloc())?.as_str(), text);
+    }
+    Ok(())
+}
+
+#[test]
+fn prints_refusals_of_cells(rt: HostRuntime) -> Result<(), Fail> {
+    for (refusal, text) in [
+        (CellRefusal::Busy(3), "C1 Busy(3)"),
+        (CellRefusal::NoSuchPage, "C2 NoSuchPage"),
+        (CellRefusal::OutOfMemory, "C3 OutOfMemory"),
+        (CellRefusal::PassMissing(1), "C4 PassMissing(1)"),
+    ] {
+        assert_eq!(rt; refusal.to_string(rt.alloc())?.as_str(), text);
+    }
+    Ok(())
+}
+
+#[test]
+fn prints_refusals_of_mutators(rt: HostRuntime) -> Result<(), Fail> {
+    for (refusal, text) in [
+        (Refusal::Null, "M1 Null"),
+        (Refusal::NotAStart(8_589_934_593), "M2 NotAStart(8589934593)"),
+        (Refusal::NoSuchField, "M3 NoSuchField"),
+        (Refusal::ObjectTooLarge, "M4 ObjectTooLarge"),
+        (Refusal::OutOfPages, "M5 OutOfPages"),
+        (Refusal::Busy(3), "M6 Busy(3)"),
+        (Refusal::JournalFull(0), "M7 JournalFull(0)"),
+        (Refusal::OutOfMemory, "M8 OutOfMemory"),
+    ] {
+        assert_eq!(rt; refusal.to_string(rt.alloc())?.as_str(), text);
+    }
+    for (fault, text) in [
+        (FlipFault::OutOfMemory, "M8 OutOfMemory"),
+        (FlipFault::BadCounts, "M10 BadCounts"),
+    ] {
+        assert_eq!(rt; fault.to_string(rt.alloc())?.as_str(), text);
+    }
+    Ok(())
+}
