@@ -22,13 +22,14 @@ use crate::{allocating, reading, writing};
 use heap_layout::header::Header;
 use page_plan::builder::Builder;
 use std::alloc::Global;
+use std::sync::ledger::Ledger as Named;
 
-impl<B: Builder> Space<B> {
+impl<L: Named, B: Builder> Space<L, B> {
     /// Reads a reference field: null, or a start that the mutator then knows.
     pub fn try_read_ref(
         &self,
         alloc: Global,
-        m: &mut Mutator,
+        m: &mut Mutator<L>,
         object: u64,
         field: u16,
     ) -> Result<u64, Refusal>
@@ -42,7 +43,7 @@ impl<B: Builder> Space<B> {
         ensures builds { OnOk result (MayBuildTouched (setup_of self.now) (pass_of m.old) (pass_of m.new) kinds.Reference object field) }
         ensures refused { IfErr result (FieldRefused (setup_of self.now) (pass_of m.old) (pass_of m.new) kinds.Reference object field) }
     {
-        let Mutator { hand } = m;
+        let Mutator { hand, share: _ } = m;
         let Hand {
             pass,
             fills: _,
@@ -55,7 +56,7 @@ impl<B: Builder> Space<B> {
     pub fn try_read_data(
         &self,
         alloc: Global,
-        m: &mut Mutator,
+        m: &mut Mutator<L>,
         object: u64,
         field: u16,
     ) -> Result<u64, Refusal>
@@ -68,7 +69,7 @@ impl<B: Builder> Space<B> {
         ensures builds { OnOk result (MayBuildTouched (setup_of self.now) (pass_of m.old) (pass_of m.new) kinds.Data object field) }
         ensures refused { IfErr result (FieldRefused (setup_of self.now) (pass_of m.old) (pass_of m.new) kinds.Data object field) }
     {
-        let Mutator { hand } = m;
+        let Mutator { hand, share: _ } = m;
         let Hand {
             pass,
             fills: _,
@@ -81,7 +82,7 @@ impl<B: Builder> Space<B> {
     pub fn try_write_ref(
         &self,
         alloc: Global,
-        m: &mut Mutator,
+        m: &mut Mutator<L>,
         object: u64,
         field: u16,
         value: u64,
@@ -97,7 +98,7 @@ impl<B: Builder> Space<B> {
         ensures did { OnErr result (did (pass_of m.new) ≡ did (pass_of m.old)) }
         ensures refused { IfErr result (ReferenceRefused (setup_of self.now) (pass_of m.old) (pass_of m.new) kinds.Reference object field value) }
     {
-        let Mutator { hand } = m;
+        let Mutator { hand, share: _ } = m;
         let Hand {
             pass,
             fills: _,
@@ -110,7 +111,7 @@ impl<B: Builder> Space<B> {
     pub fn try_write_data(
         &self,
         alloc: Global,
-        m: &mut Mutator,
+        m: &mut Mutator<L>,
         object: u64,
         field: u16,
         value: u64,
@@ -125,7 +126,7 @@ impl<B: Builder> Space<B> {
         ensures did { OnErr result (did (pass_of m.new) ≡ did (pass_of m.old)) }
         ensures refused { IfErr result (DataRefused (setup_of self.now) (pass_of m.old) (pass_of m.new) kinds.Data object field) }
     {
-        let Mutator { hand } = m;
+        let Mutator { hand, share: _ } = m;
         let Hand {
             pass,
             fills: _,
@@ -139,7 +140,7 @@ impl<B: Builder> Space<B> {
     pub fn try_alloc(
         &self,
         alloc: Global,
-        m: &mut Mutator,
+        m: &mut Mutator<L>,
         refs: u16,
         data_words: u16,
         tag: u32,
@@ -153,7 +154,7 @@ impl<B: Builder> Space<B> {
         ensures did { OnErr result ((did (pass_of m.new) ≡ did (pass_of m.old)) × (unposted_of m.new ≡ unposted_of m.old)) }
         ensures refused { IfErr result (AllocationRefused (setup_of self.now) (pass_of m.old) (pass_of m.new) (size_of (header_word refs data_words tag))) }
     {
-        let Mutator { hand } = m;
+        let Mutator { hand, share: _ } = m;
         let Hand {
             pass,
             fills,
@@ -166,7 +167,7 @@ impl<B: Builder> Space<B> {
     }
 
     /// Builds page `p` if it is not built yet.
-    pub fn try_touch(&self, alloc: Global, m: &mut Mutator, p: u64) -> Result<Touched, Refusal>
+    pub fn try_touch(&self, alloc: Global, m: &mut Mutator<L>, p: u64) -> Result<Touched, Refusal>
         requires of { IsMutatorOf self.now m.old }
         requires inside { p < setups.pages (setup_of self.now) }
         ensures of { IsMutatorOf self.now m.new }
@@ -178,7 +179,7 @@ impl<B: Builder> Space<B> {
         ensures unbuilt { (q : ℕ) → IsErrOf result (Busy q) → HasSeenBuilt (pass_of m.new) p → ⊥ }
         ensures refused { IfErr result (λ refusal. (builds_of (pass_of m.new) ≡ builds_of (pass_of m.old)) × PageRefused p (pass_of m.old) (pass_of m.new) refusal) }
     {
-        let Mutator { hand } = m;
+        let Mutator { hand, share: _ } = m;
         let Hand {
             pass,
             fills: _,
@@ -188,7 +189,7 @@ impl<B: Builder> Space<B> {
     }
 
     /// Copies page `p`: its words, and every write into it.
-    pub fn page_copy(&self, alloc: Global, m: &mut Mutator, p: u64) -> Result<PageCopy, Refusal>
+    pub fn page_copy(&self, alloc: Global, m: &mut Mutator<L>, p: u64) -> Result<PageCopy, Refusal>
         requires of { IsMutatorOf self.now m.old }
         requires inside { p < setups.pages (setup_of self.now) }
         ensures of { IsMutatorOf self.now m.new }
@@ -199,7 +200,7 @@ impl<B: Builder> Space<B> {
         ensures builds { MayBuild p (pass_of m.old) (pass_of m.new) }
         ensures refused { IfErr result (CopyRefused p (pass_of m.old) (pass_of m.new)) }
     {
-        let Mutator { hand } = m;
+        let Mutator { hand, share: _ } = m;
         let Hand {
             pass,
             fills: _,

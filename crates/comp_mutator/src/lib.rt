@@ -4,6 +4,7 @@
 mod allocating;
 mod calls;
 mod finding;
+pub mod finishing;
 pub mod flipping;
 pub mod laws;
 pub mod mutator;
@@ -11,6 +12,7 @@ pub mod pages;
 mod places;
 mod reading;
 pub mod refusal;
+mod settling;
 pub mod space;
 mod taking;
 mod waiting;

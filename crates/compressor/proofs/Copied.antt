@@ -29,6 +29,6 @@ word_at u pass copy index h below none part =
     h.words (index % 64) inside ∙ ap (λ l. slice_index l (index % 64)) words ∙ part (index % 64) inside ∙ ap (slice_index (slid_words (live u.heap))) whole
 
 -- the first of the mutators of a new space is new
-pub first_is_new : (table : Steps) (made : List Mutator) (m : Mutator) → AreNew table 1 (map pass_of made) → m ≡ get_or made 0 m → IsNew table 1 0 (pass_of m)
+pub first_is_new : (table : Steps) {L : Type 0} (made : List (Mutator L)) (m : Mutator L) → AreNew table 1 (map pass_of made) → m ≡ get_or made 0 m → IsNew table 1 0 (pass_of m)
 first_is_new table [] m new e = absurd (omega (arith, new.count))
 first_is_new table (x ∷ xs) m new e = new.new 0 (pass_of m) (ap (λ a. some (pass_of a)) (sym e))

@@ -26,7 +26,9 @@ use page_plan::laws::pages_are_parts;
 use page_plan::plan::Plan;
 use std::alloc::Global;
 use std::io::{Read, Write};
+use std::marker::Brand;
 use std::sync::Arc;
+use std::sync::ledger::{Blank, Ledger};
 
 /// Prints the slid word at an index, of the heap whose image lies at a path.
 pub fn print_word<I: Images, O: Write>(
@@ -102,22 +104,43 @@ pub fn word_of(alloc: Global, plan: Plan, index: u64) -> Result<u64, Refusal>
         return Err(Refusal::NoSuchWord(index));
     }
     let plan = Arc::new(alloc, plan).map_err(|_| Refusal::OutOfMemory)?;
-    let (space, mut made) = flip_alone(alloc, plan)?;
-    Ok(copied_word(alloc, &space, &mut made[0], index)?)
+    Ok(flipped_word::<Brand>(alloc, Blank::new(1), plan, index)?)
+}
+
+// The slid word at an index, which lies on a page, by the one mutator of a flipped heap.
+fn flipped_word<L: Ledger>(
+    alloc: Global,
+    blank: Blank,
+    plan: Arc<Plan>,
+    index: u64,
+) -> Result<u64, mutators::Refusal>
+    requires name { blank.name ≡ L.name }
+    requires parts { blank.parts ≡ L.parts }
+    requires one { blank.parts ≡ 1 }
+    requires inside { index / 64 < pages (live plan.value) }
+    ensures word { IfOk result (λ word. word ≡ slice_index (slid_words (live plan.value)) index) }
+    ensures cause { IfErr result (λ refusal. refusal ≡ refusals.OutOfMemory) }
+{
+    let (space, mut made) = flip_alone::<L>(alloc, blank, plan)?;
+    copied_word(alloc, &space, &mut made[0], index)
 }
 
 // Flips the heap of a plan for one mutator, with no fresh page.
-fn flip_alone(
+fn flip_alone<L: Ledger>(
     alloc: Global,
+    blank: Blank,
     plan: Arc<Plan>,
-) -> Result<(Space<Plan>, Vec<Mutator>), mutators::Refusal>
+) -> Result<(Space<L, Plan>, Vec<Mutator<L>>), mutators::Refusal>
+    requires name { blank.name ≡ L.name }
+    requires parts { blank.parts ≡ L.parts }
+    requires one { blank.parts ≡ 1 }
     ensures heap { IfOk result (λ flipped. (setup_of flipped.0).heap ≡ plan.value) }
     ensures compacted { IfOk result (λ flipped. (setup_of flipped.0).compacted ≡ pages (live plan.value)) }
     ensures alone { IfOk result (λ flipped. (setup_of flipped.0).mutators ≡ 1) }
     ensures new { IfOk result (λ flipped. AreNew (steps_of (cells_of flipped.0)) 1 (map pass_of flipped.1.items)) }
     ensures cause { IfErr result (λ refusal. refusal ≡ refusals.OutOfMemory) }
 {
-    match flip(alloc, plan, 1, 0) {
+    match flip(alloc, blank, plan, 1, 0) {
         Ok(flipped) => Ok(flipped),
         Err(FlipFault::OutOfMemory) => Err(mutators::Refusal::OutOfMemory),
         Err(FlipFault::BadCounts) => unreachable!(),
@@ -125,10 +148,10 @@ fn flip_alone(
 }
 
 // The slid word at an index, by a mutator that is alone and did nothing yet: it copies the word's page.
-fn copied_word(
+fn copied_word<L: Ledger>(
     alloc: Global,
-    space: &Space<Plan>,
-    m: &mut Mutator,
+    space: &Space<L, Plan>,
+    m: &mut Mutator<L>,
     index: u64,
 ) -> Result<u64, mutators::Refusal>
     requires alone { (setup_of space.now).mutators ≡ 1 }

@@ -6,7 +6,7 @@ use Rattle.compressor.proofs.Copied.{word_at}
 use Rattle.compressor.proofs.word.copied_word.Goals as goal
 
 pub returns : goal.returns
-returns c =
+returns g c =
     let h = c.in_ok-copy.ensures in
     let new = c.requires.new in
     let entries = c.in_ok-copy.copy.journal.items in

@@ -7,7 +7,7 @@ use Rattle.cell_steps.specs.Closing.{Gathered}
 use Rattle.cell_steps.specs.declared.pass.Pass.{Pass}
 use Rattle.page_cells.specs.Ends.{AllRest, IsEnd, IsRow}
 use Rattle.page_cells.proofs.Ending.{all_of, end_of, same_told, take_front}
-use Rattle.page_cells.proofs.cells.Cells.gather.Goals as goal
+use Rattle.page_cells.proofs.cells.Cells.close_all.Goals as goal
 
 pub close-boxed-requires-clause-all : goal.close-boxed-requires-clause-all
 close-boxed-requires-clause-all g c =
