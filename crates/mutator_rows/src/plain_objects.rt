@@ -16,6 +16,16 @@ use worked_heaps::heaps::{F, T, heap, planned};
 // The address of the first fresh page, behind one compacted page.
 const FRESH: u64 = T + 64;
 
+// A call of a mutator.
+#[derive(Clone, Copy)]
+enum Call {
+    ReadRef { object: u64, field: u16 },
+    ReadData { object: u64, field: u16 },
+    WriteRef { object: u64, field: u16, value: u64 },
+    WriteData { object: u64, field: u16, value: u64 },
+    Alloc { references: u16, data_words: u16 },
+}
+
 // One object: where it starts, and what its fields hold.
 #[derive(Drop)]
 struct Object {
@@ -141,6 +151,33 @@ impl Objects {
         None
     }
 
+    // The call's answer by the plain objects.
+    fn answer(
+        &mut self,
+        alloc: Global,
+        first: usize,
+        call: Call,
+    ) -> Result<Result<u64, Refusal>, AllocError> {
+        match call {
+            Call::ReadRef { object, field } => Ok(self.read_ref(object, field)),
+            Call::ReadData { object, field } => Ok(self.read_data(object, field)),
+            Call::WriteRef {
+                object,
+                field,
+                value,
+            } => Ok(self.write_ref(object, field, value)),
+            Call::WriteData {
+                object,
+                field,
+                value,
+            } => Ok(self.write_data(object, field, value)),
+            Call::Alloc {
+                references,
+                data_words,
+            } => self.alloc(alloc, first, references, data_words),
+        }
+    }
+
     fn next_stamp(&mut self) -> u64 {
         let stamp = self.entries;
         self.entries = self.entries.wrapping_add(1);
@@ -165,10 +202,6 @@ impl Random {
 }
 
 impl Random {
-    fn kind_of_call(&mut self) -> u64 {
-        self.below(8)
-    }
-
     // Mostly an object's address, now and then another one.
     fn address(&mut self, objects: &Objects) -> u64 {
         let at = self.below(objects.objects.len() as u64) as usize;
@@ -187,6 +220,60 @@ impl Random {
     fn small(&mut self, bound: u64) -> u16 {
         (self.below(bound) % 65_536) as u16
     }
+
+    // A call, by the space and by the plain objects alike.
+    fn call(&mut self, objects: &Objects) -> Call {
+        let object = self.address(objects);
+        let field = self.small(3);
+        match self.below(8) {
+            0 | 1 => Call::ReadRef { object, field },
+            2 | 3 => Call::ReadData { object, field },
+            4 => Call::WriteRef {
+                object,
+                field,
+                value: self.address(objects),
+            },
+            5 | 6 => Call::WriteData {
+                object,
+                field,
+                value: self.address(objects),
+            },
+            _ => Call::Alloc {
+                references: self.small(4),
+                data_words: self.small(4),
+            },
+        }
+    }
+}
+
+// The call's answer by the space.
+fn answer<B: Builder>(
+    alloc: Global,
+    space: &Space<B>,
+    m: &mut Mutator,
+    call: Call,
+) -> Result<u64, Refusal>
+    requires of { IsMutatorOf space.now m.old }
+    ensures of { IsMutatorOf space.now m.new }
+{
+    match call {
+        Call::ReadRef { object, field } => read_ref(alloc, space, m, object, field),
+        Call::ReadData { object, field } => read_data(alloc, space, m, object, field),
+        Call::WriteRef {
+            object,
+            field,
+            value,
+        } => write_ref(alloc, space, m, object, field, value),
+        Call::WriteData {
+            object,
+            field,
+            value,
+        } => write_data(alloc, space, m, object, field, value),
+        Call::Alloc {
+            references,
+            data_words,
+        } => allocate(alloc, space, m, references, data_words, 9),
+    }
 }
 
 // One random call, by the space and by the plain objects.
@@ -201,34 +288,9 @@ fn play<B: Builder>(
     requires of { IsMutatorOf space.now m.old }
     ensures of { IsMutatorOf space.now m.new }
 {
-    let object = random.address(objects);
-    let field = random.small(3);
-    let value = random.address(objects);
-    let (answer, wanted) = match random.kind_of_call() {
-        0 | 1 => (
-            read_ref(alloc, space, m, object, field),
-            objects.read_ref(object, field),
-        ),
-        2 | 3 => (
-            read_data(alloc, space, m, object, field),
-            objects.read_data(object, field),
-        ),
-        4 => (
-            write_ref(alloc, space, m, object, field, value),
-            objects.write_ref(object, field, value),
-        ),
-        5 | 6 => (
-            write_data(alloc, space, m, object, field, value),
-            objects.write_data(object, field, value),
-        ),
-        _ => {
-            let (refs, data_words) = (random.small(4), random.small(4));
-            let answer = allocate(alloc, space, m, refs, data_words, 9);
-            let first = usize::from(m.number());
-            (answer, objects.alloc(alloc, first, refs, data_words)?)
-        }
-    };
-    assert_eq!(rt; answer, wanted);
+    let call = random.call(objects);
+    let wanted = objects.answer(alloc, usize::from(m.number()), call)?;
+    assert_eq!(rt; answer(alloc, space, m, call), wanted);
     Ok(())
 }
 

@@ -32,7 +32,10 @@ fn prints_refusals_of_cells(rt: HostRuntime) -> Result<(), Fail> {
 fn prints_refusals_of_mutators(rt: HostRuntime) -> Result<(), Fail> {
     for (refusal, text) in [
         (Refusal::Null, "M1 Null"),
-        (Refusal::NotAStart(8_589_934_593), "M2 NotAStart(8589934593)"),
+        (
+            Refusal::NotAStart(8_589_934_593),
+            "M2 NotAStart(8589934593)",
+        ),
         (Refusal::NoSuchField, "M3 NoSuchField"),
         (Refusal::ObjectTooLarge, "M4 ObjectTooLarge"),
         (Refusal::OutOfPages, "M5 OutOfPages"),
