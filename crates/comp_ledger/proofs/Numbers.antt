@@ -1,0 +1,42 @@
+-- The numbers of shares.
+use Rattle.std.proofs.Common.{◌≡◌, ℕ, zero, suc, ◌+◌, ◌<◌, ◌≤◌, List, [], ◌∷◌, ◌++◌, length, Contains, ap, ◌∙◌, ⊎_elim, arith, subst}
+use Rattle.std.proofs.lemmas.Bool.{cases_lt}
+use Rattle.std.proofs.lemmas.List.{length-map, map-append}
+use Rattle.std.specs.List.{range_with_len}
+use Rattle.comp_ledger.specs.Shares.{number_of, numbers_of, NoneMissing}
+use Rattle.comp_ledger.specs.declared.share.Share.{Share}
+use Rattle.comp_ledger.proofs.Counting.{enough}
+
+module _ {L : Type 0} where
+  pub numbers_of-push : (xs : List (Share L)) (x : Share L) → numbers_of (xs ++ x ∷ []) ≡ numbers_of xs ++ number_of x ∷ []
+  numbers_of-push xs x = map-append number_of xs (x ∷ [])
+
+  -- where no share is missing, there are as many at least
+  pub as_many : (n : ℕ) (xs : List (Share L)) → NoneMissing n xs → n ≤ length xs
+  as_many n xs all = let long = length-map xs number_of in let many = enough n (numbers_of xs) all in omega (arith, long, many)
+
+  -- and the next number neither
+  pub none_missing_next : (n : ℕ) (xs : List (Share L)) → NoneMissing n xs → Contains (numbers_of xs) n → NoneMissing (n + 1) xs
+  none_missing_next n xs before here k lt = ⊎_elim
+      (λ (below : k < n). before k below)
+      (λ (past : n ≤ k). let e : n ≡ k = omega (arith, lt, past) in subst (Contains (numbers_of xs)) e here)
+      (cases_lt k n)
+
+  -- the parts of all shares, where none is missing: not fewer than there are, and not more
+  pub all_parts : (parts whole : ℕ) (xs : List (Share L)) → NoneMissing whole xs → 1 ≤ whole → parts ≡ length xs → (1 < parts → parts ≤ whole) → parts ≡ whole
+  all_parts parts whole xs all some are few =
+      let many = as_many whole xs all in
+      ⊎_elim
+      (λ (lt : 1 < parts). let z = few lt in let r : parts ≡ whole = omega (arith, z, many, are) in r)
+      (λ (le : parts ≤ 1). let r : parts ≡ whole = omega (arith, le, many, some, are) in r)
+      (cases_lt 1 parts)
+
+range_with_len-push : (a n : ℕ) → range_with_len a (n + 1) ≡ range_with_len a n ++ (a + n) ∷ []
+range_with_len-push a zero = ap (λ (k : ℕ). k ∷ []) (let z : a ≡ a + 0 = omega arith in z)
+range_with_len-push a (suc n) =
+    let one : suc n + 1 ≡ suc (n + 1) = omega arith in
+    ap (range_with_len a) one ∙ ap (λ (l : List ℕ). a ∷ l) (range_with_len-push (a + 1) n ∙ ap (λ (k : ℕ). range_with_len (a + 1) n ++ k ∷ []) (let z : a + 1 + n ≡ a + suc n = omega arith in z))
+
+-- the numbers below n, and n
+pub below-push : (n : ℕ) → range_with_len 0 (n + 1) ≡ range_with_len 0 n ++ n ∷ []
+below-push n = range_with_len-push 0 n ∙ ap (λ (k : ℕ). range_with_len 0 n ++ k ∷ []) (let z : 0 + n ≡ n = omega arith in z)

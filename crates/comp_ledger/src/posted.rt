@@ -1,0 +1,76 @@
+ghost use Rattle.std.specs.Prelude.{◌≡◌, ◌↔◌, ◌+◌, ◌^◌, ◌<◌, ◌≤◌, Err, IsErr, OnOk, OnErr};
+
+use crate::refusal::LedgerFault;
+use crate::share::Share;
+use std::sync::ledger::{Book, Ledger as Named, Share as Token};
+
+/// The words that all shares posted. It stands under the ledger's lock.
+#[derive(Drop)]
+pub(crate) struct Posted<L: Named> {
+    words: u64,
+    book: Book<L>,
+    ghost counted: { words ≡ book.total },
+}
+
+impl<L: Named> Posted<L> {
+    ghost use Rattle.comp_ledger.specs.Shares.{number_of, posted_of};
+    ghost use Rattle.comp_ledger.specs.declared.refusal.LedgerFault.TheVariants.{OverCapacity};
+
+    /// A book in which nothing is posted.
+    pub(crate) fn new(book: Book<L>) -> Posted<L>
+        requires { book.total ≡ 0 }
+    {
+        Posted { words: 0, book }
+    }
+
+    /// Posts words with a share, unless more than `room` words would then be posted in all. What is refused changes nothing.
+    pub(crate) fn post(
+        &mut self,
+        room: u64,
+        share: &mut Share<L>,
+        words: u64,
+    ) -> Result<(), LedgerFault>
+        ensures number { number_of share.new ≡ number_of share.old }
+
+        ensures posted { OnOk result (posted_of share.new ≡ posted_of share.old + words) }
+        ensures more { OnOk result (self.new.words ≡ self.old.words + words) }
+        ensures within { OnOk result (posted_of share.new ≤ room) }
+
+        // Refused: exactly where there is no room, and all is as it was.
+        ensures over { IsErr result ↔ (room < self.old.words + words) }
+        ensures fault { OnErr result (result ≡ Err OverCapacity) }
+        ensures refused { OnErr result (posted_of share.new ≡ posted_of share.old) }
+        ensures same { OnErr result (self.new.words ≡ self.old.words) }
+
+        // A share that is the only one posted all of it.
+        ensures alone { L.parts ≡ 1 → self.old.words ≡ posted_of share.old }
+    {
+        let Posted { words: all, book } = self;
+        let Share {
+            number: _,
+            posted,
+            token,
+        } = share;
+        book.audit(token);
+        if *all > room || words > room - *all {
+            return Err(LedgerFault::OverCapacity);
+        }
+        book.add(token, words);
+        *all += words;
+        *posted += words;
+        Ok(())
+    }
+
+    /// Posts the last words with all shares, which are one by then, and answers how many words were posted.
+    pub(crate) fn end(self, mut all: Token<L>, last: u64) -> u64
+        requires whole { all.parts ≡ L.parts }
+        requires some { 0 < all.parts }
+        requires fits { all.amount + last < 2 ^ 64 }
+        ensures { result ≡ all.amount + last }
+    {
+        let Posted { words, mut book } = self;
+        book.audit(&mut all);
+        book.add(&mut all, last);
+        words + last
+    }
+}
