@@ -5,11 +5,11 @@ use Rattle.clap.specs.Words.{kind_of}
 use Rattle.clap.specs.declared.error.Error.{Error}
 use Rattle.clap.specs.declared.error.kind.ErrorKind.TheVariants.{OutOfMemory}
 use Rattle.heap_layout.specs.Heap.{Heap}
-use Rattle.compressor.specs.Asked.{Asks, AsksNeither}
+use Rattle.command_line.specs.Asked.{Asks, AsksNeither}
 use Rattle.compressor.specs.Images.{IsImageOf, SomeGiven, SomeHeap}
 use Rattle.compressor.specs.Tasks.{Answers, AreWrong, HasAnswered}
-use Rattle.compressor.specs.declared.words.Task.{Task}
-use Rattle.compressor.specs.declared.words.Task.TheVariants.{Plan, Word, Help}
+use Rattle.command_line.specs.declared.words.Task.{Task}
+use Rattle.command_line.specs.declared.words.Task.TheVariants.{Plan, Word, Help}
 
 -- the heap whose image was given is accepted
 heap_of : {R : Type 0} (gives : R → Type 0) (remaining : R → Option (List ℕ)) (P : Heap → Type 0) → SomeGiven gives remaining (IsImageOf P) → SomeHeap P

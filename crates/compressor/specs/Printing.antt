@@ -3,13 +3,8 @@ use Rattle.std.specs.Prelude.{◌≡◌, ℕ, ◌+◌, List, [], ◌∷◌, ◌+
 use Rattle.std.specs.Fmt.{decimal}
 use Rattle.std.specs.Io.KnownBytes.{Keeps}
 use Rattle.std.specs.Str.{trim_end}
-use Rattle.clap.specs.Values.{kind_of}
-use Rattle.clap.specs.declared.error.Error.{Error}
-use Rattle.clap.specs.declared.error.kind.ErrorKind.TheVariants.{DisplayHelp}
 use Rattle.heap_layout.specs.Counted.{CountsFailure}
 use Rattle.compressor.specs.declared.refusal.Input.TheVariants.{Image}
-use Rattle.compressor.specs.declared.words.Task.{Task}
-use Rattle.compressor.specs.declared.words.Task.TheVariants.{Plan, Word, Help}
 use Rattle.compressor.specs.declared.refusal.Refusal.{Refusal}
 use Rattle.compressor.specs.declared.refusal.Refusal.TheVariants.{Layout, CannotOpen, CannotPrint, OutOfMemory}
 
@@ -52,13 +47,3 @@ abbrev pub IsOfOpening : Type 0 → Refusal → Type 0
 IsOfOpening lacks (CannotOpen Image) = lacks
 IsOfOpening lacks OutOfMemory = Unit {0}
 IsOfOpening lacks _ = ⊥
-
--- the parser's answer is a text of help
-abbrev pub IsHelp : Error → Type 0
-IsHelp error = kind_of error ≡ DisplayHelp
-
--- the task is a text of help
-abbrev pub IsText : Task → Type 0
-IsText (Plan image) = ⊥
-IsText (Word image index) = ⊥
-IsText (Help text) = Unit {0}

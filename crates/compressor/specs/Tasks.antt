@@ -5,15 +5,15 @@ use Rattle.std.specs.String.{string_bytes}
 use Rattle.clap.specs.Values.{kind_of}
 use Rattle.clap.specs.declared.error.Error.{Error}
 use Rattle.clap.specs.declared.error.kind.ErrorKind.TheVariants.{OutOfMemory}
-use Rattle.compressor.specs.Asked.{AsksHelp, AsksPlan, AsksWord}
+use Rattle.command_line.specs.Asked.{AsksHelp, AsksPlan, AsksWord}
 use Rattle.compressor.specs.Images.{IsImageOf, SomeGiven, SomeHeap, RefusesAt}
 use Rattle.compressor.specs.Plan.{PrintsPlan, RefusesPlan}
 use Rattle.compressor.specs.Printing.{help_lines}
 use Rattle.compressor.specs.Word.{PrintsWordAt, RefusesPrint}
 use Rattle.compressor.specs.declared.refusal.Refusal.{Refusal}
 use Rattle.compressor.specs.declared.refusal.Refusal.TheVariants.{CannotPrint}
-use Rattle.compressor.specs.declared.words.Task.{Task}
-use Rattle.compressor.specs.declared.words.Task.TheVariants.{Plan, Word, Help}
+use Rattle.command_line.specs.declared.words.Task.{Task}
+use Rattle.command_line.specs.declared.words.Task.TheVariants.{Plan, Word, Help}
 
 -- a task is done: between these two contents of the output, what it asks of the image at its path was printed, or the text of help
 abbrev pub DoesTask : {R : Type 0} → (List ℕ → R → Type 0) → (R → Option (List ℕ)) → Option (List ℕ) → Option (List ℕ) → Task → Type 0

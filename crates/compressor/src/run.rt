@@ -2,7 +2,7 @@ ghost use Rattle.std.specs.Prelude.{◌≡◌, ◌-◌, ◌^◌, ◌<◌, ◌≤
 ghost use Rattle.std.specs.String.{string_bytes};
 ghost use Rattle.std.specs.Io.KnownBytes.{Keeps};
 ghost use Rattle.heap_layout.specs.Counted.{inner_of, failures_of, is_flushed_of, writer_of};
-ghost use Rattle.compressor.specs.Asked.{AsksNeither};
+ghost use Rattle.command_line.specs.Asked.{AsksNeither};
 ghost use Rattle.compressor.specs.Printing.{CountsPrint, RefusedUnprinted};
 ghost use Rattle.compressor.specs.Tasks.{Answers, AreWrong, DoesTask, HasAnswered, IsRefused, RefusesTask};
 
@@ -11,8 +11,8 @@ use crate::plan::print_plan;
 use crate::print::{flush, print_help};
 use crate::refusal::Refusal;
 use crate::word::print_word;
-use crate::words::{Task, read_task};
 use clap::error::ErrorKind;
+use command_line::words::{Task, read_task};
 use heap_layout::counted::Counted;
 use std::alloc::Global;
 use std::io::Write;

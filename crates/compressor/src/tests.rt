@@ -4,7 +4,7 @@ ghost use Rattle.std.specs.Prelude.{◌≡◌, ◌≢◌, All, Any};
 use crate::images::Images;
 use crate::refusal::{Input, Refusal};
 use crate::run::{perform, run};
-use crate::words::Task;
+use command_line::words::Task;
 use heap_layout::counted::Counted;
 use heap_layout::fault::LayoutFault;
 use std::alloc::Global;

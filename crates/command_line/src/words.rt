@@ -3,9 +3,8 @@ ghost use Rattle.std.specs.Prelude.{◌≡◌, ◌≢◌, ◌⊎◌, ℕ, [], tr
 ghost use Rattle.std.specs.String.{string_bytes};
 ghost use Rattle.clap.specs.Words.{app_of, fault_of, first_value, found_of, kind_of, one_text, rule_of, subcommand_of, subcommand_rows_of};
 ghost use Rattle.clap.specs.declared.error.kind.ErrorKind.TheVariants.{OutOfMemory};
-ghost use Rattle.compressor.specs.Asked.{Asks, AsksNeither, IsNumber};
-ghost use Rattle.compressor.specs.Parser.{image_rule, plan_app, program, word_app};
-ghost use Rattle.compressor.specs.Printing.{IsHelp, IsText};
+ghost use Rattle.command_line.specs.Asked.{Asks, AsksNeither, IsHelp, IsNumber, IsText};
+ghost use Rattle.command_line.specs.Parser.{image_rule, plan_app, program, word_app};
 
 use clap::error::ErrorKind;
 use clap::{Arg, ArgMatches, Command, Error, value_parser};

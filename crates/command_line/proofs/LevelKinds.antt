@@ -23,12 +23,12 @@ use Rattle.clap.specs.declared.builder.value_parser.ValueParser.{ValueParser}
 use Rattle.clap.specs.declared.builder.value_parser.ValueParser.TheVariants as vp
 use Rattle.clap.specs.declared.error.kind.ErrorKind.TheVariants as kind
 use Rattle.clap.proofs.WalkLemmas.{both}
-use Rattle.compressor.specs.Asked.{is_help}
-use Rattle.compressor.proofs.KindLists.{NoHelp, among_or, no_help_among, no_help_cond, no_help_or}
-use Rattle.compressor.proofs.Levels.{level}
-use Rattle.compressor.proofs.LevelSteps.{HasHelpAlone, at, end_fault, fault_at_end, fault_from, flag_helps, holding, level_is, next_place, value_fault}
-use Rattle.compressor.proofs.LevelWords.{HasFlag, Reading, after_flag, after_plain, after_trailing, reading, values_alone}
-use Rattle.compressor.proofs.LevelWords.HasFlag.{here, later}
+use Rattle.command_line.specs.Asked.{is_help}
+use Rattle.command_line.proofs.KindLists.{NoHelp, among_or, no_help_among, no_help_cond, no_help_or}
+use Rattle.command_line.proofs.Levels.{level}
+use Rattle.command_line.proofs.LevelSteps.{HasHelpAlone, at, end_fault, fault_at_end, fault_from, flag_helps, holding, level_is, next_place, value_fault}
+use Rattle.command_line.proofs.LevelWords.{HasFlag, Reading, after_flag, after_plain, after_trailing, reading, values_alone}
+use Rattle.command_line.proofs.LevelWords.HasFlag.{here, later}
 
 -- ---- a use of an argument that is no request
 

@@ -12,11 +12,11 @@ use Rattle.clap.specs.declared.error.kind.ErrorKind.TheVariants.{DisplayHelp, In
 use Rattle.clap.proofs.FaultLemmas.{stopped_fault}
 use Rattle.clap.proofs.OnLiterals.{clap_on_literals}
 use Rattle.clap.proofs.WalkLemmas.{walk_stopped}
-use Rattle.compressor.specs.Asked.{is_flag, is_help}
-use Rattle.compressor.specs.Parser.{program}
-use Rattle.compressor.proofs.KindLists.{NoHelp, no_help_among, or_else_nil}
-use Rattle.compressor.proofs.Levels.{level, plan_shape, word_shape}
-use Rattle.compressor.proofs.LevelSteps.{HasHelpAlone, IsFlagFault, built_help, flag_helps, flag_turn, is_no_fault, plain_turn, unnamed_turn}
+use Rattle.command_line.specs.Asked.{is_flag, is_help}
+use Rattle.command_line.specs.Parser.{program}
+use Rattle.command_line.proofs.KindLists.{NoHelp, no_help_among, or_else_nil}
+use Rattle.command_line.proofs.Levels.{level, plan_shape, word_shape}
+use Rattle.command_line.proofs.LevelSteps.{HasHelpAlone, IsFlagFault, built_help, flag_helps, flag_turn, is_no_fault, plain_turn, unnamed_turn}
 
 -- the program is one of which clap says what it finds in the words, and by which kinds it fails
 pub program_free : is_simple_and_free program ≡ true

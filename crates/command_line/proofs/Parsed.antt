@@ -4,12 +4,12 @@ use Rattle.std.proofs.lemmas.List.Elements.{All-tail}
 use Rattle.clap.specs.Words.{IsAmong, Row, Text, fault_of, first_of, one_of, subcommand_of}
 use Rattle.clap.specs.Walk.{rows_after}
 use Rattle.clap.specs.declared.error.kind.ErrorKind.TheVariants.{DisplayHelp}
-use Rattle.compressor.specs.Asked.{AsksNeither, AsksPlan, AsksWord, IsNumber, is_help}
-use Rattle.compressor.specs.Parser.{program}
-use Rattle.compressor.proofs.Levels.{level, plan_shape, word_shape}
-use Rattle.compressor.proofs.PlanLevel.{plan_help, plan_taken, plan_takes}
-use Rattle.compressor.proofs.TopLevel.{BeginWithHelp, Decided, first_decides, plan_first, plan_found, word_first, word_found}
-use Rattle.compressor.proofs.WordLevel.{word_help, word_taken, word_takes}
+use Rattle.command_line.specs.Asked.{AsksNeither, AsksPlan, AsksWord, IsNumber, is_help}
+use Rattle.command_line.specs.Parser.{program}
+use Rattle.command_line.proofs.Levels.{level, plan_shape, word_shape}
+use Rattle.command_line.proofs.PlanLevel.{plan_help, plan_taken, plan_takes}
+use Rattle.command_line.proofs.TopLevel.{BeginWithHelp, Decided, first_decides, plan_first, plan_found, word_first, word_found}
+use Rattle.command_line.proofs.WordLevel.{word_help, word_taken, word_takes}
 
 -- the words ask the plan of an image, and so does what clap found in them
 pub record FoundPlan (words : List Text) : Type 0 where

@@ -13,13 +13,13 @@ use Rattle.clap.specs.declared.builder.value_parser.ValueParser.{ValueParser}
 use Rattle.clap.specs.declared.builder.value_parser.ValueParser.TheVariants.{Unsigned}
 use Rattle.clap.specs.declared.error.kind.ErrorKind.TheVariants as kind
 use Rattle.clap.specs.Simple.{filled, with_index}
-use Rattle.compressor.specs.Parser.{index_rule}
-use Rattle.compressor.specs.Asked.{IsNumber, given, is_help}
-use Rattle.compressor.proofs.KindLists.{one_kind}
-use Rattle.compressor.proofs.Levels.{image_built, level, word_shape}
-use Rattle.compressor.proofs.LevelSteps.{HasHelpAlone, IsPlainRule, at, end_from, fault_from, found}
-use Rattle.compressor.proofs.LevelWords.{Taken, level_given, taken}
-use Rattle.compressor.proofs.LevelKinds.{help_is_asked}
+use Rattle.command_line.specs.Parser.{index_rule}
+use Rattle.command_line.specs.Asked.{IsNumber, given, is_help}
+use Rattle.command_line.proofs.KindLists.{one_kind}
+use Rattle.command_line.proofs.Levels.{image_built, level, word_shape}
+use Rattle.command_line.proofs.LevelSteps.{HasHelpAlone, IsPlainRule, at, end_from, fault_from, found}
+use Rattle.command_line.proofs.LevelWords.{Taken, level_given, taken}
+use Rattle.command_line.proofs.LevelKinds.{help_is_asked}
 
 -- the argument `INDEX` of a built command
 abbrev index_built : Rule

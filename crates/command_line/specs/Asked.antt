@@ -3,8 +3,11 @@ use Rattle.std.specs.Prelude.{◌≡◌, ℕ, ◌<◌, ◌^◌, ◌==◌, ◌&&�
 use Rattle.std.specs.List.{Any}
 use Rattle.std.specs.Str.{bytes_eq}
 use Rattle.std.specs.Str.Parse.{IsNumeral, digits_value, without_leading_plus}
-use Rattle.compressor.specs.declared.words.Task.{Task}
-use Rattle.compressor.specs.declared.words.Task.TheVariants.{Plan, Word, Help}
+use Rattle.clap.specs.Values.{kind_of}
+use Rattle.clap.specs.declared.error.Error.{Error}
+use Rattle.clap.specs.declared.error.kind.ErrorKind.TheVariants.{DisplayHelp}
+use Rattle.command_line.specs.declared.words.Task.{Task}
+use Rattle.command_line.specs.declared.words.Task.TheVariants.{Plan, Word, Help}
 
 -- a flag: a hyphen and more
 abbrev pub is_flag : List ℕ → Bool
@@ -53,3 +56,13 @@ abbrev pub Asks : List (List ℕ) → Task → Type 0
 Asks words (Plan image) = AsksPlan words image.now
 Asks words (Word image index) = AsksWord words image.now index
 Asks words (Help text) = AsksHelp words
+
+-- the parser's answer is a text of help
+abbrev pub IsHelp : Error → Type 0
+IsHelp error = kind_of error ≡ DisplayHelp
+
+-- the task is a text of help
+abbrev pub IsText : Task → Type 0
+IsText (Plan image) = ⊥
+IsText (Word image index) = ⊥
+IsText (Help text) = Unit {0}

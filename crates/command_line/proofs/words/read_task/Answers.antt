@@ -1,5 +1,5 @@
-use Rattle.compressor.proofs.Found.{error_told, help_told, kind_at, texts_utf8}
-use Rattle.compressor.proofs.words.read_task.Goals as goal
+use Rattle.command_line.proofs.Found.{error_told, help_told, kind_at, texts_utf8}
+use Rattle.command_line.proofs.words.read_task.Goals as goal
 
 pub returns-in-Err-clause-asked : goal.returns-in-Err-clause-asked
 returns-in-Err-clause-asked c = help_told _ c.in-Err.error c.help_task.result (texts_utf8 c.args.words.now)

@@ -12,14 +12,13 @@ use Rattle.clap.specs.declared.error.Error.{Error}
 use Rattle.clap.specs.declared.error.kind.ErrorKind.TheVariants.{DisplayHelp, OutOfMemory}
 use Rattle.clap.specs.declared.parser.matches.Found.{Found}
 use Rattle.clap.proofs.WalkLemmas.{first_value-rows, one_text-rows}
-use Rattle.compressor.specs.Asked.{Asks, AsksHelp, AsksNeither, AsksPlan, AsksWord, IsNumber}
-use Rattle.compressor.specs.Parser.{program}
-use Rattle.compressor.specs.Printing.{IsHelp, IsText}
-use Rattle.compressor.specs.declared.words.Task.{Task}
-use Rattle.compressor.specs.declared.words.Task.TheVariants.{Plan, Word, Help}
-use Rattle.compressor.proofs.KindLists.{some_kind}
-use Rattle.compressor.proofs.Parsed.{parsed, faulty, helped}
-use Rattle.compressor.proofs.TopLevel.{program_free}
+use Rattle.command_line.specs.Asked.{Asks, AsksHelp, AsksNeither, AsksPlan, AsksWord, IsHelp, IsNumber, IsText}
+use Rattle.command_line.specs.Parser.{program}
+use Rattle.command_line.specs.declared.words.Task.{Task}
+use Rattle.command_line.specs.declared.words.Task.TheVariants.{Plan, Word, Help}
+use Rattle.command_line.proofs.KindLists.{some_kind}
+use Rattle.command_line.proofs.Parsed.{parsed, faulty, helped}
+use Rattle.command_line.proofs.TopLevel.{program_free}
 
 -- the bytes of texts are UTF-8
 pub texts_utf8 : {Z : Type 0} (xs : List (String Z)) → All IsUtf8 (map string_bytes xs)

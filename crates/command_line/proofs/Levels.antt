@@ -5,7 +5,7 @@ use Rattle.clap.specs.Kinds.{Kinds}
 use Rattle.clap.specs.Simple.{built_leaf, filled, with_index}
 use Rattle.clap.specs.Faults.{level_fault}
 use Rattle.clap.specs.Walk.{nothing_held}
-use Rattle.compressor.specs.Parser.{image_rule, plan_app, word_app}
+use Rattle.command_line.specs.Parser.{image_rule, plan_app, word_app}
 
 -- `plan`
 abbrev pub plan_shape : Shape

@@ -15,10 +15,10 @@ use Rattle.clap.specs.Kinds.{IsAmong, Kinds, or_else}
 use Rattle.clap.specs.Simple.{Shape, filled, help_rule}
 use Rattle.clap.specs.Faults.{bundle_fault, check_fault, defaults_fault, flags_fault, long_fault, settle_fault, step_fault, turn_fault, walk_fault, word_fault}
 use Rattle.clap.specs.declared.error.kind.ErrorKind.TheVariants as kind
-use Rattle.compressor.specs.Asked.{is_flag, is_help}
-use Rattle.compressor.proofs.KindLists.{neither, no_help_among, one_kind, or_else_in, or_else_twice}
-use Rattle.compressor.proofs.Levels.{level}
-use Rattle.compressor.proofs.Lexed.{IsBundle, IsLong, flag_read, plain_read}
+use Rattle.command_line.specs.Asked.{is_flag, is_help}
+use Rattle.command_line.proofs.KindLists.{neither, no_help_among, one_kind, or_else_in, or_else_twice}
+use Rattle.command_line.proofs.Levels.{level}
+use Rattle.command_line.proofs.Lexed.{IsBundle, IsLong, flag_read, plain_read}
 
 -- ---- places of a walk
 

@@ -6,12 +6,12 @@ use Rattle.clap.specs.Walk.{Rule, Text, arg_by_index, finished, first_of, rows_a
 use Rattle.clap.specs.Kinds.{IsAmong}
 use Rattle.clap.specs.Faults.{defaults_fault, walk_fault}
 use Rattle.clap.specs.declared.error.kind.ErrorKind.TheVariants as kind
-use Rattle.compressor.specs.Asked.{given, is_help}
-use Rattle.compressor.proofs.KindLists.{one_kind}
-use Rattle.compressor.proofs.Levels.{image_built, level, plan_shape}
-use Rattle.compressor.proofs.LevelSteps.{HasHelpAlone, IsPlainRule, at, end_from, fault_from, found}
-use Rattle.compressor.proofs.LevelWords.{Taken, level_given, taken}
-use Rattle.compressor.proofs.LevelKinds.{help_is_asked}
+use Rattle.command_line.specs.Asked.{given, is_help}
+use Rattle.command_line.proofs.KindLists.{one_kind}
+use Rattle.command_line.proofs.Levels.{image_built, level, plan_shape}
+use Rattle.command_line.proofs.LevelSteps.{HasHelpAlone, IsPlainRule, at, end_from, fault_from, found}
+use Rattle.command_line.proofs.LevelWords.{Taken, level_given, taken}
+use Rattle.command_line.proofs.LevelKinds.{help_is_asked}
 
 -- each argument of `plan` with a position is plain
 plan_index : (i : ℕ) (a : Rule) (t : Bool) → (1 == i) ≡ t → arg_by_index plan_shape.rules i ≡ Some a → IsPlainRule plan_shape.rules a

@@ -2,8 +2,8 @@ use Rattle.std.proofs.Common.{rules, ◌∙◌, ◌≡◌, ap, ap₂}
 use Rattle.std.proofs.lemmas.Result.{IfOk-weaker}
 use Rattle.clap.specs.Words.{App, app_of, with_subcommand}
 use Rattle.clap.proofs.SimpleLemmas.{plain_fields}
-use Rattle.compressor.specs.Parser.{empty_app, plan_app, word_app}
-use Rattle.compressor.proofs.words.command.Goals as goal
+use Rattle.command_line.specs.Parser.{empty_app, plan_app, word_app}
+use Rattle.command_line.proofs.words.command.Goals as goal
 
 pub returns : goal.returns
 returns c =

@@ -11,7 +11,7 @@ use Rattle.clap.specs.Lexer.{has_byte, long_of, name_and_value, short_of}
 use Rattle.clap.specs.Walk.{Text}
 use Rattle.clap.proofs.CutLemmas.{Lacks, before_first-Lacks}
 use Rattle.clap.proofs.WalkLemmas.{both}
-use Rattle.compressor.specs.Asked.{is_flag, is_help}
+use Rattle.command_line.specs.Asked.{is_flag, is_help}
 
 -- ---- a word that is no flag
 

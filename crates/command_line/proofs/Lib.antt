@@ -1,0 +1,11 @@
+pub mod KindLists
+pub mod Levels
+pub mod Lexed
+pub mod LevelSteps
+pub mod LevelWords
+pub mod LevelKinds
+pub mod TopLevel
+pub mod PlanLevel
+pub mod WordLevel
+pub mod Parsed
+pub mod Found

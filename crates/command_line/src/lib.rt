@@ -1,0 +1,4 @@
+//! What the words of the command line ask.
+#![tactic(auto)]
+
+pub mod words;
