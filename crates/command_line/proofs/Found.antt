@@ -1,6 +1,6 @@
 -- From what the parser found to what the words ask.
-use Rattle.std.proofs.Common.{◌≡◌, ◌≢◌, ◌⊎◌, ◌∙◌, ℕ, List, Option, Some, IfOk, IfErr, OnOk, Result, Ok, Err}
-use Rattle.std.proofs.Common.{[], sym, ap, subst, inl, inr, codes, map, unwrap_or, slice_index, arith, true}
+use Rattle.std.proofs.Common.{◌≡◌, ◌≢◌, ◌⊎◌, ◌∙◌, ◌∷◌, ℕ, List, Option, Some, IfOk, IfErr, OnOk, Result, Ok, Err}
+use Rattle.std.proofs.Common.{[], sym, ap, subst, inl, inr, codes, map, unwrap_or, true}
 use Rattle.std.specs.Prelude.{IsUtf8}
 use Rattle.std.specs.String.{string_bytes}
 use Rattle.std.specs.declared.string.String.{String}
@@ -12,13 +12,17 @@ use Rattle.clap.specs.declared.error.Error.{Error}
 use Rattle.clap.specs.declared.error.kind.ErrorKind.TheVariants.{DisplayHelp, OutOfMemory}
 use Rattle.clap.specs.declared.parser.matches.Found.{Found}
 use Rattle.clap.proofs.WalkLemmas.{first_value-rows, one_text-rows}
-use Rattle.command_line.specs.Asked.{Asks, AsksHelp, AsksNeither, AsksPlan, AsksWord, IsHelp, IsNumber, IsText}
+use Rattle.std.specs.Str.Parse.{digits_value, without_leading_plus}
+use Rattle.command_line.specs.Asked.{AreCommand, Asks, AsksHelp, AsksNeither, AsksPlan, AsksWord, IsHelp, IsNumber, IsText}
+use Rattle.command_line.specs.Forms.{Form, forms, plan_form, word_form}
 use Rattle.command_line.specs.Parser.{program}
+use Rattle.command_line.proofs.FormLevel.{AreTaken}
+use Rattle.command_line.proofs.FormRows.{rows_with}
 use Rattle.command_line.specs.declared.words.Task.{Task}
 use Rattle.command_line.specs.declared.words.Task.TheVariants.{Plan, Word, Help}
 use Rattle.command_line.proofs.KindLists.{some_kind}
-use Rattle.command_line.proofs.Parsed.{parsed, faulty, helped}
-use Rattle.command_line.proofs.TopLevel.{program_free}
+use Rattle.command_line.proofs.Parsed.{parsed, faulty, helped, is_number}
+use Rattle.command_line.proofs.TopLevel.{IsCommand, IsOneOf, one_of_these, plan_is_command, program_free, same_form, word_is_command}
 
 -- the bytes of texts are UTF-8
 pub texts_utf8 : {Z : Type 0} (xs : List (String Z)) → All IsUtf8 (map string_bytes xs)
@@ -36,46 +40,66 @@ same_name o a b x y e f = ap (λ (w : Entered). (unwrap_or w (a, x)).0) (sym e �
 same_rows : (o : Entered) (a b : List ℕ) (x y : List Row) → o ≡ Some (a, x) → o ≡ Some (b, y) → x ≡ y
 same_rows o a b x y e f = ap (λ (w : Entered). (unwrap_or w (a, x)).1) (sym e ∙ f)
 
--- the names of the commands differ
-plan_is_not_word : codes "plan" ≡ codes "word" → ⊥
-plan_is_not_word e =
-    let bad : 112 ≡ 119 = ap (λ (xs : List ℕ). slice_index xs 0) e in
-    absurd (omega (arith, bad))
+-- the command was asked with the values that were found, and its arguments take them
+abbrev CommandAsked : List (List ℕ) → Found → Form → Type 0
+CommandAsked words f form = (values : List (List ℕ)) × (rows_of f ≡ rows_with form.arguments values) × AreTaken form.arguments values × AreCommand form.name values words
+
+-- where a command was entered, it was asked with the values that were found
+command_asked : (form : Form) → IsCommand form → (words : List (List ℕ)) (f : Found) → All IsUtf8 words → fault_of program words ≡ []
+    → subcommand_of program words ≡ Some (form.name, rows_of f) → CommandAsked words f form
+command_asked form command words f utf8 taken found =
+    let p = parsed words utf8 taken in
+    let rows = rows_with p.form.arguments p.values in
+    let same : p.form ≡ form = same_form p.form form p.is_command command (same_name _ p.form.name form.name rows (rows_of f) p.found found) in
+    let read : CommandAsked words f p.form = (p.values, same_rows _ form.name p.form.name (rows_of f) rows found p.found, p.are_taken, p.are_command) in
+    subst (CommandAsked words f) same read
 
 -- what was found where the words are `plan`: a path, which they ask
+abbrev pub PlanAsked : List (List ℕ) → Found → Type 0
+PlanAsked words f = (path : List ℕ) × (first_value f (codes "IMAGE") ≡ Some path) × AsksPlan words path
+
 pub plan_asked : (words : List (List ℕ)) (f : Found) → All IsUtf8 words → fault_of program words ≡ [] → subcommand_of program words ≡ Some (codes "plan", rows_of f)
-    → (path : List ℕ) × (first_value f (codes "IMAGE") ≡ Some path) × AsksPlan words path
-plan_asked words f utf8 taken found = elim (parsed words utf8 taken) [
-  | inl p ↦
-      let rows = same_rows _ (codes "plan") (codes "plan") (rows_of f) p.rows found p.found in
-      (p.path, first_value-rows f (codes "IMAGE") ∙ (ap (first_of (codes "IMAGE")) rows ∙ p.image), p.asks)
-  | inr w ↦ absurd (plan_is_not_word (same_name _ (codes "plan") (codes "word") (rows_of f) w.rows found w.found))
-]
+    → PlanAsked words f
+plan_asked words f utf8 taken found = go (command_asked plan_form plan_is_command words f utf8 taken found)
+  where
+    go : CommandAsked words f plan_form → PlanAsked words f
+    go ([], rows, fit, asks) = absurd fit
+    go (path ∷ [], rows, fit, asks) = (path, first_value-rows f (codes "IMAGE") ∙ ap (first_of (codes "IMAGE")) rows, asks)
+    go (path ∷ word ∷ more, rows, fit, asks) = absurd fit.1
 
 -- what was found where the words are `word`: a path and an index, which they ask
-pub word_asked : (words : List (List ℕ)) (f : Found) → All IsUtf8 words → fault_of program words ≡ [] → subcommand_of program words ≡ Some (codes "word", rows_of f)
-    → (path : List ℕ) × (digits : List ℕ) × (first_value f (codes "IMAGE") ≡ Some path) × (one_text f (codes "INDEX") ≡ Some digits)
+abbrev pub WordAsked : List (List ℕ) → Found → Type 0
+WordAsked words f = (path : List ℕ) × (digits : List ℕ) × (first_value f (codes "IMAGE") ≡ Some path) × (one_text f (codes "INDEX") ≡ Some digits)
     × ((n : ℕ) × IsNumber digits n) × ((n : ℕ) → IsNumber digits n → AsksWord words path n)
-word_asked words f utf8 taken found = elim (parsed words utf8 taken) [
-  | inl p ↦ absurd (plan_is_not_word (same_name _ (codes "plan") (codes "word") p.rows (rows_of f) p.found found))
-  | inr w ↦
-      let rows = same_rows _ (codes "word") (codes "word") (rows_of f) w.rows found w.found in (
-        w.path,
-        w.digits,
-        first_value-rows f (codes "IMAGE") ∙ (ap (first_of (codes "IMAGE")) rows ∙ w.image),
-        one_text-rows f (codes "INDEX") ∙ (ap (one_of (codes "INDEX")) rows ∙ w.index),
-        w.number,
-        w.asks,
-      )
-]
+
+pub word_asked : (words : List (List ℕ)) (f : Found) → All IsUtf8 words → fault_of program words ≡ [] → subcommand_of program words ≡ Some (codes "word", rows_of f)
+    → WordAsked words f
+word_asked words f utf8 taken found = go (command_asked word_form word_is_command words f utf8 taken found)
+  where
+    go : CommandAsked words f word_form → WordAsked words f
+    go ([], rows, fit, asks) = absurd fit
+    go (path ∷ [], rows, fit, asks) = absurd fit.1
+    go (path ∷ digits ∷ [], rows, fit, asks) = (
+      path,
+      digits,
+      first_value-rows f (codes "IMAGE") ∙ ap (first_of (codes "IMAGE")) rows,
+      one_text-rows f (codes "INDEX") ∙ ap (one_of (codes "INDEX")) rows,
+      (digits_value 10 (without_leading_plus digits), is_number digits fit.1.0),
+      λ n number. (digits, number, asks),
+    )
+    go (path ∷ digits ∷ word ∷ more, rows, fit, asks) = absurd fit.1.1
 
 -- nothing else is found
 pub other_found : (words : List (List ℕ)) (o : Entered) → All IsUtf8 words → fault_of program words ≡ [] → subcommand_of program words ≡ o
     → ((rows : List Row) → o ≡ Some (codes "plan", rows) → ⊥) → ((rows : List Row) → o ≡ Some (codes "word", rows) → ⊥) → ⊥
-other_found words o utf8 taken found no_plan no_word = elim (parsed words utf8 taken) [
-  | inl p ↦ no_plan p.rows (sym found ∙ p.found)
-  | inr w ↦ no_word w.rows (sym found ∙ w.found)
-]
+other_found words o utf8 taken found no_plan no_word =
+    let p = parsed words utf8 taken in
+    go p.form (rows_with p.form.arguments p.values) (one_of_these p.form p.is_command) (sym found ∙ p.found)
+  where
+    go : (form : Form) (rows : List Row) → IsOneOf forms form → o ≡ Some (form.name, rows) → ⊥
+    go form rows (inl plan) is = no_plan rows (is ∙ ap (λ (f : Form). Some (f.name, rows)) plan)
+    go form rows (inr (inl word)) is = no_word rows (is ∙ ap (λ (f : Form). Some (f.name, rows)) word)
+    go form rows (inr (inr none)) is = none
 
 -- an error for another cause than memory comes only where the words ask nothing
 refused_neither : (words : List (List ℕ)) (error : Error) → All IsUtf8 words → HasKind (fault_of program words) error → kind_of error ≢ OutOfMemory → AsksNeither words

@@ -84,7 +84,7 @@ module _ (again : Bool) (a : Rule) (rows : List Row) where
 -- ---- the end of the words
 
 -- where no argument has a default value, none is wrong
-no_defaults : (rules : List Rule) (rows : List Row) → list_all (λ a. is_empty a.defaults) rules ≡ true → defaults_fault rows rules ≡ []
+pub no_defaults : (rules : List Rule) (rows : List Row) → list_all (λ a. is_empty a.defaults) rules ≡ true → defaults_fault rows rules ≡ []
 unfolding defaults_fault
 no_defaults [] rows h = refl
 no_defaults (a ∷ rest) rows h =

@@ -225,7 +225,7 @@ module _ (s : Shape) (alone : HasHelpAlone s.rules) (rows : List Row) (pending :
   behind_stray t e = rw e refl
 
   -- a value that an argument takes settles the one before it
-  behind_value : (t : Bool) (a : Rule) → arg_by_index s.rules position ≡ Some a
+  pub behind_value : (t : Bool) (a : Rule) → arg_by_index s.rules position ≡ Some a
       → behind s rows pending position t word ≡ at (settled_rows s.rules pending rows) (Some (a.id, word ∷ [])) (min (position + 1) usize_max) t
   behind_value true a e =
       let plain = alone.plain position a e in

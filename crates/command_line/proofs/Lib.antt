@@ -4,8 +4,9 @@ pub mod Lexed
 pub mod LevelSteps
 pub mod LevelWords
 pub mod LevelKinds
+pub mod FormRules
+pub mod FormRows
+pub mod FormLevel
 pub mod TopLevel
-pub mod PlanLevel
-pub mod WordLevel
 pub mod Parsed
 pub mod Found

@@ -1,34 +1,54 @@
 -- What the words ask, by what clap makes of them.
-use Rattle.std.proofs.Common.{◌≡◌, ◌∙◌, ◌⊎◌, ℕ, suc, true, List, [], ◌∷◌, Some, All, Any, IsUtf8, arith, ap, codes, inl, inr, refl, subst, sym}
+use Rattle.std.proofs.Common.{◌≡◌, ◌∙◌, ◌<◌, ◌≤◌, ◌^◌, ℕ, suc, true, false, List, [], ◌∷◌, Some, All, Any, IsUtf8, arith, ap, inl, inr, refl, subst, sym, zero-le}
+use Rattle.std.specs.Str.Parse.{digits_value, without_leading_plus}
 use Rattle.std.proofs.lemmas.List.Elements.{All-tail}
-use Rattle.clap.specs.Words.{IsAmong, Row, Text, fault_of, first_of, one_of, subcommand_of}
-use Rattle.clap.specs.Walk.{rows_after}
+use Rattle.clap.specs.Words.{IsAmong, Text, fault_of, subcommand_of}
+use Rattle.clap.specs.Values.{Accepts}
+use Rattle.clap.specs.ValueTests.{accepts}
+use Rattle.clap.specs.declared.builder.value_parser.ValueParser.{ValueParser}
+use Rattle.clap.specs.declared.builder.value_parser.ValueParser.TheVariants.{Unsigned}
 use Rattle.clap.specs.declared.error.kind.ErrorKind.TheVariants.{DisplayHelp}
-use Rattle.command_line.specs.Asked.{AsksNeither, AsksPlan, AsksWord, IsNumber, is_help}
+use Rattle.clap.proofs.ValueTestLemmas.{accepts-Accepts, Accepts-accepts}
+use Rattle.command_line.specs.Asked.{AreCommand, AsksNeither, IsNumber, is_help}
+use Rattle.command_line.specs.Forms.{Form, plan_form, word_form}
 use Rattle.command_line.specs.Parser.{program}
-use Rattle.command_line.proofs.Levels.{level, plan_shape, word_shape}
-use Rattle.command_line.proofs.PlanLevel.{plan_help, plan_taken, plan_takes}
-use Rattle.command_line.proofs.TopLevel.{BeginWithHelp, Decided, first_decides, plan_first, plan_found, word_first, word_found}
-use Rattle.command_line.proofs.WordLevel.{word_help, word_taken, word_takes}
+use Rattle.command_line.proofs.FormLevel.{AreTaken, form_help, form_taken, form_takes}
+use Rattle.command_line.proofs.FormRows.{rows_with}
+use Rattle.command_line.proofs.Levels.{level, shape}
+use Rattle.command_line.proofs.TopLevel.{BeginWithHelp, Decided, IsCommand, command_first, command_found, first_decides, plan_is_command, word_is_command}
 
--- the words ask the plan of an image, and so does what clap found in them
-pub record FoundPlan (words : List Text) : Type 0 where
-  pub path : Text
-  pub rows : List Row
-  pub found : subcommand_of program words ≡ Some (codes "plan", rows)
-  pub image : first_of (codes "IMAGE") rows ≡ Some path
-  pub asks : AsksPlan words path
+-- ---- numbers
 
--- the words ask a word of an image, and so does what clap found in them
-pub record FoundWord (words : List Text) : Type 0 where
-  pub path : Text
-  pub digits : Text
-  pub rows : List Row
-  pub found : subcommand_of program words ≡ Some (codes "word", rows)
-  pub image : first_of (codes "IMAGE") rows ≡ Some path
-  pub index : one_of (codes "INDEX") rows ≡ Some digits
-  pub number : (n : ℕ) × IsNumber digits n
-  pub asks : (n : ℕ) → IsNumber digits n → AsksWord words path n
+-- the parser of a number
+abbrev as_number : ValueParser
+as_number = Unsigned 0 18446744073709551615
+
+-- the digits that it takes are a number of 64 bits
+pub is_number : (digits : Text) → accepts false as_number digits ≡ true → IsNumber digits (digits_value 10 (without_leading_plus digits))
+is_number digits takes =
+    let h : Accepts false as_number digits = accepts-Accepts false as_number digits takes in
+    record { numeral = h.0; value = refl; fits = h.1 }
+
+-- a number of 64 bits is at most the greatest
+within_u64 : (n : ℕ) → n < 2 ^ 64 → n ≤ 18446744073709551615
+within_u64 n h = omega arith
+
+-- it takes such numbers
+takes_number : (digits : Text) (n : ℕ) → IsNumber digits n → accepts false as_number digits ≡ true
+takes_number digits n h =
+    let fits : digits_value 10 (without_leading_plus digits) < 2 ^ 64 = rw (← h.value) h.fits in
+    Accepts-accepts false as_number digits (h.numeral, fits, zero-le, within_u64 (digits_value 10 (without_leading_plus digits)) fits)
+
+-- ---- words
+
+-- the words are a command with values that its arguments take, and so is what clap found in them
+pub record FoundCommand (words : List Text) : Type 0 where
+  pub form : Form
+  pub is_command : IsCommand form
+  pub values : List Text
+  pub found : subcommand_of program words ≡ Some (form.name, rows_with form.arguments values)
+  pub are_taken : AreTaken form.arguments values
+  pub are_command : AreCommand form.name values words
 
 -- the words behind the first are texts too
 texts_behind : (words : List Text) (name : Text) (rest : List Text) → words ≡ name ∷ rest → All IsUtf8 words → All IsUtf8 rest
@@ -43,56 +63,47 @@ one_behind : (words : List Text) (name : Text) (rest : List Text) → words ≡ 
     → Any (λ word. is_help word ≡ true) words
 one_behind words name rest is (k, word, lt, at, asks) = subst (Any (λ w. is_help w ≡ true)) (sym is) (suc k, word, omega arith, at, asks)
 
-module _ (words rest : List Text) where
-  -- what is wrong with the words of `plan` is what is wrong behind its name
-  plan_kinds : words ≡ codes "plan" ∷ rest → fault_of program words ≡ level plan_shape rest
-  plan_kinds is = ap (fault_of program) is ∙ plan_first rest
+module _ (form : Form) (command : IsCommand form) (words rest : List Text) (is : words ≡ form.name ∷ rest) where
+  -- what is wrong with the words of a command is what is wrong behind its name
+  kinds_behind : fault_of program words ≡ level (shape form) rest
+  kinds_behind = ap (fault_of program) is ∙ command_first form command rest
 
-  -- and so with those of `word`
-  word_kinds : words ≡ codes "word" ∷ rest → fault_of program words ≡ level word_shape rest
-  word_kinds is = ap (fault_of program) is ∙ word_first rest
+  -- words that begin with its name and are taken are the command with its values
+  found_command : All IsUtf8 words → fault_of program words ≡ [] → FoundCommand words
+  found_command utf8 none =
+      let taken = form_taken form command.is_readable rest (texts_behind words form.name rest is utf8) (sym kinds_behind ∙ none) in
+      record {
+        form = form;
+        is_command = command;
+        values = taken.0;
+        found = ap (subcommand_of program) is ∙ command_found form command rest ∙ ap (λ rows. Some (form.name, rows)) taken.3;
+        are_taken = taken.2;
+        are_command = (rest, is, taken.1);
+      }
 
--- words that begin with `plan` and are taken ask a plan
-found_plan : (words rest : List Text) → All IsUtf8 words → words ≡ codes "plan" ∷ rest → fault_of program words ≡ [] → FoundPlan words
-found_plan words rest utf8 is none =
-    let taken = plan_taken rest (texts_behind words (codes "plan") rest is utf8) (sym (plan_kinds words rest is) ∙ none) in
-    record {
-      path = taken.0;
-      rows = rows_after plan_shape.rules [] rest;
-      found = ap (subcommand_of program) is ∙ plan_found rest;
-      image = taken.2;
-      asks = (rest, is, taken.1);
-    }
+  -- and they are told help only where one of them asks for it
+  helped_behind : All IsUtf8 words → IsAmong DisplayHelp (fault_of program words) → Any (λ word. is_help word ≡ true) words
+  helped_behind utf8 help =
+      one_behind words form.name rest is (form_help form command.is_readable rest (texts_behind words form.name rest is utf8) (subst (IsAmong DisplayHelp) kinds_behind help))
 
--- words that begin with `word` and are taken ask a word
-found_word : (words rest : List Text) → All IsUtf8 words → words ≡ codes "word" ∷ rest → fault_of program words ≡ [] → FoundWord words
-found_word words rest utf8 is none =
-    let taken = word_taken rest (texts_behind words (codes "word") rest is utf8) (sym (word_kinds words rest is) ∙ none) in
-    record {
-      path = taken.0;
-      digits = taken.1;
-      rows = rows_after word_shape.rules [] rest;
-      found = ap (subcommand_of program) is ∙ word_found rest;
-      image = taken.4;
-      index = taken.5;
-      number = taken.2;
-      asks = λ n number. (taken.1, number, (rest, is, taken.3));
-    }
-
--- words that clap takes ask a plan or a word
-pub parsed : (words : List Text) → All IsUtf8 words → fault_of program words ≡ [] → FoundPlan words ⊎ FoundWord words
+-- words that clap takes are a command with its values
+pub parsed : (words : List Text) → All IsUtf8 words → fault_of program words ≡ [] → FoundCommand words
 parsed words utf8 none = go (first_decides words utf8)
   where
-    go : Decided words → FoundPlan words ⊎ FoundWord words
-    go (inl (rest, is)) = inl (found_plan words rest utf8 is none)
-    go (inr (inl (rest, is))) = inr (found_word words rest utf8 is none)
-    go (inr (inr refused)) = absurd (refused.some none)
+    go : Decided words → FoundCommand words
+    go (inl (form, command, rest, is)) = found_command form command words rest is utf8 none
+    go (inr refused) = absurd (refused.some none)
 
--- words that clap refuses ask neither
+-- words that clap refuses are no command with values that its arguments take
+refused_command : (form : Form) → IsCommand form → (words values : List Text) → (fault_of program words ≡ [] → ⊥) → AreCommand form.name values words → AreTaken form.arguments values → ⊥
+refused_command form command words values fails (rest, is, given) takes =
+    fails (kinds_behind form command words rest is ∙ form_takes form command.is_readable rest values given takes)
+
+-- so they ask neither
 pub faulty : (words : List Text) → (fault_of program words ≡ [] → ⊥) → AsksNeither words
 faulty words fails = record {
-  no_plan = λ path asks. fails (plan_kinds words asks.0 asks.1 ∙ plan_takes asks.0 path asks.2);
-  no_word = λ path index asks. fails (word_kinds words asks.2.0 asks.2.1 ∙ word_takes asks.2.0 path asks.0 index asks.1 asks.2.2);
+  no_plan = λ path asks. refused_command plan_form plan_is_command words (path ∷ []) fails asks (refl, tt);
+  no_word = λ path index (digits, number, asks). refused_command word_form word_is_command words (path ∷ digits ∷ []) fails asks (refl, (takes_number digits index number, tt));
 }
 
 -- help is answered only where a word asks for it
@@ -100,8 +111,5 @@ pub helped : (words : List Text) → All IsUtf8 words → IsAmong DisplayHelp (f
 helped words utf8 help = go (first_decides words utf8)
   where
     go : Decided words → Any (λ word. is_help word ≡ true) words
-    go (inl (rest, is)) =
-        one_behind words (codes "plan") rest is (plan_help rest (texts_behind words (codes "plan") rest is utf8) (subst (IsAmong DisplayHelp) (plan_kinds words rest is) help))
-    go (inr (inl (rest, is))) =
-        one_behind words (codes "word") rest is (word_help rest (texts_behind words (codes "word") rest is utf8) (subst (IsAmong DisplayHelp) (word_kinds words rest is) help))
-    go (inr (inr refused)) = one_first words (refused.help help)
+    go (inl (form, command, rest, is)) = helped_behind form command words rest is utf8 help
+    go (inr refused) = one_first words (refused.help help)

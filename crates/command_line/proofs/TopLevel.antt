@@ -1,11 +1,13 @@
 -- What clap makes of the words, by the first of them.
-use Rattle.std.proofs.Common.{◌≡◌, ◌∙◌, ◌⊎◌, Bool, true, false, refl, sym, ap, ap₂, subst, List, [], ◌∷◌, Some, None, All, IsUtf8, bytes_eq, codes, fold, inl, inr, is_some}
+use Rattle.std.proofs.Common.{◌≡◌, ◌∙◌, ◌⊎◌, Bool, cond, true, false, refl, sym, ap, ap₂, subst, List, [], ◌∷◌, ◌++◌, Some, None, All, IsUtf8, bytes_eq, codes, fold, inl, inr, is_some, map, arith}
+use Rattle.std.specs.Prelude.{find}
 use Rattle.std.proofs.lemmas.List.Elements.{All-head}
+use Rattle.std.proofs.lemmas.Option.{same_Some}
 use Rattle.std.proofs.lemmas.Slice.Eq.{bytes_eq-Decides}
 use Rattle.clap.specs.Words.{IsAmong, Kinds, Rule, Shape, Text, fault_of, is_simple_and_free, subcommand_of}
 use Rattle.clap.specs.Kinds.{or_else}
-use Rattle.clap.specs.Simple.{built, entered, names_of}
-use Rattle.clap.specs.Walk.{Names, Walk, finished, idle, nothing_held, rows_after, settled, subcommand_met, walk_from, walked}
+use Rattle.clap.specs.Simple.{built, entered, label_of, names_of}
+use Rattle.clap.specs.Walk.{Names, Walk, answers_to, finished, idle, nothing_held, rows_after, settled, subcommand_met, walk_from, walked}
 use Rattle.clap.specs.Faults.{check_fault, defaults_fault, entered_fault, settle_fault, turn_fault, walk_fault}
 use Rattle.clap.specs.declared.error.kind.ErrorKind.{ErrorKind}
 use Rattle.clap.specs.declared.error.kind.ErrorKind.TheVariants.{DisplayHelp, InvalidSubcommand, MissingSubcommand, UnknownArgument}
@@ -13,10 +15,12 @@ use Rattle.clap.proofs.FaultLemmas.{stopped_fault}
 use Rattle.clap.proofs.OnLiterals.{clap_on_literals}
 use Rattle.clap.proofs.WalkLemmas.{walk_stopped}
 use Rattle.command_line.specs.Asked.{is_flag, is_help}
+use Rattle.command_line.specs.Forms.{Form, forms, plan_form, word_form}
 use Rattle.command_line.specs.Parser.{program}
 use Rattle.command_line.proofs.KindLists.{NoHelp, no_help_among, or_else_nil}
-use Rattle.command_line.proofs.Levels.{level, plan_shape, word_shape}
+use Rattle.command_line.proofs.Levels.{level, shape}
 use Rattle.command_line.proofs.LevelSteps.{HasHelpAlone, IsFlagFault, built_help, flag_helps, flag_turn, is_no_fault, plain_turn, unnamed_turn}
+use Rattle.command_line.proofs.FormLevel.{IsReadable}
 
 -- the program is one of which clap says what it finds in the words, and by which kinds it fails
 pub program_free : is_simple_and_free program ≡ true
@@ -38,6 +42,54 @@ names = names_of (built program)
 abbrev start : Walk
 start = walk_from nothing_held
 
+-- ---- the commands
+
+-- the form is that of a command which clap enters by its name
+pub record IsCommand (form : Form) : Type 0 where
+  pub is_one : find (λ other. bytes_eq other.name form.name) forms ≡ Some form
+  pub is_met : subcommand_met names idle form.name ≡ Some form.name
+  pub is_entered : find (λ s. answers_to form.name (label_of s)) (built program).subs ≡ Some (shape form)
+  pub is_not_help : bytes_eq form.name (codes "help") ≡ false
+  pub is_readable : IsReadable form
+
+-- so are these forms
+abbrev pub AreCommands : List Form → Type 0
+AreCommands [] = Unit {0}
+AreCommands (form ∷ rest) = IsCommand form × AreCommands rest
+
+pub plan_is_command : IsCommand plan_form
+plan_is_command = record { is_one = refl; is_met = refl; is_entered = refl; is_not_help = refl; is_readable = record { distinct = refl; few = omega arith } }
+
+pub word_is_command : IsCommand word_form
+word_is_command = record { is_one = refl; is_met = refl; is_entered = refl; is_not_help = refl; is_readable = record { distinct = refl; few = omega arith } }
+
+-- and so are all forms
+all_commands : AreCommands forms
+all_commands = (plan_is_command, (word_is_command, tt))
+
+-- two commands with one name are one
+pub same_form : (a b : Form) → IsCommand a → IsCommand b → a.name ≡ b.name → a ≡ b
+same_form a b is_a is_b named = same_Some a b (sym is_a.is_one ∙ ap (λ (name : Text). find (λ (other : Form). bytes_eq other.name name) forms) named ∙ is_b.is_one)
+
+-- the form is one of these
+abbrev pub IsOneOf : List Form → Form → Type 0
+IsOneOf [] form = ⊥
+IsOneOf (other ∷ rest) form = (form ≡ other) ⊎ IsOneOf rest form
+
+-- a form that is found among some is one of them
+found_one : (some : List Form) (name : Text) (form : Form) → find (λ other. bytes_eq other.name name) some ≡ Some form → IsOneOf some form
+found_one [] name form is = cc
+found_one (other ∷ rest) name form is = go (bytes_eq other.name name) is (found_one rest name form)
+  where
+    go : (t : Bool) → cond t (Some other) (find (λ (f : Form). bytes_eq f.name name) rest) ≡ Some form
+        → (find (λ (f : Form). bytes_eq f.name name) rest ≡ Some form → IsOneOf rest form) → IsOneOf (other ∷ rest) form
+    go true is later = inl (sym (same_Some other form is))
+    go false is later = inr (later is)
+
+-- each command is one of the forms
+pub one_of_these : (form : Form) → IsCommand form → IsOneOf forms form
+one_of_these form command = found_one forms form.name form command.is_one
+
 -- ---- a first word that is a command's name
 
 -- where the walk stands after the name, with the words behind that
@@ -55,25 +107,29 @@ after end = or_else (entered_fault (built program) end.stopped)
     (or_else (defaults_fault (settled top_rules end.held).rows top_rules)
     (check_fault top (finished top_rules end.held) (is_some (entered (built program) end.stopped)))))
 
--- where the first word is `plan`, what is wrong with the words is what is wrong with those behind it
-pub plan_first : (rest : List Text) → fault_of program (codes "plan" ∷ rest) ≡ level plan_shape rest
-unfolding clap_on_literals
-plan_first rest = ap₂ or_else (stopped_fault top names start (codes "plan", []) rest) (ap after (met_walk (codes "plan") rest)) ∙ or_else_nil (level plan_shape rest)
+module _ (form : Form) (command : IsCommand form) (rest : List Text) where
+  -- the command's name stops the walk
+  name_walk : fold (walked top_rules names) start (form.name ∷ rest) ≡ met form.name rest
+  unfolding walked
+  name_walk = ap (λ w. fold (walked top_rules names) w rest) (rw command.is_met refl) ∙ met_walk form.name rest
 
--- and so where it is `word`
-pub word_first : (rest : List Text) → fault_of program (codes "word" ∷ rest) ≡ level word_shape rest
-unfolding clap_on_literals
-word_first rest = ap₂ or_else (stopped_fault top names start (codes "word", []) rest) (ap after (met_walk (codes "word") rest)) ∙ or_else_nil (level word_shape rest)
+  -- nothing is wrong with it
+  name_fault : walk_fault top names start (form.name ∷ rest) ≡ []
+  unfolding walk_fault walked
+  name_fault = rw (command.is_met, command.is_not_help) (stopped_fault top names start (form.name, []) rest)
 
--- where the first word is `plan`, the matches are those of the words behind it
-pub plan_found : (rest : List Text) → subcommand_of program (codes "plan" ∷ rest) ≡ Some (codes "plan", rows_after plan_shape.rules [] rest)
-unfolding clap_on_literals
-plan_found rest = ap (λ (end : Walk). entered (built program) end.stopped) (met_walk (codes "plan") rest)
+  -- what is wrong behind it is what is wrong with the words of the command
+  command_fault : after (met form.name rest) ≡ level (shape form) rest
+  unfolding defaults_fault
+  command_fault = rw command.is_entered (or_else_nil (level (shape form) rest))
 
--- and so where it is `word`
-pub word_found : (rest : List Text) → subcommand_of program (codes "word" ∷ rest) ≡ Some (codes "word", rows_after word_shape.rules [] rest)
-unfolding clap_on_literals
-word_found rest = ap (λ (end : Walk). entered (built program) end.stopped) (met_walk (codes "word") rest)
+  -- where the first word is a command's name, what is wrong with the words is what is wrong with those behind it
+  pub command_first : fault_of program (form.name ∷ rest) ≡ level (shape form) rest
+  command_first = ap₂ or_else name_fault (ap after name_walk) ∙ command_fault
+
+  -- and the matches are those of the words behind it
+  pub command_found : subcommand_of program (form.name ∷ rest) ≡ Some (form.name, rows_after (shape form).rules [] rest)
+  command_found = ap (λ (end : Walk). entered (built program) end.stopped) name_walk ∙ rw command.is_entered refl
 
 -- ---- a first word that is no command's name
 
@@ -126,6 +182,17 @@ top_alone = record {
   defaults = refl;
 }
 
+-- the word is the name of none of the forms
+abbrev IsNoName : List Form → Text → Type 0
+IsNoName [] word = Unit {0}
+IsNoName (form ∷ rest) word = (bytes_eq form.name word ≡ false) × IsNoName rest word
+
+-- a word that is none of these names, and not `help`, names no command
+no_name : (some : List Form) (word : Text) → IsNoName some word → bytes_eq (codes "help") word ≡ false
+    → find (answers_to word) (map (λ (form : Form). (form.name, [])) some ++ (codes "help", []) ∷ []) ≡ None
+no_name [] word none help = rw help refl
+no_name (form ∷ rest) word none help = rw none.0 (no_name rest word none.1 help)
+
 module _ (word : Text) (rest : List Text) where
   -- a flag that no command has behind it is for help, or is refused
   refused_flag : (kinds : Kinds) → IsFlagFault top_rules false nothing_held word kinds → AreRefused (word ∷ rest) kinds
@@ -142,38 +209,42 @@ module _ (word : Text) (rest : List Text) where
       go true flag = refused_flag _ (flag_turn top top_alone [] None word 1 utf8 dashes flag)
       go false flag = subst (AreRefused (word ∷ rest)) (sym (plain_turn top [] None 1 word dashes flag)) (refused (word ∷ rest) UnknownArgument (InvalidSubcommand ∷ []) refl)
 
-  -- a word that is none of the names names no command
-  unnamed : bytes_eq (codes "plan") word ≡ false → bytes_eq (codes "word") word ≡ false → bytes_eq (codes "help") word ≡ false → subcommand_met names idle word ≡ None
-  unnamed p w h = rw (p, w, h) refl
-
   -- with such a word first, the words are refused
   other_first : IsUtf8 word → subcommand_met names idle word ≡ None → bytes_eq word (codes "--") ≡ false → AreRefused (word ∷ rest) (fault_of program (word ∷ rest))
   unfolding walk_fault
   other_first utf8 none dashes = refused_first _ _ _ (refused_first _ _ _ (turn_first utf8 none dashes))
 
+-- the word is the name of a command
+abbrev IsName : Text → Type 0
+IsName word = (form : Form) × IsCommand form × (word ≡ form.name)
+
+-- each word is the name of a command, or of none of these
+named : (some : List Form) → AreCommands some → (word : Text) → IsName word ⊎ IsNoName some word
+named [] commands word = inr tt
+named (form ∷ rest) commands word = go (bytes_eq form.name word) refl (named rest commands.1 word)
+  where
+    go : (t : Bool) → bytes_eq form.name word ≡ t → IsName word ⊎ IsNoName rest word → IsName word ⊎ IsNoName (form ∷ rest) word
+    go true e others = inl (form, commands.0, sym ((bytes_eq-Decides form.name word).0 e))
+    go false e (inl name) = inl name
+    go false e (inr none) = inr (e, none)
+
 -- the first word is a command's name, or the words are refused
 abbrev pub Decided : List Text → Type 0
-Decided words =
-    ((rest : List Text) × (words ≡ codes "plan" ∷ rest)) ⊎ (((rest : List Text) × (words ≡ codes "word" ∷ rest)) ⊎ AreRefused words (fault_of program words))
+Decided words = ((form : Form) × IsCommand form × (rest : List Text) × (words ≡ form.name ∷ rest)) ⊎ AreRefused words (fault_of program words)
 
 -- and the first word tells which
 pub first_decides : (words : List Text) → All IsUtf8 words → Decided words
-first_decides [] utf8 = inr (inr none_first)
-first_decides (word ∷ rest) utf8 =
-    go (bytes_eq (codes "plan") word) (bytes_eq (codes "word") word) (bytes_eq (codes "help") word) (bytes_eq word (codes "--")) refl refl refl refl
+first_decides [] utf8 = inr none_first
+first_decides (word ∷ rest) utf8 = go (named forms all_commands word) (bytes_eq (codes "help") word) (bytes_eq word (codes "--")) refl refl
   where
-    -- a name that the word is stands first
-    named : (name : Text) → bytes_eq name word ≡ true → word ∷ rest ≡ name ∷ rest
-    named name same = ap (λ (first : Text). first ∷ rest) (sym ((bytes_eq-Decides name word).0 same))
-
     -- words are refused where they are refused with that name
-    refused_as : (name : Text) → word ∷ rest ≡ name ∷ rest → AreRefused (name ∷ rest) (fault_of program (name ∷ rest)) → Decided (word ∷ rest)
-    refused_as name is h = inr (inr (subst (λ words. AreRefused words (fault_of program words)) (sym is) h))
+    refused_as : (name : Text) → word ≡ name → AreRefused (name ∷ rest) (fault_of program (name ∷ rest)) → Decided (word ∷ rest)
+    refused_as name is h = inr (subst (λ (first : Text). AreRefused (first ∷ rest) (fault_of program (first ∷ rest))) (sym is) h)
 
-    go : (is_plan is_word is_helper ends : Bool) → bytes_eq (codes "plan") word ≡ is_plan → bytes_eq (codes "word") word ≡ is_word
-        → bytes_eq (codes "help") word ≡ is_helper → bytes_eq word (codes "--") ≡ ends → Decided (word ∷ rest)
-    go true is_word is_helper ends p w h e = inl (rest, named (codes "plan") p)
-    go false true is_helper ends p w h e = inr (inl (rest, named (codes "word") w))
-    go false false true ends p w h e = refused_as (codes "help") (named (codes "help") h) (help_first rest)
-    go false false false true p w h e = refused_as (codes "--") (ap (λ (first : Text). first ∷ rest) ((bytes_eq-Decides word (codes "--")).0 e)) (end_first rest)
-    go false false false false p w h e = inr (inr (other_first word rest (All-head IsUtf8 word rest utf8) (unnamed word rest p w h) e))
+    go : IsName word ⊎ IsNoName forms word → (is_helper ends : Bool) → bytes_eq (codes "help") word ≡ is_helper → bytes_eq word (codes "--") ≡ ends → Decided (word ∷ rest)
+    go (inl (form, command, is)) is_helper ends h e = inl (form, command, rest, ap (λ (first : Text). first ∷ rest) is)
+    go (inr none) true ends h e = refused_as (codes "help") (sym ((bytes_eq-Decides (codes "help") word).0 h)) (help_first rest)
+    go (inr none) false true h e = refused_as (codes "--") ((bytes_eq-Decides word (codes "--")).0 e) (end_first rest)
+    go (inr none) false false h e =
+        let unnamed : subcommand_met names idle word ≡ None = rw (no_name forms word none h) refl in
+        inr (other_first word rest (All-head IsUtf8 word rest utf8) unnamed e)

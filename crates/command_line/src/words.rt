@@ -1,10 +1,11 @@
 //! The words of the command line.
-ghost use Rattle.std.specs.Prelude.{◌≡◌, ◌≢◌, ◌⊎◌, ℕ, [], true, false, map, is_some, Some, IsSomeAnd, IfSome, IfOk, IfErr, OnOk};
+ghost use Rattle.std.specs.Prelude.{◌≡◌, ◌≢◌, ◌⊎◌, ℕ, [], true, false, codes, map, is_some, Some, IsSomeAnd, IfSome, IfOk, IfErr, OnOk};
 ghost use Rattle.std.specs.String.{string_bytes};
 ghost use Rattle.clap.specs.Words.{app_of, fault_of, first_value, found_of, kind_of, one_text, rule_of, subcommand_of, subcommand_rows_of};
-ghost use Rattle.clap.specs.declared.error.kind.ErrorKind.TheVariants.{OutOfMemory};
+ghost use Rattle.clap.specs.declared.error.kind.ErrorKind.TheVariants.{DisplayHelp, OutOfMemory};
 ghost use Rattle.command_line.specs.Asked.{Asks, AsksNeither, IsHelp, IsNumber, IsText};
-ghost use Rattle.command_line.specs.Parser.{image_rule, plan_app, program, word_app};
+ghost use Rattle.command_line.specs.Forms.{plan_form, text, word_form};
+ghost use Rattle.command_line.specs.Parser.{command as command_of, program, rule};
 
 use clap::error::ErrorKind;
 use clap::{Arg, ArgMatches, Command, Error, value_parser};
@@ -25,6 +26,7 @@ pub enum Task<'a> {
 pub fn read_task<'a>(alloc: Global, words: &'a [String]) -> Result<Task<'a>, Error>
     ensures asked { IfOk result (Asks (map string_bytes words.entry.now)) }
     ensures none { IfErr result (λ error. kind_of error ≢ OutOfMemory → AsksNeither (map string_bytes words.entry.now)) }
+    ensures no_help { IfErr result (λ error. kind_of error ≢ DisplayHelp) }
 {
     match command(alloc)?.try_get_matches_from(words) {
         Ok(matches) => Ok(task_of(words, &matches)),
@@ -77,6 +79,7 @@ fn help_task<'a>(alloc: Global, error: Error) -> Result<Task<'a>, Error>
     ensures help { OnOk result (IsHelp error) }
     ensures text { IfOk result IsText }
     ensures error { IfErr result (λ told. (kind_of told ≡ OutOfMemory) ⊎ (kind_of told ≡ kind_of error)) }
+    ensures no_help { IfErr result (λ told. kind_of told ≢ DisplayHelp) }
 {
     match error.kind() {
         ErrorKind::DisplayHelp => Ok(Task::Help {
@@ -99,7 +102,7 @@ fn command<'a>(alloc: Global) -> Result<Command<'a>, AllocError>
 }
 
 fn plan_command<'a>(alloc: Global) -> Result<Command<'a>, AllocError>
-    ensures { IfOk result (λ made. app_of made ≡ plan_app) }
+    ensures { IfOk result (λ made. app_of made ≡ command_of plan_form) }
 {
     Command::new(alloc, "plan")
         .about("Prints where the live objects of a heap slide")
@@ -107,7 +110,7 @@ fn plan_command<'a>(alloc: Global) -> Result<Command<'a>, AllocError>
 }
 
 fn word_command<'a>(alloc: Global) -> Result<Command<'a>, AllocError>
-    ensures { IfOk result (λ made. app_of made ≡ word_app) }
+    ensures { IfOk result (λ made. app_of made ≡ command_of word_form) }
 {
     Command::new(alloc, "word")
         .about("Prints the to-space word at an index")
@@ -121,7 +124,7 @@ fn word_command<'a>(alloc: Global) -> Result<Command<'a>, AllocError>
 }
 
 fn image_argument<'a>(alloc: Global) -> Arg<'a>
-    ensures rule { rule_of result ≡ image_rule }
+    ensures rule { rule_of result ≡ rule (text (codes "IMAGE")) }
     ensures local { result.global ≡ false }
 {
     Arg::new(alloc, "IMAGE")
