@@ -20,7 +20,7 @@ use Rattle.command_line.proofs.KindLists.{neither, one_kind, or_else_nil}
 use Rattle.command_line.proofs.Levels.{level, shape}
 use Rattle.command_line.proofs.LevelSteps.{HasHelpAlone, at, behind_value, end_fault, end_from, fault_after, fault_at_end, fault_from, holding, trailing_place, value_fault}
 use Rattle.command_line.proofs.LevelWords.{Taken, level_given, taken}
-use Rattle.command_line.proofs.LevelKinds.{help_is_asked, no_defaults}
+use Rattle.command_line.proofs.LevelKinds.{help_is_asked, no_defaults, no_version_here}
 use Rattle.command_line.proofs.FormRules.{Ahead, ahead, are_distinct, built_rule, distinct_parts, help_alone, place_behind}
 use Rattle.command_line.proofs.FormRows.{AreFresh, AreGiven, defaults_add_none, fresh_behind, given_behind, is_missing, missing_rules, none_missing, one_missing, row_with, rows_with, used_fresh}
 
@@ -178,3 +178,7 @@ module _ (form : Form) (readable : IsReadable form) where
   -- the answer to a flag for help comes only where a word behind the name is for help
   pub form_help : (rest : List Text) → All IsUtf8 rest → IsAmong kind.DisplayHelp (level s rest) → Any (λ word. is_help word ≡ true) rest
   form_help = help_is_asked s alone
+
+  -- and the answer with the version never comes there
+  pub form_no_version : (rest : List Text) → All IsUtf8 rest → IsAmong kind.DisplayVersion (level s rest) → ⊥
+  form_no_version = no_version_here s alone

@@ -1,5 +1,5 @@
 -- From what the parser found to what the words ask.
-use Rattle.std.proofs.Common.{◌≡◌, ◌≢◌, ◌⊎◌, ◌∙◌, ◌∷◌, ℕ, List, Option, Some, IfOk, IfErr, OnOk, Result, Ok, Err}
+use Rattle.std.proofs.Common.{◌≡◌, ◌≢◌, ◌⊎◌, ◌∙◌, ◌∷◌, ℕ, List, Option, Some, IfOk, IfErr, Result, Ok, Err}
 use Rattle.std.proofs.Common.{[], sym, ap, subst, inl, inr, codes, map, unwrap_or, true}
 use Rattle.std.specs.Prelude.{IsUtf8}
 use Rattle.std.specs.String.{string_bytes}
@@ -9,19 +9,20 @@ use Rattle.std.proofs.lemmas.List.Elements.{All-map}
 use Rattle.std.proofs.lemmas.Str.{IsUtf8-string_bytes}
 use Rattle.clap.specs.Words.{App, IsAmong, HasKind, Row, fault_of, first_of, first_value, is_simple_and_free, kind_of, one_of, one_text, rows_of, subcommand_of}
 use Rattle.clap.specs.declared.error.Error.{Error}
-use Rattle.clap.specs.declared.error.kind.ErrorKind.TheVariants.{DisplayHelp, OutOfMemory}
+use Rattle.clap.specs.declared.error.kind.ErrorKind.{ErrorKind}
+use Rattle.clap.specs.declared.error.kind.ErrorKind.TheVariants.{DisplayHelp, DisplayVersion, OutOfMemory}
 use Rattle.clap.specs.declared.parser.matches.Found.{Found}
 use Rattle.clap.proofs.WalkLemmas.{first_value-rows, one_text-rows}
 use Rattle.std.specs.Str.Parse.{digits_value, without_leading_plus}
-use Rattle.command_line.specs.Asked.{AreCommand, Asks, AsksHelp, AsksNeither, AsksPlan, AsksWord, IsHelp, IsNumber, IsText}
+use Rattle.command_line.specs.Asked.{AreCommand, Asks, AsksHelp, AsksNeither, AsksPlan, AsksVersion, AsksWord, IsAnswerOf, IsNumber}
 use Rattle.command_line.specs.Forms.{Form, forms, plan_form, word_form}
 use Rattle.command_line.specs.Parser.{program}
 use Rattle.command_line.proofs.FormLevel.{AreTaken}
 use Rattle.command_line.proofs.FormRows.{rows_with}
 use Rattle.command_line.specs.declared.words.Task.{Task}
-use Rattle.command_line.specs.declared.words.Task.TheVariants.{Plan, Word, Help}
+use Rattle.command_line.specs.declared.words.Task.TheVariants.{Plan, Word, Help, Version}
 use Rattle.command_line.proofs.KindLists.{some_kind}
-use Rattle.command_line.proofs.Parsed.{parsed, faulty, helped, is_number}
+use Rattle.command_line.proofs.Parsed.{parsed, faulty, helped, is_number, versioned}
 use Rattle.command_line.proofs.TopLevel.{IsCommand, IsOneOf, one_of_these, plan_is_command, program_free, same_form, word_is_command}
 
 -- the bytes of texts are UTF-8
@@ -108,29 +109,34 @@ refused_neither words error utf8 kind other = elim kind [
   | inr among ↦ faulty words (some_kind (kind_of error) (fault_of program words) among)
 ]
 
--- and one for help only where they ask nothing, and some word is for help
-help_asked : (words : List (List ℕ)) (error : Error) → All IsUtf8 words → HasKind (fault_of program words) error → kind_of error ≡ DisplayHelp → AsksHelp words
-help_asked words error utf8 kind help = elim kind [
-  | inl memory ↦
-      let bad : DisplayHelp ≡ OutOfMemory = sym help ∙ memory in
-      cc
-  | inr among ↦
-      let here : IsAmong DisplayHelp (fault_of program words) = subst (λ k. IsAmong k (fault_of program words)) help among in
-      (faulty words (some_kind DisplayHelp (fault_of program words) here), helped words utf8 here)
+-- an answer of a kind that is not want of memory comes only where that kind is among those of the words
+among_kinds : (words : List (List ℕ)) (error : Error) (k : ErrorKind) → HasKind (fault_of program words) error → kind_of error ≡ k → k ≢ OutOfMemory → IsAmong k (fault_of program words)
+among_kinds words error k kind is other = elim kind [
+  | inl memory ↦ absurd (other (sym is ∙ memory))
+  | inr among ↦ subst (λ x. IsAmong x (fault_of program words)) is among
 ]
+
+-- help comes only where they ask nothing, and some word is for help
+help_asked : (words : List (List ℕ)) → All IsUtf8 words → IsAmong DisplayHelp (fault_of program words) → AsksHelp words
+help_asked words utf8 here = (faulty words (some_kind DisplayHelp (fault_of program words) here), helped words utf8 here)
+
+-- and the version only where they ask nothing, and the first is for the version
+version_asked : (words : List (List ℕ)) → All IsUtf8 words → IsAmong DisplayVersion (fault_of program words) → AsksVersion words
+version_asked words utf8 here = (faulty words (some_kind DisplayVersion (fault_of program words) here), versioned words utf8 here)
 
 -- the kinds of error of a command that is the program's
 pub kind_at : (a : App) (words : List (List ℕ)) (error : Error) → a ≡ program
     → (is_simple_and_free a ≡ true → HasKind (fault_of a words) error) → HasKind (fault_of program words) error
 kind_at a words error e h = subst (λ (x : App). HasKind (fault_of x words) error) e (h (ap is_simple_and_free e ∙ program_free))
 
--- a text of help is what the words ask
-pub help_told : (words : List (List ℕ)) (error : Error) (r : Result Task Error) → All IsUtf8 words → HasKind (fault_of program words) error
-    → OnOk r (IsHelp error) → IfOk r IsText → IfOk r (Asks words)
-help_told words error (Ok (Plan image)) utf8 kind help text = absurd text
-help_told words error (Ok (Word image index)) utf8 kind help text = absurd text
-help_told words error (Ok (Help told)) utf8 kind help text = help_asked words error utf8 kind help
-help_told words error (Err told) utf8 kind help text = _
+-- a text of help, and the version, is what the words ask
+pub answer_told : (words : List (List ℕ)) (error : Error) (r : Result Task Error) → All IsUtf8 words → HasKind (fault_of program words) error
+    → IfOk r (IsAnswerOf (kind_of error)) → IfOk r (Asks words)
+answer_told words error (Ok (Plan image)) utf8 kind answer = absurd answer
+answer_told words error (Ok (Word image index)) utf8 kind answer = absurd answer
+answer_told words error (Ok (Help text)) utf8 kind answer = help_asked words utf8 (among_kinds words error DisplayHelp kind answer (λ e. cc))
+answer_told words error (Ok Version) utf8 kind answer = version_asked words utf8 (among_kinds words error DisplayVersion kind answer (λ e. cc))
+answer_told words error (Err told) utf8 kind answer = _
 
 -- and an error comes only where they ask neither, memory aside
 pub error_told : (words : List (List ℕ)) (error : Error) (r : Result Task Error) → All IsUtf8 words → HasKind (fault_of program words) error

@@ -7,15 +7,15 @@ use Rattle.clap.specs.Values.{Accepts}
 use Rattle.clap.specs.ValueTests.{accepts}
 use Rattle.clap.specs.declared.builder.value_parser.ValueParser.{ValueParser}
 use Rattle.clap.specs.declared.builder.value_parser.ValueParser.TheVariants.{Unsigned}
-use Rattle.clap.specs.declared.error.kind.ErrorKind.TheVariants.{DisplayHelp}
+use Rattle.clap.specs.declared.error.kind.ErrorKind.TheVariants.{DisplayHelp, DisplayVersion}
 use Rattle.clap.proofs.ValueTestLemmas.{accepts-Accepts, Accepts-accepts}
-use Rattle.command_line.specs.Asked.{AreCommand, AsksNeither, IsNumber, is_help}
+use Rattle.command_line.specs.Asked.{AreCommand, AsksNeither, IsNumber, is_help, is_version}
 use Rattle.command_line.specs.Forms.{Form, plan_form, word_form}
 use Rattle.command_line.specs.Parser.{program}
-use Rattle.command_line.proofs.FormLevel.{AreTaken, form_help, form_taken, form_takes}
+use Rattle.command_line.proofs.FormLevel.{AreTaken, form_help, form_no_version, form_taken, form_takes}
 use Rattle.command_line.proofs.FormRows.{rows_with}
 use Rattle.command_line.proofs.Levels.{level, shape}
-use Rattle.command_line.proofs.TopLevel.{BeginWithHelp, Decided, IsCommand, command_first, command_found, first_decides, plan_is_command, word_is_command}
+use Rattle.command_line.proofs.TopLevel.{BeginWith, Decided, IsCommand, command_first, command_found, first_decides, plan_is_command, word_is_command}
 
 -- ---- numbers
 
@@ -55,7 +55,7 @@ texts_behind : (words : List Text) (name : Text) (rest : List Text) → words �
 texts_behind words name rest is utf8 = All-tail IsUtf8 name rest (subst (All IsUtf8) is utf8)
 
 -- one of the words is for help where the first is
-one_first : (words : List Text) → BeginWithHelp words → Any (λ word. is_help word ≡ true) words
+one_first : (words : List Text) → BeginWith is_help words → Any (λ word. is_help word ≡ true) words
 one_first words (word, rest, is, asks) = subst (Any (λ w. is_help w ≡ true)) (sym is) (0, word, omega arith, refl, asks)
 
 -- or one behind it
@@ -86,6 +86,11 @@ module _ (form : Form) (command : IsCommand form) (words rest : List Text) (is :
   helped_behind utf8 help =
       one_behind words form.name rest is (form_help form command.is_readable rest (texts_behind words form.name rest is utf8) (subst (IsAmong DisplayHelp) kinds_behind help))
 
+  -- and never the version
+  no_version_behind : All IsUtf8 words → IsAmong DisplayVersion (fault_of program words) → ⊥
+  no_version_behind utf8 version =
+      form_no_version form command.is_readable rest (texts_behind words form.name rest is utf8) (subst (IsAmong DisplayVersion) kinds_behind version)
+
 -- words that clap takes are a command with its values
 pub parsed : (words : List Text) → All IsUtf8 words → fault_of program words ≡ [] → FoundCommand words
 parsed words utf8 none = go (first_decides words utf8)
@@ -113,3 +118,11 @@ helped words utf8 help = go (first_decides words utf8)
     go : Decided words → Any (λ word. is_help word ≡ true) words
     go (inl (form, command, rest, is)) = helped_behind form command words rest is utf8 help
     go (inr refused) = one_first words (refused.help help)
+
+-- and the version only where the first word asks for it
+pub versioned : (words : List Text) → All IsUtf8 words → IsAmong DisplayVersion (fault_of program words) → BeginWith is_version words
+versioned words utf8 version = go (first_decides words utf8)
+  where
+    go : Decided words → BeginWith is_version words
+    go (inl (form, command, rest, is)) = absurd (no_version_behind form command words rest is utf8 version)
+    go (inr refused) = refused.version version

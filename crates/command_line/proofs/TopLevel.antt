@@ -1,25 +1,27 @@
 -- What clap makes of the words, by the first of them.
-use Rattle.std.proofs.Common.{◌≡◌, ◌∙◌, ◌⊎◌, Bool, cond, true, false, refl, sym, ap, ap₂, subst, List, [], ◌∷◌, ◌++◌, Some, None, All, IsUtf8, bytes_eq, codes, fold, inl, inr, is_some, map, arith}
+use Rattle.std.proofs.Common.{◌≡◌, ◌∙◌, ◌⊎◌, ◌==◌, Option, Bool, cond, true, false, refl, sym, ap, ap₂, subst, List, [], ◌∷◌, ◌++◌, Some, None, All, IsUtf8, bytes_eq, codes, fold, inl, inr, is_some, map, arith}
 use Rattle.std.specs.Prelude.{find}
 use Rattle.std.proofs.lemmas.List.Elements.{All-head}
 use Rattle.std.proofs.lemmas.Option.{same_Some}
 use Rattle.std.proofs.lemmas.Slice.Eq.{bytes_eq-Decides}
 use Rattle.clap.specs.Words.{IsAmong, Kinds, Rule, Shape, Text, fault_of, is_simple_and_free, subcommand_of}
 use Rattle.clap.specs.Kinds.{or_else}
-use Rattle.clap.specs.Simple.{built, entered, label_of, names_of}
-use Rattle.clap.specs.Walk.{Names, Walk, answers_to, finished, idle, nothing_held, rows_after, settled, subcommand_met, walk_from, walked}
-use Rattle.clap.specs.Faults.{check_fault, defaults_fault, entered_fault, settle_fault, turn_fault, walk_fault}
+use Rattle.clap.specs.Simple.{built, entered, filled, label_of, names_of, version_rule}
+use Rattle.clap.specs.Walk.{Names, Walk, answers_to, arg_by_long, finished, idle, nothing_held, rows_after, settled, subcommand_met, walk_from, walked}
+use Rattle.clap.specs.Faults.{bundle_fault, check_fault, defaults_fault, entered_fault, flags_fault, long_fault, settle_fault, turn_fault, walk_fault, word_fault}
 use Rattle.clap.specs.declared.error.kind.ErrorKind.{ErrorKind}
-use Rattle.clap.specs.declared.error.kind.ErrorKind.TheVariants.{DisplayHelp, InvalidSubcommand, MissingSubcommand, UnknownArgument}
+use Rattle.clap.specs.declared.error.kind.ErrorKind.TheVariants.{DisplayHelp, DisplayVersion, InvalidSubcommand, MissingSubcommand, TooManyValues, UnknownArgument}
 use Rattle.clap.proofs.FaultLemmas.{stopped_fault}
 use Rattle.clap.proofs.OnLiterals.{clap_on_literals}
 use Rattle.clap.proofs.WalkLemmas.{walk_stopped}
-use Rattle.command_line.specs.Asked.{is_flag, is_help}
+use Rattle.command_line.specs.Asked.{is_flag, is_help, is_version}
 use Rattle.command_line.specs.Forms.{Form, forms, plan_form, word_form}
 use Rattle.command_line.specs.Parser.{program}
-use Rattle.command_line.proofs.KindLists.{NoHelp, no_help_among, or_else_nil}
+use Rattle.std.proofs.lemmas.Bool.{eqb-true}
+use Rattle.command_line.proofs.Lexed.{IsBundle, IsLong, flag_read}
+use Rattle.command_line.proofs.KindLists.{NoAnswer, no_answer_among, or_else_nil}
 use Rattle.command_line.proofs.Levels.{level, shape}
-use Rattle.command_line.proofs.LevelSteps.{HasHelpAlone, IsFlagFault, built_help, flag_helps, flag_turn, is_no_fault, plain_turn, unnamed_turn}
+use Rattle.command_line.proofs.LevelSteps.{built_help, plain_turn, unnamed_turn}
 use Rattle.command_line.proofs.FormLevel.{IsReadable}
 
 -- the program is one of which clap says what it finds in the words, and by which kinds it fails
@@ -30,9 +32,9 @@ program_free = refl
 abbrev top : Shape
 top = (built program).top
 
--- the flags there: that for help
+-- the flags there: those for help and for the version
 abbrev top_rules : List Rule
-top_rules = built_help ∷ []
+top_rules = built_help ∷ filled version_rule ∷ []
 
 -- what the commands are called
 abbrev names : Names
@@ -133,34 +135,49 @@ module _ (form : Form) (command : IsCommand form) (rest : List Text) where
 
 -- ---- a first word that is no command's name
 
--- the first word is for help
-abbrev pub BeginWithHelp : List Text → Type 0
-BeginWithHelp words = (word : Text) × (rest : List Text) × (words ≡ word ∷ rest) × (is_help word ≡ true)
+-- the first word passes this test
+abbrev pub BeginWith : (Text → Bool) → List Text → Type 0
+BeginWith test words = (word : Text) × (rest : List Text) × (words ≡ word ∷ rest) × (test word ≡ true)
 
--- the kinds of words that no command takes: there is one, and that for help only where the first word is for it
+-- the kinds of words that no command takes: there is one, and that of an answer only where the first word is for it
 pub record AreRefused (words : List Text) (kinds : Kinds) : Type 0 where
   pub some : kinds ≡ [] → ⊥
-  pub help : IsAmong DisplayHelp kinds → BeginWithHelp words
+  pub help : IsAmong DisplayHelp kinds → BeginWith is_help words
+  pub version : IsAmong DisplayVersion kinds → BeginWith is_version words
 
 -- the kinds of a first step are those of both
 refused_first : (words : List Text) (kinds more : Kinds) → AreRefused words kinds → AreRefused words (or_else kinds more)
 refused_first words [] more h = absurd (h.some refl)
 refused_first words (kind ∷ kinds) more h = h
 
--- kinds without that for help refuse any words
-refused : (words : List Text) (kind : ErrorKind) (kinds : Kinds) → NoHelp (kind ∷ kinds) → AreRefused words (kind ∷ kinds)
+-- kinds without that of an answer refuse any words
+refused : (words : List Text) (kind : ErrorKind) (kinds : Kinds) → NoAnswer (kind ∷ kinds) → AreRefused words (kind ∷ kinds)
 refused words kind kinds none = record {
   some = λ e. cc;
-  help = λ h. absurd (no_help_among (kind ∷ kinds) none h);
+  help = λ h. absurd (no_answer_among DisplayHelp refl (kind ∷ kinds) none h);
+  version = λ h. absurd (no_answer_among DisplayVersion refl (kind ∷ kinds) none h);
 }
+
+-- words of which the first is for help are told help
+told_help : (word : Text) (rest : List Text) (kinds : Kinds) → NoAnswer kinds → is_help word ≡ true → AreRefused (word ∷ rest) (DisplayHelp ∷ kinds)
+told_help word rest kinds none helps = record { some = λ e. cc; help = λ _. (word, rest, refl, helps); version = λ h. absurd (go h) }
+  where
+    go : IsAmong DisplayVersion (DisplayHelp ∷ kinds) → ⊥
+    go (inl same) = cc
+    go (inr h) = no_answer_among DisplayVersion refl kinds none h
+
+-- and those of which the first is for the version are told the version
+told_version : (word : Text) (rest : List Text) → is_version word ≡ true → AreRefused (word ∷ rest) (DisplayVersion ∷ [])
+told_version word rest asks = record { some = λ e. cc; help = λ h. absurd (go h); version = λ _. (word, rest, refl, asks) }
+  where
+    go : IsAmong DisplayHelp (DisplayVersion ∷ []) → ⊥
+    go (inl same) = cc
+    go (inr none) = none
 
 -- `help` is told help, or refused with the words behind it
 help_first : (rest : List Text) → AreRefused (codes "help" ∷ rest) (fault_of program (codes "help" ∷ rest))
 unfolding clap_on_literals
-help_first rest = record {
-  some = λ e. cc;
-  help = λ _. (codes "help", rest, refl, refl);
-}
+help_first rest = told_help (codes "help") rest (InvalidSubcommand ∷ []) refl refl
 
 -- behind `--` a word is no command's name
 end_first : (rest : List Text) → AreRefused (codes "--" ∷ rest) (fault_of program (codes "--" ∷ rest))
@@ -172,15 +189,6 @@ end_first (word ∷ rest) = refused (codes "--" ∷ word ∷ rest) UnknownArgume
 none_first : AreRefused [] (fault_of program [])
 unfolding clap_on_literals
 none_first = refused [] MissingSubcommand [] refl
-
--- its one flag is for help, and no argument has a position or a default value
-top_alone : HasHelpAlone top_rules
-top_alone = record {
-  long = λ name. refl;
-  short = λ c. refl;
-  plain = λ position a none. absurd cc;
-  defaults = refl;
-}
 
 -- the word is the name of none of the forms
 abbrev IsNoName : List Form → Text → Type 0
@@ -194,20 +202,48 @@ no_name [] word none help = rw help refl
 no_name (form ∷ rest) word none help = rw none.0 (no_name rest word none.1 help)
 
 module _ (word : Text) (rest : List Text) where
-  -- a flag that no command has behind it is for help, or is refused
-  refused_flag : (kinds : Kinds) → IsFlagFault top_rules false nothing_held word kinds → AreRefused (word ∷ rest) kinds
-  refused_flag kinds fault = record {
-    some = is_no_fault top_rules false nothing_held word kinds fault;
-    help = λ h. (word, rest, refl, flag_helps top_rules false nothing_held word kinds fault h);
-  }
+  -- the kinds of a first word refuse the words
+  abbrev Refuses : Kinds → Type 0
+  Refuses = AreRefused (word ∷ rest)
+
+  -- a long flag is for help or for the version, or is refused
+  long_first : (flag : IsLong word) → Refuses (long_fault top_rules false (arg_by_long top_rules flag.name) flag.value nothing_held)
+  long_first flag = go flag.value (bytes_eq (codes "help") flag.name) (bytes_eq (codes "version") flag.name) refl refl flag.help flag.version
+    where
+      go : (v : Option Text) (h w : Bool) → bytes_eq (codes "help") flag.name ≡ h → bytes_eq (codes "version") flag.name ≡ w
+          → (flag.name ≡ codes "help" → v ≡ None → is_help word ≡ true) → (flag.name ≡ codes "version" → v ≡ None → is_version word ≡ true)
+          → Refuses (long_fault top_rules false (arg_by_long top_rules flag.name) v nothing_held)
+      go None true w e f help version = rw e (told_help word rest [] refl (help (sym ((bytes_eq-Decides (codes "help") flag.name).0 e)) refl))
+      go (Some v) true w e f help version = rw e (refused (word ∷ rest) TooManyValues [] refl)
+      go None false true e f help version = rw (e, f) (told_version word rest (version (sym ((bytes_eq-Decides (codes "version") flag.name).0 f)) refl))
+      go (Some v) false true e f help version = rw (e, f) (refused (word ∷ rest) TooManyValues [] refl)
+      go v false false e f help version = rw (e, f) (refused (word ∷ rest) UnknownArgument [] refl)
+
+  -- and so is a bundle
+  bundle_first : (flag : IsBundle word) → Refuses (bundle_fault top_rules false (flag.byte ∷ flag.bytes) nothing_held)
+  unfolding flags_fault
+  bundle_first flag = go (104 == flag.first) (86 == flag.first) refl refl
+    where
+      go : (h w : Bool) → (104 == flag.first) ≡ h → (86 == flag.first) ≡ w → Refuses (bundle_fault top_rules false (flag.byte ∷ flag.bytes) nothing_held)
+      go true w e f = rw (flag.begins, e) (told_help word rest [] refl (flag.help (sym (eqb-true 104 flag.first e))))
+      go false true e f = rw (flag.begins, e, f) (told_version word rest (flag.version (sym (eqb-true 86 flag.first f))))
+      go false false e f = rw (flag.begins, e, f) (refused (word ∷ rest) UnknownArgument [] refl)
+
+  -- so a flag is, where it is not `--`
+  flag_first : IsUtf8 word → bytes_eq word (codes "--") ≡ false → is_flag word ≡ true → Refuses (turn_fault top [] start word)
+  flag_first utf8 dashes flag = refused_first (word ∷ rest) _ _ (go (flag_read word utf8 dashes flag))
+    where
+      go : IsLong word ⊎ IsBundle word → Refuses (word_fault top [] false idle word nothing_held)
+      go (inl long) = rw (dashes, long.read) (long_first long)
+      go (inr bundle) = rw (dashes, bundle.no_long, bundle.read) (bundle_first bundle)
 
   -- the turn of a first word that names no command and is not `--` is refused
-  turn_first : IsUtf8 word → subcommand_met names idle word ≡ None → bytes_eq word (codes "--") ≡ false → AreRefused (word ∷ rest) (turn_fault top names start word)
-  turn_first utf8 none dashes = subst (AreRefused (word ∷ rest)) (sym (unnamed_turn top [] None 1 names word none)) (go (is_flag word) refl)
+  turn_first : IsUtf8 word → subcommand_met names idle word ≡ None → bytes_eq word (codes "--") ≡ false → Refuses (turn_fault top names start word)
+  turn_first utf8 none dashes = subst Refuses (sym (unnamed_turn top [] None 1 names word none)) (go (is_flag word) refl)
     where
-      go : (t : Bool) → is_flag word ≡ t → AreRefused (word ∷ rest) (turn_fault top [] start word)
-      go true flag = refused_flag _ (flag_turn top top_alone [] None word 1 utf8 dashes flag)
-      go false flag = subst (AreRefused (word ∷ rest)) (sym (plain_turn top [] None 1 word dashes flag)) (refused (word ∷ rest) UnknownArgument (InvalidSubcommand ∷ []) refl)
+      go : (t : Bool) → is_flag word ≡ t → Refuses (turn_fault top [] start word)
+      go true flag = flag_first utf8 dashes flag
+      go false flag = subst Refuses (sym (plain_turn top [] None 1 word dashes flag)) (refused (word ∷ rest) UnknownArgument (InvalidSubcommand ∷ []) refl)
 
   -- with such a word first, the words are refused
   other_first : IsUtf8 word → subcommand_met names idle word ≡ None → bytes_eq word (codes "--") ≡ false → AreRefused (word ∷ rest) (fault_of program (word ∷ rest))

@@ -15,9 +15,9 @@ rule a = record (new_rule a.id) {
 abbrev pub command : Form → App
 command form = record (new_app form.name) { top = record (new_app form.name).top { rules = map rule form.arguments } }
 
--- one of the commands is required, and there is no program's name before it
+-- one of the commands is required, there is no program's name before it, and the program has a version
 abbrev pub asked_of_all : Shape → Shape
-asked_of_all top = record top { no_binary_name = true; subcommand_required = true }
+asked_of_all top = record top { has_version = true; no_binary_name = true; subcommand_required = true }
 
 abbrev pub empty_app : App
 empty_app = record (new_app (codes "compressor")) { top = asked_of_all (new_app (codes "compressor")).top }

@@ -1,5 +1,5 @@
 //! Which words ask what.
-use crate::words::{Task, read_task};
+use crate::words::{Task, VERSION_LINE, read_task};
 use std::alloc::Global;
 use std::test::Fail;
 
@@ -13,6 +13,7 @@ fn asked(alloc: Global, line: &str) -> Result<String, Fail> {
         Ok(Task::Plan { image }) => format!(in alloc; "the plan of {image}")?,
         Ok(Task::Word { image, index }) => format!(in alloc; "word {index} of {image}")?,
         Ok(Task::Help { text }) => format!(in alloc; "help: {text}")?,
+        Ok(Task::Version) => format!(in alloc; "{VERSION_LINE}")?,
         Err(error) => format!(in alloc; "{error}")?,
     })
 }
@@ -53,6 +54,18 @@ fn answers_help_where_it_is_asked(rt: HostRuntime) -> Result<(), Fail> {
 }
 
 #[test]
+fn answers_the_version_where_it_is_asked(rt: HostRuntime) -> Result<(), Fail> {
+    for line in ["--version", "-V", "-Vh", "--version plan"] {
+        assert_eq!(rt;
+            asked(rt.alloc(), line)?.as_str(),
+            "compressor 0.1.0\n",
+            "{line}"
+        );
+    }
+    Ok(())
+}
+
+#[test]
 fn refuses_words_that_ask_neither(rt: HostRuntime) -> Result<(), Fail> {
     for line in [
         "",
@@ -60,6 +73,10 @@ fn refuses_words_that_ask_neither(rt: HostRuntime) -> Result<(), Fail> {
         "-- word three.img 2",
         "sweep three.img",
         "help sweep",
+        "version",
+        "--version=1",
+        "word --version",
+        "plan -V",
         "plan",
         "plan three.img 1",
         "plan --image three.img",

@@ -1,9 +1,9 @@
 //! The words of the command line.
-ghost use Rattle.std.specs.Prelude.{◌≡◌, ◌≢◌, ◌⊎◌, ℕ, [], true, false, codes, map, is_some, Some, IsSomeAnd, IfSome, IfOk, IfErr, OnOk};
+ghost use Rattle.std.specs.Prelude.{◌≡◌, ◌≢◌, ◌⊎◌, ℕ, [], true, false, codes, map, is_some, Some, IsSomeAnd, IfSome, IfOk, IfErr};
 ghost use Rattle.std.specs.String.{string_bytes};
 ghost use Rattle.clap.specs.Words.{app_of, fault_of, first_value, found_of, kind_of, one_text, rule_of, subcommand_of, subcommand_rows_of};
-ghost use Rattle.clap.specs.declared.error.kind.ErrorKind.TheVariants.{DisplayHelp, OutOfMemory};
-ghost use Rattle.command_line.specs.Asked.{Asks, AsksNeither, IsHelp, IsNumber, IsText};
+ghost use Rattle.clap.specs.declared.error.kind.ErrorKind.TheVariants.{DisplayHelp, DisplayVersion, OutOfMemory};
+ghost use Rattle.command_line.specs.Asked.{Asks, AsksNeither, IsAnswerOf, IsNumber};
 ghost use Rattle.command_line.specs.Forms.{plan_form, text, word_form};
 ghost use Rattle.command_line.specs.Parser.{command as command_of, program, rule};
 
@@ -20,17 +20,26 @@ pub enum Task<'a> {
     Word { image: &'a str, index: u64 },
     /// This text of help.
     Help { text: String },
+    /// The program's version.
+    Version,
 }
+
+/// The program's name and version, as a line.
+pub const VERSION_LINE: &str = "compressor 0.1.0\n";
+
+// The version, as clap is told of it.
+const VERSION: &str = "0.1.0";
 
 /// Reads the words after the program's name: the task is the one that they ask. An error comes where they ask none, or for want of memory.
 pub fn read_task<'a>(alloc: Global, words: &'a [String]) -> Result<Task<'a>, Error>
     ensures asked { IfOk result (Asks (map string_bytes words.entry.now)) }
     ensures none { IfErr result (λ error. kind_of error ≢ OutOfMemory → AsksNeither (map string_bytes words.entry.now)) }
     ensures no_help { IfErr result (λ error. kind_of error ≢ DisplayHelp) }
+    ensures no_version { IfErr result (λ error. kind_of error ≢ DisplayVersion) }
 {
     match command(alloc)?.try_get_matches_from(words) {
         Ok(matches) => Ok(task_of(words, &matches)),
-        Err(error) => help_task(alloc, error),
+        Err(error) => answer_task(alloc, error),
     }
 }
 
@@ -74,17 +83,18 @@ fn number_of(found: &ArgMatches, id: &str) -> u64
     }
 }
 
-// The text of help where that is what the parser answers, and else its error.
-fn help_task<'a>(alloc: Global, error: Error) -> Result<Task<'a>, Error>
-    ensures help { OnOk result (IsHelp error) }
-    ensures text { IfOk result IsText }
+// The text of help, or the version, where that is what the parser answers, and else its error.
+fn answer_task<'a>(alloc: Global, error: Error) -> Result<Task<'a>, Error>
+    ensures answer { IfOk result (IsAnswerOf (kind_of error)) }
     ensures error { IfErr result (λ told. (kind_of told ≡ OutOfMemory) ⊎ (kind_of told ≡ kind_of error)) }
     ensures no_help { IfErr result (λ told. kind_of told ≢ DisplayHelp) }
+    ensures no_version { IfErr result (λ told. kind_of told ≢ DisplayVersion) }
 {
     match error.kind() {
         ErrorKind::DisplayHelp => Ok(Task::Help {
             text: error.to_string(alloc)?,
         }),
+        ErrorKind::DisplayVersion => Ok(Task::Version),
         _ => Err(error),
     }
 }
@@ -95,6 +105,7 @@ fn command<'a>(alloc: Global) -> Result<Command<'a>, AllocError>
     Command::new(alloc, "compressor")
         .bin_name("compressor")?
         .about("Compacts marked heaps by sliding, page by page")
+        .version(VERSION)
         .no_binary_name(true)
         .subcommand_required(true)
         .subcommand(plan_command(alloc)?)?

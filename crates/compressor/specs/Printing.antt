@@ -1,5 +1,5 @@
 -- What a call tells of the output and of the file that is read: a refusal for a device comes exactly where one of its calls failed.
-use Rattle.std.specs.Prelude.{◌≡◌, ℕ, ◌+◌, List, [], ◌∷◌, ◌++◌, Option, Result, Ok, Err}
+use Rattle.std.specs.Prelude.{◌≡◌, ℕ, ◌+◌, List, [], ◌∷◌, ◌++◌, Option, Result, Ok, Err, codes}
 use Rattle.std.specs.Fmt.{decimal}
 use Rattle.std.specs.Io.KnownBytes.{Keeps}
 use Rattle.std.specs.Str.{trim_end}
@@ -23,6 +23,10 @@ numbered name number second value = name ++ decimal number ++ named second value
 -- a text of help as it is printed: without white space at its end, and then a line feed
 abbrev pub help_lines : List ℕ → List ℕ
 help_lines text = trim_end text ++ 10 ∷ []
+
+-- the program's name and version as they are printed, with a line feed
+abbrev pub version_line : List ℕ
+version_line = codes "compressor 0.1.0" ++ 10 ∷ []
 
 -- a call answers `CannotPrint` exactly where one more call of the output failed
 abbrev pub CountsPrint : {T : Type 0} → ℕ → ℕ → Result T Refusal → Type 0

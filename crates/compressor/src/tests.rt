@@ -231,6 +231,8 @@ fn tells_of_wrong_words_on_standard_error(rt: HostRuntime) -> Result<(), Fail> {
         "word --index three.img 1",
         "plan three.img 1",
         "-- word three.img 2",
+        "word --version",
+        "version",
         "sweep three.img",
         "",
     ] {
@@ -256,6 +258,17 @@ fn prints_help_on_standard_output(rt: HostRuntime) -> Result<(), Fail> {
         let ran = run_on(&rt, line)?;
         assert_eq!(rt; ran.status, 0);
         assert!(rt; ran.out.contains("Usage: compressor"));
+        assert_eq!(rt; ran.err.as_str(), "");
+    }
+    Ok(())
+}
+
+#[test]
+fn prints_its_version(rt: HostRuntime) -> Result<(), Fail> {
+    for line in ["--version", "-V", "-Vx", "--version word"] {
+        let ran = run_on(&rt, line)?;
+        assert_eq!(rt; ran.status, 0);
+        assert_eq!(rt; ran.out.as_str(), "compressor 0.1.0\n");
         assert_eq!(rt; ran.err.as_str(), "");
     }
     Ok(())
@@ -312,6 +325,7 @@ fn tells_that_it_cannot_print(rt: HostRuntime) -> Result<(), Fail> {
         ("word print.tests.img 2", 12),
         ("plan print.tests.img", 48),
         ("--help", 1),
+        ("--version", 17),
     ] {
         for failure in [Failure::Error, Failure::TakesNone] {
             for room in 0..length {
