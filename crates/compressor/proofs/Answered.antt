@@ -5,11 +5,11 @@ use Rattle.clap.specs.Words.{kind_of}
 use Rattle.clap.specs.declared.error.Error.{Error}
 use Rattle.clap.specs.declared.error.kind.ErrorKind.TheVariants.{OutOfMemory}
 use Rattle.heap_layout.specs.Heap.{Heap}
-use Rattle.compressor.specs.Asked.{Asks, AsksNeither}
+use Rattle.command_line.specs.Asked.{Asks, AsksNeither}
 use Rattle.compressor.specs.Images.{IsImageOf, SomeGiven, SomeHeap}
 use Rattle.compressor.specs.Tasks.{Answers, AreWrong, HasAnswered}
-use Rattle.compressor.specs.declared.words.Task.{Task}
-use Rattle.compressor.specs.declared.words.Task.TheVariants.{Plan, Word, Help}
+use Rattle.command_line.specs.declared.words.Task.{Task}
+use Rattle.command_line.specs.declared.words.Task.TheVariants.{Plan, Word, Help, Version}
 
 -- the heap whose image was given is accepted
 heap_of : {R : Type 0} (gives : R → Type 0) (remaining : R → Option (List ℕ)) (P : Heap → Type 0) → SomeGiven gives remaining (IsImageOf P) → SomeHeap P
@@ -20,7 +20,8 @@ pub answered : {R : Type 0} (gives : List ℕ → R → Type 0) (remaining : R �
     → IfOk asked (Asks words) → Answers gives remaining before after asked → HasAnswered words before after
 answered gives remaining before after words (Ok (Plan image)) asks h = inl (image.now, asks, heap_of _ _ _ h)
 answered gives remaining before after words (Ok (Word image index)) asks h = inr (inl (image.now, index, asks, heap_of _ _ _ h))
-answered gives remaining before after words (Ok (Help text)) asks h = inr (inr (asks, string_bytes text, h))
+answered gives remaining before after words (Ok (Help text)) asks h = inr (inr (inl (asks, string_bytes text, h)))
+answered gives remaining before after words (Ok Version) asks h = inr (inr (inr (asks, h)))
 answered gives remaining before after words (Err error) asks h = absurd h
 
 -- words of which no task was read, with memory there, ask neither

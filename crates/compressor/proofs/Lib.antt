@@ -1,14 +1,3 @@
-pub mod KindLists
-pub mod Levels
-pub mod Lexed
-pub mod LevelSteps
-pub mod LevelWords
-pub mod LevelKinds
-pub mod TopLevel
-pub mod PlanLevel
-pub mod WordLevel
-pub mod Parsed
-pub mod Found
 pub mod Lines
 pub mod Copied
 pub mod Answered

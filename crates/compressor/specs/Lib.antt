@@ -2,6 +2,4 @@ pub mod Printing
 pub mod Images
 pub mod Word
 pub mod Plan
-pub mod Asked
 pub mod Tasks
-pub mod Parser

@@ -1,15 +1,10 @@
 -- What a call tells of the output and of the file that is read: a refusal for a device comes exactly where one of its calls failed.
-use Rattle.std.specs.Prelude.{◌≡◌, ℕ, ◌+◌, List, [], ◌∷◌, ◌++◌, Option, Result, Ok, Err}
+use Rattle.std.specs.Prelude.{◌≡◌, ℕ, ◌+◌, List, [], ◌∷◌, ◌++◌, Option, Result, Ok, Err, codes}
 use Rattle.std.specs.Fmt.{decimal}
 use Rattle.std.specs.Io.KnownBytes.{Keeps}
 use Rattle.std.specs.Str.{trim_end}
-use Rattle.clap.specs.Values.{kind_of}
-use Rattle.clap.specs.declared.error.Error.{Error}
-use Rattle.clap.specs.declared.error.kind.ErrorKind.TheVariants.{DisplayHelp}
 use Rattle.heap_layout.specs.Counted.{CountsFailure}
 use Rattle.compressor.specs.declared.refusal.Input.TheVariants.{Image}
-use Rattle.compressor.specs.declared.words.Task.{Task}
-use Rattle.compressor.specs.declared.words.Task.TheVariants.{Plan, Word, Help}
 use Rattle.compressor.specs.declared.refusal.Refusal.{Refusal}
 use Rattle.compressor.specs.declared.refusal.Refusal.TheVariants.{Layout, CannotOpen, CannotPrint, OutOfMemory}
 
@@ -28,6 +23,10 @@ numbered name number second value = name ++ decimal number ++ named second value
 -- a text of help as it is printed: without white space at its end, and then a line feed
 abbrev pub help_lines : List ℕ → List ℕ
 help_lines text = trim_end text ++ 10 ∷ []
+
+-- the program's name and version as they are printed, with a line feed
+abbrev pub version_line : List ℕ
+version_line = codes "compressor 0.1.0" ++ 10 ∷ []
 
 -- a call answers `CannotPrint` exactly where one more call of the output failed
 abbrev pub CountsPrint : {T : Type 0} → ℕ → ℕ → Result T Refusal → Type 0
@@ -52,13 +51,3 @@ abbrev pub IsOfOpening : Type 0 → Refusal → Type 0
 IsOfOpening lacks (CannotOpen Image) = lacks
 IsOfOpening lacks OutOfMemory = Unit {0}
 IsOfOpening lacks _ = ⊥
-
--- the parser's answer is a text of help
-abbrev pub IsHelp : Error → Type 0
-IsHelp error = kind_of error ≡ DisplayHelp
-
--- the task is a text of help
-abbrev pub IsText : Task → Type 0
-IsText (Plan image) = ⊥
-IsText (Word image index) = ⊥
-IsText (Help text) = Unit {0}

@@ -5,27 +5,29 @@ use Rattle.std.specs.String.{string_bytes}
 use Rattle.clap.specs.Values.{kind_of}
 use Rattle.clap.specs.declared.error.Error.{Error}
 use Rattle.clap.specs.declared.error.kind.ErrorKind.TheVariants.{OutOfMemory}
-use Rattle.compressor.specs.Asked.{AsksHelp, AsksPlan, AsksWord}
+use Rattle.command_line.specs.Asked.{AsksHelp, AsksPlan, AsksVersion, AsksWord}
 use Rattle.compressor.specs.Images.{IsImageOf, SomeGiven, SomeHeap, RefusesAt}
 use Rattle.compressor.specs.Plan.{PrintsPlan, RefusesPlan}
-use Rattle.compressor.specs.Printing.{help_lines}
+use Rattle.compressor.specs.Printing.{help_lines, version_line}
 use Rattle.compressor.specs.Word.{PrintsWordAt, RefusesPrint}
 use Rattle.compressor.specs.declared.refusal.Refusal.{Refusal}
 use Rattle.compressor.specs.declared.refusal.Refusal.TheVariants.{CannotPrint}
-use Rattle.compressor.specs.declared.words.Task.{Task}
-use Rattle.compressor.specs.declared.words.Task.TheVariants.{Plan, Word, Help}
+use Rattle.command_line.specs.declared.words.Task.{Task}
+use Rattle.command_line.specs.declared.words.Task.TheVariants.{Plan, Word, Help, Version}
 
--- a task is done: between these two contents of the output, what it asks of the image at its path was printed, or the text of help
+-- a task is done: between these two contents of the output, what it asks of the image at its path was printed, or the text of help, or the version
 abbrev pub DoesTask : {R : Type 0} → (List ℕ → R → Type 0) → (R → Option (List ℕ)) → Option (List ℕ) → Option (List ℕ) → Task → Type 0
 DoesTask gives remaining before after (Plan image) = SomeGiven (gives image.now) remaining (IsImageOf (PrintsPlan before after))
 DoesTask gives remaining before after (Word image index) = SomeGiven (gives image.now) remaining (IsImageOf (PrintsWordAt index before after))
 DoesTask gives remaining before after (Help text) = Appends before after (help_lines (string_bytes text))
+DoesTask gives remaining before after Version = Appends before after version_line
 
--- why a task is refused; help, only since a call of the output failed, which `CountsPrint` tells
+-- why a task is refused; help and the version, only since a call of the output failed, which `CountsPrint` tells
 abbrev pub RefusesTask : {R : Type 0} → (List ℕ → Type 0) → (List ℕ → R → Type 0) → (R → Option (List ℕ)) → Task → Refusal → Type 0
 RefusesTask lacks gives remaining (Plan image) refusal = RefusesAt (lacks image.now) (gives image.now) remaining RefusesPlan refusal
 RefusesTask lacks gives remaining (Word image index) refusal = RefusesAt (lacks image.now) (gives image.now) remaining (RefusesPrint index) refusal
 RefusesTask lacks gives remaining (Help text) refusal = refusal ≡ CannotPrint
+RefusesTask lacks gives remaining Version refusal = refusal ≡ CannotPrint
 
 -- what the words ask is done
 abbrev pub Answers : {R : Type 0} → (List ℕ → R → Type 0) → (R → Option (List ℕ)) → Option (List ℕ) → Option (List ℕ) → Result Task Error → Type 0
@@ -42,9 +44,11 @@ abbrev pub AreWrong : Result Task Error → Type 0
 AreWrong (Ok task) = ⊥
 AreWrong (Err error) = kind_of error ≢ OutOfMemory
 
--- what the words ask was printed, between these two contents of the output: the plan of some accepted heap, the word at their index of one, or a text of help
+-- what the words ask was printed, between these two contents of the output: the plan of some accepted heap, the word at their index of one, a text of help,
+-- or the version
 abbrev pub HasAnswered : List (List ℕ) → Option (List ℕ) → Option (List ℕ) → Type 0
 HasAnswered words before after =
     ((path : List ℕ) × AsksPlan words path × SomeHeap (PrintsPlan before after))
     ⊎ ((path : List ℕ) × (index : ℕ) × AsksWord words path index × SomeHeap (PrintsWordAt index before after))
     ⊎ (AsksHelp words × (text : List ℕ) × Appends before after (help_lines text))
+    ⊎ (AsksVersion words × Appends before after version_line)

@@ -12,7 +12,6 @@ mod run;
 #[cfg(test)]
 mod tests;
 mod word;
-mod words;
 
 use crate::refusal::Refusal;
 use crate::run::{REFUSED, run};

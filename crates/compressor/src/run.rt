@@ -2,23 +2,23 @@ ghost use Rattle.std.specs.Prelude.{◌≡◌, ◌-◌, ◌^◌, ◌<◌, ◌≤
 ghost use Rattle.std.specs.String.{string_bytes};
 ghost use Rattle.std.specs.Io.KnownBytes.{Keeps};
 ghost use Rattle.heap_layout.specs.Counted.{inner_of, failures_of, is_flushed_of, writer_of};
-ghost use Rattle.compressor.specs.Asked.{AsksNeither};
+ghost use Rattle.command_line.specs.Asked.{AsksNeither};
 ghost use Rattle.compressor.specs.Printing.{CountsPrint, RefusedUnprinted};
 ghost use Rattle.compressor.specs.Tasks.{Answers, AreWrong, DoesTask, HasAnswered, IsRefused, RefusesTask};
 
 use crate::images::{FileImages, Images};
 use crate::plan::print_plan;
-use crate::print::{flush, print_help};
+use crate::print::{flush, print_help, print_text};
 use crate::refusal::Refusal;
 use crate::word::print_word;
-use crate::words::{Task, read_task};
 use clap::error::ErrorKind;
+use command_line::words::{Task, VERSION_LINE, read_task};
 use heap_layout::counted::Counted;
 use std::alloc::Global;
 use std::io::Write;
 use std::rt::Files;
 
-/// The status of a run that did what it was asked, or printed help.
+/// The status of a run that did what it was asked, or printed help or the version.
 pub const DONE: u8 = 0;
 
 /// The status of a run that was refused by name, on standard error.
@@ -95,6 +95,7 @@ pub fn perform<I: Images, O: Write>(
         Task::Plan { image } => print_plan(alloc, images, image, out)?,
         Task::Word { image, index } => print_word(alloc, images, image, index, out)?,
         Task::Help { text } => print_help(&text, out)?,
+        Task::Version => print_text(VERSION_LINE, out)?,
     }
     flush(out)
 }

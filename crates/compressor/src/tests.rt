@@ -4,7 +4,7 @@ ghost use Rattle.std.specs.Prelude.{◌≡◌, ◌≢◌, All, Any};
 use crate::images::Images;
 use crate::refusal::{Input, Refusal};
 use crate::run::{perform, run};
-use crate::words::Task;
+use command_line::words::Task;
 use heap_layout::counted::Counted;
 use heap_layout::fault::LayoutFault;
 use std::alloc::Global;
@@ -189,6 +189,7 @@ fn tells_one_line_of_a_refusal(rt: HostRuntime) -> Result<(), Fail> {
     fs::write(&rt, "whole.tests.img", image.as_slice())?;
     fs::write(&rt, "root.tests.img", bad_root.as_slice())?;
     fs::write(&rt, "empty.tests.img", b"".as_slice())?;
+    fs::create_dir(&rt, "folder.tests")?;
     for (line, text) in [
         ("word whole.tests.img 64", "compressor: P5 NoSuchWord(64)\n"),
         (
@@ -202,6 +203,8 @@ fn tells_one_line_of_a_refusal(rt: HostRuntime) -> Result<(), Fail> {
             "plan absent.tests.img",
             "compressor: P1 CannotOpen(image)\n",
         ),
+        ("word folder.tests 0", "compressor: H12 Device\n"),
+        ("plan folder.tests", "compressor: H12 Device\n"),
     ] {
         let ran = run_on(&rt, line)?;
         assert_eq!(rt; ran.status, 1);
@@ -211,6 +214,7 @@ fn tells_one_line_of_a_refusal(rt: HostRuntime) -> Result<(), Fail> {
     for path in ["whole.tests.img", "root.tests.img", "empty.tests.img"] {
         fs::remove_file(&rt, path)?;
     }
+    fs::remove_dir(&rt, "folder.tests")?;
     Ok(())
 }
 
@@ -223,7 +227,12 @@ fn tells_of_wrong_words_on_standard_error(rt: HostRuntime) -> Result<(), Fail> {
         "word three.img 18446744073709551616",
         "word three.img 1 2",
         "plan",
+        "word three.img -- -2",
+        "word --index three.img 1",
         "plan three.img 1",
+        "-- word three.img 2",
+        "word --version",
+        "version",
         "sweep three.img",
         "",
     ] {
@@ -237,10 +246,29 @@ fn tells_of_wrong_words_on_standard_error(rt: HostRuntime) -> Result<(), Fail> {
 
 #[test]
 fn prints_help_on_standard_output(rt: HostRuntime) -> Result<(), Fail> {
-    for line in ["--help", "-h", "word --help", "word -h", "plan --help"] {
+    for line in [
+        "--help",
+        "-h",
+        "help",
+        "help word",
+        "word --help",
+        "word -h",
+        "plan --help",
+    ] {
         let ran = run_on(&rt, line)?;
         assert_eq!(rt; ran.status, 0);
         assert!(rt; ran.out.contains("Usage: compressor"));
+        assert_eq!(rt; ran.err.as_str(), "");
+    }
+    Ok(())
+}
+
+#[test]
+fn prints_its_version(rt: HostRuntime) -> Result<(), Fail> {
+    for line in ["--version", "-V", "-Vx", "--version word"] {
+        let ran = run_on(&rt, line)?;
+        assert_eq!(rt; ran.status, 0);
+        assert_eq!(rt; ran.out.as_str(), "compressor 0.1.0\n");
         assert_eq!(rt; ran.err.as_str(), "");
     }
     Ok(())
@@ -297,6 +325,7 @@ fn tells_that_it_cannot_print(rt: HostRuntime) -> Result<(), Fail> {
         ("word print.tests.img 2", 12),
         ("plan print.tests.img", 48),
         ("--help", 1),
+        ("--version", 17),
     ] {
         for failure in [Failure::Error, Failure::TakesNone] {
             for room in 0..length {

@@ -1,6 +1,6 @@
 use Rattle.std.proofs.Common.{◌≡◌, rules, subst, IfOk, List, String, Global, map}
 use Rattle.std.specs.String.{string_bytes}
-use Rattle.compressor.specs.Asked.{Asks, AsksNeither}
+use Rattle.command_line.specs.Asked.{Asks, AsksNeither}
 use Rattle.compressor.proofs.Answered.{answered, misused}
 use Rattle.compressor.proofs.run.run.Goals as goal
 

@@ -1,5 +1,5 @@
--- Lists of the kinds of an error: those of the first step that fails, and lists without the kind for help.
-use Rattle.std.proofs.Common.{◌≡◌, ◌∙◌, ◌⊎◌, Bool, cond, true, false, refl, ap, [], ◌∷◌, inl, inr, true≢false}
+-- Lists of the kinds of an error: those of the first step that fails, and lists without the kind of an answer.
+use Rattle.std.proofs.Common.{◌≡◌, ◌∙◌, ◌⊎◌, Bool, cond, true, false, refl, sym, ap, [], ◌∷◌, inl, inr, true≢false}
 use Rattle.std.specs.List.{list_any}
 use Rattle.std.proofs.lemmas.Bool.{or_parts}
 use Rattle.clap.specs.Kinds.{IsAmong, Kinds, or_else}
@@ -40,27 +40,28 @@ pub among_or : (k : ErrorKind) (a b : Kinds) → IsAmong k (or_else a b) → IsA
 among_or k [] b h = inr h
 among_or k (x ∷ xs) b h = inl h
 
--- the kind is the one for help
-abbrev pub is_for_help : ErrorKind → Bool
-is_for_help kind.DisplayHelp = true
-is_for_help _ = false
+-- the kind is that of an answer: help, or the version
+abbrev pub is_answer : ErrorKind → Bool
+is_answer kind.DisplayHelp = true
+is_answer kind.DisplayVersion = true
+is_answer _ = false
 
 -- none of the kinds is
-abbrev pub NoHelp : Kinds → Type 0
-NoHelp kinds = list_any is_for_help kinds ≡ false
+abbrev pub NoAnswer : Kinds → Type 0
+NoAnswer kinds = list_any is_answer kinds ≡ false
 
--- then the one for help is not among them
-pub no_help_among : (kinds : Kinds) → NoHelp kinds → IsAmong kind.DisplayHelp kinds → ⊥
-no_help_among [] none h = h
-no_help_among (x ∷ xs) none (inl e) = true≢false (ap is_for_help e ∙ (or_parts (is_for_help x) (list_any is_for_help xs) none).0)
-no_help_among (x ∷ xs) none (inr h) = no_help_among xs (or_parts (is_for_help x) (list_any is_for_help xs) none).1 h
+-- then no kind of an answer is among them
+pub no_answer_among : (k : ErrorKind) → is_answer k ≡ true → (kinds : Kinds) → NoAnswer kinds → IsAmong k kinds → ⊥
+no_answer_among k answers [] none h = h
+no_answer_among k answers (x ∷ xs) none (inl e) = true≢false (sym answers ∙ ap is_answer e ∙ (or_parts (is_answer x) (list_any is_answer xs) none).0)
+no_answer_among k answers (x ∷ xs) none (inr h) = no_answer_among k answers xs (or_parts (is_answer x) (list_any is_answer xs) none).1 h
 
--- where it is in neither of two lists, it is not in the first or else the second
-pub no_help_or : (a b : Kinds) → NoHelp a → NoHelp b → NoHelp (or_else a b)
-no_help_or [] b h i = i
-no_help_or (k ∷ ks) b h i = h
+-- where there is none in either of two lists, there is none in the first or else the second
+pub no_answer_or : (a b : Kinds) → NoAnswer a → NoAnswer b → NoAnswer (or_else a b)
+no_answer_or [] b h i = i
+no_answer_or (k ∷ ks) b h i = h
 
 -- nor in the one that a test chooses
-pub no_help_cond : (t : Bool) (a b : Kinds) → NoHelp a → NoHelp b → NoHelp (cond t a b)
-no_help_cond true a b h i = h
-no_help_cond false a b h i = i
+pub no_answer_cond : (t : Bool) (a b : Kinds) → NoAnswer a → NoAnswer b → NoAnswer (cond t a b)
+no_answer_cond true a b h i = h
+no_answer_cond false a b h i = i

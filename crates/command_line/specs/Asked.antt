@@ -3,8 +3,10 @@ use Rattle.std.specs.Prelude.{◌≡◌, ℕ, ◌<◌, ◌^◌, ◌==◌, ◌&&�
 use Rattle.std.specs.List.{Any}
 use Rattle.std.specs.Str.{bytes_eq}
 use Rattle.std.specs.Str.Parse.{IsNumeral, digits_value, without_leading_plus}
-use Rattle.compressor.specs.declared.words.Task.{Task}
-use Rattle.compressor.specs.declared.words.Task.TheVariants.{Plan, Word, Help}
+use Rattle.clap.specs.declared.error.kind.ErrorKind.{ErrorKind}
+use Rattle.clap.specs.declared.error.kind.ErrorKind.TheVariants.{DisplayHelp, DisplayVersion}
+use Rattle.command_line.specs.declared.words.Task.{Task}
+use Rattle.command_line.specs.declared.words.Task.TheVariants.{Plan, Word, Help, Version}
 
 -- a flag: a hyphen and more
 abbrev pub is_flag : List ℕ → Bool
@@ -48,8 +50,24 @@ is_help word = bytes_eq word (codes "help") || (bytes_eq word (codes "--help") |
 abbrev pub AsksHelp : List (List ℕ) → Type 0
 AsksHelp words = AsksNeither words × Any (λ word. is_help word ≡ true) words
 
+-- `--version`, or a flag that begins with `-V`
+abbrev pub is_version : List ℕ → Bool
+is_version word = bytes_eq word (codes "--version") || bytes_eq (take 2 word) (codes "-V")
+
+-- the words are neither, and the first of them is for the version
+abbrev pub AsksVersion : List (List ℕ) → Type 0
+AsksVersion words = AsksNeither words × ((word : List ℕ) × (rest : List (List ℕ)) × (words ≡ word ∷ rest) × (is_version word ≡ true))
+
 -- the words ask for this task
 abbrev pub Asks : List (List ℕ) → Task → Type 0
 Asks words (Plan image) = AsksPlan words image.now
 Asks words (Word image index) = AsksWord words image.now index
 Asks words (Help text) = AsksHelp words
+Asks words Version = AsksVersion words
+
+-- the task is what an answer of this kind asks for: a text of help, or the version
+abbrev pub IsAnswerOf : ErrorKind → Task → Type 0
+IsAnswerOf kind (Plan image) = ⊥
+IsAnswerOf kind (Word image index) = ⊥
+IsAnswerOf kind (Help text) = kind ≡ DisplayHelp
+IsAnswerOf kind Version = kind ≡ DisplayVersion

@@ -2,15 +2,16 @@ use Rattle.std.proofs.Common.{rules, ◌∙◌, ◌≡◌, ap, ap₂}
 use Rattle.std.proofs.lemmas.Result.{IfOk-weaker}
 use Rattle.clap.specs.Words.{App, app_of, with_subcommand}
 use Rattle.clap.proofs.SimpleLemmas.{plain_fields}
-use Rattle.compressor.specs.Parser.{empty_app, plan_app, word_app}
-use Rattle.compressor.proofs.words.command.Goals as goal
+use Rattle.command_line.specs.Forms.{plan_form, word_form}
+use Rattle.command_line.specs.Parser.{command, empty_app}
+use Rattle.command_line.proofs.words.command.Goals as goal
 
 pub returns : goal.returns
 returns c =
     let plan = c.in_ok-plan_command.field-0 in
     let word = c.in_ok-word_command.field-0 in
-    let plan_is : app_of plan ≡ plan_app = search rules in
-    let word_is : app_of word ≡ word_app = search rules in
+    let plan_is : app_of plan ≡ command plan_form = search rules in
+    let word_is : app_of word ≡ command word_form = search rules in
     let plan_local = plain_fields plan (ap (λ (a : App). a.top.is_plain) plan_is) in
     let word_local = plain_fields word (ap (λ (a : App). a.top.is_plain) word_is) in
     let empty_is : app_of c.subcommand_required.result ≡ empty_app = search rules in

@@ -1,5 +1,5 @@
 -- Words as clap's lexer reads them: a flag is a long one or a bundle of short ones, and another word is neither.
-use Rattle.std.proofs.Common.{◌≡◌, ◌∙◌, ◌⊎◌, ◌==◌, ◌∷◌, ℕ, Bool, List, Option, Some, None}
+use Rattle.std.proofs.Common.{◌≡◌, ◌∙◌, ◌⊎◌, ◌==◌, ◌∷◌, ◌<◌, ℕ, Bool, List, Option, Some, None}
 use Rattle.std.proofs.Common.{codes, true, false, refl, sym, ap, subst, arith, [], length, get_or, inl, inr, true≢false, lt-ltb, eq-eqb}
 use Rattle.std.specs.Prelude.{slice_get, encode_utf8_all}
 use Rattle.std.specs.List.{after_first}
@@ -11,7 +11,7 @@ use Rattle.clap.specs.Lexer.{has_byte, long_of, name_and_value, short_of}
 use Rattle.clap.specs.Walk.{Text}
 use Rattle.clap.proofs.CutLemmas.{Lacks, before_first-Lacks}
 use Rattle.clap.proofs.WalkLemmas.{both}
-use Rattle.compressor.specs.Asked.{is_flag, is_help}
+use Rattle.command_line.specs.Asked.{is_flag, is_help, is_version}
 
 -- ---- a word that is no flag
 
@@ -28,14 +28,15 @@ plain_read (b ∷ bs) h = plain_by (b == 45) b bs refl h
 
 -- ---- a flag
 
--- the word is a long flag, and is for help where its name is `help` and it has no value
+-- the word is a long flag, and is for help or the version where it has that name and no value
 pub record IsLong (word : Text) : Type 0 where
   pub name : Text
   pub value : Option Text
   pub read : long_of word ≡ Some (name, value)
   pub help : name ≡ codes "help" → value ≡ None → is_help word ≡ true
+  pub version : name ≡ codes "version" → value ≡ None → is_version word ≡ true
 
--- the word is a bundle of short flags, and is for help where the first is `h`
+-- the word is a bundle of short flags, and is for help where the first is `h`, and for the version where it is `V`
 pub record IsBundle (word : Text) : Type 0 where
   pub byte : ℕ
   pub bytes : Text
@@ -44,6 +45,7 @@ pub record IsBundle (word : Text) : Type 0 where
   pub read : short_of word ≡ Some (byte ∷ bytes)
   pub begins : slice_get (chars (byte ∷ bytes)) 0 ≡ Some first
   pub help : first ≡ 104 → is_help word ≡ true
+  pub version : first ≡ 86 → is_version word ≡ true
 
 -- a flag is a hyphen and at least one byte more
 flag_bytes : (word : Text) → is_flag word ≡ true → (c : ℕ) × (cs : Text) × (word ≡ 45 ∷ c ∷ cs)
@@ -63,14 +65,14 @@ bare_name text h = go (has_byte 61 text) refl
     go true e = let found : Some (after_first (λ x. x == 61) text) ≡ None = rw e at h in absurd cc
     go false e = before_first-Lacks 61 text (lacks text e)
 
--- characters that spell a text have a first one, an `h` only where the first byte is
-first_of_chars : (b : ℕ) (bs cs : List ℕ) → encode_utf8_all cs ≡ b ∷ bs → (x : ℕ) × (slice_get cs 0 ≡ Some x) × (x ≡ 104 → b ≡ 104)
+-- characters that spell a text have a first one, which is an ASCII character only where the first byte is
+first_of_chars : (b : ℕ) (bs cs : List ℕ) → encode_utf8_all cs ≡ b ∷ bs → (x : ℕ) × (slice_get cs 0 ≡ Some x) × ((c : ℕ) → c < 128 → x ≡ c → b ≡ c)
 first_of_chars b bs [] e = absurd cc
 first_of_chars b bs (x ∷ xs) e =
-    (x, refl, λ is. byte_from_char (b ∷ bs) (encode_utf8_all xs) 104 (sym e ∙ ap (λ c. encode_utf8_all (c ∷ xs)) is) (omega arith))
+    (x, refl, λ c ascii is. byte_from_char (b ∷ bs) (encode_utf8_all xs) c (sym e ∙ ap (λ y. encode_utf8_all (y ∷ xs)) is) ascii)
 
--- behind a hyphen stands a first character, an `h` only where the first byte is
-first_char : (b : ℕ) (bs : Text) → IsUtf8 (45 ∷ b ∷ bs) → (x : ℕ) × (slice_get (chars (b ∷ bs)) 0 ≡ Some x) × (x ≡ 104 → b ≡ 104)
+-- behind a hyphen stands a first character, which is an ASCII character only where the first byte is
+first_char : (b : ℕ) (bs : Text) → IsUtf8 (45 ∷ b ∷ bs) → (x : ℕ) × (slice_get (chars (b ∷ bs)) 0 ≡ Some x) × ((c : ℕ) → c < 128 → x ≡ c → b ≡ c)
 first_char b bs utf8 =
     let behind : IsUtf8 (b ∷ bs) = IsUtf8-drop (45 ∷ b ∷ bs) 1 utf8 (IsCharBoundary-after_ascii (45 ∷ b ∷ bs) 0 utf8 (omega arith) (omega arith)) in
     first_of_chars b bs (chars (b ∷ bs)) (encodes-chars (b ∷ bs) behind)
@@ -79,7 +81,15 @@ first_char b bs utf8 =
 help_long : (c : ℕ) (text : Text) → c ≡ 45 → text ≡ codes "help" → is_help (45 ∷ c ∷ text) ≡ true
 help_long c text e f = rw (e, f) refl
 
--- and so is a flag that begins with an `h`
+-- two hyphens and the name `version` are for the version
+version_long : (c : ℕ) (text : Text) → c ≡ 45 → text ≡ codes "version" → is_version (45 ∷ c ∷ text) ≡ true
+version_long c text e f = rw (e, f) refl
+
+-- a flag that begins with a `V` is for the version
+version_short : (c : ℕ) (cs : Text) → c ≡ 86 → is_version (45 ∷ c ∷ cs) ≡ true
+version_short c cs e = rw e refl
+
+-- and one that begins with an `h` is for help
 help_short : (c : ℕ) (cs : Text) → c ≡ 104 → is_help (45 ∷ c ∷ cs) ≡ true
 help_short c cs e = rw e refl
 
@@ -94,6 +104,7 @@ bytes_read c cs utf8 dashes = go (c == 45) refl cs utf8 dashes
       value = (name_and_value (d ∷ ds)).1;
       read = rw e refl;
       help = λ is none. help_long c (d ∷ ds) (eqb-true c 45 e) (sym (bare_name (d ∷ ds) none) ∙ is);
+      version = λ is none. version_long c (d ∷ ds) (eqb-true c 45 e) (sym (bare_name (d ∷ ds) none) ∙ is);
     })
     go false e cs utf8 dashes =
         let first = first_char c cs utf8 in
@@ -104,7 +115,8 @@ bytes_read c cs utf8 dashes = go (c == 45) refl cs utf8 dashes
           no_long = rw e refl;
           read = rw e refl;
           begins = first.1;
-          help = λ is. help_short c cs (first.2 is);
+          help = λ is. help_short c cs (first.2 104 (omega arith) is);
+          version = λ is. version_short c cs (first.2 86 (omega arith) is);
         })
 
 -- a flag other than `--` is a long flag or a bundle

@@ -7,12 +7,12 @@ use Rattle.std.proofs.lemmas.Option.{none-some, same_Some}
 use Rattle.clap.specs.Walk.{Row, Text, Walk, finished, rows_after}
 use Rattle.clap.specs.Kinds.{or_else}
 use Rattle.clap.specs.Simple.{Shape}
-use Rattle.compressor.specs.Asked.{given, is_flag}
-use Rattle.compressor.proofs.KindLists.{neither}
-use Rattle.compressor.proofs.Levels.{level}
-use Rattle.compressor.proofs.LevelSteps.{HasHelpAlone, IsFlagFault, at, end_from, fault_after, fault_at_end}
-use Rattle.compressor.proofs.LevelSteps.{fault_from, holding, is_no_fault, keep_flag_fault, level_is, value_fault}
-use Rattle.compressor.proofs.LevelSteps.{dashes_place, dashes_turn, flag_turn, next_place, plain_place, plain_turn, trailing_place}
+use Rattle.command_line.specs.Asked.{given, is_flag}
+use Rattle.command_line.proofs.KindLists.{neither}
+use Rattle.command_line.proofs.Levels.{level}
+use Rattle.command_line.proofs.LevelSteps.{HasHelpAlone, IsFlagFault, at, end_from, fault_after, fault_at_end}
+use Rattle.command_line.proofs.LevelSteps.{fault_from, holding, is_no_fault, keep_flag_fault, level_is, value_fault}
+use Rattle.command_line.proofs.LevelSteps.{dashes_place, dashes_turn, flag_turn, next_place, plain_place, plain_turn, trailing_place}
 
 -- ---- words and their values
 

@@ -15,10 +15,10 @@ use Rattle.clap.specs.Kinds.{IsAmong, Kinds, or_else}
 use Rattle.clap.specs.Simple.{Shape, filled, help_rule}
 use Rattle.clap.specs.Faults.{bundle_fault, check_fault, defaults_fault, flags_fault, long_fault, settle_fault, step_fault, turn_fault, walk_fault, word_fault}
 use Rattle.clap.specs.declared.error.kind.ErrorKind.TheVariants as kind
-use Rattle.compressor.specs.Asked.{is_flag, is_help}
-use Rattle.compressor.proofs.KindLists.{neither, no_help_among, one_kind, or_else_in, or_else_twice}
-use Rattle.compressor.proofs.Levels.{level}
-use Rattle.compressor.proofs.Lexed.{IsBundle, IsLong, flag_read, plain_read}
+use Rattle.command_line.specs.Asked.{is_flag, is_help}
+use Rattle.command_line.proofs.KindLists.{neither, no_answer_among, one_kind, or_else_in, or_else_twice}
+use Rattle.command_line.proofs.Levels.{level}
+use Rattle.command_line.proofs.Lexed.{IsBundle, IsLong, flag_read, plain_read}
 
 -- ---- places of a walk
 
@@ -173,8 +173,8 @@ module _ (rules : List Rule) (again : Bool) (held : Held) (word : Text) where
 
   -- it is the one for help only where the flag is for help
   pub flag_helps : (kinds : Kinds) → IsFlagFault rules again held word kinds → IsAmong kind.DisplayHelp kinds → is_help word ≡ true
-  flag_helps kinds (inl e) h = absurd (no_help_among (kind.UnknownArgument ∷ []) refl (subst (IsAmong kind.DisplayHelp) e h))
-  flag_helps kinds (inr (inl e)) h = absurd (no_help_among (kind.TooManyValues ∷ []) refl (subst (IsAmong kind.DisplayHelp) e h))
+  flag_helps kinds (inl e) h = absurd (no_answer_among kind.DisplayHelp refl (kind.UnknownArgument ∷ []) refl (subst (IsAmong kind.DisplayHelp) e h))
+  flag_helps kinds (inr (inl e)) h = absurd (no_answer_among kind.DisplayHelp refl (kind.TooManyValues ∷ []) refl (subst (IsAmong kind.DisplayHelp) e h))
   flag_helps kinds (inr (inr e)) h = e.0
 
 module _ (s : Shape) (alone : HasHelpAlone s.rules) (rows : List Row) (pending : Option (Text × List Text)) (word : Text) where
@@ -225,7 +225,7 @@ module _ (s : Shape) (alone : HasHelpAlone s.rules) (rows : List Row) (pending :
   behind_stray t e = rw e refl
 
   -- a value that an argument takes settles the one before it
-  behind_value : (t : Bool) (a : Rule) → arg_by_index s.rules position ≡ Some a
+  pub behind_value : (t : Bool) (a : Rule) → arg_by_index s.rules position ≡ Some a
       → behind s rows pending position t word ≡ at (settled_rows s.rules pending rows) (Some (a.id, word ∷ [])) (min (position + 1) usize_max) t
   behind_value true a e =
       let plain = alone.plain position a e in

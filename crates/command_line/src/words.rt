@@ -1,11 +1,11 @@
 //! The words of the command line.
-ghost use Rattle.std.specs.Prelude.{◌≡◌, ◌≢◌, ◌⊎◌, ℕ, [], true, false, map, is_some, Some, IsSomeAnd, IfSome, IfOk, IfErr, OnOk};
+ghost use Rattle.std.specs.Prelude.{◌≡◌, ◌≢◌, ◌⊎◌, ℕ, [], true, false, codes, map, is_some, Some, IsSomeAnd, IfSome, IfOk, IfErr};
 ghost use Rattle.std.specs.String.{string_bytes};
 ghost use Rattle.clap.specs.Words.{app_of, fault_of, first_value, found_of, kind_of, one_text, rule_of, subcommand_of, subcommand_rows_of};
-ghost use Rattle.clap.specs.declared.error.kind.ErrorKind.TheVariants.{OutOfMemory};
-ghost use Rattle.compressor.specs.Asked.{Asks, AsksNeither, IsNumber};
-ghost use Rattle.compressor.specs.Parser.{image_rule, plan_app, program, word_app};
-ghost use Rattle.compressor.specs.Printing.{IsHelp, IsText};
+ghost use Rattle.clap.specs.declared.error.kind.ErrorKind.TheVariants.{DisplayHelp, DisplayVersion, OutOfMemory};
+ghost use Rattle.command_line.specs.Asked.{Asks, AsksNeither, IsAnswerOf, IsNumber};
+ghost use Rattle.command_line.specs.Forms.{plan_form, text, word_form};
+ghost use Rattle.command_line.specs.Parser.{command as command_of, program, rule};
 
 use clap::error::ErrorKind;
 use clap::{Arg, ArgMatches, Command, Error, value_parser};
@@ -20,16 +20,26 @@ pub enum Task<'a> {
     Word { image: &'a str, index: u64 },
     /// This text of help.
     Help { text: String },
+    /// The program's version.
+    Version,
 }
+
+/// The program's name and version, as a line.
+pub const VERSION_LINE: &str = "compressor 0.1.0\n";
+
+// The version, as clap is told of it.
+const VERSION: &str = "0.1.0";
 
 /// Reads the words after the program's name: the task is the one that they ask. An error comes where they ask none, or for want of memory.
 pub fn read_task<'a>(alloc: Global, words: &'a [String]) -> Result<Task<'a>, Error>
     ensures asked { IfOk result (Asks (map string_bytes words.entry.now)) }
     ensures none { IfErr result (λ error. kind_of error ≢ OutOfMemory → AsksNeither (map string_bytes words.entry.now)) }
+    ensures no_help { IfErr result (λ error. kind_of error ≢ DisplayHelp) }
+    ensures no_version { IfErr result (λ error. kind_of error ≢ DisplayVersion) }
 {
     match command(alloc)?.try_get_matches_from(words) {
         Ok(matches) => Ok(task_of(words, &matches)),
-        Err(error) => help_task(alloc, error),
+        Err(error) => answer_task(alloc, error),
     }
 }
 
@@ -73,16 +83,18 @@ fn number_of(found: &ArgMatches, id: &str) -> u64
     }
 }
 
-// The text of help where that is what the parser answers, and else its error.
-fn help_task<'a>(alloc: Global, error: Error) -> Result<Task<'a>, Error>
-    ensures help { OnOk result (IsHelp error) }
-    ensures text { IfOk result IsText }
+// The text of help, or the version, where that is what the parser answers, and else its error.
+fn answer_task<'a>(alloc: Global, error: Error) -> Result<Task<'a>, Error>
+    ensures answer { IfOk result (IsAnswerOf (kind_of error)) }
     ensures error { IfErr result (λ told. (kind_of told ≡ OutOfMemory) ⊎ (kind_of told ≡ kind_of error)) }
+    ensures no_help { IfErr result (λ told. kind_of told ≢ DisplayHelp) }
+    ensures no_version { IfErr result (λ told. kind_of told ≢ DisplayVersion) }
 {
     match error.kind() {
         ErrorKind::DisplayHelp => Ok(Task::Help {
             text: error.to_string(alloc)?,
         }),
+        ErrorKind::DisplayVersion => Ok(Task::Version),
         _ => Err(error),
     }
 }
@@ -93,6 +105,7 @@ fn command<'a>(alloc: Global) -> Result<Command<'a>, AllocError>
     Command::new(alloc, "compressor")
         .bin_name("compressor")?
         .about("Compacts marked heaps by sliding, page by page")
+        .version(VERSION)
         .no_binary_name(true)
         .subcommand_required(true)
         .subcommand(plan_command(alloc)?)?
@@ -100,7 +113,7 @@ fn command<'a>(alloc: Global) -> Result<Command<'a>, AllocError>
 }
 
 fn plan_command<'a>(alloc: Global) -> Result<Command<'a>, AllocError>
-    ensures { IfOk result (λ made. app_of made ≡ plan_app) }
+    ensures { IfOk result (λ made. app_of made ≡ command_of plan_form) }
 {
     Command::new(alloc, "plan")
         .about("Prints where the live objects of a heap slide")
@@ -108,7 +121,7 @@ fn plan_command<'a>(alloc: Global) -> Result<Command<'a>, AllocError>
 }
 
 fn word_command<'a>(alloc: Global) -> Result<Command<'a>, AllocError>
-    ensures { IfOk result (λ made. app_of made ≡ word_app) }
+    ensures { IfOk result (λ made. app_of made ≡ command_of word_form) }
 {
     Command::new(alloc, "word")
         .about("Prints the to-space word at an index")
@@ -122,7 +135,7 @@ fn word_command<'a>(alloc: Global) -> Result<Command<'a>, AllocError>
 }
 
 fn image_argument<'a>(alloc: Global) -> Arg<'a>
-    ensures rule { rule_of result ≡ image_rule }
+    ensures rule { rule_of result ≡ rule (text (codes "IMAGE")) }
     ensures local { result.global ≡ false }
 {
     Arg::new(alloc, "IMAGE")

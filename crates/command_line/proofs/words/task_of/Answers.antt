@@ -2,11 +2,11 @@ use Rattle.std.proofs.Common.{rules, ◌≡◌, ◌∙◌, codes, is_some, ap, O
 use Rattle.std.specs.String.{string_bytes}
 use Rattle.std.proofs.lemmas.Option.{same_Some}
 use Rattle.clap.specs.Words.{rows_of, found_of, subcommand_of}
-use Rattle.compressor.specs.Asked.{AsksPlan, AsksWord, IsNumber}
-use Rattle.compressor.specs.Parser.{program}
-use Rattle.compressor.proofs.Found.{other_found, plan_asked, same_name, texts_utf8, word_asked}
-use Rattle.compressor.proofs.words.task_of.Goals.{in_default-via-in-Some+in_default, in_default-via-in_default}
-use Rattle.compressor.proofs.words.task_of.Goals as goal
+use Rattle.command_line.specs.Asked.{AsksPlan, AsksWord, IsNumber}
+use Rattle.command_line.specs.Parser.{program}
+use Rattle.command_line.proofs.Found.{other_found, plan_asked, same_name, texts_utf8, word_asked}
+use Rattle.command_line.proofs.words.task_of.Goals.{in_default-via-in-Some+in_default, in_default-via-in_default}
+use Rattle.command_line.proofs.words.task_of.Goals as goal
 
 pub text_of-requires : goal.text_of-requires
 text_of-requires c =

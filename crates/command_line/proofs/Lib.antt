@@ -1,0 +1,12 @@
+pub mod KindLists
+pub mod Levels
+pub mod Lexed
+pub mod LevelSteps
+pub mod LevelWords
+pub mod LevelKinds
+pub mod FormRules
+pub mod FormRows
+pub mod FormLevel
+pub mod TopLevel
+pub mod Parsed
+pub mod Found

@@ -1,0 +1,6 @@
+//! What the words of the command line ask.
+#![tactic(auto)]
+
+#[cfg(test)]
+mod tests;
+pub mod words;
