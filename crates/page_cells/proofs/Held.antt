@@ -1,5 +1,5 @@
 -- What a pass knows of the page that it holds.
-use Rattle.std.proofs.Common.{◌≡◌, ℕ, [], sym, inl, inr, ⊎_elim, arith, subst}
+use Rattle.std.proofs.Common.{◌≡◌, ℕ, sym, inl, inr, ⊎_elim, arith, subst}
 use mathlib.Core.Option.{some}
 use lib.ListN.{get_elem?}
 use Rattle.heap_layout.specs.declared.kind.Kind.TheVariants.{Header}
@@ -41,9 +41,9 @@ pub holds_more : (table : Steps) (old new : Pass) (before after : Taken) (e : En
 holds_more table old new before after e h number holds page w start =
     let p = before.number in
     let starts : KnowsObjects new p (seen new p) = λ i x at kind. ⊎_elim
-        (λ was. w.grows.starts p x.offset (h.starts i x was kind))
-        (λ last. subst (λ (y : Entry). y.kind ≡ Header → passes.KnowsFresh new p y.offset) last.1 start kind)
-        (at_longer (seen old p) e x i (subst (λ l. get_elem? l i ≡ some x) w.here at)) in
+    (λ was. w.grows.starts p x.offset (h.starts i x was kind))
+    (λ last. subst (λ (y : Entry). y.kind ≡ Header → passes.KnowsFresh new p y.offset) last.1 start kind)
+    (at_longer (seen old p) e x i (subst (λ l. get_elem? l i ≡ some x) w.here at)) in
     record {
       inside = omega (arith, number, h.inside);
       holds = subst (λ n. Holds n new) (sym number) holds;

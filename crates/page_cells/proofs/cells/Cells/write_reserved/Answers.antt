@@ -30,8 +30,7 @@ returns-in_default-clause-of g c =
     let table = c.args.self.now.steps in
     let p = c.args.taken.now.number in
     let drawn = c.draw_stamp-stamp.ensures in
-    let fits = subst (λ l. FitsEntry (about table) p l c.args.draft) (ap (λ (page : Journaled). page.journal) c.requires.has.page) c.requires.fits in
-    (
+    let fits = subst (λ l. FitsEntry (about table) p l c.args.draft) (ap (λ (page : Journaled). page.journal) c.requires.has.page) c.requires.fits in (
       works_writing table (mutators_of c.args.self.now) c.args.pass.now c.draw_stamp-stamp.new.pass c.requires.of drawn.of.0 drawn.of.1.0 p
           (stamped c.args.draft c.draw_stamp-stamp.result) c.requires.draft.0 drawn.writes fits c.requires.leads,
       drawn.of.1.0,
