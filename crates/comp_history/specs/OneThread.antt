@@ -46,7 +46,7 @@ pub record IsData (heap : OneThreadHeap) (a : ℕ) : Type 0 where
   pub inside : field < data_of (heap.word object)
   pub at : a ≡ object + 1 + refs_of (heap.word object) + field
 
--- none of these words from the address on is an object's
+-- no object has a word among the `size` words from the address on
 abbrev pub IsFree : OneThreadHeap → ℕ → ℕ → Type 0
 IsFree heap a size = (object : ℕ) → HasStart heap object → (object + size_of (heap.word object) ≤ a) ⊎ (a + size ≤ object)
 
