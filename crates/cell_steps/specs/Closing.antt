@@ -10,6 +10,7 @@ use Rattle.cell_steps.specs.Lists.{look, times, below, stamps, by, on, StartsWit
 use Rattle.cell_steps.specs.View.{Known, Slot}
 use Rattle.cell_steps.specs.History.{entry_of}
 use Rattle.cell_steps.specs.Lawful.{IsLawful}
+use Rattle.cell_steps.specs.Locks.{Journals}
 use Rattle.cell_steps.specs.Starts.{IsPlace, HasHeadBefore}
 
 -- the journal of a page that was built; the others have no entry
@@ -30,18 +31,22 @@ abbrev pub HasBase : Setup → ℕ → Slot → Type 0
 HasBase u p None = Unit {0}
 HasBase u p (Some page) = page.page.base ≡ base_of u p
 
--- a fresh object starts at the address, and its header has a stamp below n
-pub record IsFreshBefore (u : Setup) (slots : List Slot) (n a : ℕ) : Type 0 where
+-- An object that an allocation made starts at the address: on fresh page j, by an entry of its journal whose stamp is below n.
+pub record IsMadeBefore (u : Setup) (journals : Journals) (n a : ℕ) : Type 0 where
   pub page : ℕ
   pub offset : ℕ
   pub fresh : page < u.fresh
   pub inside : offset < 64
   pub at : a ≡ address (fresh_page u page) offset
-  pub made : HasHeadBefore (journal_at slots (fresh_page u page)) offset n
+  pub made : HasHeadBefore (journals (fresh_page u page)) offset n
 
--- a reference that was written with the stamp n: null, or an object's start that is older
-abbrev pub LeadsToStart : Setup → List Slot → ℕ → ℕ → Type 0
-LeadsToStart u slots n a = (a ≡ 0) ⊎ IsPlace u.heap a ⊎ IsFreshBefore u slots n a
+-- null, a slid object's place, or the start of an object that was made by an entry whose stamp is below n
+abbrev pub LeadsToOlder : Setup → Journals → ℕ → ℕ → Type 0
+LeadsToOlder u journals n a = (a ≡ 0) ⊎ IsPlace u.heap a ⊎ IsMadeBefore u journals n a
+
+-- each reference that was written is null, or leads to an object that is older than the entry that wrote it
+abbrev pub ReferencesAreOlder : Setup → Journals → Type 0
+ReferencesAreOlder u journals = (p i : ℕ) (e : Entry) → get_elem? (journals p) i ≡ maybe.some e → e.kind ≡ Reference → LeadsToOlder u journals e.stamp e.value
 
 -- some pass built page p
 abbrev pub IsToldBySome : List Known → ℕ → Type 0
@@ -76,8 +81,8 @@ pub record Gathered (u : Setup) (slots : List Slot) (passes : List Known) : Type
   pub rises : (p : ℕ) → (n : ℕ) × Rises 0 (journal_at slots p) n
   -- each journal is lawful
   pub lawful : (p : ℕ) → IsLawful u p (journal_at slots p)
-  -- each reference that was written leads to a start that is older
-  pub references : (p i : ℕ) (e : Entry) → get_elem? (journal_at slots p) i ≡ maybe.some e → e.kind ≡ Reference → LeadsToStart u slots e.stamp e.value
+  -- each reference that was written is null, or leads to an older object
+  pub references : ReferencesAreOlder u (journal_at slots)
   -- of each pass
   pub complete : (k : ℕ) (known : Known) → get_elem? passes k ≡ maybe.some known → Complete slots k known
   -- no one else wrote

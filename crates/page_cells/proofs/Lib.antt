@@ -1,11 +1,11 @@
-mod Fields
+pub mod Fields
 pub mod Growing
-mod Heads
+pub mod Heads
 mod Held
 mod Remembering
-mod Leading
-mod LastWord
-mod OneHeader
+pub mod Leading
+pub mod LastWord
+pub mod OneHeader
 mod LonePass
 mod Places
 mod Zeros

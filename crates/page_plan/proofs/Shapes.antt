@@ -87,7 +87,7 @@ known-at heap place number within at lt =
     ]
 
 -- an object has the references and data words that its header tells
-parts-long : (words : List ℕ) (i : ℕ) → IsPlaced words i
+pub parts-long : (words : List ℕ) (i : ℕ) → IsPlaced words i
     → (length (object_at words i).references ≡ refs_of (get_or words i 0)) × (length (object_at words i).data_words ≡ data_of (get_or words i 0))
 parts-long words i placed =
     let refs = refs_of (get_or words i 0) in
@@ -95,7 +95,7 @@ parts-long words i placed =
     (omega (arith, placed.within, length-take refs (drop (i + 1) words), length-drop (i + 1) words), omega (arith, placed.within, length-take more (drop (i + 1 + refs) words), length-drop (i + 1 + refs) words))
 
 -- an object has as many kinds as words
-length-kinds : (words : List ℕ) (i : ℕ) → IsPlaced words i → length (kinds_of (object_at words i)) ≡ size_of (get_or words i 0)
+pub length-kinds : (words : List ℕ) (i : ℕ) → IsPlaced words i → length (kinds_of (object_at words i)) ≡ size_of (get_or words i 0)
 length-kinds words i placed =
     let long = parts-long words i placed in
     let references = map (λ (_ : ℕ). Reference) (object_at words i).references in
@@ -103,7 +103,7 @@ length-kinds words i placed =
     omega (arith, long.0, long.1, length-append references others, length-map (object_at words i).references (λ (_ : ℕ). Reference), length-map (object_at words i).data_words (λ (_ : ℕ). Data))
 
 -- what word f of the k-th live object is
-kind-at : (heap : Heap) → IsClosed heap → (k f : ℕ) → k < length heap.marks → f < size_of (get_or heap.words (get_or heap.marks k 0) 0)
+pub kind-at : (heap : Heap) → IsClosed heap → (k f : ℕ) → k < length heap.marks → f < size_of (get_or heap.words (get_or heap.marks k 0) 0)
     → kind (live heap) (live_words (take k (live heap)) + f) ≡ Some (get_or (kinds_of (object_at heap.words (get_or heap.marks k 0))) f Header)
 kind-at heap closed k f lt inside =
     let objects = live heap in

@@ -1,0 +1,9 @@
+pub mod Sorted
+pub mod Pages
+pub mod Merging
+pub mod Words
+pub mod Heaps
+pub mod Allowed
+pub mod Legal
+pub mod Writers
+pub mod Fitting

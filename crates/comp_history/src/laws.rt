@@ -1,0 +1,51 @@
+//! Laws of the merged history, each the contract of a function that does nothing.
+ghost use Rattle.std.specs.Prelude.{◌≡◌, ℕ, ◌*◌, ◌<◌, ◌≤◌, List, []};
+ghost use Rattle.heap_layout.specs.Heap.{IsClosed};
+ghost use Rattle.comp_journal.specs.declared.entry.Entry.{Entry as Written};
+ghost use Rattle.cell_steps.specs.Lists.{below, by, total, StartsWith};
+ghost use Rattle.cell_steps.specs.Locks.{Journals};
+ghost use Rattle.cell_steps.specs.Setup.{pages, Setup};
+ghost use Rattle.page_cells.specs.Objects.{ReferencesAreStarts};
+ghost use Rattle.comp_history.specs.Merged.{history, written_by, AreOwn, CanMerge, IsOneHistory, IsPoint};
+ghost use Rattle.comp_history.specs.Shares.{allocated};
+
+/// The merged history of journals that can be merged is one that a single thread could have written into the slid heap, and it makes the words and the
+/// objects of all pages.
+pub fn one_history()
+    ensures { (u : Setup) (journals : Journals) → IsClosed u.heap → CanMerge u journals
+        → IsOneHistory u journals (history u journals) }
+{}
+
+/// What was seen of a page is what the page was at some point of the merged history.
+pub fn beginnings_are_points()
+    ensures { (u : Setup) (journals : Journals) → IsClosed u.heap → CanMerge u journals
+        → (p : ℕ) (seen : List Written) → p < pages u → StartsWith (journals p) seen
+        → IsPoint u (history u journals) p seen }
+{}
+
+/// In the merged history the entries of a writer are those that it wrote, each once, in its order.
+pub fn own_entries()
+    ensures { (u : Setup) (journals : Journals) → CanMerge u journals
+        → (k : ℕ) (did : List (ℕ × Written)) → AreOwn journals k did
+        → written_by k (history u journals) ≡ did }
+{}
+
+/// Each entry of the merged history is one writer's: where no writer from n on wrote, what all entries weigh is what those of each writer weigh, added.
+pub fn writers_add_up()
+    ensures { (u : Setup) (journals : Journals) → CanMerge u journals
+        → (n : ℕ) → ((k p : ℕ) → n ≤ k → by k (journals p) ≡ []) → (weight : ℕ × Written → ℕ)
+        → total weight (history u journals)
+        ≡ below (λ k. total weight (written_by k (history u journals))) n }
+{}
+
+/// The objects that entries make fit the fresh pages.
+pub fn objects_fit()
+    ensures { (u : Setup) (journals : Journals) → CanMerge u journals
+        → allocated (history u journals) ≤ 64 * u.fresh }
+{}
+
+/// Each reference word of each page is null or an object's start.
+pub fn merged_references_are_starts()
+    ensures { (u : Setup) (journals : Journals) → CanMerge u journals
+        → ReferencesAreStarts u journals }
+{}
