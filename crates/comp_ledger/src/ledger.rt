@@ -10,7 +10,7 @@ use std::alloc::Global;
 use std::sync::ledger::{Blank, Ledger as Named};
 use std::sync::{Mutex, Wait};
 
-/// How many words live objects have: those at the start, and those that were posted with its shares since. They never pass its capacity.
+/// How many words live objects have: those at the start, and those that were posted with its shares since, up to its capacity.
 ///
 /// `L` names the ledger, and each share of it: a share is posted with at no other.
 #[derive(Drop)]
@@ -37,7 +37,8 @@ impl<L: Named> Ledger<L> {
     ghost use Rattle.comp_ledger.specs.Shares.{number_of, numbers_of, posted_of, total_posted, NoneMissing};
     ghost use Rattle.comp_ledger.specs.declared.refusal.LedgerFault.TheVariants.{OverCapacity};
 
-    /// A ledger of `live` words that has room for `capacity` words, and its `n` shares, with which nothing is posted: number k stands at place k.
+    /// A ledger of `live` words at the start, which may become `capacity` words, and its `n` shares, with which nothing is posted: number k stands at
+    /// place k. Its one refusal is want of memory.
     pub fn new(
         alloc: Global,
         blank: Blank,
@@ -82,10 +83,10 @@ impl<L: Named> Ledger<L> {
         self.shares
     }
 
-    /// Posts words with a share: of live objects there are so many more. It waits for the ledger's lock.
+    /// Posts words with a share: those of objects that the share's owner made. It waits for the ledger's lock.
     ///
-    /// `OverCapacity` where the words at the start, those that were posted and these would pass the capacity; ledger and share are then unchanged. What
-    /// other shares posted meanwhile no contract tells, so only the owner of a lone share can foresee it.
+    /// `OverCapacity` where the words at the start, all that were posted and these would pass the capacity; ledger and share are then unchanged. What was
+    /// posted with other shares no contract tells, so the answer can be foreseen of a share that is the only one.
     pub fn post<R: Wait>(&self, rt: &R, share: &mut Share<L>, words: u64) -> Result<(), LedgerFault>
         ensures number { number_of share.new ≡ number_of share.old }
 
@@ -103,9 +104,10 @@ impl<L: Named> Ledger<L> {
     }
 
     /// Ends the ledger: takes all shares back, posts the last words, `last[i]` with the i-th share given, and answers how many words there are in all.
+    /// It owns the ledger, so it does not wait.
     ///
-    /// `ShareMissing` tells the least missing number, and is tested first; `OverCapacity` comes where the words in all would pass the capacity. Then nothing
-    /// is posted, and ledger and shares are handed back as they were. It owns the ledger, so it does not wait.
+    /// `ShareMissing` tells the least missing number, and is tested first; `OverCapacity` comes where the words in all would pass the capacity. After
+    /// either nothing is posted, and ledger and shares are handed back as they were.
     pub fn gather(self, shares: Vec<Share<L>>, last: &[u64]) -> Result<u64, NotGathered<L>>
         requires whole { share_count self ≡ L.parts }
         requires last { length last.now ≡ length shares.items }

@@ -19,6 +19,7 @@ impl<L: Named> Posted<L> {
     /// A book in which nothing is posted.
     pub(crate) fn new(book: Book<L>) -> Posted<L>
         requires { book.total ≡ 0 }
+        ensures { result.words ≡ 0 }
     {
         Posted { words: 0, book }
     }
