@@ -14,23 +14,24 @@ ghost use Rattle.comp_mutator.specs.declared.mutator.Mutator.{Mutator as AMutato
 use crate::space::Space;
 use page_cells::laws;
 use page_plan::builder::Builder;
+use std::sync::ledger::Ledger as Named;
 
 /// A field has one place, which it keeps while journals grow.
-pub fn places_are_one<B: Builder>(space: &Space<B>)
+pub fn places_are_one<L: Named, B: Builder>(space: &Space<L, B>)
     ensures { (before after : Journals) → Continue before after → AreLawful (setup_of space.now) after → (kind : AKind) (object field place other : ℕ) → IsFieldOf (setup_of space.now) before kind object field place → IsFieldOf (setup_of space.now) after kind object field other → other ≡ place }
 {
     laws::headers_are_one(&space.cells);
 }
 
 /// A mutator that is alone has seen just what it did.
-pub fn alone_sees_its_own<B: Builder>(space: &Space<B>)
-    ensures { (setup_of space.now).mutators ≡ 1 → (m : AMutator) → IsMutatorOf space.now m → (p : ℕ) → seen (pass_of m) p ≡ on p (did (pass_of m)) }
+pub fn alone_sees_its_own<L: Named, B: Builder>(space: &Space<L, B>)
+    ensures { (setup_of space.now).mutators ≡ 1 → (m : AMutator L) → IsMutatorOf space.now m → (p : ℕ) → seen (pass_of m) p ≡ on p (did (pass_of m)) }
 {
     laws::alone_sees_its_own(&space.cells);
 }
 
 /// Where an allocation made an object, one starts with its header.
-pub fn made_objects_start<B: Builder>(space: &Space<B>)
+pub fn made_objects_start<L: Named, B: Builder>(space: &Space<L, B>)
     ensures { (old new : APass) (header place : ℕ) → Allocates (setup_of space.now) old new header place → HasShape (setup_of space.now) (seen new) place header }
 {
     let _ = space;

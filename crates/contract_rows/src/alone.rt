@@ -9,12 +9,13 @@ use comp_mutator::space::Space;
 use page_cells::laws as pages;
 use page_plan::builder::Builder;
 use std::alloc::Global;
+use std::sync::ledger::Ledger as Named;
 
 /// Writes a value into a data field and reads the field: where both are done, the word is the value.
-pub fn write_and_read<B: Builder>(
+pub fn write_and_read<L: Named, B: Builder>(
     alloc: Global,
-    space: &Space<B>,
-    m: &mut Mutator,
+    space: &Space<L, B>,
+    m: &mut Mutator<L>,
     object: u64,
     field: u16,
     value: u64,
@@ -32,10 +33,10 @@ pub fn write_and_read<B: Builder>(
 }
 
 /// Writes 7 into a data field and reads the field: where both are done, the word is 7.
-pub fn write_seven_and_read<B: Builder>(
+pub fn write_seven_and_read<L: Named, B: Builder>(
     alloc: Global,
-    space: &Space<B>,
-    m: &mut Mutator,
+    space: &Space<L, B>,
+    m: &mut Mutator<L>,
     object: u64,
     field: u16,
 ) -> Result<u64, Refusal>
@@ -49,10 +50,10 @@ pub fn write_seven_and_read<B: Builder>(
 }
 
 /// Makes an object of one reference and one data word and reads both fields: where they are read, they are null and 0.
-pub fn make_and_read<B: Builder>(
+pub fn make_and_read<L: Named, B: Builder>(
     alloc: Global,
-    space: &Space<B>,
-    m: &mut Mutator,
+    space: &Space<L, B>,
+    m: &mut Mutator<L>,
     tag: u32,
 ) -> Result<(Result<u64, Refusal>, Result<u64, Refusal>), Refusal>
     requires of { IsMutatorOf space.now m.old }

@@ -18,12 +18,13 @@ use comp_mutator::space::Space;
 use page_plan::TO_SPACE;
 use page_plan::builder::Builder;
 use std::alloc::Global;
+use std::sync::ledger::Ledger as Named;
 
 /// A page that was copied is then known to be built.
-pub fn touch_copied<B: Builder>(
+pub fn touch_copied<L: Named, B: Builder>(
     alloc: Global,
-    space: &Space<B>,
-    m: &mut Mutator,
+    space: &Space<L, B>,
+    m: &mut Mutator<L>,
     p: u64,
 ) -> Result<Result<Touched, Refusal>, Refusal>
     requires of { IsMutatorOf space.now m.old }
@@ -35,10 +36,10 @@ pub fn touch_copied<B: Builder>(
 }
 
 /// A read that was done needs no memory when it is made again.
-pub fn read_again<B: Builder>(
+pub fn read_again<L: Named, B: Builder>(
     alloc: Global,
-    space: &Space<B>,
-    m: &mut Mutator,
+    space: &Space<L, B>,
+    m: &mut Mutator<L>,
     object: u64,
     field: u16,
 ) -> Result<Result<u64, Refusal>, Refusal>
@@ -50,10 +51,10 @@ pub fn read_again<B: Builder>(
 }
 
 /// Stores a reference of a page that was copied: it is never refused as no start.
-pub fn store_reference<B: Builder>(
+pub fn store_reference<L: Named, B: Builder>(
     alloc: Global,
-    space: &Space<B>,
-    m: &mut Mutator,
+    space: &Space<L, B>,
+    m: &mut Mutator<L>,
     copy: &PageCopy,
     _p: u64,
     offset: u8,
@@ -71,10 +72,10 @@ pub fn store_reference<B: Builder>(
 }
 
 /// Stores the address of an object that the journal of a page that was copied makes: it is never refused as no start.
-pub fn store_made<B: Builder>(
+pub fn store_made<L: Named, B: Builder>(
     alloc: Global,
-    space: &Space<B>,
-    m: &mut Mutator,
+    space: &Space<L, B>,
+    m: &mut Mutator<L>,
     _copy: &PageCopy,
     p: u64,
     made: Entry,
