@@ -1,5 +1,5 @@
 -- The words of a page that was copied while nobody wrote into it.
-use Rattle.std.proofs.Common.{◌≡◌, ℕ, ◌+◌, ◌*◌, ◌/◌, ◌%◌, ◌<◌, List, [], ◌∷◌, get_or, cond, slice_index, replicate, map, refl, sym, ap, ◌∙◌, arith}
+use Rattle.std.proofs.Common.{◌≡◌, ℕ, ◌+◌, ◌*◌, ◌/◌, ◌%◌, ◌<◌, List, [], ◌∷◌, get_or, slice_index, replicate, map, sym, ap, ◌∙◌, arith}
 use mathlib.Core.Option.{some}
 use Rattle.heap_layout.specs.Heap.{live}
 use Rattle.page_plan.specs.Sliding.{page, slid_words, IsPartFrom}
