@@ -9,7 +9,9 @@ use mark_tables::tables::Tables;
 use page_plan::plan::Plan;
 use std::process::Abort;
 use std::test::Fail;
-use worked_heaps::heaps::{F, T, counting_heap, counting_object, empty, heap, planned, seventeen_pages, three};
+use worked_heaps::heaps::{
+    F, T, counting_heap, counting_object, empty, heap, planned, seventeen_pages, three,
+};
 
 // The tables of a heap say where each of these words goes, and which are live.
 fn expect_places(
