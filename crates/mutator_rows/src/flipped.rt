@@ -75,6 +75,30 @@ pub fn two<L: Named, B: Builder>(
     Ok((space, first, second))
 }
 
+/// A flipped heap with three mutators.
+pub fn trio<L: Named, B: Builder>(
+    rt: &impl Abort,
+    alloc: Global,
+    blank: Blank,
+    builder: B,
+    fresh_pages: u32,
+) -> Result<(Space<L, B>, Mutator<L>, Mutator<L>, Mutator<L>), Fail>
+    requires name { blank.name ≡ L.name }
+    requires parts { blank.parts ≡ L.parts }
+    requires count { blank.parts ≡ 3 }
+    ensures first { IfOk result (λ made. IsMutatorOf made.0 made.1) }
+    ensures second { IfOk result (λ made. IsMutatorOf made.0 made.2) }
+    ensures third { IfOk result (λ made. IsMutatorOf made.0 made.3) }
+    ensures whole { IfOk result (λ made. (setup_of made.0).mutators ≡ L.parts) }
+{
+    let builder = Arc::new(alloc, builder)?;
+    let (space, mut mutators) = flip(alloc, blank, builder, 3, fresh_pages)?;
+    let third = mutators.pop().expect(rt, "the third mutator");
+    let second = mutators.pop().expect(rt, "the second mutator");
+    let first = mutators.pop().expect(rt, "the first mutator");
+    Ok((space, first, second, third))
+}
+
 /// The three objects, flipped with one mutator.
 pub fn one_of_three<L: Named>(
     rt: &impl Abort,

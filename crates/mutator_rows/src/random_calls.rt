@@ -3,10 +3,9 @@ ghost use Rattle.std.specs.Prelude.{◌≡◌};
 ghost use Rattle.comp_mutator.specs.Mutators.{IsMutatorOf};
 
 use crate::expected::expect_all_stamps;
-use crate::flipped::{allocate, finish, read_data, read_ref, two, write_data, write_ref};
+use crate::flipped::{allocate, finish, read_data, read_ref, trio, two, write_data, write_ref};
 use crate::plain_objects::{Call, Object, Objects, Random};
 use comp_mutator::finishing::Finished;
-use comp_mutator::flipping::flip;
 use comp_mutator::mutator::Mutator;
 use comp_mutator::refusal::Refusal;
 use comp_mutator::space::Space;
@@ -16,7 +15,6 @@ use page_plan::plan::Plan;
 use std::alloc::{AllocError, Global};
 use std::marker::Brand;
 use std::process::Abort;
-use std::sync::Arc;
 use std::sync::ledger::{Blank, Ledger as Named};
 use std::test::Fail;
 use worked_heaps::heaps::{F, T, heap, planned};
@@ -181,11 +179,7 @@ fn play_three<L: Named>(rt: &impl Abort, alloc: Global, blank: Blank) -> Result<
     requires count { blank.parts ≡ 3 }
 {
     let mut objects = opening(alloc, 3)?;
-    let builder = Arc::new(alloc, two_live(alloc)?)?;
-    let (space, mut mutators) = flip::<L, _>(alloc, blank, builder, 3, 6)?;
-    let mut m2 = mutators.pop().expect(rt, "the third mutator");
-    let mut m1 = mutators.pop().expect(rt, "the second mutator");
-    let mut m0 = mutators.pop().expect(rt, "the first mutator");
+    let (space, mut m0, mut m1, mut m2) = trio::<L, _>(rt, alloc, blank, two_live(alloc)?, 6)?;
     let mut random = Random { state: 1978 };
     for _ in 0..334 {
         play(rt, alloc, &space, &mut m0, &mut objects, &mut random)?;

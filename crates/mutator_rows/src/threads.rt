@@ -45,7 +45,13 @@ fn read_across_threads<L: Named + Send + Sync, R: Abort + Threads + Sync>(
     requires count { blank.parts ≡ 2 }
 {
     let (space, mut m0, mut m1) = two_of_three::<L>(rt, alloc, blank, 2)?;
-    let ((stamp, word), _) = thread::join(rt, || write_seven(alloc, &space, &mut m0), || ());
+    let ((stamp, word), _) = thread::join(
+        rt,
+        ||
+            requires { IsMutatorOf space m0 }
+        { write_seven(alloc, &space, &mut m0) },
+        || (),
+    );
     assert_eq!(rt; stamp, Ok(0));
     assert_eq!(rt; word, Ok(7));
     assert_eq!(rt; read_data(alloc, &space, &mut m1, T, 0), Ok(7));
@@ -84,8 +90,12 @@ fn race_to_build<L: Named + Send + Sync, R: Abort + Threads + Sync>(
     let (space, mut m0, mut m1) = two_of_three::<L>(rt, alloc, blank, 0)?;
     let (one, other) = thread::join(
         rt,
-        || touch(rt, alloc, &space, &mut m0, 0),
-        || touch(rt, alloc, &space, &mut m1, 0),
+        ||
+            requires { IsMutatorOf space m0 }
+        { touch(rt, alloc, &space, &mut m0, 0) },
+        ||
+            requires { IsMutatorOf space m1 }
+        { touch(rt, alloc, &space, &mut m1, 0) },
     );
     let mut builds = m0.builds().to_vec(alloc)?;
     builds.extend_from_slice(m1.builds())?;
@@ -137,8 +147,12 @@ fn write_two_pages<L: Named + Send + Sync, R: Abort + Threads + Sync>(
     let (space, m0, m1) = two::<L, _>(rt, alloc, blank, builder, 0)?;
     let ((one, mut m0), (other, mut m1)) = thread::join(
         rt,
-        || write_word(alloc, &space, m0, 0, 5),
-        || write_word(alloc, &space, m1, 100, 6),
+        ||
+            requires { IsMutatorOf space m0 }
+        { write_word(alloc, &space, m0, 0, 5) },
+        ||
+            requires { IsMutatorOf space m1 }
+        { write_word(alloc, &space, m1, 100, 6) },
     );
     assert!(rt; one.is_ok() && other.is_ok());
     assert_eq!(rt; read_data(alloc, &space, &mut m1, T, 0), Ok(5));
@@ -206,8 +220,12 @@ fn write_by_turns<L: Named + Send + Sync, R: Abort + Threads + Wait + Sync>(
     let (space, m0, m1) = two_of_three::<L>(rt, alloc, blank, 0)?;
     let ((one, mut m0), (other, _m1)) = thread::join(
         rt,
-        || write_rising(rt, alloc, &space, m0, 0),
-        || write_rising(rt, alloc, &space, m1, 1000),
+        ||
+            requires { IsMutatorOf space m0 }
+        { write_rising(rt, alloc, &space, m0, 0) },
+        ||
+            requires { IsMutatorOf space m1 }
+        { write_rising(rt, alloc, &space, m1, 1000) },
     );
     assert_eq!(rt; one, Ok(()));
     assert_eq!(rt; other, Ok(()));
@@ -337,8 +355,12 @@ fn finish_two_threads<L: Named + Send + Sync, R: Abort + Threads + Wait + Sync>(
     expect_touch(rt, alloc, &space, &mut m0, 0, Ok(Touched::Built));
     let ((one, m0), (other, m1)) = thread::join(
         rt,
-        || make_and_settle(rt, alloc, &space, m0),
-        || make_and_settle(rt, alloc, &space, m1),
+        ||
+            requires { IsMutatorOf space m0 }
+        { make_and_settle(rt, alloc, &space, m0) },
+        ||
+            requires { IsMutatorOf space m1 }
+        { make_and_settle(rt, alloc, &space, m1) },
     );
     assert!(rt; one && other);
     assert_eq!(rt; m0.unposted(), 0);
