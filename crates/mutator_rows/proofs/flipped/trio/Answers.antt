@@ -1,4 +1,4 @@
-use Rattle.std.proofs.Common.{All, Option, IfSome, subst}
+use Rattle.std.proofs.Common.{IfSome, subst}
 use Rattle.std.proofs.lemmas.List.Elements.{All-pop}
 use Rattle.comp_mutator.specs.Mutators.{IsMutatorOf}
 use Rattle.mutator_rows.proofs.flipped.trio.Goals as goal
