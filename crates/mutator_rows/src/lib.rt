@@ -1,13 +1,23 @@
-//! Mutators at work on worked heaps, alone, at random and in threads: what no contract says, with values from outside.
+//! Mutators at work on worked heaps, alone, at random and in threads, to the end: what no contract says, with values from outside.
 #![tactic(auto)]
 
 #[cfg(test)]
+mod expected;
+#[cfg(test)]
+mod fields;
+#[cfg(test)]
+mod finished;
+#[cfg(test)]
 mod flipped;
 #[cfg(test)]
-mod mutators;
+mod objects;
 #[cfg(test)]
 mod plain_objects;
+#[cfg(test)]
+mod random_calls;
 #[cfg(test)]
 mod refusals;
 #[cfg(test)]
 mod threads;
+#[cfg(test)]
+mod touches;

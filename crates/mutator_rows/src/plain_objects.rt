@@ -1,24 +1,14 @@
-//! Random calls in one thread, against objects kept plainly.
-ghost use Rattle.comp_mutator.specs.Mutators.{IsMutatorOf};
-
-use crate::flipped::{allocate, read_data, read_ref, two, write_data, write_ref};
-use comp_mutator::mutator::Mutator;
+//! Objects kept plainly, and random calls on them.
 use comp_mutator::refusal::Refusal;
-use comp_mutator::space::Space;
-use heap_layout::header::Header;
-use page_plan::builder::Builder;
-use page_plan::plan::Plan;
 use std::alloc::{AllocError, Global};
-use std::process::Abort;
-use std::test::Fail;
-use worked_heaps::heaps::{F, T, heap, planned};
+use worked_heaps::heaps::{F, T};
 
 // The address of the first fresh page, behind one compacted page.
 const FRESH: u64 = T + 64;
 
-// A call of a mutator.
+/// A call of a mutator.
 #[derive(Clone, Copy)]
-enum Call {
+pub enum Call {
     ReadRef { object: u64, field: u16 },
     ReadData { object: u64, field: u16 },
     WriteRef { object: u64, field: u16, value: u64 },
@@ -26,12 +16,12 @@ enum Call {
     Alloc { references: u16, data_words: u16 },
 }
 
-// One object: where it starts, and what its fields hold.
+/// One object: where it starts, and what its fields hold.
 #[derive(Drop)]
-struct Object {
-    address: u64,
-    references: Vec<u64>,
-    data_words: Vec<u64>,
+pub struct Object {
+    pub address: u64,
+    pub references: Vec<u64>,
+    pub data_words: Vec<u64>,
 }
 
 impl Object {
@@ -49,12 +39,13 @@ impl Object {
     }
 }
 
-// All objects, how much of each fresh page is used, and how many entries were written.
+/// All objects, how many mutators there are, how much of each fresh page is used, and how many entries were written.
 #[derive(Drop)]
-struct Objects {
-    objects: Vec<Object>,
-    used: Vec<u64>,
-    entries: u64,
+pub struct Objects {
+    pub objects: Vec<Object>,
+    pub mutators: usize,
+    pub used: Vec<u64>,
+    pub entries: u64,
 }
 
 impl Objects {
@@ -113,7 +104,7 @@ impl Objects {
         Ok(self.next_stamp())
     }
 
-    // The object goes onto the first of the pages `first`, `first + 2`, .. that has room.
+    // The object goes onto the first of the pages `first`, `first + mutators`, .. that has room.
     fn alloc(
         &mut self,
         alloc: Global,
@@ -141,18 +132,18 @@ impl Objects {
         Ok(Ok(address))
     }
 
-    // The first of the pages `first`, `first + 2`, .. that has room for an object of this size.
+    // The first of the pages `first`, `first + mutators`, .. that has room for an object of this size.
     fn lowest(&self, first: usize, size: u64) -> Option<usize> {
         for (page, used) in self.used.iter().enumerate() {
-            if page % 2 == first && used.saturating_add(size) <= 64 {
+            if page.checked_rem(self.mutators) == Some(first) && used.saturating_add(size) <= 64 {
                 return Some(page);
             }
         }
         None
     }
 
-    // The call's answer by the plain objects.
-    fn answer(
+    /// The call's answer by the plain objects.
+    pub fn answer(
         &mut self,
         alloc: Global,
         first: usize,
@@ -185,10 +176,10 @@ impl Objects {
     }
 }
 
-// Numbers that look random, each from the one before.
+/// Numbers that look random, each from the one before.
 #[derive(Drop)]
-struct Random {
-    state: u64,
+pub struct Random {
+    pub state: u64,
 }
 
 impl Random {
@@ -221,8 +212,8 @@ impl Random {
         (self.below(bound) % 65_536) as u16
     }
 
-    // A call, by the space and by the plain objects alike.
-    fn call(&mut self, objects: &Objects) -> Call {
+    /// A call, by the space and by the plain objects alike.
+    pub fn call(&mut self, objects: &Objects) -> Call {
         let object = self.address(objects);
         let field = self.small(3);
         match self.below(8) {
@@ -244,107 +235,4 @@ impl Random {
             },
         }
     }
-}
-
-// The call's answer by the space.
-fn answer<B: Builder>(
-    alloc: Global,
-    space: &Space<B>,
-    m: &mut Mutator,
-    call: Call,
-) -> Result<u64, Refusal>
-    requires of { IsMutatorOf space.now m.old }
-    ensures of { IsMutatorOf space.now m.new }
-{
-    match call {
-        Call::ReadRef { object, field } => read_ref(alloc, space, m, object, field),
-        Call::ReadData { object, field } => read_data(alloc, space, m, object, field),
-        Call::WriteRef {
-            object,
-            field,
-            value,
-        } => write_ref(alloc, space, m, object, field, value),
-        Call::WriteData {
-            object,
-            field,
-            value,
-        } => write_data(alloc, space, m, object, field, value),
-        Call::Alloc {
-            references,
-            data_words,
-        } => allocate(alloc, space, m, references, data_words, 9),
-    }
-}
-
-// One random call, by the space and by the plain objects.
-fn play<B: Builder>(
-    rt: &impl Abort,
-    alloc: Global,
-    space: &Space<B>,
-    m: &mut Mutator,
-    objects: &mut Objects,
-    random: &mut Random,
-) -> Result<(), Fail>
-    requires of { IsMutatorOf space.now m.old }
-    ensures of { IsMutatorOf space.now m.new }
-{
-    let call = random.call(objects);
-    let wanted = objects.answer(alloc, usize::from(m.number()), call)?;
-    assert_eq!(rt; answer(alloc, space, m, call), wanted);
-    Ok(())
-}
-
-// Two live objects that refer to one another, and one that is not marked between them.
-fn two_live(alloc: Global) -> Result<Plan, Fail> {
-    let words = [
-        Header::new(2, 1, 1).word(),
-        F + 6,
-        0,
-        10,
-        Header::new(0, 1, 2).word(),
-        20,
-        Header::new(1, 2, 3).word(),
-        F,
-        30,
-        31,
-    ];
-    planned(alloc, heap(alloc, &words, &[0, 6], &[F])?)
-}
-
-// An object with these fields.
-fn object_with(
-    alloc: Global,
-    address: u64,
-    references: &[u64],
-    data_words: &[u64],
-) -> Result<Object, AllocError> {
-    Ok(Object {
-        address,
-        references: references.to_vec(alloc)?,
-        data_words: data_words.to_vec(alloc)?,
-    })
-}
-
-// The two live objects once they have slid, and six fresh pages.
-fn opening(alloc: Global) -> Result<Objects, AllocError> {
-    let first = object_with(alloc, T, &[T + 4, 0], &[10])?;
-    let second = object_with(alloc, T + 4, &[T], &[30, 31])?;
-    Ok(Objects {
-        objects: vec![in alloc; first, second]?,
-        used: vec![in alloc; 0; 6]?,
-        entries: 0,
-    })
-}
-
-#[test]
-fn agrees_with_plain_objects(rt: HostRuntime) -> Result<(), Fail> {
-    let alloc = rt.alloc();
-    let mut objects = opening(alloc)?;
-    let (space, mut m0, mut m1) = two(&rt, alloc, two_live(alloc)?, 6)?;
-    let mut random = Random { state: 2006 };
-    for _ in 0..600 {
-        play(&rt, alloc, &space, &mut m0, &mut objects, &mut random)?;
-        play(&rt, alloc, &space, &mut m1, &mut objects, &mut random)?;
-    }
-    Ok(())
 }

@@ -1,5 +1,6 @@
 //! The refusals of journals, cells and mutators as they are printed.
 use comp_journal::refusal::JournalRefusal;
+use comp_mutator::finishing::FinishFault;
 use comp_mutator::refusal::{FlipFault, Refusal};
 use page_cells::refusal::CellRefusal;
 use std::test::Fail;
@@ -48,6 +49,12 @@ fn prints_refusals_of_mutators(rt: HostRuntime) -> Result<(), Fail> {
     for (fault, text) in [
         (FlipFault::OutOfMemory, "M8 OutOfMemory"),
         (FlipFault::BadCounts, "M10 BadCounts"),
+    ] {
+        assert_eq!(rt; fault.to_string(rt.alloc())?.as_str(), text);
+    }
+    for (fault, text) in [
+        (FinishFault::OutOfMemory, "M8 OutOfMemory"),
+        (FinishFault::MutatorMissing(1), "M9 MutatorMissing(1)"),
     ] {
         assert_eq!(rt; fault.to_string(rt.alloc())?.as_str(), text);
     }

@@ -1,21 +1,17 @@
-use Rattle.std.proofs.Common.{ℕ, sym, subst}
-use Rattle.cell_steps.specs.Lists.{Each}
-use Rattle.page_cells.specs.Cells.{Works}
-use Rattle.comp_mutator.specs.Mutators.{cells_of, pass_of, setup_of, IsMutatorOf}
-use Rattle.worked_heaps.proofs.LastOf.{last_of, before_last}
-use Rattle.mutator_rows.proofs.Images.{of_images}
+use Rattle.std.proofs.Common.{IfSome, subst}
+use Rattle.std.proofs.lemmas.List.Elements.{All-pop}
+use Rattle.comp_mutator.specs.Mutators.{IsMutatorOf}
 use Rattle.mutator_rows.proofs.flipped.two.Goals as goal
 
--- each mutator is one of the space's
-all_of : (g : _) (c : goal.After-drop-mutators g) → Each c.in_ok-space.mutators.items (IsMutatorOf c.in_ok-space.space)
-all_of g c = let space = c.in_ok-space.space in
-    of_images pass_of (Works (cells_of space).steps ((setup_of space).mutators)) c.in_ok-space.mutators.items
-    (λ k pass e. subst (λ (n : ℕ). Works (cells_of space).steps n pass) (sym c.in_ok-space.ensures.mutators) (c.in_ok-space.ensures.new.new k pass e).works)
-
 pub returns-clause-second : goal.returns-clause-second
-returns-clause-second g c = last_of (IsMutatorOf c.in_ok-space.space) c.in_ok-space.mutators.items c.pop.new.self.items c.pop.result c.expect-second.result c.pop.ensures.items c.expect-second.ensures (all_of g c)
+returns-clause-second g c =
+    let of = IsMutatorOf c.in_ok-space.space in
+    let last = All-pop of c.in_ok-space.mutators.items c.pop.new.self.items c.pop.result c.pop.ensures.items c.in_ok-space.ensures.of in
+    subst (λ m. IfSome m of) c.expect-second.ensures last.1
 
 pub returns-clause-first : goal.returns-clause-first
 returns-clause-first g c =
-    let rest = before_last (IsMutatorOf c.in_ok-space.space) c.in_ok-space.mutators.items c.pop.new.self.items c.pop.result c.expect-second.result c.pop.ensures.items c.expect-second.ensures (all_of g c) in
-    last_of (IsMutatorOf c.in_ok-space.space) c.pop.new.self.items c.pop-2.new.self.items c.pop-2.result c.expect-first.result c.pop-2.ensures.items c.expect-first.ensures rest
+    let of = IsMutatorOf c.in_ok-space.space in
+    let last = All-pop of c.in_ok-space.mutators.items c.pop.new.self.items c.pop.result c.pop.ensures.items c.in_ok-space.ensures.of in
+    let before = All-pop of c.pop.new.self.items c.pop-2.new.self.items c.pop-2.result c.pop-2.ensures.items last.0 in
+    subst (λ m. IfSome m of) c.expect-first.ensures before.1

@@ -1,0 +1,96 @@
+//! Settled and unsettled words, and a mutator that is missing.
+ghost use Rattle.std.specs.Prelude.{◌≡◌};
+ghost use Rattle.comp_mutator.specs.Mutators.{IsMutatorOf};
+
+use crate::expected::expect_built;
+use crate::flipped::{allocate, finish, finish_two, two};
+use comp_journal::journaled_page::JournaledPage;
+use comp_mutator::finishing::FinishFault;
+use comp_mutator::mutator::Mutator;
+use comp_mutator::space::Space;
+use page_plan::builder::Builder;
+use std::alloc::Global;
+use std::marker::Brand;
+use std::process::Abort;
+use std::sync::Wait;
+use std::sync::ledger::{Blank, Ledger as Named};
+use std::test::Fail;
+use worked_heaps::heaps::{counting_heap, empty, planned};
+
+// No object at all: one of two mutators is handed in alone, and then both are.
+fn hand_in_one<L: Named>(rt: &impl Abort, alloc: Global, blank: Blank) -> Result<(), Fail>
+    requires name { blank.name ≡ L.name }
+    requires parts { blank.parts ≡ L.parts }
+    requires count { blank.parts ≡ 2 }
+{
+    let (space, m0, m1) = two::<L, _>(rt, alloc, blank, planned(alloc, empty(alloc)?)?, 0)?;
+    let Err(left) = space.finish(alloc, vec![in alloc; m0]?) else {
+        panic!(rt; "mutator 1 is missing");
+    };
+    assert_eq!(rt; left.fault, FinishFault::MutatorMissing(1));
+    let mut both = left.mutators;
+    assert_eq!(rt; both.len(), 1);
+    both.push(m1)?;
+    let finished = finish(rt, alloc, left.space, both);
+    assert_eq!(rt; finished.live_words(), 0);
+    Ok(())
+}
+
+#[test]
+fn hands_back_where_one_is_missing(rt: HostRuntime) -> Result<(), Fail> {
+    hand_in_one::<Brand>(&rt, rt.alloc(), Blank::new(2))
+}
+
+// Posts what the mutator allocated.
+fn settle<L: Named, B: Builder, R: Abort + Wait>(rt: &R, space: &Space<L, B>, m: &mut Mutator<L>)
+    requires of { IsMutatorOf space.now m.old }
+    ensures of { IsMutatorOf space.now m.new }
+{
+    assert_eq!(rt; m.unposted(), 3);
+    assert_eq!(rt; space.settle(rt, m), Ok(()));
+    assert_eq!(rt; m.unposted(), 0);
+}
+
+// 10 words slid; two mutators make objects of 3 and of 5 words, and the first one settles or does not.
+fn finish_eighteen<L: Named, R: Abort + Wait>(
+    rt: &R,
+    alloc: Global,
+    blank: Blank,
+    settles: bool,
+) -> Result<(), Fail>
+    requires name { blank.name ≡ L.name }
+    requires parts { blank.parts ≡ L.parts }
+    requires count { blank.parts ≡ 2 }
+{
+    let builder = planned(alloc, counting_heap(alloc, 9)?)?;
+    let (space, mut m0, mut m1) = two::<L, _>(rt, alloc, blank, builder, 2)?;
+    let first = allocate(alloc, &space, &mut m0, 0, 2, 0);
+    assert_eq!(rt; first, Ok(8_589_934_656));
+    let second = allocate(alloc, &space, &mut m1, 1, 3, 0);
+    assert_eq!(rt; second, Ok(8_589_934_720));
+    if settles {
+        settle(rt, &space, &mut m0);
+    }
+    let finished = finish_two(rt, alloc, space, m0, m1)?;
+    assert_eq!(rt; finished.live_words(), 18);
+    expect_slots(rt, finished.pages());
+    expect_built(rt, &finished, 0, &[1]);
+    expect_built(rt, &finished, 1, &[2]);
+    Ok(())
+}
+
+// Of three pages the first was never touched.
+fn expect_slots(rt: &impl Abort, pages: &[Option<JournaledPage>]) {
+    assert_eq!(rt; pages.len(), 3);
+    for (p, page) in pages.iter().enumerate() {
+        assert_eq!(rt; page.is_none(), p == 0, "page {p}");
+    }
+}
+
+#[test]
+fn settles_or_does_not(rt: HostRuntime) -> Result<(), Fail> {
+    for settles in [false, true] {
+        finish_eighteen::<Brand, HostRuntime>(&rt, rt.alloc(), Blank::new(2), settles)?;
+    }
+    Ok(())
+}

@@ -1,0 +1,196 @@
+//! Random calls in one thread, against objects kept plainly.
+ghost use Rattle.std.specs.Prelude.{◌≡◌};
+ghost use Rattle.comp_mutator.specs.Mutators.{IsMutatorOf};
+
+use crate::expected::expect_all_stamps;
+use crate::flipped::{allocate, finish, read_data, read_ref, trio, two, write_data, write_ref};
+use crate::plain_objects::{Call, Object, Objects, Random};
+use comp_mutator::finishing::Finished;
+use comp_mutator::mutator::Mutator;
+use comp_mutator::refusal::Refusal;
+use comp_mutator::space::Space;
+use heap_layout::header::Header;
+use page_plan::builder::Builder;
+use page_plan::plan::Plan;
+use std::alloc::{AllocError, Global};
+use std::marker::Brand;
+use std::process::Abort;
+use std::sync::ledger::{Blank, Ledger as Named};
+use std::test::Fail;
+use worked_heaps::heaps::{F, T, heap, planned};
+
+// The call's answer by the space.
+fn answer<L: Named, B: Builder>(
+    alloc: Global,
+    space: &Space<L, B>,
+    m: &mut Mutator<L>,
+    call: Call,
+) -> Result<u64, Refusal>
+    requires of { IsMutatorOf space.now m.old }
+    ensures of { IsMutatorOf space.now m.new }
+{
+    match call {
+        Call::ReadRef { object, field } => read_ref(alloc, space, m, object, field),
+        Call::ReadData { object, field } => read_data(alloc, space, m, object, field),
+        Call::WriteRef {
+            object,
+            field,
+            value,
+        } => write_ref(alloc, space, m, object, field, value),
+        Call::WriteData {
+            object,
+            field,
+            value,
+        } => write_data(alloc, space, m, object, field, value),
+        Call::Alloc {
+            references,
+            data_words,
+        } => allocate(alloc, space, m, references, data_words, 9),
+    }
+}
+
+// One random call, by the space and by the plain objects.
+fn play<L: Named, B: Builder>(
+    rt: &impl Abort,
+    alloc: Global,
+    space: &Space<L, B>,
+    m: &mut Mutator<L>,
+    objects: &mut Objects,
+    random: &mut Random,
+) -> Result<(), Fail>
+    requires of { IsMutatorOf space.now m.old }
+    ensures of { IsMutatorOf space.now m.new }
+{
+    let call = random.call(objects);
+    let wanted = objects.answer(alloc, usize::from(m.number()), call)?;
+    assert_eq!(rt; answer(alloc, space, m, call), wanted);
+    Ok(())
+}
+
+// Two live objects that refer to one another, and one that is not marked between them.
+fn two_live(alloc: Global) -> Result<Plan, Fail> {
+    let words = [
+        Header::new(2, 1, 1).word(),
+        F + 6,
+        0,
+        10,
+        Header::new(0, 1, 2).word(),
+        20,
+        Header::new(1, 2, 3).word(),
+        F,
+        30,
+        31,
+    ];
+    planned(alloc, heap(alloc, &words, &[0, 6], &[F])?)
+}
+
+// An object with these fields.
+fn object_with(
+    alloc: Global,
+    address: u64,
+    references: &[u64],
+    data_words: &[u64],
+) -> Result<Object, AllocError> {
+    Ok(Object {
+        address,
+        references: references.to_vec(alloc)?,
+        data_words: data_words.to_vec(alloc)?,
+    })
+}
+
+// The two live objects once they have slid, and six fresh pages.
+fn opening(alloc: Global, mutators: usize) -> Result<Objects, AllocError> {
+    let first = object_with(alloc, T, &[T + 4, 0], &[10])?;
+    let second = object_with(alloc, T + 4, &[T], &[30, 31])?;
+    Ok(Objects {
+        objects: vec![in alloc; first, second]?,
+        mutators,
+        used: vec![in alloc; 0; 6]?,
+        entries: 0,
+    })
+}
+
+// The word at an address, on a page that is there.
+fn word_at(rt: &impl Abort, finished: &Finished, address: u64) -> u64 {
+    let place = address.wrapping_sub(T);
+    let Some(Some(page)) = finished.pages().get((place / 64) as usize) else {
+        panic!(rt; "the page of {address} is there");
+    };
+    page.words()[(place % 64) as usize]
+}
+
+// The words behind this address are these.
+fn expect_fields(rt: &impl Abort, finished: &Finished, behind: u64, words: &[u64]) {
+    let mut address = behind;
+    for word in words {
+        address = address.wrapping_add(1);
+        assert_eq!(rt; word_at(rt, finished, address), *word, "at {address}");
+    }
+}
+
+// The finished heap has the fields of all plain objects, their words and their entries.
+fn expect_objects(
+    rt: &impl Abort,
+    alloc: Global,
+    finished: &Finished,
+    objects: &Objects,
+) -> Result<(), Fail> {
+    let mut live = 0u64;
+    for object in &objects.objects {
+        let references = object.references.len() as u64;
+        let data_words = object.data_words.len() as u64;
+        expect_fields(rt, finished, object.address, &object.references);
+        let behind = object.address.wrapping_add(references);
+        expect_fields(rt, finished, behind, &object.data_words);
+        live = live
+            .wrapping_add(1)
+            .wrapping_add(references)
+            .wrapping_add(data_words);
+    }
+    assert_eq!(rt; finished.live_words(), live);
+    expect_all_stamps(rt, alloc, finished, objects.entries)
+}
+
+// Two mutators, six hundred calls each.
+fn play_two<L: Named>(rt: &impl Abort, alloc: Global, blank: Blank) -> Result<(), Fail>
+    requires name { blank.name ≡ L.name }
+    requires parts { blank.parts ≡ L.parts }
+    requires count { blank.parts ≡ 2 }
+{
+    let mut objects = opening(alloc, 2)?;
+    let (space, mut m0, mut m1) = two::<L, _>(rt, alloc, blank, two_live(alloc)?, 6)?;
+    let mut random = Random { state: 2006 };
+    for _ in 0..600 {
+        play(rt, alloc, &space, &mut m0, &mut objects, &mut random)?;
+        play(rt, alloc, &space, &mut m1, &mut objects, &mut random)?;
+    }
+    Ok(())
+}
+
+#[test]
+fn agrees_with_plain_objects(rt: HostRuntime) -> Result<(), Fail> {
+    play_two::<Brand>(&rt, rt.alloc(), Blank::new(2))
+}
+
+// Three mutators, 334 calls each, and then the finished heap.
+fn play_three<L: Named>(rt: &impl Abort, alloc: Global, blank: Blank) -> Result<(), Fail>
+    requires name { blank.name ≡ L.name }
+    requires parts { blank.parts ≡ L.parts }
+    requires count { blank.parts ≡ 3 }
+{
+    let mut objects = opening(alloc, 3)?;
+    let (space, mut m0, mut m1, mut m2) = trio::<L, _>(rt, alloc, blank, two_live(alloc)?, 6)?;
+    let mut random = Random { state: 1978 };
+    for _ in 0..334 {
+        play(rt, alloc, &space, &mut m0, &mut objects, &mut random)?;
+        play(rt, alloc, &space, &mut m1, &mut objects, &mut random)?;
+        play(rt, alloc, &space, &mut m2, &mut objects, &mut random)?;
+    }
+    let finished = finish(rt, alloc, space, vec![in alloc; m1, m2, m0]?);
+    expect_objects(rt, alloc, &finished, &objects)
+}
+
+#[test]
+fn finishes_as_plain_objects_do(rt: HostRuntime) -> Result<(), Fail> {
+    play_three::<Brand>(&rt, rt.alloc(), Blank::new(3))
+}
