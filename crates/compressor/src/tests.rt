@@ -230,6 +230,7 @@ fn tells_of_wrong_words_on_standard_error(rt: HostRuntime) -> Result<(), Fail> {
         "word three.img -- -2",
         "word --index three.img 1",
         "plan three.img 1",
+        "plan --page 1 --page 2 three.img",
         "-- word three.img 2",
         "word --version",
         "version",
