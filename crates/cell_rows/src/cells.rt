@@ -1,7 +1,7 @@
 //! Pages taken, written and built through their cells.
-ghost use Rattle.std.specs.Prelude.{◌≡◌, IfOk};
+ghost use Rattle.std.specs.Prelude.{◌≡◌, IfOk, OnErr};
 ghost use Rattle.cell_steps.specs.Passes.{Rests};
-ghost use Rattle.page_cells.specs.Cells.{heap_of, IsPassOf};
+ghost use Rattle.page_cells.specs.Cells.{heap_of, Has, IsPassOf};
 
 use comp_journal::entry::Entry;
 use comp_journal::refusal::JournalRefusal;
@@ -9,6 +9,7 @@ use heap_layout::kind::Kind;
 use page_cells::Pass;
 use page_cells::cells::Cells;
 use page_cells::refusal::CellRefusal;
+use page_cells::taking::Taken;
 use page_plan::builder::Builder;
 use std::alloc::Global;
 use std::process::Abort;
@@ -34,14 +35,17 @@ fn two<B: Builder>(
     Ok((cells, first, second))
 }
 
-// Writes 7 into the first data word of the object at the beginning of page 0, which has no references.
-fn write_seven<B: Builder>(
+// Takes page 0, and writes 7 into the first data word of the object at its beginning, which has no references.
+fn take_and_write<B: Builder>(
     alloc: Global,
     cells: &Cells<B>,
     pass: &mut Pass,
-) -> Result<Result<u64, JournalRefusal>, CellRefusal>
+) -> Result<(Taken, Result<u64, JournalRefusal>), CellRefusal>
     requires of { IsPassOf cells.now pass.old }
     requires rests { Rests pass.old }
+    ensures of { IsPassOf cells.now pass.new }
+    ensures has { IfOk result (λ held. Has cells.now pass.new held.0) }
+    ensures rests { OnErr result (Rests pass.new) }
 {
     let Some(header) = cells.compacted_header(T) else {
         return Err(CellRefusal::NoSuchPage);
@@ -51,6 +55,19 @@ fn write_seven<B: Builder>(
     }
     let mut taken = cells.try_take(alloc, pass, 0)?;
     let stamp = cells.append(pass, &mut taken, Kind::Data, 1, 7);
+    Ok((taken, stamp))
+}
+
+// Writes that 7, and puts the page back.
+fn write_seven<B: Builder>(
+    alloc: Global,
+    cells: &Cells<B>,
+    pass: &mut Pass,
+) -> Result<Result<u64, JournalRefusal>, CellRefusal>
+    requires of { IsPassOf cells.now pass.old }
+    requires rests { Rests pass.old }
+{
+    let (taken, stamp) = take_and_write(alloc, cells, pass)?;
     cells.put_back(pass, taken);
     Ok(stamp)
 }
@@ -219,5 +236,38 @@ fn closes_when_no_pass_is_missing(rt: HostRuntime) -> Result<(), Fail> {
             .and_then(|builds| builds.first().copied()),
         Some(0)
     );
+    Ok(())
+}
+
+// Writes that 7, and meets another pass while it holds the page.
+fn write_and_meet<B: Builder>(
+    alloc: Global,
+    cells: &Cells<B>,
+    pass: &mut Pass,
+    other: &mut Pass,
+) -> Result<Result<u64, JournalRefusal>, CellRefusal>
+    requires of { IsPassOf cells.now pass.old × IsPassOf cells.now other.old }
+    requires rests { Rests pass.old × Rests other.old }
+    ensures of { IsPassOf cells.now pass.new × IsPassOf cells.now other.new }
+    ensures rests { Rests pass.new × Rests other.new }
+{
+    let (taken, stamp) = take_and_write(alloc, cells, pass)?;
+    cells.meet(pass, other);
+    cells.put_back(pass, taken);
+    Ok(stamp)
+}
+
+#[test]
+fn keeps_a_held_page_through_a_meeting(rt: HostRuntime) -> Result<(), Fail> {
+    let alloc = rt.alloc();
+    let (cells, mut first, mut second) = two(&rt, alloc, planned(alloc, three(alloc)?)?)?;
+    let written = write_and_meet(alloc, &cells, &mut first, &mut second)?;
+    assert_eq!(rt; written, Ok(0));
+    assert_eq!(rt; cells.try_build(alloc, &mut second, 0), Ok(false));
+    let (word, count, _) = first_field(alloc, &cells, &mut second)?;
+    assert_eq!(rt; word, 7);
+    assert_eq!(rt; count, 1);
+    assert_eq!(rt; first.builds().len(), 1);
+    assert_eq!(rt; second.builds().len(), 0);
     Ok(())
 }

@@ -6,9 +6,9 @@ use mathlib.Core.Option.{some}
 use lib.ListN.{get_elem?}
 use Rattle.comp_journal.specs.declared.entry.Entry.{Entry}
 use Rattle.heap_layout.specs.declared.kind.Kind.TheVariants.{Header, Reference, Data}
-use Rattle.cell_steps.specs.Setup.{address}
-use Rattle.cell_steps.specs.Lists.{look, times, by, on, StartsWith, Rises}
-use Rattle.cell_steps.specs.View.{Slot}
+use Rattle.cell_steps.specs.Setup.{address, pages}
+use Rattle.cell_steps.specs.Lists.{look, times, by, on, longer, joined, StartsWith, Rises}
+use Rattle.cell_steps.specs.View.{Slot, shown}
 use Rattle.cell_steps.specs.Locks.{seen_of, IsPage}
 use Rattle.cell_steps.specs.Lawful.{owed_by, HasHead, IsLawful}
 use Rattle.cell_steps.specs.Starts.{named_in, starts_set, KnowsFresh, MayRefer}
@@ -177,3 +177,45 @@ note_of v = record (fresh_view v.about 0 0) { learnt = v.known ∷ [] }
 -- One note takes in another.
 abbrev pub learning : View → View → View
 learning v w = record v { learnt = v.learnt ++ w.learnt }
+
+-- A note of a pass has what the pass knows of pages and starts.
+abbrev pub showing : View → View
+showing v = record (fresh_view v.about 0 0) { known = shown v.known }
+
+-- The pass takes a note of another, and has heard what it says.
+abbrev pub hearing : View → View → View
+hearing v w = record v { heard = w.known }
+
+-- how much of the journal of page p the note said that another pass has seen
+abbrev pub heard_of : View → ℕ → List Entry
+heard_of v p = look [] v.heard.seen p
+
+-- the pass then knows what it heard too: of each page the longer of what it had seen and what it heard
+abbrev pub taking_in : View → View
+taking_in v = record v {
+  known = record v.known {
+    seen = joined v.known.seen v.heard.seen;
+    built = v.heard.built ++ v.known.built;
+    starts = v.known.starts ++ v.heard.starts;
+  };
+}
+
+-- after a load of the first word of the table, which is the state word of page 0 where there are pages, and else the clock
+abbrev pub after_first : View → ℕ → View
+after_first v n = cond (nat_lt 0 (pages v.about)) (after_load v 0 n) v
+
+-- What a pass is told when it takes in what it heard.
+pub record Agrees (v : View) : Type 0 where
+  -- of each page the longer of what it had seen and what it heard begins with both
+  pub begins : (p : ℕ) → StartsWith (longer (seen_of v p) (heard_of v p)) (seen_of v p)
+  pub heard : (p : ℕ) → StartsWith (longer (seen_of v p) (heard_of v p)) (heard_of v p)
+  -- of a page that it holds it had seen all
+  pub held : (p : ℕ) → v.at ≡ p + 1 → v.mode ≡ 1 → longer (seen_of v p) (heard_of v p) ≡ seen_of v p
+  -- the entries that bear the pass's number are those that it wrote
+  pub own : (k : ℕ) → v.known.port ≡ k + 1 → (p : ℕ) → by k (longer (seen_of v p) (heard_of v p)) ≡ on p v.known.did
+  -- passes that are not made yet wrote nothing
+  pub strangers : (k : ℕ) → 0 < v.known.next → v.known.next ≤ k + 1 → (p : ℕ) → by k (longer (seen_of v p) (heard_of v p)) ≡ []
+
+-- A load of the first word, with which the pass takes in what it heard.
+abbrev pub meets : Play
+meets st m r n = (n ≡ (taking_in (after_first m.0 r), m.1)) × Agrees m.0

@@ -1,21 +1,22 @@
--- The arguments of a built command: each is found by its place and by its name, and its one flag is for help.
-use Rattle.std.proofs.Common.{◌≡◌, ◌==◌, ◌<◌, ◌≤◌, ◌+◌, ◌&&◌, ℕ, Bool, cond, true, false, not, refl, sym, arith, List, [], ◌∷◌, ◌++◌, Some, None, length, map, eq-eqb}
-use Rattle.std.specs.Prelude.{min}
+-- The options and arguments of a built command: each is found by its name, an argument also by its place, and there is one other flag, for help.
+use Rattle.std.proofs.Common.{◌≡◌, ◌==◌, ◌<◌, ◌≤◌, ◌+◌, ◌&&◌, ◌||◌, ℕ, Bool, cond, true, false, not, refl, sym, ap, arith, List, [], ◌∷◌, ◌++◌, Option, Some, None, length, map, eq-eqb}
+use Rattle.std.specs.Prelude.{find, min}
 use Rattle.std.specs.List.{list_all, list_any}
+use Rattle.std.specs.Option.{option_map_or}
 use Rattle.std.specs.Str.{bytes_eq}
 use Rattle.std.proofs.lemmas.Bool.{ne_eqb, or_parts}
+use Rattle.std.proofs.lemmas.Option.{same_Some}
 use Rattle.std.proofs.lemmas.Slice.Eq.{bytes_eq-Decides}
 use Rattle.clap.specs.Lexer.{usize_max}
-use Rattle.clap.specs.Walk.{Rule, Text, arg_by_id, arg_by_index, arg_by_long, arg_by_short, has_long, has_short, is_empty}
+use Rattle.clap.specs.Walk.{Rule, Text, arg_by_id, arg_by_index, arg_by_long, arg_by_short, has_long, has_short}
 use Rattle.clap.specs.Simple.{filled, filled_from, help_rule, with_index}
 use Rattle.clap.proofs.WalkLemmas.{both}
-use Rattle.command_line.specs.Forms.{Argument, Form}
-use Rattle.command_line.specs.Parser.{rule}
-use Rattle.command_line.proofs.Levels.{shape}
-use Rattle.command_line.proofs.LevelSteps.{HasHelpAlone, IsPlainRule, built_help, found}
+use Rattle.command_line.specs.Forms.{Choice, Parameter}
+use Rattle.command_line.specs.Parser.{option_rule, rule}
+use Rattle.command_line.proofs.LevelSteps.{built_help}
 
 -- an argument of a built command, at its place
-abbrev pub built_rule : ℕ → Argument → Rule
+abbrev pub built_rule : ℕ → Parameter → Rule
 built_rule i a = with_index i (filled (rule a))
 
 -- the place behind a place
@@ -23,87 +24,91 @@ abbrev pub place_behind : ℕ → ℕ
 place_behind i = min (i + 1) usize_max
 
 -- the arguments from a place on, and the flag for help
-abbrev pub rules_from : ℕ → List Argument → List Rule
+abbrev pub rules_from : ℕ → List Parameter → List Rule
 rules_from i arguments = filled_from i (map rule arguments ++ help_rule ∷ [])
 
 -- one of the arguments has this name
-abbrev pub is_name_in : List Argument → Text → Bool
+abbrev pub is_name_in : List Parameter → Text → Bool
 is_name_in arguments id = list_any (λ a. bytes_eq id a.id) arguments
 
 -- no two arguments have one name
-abbrev pub are_distinct : List Argument → Bool
+abbrev pub are_distinct : List Parameter → Bool
 are_distinct [] = true
 are_distinct (a ∷ rest) = not (is_name_in rest a.id) && are_distinct rest
 
+-- what is not true is false
+pub not_true : (t : Bool) → not t ≡ true → t ≡ false
+not_true true e = sym e
+not_true false e = refl
+
 -- the first of several differs from the others, which differ
-pub distinct_parts : (a : Argument) (rest : List Argument) → are_distinct (a ∷ rest) ≡ true → (is_name_in rest a.id ≡ false) × (are_distinct rest ≡ true)
-distinct_parts a rest h = (go (is_name_in rest a.id) (both _ _ h).0, (both _ _ h).1)
-  where
-    go : (t : Bool) → not t ≡ true → t ≡ false
-    go true e = sym e
-    go false e = refl
+pub distinct_parts : (a : Parameter) (rest : List Parameter) → are_distinct (a ∷ rest) ≡ true → (is_name_in rest a.id ≡ false) × (are_distinct rest ≡ true)
+distinct_parts a rest h = (not_true (is_name_in rest a.id) (both _ _ h).0, (both _ _ h).1)
 
 -- a text is itself
 pub same_text : (id : Text) → bytes_eq id id ≡ true
 same_text id = (bytes_eq-Decides id id).1 refl
 
--- no long name finds another flag than the one for help
-long_alone : (i : ℕ) (arguments : List Argument) (name : Text) → arg_by_long (rules_from i arguments) name ≡ cond (has_long built_help name) (Some built_help) None
-long_alone i [] name = refl
-long_alone i (a ∷ rest) name = long_alone (place_behind i) rest name
+-- an option of a built command
+abbrev pub built_option : Choice → Rule
+built_option o = filled (option_rule o)
 
--- nor does a short one
-short_alone : (i : ℕ) (arguments : List Argument) (c : ℕ) → arg_by_short (rules_from i arguments) c ≡ cond (has_short built_help c) (Some built_help) None
-short_alone i [] c = refl
-short_alone i (a ∷ rest) c = short_alone (place_behind i) rest c
+-- all that a built command has: its options, its arguments and the flag for help
+abbrev pub all_rules : List Choice → List Parameter → List Rule
+all_rules options arguments = filled_from 1 ((map option_rule options ++ map rule arguments) ++ help_rule ∷ [])
 
--- no argument has a default value
-no_default : (i : ℕ) (arguments : List Argument) → list_all (λ a. is_empty a.defaults) (rules_from i arguments) ≡ true
-no_default i [] = refl
-no_default i (a ∷ rest) = no_default (place_behind i) rest
+-- the option of a name
+abbrev pub option_named : List Choice → Text → Option Choice
+option_named options name = find (λ (o : Choice). bytes_eq o.takes.id name) options
 
--- an argument that is found by its place has another name than one before
-found_apart : (id : Text) (i : ℕ) (arguments : List Argument) (position : ℕ) (a : Rule) → arg_by_index (rules_from i arguments) position ≡ Some a
-    → is_name_in arguments id ≡ false → bytes_eq id a.id ≡ false
-found_apart id i [] position a is none = absurd cc
-found_apart id i (b ∷ rest) position a is none = go (i == position) is (λ here. found_apart id (place_behind i) rest position a here (or_parts _ _ none).1)
+-- a long name finds the option of that name, or else the flag for help, or nothing
+pub by_long : (options : List Choice) (arguments : List Parameter) (name : Text) → arg_by_long (all_rules options arguments) name
+    ≡ option_map_or (λ o. Some (built_option o)) (option_named options name) (cond (has_long built_help name) (Some built_help) None)
+by_long [] arguments name = alone 1 arguments
   where
-    go : (t : Bool) → cond t (Some (built_rule i b)) (arg_by_index (rules_from (place_behind i) rest) position) ≡ Some a
-        → (arg_by_index (rules_from (place_behind i) rest) position ≡ Some a → bytes_eq id a.id ≡ false) → bytes_eq id a.id ≡ false
-    go true is later = found (λ r. bytes_eq id r.id ≡ false) (built_rule i b) a is (or_parts _ _ none).0
+    alone : (i : ℕ) (arguments : List Parameter) → arg_by_long (rules_from i arguments) name ≡ cond (has_long built_help name) (Some built_help) None
+    alone i [] = refl
+    alone i (a ∷ rest) = alone (place_behind i) rest
+by_long (o ∷ options) arguments name = go (bytes_eq o.takes.id name) (by_long options arguments name)
+  where
+    other : Option Rule
+    other = cond (has_long built_help name) (Some built_help) None
+
+    go : (t : Bool) → arg_by_long (all_rules options arguments) name ≡ option_map_or (λ c. Some (built_option c)) (option_named options name) other
+        → cond (t || false) (Some (built_option o)) (arg_by_long (all_rules options arguments) name)
+        ≡ option_map_or (λ c. Some (built_option c)) (cond t (Some o) (option_named options name)) other
+    go true later = refl
+    go false later = later
+
+-- a short name finds the flag for help, or nothing
+pub by_short : (options : List Choice) (arguments : List Parameter) (c : ℕ)
+    → arg_by_short (all_rules options arguments) c ≡ cond (has_short built_help c) (Some built_help) None
+by_short [] arguments c = alone 1 arguments
+  where
+    alone : (i : ℕ) (arguments : List Parameter) → arg_by_short (rules_from i arguments) c ≡ cond (has_short built_help c) (Some built_help) None
+    alone i [] = refl
+    alone i (a ∷ rest) = alone (place_behind i) rest
+by_short (o ∷ options) arguments c = by_short options arguments c
+
+-- an option is found by its name
+pub by_id : (options : List Choice) (arguments : List Parameter) (o : Choice) → option_named options o.takes.id ≡ Some o
+    → arg_by_id (all_rules options arguments) o.takes.id ≡ Some (built_option o)
+by_id [] arguments o is = absurd cc
+by_id (c ∷ options) arguments o is = go (bytes_eq c.takes.id o.takes.id) is (by_id options arguments o)
+  where
+    go : (t : Bool) → cond t (Some c) (option_named options o.takes.id) ≡ Some o
+        → (option_named options o.takes.id ≡ Some o → arg_by_id (all_rules options arguments) o.takes.id ≡ Some (built_option o))
+        → cond t (Some (built_option c)) (arg_by_id (all_rules options arguments) o.takes.id) ≡ Some (built_option o)
+    go true is later = ap (λ x. Some (built_option x)) (same_Some c o is)
     go false is later = later is
 
--- each argument with a place is plain
-plain_alone : (i : ℕ) (arguments : List Argument) → are_distinct arguments ≡ true → (position : ℕ) (a : Rule) → arg_by_index (rules_from i arguments) position ≡ Some a
-    → IsPlainRule (rules_from i arguments) a
-plain_alone i [] distinct position a is = absurd cc
-plain_alone i (b ∷ rest) distinct position a is = go (i == position) is (plain_alone (place_behind i) rest (distinct_parts b rest distinct).1 position a)
-  where
-    go : (t : Bool) → cond t (Some (built_rule i b)) (arg_by_index (rules_from (place_behind i) rest) position) ≡ Some a
-        → (arg_by_index (rules_from (place_behind i) rest) position ≡ Some a → IsPlainRule (rules_from (place_behind i) rest) a) → IsPlainRule (rules_from i (b ∷ rest)) a
-    go true is later = found (IsPlainRule (rules_from i (b ∷ rest))) (built_rule i b) a is
-        (record { one = refl; ends = refl; named = rw (same_text b.id) refl; request = refl })
-    go false is later =
-        let tail = later is in
-        let apart = found_apart b.id (place_behind i) rest position a is (distinct_parts b rest distinct).0 in
-        record { one = tail.one; ends = tail.ends; named = rw apart tail.named; request = tail.request }
-
--- the one flag of a command is for help, and its arguments are plain
-pub help_alone : (form : Form) → are_distinct form.arguments ≡ true → HasHelpAlone (shape form).rules
-help_alone form distinct = record {
-  long = long_alone 1 form.arguments;
-  short = short_alone 1 form.arguments;
-  plain = plain_alone 1 form.arguments distinct;
-  defaults = no_default 1 form.arguments;
-}
-
 -- from a place on, these arguments are found by their places and by their names, and then none is
-abbrev pub Ahead : List Rule → ℕ → List Argument → Type 0
+abbrev pub Ahead : List Rule → ℕ → List Parameter → Type 0
 Ahead rules i [] = arg_by_index rules i ≡ None
 Ahead rules i (a ∷ rest) = (arg_by_index rules i ≡ Some (built_rule i a)) × (arg_by_id rules a.id ≡ Some (built_rule i a)) × Ahead rules (place_behind i) rest
 
 -- so they are with one more argument before
-ahead_behind : (b : Argument) (j : ℕ) (rules : List Rule) (i : ℕ) (arguments : List Argument) → j < i → j < usize_max → is_name_in arguments b.id ≡ false
+ahead_behind : (b : Parameter) (j : ℕ) (rules : List Rule) (i : ℕ) (arguments : List Parameter) → j < i → j < usize_max → is_name_in arguments b.id ≡ false
     → Ahead rules i arguments → Ahead (built_rule j b ∷ rules) i arguments
 ahead_behind b j rules i [] lt few none h =
     let apart : (j == i) ≡ false = ne_eqb j i (λ e. omega (arith, e)) in
@@ -114,7 +119,7 @@ ahead_behind b j rules i (a ∷ rest) lt few none h =
     (rw apart h.0, rw named h.1, ahead_behind b j rules (place_behind i) rest (omega arith) few (or_parts _ _ none).1 h.2)
 
 -- the arguments of a built command are ahead of its first place
-pub ahead : (i : ℕ) (arguments : List Argument) → i + length arguments ≤ usize_max → are_distinct arguments ≡ true → Ahead (rules_from i arguments) i arguments
+pub ahead : (i : ℕ) (arguments : List Parameter) → i + length arguments ≤ usize_max → are_distinct arguments ≡ true → Ahead (rules_from i arguments) i arguments
 ahead i [] few distinct = refl
 ahead i (a ∷ rest) few distinct =
     let here : (i == i) ≡ true = eq-eqb i i refl in (
@@ -123,3 +128,36 @@ ahead i (a ∷ rest) few distinct =
       ahead_behind a i (rules_from (place_behind i) rest) (place_behind i) rest (omega arith) (omega arith) (distinct_parts a rest distinct).0
           (ahead (place_behind i) rest (omega arith) (distinct_parts a rest distinct).1),
     )
+
+-- no argument has the name of an option
+abbrev pub are_apart : List Choice → List Parameter → Bool
+are_apart options arguments = list_all (λ (a : Parameter). not (list_any (λ (o : Choice). bytes_eq o.takes.id a.id) options)) arguments
+
+-- with one more option before, the arguments are ahead still
+ahead_behind_option : (o : Choice) (rules : List Rule) (i : ℕ) (arguments : List Parameter) → are_apart (o ∷ []) arguments ≡ true
+    → Ahead rules i arguments → Ahead (built_option o ∷ rules) i arguments
+ahead_behind_option o rules i [] apart h = h
+ahead_behind_option o rules i (a ∷ rest) apart h =
+    let parts = both _ _ apart in
+    let named : bytes_eq o.takes.id a.id ≡ false = (or_parts _ _ (not_true _ parts.0)).0 in
+    (h.0, rw named h.1, ahead_behind_option o rules (place_behind i) rest parts.1 h.2)
+
+-- names apart from several options are apart from the first, and from the others
+apart_parts : (o : Choice) (options : List Choice) (arguments : List Parameter) → are_apart (o ∷ options) arguments ≡ true
+    → (are_apart (o ∷ []) arguments ≡ true) × (are_apart options arguments ≡ true)
+apart_parts o options [] h = (refl, refl)
+apart_parts o options (a ∷ rest) h =
+    let parts = both _ _ h in
+    let two = or_parts (bytes_eq o.takes.id a.id) (list_any (λ (x : Choice). bytes_eq x.takes.id a.id) options) (not_true _ parts.0) in
+    let named : bytes_eq o.takes.id a.id ≡ false = two.0 in
+    let others : list_any (λ (x : Choice). bytes_eq x.takes.id a.id) options ≡ false = two.1 in
+    let later = apart_parts o options rest parts.1 in
+    (rw named later.0, rw others later.1)
+
+-- so they are behind all options
+pub all_ahead : (options : List Choice) (arguments : List Parameter) → 1 + length arguments ≤ usize_max → are_distinct arguments ≡ true → are_apart options arguments ≡ true
+    → Ahead (all_rules options arguments) 1 arguments
+all_ahead [] arguments few distinct apart = ahead 1 arguments few distinct
+all_ahead (o ∷ options) arguments few distinct apart =
+    let parts = apart_parts o options arguments apart in
+    ahead_behind_option o (all_rules options arguments) 1 arguments parts.0 (all_ahead options arguments few distinct parts.1)

@@ -1,29 +1,34 @@
 -- From what the parser found to what the words ask.
 use Rattle.std.proofs.Common.{◌≡◌, ◌≢◌, ◌⊎◌, ◌∙◌, ◌∷◌, ℕ, List, Option, Some, IfOk, IfErr, Result, Ok, Err}
-use Rattle.std.proofs.Common.{[], sym, ap, subst, inl, inr, codes, map, unwrap_or, true}
-use Rattle.std.specs.Prelude.{IsUtf8}
+use Rattle.std.proofs.Common.{[], sym, ap, subst, inl, inr, codes, is_some, map, unwrap_or, refl, true, true≢false}
+use Rattle.std.specs.Prelude.{IsUtf8, IfSome}
 use Rattle.std.specs.String.{string_bytes}
 use Rattle.std.specs.declared.string.String.{String}
-use Rattle.std.specs.List.{All, slice_index_or}
-use Rattle.std.proofs.lemmas.List.Elements.{All-map}
+use Rattle.std.specs.List.{All, list_all, slice_index_or}
+use Rattle.std.proofs.lemmas.List.Elements.{All-head, All-map, All-tail}
+use Rattle.std.proofs.lemmas.Option.{IfSome_then}
 use Rattle.std.proofs.lemmas.Str.{IsUtf8-string_bytes}
 use Rattle.clap.specs.Words.{App, IsAmong, HasKind, Row, fault_of, first_of, first_value, is_simple_and_free, kind_of, one_of, one_text, rows_of, subcommand_of}
 use Rattle.clap.specs.declared.error.Error.{Error}
 use Rattle.clap.specs.declared.error.kind.ErrorKind.{ErrorKind}
 use Rattle.clap.specs.declared.error.kind.ErrorKind.TheVariants.{DisplayHelp, DisplayVersion, OutOfMemory}
 use Rattle.clap.specs.declared.parser.matches.Found.{Found}
-use Rattle.clap.proofs.WalkLemmas.{first_value-rows, one_text-rows}
-use Rattle.std.specs.Str.Parse.{digits_value, without_leading_plus}
-use Rattle.command_line.specs.Asked.{AreCommand, Asks, AsksHelp, AsksNeither, AsksPlan, AsksVersion, AsksWord, IsAnswerOf, IsNumber}
-use Rattle.command_line.specs.Forms.{Form, forms, plan_form, word_form}
+use Rattle.clap.proofs.WalkLemmas.{both, first_value-rows, one_text-rows}
+use Rattle.command_line.specs.Asked.{given as given_values}
+use Rattle.command_line.specs.Asked.{Asks, AsksHelp, AsksNeither, AsksPlan, AsksVersion, AsksWord, IsAnswerOf, IsNumber}
+use Rattle.command_line.specs.Forms.{Choice, Form, Parameter, all_forms, audit_form, compact_form, number, plan_form, race_form, replay_form, standing, text, word_form}
+use Rattle.command_line.specs.Given.{HasOption, IsCommandWith, IsNumberOr, Takes, text_given}
 use Rattle.command_line.specs.Parser.{program}
-use Rattle.command_line.proofs.FormLevel.{AreTaken}
-use Rattle.command_line.proofs.FormRows.{rows_with}
 use Rattle.command_line.specs.declared.words.Task.{Task}
 use Rattle.command_line.specs.declared.words.Task.TheVariants.{Plan, Word, Help, Version}
+use Rattle.command_line.proofs.Chosen.{chosen_fits}
+use Rattle.command_line.proofs.FormRules.{are_apart}
 use Rattle.command_line.proofs.KindLists.{some_kind}
-use Rattle.command_line.proofs.Parsed.{parsed, faulty, helped, is_number, versioned}
-use Rattle.command_line.proofs.TopLevel.{IsCommand, IsOneOf, one_of_these, plan_is_command, program_free, same_form, word_is_command}
+use Rattle.command_line.proofs.Parsed.{parsed, faulty, helped, versioned}
+use Rattle.command_line.proofs.Plain.{Pairs, plain_values, values_of}
+use Rattle.command_line.proofs.Settled.{first_found, is_whole, one_found, row}
+use Rattle.command_line.proofs.TopLevel.{IsCommand, IsOneOf, IsProgram, all_program, one_of_these, same_form, standing_plan, standing_program, standing_word}
+use Rattle.command_line.proofs.Uses.{Use}
 
 -- the bytes of texts are UTF-8
 pub texts_utf8 : {Z : Type 0} (xs : List (String Z)) → All IsUtf8 (map string_bytes xs)
@@ -38,111 +43,199 @@ pub same_name : (o : Entered) (a b : List ℕ) (x y : List Row) → o ≡ Some (
 same_name o a b x y e f = ap (λ (w : Entered). (unwrap_or w (a, x)).0) (sym e ∙ f)
 
 -- and what was found behind it is one
-same_rows : (o : Entered) (a b : List ℕ) (x y : List Row) → o ≡ Some (a, x) → o ≡ Some (b, y) → x ≡ y
+pub same_rows : (o : Entered) (a b : List ℕ) (x y : List Row) → o ≡ Some (a, x) → o ≡ Some (b, y) → x ≡ y
 same_rows o a b x y e f = ap (λ (w : Entered). (unwrap_or w (a, x)).1) (sym e ∙ f)
 
--- the command was asked with the values that were found, and its arguments take them
-abbrev CommandAsked : List (List ℕ) → Found → Form → Type 0
-CommandAsked words f form = (values : List (List ℕ)) × (rows_of f ≡ rows_with form.arguments values) × AreTaken form.arguments values × AreCommand form.name values words
+-- the command was asked with what was given, and its rows were found
+abbrev pub CommandAsked : List (List ℕ) → Found → Form → Type 0
+CommandAsked words f form = (given : List Use) × (rows_of f ≡ map row given) × IsCommandWith form words given
 
--- where a command was entered, it was asked with the values that were found
-command_asked : (form : Form) → IsCommand form → (words : List (List ℕ)) (f : Found) → All IsUtf8 words → fault_of program words ≡ []
-    → subcommand_of program words ≡ Some (form.name, rows_of f) → CommandAsked words f form
-command_asked form command words f utf8 taken found =
-    let p = parsed words utf8 taken in
-    let rows = rows_with p.form.arguments p.values in
-    let same : p.form ≡ form = same_form p.form form p.is_command command (same_name _ p.form.name form.name rows (rows_of f) p.found found) in
-    let read : CommandAsked words f p.form = (p.values, same_rows _ form.name p.form.name (rows_of f) rows found p.found, p.are_taken, p.are_command) in
+-- where a command was entered, it was asked with what was given
+pub command_asked : (forms : List Form) → IsProgram forms → (form : Form) → IsCommand forms form → (words : List (List ℕ)) (f : Found) → All IsUtf8 words
+    → fault_of (program forms) words ≡ [] → subcommand_of (program forms) words ≡ Some (form.name, rows_of f) → CommandAsked words f form
+command_asked forms is form command words f utf8 taken found =
+    let p = parsed forms is words utf8 taken in
+    let same : p.form ≡ form = same_form forms p.form form p.is_command command (same_name _ p.form.name form.name (map row p.given) (rows_of f) p.found found) in
+    let read : CommandAsked words f p.form = (p.given, same_rows _ form.name p.form.name (rows_of f) (map row p.given) found p.found, p.are_command) in
     subst (CommandAsked words f) same read
+
+module _ (f : Found) (given : List Use) (rows : rows_of f ≡ map row given) where
+  -- what is read of a name is what is given to it
+  pub text_is : (id : List ℕ) → first_value f id ≡ text_given id given
+  text_is id = first_value-rows f id ∙ ap (first_of id) rows ∙ first_found id given
+
+  pub number_is : (id : List ℕ) → one_text f id ≡ text_given id given
+  number_is id = one_text-rows f id ∙ ap (one_of id) rows ∙ one_found id given
+
+  -- there is one where it is given
+  pub text_there : (id : List ℕ) → is_some (text_given id given) ≡ true → is_some (first_value f id) ≡ true
+  text_there id there = ap (λ (o : Option (List ℕ)). is_some o) (text_is id) ∙ there
+
+-- ---- `plan` and `word`
 
 -- what was found where the words are `plan`: a path, which they ask
 abbrev pub PlanAsked : List (List ℕ) → Found → Type 0
 PlanAsked words f = (path : List ℕ) × (first_value f (codes "IMAGE") ≡ Some path) × AsksPlan words path
 
-pub plan_asked : (words : List (List ℕ)) (f : Found) → All IsUtf8 words → fault_of program words ≡ [] → subcommand_of program words ≡ Some (codes "plan", rows_of f)
-    → PlanAsked words f
-plan_asked words f utf8 taken found = go (command_asked plan_form plan_is_command words f utf8 taken found)
+pub plan_asked : (words : List (List ℕ)) (f : Found) → CommandAsked words f plan_form → PlanAsked words f
+plan_asked words f (given, rows, asks) =
+    let plain = plain_values plan_form refl asks.gives in
+    go given rows asks.rest asks.begin plain.0 plain.1 asks.whole
   where
-    go : CommandAsked words f plan_form → PlanAsked words f
-    go ([], rows, fit, asks) = absurd fit
-    go (path ∷ [], rows, fit, asks) = (path, first_value-rows f (codes "IMAGE") ∙ ap (first_of (codes "IMAGE")) rows, asks)
-    go (path ∷ word ∷ more, rows, fit, asks) = absurd fit.1
+    go : (us : List Use) → rows_of f ≡ map row us → (rest : List (List ℕ)) → words ≡ codes "plan" ∷ rest → given_values rest ≡ Some (values_of plan_form us)
+        → Pairs (text (codes "IMAGE") ∷ []) (values_of plan_form us) us → is_whole plan_form us ≡ true → PlanAsked words f
+    go [] rows rest is values pairs whole = absurd (true≢false (sym whole))
+    go (u ∷ []) rows rest is values pairs whole =
+        (u.1, text_is f (u ∷ []) rows (codes "IMAGE") ∙ ap (λ (x : Use). text_given (codes "IMAGE") (x ∷ [])) pairs.0, (rest, is, values))
+    go (u ∷ v ∷ us) rows rest is values pairs whole = absurd pairs.1
 
 -- what was found where the words are `word`: a path and an index, which they ask
 abbrev pub WordAsked : List (List ℕ) → Found → Type 0
 WordAsked words f = (path : List ℕ) × (digits : List ℕ) × (first_value f (codes "IMAGE") ≡ Some path) × (one_text f (codes "INDEX") ≡ Some digits)
     × ((n : ℕ) × IsNumber digits n) × ((n : ℕ) → IsNumber digits n → AsksWord words path n)
 
-pub word_asked : (words : List (List ℕ)) (f : Found) → All IsUtf8 words → fault_of program words ≡ [] → subcommand_of program words ≡ Some (codes "word", rows_of f)
-    → WordAsked words f
-word_asked words f utf8 taken found = go (command_asked word_form word_is_command words f utf8 taken found)
+pub word_asked : (words : List (List ℕ)) (f : Found) → CommandAsked words f word_form → WordAsked words f
+word_asked words f (given, rows, asks) =
+    let plain = plain_values word_form refl asks.gives in
+    go given rows asks.rest asks.begin plain.0 plain.1 asks.whole asks.fit
   where
-    go : CommandAsked words f word_form → WordAsked words f
-    go ([], rows, fit, asks) = absurd fit
-    go (path ∷ [], rows, fit, asks) = absurd fit.1
-    go (path ∷ digits ∷ [], rows, fit, asks) = (
-      path,
-      digits,
-      first_value-rows f (codes "IMAGE") ∙ ap (first_of (codes "IMAGE")) rows,
-      one_text-rows f (codes "INDEX") ∙ ap (one_of (codes "INDEX")) rows,
-      (digits_value 10 (without_leading_plus digits), is_number digits fit.1.0),
-      λ n number. (digits, number, asks),
-    )
-    go (path ∷ digits ∷ word ∷ more, rows, fit, asks) = absurd fit.1.1
+    go : (us : List Use) → rows_of f ≡ map row us → (rest : List (List ℕ)) → words ≡ codes "word" ∷ rest → given_values rest ≡ Some (values_of word_form us)
+        → Pairs (text (codes "IMAGE") ∷ number (codes "INDEX") ∷ []) (values_of word_form us) us → is_whole word_form us ≡ true → All (λ (g : Use). Takes g.0 g.1) us → WordAsked words f
+    go [] rows rest is values pairs whole fit = absurd (true≢false (sym whole))
+    go (u ∷ []) rows rest is values pairs whole fit =
+        absurd (true≢false (sym whole ∙ ap (λ (x : Use). is_whole word_form (x ∷ [])) pairs.0))
+    go (u ∷ v ∷ []) rows rest is values pairs whole fit =
+        let takes : Takes (number (codes "INDEX")) v.1 =
+        subst (λ (x : Use). Takes x.0 x.1) pairs.1.0 (All-head (λ (g : Use). Takes g.0 g.1) v [] (All-tail (λ (g : Use). Takes g.0 g.1) u (v ∷ []) fit)) in
+        let both : List Use = (text (codes "IMAGE"), u.1) ∷ (number (codes "INDEX"), v.1) ∷ [] in
+        let same : u ∷ v ∷ [] ≡ both = ap (λ (x : Use). x ∷ v ∷ []) pairs.0 ∙ ap (λ (x : Use). (text (codes "IMAGE"), u.1) ∷ x ∷ []) pairs.1.0 in (
+          u.1,
+          v.1,
+          text_is f (u ∷ v ∷ []) rows (codes "IMAGE") ∙ ap (text_given (codes "IMAGE")) same,
+          number_is f (u ∷ v ∷ []) rows (codes "INDEX") ∙ ap (text_given (codes "INDEX")) same,
+          (takes.0, takes.1),
+          λ n h. (v.1, h, (rest, is, values)),
+        )
+    go (u ∷ v ∷ w ∷ us) rows rest is values pairs whole fit = absurd pairs.1.1
 
--- nothing else is found
-pub other_found : (words : List (List ℕ)) (o : Entered) → All IsUtf8 words → fault_of program words ≡ [] → subcommand_of program words ≡ o
-    → ((rows : List Row) → o ≡ Some (codes "plan", rows) → ⊥) → ((rows : List Row) → o ≡ Some (codes "word", rows) → ⊥) → ⊥
-other_found words o utf8 taken found no_plan no_word =
-    let p = parsed words utf8 taken in
-    go p.form (rows_with p.form.arguments p.values) (one_of_these p.form p.is_command) (sym found ∙ p.found)
+-- ---- commands with options
+
+module _ (words : List (List ℕ)) (f : Found) (form : Form) (asked : CommandAsked words f form) where
+  -- the text of an option that takes a number is one
+  pub choice_found : (o : Choice) → HasOption form o → are_apart form.options form.arguments ≡ true → ((text : List ℕ) → Takes o.takes text → (n : ℕ) × IsNumber text n)
+      → IfSome (one_text f o.takes.id) (λ text. (n : ℕ) × IsNumber text n)
+  choice_found o has apart is_number =
+      subst (λ (r : Option (List ℕ)). IfSome r (λ text. (n : ℕ) × IsNumber text n)) (sym (number_is f asked.0 asked.1 o.takes.id))
+      (IfSome_then (text_given o.takes.id asked.0) (chosen_fits form o has asked.2.gives apart asked.2.fit) is_number)
+
+  -- its number is the one that was read
+  pub choice_told : (id : List ℕ) (default n : ℕ) → IsNumberOr default (one_text f id) n → IsNumberOr default (text_given id asked.0) n
+  choice_told id default n h = subst (λ (r : Option (List ℕ)). IsNumberOr default r n) (number_is f asked.0 asked.1 id) h
+
+  -- and so is a path
+  pub path_told : (id path : List ℕ) → Some path ≡ first_value f id → text_given id asked.0 ≡ Some path
+  path_told id path h = sym (h ∙ text_is f asked.0 asked.1 id)
+
+-- each of three paths, or of two, was found
+pub three_paths : (words : List (List ℕ)) (f : Found) (form : Form) → (asked : CommandAsked words f form) → (a b c : Parameter) → form.arguments ≡ a ∷ b ∷ c ∷ []
+    → (is_some (first_value f a.id) ≡ true) × (is_some (first_value f b.id) ≡ true) × (is_some (first_value f c.id) ≡ true)
+three_paths words f form (given, rows, asks) a b c is =
+    let one = both _ _ (ap (λ (ps : List Parameter). list_all (λ (p : Parameter). is_some (text_given p.id given)) ps) (sym is) ∙ asks.whole) in
+    let two = both _ _ one.1 in
+    let three = both _ _ two.1 in
+    (text_there f given rows a.id one.0, text_there f given rows b.id two.0, text_there f given rows c.id three.0)
+
+pub two_paths : (words : List (List ℕ)) (f : Found) (form : Form) → (asked : CommandAsked words f form) → (a b : Parameter) → form.arguments ≡ a ∷ b ∷ []
+    → (is_some (first_value f a.id) ≡ true) × (is_some (first_value f b.id) ≡ true)
+two_paths words f form (given, rows, asks) a b is =
+    let one = both _ _ (ap (λ (ps : List Parameter). list_all (λ (p : Parameter). is_some (text_given p.id given)) ps) (sym is) ∙ asks.whole) in
+    let two = both _ _ one.1 in
+    (text_there f given rows a.id one.0, text_there f given rows b.id two.0)
+
+-- ---- nothing else is found
+
+-- the form that was entered is one of these
+pub entered_one : (forms : List Form) → IsProgram forms → (words : List (List ℕ)) (o : Entered) → All IsUtf8 words → fault_of (program forms) words ≡ [] → subcommand_of (program forms) words ≡ o
+    → (form : Form) × (rows : List Row) × IsOneOf forms form × (o ≡ Some (form.name, rows))
+entered_one forms is words o utf8 taken found =
+    let p = parsed forms is words utf8 taken in
+    (p.form, map row p.given, one_of_these forms p.form p.is_command, sym found ∙ p.found)
+
+-- each row, by its name
+abbrev pub EnteredAs : Entered → Form → Type 0
+EnteredAs o form = (rows : List Row) → o ≡ Some (form.name, rows) → ⊥
+
+pub none_of_standing : (words : List (List ℕ)) (o : Entered) → All IsUtf8 words → fault_of (program standing) words ≡ [] → subcommand_of (program standing) words ≡ o
+    → EnteredAs o plan_form → EnteredAs o word_form → ⊥
+none_of_standing words o utf8 taken found plan word = go (entered_one standing standing_program words o utf8 taken found)
   where
-    go : (form : Form) (rows : List Row) → IsOneOf forms form → o ≡ Some (form.name, rows) → ⊥
-    go form rows (inl plan) is = no_plan rows (is ∙ ap (λ (f : Form). Some (f.name, rows)) plan)
-    go form rows (inr (inl word)) is = no_word rows (is ∙ ap (λ (f : Form). Some (f.name, rows)) word)
-    go form rows (inr (inr none)) is = none
+    go : (form : Form) × (rows : List Row) × IsOneOf standing form × (o ≡ Some (form.name, rows)) → ⊥
+    go (form, rows, inl same, is) = plan rows (is ∙ ap (λ (x : Form). Some (x.name, rows)) same)
+    go (form, rows, inr (inl same), is) = word rows (is ∙ ap (λ (x : Form). Some (x.name, rows)) same)
+    go (form, rows, inr (inr none), is) = none
 
--- an error for another cause than memory comes only where the words ask nothing
-refused_neither : (words : List (List ℕ)) (error : Error) → All IsUtf8 words → HasKind (fault_of program words) error → kind_of error ≢ OutOfMemory → AsksNeither words
-refused_neither words error utf8 kind other = elim kind [
-  | inl memory ↦ absurd (other memory)
-  | inr among ↦ faulty words (some_kind (kind_of error) (fault_of program words) among)
-]
+pub none_of_all : (words : List (List ℕ)) (o : Entered) → All IsUtf8 words → fault_of (program all_forms) words ≡ [] → subcommand_of (program all_forms) words ≡ o
+    → EnteredAs o plan_form → EnteredAs o word_form → EnteredAs o replay_form → EnteredAs o race_form → EnteredAs o compact_form → EnteredAs o audit_form → ⊥
+none_of_all words o utf8 taken found plan word replay race compact audit = go (entered_one all_forms all_program words o utf8 taken found)
+  where
+    go : (form : Form) × (rows : List Row) × IsOneOf all_forms form × (o ≡ Some (form.name, rows)) → ⊥
+    go (form, rows, inl same, is) = plan rows (is ∙ ap (λ (x : Form). Some (x.name, rows)) same)
+    go (form, rows, inr (inl same), is) = word rows (is ∙ ap (λ (x : Form). Some (x.name, rows)) same)
+    go (form, rows, inr (inr (inl same)), is) = replay rows (is ∙ ap (λ (x : Form). Some (x.name, rows)) same)
+    go (form, rows, inr (inr (inr (inl same))), is) = race rows (is ∙ ap (λ (x : Form). Some (x.name, rows)) same)
+    go (form, rows, inr (inr (inr (inr (inl same)))), is) = compact rows (is ∙ ap (λ (x : Form). Some (x.name, rows)) same)
+    go (form, rows, inr (inr (inr (inr (inr (inl same))))), is) = audit rows (is ∙ ap (λ (x : Form). Some (x.name, rows)) same)
+    go (form, rows, inr (inr (inr (inr (inr (inr none))))), is) = none
+
+-- ---- what is told in place of a task
 
 -- an answer of a kind that is not want of memory comes only where that kind is among those of the words
-among_kinds : (words : List (List ℕ)) (error : Error) (k : ErrorKind) → HasKind (fault_of program words) error → kind_of error ≡ k → k ≢ OutOfMemory → IsAmong k (fault_of program words)
-among_kinds words error k kind is other = elim kind [
+among_kinds : (kinds : List ErrorKind) (error : Error) (k : ErrorKind) → HasKind kinds error → kind_of error ≡ k → k ≢ OutOfMemory → IsAmong k kinds
+among_kinds kinds error k kind is other = elim kind [
   | inl memory ↦ absurd (other (sym is ∙ memory))
-  | inr among ↦ subst (λ x. IsAmong x (fault_of program words)) is among
+  | inr among ↦ subst (λ x. IsAmong x kinds) is among
 ]
 
--- help comes only where they ask nothing, and some word is for help
-help_asked : (words : List (List ℕ)) → All IsUtf8 words → IsAmong DisplayHelp (fault_of program words) → AsksHelp words
-help_asked words utf8 here = (faulty words (some_kind DisplayHelp (fault_of program words) here), helped words utf8 here)
-
--- and the version only where they ask nothing, and the first is for the version
-version_asked : (words : List (List ℕ)) → All IsUtf8 words → IsAmong DisplayVersion (fault_of program words) → AsksVersion words
-version_asked words utf8 here = (faulty words (some_kind DisplayVersion (fault_of program words) here), versioned words utf8 here)
+-- an error for another cause than memory comes only where something is wrong
+pub wrong_kind : (kinds : List ErrorKind) (error : Error) → HasKind kinds error → kind_of error ≢ OutOfMemory → kinds ≡ [] → ⊥
+wrong_kind kinds error kind other = elim kind [
+  | inl memory ↦ absurd (other memory)
+  | inr among ↦ some_kind (kind_of error) kinds among
+]
 
 -- the kinds of error of a command that is the program's
-pub kind_at : (a : App) (words : List (List ℕ)) (error : Error) → a ≡ program
-    → (is_simple_and_free a ≡ true → HasKind (fault_of a words) error) → HasKind (fault_of program words) error
-kind_at a words error e h = subst (λ (x : App). HasKind (fault_of x words) error) e (h (ap is_simple_and_free e ∙ program_free))
+pub kind_at : (forms : List Form) → IsProgram forms → (a : App) (words : List (List ℕ)) (error : Error) → a ≡ program forms
+    → (is_simple_and_free a ≡ true → HasKind (fault_of a words) error) → HasKind (fault_of (program forms) words) error
+kind_at forms is a words error e h = subst (λ (x : App). HasKind (fault_of x words) error) e (h (ap is_simple_and_free e ∙ is.is_free))
 
--- a text of help, and the version, is what the words ask
-pub answer_told : (words : List (List ℕ)) (error : Error) (r : Result Task Error) → All IsUtf8 words → HasKind (fault_of program words) error
-    → IfOk r (IsAnswerOf (kind_of error)) → IfOk r (Asks words)
-answer_told words error (Ok (Plan image)) utf8 kind answer = absurd answer
-answer_told words error (Ok (Word image index)) utf8 kind answer = absurd answer
-answer_told words error (Ok (Help text)) utf8 kind answer = help_asked words utf8 (among_kinds words error DisplayHelp kind answer (λ e. cc))
-answer_told words error (Ok Version) utf8 kind answer = version_asked words utf8 (among_kinds words error DisplayVersion kind answer (λ e. cc))
-answer_told words error (Err told) utf8 kind answer = _
+module _ (forms : List Form) (is : IsProgram forms) (plan : IsCommand forms plan_form) (word : IsCommand forms word_form) (words : List (List ℕ)) (utf8 : All IsUtf8 words) where
+  -- help comes only where they ask nothing, and some word is for help
+  help_asked : IsAmong DisplayHelp (fault_of (program forms) words) → AsksHelp words
+  help_asked here = (faulty forms is words plan word (some_kind DisplayHelp (fault_of (program forms) words) here), helped forms is words utf8 here)
 
--- and an error comes only where they ask neither, memory aside
-pub error_told : (words : List (List ℕ)) (error : Error) (r : Result Task Error) → All IsUtf8 words → HasKind (fault_of program words) error
-    → IfErr r (λ told. (kind_of told ≡ OutOfMemory) ⊎ (kind_of told ≡ kind_of error)) → IfErr r (λ told. kind_of told ≢ OutOfMemory → AsksNeither words)
-error_told words error (Ok task) utf8 kind same = _
-error_told words error (Err told) utf8 kind same = λ other. elim same [
-  | inl memory ↦ absurd (other memory)
-  | inr e ↦ refused_neither words error utf8 kind (λ memory. other (e ∙ memory))
-]
+  -- and the version only where they ask nothing, and the first is for the version
+  version_asked : IsAmong DisplayVersion (fault_of (program forms) words) → AsksVersion words
+  version_asked here = (faulty forms is words plan word (some_kind DisplayVersion (fault_of (program forms) words) here), versioned forms is words utf8 here)
+
+  -- a text of help, and the version, is what the words ask
+  pub answer_told : (error : Error) (r : Result Task Error) → HasKind (fault_of (program forms) words) error → IfOk r (IsAnswerOf (kind_of error)) → IfOk r (Asks words)
+  answer_told error (Ok (Plan image)) kind answer = absurd answer
+  answer_told error (Ok (Word image index)) kind answer = absurd answer
+  answer_told error (Ok (Help text)) kind answer = help_asked (among_kinds _ error DisplayHelp kind answer (λ e. cc))
+  answer_told error (Ok Version) kind answer = version_asked (among_kinds _ error DisplayVersion kind answer (λ e. cc))
+  answer_told error (Err told) kind answer = _
+
+  -- and an error comes only where something is wrong with them, memory aside
+  pub error_told : (error : Error) (r : Result Task Error) → HasKind (fault_of (program forms) words) error
+      → IfErr r (λ told. (kind_of told ≡ OutOfMemory) ⊎ (kind_of told ≡ kind_of error)) → IfErr r (λ told. kind_of told ≢ OutOfMemory → fault_of (program forms) words ≡ [] → ⊥)
+  error_told error (Ok task) kind same = _
+  error_told error (Err told) kind same = λ other. elim same [
+    | inl memory ↦ absurd (other memory)
+    | inr e ↦ wrong_kind _ error kind (λ memory. other (e ∙ memory))
+  ]
+
+-- so they ask neither of the commands that stand
+pub neither_told : (words : List (List ℕ)) (r : Result Task Error) → IfErr r (λ told. kind_of told ≢ OutOfMemory → fault_of (program standing) words ≡ [] → ⊥)
+    → IfErr r (λ told. kind_of told ≢ OutOfMemory → AsksNeither words)
+neither_told words (Ok task) h = _
+neither_told words (Err told) h = λ other. faulty standing standing_program words standing_plan standing_word (h other)

@@ -65,3 +65,39 @@ no_answer_or (k ∷ ks) b h i = h
 pub no_answer_cond : (t : Bool) (a b : Kinds) → NoAnswer a → NoAnswer b → NoAnswer (cond t a b)
 no_answer_cond true a b h i = h
 no_answer_cond false a b h i = i
+
+-- the kinds refuse words: there is one, that for help only where a word is for help, and that for the version never
+pub record Refuses (helps : Bool) (kinds : Kinds) : Type 0 where
+  pub some : kinds ≡ [] → ⊥
+  pub help : IsAmong kind.DisplayHelp kinds → helps ≡ true
+  pub version : IsAmong kind.DisplayVersion kinds → ⊥
+
+-- so do kinds without that of an answer
+pub refuses_calm : (helps : Bool) (k : ErrorKind) (kinds : Kinds) → NoAnswer (k ∷ kinds) → Refuses helps (k ∷ kinds)
+refuses_calm helps k kinds none = record {
+  some = λ e. cc;
+  help = λ h. absurd (no_answer_among kind.DisplayHelp refl (k ∷ kinds) none h);
+  version = λ h. no_answer_among kind.DisplayVersion refl (k ∷ kinds) none h;
+}
+
+-- help is told where a word is for it
+pub refuses_help : (helps : Bool) → helps ≡ true → Refuses helps (kind.DisplayHelp ∷ [])
+refuses_help helps is = record { some = λ e. cc; help = λ _. is; version = λ h. go h }
+  where
+    go : IsAmong kind.DisplayVersion (kind.DisplayHelp ∷ []) → ⊥
+    go (inl same) = cc
+    go (inr none) = none
+
+-- what refuses after a step without an answer refuses with it
+pub refuses_after : (helps : Bool) (a b : Kinds) → NoAnswer a → Refuses helps b → Refuses helps (or_else a b)
+refuses_after helps [] b none h = h
+refuses_after helps (k ∷ ks) b none h = refuses_calm helps k ks none
+
+-- and what refuses first
+pub refuses_first : (helps : Bool) (a b : Kinds) → Refuses helps a → Refuses helps (or_else a b)
+refuses_first helps [] b h = absurd (h.some refl)
+refuses_first helps (k ∷ ks) b h = h
+
+-- with more words for help
+pub refuses_more : (helps more : Bool) (kinds : Kinds) → (helps ≡ true → more ≡ true) → Refuses helps kinds → Refuses more kinds
+refuses_more helps more kinds then h = record { some = h.some; help = λ x. then (h.help x); version = h.version }

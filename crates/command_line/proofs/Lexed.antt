@@ -1,8 +1,8 @@
 -- Words as clap's lexer reads them: a flag is a long one or a bundle of short ones, and another word is neither.
-use Rattle.std.proofs.Common.{◌≡◌, ◌∙◌, ◌⊎◌, ◌==◌, ◌∷◌, ◌<◌, ℕ, Bool, List, Option, Some, None}
-use Rattle.std.proofs.Common.{codes, true, false, refl, sym, ap, subst, arith, [], length, get_or, inl, inr, true≢false, lt-ltb, eq-eqb}
-use Rattle.std.specs.Prelude.{slice_get, encode_utf8_all}
-use Rattle.std.specs.List.{after_first}
+use Rattle.std.proofs.Common.{◌≡◌, ◌∙◌, ◌⊎◌, ◌==◌, ◌∷◌, ◌++◌, ◌+◌, ◌<◌, ℕ, suc, take, drop, Bool, List, Option, Some, None}
+use Rattle.std.proofs.Common.{codes, true, false, refl, sym, ap, ap₂, subst, arith, [], length, get_or, inl, inr, true≢false, lt-ltb, eq-eqb}
+use Rattle.std.specs.Prelude.{◌&&◌, nat_lt, not, slice_get, encode_utf8_all}
+use Rattle.std.specs.List.{after_first, before_first, position_or_len}
 use Rattle.std.specs.Str.{IsUtf8, bytes_eq, chars}
 use Rattle.std.proofs.lemmas.Bool.{eqb-true}
 use Rattle.std.proofs.lemmas.List.Folds.{list_any_at}
@@ -10,6 +10,7 @@ use Rattle.std.proofs.lemmas.Str.{IsCharBoundary-after_ascii, IsUtf8-drop, byte_
 use Rattle.clap.specs.Lexer.{has_byte, long_of, name_and_value, short_of}
 use Rattle.clap.specs.Walk.{Text}
 use Rattle.clap.proofs.CutLemmas.{Lacks, before_first-Lacks}
+use Rattle.clap.proofs.LexerLemmas.{name_and_value-at, name_and_value-without}
 use Rattle.clap.proofs.WalkLemmas.{both}
 use Rattle.command_line.specs.Asked.{is_flag, is_help, is_version}
 
@@ -28,11 +29,43 @@ plain_read (b ∷ bs) h = plain_by (b == 45) b bs refl h
 
 -- ---- a flag
 
+-- a text in which the lexer finds no `=` has none
+pub lacks : (text : Text) → has_byte 61 text ≡ false → Lacks 61 text
+lacks text none i lt is = absurd (true≢false (sym (list_any_at (λ x. x == 61) text i 0 lt (eq-eqb (get_or text i 0) 61 is)) ∙ none))
+
+-- a name, and its value behind `=` where it has one
+abbrev pub name_with : Text → Option Text → Text
+name_with name None = name
+name_with name (Some value) = name ++ 61 ∷ value
+
+-- a text is its name with its value
+split_name : (text : Text) → text ≡ name_with (name_and_value text).0 (name_and_value text).1
+split_name text = go (has_byte 61 text) refl
+  where
+    cut : (xs : Text) → has_byte 61 xs ≡ true → xs ≡ before_first (λ x. x == 61) xs ++ 61 ∷ after_first (λ x. x == 61) xs
+    cut [] h = absurd (true≢false (sym h))
+    cut (x ∷ xs) h = here (x == 61) refl (cut xs)
+      where
+        here : (t : Bool) → (x == 61) ≡ t → (has_byte 61 xs ≡ true → xs ≡ before_first (λ y. y == 61) xs ++ 61 ∷ after_first (λ y. y == 61) xs)
+            → x ∷ xs ≡ before_first (λ y. y == 61) (x ∷ xs) ++ 61 ∷ after_first (λ y. y == 61) (x ∷ xs)
+        here true e later = rw e (ap (λ (y : ℕ). y ∷ xs) (eqb-true x 61 e))
+        here false e later =
+            let n = position_or_len (λ y. y == 61) xs in
+            let step : position_or_len (λ y. y == 61) (x ∷ xs) ≡ suc n = rw e (omega arith) in
+            let more : suc n + 1 ≡ suc (n + 1) = omega arith in
+            ap (λ (ys : Text). x ∷ ys) (later (rw e at h))
+            ∙ sym (ap₂ (λ k m. take k (x ∷ xs) ++ 61 ∷ drop m (x ∷ xs)) step (ap (λ k. k + 1) step ∙ more))
+
+    go : (t : Bool) → has_byte 61 text ≡ t → text ≡ name_with (name_and_value text).0 (name_and_value text).1
+    go true e = rw e (cut text e)
+    go false e = rw e (sym (before_first-Lacks 61 text (lacks text e)))
+
 -- the word is a long flag, and is for help or the version where it has that name and no value
 pub record IsLong (word : Text) : Type 0 where
   pub name : Text
   pub value : Option Text
   pub read : long_of word ≡ Some (name, value)
+  pub spelled : word ≡ codes "--" ++ name_with name value
   pub help : name ≡ codes "help" → value ≡ None → is_help word ≡ true
   pub version : name ≡ codes "version" → value ≡ None → is_version word ≡ true
 
@@ -52,10 +85,6 @@ flag_bytes : (word : Text) → is_flag word ≡ true → (c : ℕ) × (cs : Text
 flag_bytes [] h = absurd (true≢false (sym h))
 flag_bytes (b ∷ []) h = absurd (true≢false (sym (both _ _ h).1))
 flag_bytes (b ∷ c ∷ cs) h = (c, cs, ap (λ x. x ∷ c ∷ cs) (eqb-true b 45 (both _ _ h).0))
-
--- a text in which the lexer finds no `=` has none
-lacks : (text : Text) → has_byte 61 text ≡ false → Lacks 61 text
-lacks text none i lt is = absurd (true≢false (sym (list_any_at (λ x. x == 61) text i 0 lt (eq-eqb (get_or text i 0) 61 is)) ∙ none))
 
 -- a name without a value is the whole text
 bare_name : (text : Text) → (name_and_value text).1 ≡ None → (name_and_value text).0 ≡ text
@@ -103,6 +132,7 @@ bytes_read c cs utf8 dashes = go (c == 45) refl cs utf8 dashes
       name = (name_and_value (d ∷ ds)).0;
       value = (name_and_value (d ∷ ds)).1;
       read = rw e refl;
+      spelled = ap₂ (λ (b : ℕ) (text : Text). 45 ∷ b ∷ text) (eqb-true c 45 e) (split_name (d ∷ ds));
       help = λ is none. help_long c (d ∷ ds) (eqb-true c 45 e) (sym (bare_name (d ∷ ds) none) ∙ is);
       version = λ is none. version_long c (d ∷ ds) (eqb-true c 45 e) (sym (bare_name (d ∷ ds) none) ∙ is);
     })
@@ -124,3 +154,32 @@ pub flag_read : (word : Text) → IsUtf8 word → bytes_eq word (codes "--") ≡
 flag_read word utf8 dashes flag =
     let bytes = flag_bytes word flag in
     subst (λ w. IsUtf8 w → bytes_eq w (codes "--") ≡ false → IsLong w ⊎ IsBundle w) (sym bytes.2) (bytes_read bytes.0 bytes.1) utf8 dashes
+
+-- ---- a flag that is spelled out
+
+-- a name that a flag can have: it is not empty, and has no `=`
+abbrev pub is_name : Text → Bool
+is_name name = nat_lt 0 (length name) && not (has_byte 61 name)
+
+-- behind two hyphens it is read, with no value
+pub bare_read : (name : Text) → is_name name ≡ true → long_of (codes "--" ++ name) ≡ Some (name, None)
+bare_read [] h = absurd (true≢false (sym h))
+bare_read (x ∷ xs) h = ap (λ (p : Text × Option Text). Some p) (name_and_value-without (x ∷ xs) (lacks (x ∷ xs) (is_false _ (both _ _ h).1)))
+  where
+    is_false : (t : Bool) → not t ≡ true → t ≡ false
+    is_false true e = sym e
+    is_false false e = refl
+
+-- or with one
+pub value_read : (name value : Text) → is_name name ≡ true → long_of (codes "--" ++ (name ++ 61 ∷ value)) ≡ Some (name, Some value)
+value_read [] value h = absurd (true≢false (sym h))
+value_read (x ∷ xs) value h = ap (λ (p : Text × Option Text). Some p) (name_and_value-at (x ∷ xs) value (lacks (x ∷ xs) (is_false _ (both _ _ h).1)))
+  where
+    is_false : (t : Bool) → not t ≡ true → t ≡ false
+    is_false true e = sym e
+    is_false false e = refl
+
+-- such a word is not `--`
+pub no_dashes : (name more : Text) → is_name name ≡ true → bytes_eq (codes "--" ++ (name ++ more)) (codes "--") ≡ false
+no_dashes [] more h = absurd (true≢false (sym h))
+no_dashes (x ∷ xs) more h = refl

@@ -4,7 +4,7 @@ use Rattle.std.specs.Prelude.{find}
 use Rattle.std.proofs.lemmas.List.Elements.{All-head}
 use Rattle.std.proofs.lemmas.Option.{same_Some}
 use Rattle.std.proofs.lemmas.Slice.Eq.{bytes_eq-Decides}
-use Rattle.clap.specs.Words.{IsAmong, Kinds, Rule, Shape, Text, fault_of, is_simple_and_free, subcommand_of}
+use Rattle.clap.specs.Words.{App, IsAmong, Kinds, Rule, Shape, Text, fault_of, is_simple_and_free, new_app, subcommand_of}
 use Rattle.clap.specs.Kinds.{or_else}
 use Rattle.clap.specs.Simple.{built, entered, filled, label_of, names_of, version_rule}
 use Rattle.clap.specs.Walk.{Names, Walk, answers_to, arg_by_long, finished, idle, nothing_held, rows_after, settled, subcommand_met, walk_from, walked}
@@ -15,8 +15,8 @@ use Rattle.clap.proofs.FaultLemmas.{stopped_fault}
 use Rattle.clap.proofs.OnLiterals.{clap_on_literals}
 use Rattle.clap.proofs.WalkLemmas.{walk_stopped}
 use Rattle.command_line.specs.Asked.{is_flag, is_help, is_version}
-use Rattle.command_line.specs.Forms.{Form, forms, plan_form, word_form}
-use Rattle.command_line.specs.Parser.{program}
+use Rattle.command_line.specs.Forms.{Form, all_forms, audit_form, compact_form, plan_form, race_form, replay_form, standing, word_form}
+use Rattle.command_line.specs.Parser.{asked_of_all, program}
 use Rattle.std.proofs.lemmas.Bool.{eqb-true}
 use Rattle.command_line.proofs.Lexed.{IsBundle, IsLong, flag_read}
 use Rattle.command_line.proofs.KindLists.{NoAnswer, no_answer_among, or_else_nil}
@@ -24,116 +24,27 @@ use Rattle.command_line.proofs.Levels.{level, shape}
 use Rattle.command_line.proofs.LevelSteps.{built_help, plain_turn, unnamed_turn}
 use Rattle.command_line.proofs.FormLevel.{IsReadable}
 
--- the program is one of which clap says what it finds in the words, and by which kinds it fails
-pub program_free : is_simple_and_free program ≡ true
-program_free = refl
+-- the program without a command
+abbrev pub empty_app : App
+empty_app = record (new_app (codes "compressor")) { top = record (asked_of_all (new_app (codes "compressor")).top) { is_leaf = true } }
 
--- its own level, above the commands
+-- the level above the commands
 abbrev top : Shape
-top = (built program).top
+top = (built (program [])).top
 
 -- the flags there: those for help and for the version
 abbrev top_rules : List Rule
 top_rules = built_help ∷ filled version_rule ∷ []
 
 -- what the commands are called
-abbrev names : Names
-names = names_of (built program)
+abbrev pub names : List Form → Names
+names forms = names_of (built (program forms))
 
 -- where the walk over the words begins
 abbrev start : Walk
 start = walk_from nothing_held
 
--- ---- the commands
-
--- the form is that of a command which clap enters by its name
-pub record IsCommand (form : Form) : Type 0 where
-  pub is_one : find (λ other. bytes_eq other.name form.name) forms ≡ Some form
-  pub is_met : subcommand_met names idle form.name ≡ Some form.name
-  pub is_entered : find (λ s. answers_to form.name (label_of s)) (built program).subs ≡ Some (shape form)
-  pub is_not_help : bytes_eq form.name (codes "help") ≡ false
-  pub is_readable : IsReadable form
-
--- so are these forms
-abbrev pub AreCommands : List Form → Type 0
-AreCommands [] = Unit {0}
-AreCommands (form ∷ rest) = IsCommand form × AreCommands rest
-
-pub plan_is_command : IsCommand plan_form
-plan_is_command = record { is_one = refl; is_met = refl; is_entered = refl; is_not_help = refl; is_readable = record { distinct = refl; few = omega arith } }
-
-pub word_is_command : IsCommand word_form
-word_is_command = record { is_one = refl; is_met = refl; is_entered = refl; is_not_help = refl; is_readable = record { distinct = refl; few = omega arith } }
-
--- and so are all forms
-all_commands : AreCommands forms
-all_commands = (plan_is_command, (word_is_command, tt))
-
--- two commands with one name are one
-pub same_form : (a b : Form) → IsCommand a → IsCommand b → a.name ≡ b.name → a ≡ b
-same_form a b is_a is_b named = same_Some a b (sym is_a.is_one ∙ ap (λ (name : Text). find (λ (other : Form). bytes_eq other.name name) forms) named ∙ is_b.is_one)
-
--- the form is one of these
-abbrev pub IsOneOf : List Form → Form → Type 0
-IsOneOf [] form = ⊥
-IsOneOf (other ∷ rest) form = (form ≡ other) ⊎ IsOneOf rest form
-
--- a form that is found among some is one of them
-found_one : (some : List Form) (name : Text) (form : Form) → find (λ other. bytes_eq other.name name) some ≡ Some form → IsOneOf some form
-found_one [] name form is = cc
-found_one (other ∷ rest) name form is = go (bytes_eq other.name name) is (found_one rest name form)
-  where
-    go : (t : Bool) → cond t (Some other) (find (λ (f : Form). bytes_eq f.name name) rest) ≡ Some form
-        → (find (λ (f : Form). bytes_eq f.name name) rest ≡ Some form → IsOneOf rest form) → IsOneOf (other ∷ rest) form
-    go true is later = inl (sym (same_Some other form is))
-    go false is later = inr (later is)
-
--- each command is one of the forms
-pub one_of_these : (form : Form) → IsCommand form → IsOneOf forms form
-one_of_these form command = found_one forms form.name form command.is_one
-
--- ---- a first word that is a command's name
-
--- where the walk stands after the name, with the words behind that
-abbrev met : Text → List Text → Walk
-met name rest = record start { stopped = Some (name, rest) }
-
--- after a command's name the words are left to that command
-met_walk : (name : Text) (rest : List Text) → fold (walked top_rules names) (met name []) rest ≡ met name rest
-met_walk name rest = sym (walk_stopped top_rules names start name [] rest)
-
--- what is wrong behind the walk, by its end
-abbrev after : Walk → Kinds
-after end = or_else (entered_fault (built program) end.stopped)
-    (or_else (settle_fault top_rules false end.held)
-    (or_else (defaults_fault (settled top_rules end.held).rows top_rules)
-    (check_fault top (finished top_rules end.held) (is_some (entered (built program) end.stopped)))))
-
-module _ (form : Form) (command : IsCommand form) (rest : List Text) where
-  -- the command's name stops the walk
-  name_walk : fold (walked top_rules names) start (form.name ∷ rest) ≡ met form.name rest
-  unfolding walked
-  name_walk = ap (λ w. fold (walked top_rules names) w rest) (rw command.is_met refl) ∙ met_walk form.name rest
-
-  -- nothing is wrong with it
-  name_fault : walk_fault top names start (form.name ∷ rest) ≡ []
-  unfolding walk_fault walked
-  name_fault = rw (command.is_met, command.is_not_help) (stopped_fault top names start (form.name, []) rest)
-
-  -- what is wrong behind it is what is wrong with the words of the command
-  command_fault : after (met form.name rest) ≡ level (shape form) rest
-  unfolding defaults_fault
-  command_fault = rw command.is_entered (or_else_nil (level (shape form) rest))
-
-  -- where the first word is a command's name, what is wrong with the words is what is wrong with those behind it
-  pub command_first : fault_of program (form.name ∷ rest) ≡ level (shape form) rest
-  command_first = ap₂ or_else name_fault (ap after name_walk) ∙ command_fault
-
-  -- and the matches are those of the words behind it
-  pub command_found : subcommand_of program (form.name ∷ rest) ≡ Some (form.name, rows_after (shape form).rules [] rest)
-  command_found = ap (λ (end : Walk). entered (built program) end.stopped) name_walk ∙ rw command.is_entered refl
-
--- ---- a first word that is no command's name
+-- ---- what a first word that no command takes is told
 
 -- the first word passes this test
 abbrev pub BeginWith : (Text → Bool) → List Text → Type 0
@@ -174,21 +85,193 @@ told_version word rest asks = record { some = λ e. cc; help = λ h. absurd (go 
     go (inl same) = cc
     go (inr none) = none
 
--- `help` is told help, or refused with the words behind it
-help_first : (rest : List Text) → AreRefused (codes "help" ∷ rest) (fault_of program (codes "help" ∷ rest))
-unfolding clap_on_literals
-help_first rest = told_help (codes "help") rest (InvalidSubcommand ∷ []) refl refl
+-- ---- the commands
 
--- behind `--` a word is no command's name
-end_first : (rest : List Text) → AreRefused (codes "--" ∷ rest) (fault_of program (codes "--" ∷ rest))
-unfolding clap_on_literals
-end_first [] = refused (codes "--" ∷ []) MissingSubcommand [] refl
-end_first (word ∷ rest) = refused (codes "--" ∷ word ∷ rest) UnknownArgument (InvalidSubcommand ∷ []) refl
+-- the form is that of a command which clap enters by its name, among these
+pub record IsCommand (forms : List Form) (form : Form) : Type 0 where
+  pub is_one : find (λ other. bytes_eq other.name form.name) forms ≡ Some form
+  pub is_met : subcommand_met (names forms) idle form.name ≡ Some form.name
+  pub is_entered : find (λ s. answers_to form.name (label_of s)) (built (program forms)).subs ≡ Some (shape form)
+  pub is_not_help : bytes_eq form.name (codes "help") ≡ false
+  pub is_readable : IsReadable form
 
--- a command's name is missing where there is no word
-none_first : AreRefused [] (fault_of program [])
+-- so are these forms
+abbrev pub AreCommands : List Form → List Form → Type 0
+AreCommands forms [] = Unit {0}
+AreCommands forms (form ∷ rest) = IsCommand forms form × AreCommands forms rest
+
+-- the forms make a program of which clap says what it finds in the words, and by which kinds it fails
+pub record IsProgram (forms : List Form) : Type 0 where
+  pub is_free : is_simple_and_free (program forms) ≡ true
+  pub are_commands : AreCommands forms forms
+  -- by names
+  pub named : names forms ≡ map (λ (form : Form). (form.name, [])) forms ++ (codes "help", []) ∷ []
+  -- `help` is told help, or refused with the words behind it
+  pub help_first : (rest : List Text) → AreRefused (codes "help" ∷ rest) (fault_of (program forms) (codes "help" ∷ rest))
+  -- behind `--` a word is no command's name
+  pub end_first : (rest : List Text) → AreRefused (codes "--" ∷ rest) (fault_of (program forms) (codes "--" ∷ rest))
+  -- a command's name is missing where there is no word
+  pub none_first : AreRefused [] (fault_of (program forms) [])
+
+-- ---- the rows, each readable
+
+plan_readable : IsReadable plan_form
+plan_readable = record { distinct = refl; apart = refl; names = refl; few = omega arith }
+
+word_readable : IsReadable word_form
+word_readable = record { distinct = refl; apart = refl; names = refl; few = omega arith }
+
+replay_readable : IsReadable replay_form
+replay_readable = record { distinct = refl; apart = refl; names = refl; few = omega arith }
+
+race_readable : IsReadable race_form
+race_readable = record { distinct = refl; apart = refl; names = refl; few = omega arith }
+
+compact_readable : IsReadable compact_form
+compact_readable = record { distinct = refl; apart = refl; names = refl; few = omega arith }
+
+audit_readable : IsReadable audit_form
+audit_readable = record { distinct = refl; apart = refl; names = refl; few = omega arith }
+
+-- ---- the program as it stands
+
+pub standing_plan : IsCommand standing plan_form
+standing_plan = record { is_one = refl; is_met = refl; is_entered = refl; is_not_help = refl; is_readable = plan_readable }
+
+pub standing_word : IsCommand standing word_form
+standing_word = record { is_one = refl; is_met = refl; is_entered = refl; is_not_help = refl; is_readable = word_readable }
+
+standing_help : (rest : List Text) → AreRefused (codes "help" ∷ rest) (fault_of (program standing) (codes "help" ∷ rest))
 unfolding clap_on_literals
-none_first = refused [] MissingSubcommand [] refl
+standing_help rest = told_help (codes "help") rest (InvalidSubcommand ∷ []) refl refl
+
+standing_end : (rest : List Text) → AreRefused (codes "--" ∷ rest) (fault_of (program standing) (codes "--" ∷ rest))
+unfolding clap_on_literals
+standing_end [] = refused (codes "--" ∷ []) MissingSubcommand [] refl
+standing_end (word ∷ rest) = refused (codes "--" ∷ word ∷ rest) UnknownArgument (InvalidSubcommand ∷ []) refl
+
+standing_none : AreRefused [] (fault_of (program standing) [])
+unfolding clap_on_literals
+standing_none = refused [] MissingSubcommand [] refl
+
+pub standing_program : IsProgram standing
+standing_program = record {
+  is_free = refl;
+  are_commands = (standing_plan, (standing_word, tt));
+  named = refl;
+  help_first = standing_help;
+  end_first = standing_end;
+  none_first = standing_none;
+}
+
+-- ---- the program with all commands
+
+pub all_plan : IsCommand all_forms plan_form
+all_plan = record { is_one = refl; is_met = refl; is_entered = refl; is_not_help = refl; is_readable = plan_readable }
+
+pub all_word : IsCommand all_forms word_form
+all_word = record { is_one = refl; is_met = refl; is_entered = refl; is_not_help = refl; is_readable = word_readable }
+
+pub all_replay : IsCommand all_forms replay_form
+all_replay = record { is_one = refl; is_met = refl; is_entered = refl; is_not_help = refl; is_readable = replay_readable }
+
+pub all_race : IsCommand all_forms race_form
+all_race = record { is_one = refl; is_met = refl; is_entered = refl; is_not_help = refl; is_readable = race_readable }
+
+pub all_compact : IsCommand all_forms compact_form
+all_compact = record { is_one = refl; is_met = refl; is_entered = refl; is_not_help = refl; is_readable = compact_readable }
+
+pub all_audit : IsCommand all_forms audit_form
+all_audit = record { is_one = refl; is_met = refl; is_entered = refl; is_not_help = refl; is_readable = audit_readable }
+
+all_help : (rest : List Text) → AreRefused (codes "help" ∷ rest) (fault_of (program all_forms) (codes "help" ∷ rest))
+unfolding clap_on_literals
+all_help rest = told_help (codes "help") rest (InvalidSubcommand ∷ []) refl refl
+
+all_end : (rest : List Text) → AreRefused (codes "--" ∷ rest) (fault_of (program all_forms) (codes "--" ∷ rest))
+unfolding clap_on_literals
+all_end [] = refused (codes "--" ∷ []) MissingSubcommand [] refl
+all_end (word ∷ rest) = refused (codes "--" ∷ word ∷ rest) UnknownArgument (InvalidSubcommand ∷ []) refl
+
+all_none : AreRefused [] (fault_of (program all_forms) [])
+unfolding clap_on_literals
+all_none = refused [] MissingSubcommand [] refl
+
+pub all_program : IsProgram all_forms
+all_program = record {
+  is_free = refl;
+  are_commands = (all_plan, (all_word, (all_replay, (all_race, (all_compact, (all_audit, tt))))));
+  named = refl;
+  help_first = all_help;
+  end_first = all_end;
+  none_first = all_none;
+}
+
+-- ---- forms that are commands
+
+-- two commands with one name are one
+pub same_form : (forms : List Form) (a b : Form) → IsCommand forms a → IsCommand forms b → a.name ≡ b.name → a ≡ b
+same_form forms a b is_a is_b named = same_Some a b (sym is_a.is_one ∙ ap (λ (name : Text). find (λ (other : Form). bytes_eq other.name name) forms) named ∙ is_b.is_one)
+
+-- the form is one of these
+abbrev pub IsOneOf : List Form → Form → Type 0
+IsOneOf [] form = ⊥
+IsOneOf (other ∷ rest) form = (form ≡ other) ⊎ IsOneOf rest form
+
+-- a form that is found among some is one of them
+found_one : (some : List Form) (name : Text) (form : Form) → find (λ other. bytes_eq other.name name) some ≡ Some form → IsOneOf some form
+found_one [] name form is = cc
+found_one (other ∷ rest) name form is = go (bytes_eq other.name name) is (found_one rest name form)
+  where
+    go : (t : Bool) → cond t (Some other) (find (λ (f : Form). bytes_eq f.name name) rest) ≡ Some form
+        → (find (λ (f : Form). bytes_eq f.name name) rest ≡ Some form → IsOneOf rest form) → IsOneOf (other ∷ rest) form
+    go true is later = inl (sym (same_Some other form is))
+    go false is later = inr (later is)
+
+-- each command is one of the forms
+pub one_of_these : (forms : List Form) (form : Form) → IsCommand forms form → IsOneOf forms form
+one_of_these forms form command = found_one forms form.name form command.is_one
+
+-- ---- a first word that is a command's name
+
+-- where the walk stands after the name, with the words behind that
+abbrev met : Text → List Text → Walk
+met name rest = record start { stopped = Some (name, rest) }
+
+-- after a command's name the words are left to that command
+met_walk : (forms : List Form) (name : Text) (rest : List Text) → fold (walked top_rules (names forms)) (met name []) rest ≡ met name rest
+met_walk forms name rest = sym (walk_stopped top_rules (names forms) start name [] rest)
+
+-- what is wrong behind the walk, by its end
+abbrev after : List Form → Walk → Kinds
+after forms end = or_else (entered_fault (built (program forms)) end.stopped)
+    (or_else (settle_fault top_rules false end.held)
+    (or_else (defaults_fault (settled top_rules end.held).rows top_rules)
+    (check_fault top (finished top_rules end.held) (is_some (entered (built (program forms)) end.stopped)))))
+
+module _ (forms : List Form) (form : Form) (command : IsCommand forms form) (rest : List Text) where
+  -- the command's name stops the walk
+  name_walk : fold (walked top_rules (names forms)) start (form.name ∷ rest) ≡ met form.name rest
+  unfolding walked
+  name_walk = ap (λ w. fold (walked top_rules (names forms)) w rest) (rw command.is_met refl) ∙ met_walk forms form.name rest
+
+  -- nothing is wrong with it
+  name_fault : walk_fault top (names forms) start (form.name ∷ rest) ≡ []
+  unfolding walk_fault walked
+  name_fault = rw (command.is_met, command.is_not_help) (stopped_fault top (names forms) start (form.name, []) rest)
+
+  -- what is wrong behind it is what is wrong with the words of the command
+  command_fault : after forms (met form.name rest) ≡ level (shape form) rest
+  unfolding defaults_fault
+  command_fault = rw command.is_entered (or_else_nil (level (shape form) rest))
+
+  -- where the first word is a command's name, what is wrong with the words is what is wrong with those behind it
+  pub command_first : fault_of (program forms) (form.name ∷ rest) ≡ level (shape form) rest
+  command_first = ap₂ or_else name_fault (ap (after forms) name_walk) ∙ command_fault
+
+  -- and the matches are those of the words behind it
+  pub command_found : subcommand_of (program forms) (form.name ∷ rest) ≡ Some (form.name, rows_after (shape form).rules [] rest)
+  command_found = ap (λ (end : Walk). entered (built (program forms)) end.stopped) name_walk ∙ rw command.is_entered refl
 
 -- the word is the name of none of the forms
 abbrev IsNoName : List Form → Text → Type 0
@@ -201,7 +284,7 @@ no_name : (some : List Form) (word : Text) → IsNoName some word → bytes_eq (
 no_name [] word none help = rw help refl
 no_name (form ∷ rest) word none help = rw none.0 (no_name rest word none.1 help)
 
-module _ (word : Text) (rest : List Text) where
+module _ (forms : List Form) (word : Text) (rest : List Text) where
   -- the kinds of a first word refuse the words
   abbrev Refuses : Kinds → Type 0
   Refuses = AreRefused (word ∷ rest)
@@ -238,49 +321,49 @@ module _ (word : Text) (rest : List Text) where
       go (inr bundle) = rw (dashes, bundle.no_long, bundle.read) (bundle_first bundle)
 
   -- the turn of a first word that names no command and is not `--` is refused
-  turn_first : IsUtf8 word → subcommand_met names idle word ≡ None → bytes_eq word (codes "--") ≡ false → Refuses (turn_fault top names start word)
-  turn_first utf8 none dashes = subst Refuses (sym (unnamed_turn top [] None 1 names word none)) (go (is_flag word) refl)
+  turn_first : IsUtf8 word → subcommand_met (names forms) idle word ≡ None → bytes_eq word (codes "--") ≡ false → Refuses (turn_fault top (names forms) start word)
+  turn_first utf8 none dashes = subst Refuses (sym (unnamed_turn top [] None 1 (names forms) word none)) (go (is_flag word) refl)
     where
       go : (t : Bool) → is_flag word ≡ t → Refuses (turn_fault top [] start word)
       go true flag = flag_first utf8 dashes flag
       go false flag = subst Refuses (sym (plain_turn top [] None 1 word dashes flag)) (refused (word ∷ rest) UnknownArgument (InvalidSubcommand ∷ []) refl)
 
   -- with such a word first, the words are refused
-  other_first : IsUtf8 word → subcommand_met names idle word ≡ None → bytes_eq word (codes "--") ≡ false → AreRefused (word ∷ rest) (fault_of program (word ∷ rest))
+  other_first : IsUtf8 word → subcommand_met (names forms) idle word ≡ None → bytes_eq word (codes "--") ≡ false → AreRefused (word ∷ rest) (fault_of (program forms) (word ∷ rest))
   unfolding walk_fault
   other_first utf8 none dashes = refused_first _ _ _ (refused_first _ _ _ (turn_first utf8 none dashes))
 
 -- the word is the name of a command
-abbrev IsName : Text → Type 0
-IsName word = (form : Form) × IsCommand form × (word ≡ form.name)
+abbrev IsName : List Form → Text → Type 0
+IsName forms word = (form : Form) × IsCommand forms form × (word ≡ form.name)
 
 -- each word is the name of a command, or of none of these
-named : (some : List Form) → AreCommands some → (word : Text) → IsName word ⊎ IsNoName some word
-named [] commands word = inr tt
-named (form ∷ rest) commands word = go (bytes_eq form.name word) refl (named rest commands.1 word)
+named_or_not : (forms some : List Form) → AreCommands forms some → (word : Text) → IsName forms word ⊎ IsNoName some word
+named_or_not forms [] commands word = inr tt
+named_or_not forms (form ∷ rest) commands word = go (bytes_eq form.name word) refl (named_or_not forms rest commands.1 word)
   where
-    go : (t : Bool) → bytes_eq form.name word ≡ t → IsName word ⊎ IsNoName rest word → IsName word ⊎ IsNoName (form ∷ rest) word
+    go : (t : Bool) → bytes_eq form.name word ≡ t → IsName forms word ⊎ IsNoName rest word → IsName forms word ⊎ IsNoName (form ∷ rest) word
     go true e others = inl (form, commands.0, sym ((bytes_eq-Decides form.name word).0 e))
     go false e (inl name) = inl name
     go false e (inr none) = inr (e, none)
 
 -- the first word is a command's name, or the words are refused
-abbrev pub Decided : List Text → Type 0
-Decided words = ((form : Form) × IsCommand form × (rest : List Text) × (words ≡ form.name ∷ rest)) ⊎ AreRefused words (fault_of program words)
+abbrev pub Decided : List Form → List Text → Type 0
+Decided forms words = ((form : Form) × IsCommand forms form × (rest : List Text) × (words ≡ form.name ∷ rest)) ⊎ AreRefused words (fault_of (program forms) words)
 
 -- and the first word tells which
-pub first_decides : (words : List Text) → All IsUtf8 words → Decided words
-first_decides [] utf8 = inr none_first
-first_decides (word ∷ rest) utf8 = go (named forms all_commands word) (bytes_eq (codes "help") word) (bytes_eq word (codes "--")) refl refl
+pub first_decides : (forms : List Form) → IsProgram forms → (words : List Text) → All IsUtf8 words → Decided forms words
+first_decides forms is [] utf8 = inr is.none_first
+first_decides forms is (word ∷ rest) utf8 = go (named_or_not forms forms is.are_commands word) (bytes_eq (codes "help") word) (bytes_eq word (codes "--")) refl refl
   where
     -- words are refused where they are refused with that name
-    refused_as : (name : Text) → word ≡ name → AreRefused (name ∷ rest) (fault_of program (name ∷ rest)) → Decided (word ∷ rest)
-    refused_as name is h = inr (subst (λ (first : Text). AreRefused (first ∷ rest) (fault_of program (first ∷ rest))) (sym is) h)
+    refused_as : (name : Text) → word ≡ name → AreRefused (name ∷ rest) (fault_of (program forms) (name ∷ rest)) → Decided forms (word ∷ rest)
+    refused_as name e h = inr (subst (λ (first : Text). AreRefused (first ∷ rest) (fault_of (program forms) (first ∷ rest))) (sym e) h)
 
-    go : IsName word ⊎ IsNoName forms word → (is_helper ends : Bool) → bytes_eq (codes "help") word ≡ is_helper → bytes_eq word (codes "--") ≡ ends → Decided (word ∷ rest)
-    go (inl (form, command, is)) is_helper ends h e = inl (form, command, rest, ap (λ (first : Text). first ∷ rest) is)
-    go (inr none) true ends h e = refused_as (codes "help") (sym ((bytes_eq-Decides (codes "help") word).0 h)) (help_first rest)
-    go (inr none) false true h e = refused_as (codes "--") ((bytes_eq-Decides word (codes "--")).0 e) (end_first rest)
-    go (inr none) false false h e =
-        let unnamed : subcommand_met names idle word ≡ None = rw (no_name forms word none h) refl in
-        inr (other_first word rest (All-head IsUtf8 word rest utf8) unnamed e)
+    go : IsName forms word ⊎ IsNoName forms word → (is_helper ends : Bool) → bytes_eq (codes "help") word ≡ is_helper → bytes_eq word (codes "--") ≡ ends → Decided forms (word ∷ rest)
+    go (inl (form, command, e)) is_helper ends h d = inl (form, command, rest, ap (λ (first : Text). first ∷ rest) e)
+    go (inr none) true ends h d = refused_as (codes "help") (sym ((bytes_eq-Decides (codes "help") word).0 h)) (is.help_first rest)
+    go (inr none) false true h d = refused_as (codes "--") ((bytes_eq-Decides word (codes "--")).0 d) (is.end_first rest)
+    go (inr none) false false h d =
+        let unnamed : subcommand_met (names forms) idle word ≡ None = ap (λ (n : Names). subcommand_met n idle word) is.named ∙ rw (no_name forms word none h) refl in
+        inr (other_first forms word rest (All-head IsUtf8 word rest utf8) unnamed d)

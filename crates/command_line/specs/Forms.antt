@@ -1,30 +1,77 @@
--- The commands of the program, by their forms: the name of each, and what stands behind it.
-use Rattle.std.specs.Prelude.{ℕ, Bool, true, false, List, [], ◌∷◌, codes}
+-- The commands of the program, by their rows: the name of each, and what stands behind it.
+use Rattle.std.specs.Prelude.{ℕ, List, [], ◌∷◌, Option, Some, None, codes}
 
--- an argument, by its name: any text, or a number of 64 bits
-pub record Argument : Type 0 where
+-- an argument or an option, by its name: it takes any text, or a number from the first bound to the second
+pub record Parameter : Type 0 where
   pub id : List ℕ
-  pub is_number : Bool
+  pub bounds : Option (ℕ × ℕ)
 
--- a command: its name, and its arguments in their order, each of which has to be there
+-- an option: what it takes, and the number that stands where it is left out
+pub record Choice : Type 0 where
+  pub takes : Parameter
+  pub default : ℕ
+
+-- a command: its name, its options, and its arguments in their order, each of which has to be there
 pub record Form : Type 0 where
   pub name : List ℕ
-  pub arguments : List Argument
+  pub options : List Choice
+  pub arguments : List Parameter
 
-abbrev pub text : List ℕ → Argument
-text id = record { id = id; is_number = false }
+abbrev pub text : List ℕ → Parameter
+text id = record { id = id; bounds = None }
 
-abbrev pub number : List ℕ → Argument
-number id = record { id = id; is_number = true }
+-- a number of 64 bits
+abbrev pub number : List ℕ → Parameter
+number id = record { id = id; bounds = Some (0, 18446744073709551615) }
+
+-- a number from `low` to `high`, and the one where it is left out
+abbrev pub option : List ℕ → ℕ → ℕ → ℕ → Choice
+option id low high default = record { takes = record { id = id; bounds = Some (low, high) }; default = default }
 
 -- `plan IMAGE`
 abbrev pub plan_form : Form
-plan_form = record { name = codes "plan"; arguments = text (codes "IMAGE") ∷ [] }
+plan_form = record { name = codes "plan"; options = []; arguments = text (codes "IMAGE") ∷ [] }
 
 -- `word IMAGE INDEX`
 abbrev pub word_form : Form
-word_form = record { name = codes "word"; arguments = text (codes "IMAGE") ∷ number (codes "INDEX") ∷ [] }
+word_form = record { name = codes "word"; options = []; arguments = text (codes "IMAGE") ∷ number (codes "INDEX") ∷ [] }
 
--- all commands
-abbrev pub forms : List Form
-forms = plan_form ∷ word_form ∷ []
+-- `--mutators N`
+abbrev pub mutators : Choice
+mutators = option (codes "mutators") 1 64 2
+
+-- `--fresh N`
+abbrev pub fresh : Choice
+fresh = option (codes "fresh") 0 4096 64
+
+-- `--workers N`
+abbrev pub workers : Choice
+workers = option (codes "workers") 1 64 2
+
+-- three paths: of an image, of a trace, and of the dump that is written
+abbrev pub run_paths : List Parameter
+run_paths = text (codes "IMAGE") ∷ text (codes "TRACE") ∷ text (codes "DUMP") ∷ []
+
+-- `replay [--mutators N] [--fresh N] IMAGE TRACE DUMP`
+abbrev pub replay_form : Form
+replay_form = record { name = codes "replay"; options = mutators ∷ fresh ∷ []; arguments = run_paths }
+
+-- `race`, the same words
+abbrev pub race_form : Form
+race_form = record { name = codes "race"; options = mutators ∷ fresh ∷ []; arguments = run_paths }
+
+-- `compact [--workers N] IMAGE DUMP`
+abbrev pub compact_form : Form
+compact_form = record { name = codes "compact"; options = workers ∷ []; arguments = text (codes "IMAGE") ∷ text (codes "DUMP") ∷ [] }
+
+-- `audit IMAGE DUMP`
+abbrev pub audit_form : Form
+audit_form = record { name = codes "audit"; options = []; arguments = text (codes "IMAGE") ∷ text (codes "DUMP") ∷ [] }
+
+-- the commands that the program has
+abbrev pub standing : List Form
+standing = plan_form ∷ word_form ∷ []
+
+-- and with those that it does not have yet
+abbrev pub all_forms : List Form
+all_forms = plan_form ∷ word_form ∷ replay_form ∷ race_form ∷ compact_form ∷ audit_form ∷ []

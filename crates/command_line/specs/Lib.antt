@@ -1,3 +1,4 @@
 pub mod Forms
 pub mod Asked
+pub mod Given
 pub mod Parser

@@ -1,27 +1,25 @@
 -- What clap is told of the command line.
-use Rattle.std.specs.Prelude.{Some, None, codes, true, fold, map, if◌then◌else◌}
-use Rattle.clap.specs.Words.{App, Rule, Shape, new_app, new_rule, with_subcommand}
+use Rattle.std.specs.Prelude.{Some, List, codes, true, false, map, ◌++◌, option_map}
+use Rattle.clap.specs.Words.{App, Rule, Shape, new_app, new_rule}
 use Rattle.clap.specs.declared.builder.value_parser.ValueParser.TheVariants.{Unsigned}
-use Rattle.command_line.specs.Forms.{Argument, Form, forms}
+use Rattle.command_line.specs.Forms.{Choice, Form, Parameter}
 
--- an argument: it is required, and where it is a number its parser is that of the numbers of 64 bits
-abbrev pub rule : Argument → Rule
-rule a = record (new_rule a.id) {
-  required = true;
-  parser = if a.is_number then Some (Unsigned 0 18446744073709551615) else None;
-}
+-- an argument: it is required, and where it is a number its parser is that of the numbers within its bounds
+abbrev pub rule : Parameter → Rule
+rule a = record (new_rule a.id) { required = true; parser = option_map (λ b. Unsigned b.0 b.1) a.bounds }
 
--- a command, with the arguments of its form
+-- an option: its long name is its name; it may be left out, and clap is told of no default
+abbrev pub option_rule : Choice → Rule
+option_rule o = record (rule o.takes) { required = false; long = Some o.takes.id }
+
+-- a command, with the options and the arguments of its row
 abbrev pub command : Form → App
-command form = record (new_app form.name) { top = record (new_app form.name).top { rules = map rule form.arguments } }
+command form = record (new_app form.name) { top = record (new_app form.name).top { rules = map option_rule form.options ++ map rule form.arguments } }
 
 -- one of the commands is required, there is no program's name before it, and the program has a version
 abbrev pub asked_of_all : Shape → Shape
-asked_of_all top = record top { has_version = true; no_binary_name = true; subcommand_required = true }
+asked_of_all top = record top { has_version = true; no_binary_name = true; subcommand_required = true; is_leaf = false }
 
-abbrev pub empty_app : App
-empty_app = record (new_app (codes "compressor")) { top = asked_of_all (new_app (codes "compressor")).top }
-
--- the program, with each of its commands
-abbrev pub program : App
-program = fold (λ app form. with_subcommand app (command form).top) empty_app forms
+-- the program, with these commands
+abbrev pub program : List Form → App
+program forms = record { top = asked_of_all (new_app (codes "compressor")).top; subs = map (λ form. (command form).top) forms }

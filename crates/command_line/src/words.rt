@@ -4,7 +4,7 @@ ghost use Rattle.std.specs.String.{string_bytes};
 ghost use Rattle.clap.specs.Words.{app_of, fault_of, first_value, found_of, kind_of, one_text, rule_of, subcommand_of, subcommand_rows_of};
 ghost use Rattle.clap.specs.declared.error.kind.ErrorKind.TheVariants.{DisplayHelp, DisplayVersion, OutOfMemory};
 ghost use Rattle.command_line.specs.Asked.{Asks, AsksNeither, IsAnswerOf, IsNumber};
-ghost use Rattle.command_line.specs.Forms.{plan_form, text, word_form};
+ghost use Rattle.command_line.specs.Forms.{plan_form, standing, text, word_form};
 ghost use Rattle.command_line.specs.Parser.{command as command_of, program, rule};
 
 use clap::error::ErrorKind;
@@ -45,8 +45,8 @@ pub fn read_task<'a>(alloc: Global, words: &'a [String]) -> Result<Task<'a>, Err
 
 // The task that the parser found in the words.
 fn task_of<'a>(words: &'a [String], matches: &ArgMatches<'a>) -> Task<'a>
-    requires taken { fault_of program (map string_bytes words.now) ≡ [] }
-    requires found { subcommand_rows_of matches.now ≡ subcommand_of program (map string_bytes words.now) }
+    requires taken { fault_of (program standing) (map string_bytes words.now) ≡ [] }
+    requires found { subcommand_rows_of matches.now ≡ subcommand_of (program standing) (map string_bytes words.now) }
     ensures { Asks (map string_bytes words.entry.now) result }
 {
     match matches.subcommand() {
@@ -100,7 +100,7 @@ fn answer_task<'a>(alloc: Global, error: Error) -> Result<Task<'a>, Error>
 }
 
 fn command<'a>(alloc: Global) -> Result<Command<'a>, AllocError>
-    ensures { IfOk result (λ made. app_of made ≡ program) }
+    ensures { IfOk result (λ made. app_of made ≡ program standing) }
 {
     Command::new(alloc, "compressor")
         .bin_name("compressor")?
@@ -138,7 +138,12 @@ fn image_argument<'a>(alloc: Global) -> Arg<'a>
     ensures rule { rule_of result ≡ rule (text (codes "IMAGE")) }
     ensures local { result.global ≡ false }
 {
-    Arg::new(alloc, "IMAGE")
-        .required(true)
-        .help("The heap's image")
+    path_argument(alloc, "IMAGE", "The heap's image")
+}
+
+fn path_argument<'a>(alloc: Global, name: &'a str, help: &'a str) -> Arg<'a>
+    ensures rule { rule_of result ≡ rule (text name.entry.now) }
+    ensures local { result.global ≡ false }
+{
+    Arg::new(alloc, name).required(true).help(help)
 }

@@ -7,6 +7,7 @@ mod finding;
 pub mod finishing;
 pub mod flipping;
 pub mod laws;
+mod meeting;
 pub mod mutator;
 pub mod pages;
 mod places;

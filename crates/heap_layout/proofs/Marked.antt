@@ -164,6 +164,7 @@ closed heap accepted =
     record {
       few_words = few.0;
       few_marks = few.1;
+      few_roots = few.2;
       started = started;
       placed = marks-placed heap.words heap.marks parts.row parts.marks;
       apart = λ k within. starts-apart (length heap.words) heap.words 0 _ _ (reached-first heap.words parts.row) (omega arith) (omega arith)

@@ -77,6 +77,7 @@ pub record IsStored (heap : Heap) : Type 0 where
 pub record IsClosed (heap : Heap) : Type 0 where
   pub few_words : length heap.words ≤ 2 ^ 20
   pub few_marks : length heap.marks ≤ 2 ^ 20
+  pub few_roots : length heap.roots ≤ 2 ^ 12
   pub started : All (λ mark. is_start (starts heap.words) mark ≡ true) heap.marks
   pub placed : All (IsPlaced heap.words) heap.marks
   pub apart : (k : ℕ) → k + 1 < length heap.marks

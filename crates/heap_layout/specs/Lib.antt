@@ -4,3 +4,4 @@ pub mod Bits
 pub mod Faults
 pub mod Encoding
 pub mod Counted
+pub mod Parts

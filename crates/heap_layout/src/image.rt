@@ -11,6 +11,7 @@ use crate::checks::check_sizes;
 use crate::counted::Counted;
 use crate::fault::LayoutFault;
 use crate::heap::MarkedHeap;
+use crate::parts::{Cut, fill};
 use byteorder::{ByteOrder, LittleEndian};
 use std::alloc::Global;
 use std::io::Read;
@@ -54,23 +55,19 @@ struct Counts {
     roots: u32,
 }
 
-// Fills the buffer, by as many calls as the reader wants.
-fn fill<R: Read>(r: &mut Counted<R>, buf: &mut [u8]) -> Result<(), LayoutFault>
+// Fills the buffer.
+fn read_part<R: Read>(r: &mut Counted<R>, buf: &mut [u8]) -> Result<(), LayoutFault>
     requires { failures_of r.old < 2 ^ 64 - 1 }
     ensures read { OnOk result (Consumes (R.remaining (inner_of r.old)) (R.remaining (inner_of r.new)) buf.new) }
     ensures small { (i : ℕ) → slice_index buf.new i < 2 ^ 8 }
     ensures cut { IfErr result (λ fault. IfSome (R.remaining (inner_of r.old)) (EndsBefore (length buf.old) fault)) }
     ensures counts { CountsFailure (failures_of r.old) (failures_of r.new) result }
 {
-    let mut filled = 0;
-    while filled < buf.len() {
-        match r.read(&mut buf[filled..]) {
-            Ok(0) => return Err(LayoutFault::Truncated),
-            Ok(n) => filled += n,
-            Err(_) => return Err(LayoutFault::Device),
-        }
+    match fill(r, buf) {
+        Ok(()) => Ok(()),
+        Err(Cut::Ended) => Err(LayoutFault::Truncated),
+        Err(Cut::Failed) => Err(LayoutFault::Device),
     }
-    Ok(())
 }
 
 // The magic and the version.
@@ -81,12 +78,12 @@ fn read_magic<R: Read>(r: &mut Counted<R>) -> Result<(), LayoutFault>
     ensures counts { CountsFailure (failures_of r.old) (failures_of r.new) result }
 {
     let mut magic = [0; 8];
-    fill(r, &mut magic)?;
+    read_part(r, &mut magic)?;
     if magic != MAGIC {
         return Err(LayoutFault::BadMagic);
     }
     let mut version = [0; 4];
-    fill(r, &mut version)?;
+    read_part(r, &mut version)?;
     if LittleEndian::read_u32(&version) != VERSION {
         return Err(LayoutFault::BadMagic);
     }
@@ -103,7 +100,7 @@ fn read_counts<R: Read>(r: &mut Counted<R>) -> Result<Counts, LayoutFault>
     ensures counts { CountsFailure (failures_of r.old) (failures_of r.new) result }
 {
     let mut bytes = [0; 12];
-    fill(r, &mut bytes)?;
+    read_part(r, &mut bytes)?;
     let words = LittleEndian::read_u32(&bytes);
     let marks = LittleEndian::read_u32(&bytes[4..]);
     let roots = LittleEndian::read_u32(&bytes[8..]);
@@ -135,7 +132,7 @@ fn read_words<R: Read>(
     while words.len() < count {
         let n = (count - words.len()).min(PIECE);
         let bytes = &mut piece[..8 * n];
-        fill(r, bytes)?;
+        read_part(r, bytes)?;
         push_words(&mut words, bytes);
     }
     Ok(words)
@@ -161,7 +158,7 @@ fn read_marks<R: Read>(
     while marks.len() < count {
         let n = (count - marks.len()).min(PIECE);
         let bytes = &mut piece[..4 * n];
-        fill(r, bytes)?;
+        read_part(r, bytes)?;
         push_marks(&mut marks, bytes);
     }
     Ok(marks)

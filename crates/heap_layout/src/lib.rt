@@ -11,4 +11,5 @@ pub mod image;
 pub mod kind;
 pub mod laws;
 pub mod page_words;
+pub mod parts;
 mod targets;

@@ -10,6 +10,8 @@ mod finished;
 #[cfg(test)]
 mod flipped;
 #[cfg(test)]
+mod meetings;
+#[cfg(test)]
 mod objects;
 #[cfg(test)]
 mod plain_objects;

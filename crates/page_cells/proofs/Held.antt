@@ -23,16 +23,19 @@ refers_more v w a same starts h = ⊎_elim
     (λ known. inr (⊎_elim (λ place. inl (subst (λ (u : Setup). IsPlace u.heap a) (sym same) place)) (λ fresh. inr (fresh.0, fresh.1, fresh.2, starts fresh.0 fresh.1 fresh.3)) known))
     h
 
--- the pass still holds the page
+-- the pass still holds the page, of which it saw nothing new
+pub holds_as_before : (table : Steps) (old new : Pass) (taken : Taken) → (Holds taken.number old → Holds taken.number new) → seen new taken.number ≡ seen old taken.number
+    → ((p offset : ℕ) → passes.KnowsFresh old p offset → passes.KnowsFresh new p offset) → HasTaken table old taken → HasTaken table new taken
+holds_as_before table old new taken holds journal starts h = record {
+  inside = h.inside;
+  holds = holds h.holds;
+  page = subst (λ l. taken.page.page ≡ page_with table taken.number l) (sym journal) h.page;
+  starts = λ i e at kind. starts taken.number e.offset (h.starts i e (subst (λ l. get_elem? l i ≡ some e) journal at) kind);
+}
+
+-- after a step that saw nothing new
 pub holds_still : (table : Steps) (old new : Pass) (taken : Taken) → (Holds taken.number old → Holds taken.number new) → KnowsAsBefore (view_of old) (view_of new) → HasTaken table old taken → HasTaken table new taken
-holds_still table old new taken holds k h =
-    let journal : seen new taken.number ≡ seen old taken.number = k.seen taken.number in
-    record {
-      inside = h.inside;
-      holds = holds h.holds;
-      page = subst (λ l. taken.page.page ≡ page_with table taken.number l) (sym journal) h.page;
-      starts = λ i e at kind. k.grows.starts taken.number e.offset (h.starts i e (subst (λ l. get_elem? l i ≡ some e) journal at) kind);
-    }
+holds_still table old new taken holds k h = holds_as_before table old new taken holds (k.seen taken.number) k.grows.starts h
 
 -- the pass holds the page with one entry more, and knows the start where that is a header
 pub holds_more : (table : Steps) (old new : Pass) (before after : Taken) (e : Entry) → HasTaken table old before → after.number ≡ before.number → Holds before.number new

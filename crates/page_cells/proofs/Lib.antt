@@ -3,6 +3,7 @@ pub mod Growing
 pub mod Heads
 mod Held
 mod Remembering
+pub mod Meetings
 pub mod Leading
 pub mod LastWord
 pub mod OneHeader

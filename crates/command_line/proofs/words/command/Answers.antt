@@ -3,8 +3,9 @@ use Rattle.std.proofs.lemmas.Result.{IfOk-weaker}
 use Rattle.clap.specs.Words.{App, app_of, with_subcommand}
 use Rattle.clap.proofs.SimpleLemmas.{plain_fields}
 use Rattle.command_line.specs.Forms.{plan_form, word_form}
-use Rattle.command_line.specs.Parser.{command, empty_app}
+use Rattle.command_line.specs.Parser.{command}
 use Rattle.command_line.proofs.words.command.Goals as goal
+use Rattle.command_line.proofs.TopLevel.{empty_app}
 
 pub returns : goal.returns
 returns c =

@@ -4,52 +4,54 @@ use Rattle.std.proofs.lemmas.Option.{same_Some}
 use Rattle.clap.specs.Words.{rows_of, found_of, subcommand_of}
 use Rattle.command_line.specs.Asked.{AsksPlan, AsksWord, IsNumber}
 use Rattle.command_line.specs.Parser.{program}
-use Rattle.command_line.proofs.Found.{other_found, plan_asked, same_name, texts_utf8, word_asked}
+use Rattle.command_line.specs.Forms.{plan_form, standing, word_form}
+use Rattle.command_line.proofs.TopLevel.{standing_plan, standing_program, standing_word}
+use Rattle.command_line.proofs.Found.{command_asked, none_of_standing, plan_asked, same_name, texts_utf8, word_asked}
 use Rattle.command_line.proofs.words.task_of.Goals.{in_default-via-in-Some+in_default, in_default-via-in_default}
 use Rattle.command_line.proofs.words.task_of.Goals as goal
 
 pub text_of-requires : goal.text_of-requires
 text_of-requires c =
-    let found : subcommand_of program (map string_bytes c.args.words.now) ≡ Some (codes "plan", rows_of (found_of c.in-Some-plan-default.found.now)) = search rules in
-    let got = plan_asked _ (found_of c.in-Some-plan-default.found.now) (texts_utf8 c.args.words.now) c.requires.taken found in
+    let found : subcommand_of (program standing) (map string_bytes c.args.words.now) ≡ Some (codes "plan", rows_of (found_of c.in-Some-plan-default.found.now)) = search rules in
+    let got = plan_asked _ (found_of c.in-Some-plan-default.found.now) (command_asked standing standing_program plan_form standing_plan _ (found_of c.in-Some-plan-default.found.now) (texts_utf8 c.args.words.now) c.requires.taken found) in
     ap (λ (o : Option (List ℕ)). is_some o) got.1
 
 pub text_of-requires-in-Some-word-default : goal.text_of-requires-in-Some-word-default
 text_of-requires-in-Some-word-default c =
-    let found : subcommand_of program (map string_bytes c.args.words.now) ≡ Some (codes "word", rows_of (found_of c.in-Some-word-default.found.now)) = search rules in
-    let got = word_asked _ (found_of c.in-Some-word-default.found.now) (texts_utf8 c.args.words.now) c.requires.taken found in
+    let found : subcommand_of (program standing) (map string_bytes c.args.words.now) ≡ Some (codes "word", rows_of (found_of c.in-Some-word-default.found.now)) = search rules in
+    let got = word_asked _ (found_of c.in-Some-word-default.found.now) (command_asked standing standing_program word_form standing_word _ (found_of c.in-Some-word-default.found.now) (texts_utf8 c.args.words.now) c.requires.taken found) in
     ap (λ (o : Option (List ℕ)). is_some o) got.2
 
 pub number_of-requires : goal.number_of-requires
 number_of-requires c =
-    let found : subcommand_of program (map string_bytes c.args.words.now) ≡ Some (codes "word", rows_of (found_of c.in-Some-word-default.found.now)) = search rules in
-    let got = word_asked _ (found_of c.in-Some-word-default.found.now) (texts_utf8 c.args.words.now) c.requires.taken found in
+    let found : subcommand_of (program standing) (map string_bytes c.args.words.now) ≡ Some (codes "word", rows_of (found_of c.in-Some-word-default.found.now)) = search rules in
+    let got = word_asked _ (found_of c.in-Some-word-default.found.now) (command_asked standing standing_program word_form standing_word _ (found_of c.in-Some-word-default.found.now) (texts_utf8 c.args.words.now) c.requires.taken found) in
     subst (λ (o : Option (List ℕ)). IsSomeAnd o (λ text. (n : ℕ) × IsNumber text n)) (sym got.3) got.4
 
 pub unreachable-requires : goal.unreachable-requires
 unreachable-requires c = elim c.in_default.branch [
   | in_default-via-in-Some+in_default w ↦
-      let found : subcommand_of program (map string_bytes c.args.words.now) ≡ Some (w.in_default.field-0.0.now, rows_of (found_of w.in_default.field-0.1.now)) = search rules in
+      let found : subcommand_of (program standing) (map string_bytes c.args.words.now) ≡ Some (w.in_default.field-0.0.now, rows_of (found_of w.in_default.field-0.1.now)) = search rules in
       let no_plan : ¬ (w.in_default.field-0.0.now ≡ codes "plan") = search rules in
       let no_word : ¬ (w.in_default.field-0.0.now ≡ codes "word") = search rules in
-      other_found _ _ (texts_utf8 c.args.words.now) c.requires.taken found
+      none_of_standing _ _ (texts_utf8 c.args.words.now) c.requires.taken found
       (λ rows e. no_plan (same_name _ _ _ _ rows refl e)) (λ rows e. no_word (same_name _ _ _ _ rows refl e))
   | in_default-via-in_default w ↦
-      let found : subcommand_of program (map string_bytes c.args.words.now) ≡ None = search rules in
-      other_found _ _ (texts_utf8 c.args.words.now) c.requires.taken found (λ rows e. cc) (λ rows e. cc)
+      let found : subcommand_of (program standing) (map string_bytes c.args.words.now) ≡ None = search rules in
+      none_of_standing _ _ (texts_utf8 c.args.words.now) c.requires.taken found (λ rows e. cc) (λ rows e. cc)
 ]
 
 pub returns-in-Some-plan-default : goal.returns-in-Some-plan-default
 returns-in-Some-plan-default c =
-    let found : subcommand_of program (map string_bytes c.args.words.now) ≡ Some (codes "plan", rows_of (found_of c.in-Some-plan-default.found.now)) = search rules in
-    let got = plan_asked _ (found_of c.in-Some-plan-default.found.now) (texts_utf8 c.args.words.now) c.requires.taken found in
+    let found : subcommand_of (program standing) (map string_bytes c.args.words.now) ≡ Some (codes "plan", rows_of (found_of c.in-Some-plan-default.found.now)) = search rules in
+    let got = plan_asked _ (found_of c.in-Some-plan-default.found.now) (command_asked standing standing_program plan_form standing_plan _ (found_of c.in-Some-plan-default.found.now) (texts_utf8 c.args.words.now) c.requires.taken found) in
     let same : c.text_of.result.now ≡ got.0 = same_Some _ _ (c.text_of.ensures ∙ got.1) in
     subst (AsksPlan (map string_bytes c.args.words.now)) (sym same) got.2
 
 pub returns-in-Some-word-default : goal.returns-in-Some-word-default
 returns-in-Some-word-default c =
-    let found : subcommand_of program (map string_bytes c.args.words.now) ≡ Some (codes "word", rows_of (found_of c.in-Some-word-default.found.now)) = search rules in
-    let got = word_asked _ (found_of c.in-Some-word-default.found.now) (texts_utf8 c.args.words.now) c.requires.taken found in
+    let found : subcommand_of (program standing) (map string_bytes c.args.words.now) ≡ Some (codes "word", rows_of (found_of c.in-Some-word-default.found.now)) = search rules in
+    let got = word_asked _ (found_of c.in-Some-word-default.found.now) (command_asked standing standing_program word_form standing_word _ (found_of c.in-Some-word-default.found.now) (texts_utf8 c.args.words.now) c.requires.taken found) in
     let same : c.text_of-in-Some-word-default.result.now ≡ got.0 = same_Some _ _ (c.text_of-in-Some-word-default.ensures ∙ got.2) in
     let number : IsNumber got.1 c.number_of.result = subst (λ (o : Option (List ℕ)). IfSome o (λ text. IsNumber text c.number_of.result)) got.3 c.number_of.ensures in
     subst (λ (path : List ℕ). AsksWord (map string_bytes c.args.words.now) path c.number_of.result) (sym same) (got.5 c.number_of.result number)

@@ -11,15 +11,15 @@ returns-in_err-check_sizes-clause-cause g c =
     let words = c.read_u32-words.result in
     let marks = c.read_u32-marks.result in
     let roots = c.read_u32-roots.result in
-    let same = counts_read c.fill.new.buf 8 4 words marks roots c.fill.ensures.small (omega arith) (omega arith) (omega arith)
+    let same = counts_read c.read_part.new.buf 8 4 words marks roots c.read_part.ensures.small (omega arith) (omega arith) (omega arith)
     c.read_u32-words.ensures c.read_u32-marks.ensures c.read_u32-roots.ensures in
     let large = size_fault words marks roots _ c.in_err-check_sizes.ensures in
     rw (p.1, p.2, large.0)
-    (over_limit _ _ words marks roots (subst (Consumes _ _) (sym same) c.in_ok-fill.ensures.read)
+    (over_limit _ _ words marks roots (subst (Consumes _ _) (sym same) c.in_ok-read_part.ensures.read)
     (record { words_fit = omega arith; marks_fit = omega arith; roots_fit = omega arith; over = large.1 }))
 
 pub returns-clause-read : goal.returns-clause-read
 returns-clause-read g c =
-    let same = counts_read c.fill.new.buf 8 4 c.read_u32-words.result c.read_u32-marks.result c.read_u32-roots.result c.fill.ensures.small (omega arith) (omega arith) (omega arith)
+    let same = counts_read c.read_part.new.buf 8 4 c.read_u32-words.result c.read_u32-marks.result c.read_u32-roots.result c.read_part.ensures.small (omega arith) (omega arith) (omega arith)
     c.read_u32-words.ensures c.read_u32-marks.ensures c.read_u32-roots.ensures in
-    subst (Consumes _ _) (sym same) c.in_ok-fill.ensures.read
+    subst (Consumes _ _) (sym same) c.in_ok-read_part.ensures.read

@@ -13,23 +13,23 @@ use Rattle.heap_layout.proofs.image.read_magic.Goals as goal
 
 pub returns-then-ne-clause-cause : goal.returns-then-ne-clause-cause
 returns-then-ne-clause-cause g c =
-    let read = c.fill.new.buf in
+    let read = c.read_part.new.buf in
     let other : read ≢ magic = not_from_Decides _ (bytes_eq-Decides read magic) (not-true _ (sym c.ne.ensures ∙ c.if-ne.true)) in
-    other_magic _ _ read c.in_ok-fill.ensures.read (omega arith) other
+    other_magic _ _ read c.in_ok-read_part.ensures.read (omega arith) other
 
 pub returns-then-read_u32-ne-VERSION-clause-cause : goal.returns-then-read_u32-ne-VERSION-clause-cause
 returns-then-read_u32-ne-VERSION-clause-cause g c =
-    let same : c.fill.new.buf ≡ magic = (bytes_eq-Decides c.fill.new.buf magic).0 (not-false _ (sym c.ne.ensures ∙ c.if-ne.false)) in
-    let read = c.fill-2.new.buf in
+    let same : c.read_part.new.buf ≡ magic = (bytes_eq-Decides c.read_part.new.buf magic).0 (not-false _ (sym c.ne.ensures ∙ c.if-ne.false)) in
+    let read = c.read_part-2.new.buf in
     let other : read ≢ four_bytes 1 = λ is. c.if-read_u32-ne-VERSION.true (c.read_u32.ensures ∙ ap (little_number 4) is) in
-    other_version _ _ _ read (subst (Consumes _ _) same c.in_ok-fill.ensures.read) c.in_ok-fill-2.ensures.read (omega arith) other
+    other_version _ _ _ read (subst (Consumes _ _) same c.in_ok-read_part.ensures.read) c.in_ok-read_part-2.ensures.read (omega arith) other
 
 pub returns-clause-read : goal.returns-clause-read
 returns-clause-read g c =
-    let same : c.fill.new.buf ≡ magic = (bytes_eq-Decides c.fill.new.buf magic).0 (not-false _ (sym c.ne.ensures ∙ c.if-ne.false)) in
-    let read = c.fill-2.new.buf in
+    let same : c.read_part.new.buf ≡ magic = (bytes_eq-Decides c.read_part.new.buf magic).0 (not-false _ (sym c.ne.ensures ∙ c.if-ne.false)) in
+    let read = c.read_part-2.new.buf in
     let whole : take 4 read ≡ read = take_all 4 read (omega arith) in
     let number : c.read_u32.result ≡ little_number 4 (take 4 read) = c.read_u32.ensures ∙ ap (little_number 4) (sym whole) in
     let version : read ≡ four_bytes 1 =
-    sym whole ∙ sym (four_bytes-read read 0 4 _ c.fill-2.ensures.small (omega arith) (omega arith) number) ∙ ap four_bytes c.if-read_u32-ne-VERSION.false in
-    Consumes-trans _ _ _ magic (four_bytes 1) (subst (Consumes _ _) same c.in_ok-fill.ensures.read) (subst (Consumes _ _) version c.in_ok-fill-2.ensures.read)
+    sym whole ∙ sym (four_bytes-read read 0 4 _ c.read_part-2.ensures.small (omega arith) (omega arith) number) ∙ ap four_bytes c.if-read_u32-ne-VERSION.false in
+    Consumes-trans _ _ _ magic (four_bytes 1) (subst (Consumes _ _) same c.in_ok-read_part.ensures.read) (subst (Consumes _ _) version c.in_ok-read_part-2.ensures.read)

@@ -22,24 +22,24 @@ loop-marks-init g c =
       none_failed = refl;
     }
 
-pub returns-in_err-fill-clause-cut : goal.returns-in_err-fill-clause-cut
-returns-in_err-fill-clause-cut g c =
-    let p = err_from_is_err_and c.from_residual-in_err-fill.result c.from_residual-in_err-fill.ensures.1 in
+pub returns-in_err-read_part-clause-cut : goal.returns-in_err-read_part-clause-cut
+returns-in_err-read_part-clause-cut g c =
+    let p = err_from_is_err_and c.from_residual-in_err-read_part.result c.from_residual-in_err-read_part.ensures.1 in
     let done = c.loop-marks.marks.items in
     let known = length-pieces four_bytes 4 (λ _. refl) done in
     let count = c.loop-marks.marks.ok.0 in
     let long : length (flat_map four_bytes done) + 4 * c.min-n.result ≤ 4 * c.args.count = omega arith in
     rw (p.1, p.2)
-    (ends_behind _ _ (flat_map four_bytes done) _ (4 * c.args.count) _ c.loop-marks.invariant.read (omega (arith, length-take {A = ℕ})) c.in_err-fill.ensures.cut)
+    (ends_behind _ _ (flat_map four_bytes done) _ (4 * c.args.count) _ c.loop-marks.invariant.read (omega (arith, length-take {A = ℕ})) c.in_err-read_part.ensures.cut)
 
-pub returns-in_err-fill-clause-counts : goal.returns-in_err-fill-clause-counts
-returns-in_err-fill-clause-counts g c =
-    let p = err_from_is_err_and c.from_residual-in_err-fill.result c.from_residual-in_err-fill.ensures.1 in
-    rw (p.1, p.2) (failed_since _ _ _ _ c.loop-marks.invariant.none_failed c.in_err-fill.ensures.counts)
+pub returns-in_err-read_part-clause-counts : goal.returns-in_err-read_part-clause-counts
+returns-in_err-read_part-clause-counts g c =
+    let p = err_from_is_err_and c.from_residual-in_err-read_part.result c.from_residual-in_err-read_part.ensures.1 in
+    rw (p.1, p.2) (failed_since _ _ _ _ c.loop-marks.invariant.none_failed c.in_err-read_part.ensures.counts)
 
 pub loop-marks-preserved : goal.loop-marks-preserved
 loop-marks-preserved g c =
-    let read = c.fill.new.buf in
+    let read = c.read_part.new.buf in
     let long : length read ≡ 4 * c.min-n.result = omega (arith, length-take {A = ℕ}) in
     record {
       few = omega arith;
@@ -47,8 +47,8 @@ loop-marks-preserved g c =
       piece = c.loop-marks.invariant.piece;
       small = c.push_marks.ensures.small c.loop-marks.invariant.small;
       read = subst (Consumes _ _) (sym c.push_marks.ensures.bytes)
-          (Consumes-trans _ _ _ (flat_map four_bytes c.loop-marks.marks.items) read c.loop-marks.invariant.read c.in_ok-fill.ensures.read);
-      none_failed = c.in_ok-fill.ensures.counts ∙ c.loop-marks.invariant.none_failed;
+          (Consumes-trans _ _ _ (flat_map four_bytes c.loop-marks.marks.items) read c.loop-marks.invariant.read c.in_ok-read_part.ensures.read);
+      none_failed = c.in_ok-read_part.ensures.counts ∙ c.loop-marks.invariant.none_failed;
     }
 
 pub returns-clause-long : goal.returns-clause-long

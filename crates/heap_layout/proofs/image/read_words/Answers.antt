@@ -22,24 +22,24 @@ loop-words-init g c =
       none_failed = refl;
     }
 
-pub returns-in_err-fill-clause-cut : goal.returns-in_err-fill-clause-cut
-returns-in_err-fill-clause-cut g c =
-    let p = err_from_is_err_and c.from_residual-in_err-fill.result c.from_residual-in_err-fill.ensures.1 in
+pub returns-in_err-read_part-clause-cut : goal.returns-in_err-read_part-clause-cut
+returns-in_err-read_part-clause-cut g c =
+    let p = err_from_is_err_and c.from_residual-in_err-read_part.result c.from_residual-in_err-read_part.ensures.1 in
     let done = c.loop-words.words.items in
     let known = length-pieces eight_bytes 8 (λ _. refl) done in
     let count = c.loop-words.words.ok.0 in
     let long : length (flat_map eight_bytes done) + 8 * c.min-n.result ≤ 8 * c.args.count = omega arith in
     rw (p.1, p.2)
-    (ends_behind _ _ (flat_map eight_bytes done) _ (8 * c.args.count) _ c.loop-words.invariant.read (omega (arith, length-take {A = ℕ})) c.in_err-fill.ensures.cut)
+    (ends_behind _ _ (flat_map eight_bytes done) _ (8 * c.args.count) _ c.loop-words.invariant.read (omega (arith, length-take {A = ℕ})) c.in_err-read_part.ensures.cut)
 
-pub returns-in_err-fill-clause-counts : goal.returns-in_err-fill-clause-counts
-returns-in_err-fill-clause-counts g c =
-    let p = err_from_is_err_and c.from_residual-in_err-fill.result c.from_residual-in_err-fill.ensures.1 in
-    rw (p.1, p.2) (failed_since _ _ _ _ c.loop-words.invariant.none_failed c.in_err-fill.ensures.counts)
+pub returns-in_err-read_part-clause-counts : goal.returns-in_err-read_part-clause-counts
+returns-in_err-read_part-clause-counts g c =
+    let p = err_from_is_err_and c.from_residual-in_err-read_part.result c.from_residual-in_err-read_part.ensures.1 in
+    rw (p.1, p.2) (failed_since _ _ _ _ c.loop-words.invariant.none_failed c.in_err-read_part.ensures.counts)
 
 pub loop-words-preserved : goal.loop-words-preserved
 loop-words-preserved g c =
-    let read = c.fill.new.buf in
+    let read = c.read_part.new.buf in
     let long : length read ≡ 8 * c.min-n.result = omega (arith, length-take {A = ℕ}) in
     record {
       few = omega arith;
@@ -47,8 +47,8 @@ loop-words-preserved g c =
       piece = c.loop-words.invariant.piece;
       small = c.push_words.ensures.small c.loop-words.invariant.small;
       read = subst (Consumes _ _) (sym c.push_words.ensures.bytes)
-          (Consumes-trans _ _ _ (flat_map eight_bytes c.loop-words.words.items) read c.loop-words.invariant.read c.in_ok-fill.ensures.read);
-      none_failed = c.in_ok-fill.ensures.counts ∙ c.loop-words.invariant.none_failed;
+          (Consumes-trans _ _ _ (flat_map eight_bytes c.loop-words.words.items) read c.loop-words.invariant.read c.in_ok-read_part.ensures.read);
+      none_failed = c.in_ok-read_part.ensures.counts ∙ c.loop-words.invariant.none_failed;
     }
 
 pub returns-clause-long : goal.returns-clause-long

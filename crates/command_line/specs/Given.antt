@@ -1,0 +1,59 @@
+-- What words give to the arguments and options of a command.
+use Rattle.std.specs.Prelude.{◌≡◌, ℕ, ◌≤◌, ◌&&◌, Bool, true, false, not, List, [], ◌∷◌, ◌++◌, Option, Some, codes, find, is_some, option_map, IfSome, MatchOption}
+use Rattle.std.specs.List.{All, list_all, list_any}
+use Rattle.std.specs.Str.{bytes_eq}
+use Rattle.command_line.specs.Asked.{IsNumber, is_flag}
+use Rattle.command_line.specs.Forms.{Choice, Form, Parameter}
+
+-- what is given to an argument or an option: a text that it takes
+abbrev pub Takes : Parameter → List ℕ → Type 0
+Takes p text = IfSome p.bounds (λ b. (n : ℕ) × IsNumber text n × (b.0 ≤ n) × (n ≤ b.1))
+
+-- the command has an option of this name
+abbrev pub HasOption : Form → Choice → Type 0
+HasOption form o = find (λ (other : Choice). bytes_eq other.takes.id o.takes.id) form.options ≡ Some o
+
+-- the words behind a command's name give these texts, where these arguments are ahead. Options stand anywhere before a first `--`, the text of an option
+-- behind it or behind its `=`; a word that is no flag goes to the next argument, and so does each behind `--` (`ended`)
+pub data Gives (form : Form) : Bool → List Parameter → List (List ℕ) → List (Parameter × List ℕ) → Type 0 where
+  no_word : {ended : Bool} {ahead : List Parameter} → Gives form ended ahead [] []
+  then_values : {ahead : List Parameter} {word : List ℕ} {rest : List (List ℕ)} {given : List (Parameter × List ℕ)}
+      → word ≡ codes "--" → Gives form true ahead rest given → Gives form false ahead (word ∷ rest) given
+  to_next : {ended : Bool} {a : Parameter} {ahead : List Parameter} {word : List ℕ} {rest : List (List ℕ)} {given : List (Parameter × List ℕ)}
+      → (ended ≡ false → is_flag word ≡ false) → Gives form ended ahead rest given → Gives form ended (a ∷ ahead) (word ∷ rest) ((a, word) ∷ given)
+  apart : {o : Choice} {ahead : List Parameter} {word text : List ℕ} {rest : List (List ℕ)} {given : List (Parameter × List ℕ)}
+      → HasOption form o → word ≡ codes "--" ++ o.takes.id → is_flag text ≡ false
+      → Gives form false ahead rest given → Gives form false ahead (word ∷ text ∷ rest) ((o.takes, text) ∷ given)
+  joined : {o : Choice} {ahead : List Parameter} {word text : List ℕ} {rest : List (List ℕ)} {given : List (Parameter × List ℕ)}
+      → HasOption form o → word ≡ codes "--" ++ (o.takes.id ++ (codes "=" ++ text))
+      → Gives form false ahead rest given → Gives form false ahead (word ∷ rest) ((o.takes, text) ∷ given)
+
+-- the name is that of something given
+abbrev pub is_among : List ℕ → List (Parameter × List ℕ) → Bool
+is_among id given = list_any (λ (g : Parameter × List ℕ). bytes_eq id g.0.id) given
+
+-- nothing is given twice
+abbrev pub are_once : List (Parameter × List ℕ) → Bool
+are_once [] = true
+are_once (g ∷ rest) = not (is_among g.0.id rest) && are_once rest
+
+-- the text that is given under a name
+abbrev pub text_given : List ℕ → List (Parameter × List ℕ) → Option (List ℕ)
+text_given id given = option_map (λ (g : Parameter × List ℕ). g.1) (find (λ (g : Parameter × List ℕ). bytes_eq g.0.id id) given)
+
+-- the words are this command: each argument is given and each option once at most, texts that they take
+pub record IsCommandWith (form : Form) (words : List (List ℕ)) (given : List (Parameter × List ℕ)) : Type 0 where
+  pub rest : List (List ℕ)
+  pub begin : words ≡ form.name ∷ rest
+  pub gives : Gives form false form.arguments rest given
+  pub once : are_once given ≡ true
+  pub fit : All (λ g. Takes g.0 g.1) given
+  pub whole : list_all (λ (a : Parameter). is_some (text_given a.id given)) form.arguments ≡ true
+
+-- the number that a text spells, or else the default
+abbrev pub IsNumberOr : ℕ → Option (List ℕ) → ℕ → Type 0
+IsNumberOr default text n = MatchOption text (n ≡ default) (λ digits. IsNumber digits n)
+
+-- the number of an option: the one given, or its default
+abbrev pub IsChosen : Choice → List (Parameter × List ℕ) → ℕ → Type 0
+IsChosen o given n = IsNumberOr o.default (text_given o.takes.id given) n

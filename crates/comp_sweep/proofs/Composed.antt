@@ -1,0 +1,56 @@
+-- What a worker does, call by call.
+use Rattle.std.proofs.Common.{ℕ, ◌<◌, List, [], ◌++◌, All, Option, refl, sym, ap, ◌∙◌, append_assoc}
+use Rattle.std.proofs.lemmas.List.{append-nil}
+use Rattle.std.proofs.lemmas.List.Elements.{All-append, All-nil}
+use Rattle.page_plan.specs.declared.builder.Builder.{Ghosts}
+use Rattle.cell_steps.specs.Setup.{Setup}
+use Rattle.page_cells.proofs.Growing.{grows_none, grows_then, wrote_then}
+use Rattle.comp_mutator.specs.Mutators.{pass_of, setup_of, IsMutatorOf}
+use Rattle.comp_mutator.specs.Reads.{KnowsBuilt}
+use Rattle.comp_mutator.specs.declared.space.Space.{Space}
+use Rattle.comp_mutator.specs.declared.mutator.Mutator.{Mutator}
+use Rattle.comp_mutator.proofs.Growing.{known_more}
+use Rattle.comp_sweep.specs.Regions.{SeesRegion}
+use Rattle.comp_sweep.specs.Sweeps.{Sweeps}
+use Rattle.comp_sweep.specs.Workers.{WhyStopped}
+use Rattle.comp_sweep.specs.declared.working.Stop.{Stop}
+use Rattle.comp_sweep.specs.declared.working.Stop.TheVariants.{Told, Wants}
+
+module _ {L B : Type 0} {g : Ghosts B} (space : Space L B g) where
+  -- no call
+  pub sweeps_none : (a : Mutator L) → IsMutatorOf space a → Sweeps space a a
+  sweeps_none a of = record {
+    of = of;
+    grows = grows_none (pass_of a);
+    wrote = record { did = refl; seen = λ p. refl };
+    unposted = refl;
+    posted = refl;
+    builds = ([], sym (append-nil _), All-nil _);
+  }
+
+  module _ (a b c : Mutator L) (h : Sweeps space a b) where
+    -- two calls
+    pub sweeps_then : Sweeps space b c → Sweeps space a c
+    sweeps_then k =
+        let earlier = known_more (pass_of a) (pass_of b) h.grows in record {
+          of = k.of;
+          grows = grows_then (pass_of a) (pass_of b) (pass_of c) h.grows k.grows;
+          wrote = wrote_then (pass_of a) (pass_of b) (pass_of c) h.wrote k.wrote;
+          unposted = k.unposted ∙ h.unposted;
+          posted = k.posted ∙ h.posted;
+          builds = (
+            h.builds.0 ++ k.builds.0,
+            k.builds.1 ∙ ap (λ l. l ++ k.builds.0) h.builds.1 ∙ append_assoc _ h.builds.0 k.builds.0,
+            All-append (λ p. (p < (setup_of space).compacted) × (KnowsBuilt (pass_of a) p → ⊥)) h.builds.0 k.builds.0 h.builds.2 (λ i d lt. let x = k.builds.2 i d lt in (x.0, λ known. x.1 (earlier _ known))),
+          );
+        }
+
+    -- why a worker stops, after calls before
+    pub stopped_then : {A : Type 0} (compacted : ℕ) (known : Option A) (stop : Stop) → WhyStopped compacted (pass_of b) known stop → WhyStopped compacted (pass_of a) known stop
+    stopped_then compacted known Told w = w
+    stopped_then compacted known (Wants p) w = (w.0, λ k. w.1 (known_more (pass_of a) (pass_of b) h.grows p k))
+
+  module _ (a b : Mutator L) (h : Sweeps space a b) where
+    -- a region that was seen built, is
+    pub region_then : (u : Setup) (region : ℕ) → SeesRegion u (pass_of a) region → SeesRegion u (pass_of b) region
+    region_then u region sees p is = h.grows.built p (sees p is)

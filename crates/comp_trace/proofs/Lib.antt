@@ -1,0 +1,9 @@
+pub mod Cuts
+pub mod Numerals
+pub mod Clipping
+pub mod Lines
+pub mod Fitting
+pub mod OwnLines
+pub mod Runners
+pub mod Callers
+pub mod Determined

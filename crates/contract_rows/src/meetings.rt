@@ -1,0 +1,40 @@
+//! What a mutator reads that another one wrote, once the two met.
+ghost use Rattle.std.specs.Prelude.{◌≡◌, ℕ, IfOk};
+ghost use Rattle.cell_steps.specs.Lists.{StartsWith};
+ghost use Rattle.cell_steps.specs.Passes.{number_of, seen};
+ghost use Rattle.comp_mutator.specs.Mutators.{pass_of, setup_of, IsMutatorOf};
+
+use comp_mutator::laws;
+use comp_mutator::mutator::Mutator;
+use comp_mutator::refusal::Refusal;
+use comp_mutator::space::Space;
+use page_cells::laws as pages;
+use page_plan::builder::Builder;
+use std::alloc::Global;
+use std::sync::ledger::Ledger as Named;
+
+/// The first of two mutators writes a value into a data field, and the second, which it met, reads the field: where both are done, the word is the value. The
+/// first had seen all that the second had, as new mutators have, and those that met. They meet once more, so that it is known that nobody wrote meanwhile.
+pub fn read_after_meeting<L: Named, B: Builder>(
+    alloc: Global,
+    space: &Space<L, B>,
+    m0: &mut Mutator<L>,
+    m1: &mut Mutator<L>,
+    object: u64,
+    field: u16,
+    value: u64,
+) -> (Result<u64, Refusal>, Result<u64, Refusal>)
+    requires first { IsMutatorOf space.now m0.old × (number_of (pass_of m0.old) ≡ 0) }
+    requires second { IsMutatorOf space.now m1.old × (number_of (pass_of m1.old) ≡ 1) }
+    requires two { (setup_of space.now).mutators ≡ 2 }
+    requires seen { (p : ℕ) → StartsWith (seen (pass_of m0.old) p) (seen (pass_of m1.old) p) }
+    ensures read { IfOk result.0 (λ stamp. IfOk result.1 (λ word. word ≡ value)) }
+{
+    let stamp = space.try_write_data(alloc, m0, object, field, value);
+    space.meet(m0, m1);
+    let word = space.try_read_data(alloc, m1, object, field);
+    space.meet(m0, m1);
+    laws::places_are_one(space);
+    pages::last_written();
+    (stamp, word)
+}
