@@ -4,6 +4,8 @@
 ghost use Rattle.std.specs.Prelude.{◌≡◌, ◌≤◌, IfOk, IfErr};
 ghost use Rattle.compressor.specs.declared.refusal.Refusal.TheVariants as refusals;
 
+mod compact;
+mod dumps;
 mod images;
 mod plan;
 mod print;

@@ -1,6 +1,8 @@
 //! Runs of the program: what it prints, and its status.
 ghost use Rattle.std.specs.Prelude.{◌≡◌, ◌≢◌, All, Any};
 
+mod compacting;
+
 use crate::images::Images;
 use crate::refusal::{Input, Refusal};
 use crate::run::{perform, run};
@@ -42,7 +44,7 @@ fn run_on<R: Files + AllocGlobal>(rt: &R, line: &str) -> Result<Ran, Fail> {
 }
 
 // The image of three objects, of which the first and the last are marked.
-fn three_image(alloc: Global) -> Result<Vec<u8>, Fail> {
+pub(crate) fn three_image(alloc: Global) -> Result<Vec<u8>, Fail> {
     let mut bytes = b"COMPHEAP".to_vec(alloc)?;
     for count in [1u32, 7, 2, 1] {
         bytes.extend_from_slice(&count.to_le_bytes())?;
@@ -90,15 +92,15 @@ fn prints_words_and_plans(rt: HostRuntime) -> Result<(), Fail> {
 
 // An image in memory.
 #[derive(Drop)]
-struct Image<'a> {
-    path: &'a str,
-    bytes: &'a [u8],
+pub(crate) struct Image<'a> {
+    pub path: &'a str,
+    pub bytes: &'a [u8],
 }
 
 // Images in memory, each at its path.
 #[derive(Drop)]
-struct Memory<'a> {
-    images: &'a [Image<'a>],
+pub(crate) struct Memory<'a> {
+    pub images: &'a [Image<'a>],
 }
 
 impl<'a> Images for Memory<'a> {
