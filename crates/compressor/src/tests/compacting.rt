@@ -139,7 +139,7 @@ impl<'a> Dumps for Place<'a> {
 
 // What compacting a heap in memory answers, the bytes of its dump, and what it prints.
 #[derive(Drop)]
-struct Compacted {
+struct Outcome {
     answer: Result<(), Refusal>,
     dump: Vec<u8>,
     printed: String,
@@ -152,7 +152,7 @@ fn compacted<R: AllocGlobal + Threads + Wait + Sync>(
     asked: Compaction,
     room: usize,
     failure: Failure,
-) -> Result<Compacted, Fail>
+) -> Result<Outcome, Fail>
     requires { (1 ≤ asked.workers) × (asked.workers ≤ 64) }
 {
     let mut dump = Vec::new(rt.alloc());
@@ -173,7 +173,7 @@ fn compacted<R: AllocGlobal + Threads + Wait + Sync>(
         asked,
         &mut out,
     );
-    Ok(Compacted {
+    Ok(Outcome {
         answer,
         dump,
         printed: String::from_utf8(printed)?,
