@@ -158,7 +158,7 @@ fn count_of(found: &ArgMatches, id: &str, default: u64) -> u64
     ensures { IsNumberOr default (one_text (found_of found.now) id.now) result }
 {
     match found.get_one::<u64>(id) {
-        Some(number) => number,
+        Some(count) => count,
         None => default,
     }
 }
