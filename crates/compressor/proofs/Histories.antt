@@ -164,7 +164,7 @@ module _ (u : Setup) (row : List Pass) (f : Finished) (end : IsFinished u row f)
     fresh = refl;
     roots = each-given (forward (live u.heap)) u.heap.roots (roots_of f) end.roots;
     places = length-map (pages_of f) record_of ∙ end.pages.places;
-    pages = λ p lt. subst (IsPageAfter u added p) (sym (read_page p lt)) (slot_after p (page_at (pages_of f) p) refl);
+    page_by_page = λ p lt. subst (IsPageAfter u added p) (sym (read_page p lt)) (slot_after p (page_at (pages_of f) p) refl);
     stamps = subst (λ (l : List (ℕ × Entry)). map stamp_of l ≡ range_with_len 0 (length l)) same end.history.one.stamps;
     lists = ap length end.pages.builds ∙ length-map row builds_of ∙ crew;
     once = λ p lt. end.pages.once p ∙ sym (built_there (page_at (pages_of f) p)) ∙ ap times_built (sym (read_page p lt));

@@ -4,3 +4,8 @@ pub mod Answered
 pub mod Written
 pub mod Swept
 pub mod Compacted
+pub mod Outcomes
+pub mod Pieces
+pub mod Histories
+pub mod Runnings
+pub mod ReplayRuns

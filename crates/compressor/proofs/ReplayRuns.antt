@@ -160,18 +160,18 @@ pub halt_uncounted : (mutators fresh : ℕ) (lines : List Line) (shown : List Sh
 halt_uncounted mutators fresh lines shown heap old new refusal same h = uncounted_by old new refusal same (λ e. subst (IsHalted mutators fresh lines shown heap) e h)
 
 -- what a run leaves of the output that was halted, and of the dump
-pub unprinted_image : {R : Type 0} (absent : Type 0) (given : R → Type 0) (remaining : R → Option (List ℕ)) (before : Option (List ℕ)) (refusal : Refusal) → StopsUnprinted {T = Unit {0}} before before (Err refusal)
-unprinted_image absent given remaining before (Layout fault) = Keeps-refl before
-unprinted_image absent given remaining before (Mutator refused) = Keeps-refl before
-unprinted_image absent given remaining before (Sweep fault) = Keeps-refl before
-unprinted_image absent given remaining before (Trace fault) = tt
-unprinted_image absent given remaining before (Dump fault) = Keeps-refl before
-unprinted_image absent given remaining before (CannotOpen input) = Keeps-refl before
-unprinted_image absent given remaining before (CannotCreate output) = Keeps-refl before
-unprinted_image absent given remaining before (ReadFailed input) = Keeps-refl before
-unprinted_image absent given remaining before CannotPrint = tt
-unprinted_image absent given remaining before (NoSuchWord index) = Keeps-refl before
-unprinted_image absent given remaining before OutOfMemory = Keeps-refl before
+pub unprinted_halt : (before : Option (List ℕ)) (refusal : Refusal) → StopsUnprinted {T = Unit {0}} before before (Err refusal)
+unprinted_halt before (Layout fault) = Keeps-refl before
+unprinted_halt before (Mutator refused) = Keeps-refl before
+unprinted_halt before (Sweep fault) = Keeps-refl before
+unprinted_halt before (Trace fault) = tt
+unprinted_halt before (Dump fault) = Keeps-refl before
+unprinted_halt before (CannotOpen input) = Keeps-refl before
+unprinted_halt before (CannotCreate output) = Keeps-refl before
+unprinted_halt before (ReadFailed input) = Keeps-refl before
+unprinted_halt before CannotPrint = tt
+unprinted_halt before (NoSuchWord index) = Keeps-refl before
+unprinted_halt before OutOfMemory = Keeps-refl before
 
 -- nothing printed is nothing changed
 appends_none : (a b : Option (List ℕ)) → Appends a b [] → Keeps a b

@@ -20,16 +20,19 @@ use Rattle.comp_mutator.specs.Orders.{HasNumber, IsRow}
 use Rattle.comp_mutator.specs.declared.finishing.Finished.{Finished}
 use Rattle.comp_mutator.specs.declared.mutator.Mutator.{Mutator}
 use Rattle.comp_mutator.specs.declared.space.Space.{Space}
-use Rattle.comp_trace.specs.Bytes.{flipped, no_entries, DidNothingYet}
+use Rattle.comp_trace.specs.Bytes.{flipped, no_entries, DidNothingYet, Interrupts}
 use Rattle.comp_trace.specs.Deeds.{deeds_of, HaveAll}
 use Rattle.comp_trace.specs.Grammar.{parts, trace_of}
 use Rattle.comp_trace.specs.Races.{AreAll}
-use Rattle.comp_trace.specs.Replays.{HaveReplayed}
+use Rattle.comp_trace.specs.Replays.{HaveReplayed, HaveStopped}
 use Rattle.comp_trace.specs.Runs.{beginning, Runs}
+use Rattle.comp_trace.specs.declared.fault.TraceFault.{TraceFault}
 use Rattle.comp_trace.specs.declared.line.Line.{Line}
 use Rattle.comp_trace.specs.declared.shown.Shown.{Shown}
+use Rattle.comp_trace.proofs.Bytes.{interrupts_of}
 use Rattle.comp_trace.proofs.Inside.{read_inside}
-use Rattle.compressor.specs.Replays.{dumped_of, IsReplayedHeap, IsDumpAfter}
+use Rattle.compressor.specs.Replays.{dumped_of, IsDumpAfter, IsHalted, IsReplayedHeap}
+use Rattle.compressor.specs.declared.refusal.Refusal.TheVariants.{Trace}
 use Rattle.compressor.proofs.Histories.{all_added, dump_after, same_history}
 
 -- all mutators stand in the order of their numbers, and none is missing
@@ -79,7 +82,7 @@ replayed_heap {L} u before after text lines shown f compacted none many still te
     let m = at_map_back pass_of after k pass at in
     let below : k < length before = omega (arith, many, still, is_inside after k m.0 m.1) in
     ap did (sym m.2) ∙ sym (deeds_at after k m.0 m.1) ∙ ran.1.did k below ∙ ap (λ (l : List (ℕ × Entry)). l ++ written_by k added) (deeds_none before none k)) in
-    let same = same_history u (map pass_of after) f end added (all_added u (length (map pass_of after)) lines _ ran.0 refl inside ran.1.runs) did_is in
+    let same = same_history u (map pass_of after) f end added (all_added u (length (map pass_of after)) lines beginning ran.0 refl inside ran.1.runs) did_is in
     let v : u ≡ flipped u.heap u.mutators u.fresh = setup_is u compacted in
     record {
       end = ran.0;
@@ -87,3 +90,10 @@ replayed_heap {L} u before after text lines shown f compacted none many still te
       shown_is = ran.1.shows;
       left = subst (λ (w : Setup). IsDumpAfter w added (dumped_of u.mutators u.fresh f)) v (dump_after u (map pass_of after) f end crew added same);
     }
+
+-- a replay that stopped is a run that was halted
+pub halted_run : {L : Type 0} (u : Setup) (before after : List (Mutator L)) (lines : List Line) (shown : List Shown) (fault : TraceFault)
+    → u.compacted ≡ sliding.pages (live u.heap) → DidNothingYet before → length before ≡ u.mutators → HaveStopped u before after lines shown fault
+    → IsHalted u.mutators u.fresh lines shown u.heap (Trace fault)
+halted_run u before after lines shown fault compacted none many stopped =
+    λ text is. subst (λ (w : Setup). Interrupts w text shown fault) (setup_is u compacted) (interrupts_of u before after text lines shown fault many none is stopped)

@@ -4,4 +4,6 @@ pub mod Word
 pub mod Plan
 pub mod Dumps
 pub mod Compact
+pub mod Texts
+pub mod Replays
 pub mod Tasks

@@ -15,7 +15,7 @@ use Rattle.comp_history.specs.Shares.{allocated}
 use Rattle.comp_mutator.specs.Finishes.{builds_in, live_of, pages_of, roots_of}
 use Rattle.comp_mutator.specs.Finishes as finishes
 use Rattle.comp_mutator.specs.declared.finishing.Finished.{Finished}
-use Rattle.comp_mutator.specs.declared.refusal.Refusal.TheVariants as mutators
+use Rattle.comp_mutator.specs.declared.refusal.Refusal.TheVariants as refusals
 use Rattle.comp_trace.specs.Bytes.{flipped, no_entries, Interrupts}
 use Rattle.comp_trace.specs.Runs.{beginning, Moment, Runs}
 use Rattle.comp_trace.specs.declared.fault.TraceFault.{TraceFault}
@@ -58,7 +58,7 @@ pub record IsDumpAfter (u : Setup) (added : List (ℕ × Entry)) (dump : Dumped)
   pub roots : dump.roots ≡ map (forwarded (live u.heap)) u.heap.roots
   -- each page has the entries of the run that are on it, whose stamps are 0, 1, 2 and so on
   pub places : length dump.pages ≡ pages u
-  pub pages : (p : ℕ) → p < pages u → IsPageAfter u added p (page_in dump p)
+  pub page_by_page : (p : ℕ) → p < pages u → IsPageAfter u added p (page_in dump p)
   pub stamps : map stamp_of added ≡ range_with_len 0 (length added)
   -- a list for each mutator, which together name each page that was built once, and no other
   pub lists : length dump.builds ≡ u.mutators
@@ -89,7 +89,7 @@ pub record IsReplayedHeap (mutators fresh : ℕ) (lines : List Line) (shown : Li
 abbrev pub IsHalted : ℕ → ℕ → List Line → List Shown → Heap → Refusal → Type 0
 IsHalted mutators fresh lines shown heap (Trace fault) =
     (text : List ℕ) → HasLines mutators (length heap.roots) lines text → Interrupts (flipped heap mutators fresh) text shown fault
-IsHalted mutators fresh lines shown heap (Mutator refusal) = (refusal ≡ mutators.OutOfMemory) × (shown ≡ [])
+IsHalted mutators fresh lines shown heap (Mutator refusal) = (refusal ≡ refusals.OutOfMemory) × (shown ≡ [])
 IsHalted mutators fresh lines shown heap OutOfMemory = shown ≡ []
 IsHalted mutators fresh lines shown heap _ = ⊥
 
@@ -133,7 +133,7 @@ StopsReplay mutators fresh before after fault lines heap =
 -- why the run of a trace over a heap does not come to its end, or is not written or printed
 abbrev pub RefusesRun : {W : Type 0} → Type 0 → (W → Type 0) → (W → Option (List ℕ)) → ℕ → ℕ → Option (List ℕ) → Option (List ℕ) → Refusal → List Line → Heap → Type 0
 RefusesRun lacks gives contents mutators fresh before after (Trace fault) lines heap = StopsReplay mutators fresh before after fault lines heap
-RefusesRun lacks gives contents mutators fresh before after (Mutator refusal) lines heap = refusal ≡ mutators.OutOfMemory
+RefusesRun lacks gives contents mutators fresh before after (Mutator refusal) lines heap = refusal ≡ refusals.OutOfMemory
 RefusesRun lacks gives contents mutators fresh before after (CannotCreate output) lines heap = lacks × HasRun mutators fresh lines heap
 RefusesRun lacks gives contents mutators fresh before after (Dump Device) lines heap =
     (run : HasRun mutators fresh lines heap) × WritesBeginning gives contents (dump_of_run run)

@@ -10,9 +10,13 @@ mod images;
 mod plan;
 mod print;
 mod refusal;
+mod replay;
+mod replays;
 mod run;
+mod shown;
 #[cfg(test)]
 mod tests;
+mod traces;
 mod word;
 
 use crate::refusal::Refusal;

@@ -73,12 +73,12 @@ fn write_run<D: Dumps, O: Write>(
     run: &Replayed,
     out: &mut Counted<&mut O>,
 ) -> Result<(), Refusal>
-    requires flipped { IsOfFlip asked.mutators asked.fresh run.finished }
+    requires flipped { IsOfFlip asked.mutators asked.fresh run.now.finished }
     requires written { failures_of out.old < 2 ^ 64 - 1 }
-    ensures written { OnOk result (WritesWhole (D.gives dumps.old asked.entry.dump.now) D.Writer.contents (dump_bytes (dumped_of asked.entry.mutators asked.entry.fresh run.finished))) }
-    ensures printed { OnOk result (PrintsRun (O.contents (inner_of out.old).now) (O.contents (inner_of out.new).now) run.shown.items (live_of run.finished)) }
+    ensures written { OnOk result (WritesWhole (D.gives dumps.old asked.entry.dump.now) D.Writer.contents (dump_bytes (dumped_of asked.entry.mutators asked.entry.fresh run.now.finished))) }
+    ensures printed { OnOk result (PrintsRun (O.contents (inner_of out.old).now) (O.contents (inner_of out.new).now) run.now.shown.items (live_of run.now.finished)) }
     ensures cause { IfErr result (IsOfWritingRun (D.lacks dumps.old asked.entry.dump.now) (D.gives dumps.old asked.entry.dump.now) D.Writer.contents
-        (dump_bytes (dumped_of asked.entry.mutators asked.entry.fresh run.finished))) }
+        (dump_bytes (dumped_of asked.entry.mutators asked.entry.fresh run.now.finished))) }
     ensures uncreated { RefusedUncreated dumps.old dumps.new result }
     ensures counts { CountsPrint (failures_of out.old) (failures_of out.new) result }
     ensures same_writer { writer_of out.new ≡ writer_of out.old }

@@ -1,5 +1,5 @@
 //! Heaps over which a trace is run by one thread.
-ghost use Rattle.std.specs.Prelude.{◌≡◌, ℕ, ◌≤◌, List, map, length, IfOk, IfErr};
+ghost use Rattle.std.specs.Prelude.{◌≡◌, ℕ, ◌≤◌, List, [], map, length, IfOk, IfErr};
 ghost use Rattle.heap_layout.specs.Heap.{live};
 ghost use Rattle.page_plan.specs.Sliding.{pages};
 ghost use Rattle.page_cells.specs.Cells.{steps_of, AreNew};
