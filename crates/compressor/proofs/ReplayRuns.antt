@@ -46,9 +46,12 @@ module _ {R S : Type 0} (given : R → Type 0) (remaining : R → Option (List �
     (image : SomeGiven given remaining (IsImageOf (λ other. other ≡ heap))) where
   -- of the lines of a trace, and the heap of an image
   pub some_run : (P : List Line → Heap → Type 0) (lines : List Line) → SomeGiven told rest (IsTextOf mutators (length heap.roots) lines) → P lines heap → SomeRun given remaining told rest mutators P
-  some_run P lines trace p =
-      (image.0, image.1, of_heap (λ (h : Heap). SomeGiven told rest (SomeText (λ text. (ls : List Line) × HasLines mutators (length h.roots) ls text × P ls h))) heap (remaining image.0)
-      (trace.0, trace.1, (trace.2.0, trace.2.1, (lines, trace.2.2, p))) image.2)
+  some_run P lines trace p = (
+    image.0,
+    image.1,
+    of_heap (λ (h : Heap). SomeGiven told rest (SomeText (λ text. (ls : List Line) × HasLines mutators (length h.roots) ls text × P ls h))) heap (remaining image.0)
+        (trace.0, trace.1, (trace.2.0, trace.2.1, (lines, trace.2.2, p))) image.2,
+  )
 
   -- a trace that is refused for the heap
   pub some_refused : (refusal : Refusal) → SomeGiven told rest (RefusesText mutators (length heap.roots) refusal)
