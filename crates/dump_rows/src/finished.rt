@@ -38,20 +38,18 @@ fn flipped<L: Named>(
     Ok(flip(alloc, blank, builder, mutators, fresh_pages)?)
 }
 
-// The first of a flipped heap's mutators, and the others.
-fn first_of<L: Named>(
+// The last of a flipped heap's mutators, and the others.
+fn last_of<L: Named>(
     rt: &impl Abort,
     _space: &Space<L, Plan>,
-    mutators: Vec<Mutator<L>>,
+    mut mutators: Vec<Mutator<L>>,
 ) -> (Mutator<L>, Vec<Mutator<L>>)
     requires of { AreMutatorsOf _space.now mutators.items }
-    ensures first { IsMutatorOf _space.now result.0 }
+    ensures last { IsMutatorOf _space.now result.0 }
     ensures others { AreMutatorsOf _space.now result.1.items }
 {
-    let mut others = mutators;
-    assert!(rt; !others.is_empty());
-    let first = others.remove(0);
-    (first, others)
+    let last = mutators.pop().expect(rt, "a mutator");
+    (last, mutators)
 }
 
 // Finishes with all mutators.
@@ -103,7 +101,7 @@ fn dump_smallest<L: Named>(rt: &impl Abort, alloc: Global, blank: Blank) -> Resu
     requires count { blank.parts ≡ 1 }
 {
     let (space, mutators) = flipped::<L>(alloc, blank, smallest(alloc)?, 1, 0)?;
-    let (mut m, _) = first_of(rt, &space, mutators);
+    let (mut m, _) = last_of(rt, &space, mutators);
     touch_first(rt, alloc, &space, &mut m);
     let finished = finish(rt, alloc, space, vec![in alloc; m]?);
     dumped(rt, alloc, &finished, 1, 0)
@@ -132,7 +130,7 @@ fn dump_linked<L: Named>(rt: &impl Abort, alloc: Global, blank: Blank) -> Result
     requires count { blank.parts ≡ 1 }
 {
     let (space, mutators) = flipped::<L>(alloc, blank, three(alloc)?, 1, 2)?;
-    let (mut m, _) = first_of(rt, &space, mutators);
+    let (mut m, _) = last_of(rt, &space, mutators);
     link_new(rt, alloc, &space, &mut m);
     let finished = finish(rt, alloc, space, vec![in alloc; m]?);
     dumped(rt, alloc, &finished, 1, 2)
@@ -143,26 +141,36 @@ pub fn linked_dumped(rt: &impl Abort, alloc: Global) -> Result<Vec<u8>, Fail> {
     dump_linked::<Brand>(rt, alloc, Blank::new(1))
 }
 
-// Loads the first object's address from the last one, and puts 7 into it.
-fn put_seven<L: Named>(rt: &impl Abort, alloc: Global, space: &Space<L, Plan>, m: &mut Mutator<L>)
-    requires of { IsMutatorOf space.now m.old }
-    ensures of { IsMutatorOf space.now m.new }
+// The first one loads an address from the last object, and puts 7 into the object there; the second one does the same and gets 7.
+fn put_and_get<L: Named>(
+    rt: &impl Abort,
+    alloc: Global,
+    space: &Space<L, Plan>,
+    m0: &mut Mutator<L>,
+    m1: &mut Mutator<L>,
+)
+    requires first { IsMutatorOf space.now m0.old }
+    requires second { IsMutatorOf space.now m1.old }
+    ensures first { IsMutatorOf space.now m0.new }
+    ensures second { IsMutatorOf space.now m1.new }
 {
-    assert_eq!(rt; space.try_read_ref(alloc, m, T + 2, 0), Ok(T));
-    assert_eq!(rt; space.try_write_data(alloc, m, T, 0, 7), Ok(0));
+    assert_eq!(rt; space.try_read_ref(alloc, m0, T + 2, 0), Ok(T));
+    assert_eq!(rt; space.try_write_data(alloc, m0, T, 0, 7), Ok(0));
+    assert_eq!(rt; space.try_read_ref(alloc, m1, T + 2, 0), Ok(T));
+    assert_eq!(rt; space.try_read_data(alloc, m1, T, 0), Ok(7));
 }
 
-// The three objects, into whose first one the first of two mutators puts 7.
+// The three objects, into whose first one the first of two mutators puts 7, which the second one gets.
 fn dump_put<L: Named>(rt: &impl Abort, alloc: Global, blank: Blank) -> Result<Vec<u8>, Fail>
     requires name { blank.name ≡ L.name }
     requires parts { blank.parts ≡ L.parts }
     requires count { blank.parts ≡ 2 }
 {
     let (space, mutators) = flipped::<L>(alloc, blank, three(alloc)?, 2, 64)?;
-    let (mut m, mut all) = first_of(rt, &space, mutators);
-    put_seven(rt, alloc, &space, &mut m);
-    all.push(m)?;
-    let finished = finish(rt, alloc, space, all);
+    let (mut m1, mutators) = last_of(rt, &space, mutators);
+    let (mut m0, _) = last_of(rt, &space, mutators);
+    put_and_get(rt, alloc, &space, &mut m0, &mut m1);
+    let finished = finish(rt, alloc, space, vec![in alloc; m1, m0]?);
     dumped(rt, alloc, &finished, 2, 64)
 }
 
