@@ -1,7 +1,8 @@
 //! Dumps that end early or late.
-use crate::dumped::{expect_fault, read};
+use crate::dumped::read;
 use crate::encoded::{linked_bytes, smallest_bytes};
 use comp_audit::fault::DumpFault;
+use std::alloc::Global;
 use std::process::Abort;
 use std::test::Fail;
 
@@ -27,30 +28,30 @@ fn refuses_each_beginning(rt: HostRuntime) -> Result<(), Fail> {
     Ok(())
 }
 
-#[test]
-fn refuses_one_byte_more(rt: HostRuntime) -> Result<(), Fail> {
-    let alloc = rt.alloc();
-    for bytes in [smallest_bytes(alloc)?, linked_bytes(alloc)?] {
-        for byte in 0..=255u8 {
-            let mut longer = bytes.clone()?;
-            longer.push(byte)?;
-            expect_fault(&rt, alloc, &longer, DumpFault::TrailingBytes, "one more");
-        }
-    }
+// With one byte more behind its end, this is no dump.
+fn expect_too_long(rt: &impl Abort, alloc: Global, mut bytes: Vec<u8>) -> Result<(), Fail> {
+    bytes.push(0)?;
+    let fault = read(alloc, &bytes).err();
+    assert_eq!(rt; fault, Some(DumpFault::TrailingBytes));
     Ok(())
 }
 
 #[test]
+fn refuses_one_byte_more(rt: HostRuntime) -> Result<(), Fail> {
+    expect_too_long(&rt, rt.alloc(), smallest_bytes(rt.alloc())?)?;
+    expect_too_long(&rt, rt.alloc(), linked_bytes(rt.alloc())?)
+}
+
+#[test]
 fn refuses_another_magic_or_version(rt: HostRuntime) -> Result<(), Fail> {
-    let bytes = smallest_bytes(rt.alloc())?;
+    let mut bytes = smallest_bytes(rt.alloc())?;
+    assert_eq!(rt; bytes.len(), 569);
     for at in 0..12usize {
-        let mut changed = bytes.clone()?;
-        let Some(byte) = changed.get_mut(at) else {
-            panic!(rt; "there is a byte {at}");
-        };
-        *byte ^= 8;
-        let fault = read(rt.alloc(), &changed).err();
+        let right = bytes[at];
+        bytes[at] = right ^ 8;
+        let fault = read(rt.alloc(), &bytes).err();
         assert_eq!(rt; fault, Some(DumpFault::BadMagic), "byte {at}");
+        bytes[at] = right;
     }
     Ok(())
 }

@@ -30,6 +30,14 @@ pub fn put_eights(bytes: &mut Vec<u8>, numbers: &[u64]) -> Result<(), AllocError
     Ok(())
 }
 
+/// So many bytes 0.
+pub fn put_zeros(bytes: &mut Vec<u8>, count: usize) -> Result<(), AllocError> {
+    for _ in 0..count {
+        bytes.push(0)?;
+    }
+    Ok(())
+}
+
 /// A page that was built, up to its entries: the words begin so, and all others are 0; so many entries are to follow.
 pub fn put_page(bytes: &mut Vec<u8>, begin: &[u64], entries: u32) -> Result<(), AllocError> {
     bytes.push(1)?;
@@ -90,7 +98,7 @@ pub fn put_bytes(alloc: Global) -> Result<Vec<u8>, AllocError> {
         1,
     )?;
     put_entry(&mut bytes, 0, [0, 2, 1], 7)?;
-    bytes.extend_from_slice(&[0; 64])?;
+    put_zeros(&mut bytes, 64)?;
     put_fours(&mut bytes, &[1, 0, 0])?;
     put_eights(&mut bytes, &[4])?;
     Ok(bytes)

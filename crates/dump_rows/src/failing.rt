@@ -18,10 +18,9 @@ fn reads_in_pieces(rt: HostRuntime) -> Result<(), Fail> {
     let bytes = linked_bytes(alloc)?;
     let whole = read(alloc, &bytes)?;
     for piece in [1, 2, 7, 1_128] {
-        let mut reader = Counted::new(Pieces::new(&bytes, piece, None));
-        let dump = read_dump(alloc, &mut reader)?;
+        let pieces = Pieces::new(&bytes, piece, None);
+        let dump = read_dump(alloc, &mut Counted::new(pieces))?;
         expect_same(&rt, &dump, &whole);
-        assert_eq!(rt; reader.failures(), 0);
     }
     Ok(())
 }
@@ -54,24 +53,24 @@ fn tells_of_a_reader_that_fails(rt: HostRuntime) -> Result<(), Fail> {
     Ok(())
 }
 
-// A writer with room for so many bytes fails then, and has taken just these.
-fn expect_beginning(
+// A writer with room for just these bytes has taken them, and this is what writing the dump answers.
+fn expect_taken(
     rt: &impl Abort,
-    alloc: Global,
     dump: &Dump<'_>,
-    begin: &[u8],
-    piece: usize,
-    when_full: WhenFull,
+    narrow: Narrow,
+    bytes: &[u8],
+    wanted: Option<DumpFault>,
+    failures: u64,
 ) {
-    let room = begin.len();
-    let mut writer = Counted::new(Narrow::new(alloc, room, piece, when_full));
+    let room = bytes.len();
+    let mut writer = Counted::new(narrow);
     let fault = write_dump(dump, &mut writer).err();
-    assert_eq!(rt; fault, Some(DumpFault::Device), "room {room}");
-    assert_eq!(rt; writer.failures(), 1, "room {room}");
-    assert_eq!(rt; writer.into_inner().taken.as_slice(), begin, "room {room}");
+    assert_eq!(rt; fault, wanted, "room {room}");
+    assert_eq!(rt; writer.failures(), failures, "room {room}");
+    assert_eq!(rt; writer.into_inner().taken.as_slice(), bytes, "room {room}");
 }
 
-// Each beginning of the dump is all that was taken where the writer fails then.
+// Where the writer fails before the dump's end, just what came before was taken.
 fn expect_beginnings(
     rt: &impl Abort,
     alloc: Global,
@@ -81,8 +80,12 @@ fn expect_beginnings(
 ) -> Result<(), Fail> {
     let dump = read(alloc, bytes)?;
     for room in 0..bytes.len() {
-        expect_beginning(rt, alloc, &dump, &bytes[..room], piece, when_full);
+        let narrow = Narrow::new(alloc, room, piece, when_full);
+        let device = Some(DumpFault::Device);
+        expect_taken(rt, &dump, narrow, &bytes[..room], device, 1);
     }
+    let enough = Narrow::new(alloc, bytes.len(), piece, when_full);
+    expect_taken(rt, &dump, enough, bytes, None, 0);
     Ok(())
 }
 
@@ -95,22 +98,5 @@ fn leaves_a_beginning_where_the_writer_fails(rt: HostRuntime) -> Result<(), Fail
     expect_beginnings(&rt, alloc, &bytes, 1_129, full)?;
     let interrupted = WhenFull::Fails(ErrorKind::Interrupted);
     expect_beginnings(&rt, alloc, &bytes, 3, interrupted)?;
-    expect_beginnings(&rt, alloc, &bytes, 1, WhenFull::TakesNone)?;
-    Ok(())
-}
-
-#[test]
-fn writes_to_a_writer_with_just_enough_room(rt: HostRuntime) -> Result<(), Fail> {
-    let alloc = rt.alloc();
-    let bytes = linked_bytes(alloc)?;
-    let dump = read(alloc, &bytes)?;
-    for piece in [1, 2, 7, 1_129] {
-        let narrow = Narrow::new(alloc, 1_129, piece, WhenFull::TakesNone);
-        let mut writer = Counted::new(narrow);
-        write_dump(&dump, &mut writer)?;
-        assert_eq!(rt; writer.failures(), 0);
-        assert!(rt; !writer.is_flushed());
-        assert_eq!(rt; writer.into_inner().taken.as_slice(), bytes.as_slice());
-    }
-    Ok(())
+    expect_beginnings(&rt, alloc, &bytes, 1, WhenFull::TakesNone)
 }

