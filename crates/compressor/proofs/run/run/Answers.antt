@@ -1,4 +1,4 @@
-use Rattle.std.proofs.Common.{◌≡◌, rules, subst, IfOk, List, String, Global, map}
+use Rattle.std.proofs.Common.{◌≡◌, rules, subst, sym, IfOk, List, String, Global, map}
 use Rattle.std.specs.String.{string_bytes}
 use Rattle.command_line.specs.Asked.{Asks, AsksNoCommand}
 use Rattle.compressor.proofs.Answered.{answered, misused}
@@ -10,7 +10,10 @@ returns-clause-done g c = λ zero.
     let asks = subst (λ (xs : List (String Global)). IfOk c.read_task-asked.result (Asks (map string_bytes xs))) words c.read_task-asked.ensures.asked in
     let h = answered _ _ _ _ _ _ (map string_bytes c.args.words.items) _ asks (c.respond.ensures.done zero) in
     let inner = c.new-out.ensures.inner in
-    first_of (search (rules, h, inner), search (h, inner), grind (rules, h, inner))
+    let begun = rw inner at h in
+    let same = c.respond.ensures.same_writer in
+    let writer = rw inner at same in
+    rw (c.out-2-1.given.1 (sym writer)) begun
 
 pub returns-clause-wrong : goal.returns-clause-wrong
 returns-clause-wrong g c = λ two.
