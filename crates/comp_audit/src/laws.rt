@@ -5,6 +5,8 @@ ghost use Rattle.comp_audit.specs.DumpEncoding.{dump_bytes};
 ghost use Rattle.comp_audit.specs.DumpReading.{read_whole};
 ghost use Rattle.comp_audit.specs.declared.fault.DumpFault.TheVariants.{TrailingBytes};
 
+use crate::dump::Dump;
+
 /// The bytes of a dump are read as that dump; with a byte or more behind them they are refused.
 pub fn dump_is_read_again()
     ensures again { (dump : Dumped) → IsStored dump → read_whole (dump_bytes dump) ≡ Ok dump }
@@ -15,3 +17,10 @@ pub fn dump_is_read_again()
 pub fn dumps_differ()
     ensures { (one other : Dumped) → IsStored one → IsStored other → dump_bytes one ≡ dump_bytes other → one ≡ other }
 {}
+
+/// The numbers of a dump are in the ranges of its fields.
+pub fn dump_is_stored(dump: &Dump<'_>)
+    ensures { IsStored dump.now }
+{
+    let _ = dump.live_words();
+}

@@ -1,0 +1,67 @@
+-- What a check tells of its faults: joined to what other checks tell, and from one page, word or entry to the next.
+use Rattle.std.proofs.Common.{◌≡◌, ℕ, zero, suc, ◌+◌, ◌<◌, Bool, true, false, ◌&&◌, List, [], ◌∷◌, ◌++◌, length, map, take, drop, get_or, Option, Some, None, Result, Ok, Err, refl, sym, ap, subst, ◌∙◌, arith}
+use Rattle.std.specs.Prelude.{unwrap_or}
+use Rattle.std.specs.List.{flat_map, enumerate_from}
+use Rattle.std.proofs.Math.Seq.{drop-cons}
+use Rattle.comp_audit.specs.declared.verdict.AuditFault.{AuditFault}
+use Rattle.comp_audit.specs.declared.verdict.Stop.{Stop}
+use Rattle.comp_audit.specs.declared.verdict.Stop.TheVariants as stop
+use Rattle.comp_audit.specs.Checks.{unless}
+use Rattle.comp_audit.specs.Judged.{IsFirst, Tells}
+
+-- a test of two parts, of which the second fails
+pub second_fails : (a b : Bool) (fault : AuditFault) → b ≡ false → IsFirst (unless (a && b) fault) fault
+second_fails true false fault e = refl
+second_fails true true fault e = absurd cc
+second_fails false b fault e = refl
+
+-- of which both pass
+pub both_pass : (a b : Bool) (fault : AuditFault) → a ≡ true → b ≡ true → unless (a && b) fault ≡ []
+both_pass true true fault p q = refl
+both_pass true false fault p q = absurd cc
+both_pass false b fault p q = absurd cc
+
+-- a list of faults begins with the first of its parts
+pub first_part : (one others : List AuditFault) (fault : AuditFault) → IsFirst one fault → IsFirst (one ++ others) fault
+first_part [] others fault h = absurd h
+first_part (first ∷ rest) others fault h = h
+
+-- a check that ends early ends all that follow it
+pub tells_first : (one others : List AuditFault) (why : Stop) → Tells one (Err why) → Tells (one ++ others) (Err why)
+tells_first one others stop.Memory h = tt
+tells_first one others (stop.Fault fault) h = first_part one others fault h
+
+-- behind a check that is passed the next one tells
+pub tells_then : (one others : List AuditFault) (result : Result (Unit {0}) Stop) → one ≡ [] → Tells others result → Tells (one ++ others) result
+tells_then one others result none h = subst (λ (front : List AuditFault). Tells (front ++ others) result) (sym none) h
+
+-- nothing is wrong with two parts where nothing is with both together
+pub none_both : (one others : List AuditFault) → one ++ others ≡ [] → (one ≡ []) × (others ≡ [])
+none_both [] others h = (refl, h)
+none_both (first ∷ rest) others h = absurd cc
+
+-- the faults of a list from one item on are those of that item and of those behind it
+pub faults_next : {X : Type 0} (f : ℕ × X → List AuditFault) (i : ℕ) (xs : List X) (x : X) → i < length xs
+    → flat_map f (enumerate_from i (drop i xs)) ≡ f (i, get_or xs i x) ++ flat_map f (enumerate_from (i + 1) (drop (i + 1) xs))
+faults_next {X = X} f i xs x inside =
+    let next : suc i ≡ i + 1 = omega arith in
+    ap (λ (rest : List X). flat_map f (enumerate_from i rest)) (drop-cons xs i x inside)
+    ∙ ap (λ (k : ℕ). f (i, get_or xs i x) ++ flat_map f (enumerate_from (i + 1) (drop k xs))) next
+
+-- what stands at a place that there is does not depend on the default
+pub same_default : {X : Type 0} (xs : List X) (i : ℕ) (d e : X) → i < length xs → get_or xs i d ≡ get_or xs i e
+same_default [] i d e inside = absurd (omega (arith, inside))
+same_default (x ∷ xs) zero d e inside = refl
+same_default (x ∷ xs) (suc i) d e inside = same_default xs i d e (omega (arith, inside))
+
+-- the roots are where a function forwards them
+unwrapped : (zs : List ℕ) → zs ≡ map (λ o. unwrap_or o 0) (map (λ x. Some x) zs)
+unwrapped [] = refl
+unwrapped (z ∷ zs) = ap (λ (rest : List ℕ). z ∷ rest) (unwrapped zs)
+
+unwrapped_each : (f : ℕ → Option ℕ) (zs : List ℕ) → map (λ o. unwrap_or o 0) (map f zs) ≡ map (λ y. unwrap_or (f y) 0) zs
+unwrapped_each f [] = refl
+unwrapped_each f (z ∷ zs) = ap (λ (rest : List ℕ). unwrap_or (f z) 0 ∷ rest) (unwrapped_each f zs)
+
+pub are_forwarded : (f : ℕ → Option ℕ) (xs ys : List ℕ) → map (λ x. Some x) xs ≡ map f ys → xs ≡ map (λ y. unwrap_or (f y) 0) ys
+are_forwarded f xs ys e = unwrapped xs ∙ ap (λ (os : List (Option ℕ)). map (λ o. unwrap_or o 0) os) e ∙ unwrapped_each f ys
