@@ -5,7 +5,7 @@ use Rattle.std.specs.List.Sorted.{IsPermutation}
 use Rattle.std.proofs.Math.Path.{fun_ext}
 use Rattle.std.proofs.lemmas.List.Sums.{sum_by-cons}
 use Rattle.std.proofs.lemmas.List.Sorted.{sum_by-IsPermutation}
-use Rattle.std.proofs.lemmas.Bool.{cases_lt, le-leb, lt-leb, eq-eqb, ne_eqb}
+use Rattle.std.proofs.lemmas.Bool.{cases_lt, cases_eq, le-leb, lt-leb, eq-eqb, ne_eqb}
 use Rattle.cell_steps.specs.Lists.{times, total, only}
 use Rattle.comp_audit.specs.declared.verdict.AuditFault.{AuditFault}
 use Rattle.comp_audit.specs.declared.verdict.AuditFault.TheVariants.{StampRepeated, StampMissing}
@@ -63,26 +63,18 @@ once : (s : ℕ) (xs : List ℕ) → ((i j : ℕ) → i < j → j < length xs �
 once s [] none = omega arith
 once s (x ∷ xs) none =
     let others = once s xs (λ i j lt inside. none (suc i) (suc j) (omega (arith, lt)) (omega (arith, inside))) in
-    elim (cases_lt s x) [
-      | inl lt ↦ omega (arith, only_other s x (λ e. omega (arith, lt, e)), others)
-      | inr le ↦ elim (cases_lt x s) [
-        | inl gt ↦ omega (arith, only_other s x (λ e. omega (arith, gt, e)), others)
-        | inr ge ↦
-          let same : s ≡ x = omega (arith, le, ge) in
-          omega (arith, only_same s x same, absent s xs (λ i inside is. none 0 (suc i) (omega arith) (omega (arith, inside)) same is))
-      ]
+    elim (cases_eq s x) [
+      | inl same ↦ omega (arith, only_same s x same, absent s xs (λ i inside is. none 0 (suc i) (omega arith) (omega (arith, inside)) same is))
+      | inr other ↦ omega (arith, only_other s x other, others)
     ]
 
 -- a number that is counted stands at some place
 pub somewhere : (s : ℕ) (xs : List ℕ) → 1 ≤ times s xs → (i : ℕ) × (i < length xs) × (s ≡ slice_index xs i)
 somewhere s [] h = absurd (omega (arith, h))
 somewhere s (x ∷ xs) h =
-    elim (cases_lt s x) [
-      | inl lt ↦ let rest = somewhere s xs (omega (arith, h, only_other s x (λ e. omega (arith, lt, e)))) in (suc rest.0, omega (arith, rest.1), rest.2)
-      | inr le ↦ elim (cases_lt x s) [
-        | inl gt ↦ let rest = somewhere s xs (omega (arith, h, only_other s x (λ e. omega (arith, gt, e)))) in (suc rest.0, omega (arith, rest.1), rest.2)
-        | inr ge ↦ (0, omega arith, omega (arith, le, ge))
-      ]
+    elim (cases_eq s x) [
+      | inl same ↦ (0, omega arith, same)
+      | inr other ↦ let rest = somewhere s xs (omega (arith, h, only_other s x other)) in (suc rest.0, omega (arith, rest.1), rest.2)
     ]
 
 -- each number is below what is above all

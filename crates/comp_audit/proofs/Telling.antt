@@ -1,8 +1,10 @@
 -- What a check tells of its faults: joined to what other checks tell, and from one page, word or entry to the next.
-use Rattle.std.proofs.Common.{◌≡◌, ℕ, zero, suc, ◌+◌, ◌<◌, Bool, true, false, ◌&&◌, List, [], ◌∷◌, ◌++◌, length, map, take, drop, get_or, Option, Some, None, Result, Ok, Err, refl, sym, ap, subst, ◌∙◌, arith}
+use Rattle.std.proofs.Common.{◌≡◌, ℕ, zero, suc, ◌+◌, ◌<◌, Bool, true, false, ◌&&◌, List, [], ◌∷◌, ◌++◌, length, map, take, drop, get_or, Option, Some, None, Result, Ok, Err, refl, sym, ap, subst, ◌∙◌, arith, append-nil, length-take}
 use Rattle.std.specs.Prelude.{unwrap_or}
 use Rattle.std.specs.List.{flat_map, enumerate_from}
 use Rattle.std.proofs.Math.Seq.{drop-cons}
+use Rattle.std.proofs.lemmas.List.{take_more}
+use Rattle.std.proofs.lemmas.List.Concat.{flat_map-append}
 use Rattle.comp_audit.specs.declared.verdict.AuditFault.{AuditFault}
 use Rattle.comp_audit.specs.declared.verdict.Stop.{Stop}
 use Rattle.comp_audit.specs.declared.verdict.Stop.TheVariants as stop
@@ -48,11 +50,23 @@ faults_next {X = X} f i xs x inside =
     ap (λ (rest : List X). flat_map f (enumerate_from i rest)) (drop-cons xs i x inside)
     ∙ ap (λ (k : ℕ). f (i, get_or xs i x) ++ flat_map f (enumerate_from (i + 1) (drop k xs))) next
 
--- what stands at a place that there is does not depend on the default
-pub same_default : {X : Type 0} (xs : List X) (i : ℕ) (d e : X) → i < length xs → get_or xs i d ≡ get_or xs i e
-same_default [] i d e inside = absurd (omega (arith, inside))
-same_default (x ∷ xs) zero d e inside = refl
-same_default (x ∷ xs) (suc i) d e inside = same_default xs i d e (omega (arith, inside))
+-- one item more has its number
+enumerate_more : {X : Type 0} (n : ℕ) (xs : List X) (x : X) → enumerate_from n (xs ++ x ∷ []) ≡ enumerate_from n xs ++ (n + length xs, x) ∷ []
+enumerate_more {X = X} n [] x = let here : n ≡ n + 0 = omega arith in ap (λ (k : ℕ). (k, x) ∷ []) here
+enumerate_more {X = X} n (y ∷ ys) x =
+    let number : n + 1 + length ys ≡ n + suc (length ys) = omega arith in
+    ap (λ (rest : List (ℕ × X)). (n, y) ∷ rest)
+    (enumerate_more (n + 1) ys x ∙ ap (λ (k : ℕ). enumerate_from (n + 1) ys ++ (k, x) ∷ []) number)
+
+-- the faults of the items up to one and of that one are those of the items up to the next
+pub faults_more : {X : Type 0} (f : ℕ × X → List AuditFault) (i : ℕ) (xs : List X) (x : X) → i < length xs → x ≡ get_or xs i x
+    → flat_map f (enumerate_from 0 (take (i + 1) xs)) ≡ flat_map f (enumerate_from 0 (take i xs)) ++ f (i, x)
+faults_more {X = X} f i xs x inside is =
+    let long : 0 + length (take i xs) ≡ i = omega (arith, length-take i xs) in
+    ap (λ (front : List X). flat_map f (enumerate_from 0 front)) (take_more xs i x inside ∙ ap (λ (y : X). take i xs ++ y ∷ []) (sym is))
+    ∙ ap (flat_map f) (enumerate_more 0 (take i xs) x ∙ ap (λ (k : ℕ). enumerate_from 0 (take i xs) ++ (k, x) ∷ []) long)
+    ∙ flat_map-append f (enumerate_from 0 (take i xs)) ((i, x) ∷ [])
+    ∙ ap (λ (rest : List AuditFault). flat_map f (enumerate_from 0 (take i xs)) ++ rest) (append-nil (f (i, x)))
 
 -- the roots are where a function forwards them
 unwrapped : (zs : List ℕ) → zs ≡ map (λ o. unwrap_or o 0) (map (λ x. Some x) zs)

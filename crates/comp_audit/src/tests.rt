@@ -8,6 +8,7 @@ use std::test::*;
 
 /// A heap of three objects, of which the first and the third are marked; a new object of one reference on the first fresh page, by an entry; and the
 /// third object's reference, which another entry made lead there.
+#[derive(Drop)]
 struct Left {
     root: u64,
     first_data: u64,
