@@ -42,6 +42,11 @@ pub none_both : (one others : List AuditFault) → one ++ others ≡ [] → (one
 none_both [] others h = (refl, h)
 none_both (first ∷ rest) others h = absurd cc
 
+-- a test without a fault holds
+pub unless_holds : (b : Bool) (fault : AuditFault) → unless b fault ≡ [] → b ≡ true
+unless_holds true fault none = refl
+unless_holds false fault none = absurd cc
+
 -- the faults of a list from one item on are those of that item and of those behind it
 pub faults_next : {X : Type 0} (f : ℕ × X → List AuditFault) (i : ℕ) (xs : List X) (x : X) → i < length xs
     → flat_map f (enumerate_from i (drop i xs)) ≡ f (i, get_or xs i x) ++ flat_map f (enumerate_from (i + 1) (drop (i + 1) xs))
@@ -49,6 +54,24 @@ faults_next {X = X} f i xs x inside =
     let next : suc i ≡ i + 1 = omega arith in
     ap (λ (rest : List X). flat_map f (enumerate_from i rest)) (drop-cons xs i x inside)
     ∙ ap (λ (k : ℕ). f (i, get_or xs i x) ++ flat_map f (enumerate_from (i + 1) (drop k xs))) next
+
+-- where nothing is wrong with a list, nothing is with any of its items
+pub item_none : {X : Type 0} (f : ℕ × X → List AuditFault) (n : ℕ) (xs : List X) (i k : ℕ) (d : X) → i < length xs → k ≡ n + i
+    → flat_map f (enumerate_from n xs) ≡ [] → f (k, get_or xs i d) ≡ []
+item_none f n [] i k d inside is none = absurd (omega (arith, inside))
+item_none f n (x ∷ xs) zero k d inside is none =
+    let here : n ≡ k = omega (arith, is) in
+    subst (λ (m : ℕ). f (m, x) ≡ []) here (none_both (f (n, x)) (flat_map f (enumerate_from (n + 1) xs)) none).0
+item_none f n (x ∷ xs) (suc i) k d inside is none =
+    item_none f (n + 1) xs i k d (omega (arith, inside)) (omega (arith, is)) (none_both (f (n, x)) (flat_map f (enumerate_from (n + 1) xs)) none).1
+
+-- and the other way round
+pub none_items : {X : Type 0} (f : ℕ × X → List AuditFault) (n : ℕ) (xs : List X) → ((i k : ℕ) (x : X) → i < length xs → k ≡ n + i → x ≡ get_or xs i x → f (k, x) ≡ [])
+    → flat_map f (enumerate_from n xs) ≡ []
+none_items f n [] each = refl
+none_items f n (x ∷ xs) each =
+    ap (λ (front : List AuditFault). front ++ flat_map f (enumerate_from (n + 1) xs)) (each 0 n x (omega arith) (omega arith) refl)
+    ∙ none_items f (n + 1) xs (λ i k y inside is at. each (suc i) k y (omega (arith, inside)) (omega (arith, is)) at)
 
 -- one item more has its number
 enumerate_more : {X : Type 0} (n : ℕ) (xs : List X) (x : X) → enumerate_from n (xs ++ x ∷ []) ≡ enumerate_from n xs ++ (n + length xs, x) ∷ []

@@ -3,6 +3,7 @@ ghost use Rattle.std.specs.Prelude.{◌≡◌, ◌<◌, ◌++◌, List, ℕ, len
 ghost use Rattle.comp_audit.specs.Dumped.{Dumped, IsStored};
 ghost use Rattle.comp_audit.specs.DumpEncoding.{dump_bytes};
 ghost use Rattle.comp_audit.specs.DumpReading.{read_whole};
+ghost use Rattle.comp_audit.specs.Meant.{FaultlessIsLawful, YesIsSound};
 ghost use Rattle.comp_audit.specs.declared.fault.DumpFault.TheVariants.{TrailingBytes};
 
 use crate::dump::Dump;
@@ -16,6 +17,16 @@ pub fn dump_is_read_again()
 /// Two dumps have the same bytes only where they are one.
 pub fn dumps_differ()
     ensures { (one other : Dumped) → IsStored one → IsStored other → dump_bytes one ≡ dump_bytes other → one ≡ other }
+{}
+
+/// A journal has no fault where it is lawful and its stamps rise, and only there.
+pub fn faultless_is_lawful()
+    ensures { FaultlessIsLawful }
+{}
+
+/// Where the audit says yes, the dump is one that a compaction can have left: its entries have one history, which a single thread could have written.
+pub fn yes_is_sound()
+    ensures { YesIsSound }
 {}
 
 /// The numbers of a dump are in the ranges of its fields.
