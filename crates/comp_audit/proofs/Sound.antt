@@ -71,7 +71,7 @@ words_mean right words p long as_long none =
     eqb-true _ _ (unless_holds (eqb (get_or words i 0) (get_or right i 0)) (WrongWord (address p i))
     (item_none (λ word. unless (eqb word.1 (get_or right word.0 0)) (WrongWord (address p word.0))) 0 words i i 0 lt (omega arith) none)))
 
-page_long : (mutators : ℕ) (records : List (Option BuiltPage)) (p : ℕ) (page : BuiltPage) → ((k : ℕ) (d : Option BuiltPage) → k < length records → IsStoredRecord mutators (get_or records k d))
+pub page_long : (mutators : ℕ) (records : List (Option BuiltPage)) (p : ℕ) (page : BuiltPage) → ((k : ℕ) (d : Option BuiltPage) → k < length records → IsStoredRecord mutators (get_or records k d))
     → get_or records p None ≡ Some page → length page.words ≡ 64
 page_long mutators records p page stored at =
     let here : IsStoredRecord mutators (Some page) = subst (IsStoredRecord mutators) at (stored p None (built_inside records p page at)) in
@@ -182,7 +182,7 @@ module _ (u : Setup) (records : List (Option BuiltPage)) (places : length record
         no_more = λ s le. sym (counted s) ∙ stamps_no_more (all_stamps records) there s (omega (arith, long, le));
       }
 
-total_merged : (u : Setup) (journals : Journals) → allocated (history u journals) ≡ allocated (entries_below journals (pages u))
+pub total_merged : (u : Setup) (journals : Journals) → allocated (history u journals) ≡ allocated (entries_below journals (pages u))
 unfolding history
 total_merged u journals = total_sorted (λ (x : ℕ × Entry). words_by x.1.kind x.1.value) (entries_below journals (pages u))
 
