@@ -46,13 +46,13 @@ counted_few n s (x ∷ xs) le =
     let rest = counted_few n s xs le in
     elim (cases_lt x n) [
       | inl lt ↦
-        let one = below-at (λ p. times p xs) (λ p. times p (x ∷ xs)) n x 1 lt (λ q ne. times-other q x xs ne) (let h = times-cons x xs in omega (arith, h)) in
-        let other = times-other s x xs (λ e. omega (arith, e, lt, le)) in
-        omega (arith, rest, one, other)
+          let one = below-at (λ p. times p xs) (λ p. times p (x ∷ xs)) n x 1 lt (λ q ne. times-other q x xs ne) (let h = times-cons x xs in omega (arith, h)) in
+          let other = times-other s x xs (λ e. omega (arith, e, lt, le)) in
+          omega (arith, rest, one, other)
       | inr ge ↦
-        let same = below-ext (λ p. times p (x ∷ xs)) (λ p. times p xs) n (λ p lt. times-other p x xs (λ e. omega (arith, e, lt, ge))) in
-        let most : times s (x ∷ xs) ≤ 1 + times s xs = only_few s x xs in
-        omega (arith, rest, same, most)
+          let same = below-ext (λ p. times p (x ∷ xs)) (λ p. times p xs) n (λ p lt. times-other p x xs (λ e. omega (arith, e, lt, ge))) in
+          let most : times s (x ∷ xs) ≤ 1 + times s xs = only_few s x xs in
+          omega (arith, rest, same, most)
     ]
 
 each_once : (f : ℕ → ℕ) (n : ℕ) → ((p : ℕ) → p < n → 1 ≤ f p) → n ≤ below f n
@@ -76,7 +76,7 @@ pub stamps_once : (xs : List ℕ) → repeat_faults xs ≡ [] → (s : ℕ) → 
 stamps_once xs none s =
     elim (cases_lt s (above xs)) [
       | inl lt ↦ leb-true _ _ (unless_holds (leb (times s xs) 1) (StampRepeated s)
-        (range_none (λ k. unless (leb (times k xs) 1) (StampRepeated k)) 0 (above xs) s none (omega arith) (omega (arith, lt))))
+          (range_none (λ k. unless (leb (times k xs) 1) (StampRepeated k)) 0 (above xs) s none (omega arith) (omega (arith, lt))))
       | inr le ↦ elim (cases_lt (times s xs) 1) [
         | inl few ↦ omega (arith, few)
         | inr some ↦ let at = somewhere s xs some in let below = all_below xs at.0 at.1 in absurd (omega (arith, below, at.2, le))

@@ -119,7 +119,7 @@ pub earliest_first : (test : Entry → Bool) (records : List (Option BuiltPage))
 earliest_first test records late is =
     elim (cases_lt late.stamp (above (all_stamps records))) [
       | inl lt ↦ first_in_range (late_with test records) 0 (above (all_stamps records)) late.stamp (BadEntry late.page late.number) (omega arith) (omega (arith, lt))
-        (λ s ge less. is.before s less) is.here
+          (λ s ge less. is.before s less) is.here
       | inr le ↦ absurd (subst (λ (l : List AuditFault). IsFirst l (BadEntry late.page late.number)) (none_above test records late.stamp le) is.here)
     ]
 

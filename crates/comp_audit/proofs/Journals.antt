@@ -31,8 +31,12 @@ filled_front j i d inside =
     let parts : kinds_in j ≡ kinds_in (take i j) ++ (kinds_by e.kind e.value ++ kinds_in (drop (suc i) j)) =
     ap kinds_in (sym (take-append-drop i j) ∙ ap (λ (rest : List Entry). take i j ++ rest) (drop-cons j i d inside))
     ∙ kinds_append (take i j) (e ∷ drop (suc i) j) in
-    omega (arith, ap length parts, length-append (kinds_in (take i j)) (kinds_by e.kind e.value ++ kinds_in (drop (suc i) j)),
-    length-append (kinds_by e.kind e.value) (kinds_in (drop (suc i) j)))
+    omega (
+      arith,
+      ap length parts,
+      length-append (kinds_in (take i j)) (kinds_by e.kind e.value ++ kinds_in (drop (suc i) j)),
+      length-append (kinds_by e.kind e.value) (kinds_in (drop (suc i) j)),
+    )
 
 -- behind an entry that may follow those before it, what is wrong is wrong with the others
 pub entry_next : (u : Setup) (p i low : ℕ) (j : List Entry) (d : Entry) → i < length j → low ≤ (get_or j i d).stamp

@@ -65,14 +65,14 @@ notes_header old new all x head some older elsewhere notes =
     record {
       some = λ a. elim (cases_eq a (address_of x)) [
         | inl e ↦ subst (λ (b : ℕ). is_some (stamp_at new b) ≡ list_any (makes b) (all ++ x ∷ [])) (sym e)
-          (some ∙ sym (any_more (makes (address_of x)) all x true (makes_here x head) ∙ or_true (list_any (makes (address_of x)) all)))
+            (some ∙ sym (any_more (makes (address_of x)) all x true (makes_here x head) ∙ or_true (list_any (makes (address_of x)) all)))
         | inr ne ↦ ap is_some (elsewhere a ne) ∙ notes.some a ∙ sym (any_less (makes a) all x (makes_other x a ne))
       ];
       older = λ a n. elim (cases_eq a (address_of x)) [
         | inl e ↦ subst (λ (b : ℕ). is_noted_before new b n ≡ is_made_before (all ++ x ∷ []) b n) (sym e)
-          (older n ∙ ap (λ (b : Bool). b || ltb (stamp_of x) n) (notes.older (address_of x) n)
-          ∙ sym (any_more (older_test (address_of x) n) all x (ltb (stamp_of x) n) (rw (makes_here x head) refl)))
+            (older n ∙ ap (λ (b : Bool). b || ltb (stamp_of x) n) (notes.older (address_of x) n)
+            ∙ sym (any_more (older_test (address_of x) n) all x (ltb (stamp_of x) n) (rw (makes_here x head) refl)))
         | inr ne ↦ ap (λ (o : Option ℕ). is_below o n) (elsewhere a ne) ∙ notes.older a n
-          ∙ sym (any_less (older_test a n) all x (rw (makes_other x a ne) refl))
+            ∙ sym (any_less (older_test a n) all x (rw (makes_other x a ne) refl))
       ];
     }

@@ -20,11 +20,11 @@ first_in_range f low zero v fault from to none h = absurd (omega (arith, from, t
 first_in_range f low (suc n) v fault from to none h =
     elim (cases_lt low v) [
       | inl lt ↦
-        subst (λ (front : List AuditFault). IsFirst (front ++ flat_map f (range_with_len (low + 1) n)) fault) (sym (none low (omega arith) lt))
-        (first_in_range f (low + 1) n v fault (omega (arith, lt)) (omega (arith, to)) (λ s ge less. none s (omega (arith, ge)) less) h)
+          subst (λ (front : List AuditFault). IsFirst (front ++ flat_map f (range_with_len (low + 1) n)) fault) (sym (none low (omega arith) lt))
+          (first_in_range f (low + 1) n v fault (omega (arith, lt)) (omega (arith, to)) (λ s ge less. none s (omega (arith, ge)) less) h)
       | inr le ↦
-        let same : v ≡ low = omega (arith, le, from) in
-        first_part (f low) (flat_map f (range_with_len (low + 1) n)) fault (subst (λ (k : ℕ). IsFirst (f k) fault) same h)
+          let same : v ≡ low = omega (arith, le, from) in
+          first_part (f low) (flat_map f (range_with_len (low + 1) n)) fault (subst (λ (k : ℕ). IsFirst (f k) fault) same h)
     ]
 
 -- no number of a range has a fault
@@ -129,10 +129,10 @@ first_repeat xs i positive inside sorted rises same =
     let two = twice v xs (i - 1) i (omega (arith, positive)) inside same refl in
     first_in_range (repeated xs) 0 (above xs) v (StampRepeated v) (omega arith) (let h = all_below xs i inside in omega (arith, h))
     (λ s ge lt. not_repeated s xs (once s xs (λ a b less within p q.
-        elim (cases_lt b i) [
-          | inl early ↦ let h = apart i xs a b sorted rises less early (omega (arith, inside)) in omega (arith, h, p, q)
-          | inr late ↦ let h = sorted i b late within in omega (arith, h, lt, q)
-        ])))
+    elim (cases_lt b i) [
+      | inl early ↦ let h = apart i xs a b sorted rises less early (omega (arith, inside)) in omega (arith, h, p, q)
+      | inr late ↦ let h = sorted i b late within in omega (arith, h, lt, q)
+    ])))
     (rw (lt-leb 1 (times v xs) (omega (arith, two))) refl)
 
 pub none_repeat : (xs : List ℕ) → Sorted xs → RisesBelow (length xs) xs → repeat_faults xs ≡ []
@@ -157,10 +157,10 @@ pub first_missing : (xs : List ℕ) (i : ℕ) → i < length xs → Sorted xs �
 first_missing xs i inside sorted rises below other =
     let greater : i < slice_index xs i = past xs i rises inside below other in
     let none : times i xs ≡ 0 = absent i xs (λ k within is.
-        elim (cases_lt k i) [
-          | inl early ↦ let h = below k early in omega (arith, h, is, early)
-          | inr late ↦ let h = sorted i k late within in omega (arith, h, is, greater)
-        ]) in
+    elim (cases_lt k i) [
+      | inl early ↦ let h = below k early in omega (arith, h, is, early)
+      | inr late ↦ let h = sorted i k late within in omega (arith, h, is, greater)
+    ]) in
     first_in_range (missing xs) 0 (length xs) i (StampMissing i) (omega arith) (omega (arith, inside))
     (λ s ge lt. not_missing s xs (found s xs s (omega (arith, lt, inside)) (sym (below s lt))))
     (rw none refl)
@@ -198,8 +198,8 @@ sorted_from xs next i zero le inside = let same : i ≡ 0 = omega (arith, le) in
 sorted_from xs next i (suc j) le inside =
     elim (cases_lt i (suc j)) [
       | inl lt ↦
-        let before = sorted_from xs next i j (omega (arith, lt)) (omega (arith, inside)) in
-        let last : slice_index xs j ≤ slice_index xs (suc j) = let h = next j (omega (arith, inside)) in let e : j + 1 ≡ suc j = omega arith in rw e at h in
-        omega (arith, before, last)
+          let before = sorted_from xs next i j (omega (arith, lt)) (omega (arith, inside)) in
+          let last : slice_index xs j ≤ slice_index xs (suc j) = let h = next j (omega (arith, inside)) in let e : j + 1 ≡ suc j = omega arith in rw e at h in
+          omega (arith, before, last)
       | inr ge ↦ let same : i ≡ suc j = omega (arith, le, ge) in rw same (omega arith)
     ]

@@ -10,8 +10,10 @@ use Rattle.cell_steps.specs.Lawful.{IsLawful}
 use Rattle.page_cells.specs.Objects.{ReferencesAreStarts}
 use Rattle.comp_history.specs.Merged.{history, CanMerge, IsOneHistory}
 use Rattle.comp_history.specs.Shares.{allocated}
-use Rattle.comp_mutator.specs.Finishes.{named}
+use Rattle.comp_mutator.specs.Finishes.{builds_in, live_of, named, pages_of, roots_of, IsOfFlip}
+use Rattle.comp_mutator.specs.declared.finishing.Finished.{Finished}
 use Rattle.comp_audit.specs.Dumped.{BuiltPage, Dumped, IsStored}
+use Rattle.comp_audit.specs.Lent.{record_of}
 use Rattle.comp_audit.specs.Checks.{setup_for, journals_in, entry_faults}
 use Rattle.comp_audit.specs.Judged.{faults}
 
@@ -59,3 +61,17 @@ YesIsSound = (heap : Heap) (dump : Dumped) → IsClosed heap → IsStored dump �
 -- and of a lawful dump it says yes
 abbrev pub LawfulIsYes : Type 0
 LawfulIsYes = (heap : Heap) (dump : Dumped) → IsStored dump → IsLawfulDump (setup_for heap dump.fresh dump.mutators) dump → faults heap dump ≡ []
+
+-- what the dump of a finished heap has
+pub record IsDumpOf (mutators fresh : ℕ) (f : Finished) (dump : Dumped) : Type 0 where
+  pub mutators_are : dump.mutators ≡ mutators
+  pub fresh_are : dump.fresh ≡ fresh
+  pub roots : dump.roots ≡ roots_of f
+  pub pages : dump.pages ≡ map record_of (pages_of f)
+  pub builds : dump.builds ≡ builds_in f
+  pub total : dump.total ≡ live_of f
+
+-- so of a heap that was finished it says yes
+abbrev pub FinishedIsYes : Type 0
+FinishedIsYes = (mutators fresh : ℕ) (f : Finished) (of : IsOfFlip mutators fresh f) (dump : Dumped) → IsStored dump → IsDumpOf mutators fresh f dump
+    → faults of.setup.heap dump ≡ []

@@ -15,5 +15,5 @@ pub returns : goal.returns
 returns c =
     let same = times_permuted _ _ c.sort_unstable.ensures.permutation in
     let faults = ap (λ (front : List AuditFault). front ++ missing_faults c.sort_unstable.new.self) (same_repeats _ _ same)
-        ∙ ap (λ (rest : List AuditFault). repeat_faults c.args.stamps.now ++ rest) (same_missing _ _ c.sort_unstable.ensures.len same) in
+    ∙ ap (λ (rest : List AuditFault). repeat_faults c.args.stamps.now ++ rest) (same_missing _ _ c.sort_unstable.ensures.len same) in
     subst (λ (list : List AuditFault). Tells list c.check_sorted.result) faults c.check_sorted.ensures
