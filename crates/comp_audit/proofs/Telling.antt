@@ -55,6 +55,24 @@ faults_next {X = X} f i xs x inside =
     ap (λ (rest : List X). flat_map f (enumerate_from i rest)) (drop-cons xs i x inside)
     ∙ ap (λ (k : ℕ). f (i, get_or xs i x) ++ flat_map f (enumerate_from (i + 1) (drop k xs))) next
 
+-- an item of a list, of which those before it have no fault: it has the first fault, its check ends early, or it has none
+module _ {X : Type 0} (f : ℕ × X → List AuditFault) (i : ℕ) (xs : List X) (x : X) (all : List AuditFault) (inside : i < length xs) (is : x ≡ get_or xs i x)
+    (left : flat_map f (enumerate_from i (drop i xs)) ≡ all) where
+  abbrev behind : List AuditFault
+  behind = flat_map f (enumerate_from (i + 1) (drop (i + 1) xs))
+
+  parts : f (i, x) ++ behind ≡ all
+  parts = ap (λ (y : X). f (i, y) ++ behind) is ∙ sym (faults_next f i xs x inside) ∙ left
+
+  pub first_here : (fault : AuditFault) → f (i, x) ≡ fault ∷ [] → IsFirst all fault
+  first_here fault one = subst (λ (l : List AuditFault). IsFirst l fault) (ap (λ (front : List AuditFault). front ++ behind) (sym one) ∙ parts) refl
+
+  pub tells_here : (why : Stop) → Tells (f (i, x)) (Err why) → Tells all (Err why)
+  tells_here why told = subst (λ (l : List AuditFault). Tells l (Err why)) parts (tells_first (f (i, x)) behind why told)
+
+  pub none_here : f (i, x) ≡ [] → behind ≡ all
+  none_here none = ap (λ (front : List AuditFault). front ++ behind) (sym none) ∙ parts
+
 -- where nothing is wrong with a list, nothing is with any of its items
 pub item_none : {X : Type 0} (f : ℕ × X → List AuditFault) (n : ℕ) (xs : List X) (i k : ℕ) (d : X) → i < length xs → k ≡ n + i
     → flat_map f (enumerate_from n xs) ≡ [] → f (k, get_or xs i d) ≡ []
