@@ -34,7 +34,7 @@ use Rattle.comp_audit.specs.declared.verdict.AuditFault.{AuditFault}
 use Rattle.comp_audit.specs.declared.verdict.AuditFault.TheVariants.{WrongHead, WrongWord, WrongTotal, BuildUnclaimed, BadEntry, LooseReference, StampRepeated, StampMissing}
 use Rattle.comp_audit.specs.Checks.{setup_for, unless, all_entries, all_stamps, journal_of, journals_in, above, head_faults, is_claimed, build_faults, journal_faults, same_words, word_faults, each_built, is_kind, makes, is_start, is_made_before, is_led, reference_faults, late_on, late_with, late_faults, repeat_faults, missing_faults, total_faults}
 use Rattle.comp_audit.specs.Judged.{faults}
-use Rattle.comp_audit.specs.Meant.{built, page_of, journals_of, IsLawfulDump, LawfulIsYes}
+use Rattle.comp_audit.specs.Meant.{built_count, page_of, journals_of, IsLawfulDump, LawfulIsYes}
 use Rattle.comp_audit.proofs.Telling.{both_pass, none_items}
 use Rattle.comp_audit.proofs.Meanings.{true_and, kind_means, kind_tested, faultless_is_lawful}
 use Rattle.comp_audit.proofs.Noting.{kind_other, makes_here}
@@ -49,18 +49,18 @@ holds b fault e = rw e refl
 join : (one others : List AuditFault) → one ≡ [] → others ≡ [] → one ++ others ≡ []
 join one others p q = rw (p, q) refl
 
-claim_tested : (builds : List (List ℕ)) (p : ℕ) (record : Option BuiltPage) → named p builds ≡ built record → is_claimed builds (p, record) ≡ true
+claim_tested : (builds : List (List ℕ)) (p : ℕ) (kept : Option BuiltPage) → named p builds ≡ built_count kept → is_claimed builds (p, kept) ≡ true
 claim_tested builds p None e = eq-eqb _ _ e
 claim_tested builds p (Some page) e = eq-eqb _ _ e
 
-no_claims : (builds : List (List ℕ)) (records : List (Option BuiltPage)) → ((p : ℕ) → p < length records → named p builds ≡ built (get_or records p None))
+no_claims : (builds : List (List ℕ)) (records : List (Option BuiltPage)) → ((p : ℕ) → p < length records → named p builds ≡ built_count (get_or records p None))
     → build_faults builds records ≡ []
 no_claims builds records claims =
-    none_items (λ place. unless (is_claimed builds place) (BuildUnclaimed place.0)) 0 records (λ p k record inside number is.
+    none_items (λ place. unless (is_claimed builds place) (BuildUnclaimed place.0)) 0 records (λ p k kept inside number is.
     let same : p ≡ k = omega (arith, number) in
-    let there : get_or records p None ≡ record = get_or_default records p None record inside ∙ sym is in
-    holds (is_claimed builds (k, record)) (BuildUnclaimed k)
-    (claim_tested builds k record (ap (λ (q : ℕ). named q builds) (sym same) ∙ claims p inside ∙ ap built there)))
+    let there : get_or records p None ≡ kept = get_or_default records p None kept inside ∙ sym is in
+    holds (is_claimed builds (k, kept)) (BuildUnclaimed k)
+    (claim_tested builds k kept (ap (λ (q : ℕ). named q builds) (sym same) ∙ claims p inside ∙ ap built_count there)))
 
 no_words : (right words : List ℕ) (p : ℕ) → words ≡ right → same_words right p words ≡ []
 no_words right words p same =
@@ -125,12 +125,12 @@ module _ (u : Setup) (journals : Journals) where
       let before = is_made_before all e.value e.stamp in
       ⊎_elim
       (λ (reference : e.kind ≡ Reference). ⊎_elim
-          (λ (null : e.value ≡ 0). left_holds _ before (left_holds _ _ (right_holds (not (is_kind Reference (Some e.kind))) (eqb e.value 0) (eq-eqb _ _ null))))
-          (λ start. ⊎_elim
-              (λ (place : IsPlace u.heap e.value). left_holds _ before (right_holds (not (is_kind Reference (Some e.kind)) || eqb e.value 0) _ (ap is_some place.1)))
-              (λ (made : IsMadeBefore u journals e.stamp e.value). right_holds _ before (older_found e.value e.stamp made))
-              start)
-          (leads reference))
+      (λ (null : e.value ≡ 0). left_holds _ before (left_holds _ _ (right_holds (not (is_kind Reference (Some e.kind))) (eqb e.value 0) (eq-eqb _ _ null))))
+      (λ start. ⊎_elim
+      (λ (place : IsPlace u.heap e.value). left_holds _ before (right_holds (not (is_kind Reference (Some e.kind)) || eqb e.value 0) _ (ap is_some place.1)))
+      (λ (made : IsMadeBefore u journals e.stamp e.value). right_holds _ before (older_found e.value e.stamp made))
+      start)
+      (leads reference))
       (λ (other : not (is_kind Reference (Some e.kind)) ≡ true). left_holds _ before (left_holds _ _ (left_holds _ (eqb e.value 0) other)))
       (reference_or_not e.kind)
 
@@ -139,12 +139,12 @@ module _ (u : Setup) (journals : Journals) where
   start_tested o a leads =
       ⊎_elim
       (λ (reference : is_kind Reference o ≡ true). ⊎_elim
-          (λ (null : a ≡ 0). left_holds _ (is_start u.heap all a) (right_holds (not (is_kind Reference o)) (eqb a 0) (eq-eqb _ _ null)))
-          (λ start. right_holds (not (is_kind Reference o) || eqb a 0) (is_start u.heap all a) (⊎_elim
-              (λ place. place_found a place)
-              (λ made. right_holds _ (list_any (makes a) all) (start_found a made))
-              start))
-          (leads (kind_means Reference o reference)))
+      (λ (null : a ≡ 0). left_holds _ (is_start u.heap all a) (right_holds (not (is_kind Reference o)) (eqb a 0) (eq-eqb _ _ null)))
+      (λ start. right_holds (not (is_kind Reference o) || eqb a 0) (is_start u.heap all a) (⊎_elim
+      (λ place. place_found a place)
+      (λ made. right_holds _ (list_any (makes a) all) (start_found a made))
+      start))
+      (leads (kind_means Reference o reference)))
       (λ (other : is_kind Reference o ≡ false). left_holds _ (is_start u.heap all a) (left_holds _ (eqb a 0) (ap not other)))
       (is_kind_or_not o)
 
@@ -181,8 +181,8 @@ module _ (u : Setup) (dump : Dumped) (lawful : IsLawfulDump u dump)
       let place : i ≡ k = omega (arith, number) in
       let few : k < 64 = omega (arith, long p page at, inside, number) in
       let value : get_or (replayed (base_of u p) (journals p)) k 0 ≡ x =
-          ap (λ (j : List Entry). get_or (replayed (base_of u p) j) k 0) same ∙ ap (λ (l : List ℕ). get_or l k 0) (sym (lawful.words p page at))
-          ∙ ap (λ (j : ℕ). get_or page.words j 0) (sym place) ∙ get_or_default page.words i 0 x inside ∙ sym is in
+      ap (λ (j : List Entry). get_or (replayed (base_of u p) j) k 0) same ∙ ap (λ (l : List ℕ). get_or l k 0) (sym (lawful.words p page at))
+      ∙ ap (λ (j : ℕ). get_or page.words j 0) (sym place) ∙ get_or_default page.words i 0 x inside ∙ sym is in
       start_tested u journals (kind_at u p page.journal k) x (λ reference.
       subst (LeadsToObject u journals) value (closed p k (record {
         inside = few;
@@ -238,14 +238,14 @@ lawful_is_yes heap dump stored lawful =
     let here : pages u ≡ length records = sym lawful.places in
     let all = entries_below (journals_in records) in
     let head : head_faults u dump.roots records ≡ [] =
-        both_pass (eqb (length records) (pages u)) (bytes_eq dump.roots right) WrongHead (eq-eqb _ _ lawful.places) ((bytes_eq-Decides dump.roots right).1 lawful.roots) in
+    both_pass (eqb (length records) (pages u)) (bytes_eq dump.roots right) WrongHead (eq-eqb _ _ lawful.places) ((bytes_eq-Decides dump.roots right).1 lawful.roots) in
     let builds : build_faults dump.builds records ≡ [] = no_claims dump.builds records (λ p lt. lawful.claims p (omega (arith, lt, lawful.places))) in
     let loose = ap (λ (n : ℕ). each_built (reference_faults (is_start heap (all n)) u) records) (sym here) ∙ no_loose u dump lawful long in
     let repeats = ap (λ (n : ℕ). repeat_faults (map stamp_of (all n))) (sym here) ∙ no_repeats u dump lawful long in
     let missing = ap (λ (n : ℕ). missing_faults (map stamp_of (all n))) (sym here) ∙ no_missing u dump lawful long in
     let late = ap (λ (n : ℕ). late_faults (is_led heap (is_made_before (all n))) records) (sym here) ∙ no_late u dump lawful long in
     let sum : dump.total ≡ live_words (live heap) + allocated (all (length records)) =
-        lawful.total ∙ ap (λ (n : ℕ). live_words (live heap) + n) (total_merged u (journals_in records) ∙ ap (λ (n : ℕ). allocated (all n)) here) in
+    lawful.total ∙ ap (λ (n : ℕ). live_words (live heap) + n) (total_merged u (journals_in records) ∙ ap (λ (n : ℕ). allocated (all n)) here) in
     let total : total_faults heap dump.total records ≡ [] = holds (eqb dump.total (live_words (live heap) + allocated (all (length records)))) WrongTotal (eq-eqb _ _ sum) in
     join _ _ head
     (join _ _ (join _ _ builds (join _ _ (no_entries u dump lawful long) (no_wrong_words u dump lawful long)))

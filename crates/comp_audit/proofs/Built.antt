@@ -23,8 +23,8 @@ built_inside records p page at =
     ]
 
 -- nothing is wrong with pages where nothing is with each
-none_of : (f : ℕ → BuiltPage → List AuditFault) (records : List (Option BuiltPage)) (p k : ℕ) (record : Option BuiltPage) → p < length records → k ≡ 0 + p
-    → record ≡ get_or records p record → ((q : ℕ) (page : BuiltPage) → get_or records q None ≡ Some page → f q page ≡ []) → of_built f (k, record) ≡ []
+none_of : (f : ℕ → BuiltPage → List AuditFault) (records : List (Option BuiltPage)) (p k : ℕ) (kept : Option BuiltPage) → p < length records → k ≡ 0 + p
+    → kept ≡ get_or records p kept → ((q : ℕ) (page : BuiltPage) → get_or records q None ≡ Some page → f q page ≡ []) → of_built f (k, kept) ≡ []
 none_of f records p k None inside number is none = refl
 none_of f records p k (Some page) inside number is none =
     let same : p ≡ k = omega (arith, number) in
@@ -32,18 +32,18 @@ none_of f records p k (Some page) inside number is none =
 
 pub none_built : (f : ℕ → BuiltPage → List AuditFault) (records : List (Option BuiltPage))
     → ((p : ℕ) (page : BuiltPage) → get_or records p None ≡ Some page → f p page ≡ []) → each_built f records ≡ []
-none_built f records none = none_items (of_built f) 0 records (λ p k record inside number is. none_of f records p k record inside number is none)
+none_built f records none = none_items (of_built f) 0 records (λ p k kept inside number is. none_of f records p k kept inside number is none)
 
 -- and the other way round
 pub built_none : (f : ℕ → BuiltPage → List AuditFault) (records : List (Option BuiltPage)) (p : ℕ) (page : BuiltPage)
     → each_built f records ≡ [] → get_or records p None ≡ Some page → f p page ≡ []
 built_none f records p page none at =
-    subst (λ (record : Option BuiltPage). of_built f (p, record) ≡ []) at
+    subst (λ (kept : Option BuiltPage). of_built f (p, kept) ≡ []) at
     (item_none (of_built f) 0 records p p None (built_inside records p page at) (omega arith) none)
 
 -- the journals are lawful, and their stamps rise
-lawful_by : (u : Setup) (records : List (Option BuiltPage)) (p : ℕ) (record : Option BuiltPage) → each_built (journal_faults u) records ≡ []
-    → get_or records p None ≡ record → IsLawful u p (journal_of record) × ((n : ℕ) × Rises 0 (journal_of record) n)
+lawful_by : (u : Setup) (records : List (Option BuiltPage)) (p : ℕ) (kept : Option BuiltPage) → each_built (journal_faults u) records ≡ []
+    → get_or records p None ≡ kept → IsLawful u p (journal_of kept) × ((n : ℕ) × Rises 0 (journal_of kept) n)
 lawful_by u records p None none at = (tt, (0, omega arith))
 lawful_by u records p (Some page) none at = (faultless_is_lawful u p page.journal).0 (built_none (journal_faults u) records p page none at)
 

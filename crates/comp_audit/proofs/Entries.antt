@@ -11,27 +11,27 @@ use Rattle.comp_audit.specs.Dumped.{BuiltPage}
 use Rattle.comp_audit.specs.Checks.{above, all_entries, all_stamps, journal_of, journals_in}
 
 -- one page more
-pub page_more : (records : List (Option BuiltPage)) (p : ℕ) (record : Option BuiltPage) → p < length records → record ≡ get_or records p record
-    → entries_below (journals_in records) (p + 1) ≡ entries_below (journals_in records) p ++ with_page p (journal_of record)
-page_more records p record inside is =
+pub page_more : (records : List (Option BuiltPage)) (p : ℕ) (kept : Option BuiltPage) → p < length records → kept ≡ get_or records p kept
+    → entries_below (journals_in records) (p + 1) ≡ entries_below (journals_in records) p ++ with_page p (journal_of kept)
+page_more records p kept inside is =
     let next : p + 1 ≡ suc p = omega arith in
-    let same : journal_of (get_or records p None) ≡ journal_of record = ap journal_of (get_or_default records p None record inside ∙ sym is) in
+    let same : journal_of (get_or records p None) ≡ journal_of kept = ap journal_of (get_or_default records p None kept inside ∙ sym is) in
     ap (entries_below (journals_in records)) next
     ∙ ap (λ (j : List Entry). entries_below (journals_in records) p ++ with_page p j) same
 
 -- one that was never built
-pub page_none : (records : List (Option BuiltPage)) (p : ℕ) (record : Option BuiltPage) → p < length records → record ≡ get_or records p record → record ≡ None
+pub page_none : (records : List (Option BuiltPage)) (p : ℕ) (kept : Option BuiltPage) → p < length records → kept ≡ get_or records p kept → kept ≡ None
     → entries_below (journals_in records) (p + 1) ≡ entries_below (journals_in records) p
-page_none records p record inside is none =
-    page_more records p record inside is
+page_none records p kept inside is none =
+    page_more records p kept inside is
     ∙ ap (λ (r : Option BuiltPage). entries_below (journals_in records) p ++ with_page p (journal_of r)) none
     ∙ append-nil (entries_below (journals_in records) p)
 
 -- one that was
-pub page_built : (records : List (Option BuiltPage)) (p : ℕ) (record : Option BuiltPage) (page : BuiltPage) → p < length records → record ≡ get_or records p record
-    → record ≡ Some page → entries_below (journals_in records) (p + 1) ≡ entries_below (journals_in records) p ++ with_page p page.journal
-page_built records p record page inside is there =
-    page_more records p record inside is
+pub page_built : (records : List (Option BuiltPage)) (p : ℕ) (kept : Option BuiltPage) (page : BuiltPage) → p < length records → kept ≡ get_or records p kept
+    → kept ≡ Some page → entries_below (journals_in records) (p + 1) ≡ entries_below (journals_in records) p ++ with_page p page.journal
+page_built records p kept page inside is there =
+    page_more records p kept inside is
     ∙ ap (λ (r : Option BuiltPage). entries_below (journals_in records) p ++ with_page p (journal_of r)) there
 
 -- one entry more of a page

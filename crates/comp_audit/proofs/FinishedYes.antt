@@ -19,7 +19,7 @@ use Rattle.comp_audit.specs.Dumped.{BuiltPage, Dumped, IsStored}
 use Rattle.comp_audit.specs.Lent.{record_of, built_of}
 use Rattle.comp_audit.specs.Checks.{setup_for, journal_of}
 use Rattle.comp_audit.specs.Judged.{faults}
-use Rattle.comp_audit.specs.Meant.{built, page_of, journals_of, IsLawfulDump, IsDumpOf, FinishedIsYes}
+use Rattle.comp_audit.specs.Meant.{built_count, page_of, journals_of, IsLawfulDump, IsDumpOf, FinishedIsYes}
 use Rattle.comp_audit.proofs.Telling.{are_forwarded}
 use Rattle.comp_audit.proofs.Accepting.{lawful_is_yes}
 
@@ -27,7 +27,7 @@ record_journal : (slot : Slot) → journal_of (record_of slot) ≡ journal_in sl
 record_journal None = refl
 record_journal (Some page) = refl
 
-record_built : (slot : Slot) → built (record_of slot) ≡ there slot
+record_built : (slot : Slot) → built_count (record_of slot) ≡ there slot
 record_built None = refl
 record_built (Some page) = refl
 
@@ -60,7 +60,7 @@ module _ (mutators fresh : ℕ) (f : Finished) (of : IsOfFlip mutators fresh f) 
   lawful = record {
     places = ap length is.pages ∙ length-map (pages_of f) record_of ∙ of.finished.pages.places;
     roots = is.roots ∙ are_forwarded (forward (live u.heap)) (finished.roots_of f) u.heap.roots of.finished.roots;
-    claims = λ p lt. ap (named p) is.builds ∙ of.finished.pages.once p ∙ sym (ap built (page_is p) ∙ record_built (page_at (pages_of f) p));
+    claims = λ p lt. ap (named p) is.builds ∙ of.finished.pages.once p ∙ sym (ap built_count (page_is p) ∙ record_built (page_at (pages_of f) p));
     words = λ p page at. record_words u p page (page_at (pages_of f) p) (of.finished.pages.bases p) (sym (page_is p) ∙ at);
     merges = subst (λ (j : ℕ → List Entry). CanMerge u j) (sym journals_are) of.finished.history.merges;
     total = is.total ∙ of.finished.balances.made ∙ ap (λ (j : ℕ → List Entry). live_words (live u.heap) + allocated (history u j)) (sym journals_are);

@@ -38,7 +38,7 @@ use Rattle.comp_audit.specs.declared.verdict.AuditFault.{AuditFault}
 use Rattle.comp_audit.specs.declared.verdict.AuditFault.TheVariants.{WrongHead, WrongWord, WrongTotal, BuildUnclaimed, BadEntry}
 use Rattle.comp_audit.specs.Checks.{setup_for, unless, all_entries, all_stamps, journal_of, journals_in, above, head_faults, is_claimed, build_faults, journal_faults, same_words, word_faults, each_built, is_kind, makes, is_place, is_made_before, is_led, late_on, late_with, late_faults, repeat_faults, missing_faults, total_faults}
 use Rattle.comp_audit.specs.Judged.{page_faults, history_faults, faults_for, faults}
-use Rattle.comp_audit.specs.Meant.{built, page_of, journals_of, IsLawfulDump, IsSound, YesIsSound}
+use Rattle.comp_audit.specs.Meant.{built_count, page_of, journals_of, IsLawfulDump, IsSound, YesIsSound}
 use Rattle.comp_audit.proofs.Telling.{none_both, unless_holds, item_none}
 use Rattle.comp_audit.proofs.Meanings.{and_true, kind_means}
 use Rattle.comp_audit.proofs.Built.{built_none, built_inside, lawful_records, rising_records}
@@ -54,12 +54,12 @@ head_means u roots records none =
     (eqb-true _ _ both.0, (bytes_eq-Decides roots right).0 both.1)
 
 -- who built the pages
-claim_by : (builds : List (List ℕ)) (p : ℕ) (record : Option BuiltPage) → is_claimed builds (p, record) ≡ true → named p builds ≡ built record
+claim_by : (builds : List (List ℕ)) (p : ℕ) (kept : Option BuiltPage) → is_claimed builds (p, kept) ≡ true → named p builds ≡ built_count kept
 claim_by builds p None h = eqb-true _ _ h
 claim_by builds p (Some page) h = eqb-true _ _ h
 
 claims_mean : (builds : List (List ℕ)) (records : List (Option BuiltPage)) → build_faults builds records ≡ [] → (p : ℕ) → p < length records
-    → named p builds ≡ built (get_or records p None)
+    → named p builds ≡ built_count (get_or records p None)
 claims_mean builds records none p lt =
     claim_by builds p (get_or records p None) (unless_holds (is_claimed builds (p, get_or records p None)) (BuildUnclaimed p)
     (item_none (λ place. unless (is_claimed builds place) (BuildUnclaimed place.0)) 0 records p p None lt (omega arith) none))
@@ -133,15 +133,15 @@ module _ (u : Setup) (journals : Journals) (lawful : AreLawful u journals) where
       let not_other : is_reference ≡ false = ap (λ (k : Kind). not (is_kind Reference (Some k))) reference in
       ⊎_elim
       (λ (front : ((is_reference || null) || place) ≡ true). ⊎_elim
-          (λ (first : (is_reference || null) ≡ true). inl (eqb-true _ _ (or_right is_reference null not_other first)))
-          (λ (second : place ≡ true). inr (inl (some_header (shape_at (live u.heap) e.value) second)))
-          (or_cases (is_reference || null) place front))
+      (λ (first : (is_reference || null) ≡ true). inl (eqb-true _ _ (or_right is_reference null not_other first)))
+      (λ (second : place ≡ true). inr (inl (some_header (shape_at (live u.heap) e.value) second)))
+      (or_cases (is_reference || null) place front))
       (λ (last : before ≡ true). inr (inr (made_means e.value e.stamp last)))
       (or_cases ((is_reference || null) || place) before h)
 
 -- each entry passes the test
-passes_by : (test : Entry → Bool) (records : List (Option BuiltPage)) (p i : ℕ) (e : Entry) (record : Option BuiltPage) → late_faults test records ≡ []
-    → get_or records p None ≡ record → get_elem? (journal_of record) i ≡ maybe.some e → test e ≡ true
+passes_by : (test : Entry → Bool) (records : List (Option BuiltPage)) (p i : ℕ) (e : Entry) (kept : Option BuiltPage) → late_faults test records ≡ []
+    → get_or records p None ≡ kept → get_elem? (journal_of kept) i ≡ maybe.some e → test e ≡ true
 passes_by test records p i e None none at there = absurd (some-ne-none e (sym there))
 passes_by test records p i e (Some page) none at there =
     let inside = built_inside records p page at in

@@ -22,9 +22,9 @@ abbrev pub FaultlessIsLawful : Type 0
 FaultlessIsLawful = (u : Setup) (p : ℕ) (journal : List Entry) → (entry_faults u p 0 0 [] journal ≡ []) ↔ (IsLawful u p journal × ((n : ℕ) × Rises 0 journal n))
 
 -- 1 where a page was built, and 0 where it never was
-abbrev pub built : Option BuiltPage → ℕ
-built None = 0
-built (Some page) = 1
+abbrev pub built_count : Option BuiltPage → ℕ
+built_count None = 0
+built_count (Some page) = 1
 
 -- page p, or None where there is no such page
 abbrev pub page_of : Dumped → ℕ → Option BuiltPage
@@ -41,7 +41,7 @@ pub record IsLawfulDump (u : Setup) (dump : Dumped) : Type 0 where
   -- the roots lead where the objects slid
   pub roots : dump.roots ≡ map (forwarded (live u.heap)) u.heap.roots
   -- a page that was built is named once in all lists of builds, and no other page is
-  pub claims : (p : ℕ) → p < pages u → named p dump.builds ≡ built (page_of dump p)
+  pub claims : (p : ℕ) → p < pages u → named p dump.builds ≡ built_count (page_of dump p)
   -- its words are what its journal makes of the words with which it began
   pub words : (p : ℕ) (page : BuiltPage) → page_of dump p ≡ Some page → page.words ≡ replayed (base_of u p) page.journal
   -- the journals can be merged

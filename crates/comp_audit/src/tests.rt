@@ -6,7 +6,7 @@ use heap_layout::heap::MarkedHeap;
 use page_plan::plan::Plan;
 use std::test::*;
 
-/// A heap of three objects, of which the first and the third are marked; a new object of one reference on the first fresh page, by an entry; and the
+/// A heap of three objects, of which the first and the third are marked; a new object of one word on the first fresh page, by an entry; and the
 /// third object's reference, which another entry made lead there.
 #[derive(Drop)]
 struct Left {
@@ -82,13 +82,11 @@ fn bytes_of<R: AllocGlobal>(rt: &R, left: &Left) -> Result<Vec<u8>, Fail> {
         &compacted,
         (left.reference_stamp, 1, 3, left.reference),
     )?;
-    let mut fresh = [0u64; 64];
-    fresh[0] = 1;
     add_page(
         rt,
         &mut bytes,
-        &fresh,
-        (left.header_stamp, 0, left.header_offset, 1),
+        &[0u64; 64],
+        (left.header_stamp, 0, left.header_offset, 0),
     )?;
     add(rt, &mut bytes, &[0])?;
     add(rt, &mut bytes, &left.build_count.to_le_bytes())?;
