@@ -133,7 +133,7 @@ first_repeat xs i positive inside sorted rises same =
       | inl early ↦ let h = apart i xs a b sorted rises less early (omega (arith, inside)) in omega (arith, h, p, q)
       | inr late ↦ let h = sorted i b late within in omega (arith, h, lt, q)
     ])))
-    (rw (lt-leb 1 (times v xs) (omega (arith, two))) refl)
+    (rw (lt-leb (times v xs) 1 (omega (arith, two))) refl)
 
 pub none_repeat : (xs : List ℕ) → Sorted xs → RisesBelow (length xs) xs → repeat_faults xs ≡ []
 none_repeat xs sorted rises =
