@@ -10,8 +10,9 @@ use Rattle.cell_steps.specs.Lawful.{IsLawful}
 use Rattle.page_cells.specs.Objects.{AreLawful}
 use Rattle.comp_audit.specs.Dumped.{BuiltPage}
 use Rattle.comp_audit.specs.declared.verdict.AuditFault.{AuditFault}
-use Rattle.comp_audit.specs.Checks.{of_built, each_built, journal_of, journals_in, journal_faults}
-use Rattle.comp_audit.proofs.Telling.{item_none, none_items}
+use Rattle.comp_audit.specs.Checks.{of_built, each_built, journal_of, journals_in, build_faults, journal_faults, word_faults}
+use Rattle.comp_audit.specs.Judged.{page_faults}
+use Rattle.comp_audit.proofs.Telling.{none_both, item_none, none_items}
 use Rattle.comp_audit.proofs.Meanings.{faultless_is_lawful}
 
 -- a page that was built has a place
@@ -53,3 +54,10 @@ lawful_records u records none = λ p. (lawful_by u records p (get_or records p N
 pub rising_records : (u : Setup) (records : List (Option BuiltPage)) → each_built (journal_faults u) records ≡ []
     → (p : ℕ) → (n : ℕ) × Rises 0 (journals_in records p) n
 rising_records u records none = λ p. (lawful_by u records p (get_or records p None) none refl).1
+
+-- so they are where nothing is wrong with single pages
+pub lawful_pages : (u : Setup) (builds : List (List ℕ)) (records : List (Option BuiltPage)) → page_faults u builds records ≡ [] → AreLawful u (journals_in records)
+lawful_pages u builds records none =
+    let behind = none_both (build_faults builds records) (each_built (journal_faults u) records ++ each_built (word_faults u) records) none in
+    let entries = none_both (each_built (journal_faults u) records) (each_built (word_faults u) records) behind.1 in
+    lawful_records u records entries.0

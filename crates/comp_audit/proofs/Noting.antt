@@ -1,11 +1,17 @@
 -- The starts of new objects, one header after the other.
-use Rattle.std.proofs.Common.{◌≡◌, ◌≢◌, ℕ, ◌+◌, ◌<◌, ◌≤◌, Bool, true, false, cond, eqb, ltb, ◌&&◌, ◌||◌, List, [], ◌∷◌, ◌++◌, length, Option, Some, None, is_some, refl, sym, ap, subst, ◌∙◌, inl, inr, arith}
+use Rattle.std.proofs.Common.{◌≡◌, ◌≢◌, ℕ, ◌+◌, ◌-◌, ◌*◌, ◌<◌, ◌≤◌, Bool, true, false, cond, eqb, ltb, ◌&&◌, ◌||◌, List, [], ◌∷◌, ◌++◌, length, get_or, set, All, Option, Some, None, is_some, refl, sym, ap, subst, ◌∙◌, inl, inr, arith}
 use Rattle.std.specs.List.{list_any}
-use Rattle.std.proofs.lemmas.Bool.{cases_eq, eq-eqb, ne_eqb}
+use Rattle.std.proofs.lemmas.Bool.{cases_lt, cases_eq, lt-ltb, le-ltb, eq-eqb, ne_eqb}
+use Rattle.std.proofs.lemmas.List.{get_or-set_same, get_or-set_other}
 use Rattle.std.proofs.lemmas.List.Folds.{list_any-append}
 use Rattle.heap_layout.specs.declared.kind.Kind.{Kind}
 use Rattle.heap_layout.specs.declared.kind.Kind.TheVariants.{Header, Reference, Data}
 use Rattle.comp_journal.specs.declared.entry.Entry.{Entry}
+use Rattle.page_plan.specs.Sliding.{to_address}
+use Rattle.cell_steps.specs.Setup.{Setup, pages, address}
+use Rattle.cell_steps.specs.Lawful.{IsLawful}
+use Rattle.cell_steps.proofs.Sums.{there_at, read_at}
+use Rattle.page_cells.proofs.Heads.{all_made}
 use Rattle.comp_history.specs.Merged.{stamp_of}
 use Rattle.comp_history.specs.OneThread.{address_of}
 use Rattle.comp_audit.specs.Checks.{is_kind, makes, is_made_before}
@@ -76,3 +82,50 @@ notes_header old new all x head some older elsewhere notes =
             ∙ sym (any_less (older_test a n) all x (rw (makes_other x a ne) refl))
       ];
     }
+
+-- the lesser of two stamps is below what one of them is below
+pub kept_below : (other stamp n : ℕ) → other ≤ stamp → ltb other n ≡ (ltb other n || ltb stamp n)
+kept_below other stamp n le =
+    elim (cases_lt other n) [
+      | inl lt ↦ rw (lt-ltb other n lt) refl
+      | inr ge ↦ rw (le-ltb other n ge, le-ltb stamp n (omega (arith, le, ge))) refl
+    ]
+
+pub less_below : (other stamp n : ℕ) → stamp < other → ltb stamp n ≡ (ltb other n || ltb stamp n)
+less_below other stamp n less =
+    elim (cases_lt stamp n) [
+      | inl lt ↦ rw (lt-ltb stamp n lt) (sym (or_true (ltb other n)))
+      | inr ge ↦ rw (le-ltb stamp n ge, le-ltb other n (omega (arith, less, ge))) refl
+    ]
+
+-- what is noted at an address, and what stays elsewhere
+pub noted_here : (first : ℕ) (stamps : List (Option ℕ)) (a least : ℕ) → first ≤ a → a < first + length stamps
+    → stamp_at (record { first = first; stamps = set stamps (a - first) (Some least) }) a ≡ Some least
+noted_here first stamps a least le lt = rw (le-ltb a first le) (get_or-set_same stamps (a - first) (Some least) None (omega (arith, le, lt)))
+
+pub noted_elsewhere : (first : ℕ) (stamps : List (Option ℕ)) (b : ℕ) (least : Option ℕ) (a : ℕ) → first ≤ b → a ≢ b
+    → stamp_at (record { first = first; stamps = set stamps (b - first) least }) a ≡ stamp_at (record { first = first; stamps = stamps }) a
+noted_elsewhere first stamps b least a le ne =
+    elim (cases_lt a first) [
+      | inl lt ↦ rw (lt-ltb a first lt) refl
+      | inr ge ↦
+          let other : a - first ≢ b - first = λ e. ne (omega (arith, e, ge, le)) in
+          ap (λ (o : Option ℕ). cond (ltb a first) None o) (get_or-set_other stamps (b - first) (a - first) least None other)
+    ]
+
+-- none so far
+pub notes_none : (starts : Stamped) → ((a : ℕ) → stamp_at starts a ≡ None) → Notes starts []
+notes_none starts none = record {
+  some = λ a. ap is_some (none a);
+  older = λ a n. ap (λ (o : Option ℕ). is_below o n) (none a);
+}
+
+-- the headers of a lawful journal stand on the words of the fresh pages
+pub headers_covered : (u : Setup) (p : ℕ) (journal : List Entry) (first count : ℕ) → IsLawful u p journal → p < pages u → first ≡ to_address (64 * u.compacted)
+    → count ≡ 64 * u.fresh → All (λ (e : Entry). e.kind ≡ Header → (first ≤ address p e.offset) × (address p e.offset < first + count)) journal
+headers_covered u p journal first count lawful inside begins long = λ k d lt head.
+    let there = there_at journal k lt in
+    let same : get_or journal k d ≡ there.0 = read_at journal k there.0 d there.1 in
+    let made = all_made u p journal [] k there.0 lawful there.1 (ap (λ (e : Entry). e.kind) (sym same) ∙ head) in
+    let offset : (get_or journal k d).offset ≡ there.0.offset = ap (λ (e : Entry). e.offset) same in
+    (omega (arith, made.fresh, begins), omega (arith, made.ends, inside, begins, long, offset))

@@ -91,6 +91,14 @@ none_items f n (x ∷ xs) each =
     ap (λ (front : List AuditFault). front ++ flat_map f (enumerate_from (n + 1) xs)) (each 0 n x (omega arith) (omega arith) refl)
     ∙ none_items f (n + 1) xs (λ i k y inside is at. each (suc i) k y (omega (arith, inside)) (omega (arith, is)) at)
 
+-- two tests that are alike up to the length of a list find the same faults in it
+pub same_items : {X : Type 0} (f g : ℕ × X → List AuditFault) (n : ℕ) (xs : List X) → ((k : ℕ) (x : X) → k < n + length xs → f (k, x) ≡ g (k, x))
+    → flat_map f (enumerate_from n xs) ≡ flat_map g (enumerate_from n xs)
+same_items f g n [] same = refl
+same_items f g n (x ∷ xs) same =
+    ap (λ (front : List AuditFault). front ++ flat_map f (enumerate_from (n + 1) xs)) (same n x (omega arith))
+    ∙ ap (λ (rest : List AuditFault). g (n, x) ++ rest) (same_items f g (n + 1) xs (λ k y lt. same k y (omega (arith, lt))))
+
 -- one item more has its number
 enumerate_more : {X : Type 0} (n : ℕ) (xs : List X) (x : X) → enumerate_from n (xs ++ x ∷ []) ≡ enumerate_from n xs ++ (n + length xs, x) ∷ []
 enumerate_more {X = X} n [] x = let here : n ≡ n + 0 = omega arith in ap (λ (k : ℕ). (k, x) ∷ []) here
