@@ -22,8 +22,8 @@ pub fn check_builds(
     ensures { Tells (build_faults (items_of builds.now) records.now) result }
 {
     let counts = count_builds(alloc, records.len(), builds)?;
-    for (p, record) in records.iter().enumerate() {
-        if !is_claimed(counts[p], record) {
+    for (p, place) in records.iter().enumerate() {
+        if !is_claimed(counts[p], place) {
             return Err(Stop::Fault(AuditFault::BuildUnclaimed(p as u64)));
         }
     }
@@ -31,10 +31,10 @@ pub fn check_builds(
 }
 
 /// Whether a page that stands so often in the lists of builds, up to 2, is built just where it stands there once, and else never.
-fn is_claimed(count: u8, record: &Option<DumpedPage<'_>>) -> bool
-    ensures { (builds : List (List ℕ)) (p : ℕ) → count ≡ min (named p builds) 2 → result ≡ is_claimed builds (p, record.now) }
+fn is_claimed(count: u8, place: &Option<DumpedPage<'_>>) -> bool
+    ensures { (builds : List (List ℕ)) (p : ℕ) → count ≡ min (named p builds) 2 → result ≡ is_claimed builds (p, place.now) }
 {
-    match record {
+    match place {
         None => count == 0,
         Some(_) => count == 1,
     }

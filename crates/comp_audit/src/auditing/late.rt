@@ -40,8 +40,8 @@ fn earliest(plan: &Plan, starts: &Starts, records: &[Option<DumpedPage<'_>>]) ->
     ensures { IsEarliest (late_with (is_led plan.now (is_noted_before starts.now)) records.now) result }
 {
     let mut found = None;
-    for (p, record) in records.iter().enumerate() {
-        if let Some(page) = record {
+    for (p, place) in records.iter().enumerate() {
+        if let Some(page) = place {
             found = earliest_on(plan, starts, p as u64, page.journal(), found);
         }
     }

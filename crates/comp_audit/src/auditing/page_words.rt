@@ -26,8 +26,8 @@ pub fn check_words(
     requires pages { All (IsStoredRecord setting.mutators) records.now }
     ensures { Tells (each_built (word_faults (setup_at setting.entry)) records.now) result }
 {
-    for (p, record) in records.iter().enumerate() {
-        if let Some(page) = record {
+    for (p, place) in records.iter().enumerate() {
+        if let Some(page) = place {
             check_page(alloc, setting, p as u64, page)?;
         }
     }

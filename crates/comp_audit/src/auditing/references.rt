@@ -32,8 +32,8 @@ pub fn check_references(
     requires lawful { AreLawful (setup_at setting) (journals_in records.now) }
     ensures { Tells (each_built (reference_faults (leads setting.entry.plan.now starts.now) (setup_at setting.entry)) records.now) result }
 {
-    for (p, record) in records.iter().enumerate() {
-        if let Some(page) = record {
+    for (p, place) in records.iter().enumerate() {
+        if let Some(page) = place {
             check_page(alloc, setting, starts, p as u64, page)?;
         }
     }

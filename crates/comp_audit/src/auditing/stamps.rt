@@ -22,8 +22,8 @@ fn gather_stamps(alloc: Global, records: &[Option<DumpedPage<'_>>]) -> Result<Ve
     ensures { IfOk result (λ stamps. stamps.items ≡ all_stamps records.now) }
 {
     let mut stamps = Vec::new(alloc);
-    for record in records {
-        if let Some(page) = record {
+    for place in records {
+        if let Some(page) = place {
             add_stamps(&mut stamps, page.journal())?;
         }
     }

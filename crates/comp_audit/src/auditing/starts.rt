@@ -104,8 +104,8 @@ pub fn starts_of(
 {
     let first = TO_SPACE + 64 * setting.plan.pages();
     let mut starts = Starts::new(alloc, first, 64 * setting.fresh as usize)?;
-    for (p, record) in records.iter().enumerate() {
-        if let Some(page) = record {
+    for (p, place) in records.iter().enumerate() {
+        if let Some(page) = place {
             note_page(&mut starts, p as u64, page.journal());
         }
     }

@@ -34,8 +34,8 @@ fn all_words(records: &[Option<DumpedPage<'_>>]) -> u64
     ensures few { result ≤ 2 ^ 42 }
 {
     let mut words = 0;
-    for record in records {
-        if let Some(page) = record {
+    for place in records {
+        if let Some(page) = place {
             words += words_on(page.journal());
         }
     }
