@@ -3,13 +3,14 @@ use Rattle.std.proofs.Common.{◌≡◌, ◌≢◌, ℕ, ◌+◌, ◌<◌, ◌�
 use Rattle.std.specs.List.{flat_map, enumerate_from, range_with_len}
 use Rattle.std.proofs.Math.Path.{fun_ext}
 use Rattle.std.proofs.lemmas.Bool.{cases_lt, eq-eqb, ne_eqb}
+use Rattle.std.proofs.lemmas.List.{take_all}
 use Rattle.comp_journal.specs.declared.entry.Entry.{Entry}
 use Rattle.comp_history.proofs.Sorted.{In}
 use Rattle.comp_audit.specs.Dumped.{BuiltPage}
 use Rattle.comp_audit.specs.declared.verdict.AuditFault.{AuditFault}
 use Rattle.comp_audit.specs.declared.verdict.AuditFault.TheVariants.{BadEntry}
 use Rattle.comp_audit.specs.declared.auditing.late.Late.{Late}
-use Rattle.comp_audit.specs.Checks.{unless, above, all_stamps, late_on, late_with, late_faults}
+use Rattle.comp_audit.specs.Checks.{unless, above, all_stamps, of_built, late_on, late_with, late_faults}
 use Rattle.comp_audit.specs.Judged.{IsFirst}
 use Rattle.comp_audit.specs.Noted.{IsEarliestOf, IsEarliest}
 use Rattle.comp_audit.proofs.Telling.{first_part, faults_more}
@@ -125,3 +126,39 @@ earliest_first test records late is =
 
 pub none_late : (test : Entry → Bool) (records : List (Option BuiltPage)) → IsEarliest (late_with test records) None → late_faults test records ≡ []
 none_late test records none = none_in_range (late_with test records) 0 (above (all_stamps records)) (λ s ge lt. none s)
+
+-- of the pages up to page p
+abbrev pub pages_late : (Entry → Bool) → List (Option BuiltPage) → ℕ → ℕ → List AuditFault
+pages_late test records p s = flat_map (of_built (λ q page. late_on test s q page.journal)) (enumerate_from 0 (take p records))
+
+-- one page more
+module _ (test : Entry → Bool) (records : List (Option BuiltPage)) (p : ℕ) (kept : Option BuiltPage) (inside : p < length records) (is : kept ≡ get_or records p kept) where
+  page_more : (s : ℕ) → pages_late test records (p + 1) s ≡ pages_late test records p s ++ of_built (λ q page. late_on test s q page.journal) (p, kept)
+  page_more s = faults_more (of_built (λ q page. late_on test s q page.journal)) p records kept inside is
+
+  pub late_unbuilt : (found : Option Late) → kept ≡ None → IsEarliest (pages_late test records p) found → IsEarliest (pages_late test records (p + 1)) found
+  late_unbuilt found none = same_earliest (pages_late test records p) (pages_late test records (p + 1)) found (λ s.
+      sym (page_more s
+      ∙ ap (λ (k : Option BuiltPage). pages_late test records p s ++ of_built (λ q page. late_on test s q page.journal) (p, k)) none
+      ∙ append-nil (pages_late test records p s)))
+
+  pub late_built : (found : Option Late) (page : BuiltPage) → kept ≡ Some page → IsEarliest (λ s. pages_late test records p s ++ late_on test s p page.journal) found
+      → IsEarliest (pages_late test records (p + 1)) found
+  late_built found page there = same_earliest (λ s. pages_late test records p s ++ late_on test s p page.journal) (pages_late test records (p + 1)) found (λ s.
+      sym (page_more s ∙ ap (λ (k : Option BuiltPage). pages_late test records p s ++ of_built (λ q page. late_on test s q page.journal) (p, k)) there))
+
+-- all pages
+pub late_pages : (test : Entry → Bool) (records : List (Option BuiltPage)) (p : ℕ) (found : Option Late) → length records ≤ p → IsEarliest (pages_late test records p) found
+    → IsEarliest (late_with test records) found
+late_pages test records p found le = same_earliest (pages_late test records p) (late_with test records) found (λ s.
+    ap (λ (l : List (Option BuiltPage)). flat_map (of_built (λ q page. late_on test s q page.journal)) (enumerate_from 0 l)) (take_all p records le))
+
+-- no entry of a page yet, and all of them
+pub late_begun : (test : Entry → Bool) (faults : ℕ → List AuditFault) (p : ℕ) (j : List Entry) (found : Option Late) → IsEarliest faults found
+    → IsEarliest (λ s. faults s ++ front_late test p j 0 s) found
+late_begun test faults p j found = same_earliest faults (λ s. faults s ++ front_late test p j 0 s) found (λ s. sym (append-nil (faults s)))
+
+pub late_done : (test : Entry → Bool) (faults : ℕ → List AuditFault) (p : ℕ) (j : List Entry) (i : ℕ) (found : Option Late) → length j ≤ i
+    → IsEarliest (λ s. faults s ++ front_late test p j i s) found → IsEarliest (λ s. faults s ++ late_on test s p j) found
+late_done test faults p j i found le = same_earliest (λ s. faults s ++ front_late test p j i s) (λ s. faults s ++ late_on test s p j) found (λ s.
+    ap (λ (l : List Entry). faults s ++ flat_map (λ entry. one_late test p entry s) (enumerate_from 0 l)) (take_all i j le))
