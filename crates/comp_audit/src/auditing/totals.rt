@@ -1,7 +1,7 @@
 //! The ninth check: the total is that of the words that slid and of all objects that were made.
 ghost use Rattle.std.specs.Prelude.{◌≡◌, ◌^◌, ◌<◌, ◌≤◌, All, length};
 ghost use Rattle.comp_journal.specs.declared.entry.Entry.{Entry};
-ghost use Rattle.cell_steps.specs.Lists.{total};
+ghost use Rattle.cell_steps.specs.Lists.{total as added};
 ghost use Rattle.comp_history.specs.Shares.{allocated, words_by};
 ghost use Rattle.comp_audit.specs.Checks.{all_entries, total_faults};
 ghost use Rattle.comp_audit.specs.Dumped.{HasFewEntries};
@@ -45,7 +45,7 @@ fn all_words(records: &[Option<DumpedPage<'_>>]) -> u64
 /// How many words the objects have that a page's entries make.
 fn words_on(journal: &[Entry]) -> u64
     requires { length journal.now ≤ 1024 }
-    ensures words { result ≡ total (λ (e : Entry). words_by e.kind e.value) journal.now }
+    ensures words { result ≡ added (λ (e : Entry). words_by e.kind e.value) journal.now }
     ensures few { result ≤ 2 ^ 27 }
 {
     let mut words = 0;
