@@ -23,19 +23,26 @@ abbrev pub at_stamp : Late → ℕ → List AuditFault
 at_stamp late s = unless (not (eqb late.stamp s)) (BadEntry late.page late.number)
 
 at_own : (late : Late) → at_stamp late late.stamp ≡ BadEntry late.page late.number ∷ []
-at_own late = rw (eq-eqb late.stamp late.stamp refl) refl
+at_own late = ap (λ (b : Bool). unless (not b) (BadEntry late.page late.number)) (eq-eqb late.stamp late.stamp refl)
 
 at_other : (late : Late) (s : ℕ) → late.stamp ≢ s → at_stamp late s ≡ []
-at_other late s ne = rw (ne_eqb late.stamp s ne) refl
+at_other late s ne = ap (λ (b : Bool). unless (not b) (BadEntry late.page late.number)) (ne_eqb late.stamp s ne)
 
 both_none : (one others : List AuditFault) → one ≡ [] → others ≡ [] → one ++ others ≡ []
 both_none one others p q = rw (p, q) refl
+
+-- where there is no other fault it is the first
+only_here : (front : List AuditFault) (late : Late) → front ≡ [] → IsFirst (front ++ at_stamp late late.stamp) (BadEntry late.page late.number)
+only_here front late none =
+    let parts : front ++ at_stamp late late.stamp ≡ BadEntry late.page late.number ∷ [] =
+    ap (λ (l : List AuditFault). l ++ at_stamp late late.stamp) none ∙ at_own late in
+    subst (λ (l : List AuditFault). IsFirst l (BadEntry late.page late.number)) (sym parts) refl
 
 -- none is found yet
 pub first_found : (faults : ℕ → List AuditFault) (late : Late) → IsEarliest faults None → IsEarliest (λ s. faults s ++ at_stamp late s) (Some late)
 first_found faults late none = record {
   before = λ s lt. both_none (faults s) (at_stamp late s) (none s) (at_other late s (λ e. omega (arith, lt, e)));
-  here = subst (λ (l : List AuditFault). IsFirst l (BadEntry late.page late.number)) (sym (rw (none late.stamp, at_own late) refl)) refl;
+  here = only_here (faults late.stamp) late (none late.stamp);
 }
 
 -- one that was found is no later
@@ -51,7 +58,7 @@ pub found_later : (faults : ℕ → List AuditFault) (found late : Late) → lat
     → IsEarliest (λ s. faults s ++ at_stamp late s) (Some late)
 found_later faults found late less is = record {
   before = λ s lt. both_none (faults s) (at_stamp late s) (is.before s (omega (arith, lt, less))) (at_other late s (λ e. omega (arith, lt, e)));
-  here = subst (λ (l : List AuditFault). IsFirst l (BadEntry late.page late.number)) (sym (rw (is.before late.stamp less, at_own late) refl)) refl;
+  here = only_here (faults late.stamp) late (is.before late.stamp less);
 }
 
 -- what has the same faults

@@ -16,7 +16,7 @@ use Rattle.comp_history.specs.Merged.{stamp_of}
 use Rattle.comp_history.specs.OneThread.{address_of}
 use Rattle.comp_audit.specs.Checks.{is_kind, makes, is_made_before}
 use Rattle.comp_audit.specs.Noted.{Stamped, stamp_at, is_below, is_noted_before, Notes}
-use Rattle.comp_audit.proofs.Meanings.{kind_tested}
+use Rattle.comp_audit.proofs.Meanings.{true_and, kind_tested}
 
 kind_other : (k : Kind) → k ≢ Header → is_kind Header (Some k) ≡ false
 kind_other Header ne = absurd (ne refl)
@@ -25,7 +25,9 @@ kind_other Data ne = refl
 
 -- a header is written at its own address
 pub makes_here : (x : ℕ × Entry) → x.1.kind ≡ Header → makes (address_of x) x ≡ true
-makes_here x head = rw (kind_tested Header (Some x.1.kind) (ap (λ (k : Kind). Some k) head), eq-eqb (address_of x) (address_of x) refl) refl
+makes_here x head =
+    true_and (is_kind Header (Some x.1.kind)) (eqb (address_of x) (address_of x)) (kind_tested Header (Some x.1.kind) (ap (λ (k : Kind). Some k) head))
+    (eq-eqb (address_of x) (address_of x) refl)
 
 -- and nowhere else
 and_false : (a b : Bool) → b ≡ false → (a && b) ≡ false
@@ -37,7 +39,7 @@ makes_other x a ne = and_false (is_kind Header (Some x.1.kind)) (eqb (address_of
 
 -- other entries write none
 makes_none : (x : ℕ × Entry) (a : ℕ) → x.1.kind ≢ Header → makes a x ≡ false
-makes_none x a ne = rw (kind_other x.1.kind ne) refl
+makes_none x a ne = ap (λ (b : Bool). b && eqb (address_of x) a) (kind_other x.1.kind ne)
 
 or_false : (b : Bool) → (b || false) ≡ b
 or_false true = refl
@@ -59,7 +61,7 @@ any_less test all x e = any_more test all x false e ∙ or_false (list_any test 
 pub notes_other : (starts : Stamped) (all : List (ℕ × Entry)) (x : ℕ × Entry) → x.1.kind ≢ Header → Notes starts all → Notes starts (all ++ x ∷ [])
 notes_other starts all x ne notes = record {
   some = λ a. notes.some a ∙ sym (any_less (makes a) all x (makes_none x a ne));
-  older = λ a n. notes.older a n ∙ sym (any_less (λ (y : ℕ × Entry). makes a y && ltb (stamp_of y) n) all x (rw (makes_none x a ne) refl));
+  older = λ a n. notes.older a n ∙ sym (any_less (λ (y : ℕ × Entry). makes a y && ltb (stamp_of y) n) all x (ap (λ (b : Bool). b && ltb (stamp_of x) n) (makes_none x a ne)));
 }
 
 -- a header that was noted
@@ -77,9 +79,9 @@ notes_header old new all x head some older elsewhere notes =
       older = λ a n. elim (cases_eq a (address_of x)) [
         | inl e ↦ subst (λ (b : ℕ). is_noted_before new b n ≡ is_made_before (all ++ x ∷ []) b n) (sym e)
             (older n ∙ ap (λ (b : Bool). b || ltb (stamp_of x) n) (notes.older (address_of x) n)
-            ∙ sym (any_more (older_test (address_of x) n) all x (ltb (stamp_of x) n) (rw (makes_here x head) refl)))
+            ∙ sym (any_more (older_test (address_of x) n) all x (ltb (stamp_of x) n) (ap (λ (b : Bool). b && ltb (stamp_of x) n) (makes_here x head))))
         | inr ne ↦ ap (λ (o : Option ℕ). is_below o n) (elsewhere a ne) ∙ notes.older a n
-            ∙ sym (any_less (older_test a n) all x (rw (makes_other x a ne) refl))
+            ∙ sym (any_less (older_test a n) all x (ap (λ (b : Bool). b && ltb (stamp_of x) n) (makes_other x a ne)))
       ];
     }
 
