@@ -10,7 +10,7 @@ use Rattle.comp_audit.specs.Dumped.{BuiltPage}
 use Rattle.comp_audit.specs.declared.verdict.AuditFault.{AuditFault}
 use Rattle.comp_audit.specs.declared.verdict.AuditFault.TheVariants.{BadEntry}
 use Rattle.comp_audit.specs.declared.auditing.late.Late.{Late}
-use Rattle.comp_audit.specs.Checks.{unless, above, all_stamps, of_built, late_on, late_with, late_faults}
+use Rattle.comp_audit.specs.Checks.{unless, above, all_stamps, journal_of, of_built, late_on, late_with, late_faults}
 use Rattle.comp_audit.specs.Judged.{IsFirst}
 use Rattle.comp_audit.specs.Noted.{IsEarliestOf, IsEarliest}
 use Rattle.comp_audit.proofs.Telling.{first_part, faults_more}
@@ -143,16 +143,17 @@ module _ (test : Entry → Bool) (records : List (Option BuiltPage)) (p : ℕ) (
   page_more : (s : ℕ) → pages_late test records (p + 1) s ≡ pages_late test records p s ++ of_built (λ q page. late_on test s q page.journal) (p, kept)
   page_more s = faults_more (of_built (λ q page. late_on test s q page.journal)) p records kept inside is
 
-  pub late_unbuilt : (found : Option Late) → kept ≡ None → IsEarliest (pages_late test records p) found → IsEarliest (pages_late test records (p + 1)) found
-  late_unbuilt found none = same_earliest (pages_late test records p) (pages_late test records (p + 1)) found (λ s.
-      sym (page_more s
-      ∙ ap (λ (k : Option BuiltPage). pages_late test records p s ++ of_built (λ q page. late_on test s q page.journal) (p, k)) none
-      ∙ append-nil (pages_late test records p s)))
+  late_at : (s : ℕ) (k : Option BuiltPage) → of_built (λ q page. late_on test s q page.journal) (p, k) ≡ late_on test s p (journal_of k)
+  late_at s None = refl
+  late_at s (Some page) = refl
 
-  pub late_built : (found : Option Late) (page : BuiltPage) → kept ≡ Some page → IsEarliest (λ s. pages_late test records p s ++ late_on test s p page.journal) found
-      → IsEarliest (pages_late test records (p + 1)) found
-  late_built found page there = same_earliest (λ s. pages_late test records p s ++ late_on test s p page.journal) (pages_late test records (p + 1)) found (λ s.
-      sym (page_more s ∙ ap (λ (k : Option BuiltPage). pages_late test records p s ++ of_built (λ q page. late_on test s q page.journal) (p, k)) there))
+  pub late_next : (found next : Option Late) (j : List Entry) → j ≡ journal_of kept → IsEarliest (pages_late test records p) found
+      → ((faults : ℕ → List AuditFault) → IsEarliest faults found → IsEarliest (λ s. faults s ++ late_on test s p j) next) → IsEarliest (pages_late test records (p + 1)) next
+  late_next found next j same before more =
+      same_earliest (λ s. pages_late test records p s ++ late_on test s p j) (pages_late test records (p + 1)) next (λ s.
+      ap (λ (l : List Entry). pages_late test records p s ++ late_on test s p l) same
+      ∙ ap (λ (l : List AuditFault). pages_late test records p s ++ l) (sym (late_at s kept))
+      ∙ sym (page_more s)) (more (pages_late test records p) before)
 
 -- all pages
 pub late_pages : (test : Entry → Bool) (records : List (Option BuiltPage)) (p : ℕ) (found : Option Late) → length records ≤ p → IsEarliest (pages_late test records p) found

@@ -19,21 +19,6 @@ page_more records p kept inside is =
     ap (entries_below (journals_in records)) next
     ∙ ap (λ (j : List Entry). entries_below (journals_in records) p ++ with_page p j) same
 
--- one that was never built
-pub page_none : (records : List (Option BuiltPage)) (p : ℕ) (kept : Option BuiltPage) → p < length records → kept ≡ get_or records p kept → kept ≡ None
-    → entries_below (journals_in records) (p + 1) ≡ entries_below (journals_in records) p
-page_none records p kept inside is none =
-    page_more records p kept inside is
-    ∙ ap (λ (r : Option BuiltPage). entries_below (journals_in records) p ++ with_page p (journal_of r)) none
-    ∙ append-nil (entries_below (journals_in records) p)
-
--- one that was
-pub page_built : (records : List (Option BuiltPage)) (p : ℕ) (kept : Option BuiltPage) (page : BuiltPage) → p < length records → kept ≡ get_or records p kept
-    → kept ≡ Some page → entries_below (journals_in records) (p + 1) ≡ entries_below (journals_in records) p ++ with_page p page.journal
-page_built records p kept page inside is there =
-    page_more records p kept inside is
-    ∙ ap (λ (r : Option BuiltPage). entries_below (journals_in records) p ++ with_page p (journal_of r)) there
-
 -- one entry more of a page
 pub entry_more : (p : ℕ) (j : List Entry) (i : ℕ) (e : Entry) → i < length j → e ≡ get_or j i e → with_page p (take (i + 1) j) ≡ with_page p (take i j) ++ (p, e) ∷ []
 entry_more p j i e inside is =
@@ -48,6 +33,17 @@ stamps_with p (e ∷ es) = ap (λ (rest : List ℕ). e.stamp ∷ rest) (stamps_w
 pub stamps_more : (all : List (ℕ × Entry)) (p : ℕ) (j : List Entry) → map stamp_of (all ++ with_page p j) ≡ map stamp_of all ++ map (λ (e : Entry). e.stamp) j
 stamps_more all p j = map-append stamp_of all (with_page p j) ∙ ap (λ (rest : List ℕ). map stamp_of all ++ rest) (stamps_with p j)
 
+-- the stamps and the words of one page more
+pub stamps_next : (records : List (Option BuiltPage)) (p : ℕ) (kept : Option BuiltPage) (j : List Entry) (old new : List ℕ) → p < length records → kept ≡ get_or records p kept
+    → j ≡ journal_of kept → old ≡ map stamp_of (entries_below (journals_in records) p) → new ≡ old ++ map (λ (e : Entry). e.stamp) j
+    → new ≡ map stamp_of (entries_below (journals_in records) (p + 1))
+stamps_next records p kept j old new inside is same before more =
+    more
+    ∙ ap (λ (l : List ℕ). l ++ map (λ (e : Entry). e.stamp) j) before
+    ∙ sym (stamps_more (entries_below (journals_in records) p) p j)
+    ∙ ap (λ (l : List Entry). map stamp_of (entries_below (journals_in records) p ++ with_page p l)) same
+    ∙ ap (map stamp_of) (sym (page_more records p kept inside is))
+
 -- the words of the objects that a page's entries make
 words_with : (p : ℕ) (j : List Entry) → allocated (with_page p j) ≡ total (λ (e : Entry). words_by e.kind e.value) j
 words_with p [] = refl
@@ -58,6 +54,16 @@ words_more all p j =
     let parts = total_append (λ (x : ℕ × Entry). words_by x.1.kind x.1.value) all (with_page p j) in
     let here = words_with p j in
     omega (arith, parts, here)
+
+pub words_next : (records : List (Option BuiltPage)) (p : ℕ) (kept : Option BuiltPage) (j : List Entry) (old new : ℕ) → p < length records → kept ≡ get_or records p kept
+    → j ≡ journal_of kept → old ≡ allocated (entries_below (journals_in records) p) → new ≡ old + total (λ (e : Entry). words_by e.kind e.value) j
+    → new ≡ allocated (entries_below (journals_in records) (p + 1))
+words_next records p kept j old new inside is same before more =
+    more
+    ∙ ap (λ (n : ℕ). n + total (λ (e : Entry). words_by e.kind e.value) j) before
+    ∙ sym (words_more (entries_below (journals_in records) p) p j)
+    ∙ ap (λ (l : List Entry). allocated (entries_below (journals_in records) p ++ with_page p l)) same
+    ∙ ap allocated (sym (page_more records p kept inside is))
 
 -- the stamp of an entry that stands in a list is below what is above all of the list's stamps
 in_below_all : (all : List (ℕ × Entry)) (x : ℕ × Entry) → In x all → stamp_of x < above (map stamp_of all)

@@ -1,5 +1,5 @@
 -- The starts of new objects, one header after the other.
-use Rattle.std.proofs.Common.{◌≡◌, ◌≢◌, ℕ, ◌+◌, ◌-◌, ◌*◌, ◌<◌, ◌≤◌, Bool, true, false, cond, eqb, ltb, ◌&&◌, ◌||◌, List, [], ◌∷◌, ◌++◌, length, get_or, set, All, Option, Some, None, is_some, refl, sym, ap, subst, ◌∙◌, inl, inr, arith}
+use Rattle.std.proofs.Common.{◌≡◌, ◌≢◌, ℕ, ◌+◌, ◌-◌, ◌*◌, ◌<◌, ◌≤◌, Bool, true, false, cond, eqb, ltb, ◌&&◌, ◌||◌, List, [], ◌∷◌, ◌++◌, length, take, get_or, set, All, Option, Some, None, is_some, refl, sym, ap, subst, ◌∙◌, inl, inr, arith, append_assoc}
 use Rattle.std.specs.List.{list_any}
 use Rattle.std.proofs.lemmas.Bool.{cases_lt, cases_eq, lt-ltb, le-ltb, eq-eqb, ne_eqb}
 use Rattle.std.proofs.lemmas.List.{get_or-set_same, get_or-set_other}
@@ -12,10 +12,12 @@ use Rattle.cell_steps.specs.Setup.{Setup, pages, address}
 use Rattle.cell_steps.specs.Lawful.{IsLawful}
 use Rattle.cell_steps.proofs.Sums.{there_at, read_at}
 use Rattle.page_cells.proofs.Heads.{all_made}
-use Rattle.comp_history.specs.Merged.{stamp_of}
+use Rattle.comp_history.specs.Merged.{entries_below, stamp_of, with_page}
 use Rattle.comp_history.specs.OneThread.{address_of}
-use Rattle.comp_audit.specs.Checks.{is_kind, makes, is_made_before}
+use Rattle.comp_audit.specs.Dumped.{BuiltPage}
+use Rattle.comp_audit.specs.Checks.{journal_of, journals_in, is_kind, makes, is_made_before}
 use Rattle.comp_audit.specs.Noted.{Stamped, stamp_at, is_below, is_noted_before, Notes}
+use Rattle.comp_audit.proofs.Entries.{page_more, entry_more}
 use Rattle.comp_audit.proofs.Meanings.{true_and, kind_tested}
 
 kind_other : (k : Kind) → k ≢ Header → is_kind Header (Some k) ≡ false
@@ -131,3 +133,20 @@ headers_covered u p journal first count lawful inside begins long = λ k d lt he
     let made = all_made u p journal [] k there.0 lawful there.1 (ap (λ (e : Entry). e.kind) (sym same) ∙ head) in
     let offset : (get_or journal k d).offset ≡ there.0.offset = ap (λ (e : Entry). e.offset) same in
     (omega (arith, made.fresh, begins), omega (arith, made.ends, inside, begins, long, offset))
+
+-- one page more
+pub notes_next : (records : List (Option BuiltPage)) (p : ℕ) (kept : Option BuiltPage) (j : List Entry) (old new : Stamped) → p < length records → kept ≡ get_or records p kept
+    → j ≡ journal_of kept → Notes old (entries_below (journals_in records) p) → ((all : List (ℕ × Entry)) → Notes old all → Notes new (all ++ with_page p j))
+    → Notes new (entries_below (journals_in records) (p + 1))
+notes_next records p kept j old new inside is same before more =
+    let parts : entries_below (journals_in records) p ++ with_page p j ≡ entries_below (journals_in records) (p + 1) =
+    ap (λ (l : List Entry). entries_below (journals_in records) p ++ with_page p l) same ∙ sym (page_more records p kept inside is) in
+    subst (Notes new) parts (more (entries_below (journals_in records) p) before)
+
+-- one entry more of a page
+pub notes_entry : (starts : Stamped) (all : List (ℕ × Entry)) (p : ℕ) (j : List Entry) (i : ℕ) (e : Entry) → i < length j → e ≡ get_or j i e
+    → Notes starts ((all ++ with_page p (take i j)) ++ (p, e) ∷ []) → Notes starts (all ++ with_page p (take (i + 1) j))
+notes_entry starts all p j i e inside is notes =
+    let parts : (all ++ with_page p (take i j)) ++ (p, e) ∷ [] ≡ all ++ with_page p (take (i + 1) j) =
+    append_assoc all (with_page p (take i j)) ((p, e) ∷ []) ∙ ap (λ (l : List (ℕ × Entry)). all ++ l) (sym (entry_more p j i e inside is)) in
+    subst (Notes starts) parts notes

@@ -7,7 +7,7 @@ ghost use Rattle.comp_audit.specs.declared.verdict.AuditFault.{AuditFault};
 ghost use Rattle.comp_audit.specs.declared.verdict.AuditFault.TheVariants.{BadEntry};
 
 use crate::auditing::starts::Starts;
-use crate::page::DumpedPage;
+use crate::page::{DumpedPage, journal_of};
 use crate::verdict::{AuditFault, Stop};
 use comp_journal::entry::Entry;
 use heap_layout::kind::Kind;
@@ -41,9 +41,7 @@ fn earliest(plan: &Plan, starts: &Starts, records: &[Option<DumpedPage<'_>>]) ->
 {
     let mut found = None;
     for (p, place) in records.iter().enumerate() {
-        if let Some(page) = place {
-            found = earliest_on(plan, starts, p as u64, page.journal(), found);
-        }
+        found = earliest_on(plan, starts, p as u64, journal_of(place), found);
     }
     found
 }

@@ -4,7 +4,7 @@ ghost use Rattle.comp_journal.specs.declared.entry.Entry.{Entry};
 ghost use Rattle.comp_audit.specs.Checks.{all_stamps, missing_faults, repeat_faults};
 ghost use Rattle.comp_audit.specs.Judged.{Tells};
 
-use crate::page::DumpedPage;
+use crate::page::{DumpedPage, journal_of};
 use crate::verdict::{AuditFault, Stop};
 use comp_journal::entry::Entry;
 use std::alloc::{AllocError, Global};
@@ -23,9 +23,7 @@ fn gather_stamps(alloc: Global, records: &[Option<DumpedPage<'_>>]) -> Result<Ve
 {
     let mut stamps = Vec::new(alloc);
     for place in records {
-        if let Some(page) = place {
-            add_stamps(&mut stamps, page.journal())?;
-        }
+        add_stamps(&mut stamps, journal_of(place))?;
     }
     Ok(stamps)
 }

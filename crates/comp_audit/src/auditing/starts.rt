@@ -10,7 +10,7 @@ ghost use Rattle.comp_audit.specs.Dumped.{IsStoredRecord};
 ghost use Rattle.comp_audit.specs.Noted.{is_below, is_noted_before, leads, setup_at, stamp_at, Covers, Notes};
 
 use crate::auditing::setting::Setting;
-use crate::page::DumpedPage;
+use crate::page::{DumpedPage, journal_of};
 use comp_journal::entry::Entry;
 use heap_layout::kind::Kind;
 use page_plan::TO_SPACE;
@@ -105,9 +105,7 @@ pub fn starts_of(
     let first = TO_SPACE + 64 * setting.plan.pages();
     let mut starts = Starts::new(alloc, first, 64 * setting.fresh as usize)?;
     for (p, place) in records.iter().enumerate() {
-        if let Some(page) = place {
-            note_page(&mut starts, p as u64, page.journal());
-        }
+        note_page(&mut starts, p as u64, journal_of(place));
     }
     Ok(starts)
 }
@@ -115,7 +113,6 @@ pub fn starts_of(
 /// Notes the headers of page `p`.
 fn note_page(starts: &mut Starts, p: u64, journal: &[Entry])
     requires inside { p < 20480 }
-    requires entries { All (λ (e : Entry). e.offset < 64) journal.now }
     requires covered { All (λ (e : Entry). e.kind ≡ sorts.Header → (starts.old.first ≤ address p e.offset) × (address p e.offset < starts.old.first + length starts.old.stamps)) journal.now }
     ensures same { (starts.new.first ≡ starts.old.first) × (length starts.new.stamps ≡ length starts.old.stamps) }
     ensures noted { (all : List (ℕ × Entry)) → Notes starts.old all → Notes starts.new (all ++ with_page p journal.now) }

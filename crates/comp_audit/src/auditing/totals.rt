@@ -7,7 +7,7 @@ ghost use Rattle.comp_audit.specs.Checks.{all_entries, total_faults};
 ghost use Rattle.comp_audit.specs.Dumped.{HasFewEntries};
 ghost use Rattle.comp_audit.specs.Judged.{Tells};
 
-use crate::page::DumpedPage;
+use crate::page::{DumpedPage, journal_of};
 use crate::verdict::{AuditFault, Stop};
 use comp_journal::entry::Entry;
 use heap_layout::header::Header;
@@ -35,9 +35,7 @@ fn all_words(records: &[Option<DumpedPage<'_>>]) -> u64
 {
     let mut words = 0;
     for place in records {
-        if let Some(page) = place {
-            words += words_on(page.journal());
-        }
+        words += words_on(journal_of(place));
     }
     words
 }
