@@ -7,17 +7,25 @@ use Rattle.comp_history.specs.Merged.{entries_below, stamp_of, with_page}
 use Rattle.comp_history.specs.Shares.{allocated, words_by}
 use Rattle.comp_history.proofs.Sorted.{In}
 use Rattle.comp_history.proofs.Pages.{below_in, total_append}
-use Rattle.comp_audit.specs.Dumped.{BuiltPage}
+use Rattle.comp_audit.specs.Dumped.{BuiltPage, HasFewEntries}
 use Rattle.comp_audit.specs.Checks.{above, all_entries, all_stamps, journal_of, journals_in}
+
+-- the journal of a place
+pub journal_here : (records : List (Option BuiltPage)) (p : ℕ) (kept : Option BuiltPage) → p < length records → kept ≡ get_or records p kept
+    → journals_in records p ≡ journal_of kept
+journal_here records p kept inside is = ap journal_of (get_or_default records p None kept inside ∙ sym is)
+
+pub few_at : (kept : Option BuiltPage) → HasFewEntries kept → length (journal_of kept) ≤ 1024
+few_at None h = omega arith
+few_at (Some page) h = h
 
 -- one page more
 pub page_more : (records : List (Option BuiltPage)) (p : ℕ) (kept : Option BuiltPage) → p < length records → kept ≡ get_or records p kept
     → entries_below (journals_in records) (p + 1) ≡ entries_below (journals_in records) p ++ with_page p (journal_of kept)
 page_more records p kept inside is =
     let next : p + 1 ≡ suc p = omega arith in
-    let same : journal_of (get_or records p None) ≡ journal_of kept = ap journal_of (get_or_default records p None kept inside ∙ sym is) in
     ap (entries_below (journals_in records)) next
-    ∙ ap (λ (j : List Entry). entries_below (journals_in records) p ++ with_page p j) same
+    ∙ ap (λ (j : List Entry). entries_below (journals_in records) p ++ with_page p j) (journal_here records p kept inside is)
 
 -- one entry more of a page
 pub entry_more : (p : ℕ) (j : List Entry) (i : ℕ) (e : Entry) → i < length j → e ≡ get_or j i e → with_page p (take (i + 1) j) ≡ with_page p (take i j) ++ (p, e) ∷ []

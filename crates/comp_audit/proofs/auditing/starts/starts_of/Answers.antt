@@ -1,5 +1,8 @@
-use Rattle.std.proofs.Common.{◌∙◌, arith}
-use Rattle.comp_audit.proofs.Noting.{notes_none, notes_next}
+use Rattle.std.proofs.Common.{◌∙◌, sym, subst, arith}
+use Rattle.cell_steps.specs.Lawful.{IsLawful}
+use Rattle.comp_audit.specs.Noted.{setup_at}
+use Rattle.comp_audit.proofs.Entries.{journal_here}
+use Rattle.comp_audit.proofs.Noting.{headers_covered, notes_none, notes_next}
 use Rattle.comp_audit.proofs.auditing.starts.starts_of.Goals as goal
 
 pub loop-p-init : goal.loop-p-init
@@ -7,6 +10,14 @@ loop-p-init c = record {
   covers = (omega (arith, c.in_ok-starts.ensures.covers.0, c.pages.ensures.pages), omega (arith, c.in_ok-starts.ensures.covers.1, c.from.ensures));
   noted = notes_none c.in_ok-starts.starts c.in_ok-starts.ensures.none;
 }
+
+pub note_page-requires-clause-covered : goal.note_page-requires-clause-covered
+note_page-requires-clause-covered c =
+    let u = setup_at c.args.setting in
+    let p = c.loop-p.p in
+    let lawful : IsLawful u p c.journal_of.result.now =
+    subst (IsLawful u p) (journal_here c.args.records.now p c.index-records-p.result c.loop-p-test.true c.index-records-p.is ∙ sym c.journal_of.ensures) (c.requires.lawful p) in
+    headers_covered u p c.journal_of.result.now _ _ lawful (omega (arith, c.requires.places)) c.loop-p.invariant.covers.0 c.loop-p.invariant.covers.1
 
 pub loop-p-preserved : goal.loop-p-preserved
 loop-p-preserved c =

@@ -1,6 +1,12 @@
-use Rattle.std.proofs.Common.{◌+◌, ◌∙◌, ap, arith}
-use Rattle.comp_audit.proofs.Entries.{words_next}
+use Rattle.std.proofs.Common.{◌+◌, length, sym, ap, subst, arith}
+use Rattle.comp_audit.specs.Dumped.{HasFewEntries}
+use Rattle.comp_audit.proofs.Entries.{few_at, words_next}
 use Rattle.comp_audit.proofs.auditing.totals.all_words.Goals as goal
+
+pub words_on-requires : goal.words_on-requires
+words_on-requires c =
+    let few = few_at c.place-item.result (subst HasFewEntries (sym c.place-item.is) (c.requires.pages c.loop-place.place-index c.place-item.result c.loop-place-test.true)) in
+    omega (arith, few, ap length c.journal_of.ensures)
 
 pub loop-place-preserved : goal.loop-place-preserved
 loop-place-preserved c =
