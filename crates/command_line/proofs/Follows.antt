@@ -13,9 +13,8 @@ use Rattle.clap.specs.Simple.{Shape}
 use Rattle.clap.specs.Faults.{turn_fault}
 use Rattle.clap.specs.declared.error.kind.ErrorKind.TheVariants as kind
 use Rattle.clap.proofs.WalkLemmas.{both}
-use Rattle.command_line.specs.Asked.{is_flag}
 use Rattle.command_line.specs.Forms.{Choice, Form, Parameter}
-use Rattle.command_line.specs.Given.{Gives, HasOption}
+use Rattle.command_line.specs.Given.{Gives, HasOption, is_flag}
 use Rattle.command_line.specs.Given.Gives.{apart, joined, no_word, then_values, to_next}
 use Rattle.command_line.proofs.KindLists.{or_else_in}
 use Rattle.command_line.proofs.Levels.{shape}

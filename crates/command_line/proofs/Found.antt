@@ -1,6 +1,6 @@
 -- From what the parser found to what the words ask.
-use Rattle.std.proofs.Common.{◌≡◌, ◌≢◌, ◌⊎◌, ◌∙◌, ◌∷◌, ℕ, List, Option, Some, IfOk, IfErr, Result, Ok, Err}
-use Rattle.std.proofs.Common.{[], sym, ap, subst, inl, inr, codes, is_some, map, unwrap_or, refl, true, true≢false}
+use Rattle.std.proofs.Common.{◌≡◌, ◌≢◌, ◌⊎◌, ◌∙◌, ◌∷◌, ◌≤◌, ℕ, List, Option, Some, IfOk, IfErr, Result, Ok, Err}
+use Rattle.std.proofs.Common.{[], None, arith, sym, ap, subst, inl, inr, codes, is_some, map, unwrap_or, refl, true, true≢false}
 use Rattle.std.specs.Prelude.{IsUtf8, IfSome}
 use Rattle.std.specs.String.{string_bytes}
 use Rattle.std.specs.declared.string.String.{String}
@@ -15,19 +15,19 @@ use Rattle.clap.specs.declared.error.kind.ErrorKind.TheVariants.{DisplayHelp, Di
 use Rattle.clap.specs.declared.parser.matches.Found.{Found}
 use Rattle.clap.proofs.WalkLemmas.{both, first_value-rows, one_text-rows}
 use Rattle.command_line.specs.Asked.{given as given_values}
-use Rattle.command_line.specs.Asked.{Asks, AsksHelp, AsksNeither, AsksPlan, AsksVersion, AsksWord, IsAnswerOf, IsNumber}
-use Rattle.command_line.specs.Forms.{Choice, Form, Parameter, all_forms, audit_form, compact_form, number, plan_form, race_form, replay_form, standing, text, word_form}
-use Rattle.command_line.specs.Given.{HasOption, IsCommandWith, IsNumberOr, Takes, text_given}
+use Rattle.command_line.specs.Asked.{Asks, AsksCompact, AsksHelp, AsksNoCommand, AsksPlan, AsksVersion, AsksWord, HasLawfulCounts, IsAnswerOf}
+use Rattle.command_line.specs.Forms.{Choice, Form, Parameter, all_forms, audit_form, compact_form, number, plan_form, race_form, replay_form, standing, text, word_form, workers}
+use Rattle.command_line.specs.Given.{HasOption, IsCommandWith, IsNumber, IsNumberOr, Takes, text_given}
 use Rattle.command_line.specs.Parser.{program}
 use Rattle.command_line.specs.declared.words.Task.{Task}
-use Rattle.command_line.specs.declared.words.Task.TheVariants.{Plan, Word, Help, Version}
+use Rattle.command_line.specs.declared.words.Task.TheVariants.{Plan, Word, Compact, Help, Version}
 use Rattle.command_line.proofs.Chosen.{chosen_fits}
 use Rattle.command_line.proofs.FormRules.{are_apart}
 use Rattle.command_line.proofs.KindLists.{some_kind}
-use Rattle.command_line.proofs.Parsed.{parsed, faulty, helped, versioned}
+use Rattle.command_line.proofs.Parsed.{HasCommands, parsed, faulty, helped, standing_commands, versioned}
 use Rattle.command_line.proofs.Plain.{Pairs, plain_values, values_of}
 use Rattle.command_line.proofs.Settled.{first_found, is_whole, one_found, row}
-use Rattle.command_line.proofs.TopLevel.{IsCommand, IsOneOf, IsProgram, all_program, one_of_these, same_form, standing_plan, standing_program, standing_word}
+use Rattle.command_line.proofs.TopLevel.{IsCommand, IsOneOf, IsProgram, all_program, one_of_these, same_form, standing_program}
 use Rattle.command_line.proofs.Uses.{Use}
 
 -- the bytes of texts are UTF-8
@@ -120,13 +120,19 @@ word_asked words f (given, rows, asks) =
 
 -- ---- commands with options
 
+-- the number of an option is within the bounds of the texts that it takes, where its default is
+within_bounds : (text : Option (List ℕ)) (default low high n : ℕ) → low ≤ default → default ≤ high
+    → IfSome text (λ digits. (m : ℕ) × IsNumber digits m × (low ≤ m) × (m ≤ high)) → IsNumberOr default text n → (low ≤ n) × (n ≤ high)
+within_bounds None default low high n least most takes is = (subst (λ k. low ≤ k) (sym is) least, subst (λ k. k ≤ high) (sym is) most)
+within_bounds (Some digits) default low high n least most (m, number, above, below) is =
+    let same : m ≡ n = number.value ∙ sym is.value in
+    (subst (λ k. low ≤ k) same above, subst (λ k. k ≤ high) same below)
+
 module _ (words : List (List ℕ)) (f : Found) (form : Form) (asked : CommandAsked words f form) where
-  -- the text of an option that takes a number is one
-  pub choice_found : (o : Choice) → HasOption form o → are_apart form.options form.arguments ≡ true → ((text : List ℕ) → Takes o.takes text → (n : ℕ) × IsNumber text n)
-      → IfSome (one_text f o.takes.id) (λ text. (n : ℕ) × IsNumber text n)
-  choice_found o has apart is_number =
-      subst (λ (r : Option (List ℕ)). IfSome r (λ text. (n : ℕ) × IsNumber text n)) (sym (number_is f asked.0 asked.1 o.takes.id))
-      (IfSome_then (text_given o.takes.id asked.0) (chosen_fits form o has asked.2.gives apart asked.2.fit) is_number)
+  -- the text that is given to an option is one that it takes
+  pub choice_fits : (o : Choice) → HasOption form o → are_apart form.options form.arguments ≡ true → IfSome (one_text f o.takes.id) (Takes o.takes)
+  choice_fits o has apart =
+      subst (λ (r : Option (List ℕ)). IfSome r (Takes o.takes)) (sym (number_is f asked.0 asked.1 o.takes.id)) (chosen_fits form o has asked.2.gives apart asked.2.fit)
 
   -- its number is the one that was read
   pub choice_told : (id : List ℕ) (default n : ℕ) → IsNumberOr default (one_text f id) n → IsNumberOr default (text_given id asked.0) n
@@ -152,6 +158,32 @@ two_paths words f form (given, rows, asks) a b is =
     let two = both _ _ one.1 in
     (text_there f given rows a.id one.0, text_there f given rows b.id two.0)
 
+-- ---- `compact`
+
+-- a text that `--workers` takes is a number
+pub workers_number : (o : Option (List ℕ)) → IfSome o (Takes workers.takes) → IfSome o (λ text. (n : ℕ) × IsNumber text n)
+workers_number o h = IfSome_then o h (λ text takes. (takes.0, takes.1))
+
+module _ (words : List (List ℕ)) (f : Found) (asked : CommandAsked words f compact_form) where
+  -- what `--workers` takes was found, if anything
+  pub workers_fit : IfSome (one_text f (codes "workers")) (Takes workers.takes)
+  workers_fit = choice_fits words f compact_form asked workers refl refl
+
+  -- the number that was read is within the bounds
+  pub workers_within : (n : ℕ) → IsNumberOr 2 (one_text f (codes "workers")) n → (1 ≤ n) × (n ≤ 64)
+  workers_within n h = within_bounds (one_text f (codes "workers")) 2 1 64 n (omega arith) (omega arith) workers_fit h
+
+  -- and the words are `compact`, with these paths and this number
+  pub compact_asked : (image dump : List ℕ) (n : ℕ) → Some image ≡ first_value f (codes "IMAGE") → Some dump ≡ first_value f (codes "DUMP")
+      → IsNumberOr 2 (one_text f (codes "workers")) n → AsksCompact words image dump n
+  compact_asked image dump n at_image at_dump h = (
+    asked.0,
+    asked.2,
+    path_told words f compact_form asked (codes "IMAGE") image at_image,
+    path_told words f compact_form asked (codes "DUMP") dump at_dump,
+    choice_told words f compact_form asked (codes "workers") 2 n h,
+  )
+
 -- ---- nothing else is found
 
 -- the form that was entered is one of these
@@ -166,13 +198,14 @@ abbrev pub EnteredAs : Entered → Form → Type 0
 EnteredAs o form = (rows : List Row) → o ≡ Some (form.name, rows) → ⊥
 
 pub none_of_standing : (words : List (List ℕ)) (o : Entered) → All IsUtf8 words → fault_of (program standing) words ≡ [] → subcommand_of (program standing) words ≡ o
-    → EnteredAs o plan_form → EnteredAs o word_form → ⊥
-none_of_standing words o utf8 taken found plan word = go (entered_one standing standing_program words o utf8 taken found)
+    → EnteredAs o plan_form → EnteredAs o word_form → EnteredAs o compact_form → ⊥
+none_of_standing words o utf8 taken found plan word compact = go (entered_one standing standing_program words o utf8 taken found)
   where
     go : (form : Form) × (rows : List Row) × IsOneOf standing form × (o ≡ Some (form.name, rows)) → ⊥
     go (form, rows, inl same, is) = plan rows (is ∙ ap (λ (x : Form). Some (x.name, rows)) same)
     go (form, rows, inr (inl same), is) = word rows (is ∙ ap (λ (x : Form). Some (x.name, rows)) same)
-    go (form, rows, inr (inr none), is) = none
+    go (form, rows, inr (inr (inl same)), is) = compact rows (is ∙ ap (λ (x : Form). Some (x.name, rows)) same)
+    go (form, rows, inr (inr (inr none)), is) = none
 
 pub none_of_all : (words : List (List ℕ)) (o : Entered) → All IsUtf8 words → fault_of (program all_forms) words ≡ [] → subcommand_of (program all_forms) words ≡ o
     → EnteredAs o plan_form → EnteredAs o word_form → EnteredAs o replay_form → EnteredAs o race_form → EnteredAs o compact_form → EnteredAs o audit_form → ⊥
@@ -208,19 +241,34 @@ pub kind_at : (forms : List Form) → IsProgram forms → (a : App) (words : Lis
     → (is_simple_and_free a ≡ true → HasKind (fault_of a words) error) → HasKind (fault_of (program forms) words) error
 kind_at forms is a words error e h = subst (λ (x : App). HasKind (fault_of x words) error) e (h (ap is_simple_and_free e ∙ is.is_free))
 
-module _ (forms : List Form) (is : IsProgram forms) (plan : IsCommand forms plan_form) (word : IsCommand forms word_form) (words : List (List ℕ)) (utf8 : All IsUtf8 words) where
+-- nothing is wrong with words that such a command takes
+pub taken_at : (forms : List Form) → IsProgram forms → (a : App) (words : List (List ℕ)) → a ≡ program forms → (is_simple_and_free a ≡ true → fault_of a words ≡ [])
+    → fault_of (program forms) words ≡ []
+taken_at forms is a words e h = subst (λ (x : App). fault_of x words ≡ []) e (h (ap is_simple_and_free e ∙ is.is_free))
+
+-- an answer in place of a command has no counts
+pub answer_counts : (error : Error) (r : Result Task Error) → IfOk r (IsAnswerOf (kind_of error)) → IfOk r HasLawfulCounts
+answer_counts error (Ok (Plan image)) answer = _
+answer_counts error (Ok (Word image index)) answer = _
+answer_counts error (Ok (Compact image dump n)) answer = absurd answer
+answer_counts error (Ok (Help text)) answer = _
+answer_counts error (Ok Version) answer = _
+answer_counts error (Err told) answer = _
+
+module _ (forms : List Form) (is : IsProgram forms) (has : HasCommands forms) (words : List (List ℕ)) (utf8 : All IsUtf8 words) where
   -- help comes only where they ask nothing, and some word is for help
   help_asked : IsAmong DisplayHelp (fault_of (program forms) words) → AsksHelp words
-  help_asked here = (faulty forms is words plan word (some_kind DisplayHelp (fault_of (program forms) words) here), helped forms is words utf8 here)
+  help_asked here = (faulty forms is words has (some_kind DisplayHelp (fault_of (program forms) words) here), helped forms is words utf8 here)
 
   -- and the version only where they ask nothing, and the first is for the version
   version_asked : IsAmong DisplayVersion (fault_of (program forms) words) → AsksVersion words
-  version_asked here = (faulty forms is words plan word (some_kind DisplayVersion (fault_of (program forms) words) here), versioned forms is words utf8 here)
+  version_asked here = (faulty forms is words has (some_kind DisplayVersion (fault_of (program forms) words) here), versioned forms is words utf8 here)
 
   -- a text of help, and the version, is what the words ask
   pub answer_told : (error : Error) (r : Result Task Error) → HasKind (fault_of (program forms) words) error → IfOk r (IsAnswerOf (kind_of error)) → IfOk r (Asks words)
   answer_told error (Ok (Plan image)) kind answer = absurd answer
   answer_told error (Ok (Word image index)) kind answer = absurd answer
+  answer_told error (Ok (Compact image dump n)) kind answer = absurd answer
   answer_told error (Ok (Help text)) kind answer = help_asked (among_kinds _ error DisplayHelp kind answer (λ e. cc))
   answer_told error (Ok Version) kind answer = version_asked (among_kinds _ error DisplayVersion kind answer (λ e. cc))
   answer_told error (Err told) kind answer = _
@@ -234,8 +282,8 @@ module _ (forms : List Form) (is : IsProgram forms) (plan : IsCommand forms plan
     | inr e ↦ wrong_kind _ error kind (λ memory. other (e ∙ memory))
   ]
 
--- so they ask neither of the commands that stand
-pub neither_told : (words : List (List ℕ)) (r : Result Task Error) → IfErr r (λ told. kind_of told ≢ OutOfMemory → fault_of (program standing) words ≡ [] → ⊥)
-    → IfErr r (λ told. kind_of told ≢ OutOfMemory → AsksNeither words)
-neither_told words (Ok task) h = _
-neither_told words (Err told) h = λ other. faulty standing standing_program words standing_plan standing_word (h other)
+-- so they are none of the commands that stand
+pub none_told : (words : List (List ℕ)) (r : Result Task Error) → IfErr r (λ told. kind_of told ≢ OutOfMemory → fault_of (program standing) words ≡ [] → ⊥)
+    → IfErr r (λ told. kind_of told ≢ OutOfMemory → AsksNoCommand words)
+none_told words (Ok task) h = _
+none_told words (Err told) h = λ other. faulty standing standing_program words standing_commands (h other)

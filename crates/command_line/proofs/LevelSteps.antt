@@ -9,7 +9,7 @@ use Rattle.clap.specs.Walk.{arg_by_id, arg_by_index, arg_by_long, finished, most
 use Rattle.clap.specs.Kinds.{Kinds, or_else}
 use Rattle.clap.specs.Simple.{Shape, filled, help_rule}
 use Rattle.clap.specs.Faults.{check_fault, defaults_fault, settle_fault, step_fault, turn_fault, use_fault, walk_fault}
-use Rattle.command_line.specs.Asked.{is_flag}
+use Rattle.command_line.specs.Given.{is_flag}
 use Rattle.command_line.proofs.KindLists.{or_else_in, or_else_nil}
 use Rattle.command_line.proofs.Levels.{level}
 use Rattle.command_line.proofs.Lexed.{plain_read}

@@ -3,16 +3,16 @@ use Rattle.std.proofs.Common.{◌≡◌, ◌∙◌, ◌≤◌, ◌<◌, ◌^◌,
 use Rattle.std.proofs.lemmas.List.Elements.{All-tail}
 use Rattle.clap.specs.Words.{IsAmong, Text, fault_of, subcommand_of}
 use Rattle.clap.specs.declared.error.kind.ErrorKind.TheVariants.{DisplayHelp, DisplayVersion}
-use Rattle.command_line.specs.Asked.{AreCommand, AsksNeither, IsNumber, is_help, is_version}
-use Rattle.command_line.specs.Forms.{Form, number, plan_form, text, word_form}
-use Rattle.command_line.specs.Given.{IsCommandWith, Takes}
+use Rattle.command_line.specs.Asked.{AreCommand, AsksNoCommand, is_help, is_version}
+use Rattle.command_line.specs.Forms.{Form, compact_form, number, plan_form, standing, text, word_form}
+use Rattle.command_line.specs.Given.{IsCommandWith, IsNumber, Takes}
 use Rattle.command_line.specs.Parser.{program}
 use Rattle.std.proofs.lemmas.List.Elements.{All-cons, All-nil}
 use Rattle.command_line.proofs.FormLevel.{FormTaken, form_help, form_no_version, form_taken, form_takes}
 use Rattle.command_line.proofs.Levels.{level, shape}
 use Rattle.command_line.proofs.Plain.{pairs_give}
 use Rattle.command_line.proofs.Settled.{AreFresh, row}
-use Rattle.command_line.proofs.TopLevel.{BeginWith, Decided, IsCommand, IsProgram, command_first, command_found, first_decides}
+use Rattle.command_line.proofs.TopLevel.{BeginWith, Decided, IsCommand, IsProgram, command_first, command_found, first_decides, standing_compact, standing_plan, standing_word}
 use Rattle.command_line.proofs.Uses.{Use}
 
 -- ---- words
@@ -106,6 +106,16 @@ word_given words path digits n h (rest, is, given) = record {
   whole = refl;
 }
 
+-- the commands are among those of the program
+pub record HasCommands (forms : List Form) : Type 0 where
+  pub plan : IsCommand forms plan_form
+  pub word : IsCommand forms word_form
+  pub compact : IsCommand forms compact_form
+
+-- they are among those that stand
+pub standing_commands : HasCommands standing
+standing_commands = record { plan = standing_plan; word = standing_word; compact = standing_compact }
+
 module _ (forms : List Form) (program_is : IsProgram forms) (words : List Text) where
   -- words that clap takes are a command
   pub parsed : All IsUtf8 words → fault_of (program forms) words ≡ [] → FoundCommand forms words
@@ -137,9 +147,10 @@ module _ (forms : List Form) (program_is : IsProgram forms) (words : List Text) 
       go (inl (form, command, rest, is)) = absurd (no_version_behind forms form command words rest is utf8 version)
       go (inr refused) = refused.version version
 
-  -- where `plan` and `word` are among the commands, words that clap refuses are neither
-  pub faulty : IsCommand forms plan_form → IsCommand forms word_form → (fault_of (program forms) words ≡ [] → ⊥) → AsksNeither words
-  faulty plan word fails = record {
-    no_plan = λ path asks. refused_command plan_form plan fails _ (plan_given words path asks);
-    no_word = λ path index (digits, number, asks). refused_command word_form word fails _ (word_given words path digits index number asks);
+  -- words that clap refuses are none of the commands
+  pub faulty : HasCommands forms → (fault_of (program forms) words ≡ [] → ⊥) → AsksNoCommand words
+  faulty has fails = record {
+    no_plan = λ path asks. refused_command plan_form has.plan fails _ (plan_given words path asks);
+    no_word = λ path index (digits, number, asks). refused_command word_form has.word fails _ (word_given words path digits index number asks);
+    no_compact = λ image dump n asks. refused_command compact_form has.compact fails asks.0 asks.1;
   }

@@ -5,9 +5,9 @@ use Rattle.std.specs.Str.{bytes_eq}
 use Rattle.std.proofs.lemmas.Option.{none-some, same_Some}
 use Rattle.std.proofs.lemmas.Slice.Eq.{bytes_eq-Decides}
 use Rattle.clap.specs.Walk.{Text}
-use Rattle.command_line.specs.Asked.{given, is_flag}
+use Rattle.command_line.specs.Asked.{given}
 use Rattle.command_line.specs.Forms.{Choice, Form, Parameter}
-use Rattle.command_line.specs.Given.{Gives, HasOption}
+use Rattle.command_line.specs.Given.{Gives, HasOption, is_flag}
 use Rattle.command_line.specs.Given.Gives.{apart, joined, no_word, then_values, to_next}
 use Rattle.command_line.proofs.LevelSteps.{plain_ends_nothing}
 use Rattle.command_line.proofs.Uses.{Use}

@@ -12,9 +12,9 @@ use Rattle.clap.specs.Kinds.{or_else}
 use Rattle.clap.specs.Simple.{Shape, filled}
 use Rattle.clap.specs.Faults.{bundle_fault, flags_fault, long_fault, settle_fault, turn_fault, word_fault}
 use Rattle.clap.specs.declared.error.kind.ErrorKind.TheVariants as kind
-use Rattle.command_line.specs.Asked.{is_flag, is_help}
+use Rattle.command_line.specs.Asked.{is_help}
 use Rattle.command_line.specs.Forms.{Choice, Form, Parameter}
-use Rattle.command_line.specs.Given.{Gives, HasOption}
+use Rattle.command_line.specs.Given.{Gives, HasOption, is_flag}
 use Rattle.command_line.specs.Given.Gives.{apart, joined, no_word, then_values, to_next}
 use Rattle.command_line.specs.Parser.{rule}
 use Rattle.command_line.proofs.Calm.{use_no_answer}

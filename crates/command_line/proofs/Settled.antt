@@ -22,9 +22,8 @@ use Rattle.clap.specs.declared.error.kind.ErrorKind.TheVariants as kind
 use Rattle.clap.specs.declared.parser.matches.ValueSource.TheVariants.{CommandLine}
 use Rattle.clap.proofs.ValueTestLemmas.{accepts-Accepts, Accepts-accepts}
 use Rattle.clap.proofs.WalkLemmas.{both, find-map, list_any-map}
-use Rattle.command_line.specs.Asked.{IsNumber}
 use Rattle.command_line.specs.Forms.{Form, Parameter}
-use Rattle.command_line.specs.Given.{Takes, are_once, is_among, text_given}
+use Rattle.command_line.specs.Given.{IsNumber, Takes, are_once, is_among, text_given}
 use Rattle.command_line.specs.Parser.{rule}
 use Rattle.command_line.proofs.Calm.{use_no_answer}
 use Rattle.command_line.proofs.KindLists.{NoAnswer, neither, no_answer_cond, no_answer_or, one_kind}

@@ -14,7 +14,8 @@ use Rattle.clap.specs.declared.error.kind.ErrorKind.TheVariants.{DisplayHelp, Di
 use Rattle.clap.proofs.FaultLemmas.{stopped_fault}
 use Rattle.clap.proofs.OnLiterals.{clap_on_literals}
 use Rattle.clap.proofs.WalkLemmas.{walk_stopped}
-use Rattle.command_line.specs.Asked.{is_flag, is_help, is_version}
+use Rattle.command_line.specs.Asked.{is_help, is_version}
+use Rattle.command_line.specs.Given.{is_flag}
 use Rattle.command_line.specs.Forms.{Form, all_forms, audit_form, compact_form, plan_form, race_form, replay_form, standing, word_form}
 use Rattle.command_line.specs.Parser.{asked_of_all, program}
 use Rattle.std.proofs.lemmas.Bool.{eqb-true}
@@ -141,6 +142,9 @@ standing_plan = record { is_one = refl; is_met = refl; is_entered = refl; is_not
 pub standing_word : IsCommand standing word_form
 standing_word = record { is_one = refl; is_met = refl; is_entered = refl; is_not_help = refl; is_readable = word_readable }
 
+pub standing_compact : IsCommand standing compact_form
+standing_compact = record { is_one = refl; is_met = refl; is_entered = refl; is_not_help = refl; is_readable = compact_readable }
+
 standing_help : (rest : List Text) → AreRefused (codes "help" ∷ rest) (fault_of (program standing) (codes "help" ∷ rest))
 unfolding clap_on_literals
 standing_help rest = told_help (codes "help") rest (InvalidSubcommand ∷ []) refl refl
@@ -157,7 +161,7 @@ standing_none = refused [] MissingSubcommand [] refl
 pub standing_program : IsProgram standing
 standing_program = record {
   is_free = refl;
-  are_commands = (standing_plan, (standing_word, tt));
+  are_commands = (standing_plan, (standing_word, (standing_compact, tt)));
   named = refl;
   help_first = standing_help;
   end_first = standing_end;

@@ -20,13 +20,17 @@ pub record Form : Type 0 where
 abbrev pub text : List ℕ → Parameter
 text id = record { id = id; bounds = None }
 
+-- a number from `low` to `high`
+abbrev pub number_within : List ℕ → ℕ → ℕ → Parameter
+number_within id low high = record { id = id; bounds = Some (low, high) }
+
 -- a number of 64 bits
 abbrev pub number : List ℕ → Parameter
-number id = record { id = id; bounds = Some (0, 18446744073709551615) }
+number id = number_within id 0 18446744073709551615
 
 -- a number from `low` to `high`, and the one where it is left out
 abbrev pub option : List ℕ → ℕ → ℕ → ℕ → Choice
-option id low high default = record { takes = record { id = id; bounds = Some (low, high) }; default = default }
+option id low high default = record { takes = number_within id low high; default = default }
 
 -- `plan IMAGE`
 abbrev pub plan_form : Form
@@ -70,7 +74,7 @@ audit_form = record { name = codes "audit"; options = []; arguments = text (code
 
 -- the commands that the program has
 abbrev pub standing : List Form
-standing = plan_form ∷ word_form ∷ []
+standing = plan_form ∷ word_form ∷ compact_form ∷ []
 
 -- and with those that it does not have yet
 abbrev pub all_forms : List Form

@@ -1,9 +1,19 @@
 -- What words give to the arguments and options of a command.
-use Rattle.std.specs.Prelude.{◌≡◌, ℕ, ◌≤◌, ◌&&◌, Bool, true, false, not, List, [], ◌∷◌, ◌++◌, Option, Some, codes, find, is_some, option_map, IfSome, MatchOption}
+use Rattle.std.specs.Prelude.{◌≡◌, ℕ, ◌<◌, ◌≤◌, ◌^◌, ◌==◌, ◌&&◌, Bool, true, false, not, List, [], ◌∷◌, ◌++◌, Option, Some, codes, find, is_some, length, nat_lt, option_map, slice_index, IfSome, MatchOption}
 use Rattle.std.specs.List.{All, list_all, list_any}
 use Rattle.std.specs.Str.{bytes_eq}
-use Rattle.command_line.specs.Asked.{IsNumber, is_flag}
+use Rattle.std.specs.Str.Parse.{IsNumeral, digits_value, without_leading_plus}
 use Rattle.command_line.specs.Forms.{Choice, Form, Parameter}
+
+-- a flag: a hyphen and more
+abbrev pub is_flag : List ℕ → Bool
+is_flag word = slice_index word 0 == 45 && nat_lt 1 (length word)
+
+-- the text is a number of 64 bits, in decimal digits; a plus may stand first
+pub record IsNumber (text : List ℕ) (number : ℕ) : Type 0 where
+  pub numeral : IsNumeral 10 (without_leading_plus text)
+  pub value : number ≡ digits_value 10 (without_leading_plus text)
+  pub fits : number < 2 ^ 64
 
 -- what is given to an argument or an option: a text that it takes
 abbrev pub Takes : Parameter → List ℕ → Type 0

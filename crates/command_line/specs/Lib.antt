@@ -1,4 +1,4 @@
 pub mod Forms
-pub mod Asked
 pub mod Given
+pub mod Asked
 pub mod Parser

@@ -8,9 +8,13 @@ use Rattle.command_line.specs.Forms.{Choice, Form, Parameter}
 abbrev pub rule : Parameter → Rule
 rule a = record (new_rule a.id) { required = true; parser = option_map (λ b. Unsigned b.0 b.1) a.bounds }
 
--- an option: its long name is its name; it may be left out, and clap is told of no default
+-- what an option takes: its long name is its name, help calls its number by one name, and it may be left out
+abbrev pub optional_rule : Parameter → Rule
+optional_rule p = record (rule p) { required = false; long = Some p.id; value_names = 1 }
+
+-- an option; clap is told of no default
 abbrev pub option_rule : Choice → Rule
-option_rule o = record (rule o.takes) { required = false; long = Some o.takes.id }
+option_rule o = optional_rule o.takes
 
 -- a command, with the options and the arguments of its row
 abbrev pub command : Form → App

@@ -12,6 +12,13 @@ fn asked(alloc: Global, line: &str) -> Result<String, Fail> {
     Ok(match read_task(alloc, words.as_slice()) {
         Ok(Task::Plan { image }) => format!(in alloc; "the plan of {image}")?,
         Ok(Task::Word { image, index }) => format!(in alloc; "word {index} of {image}")?,
+        Ok(
+            Task::Compact {
+                image,
+                dump,
+                workers,
+            },
+        ) => { format!(in alloc; "compact {image} by {workers} into {dump}")? }
         Ok(Task::Help { text }) => format!(in alloc; "help: {text}")?,
         Ok(Task::Version) => format!(in alloc; "{VERSION_LINE}")?,
         Err(error) => format!(in alloc; "{error}")?,
@@ -29,6 +36,12 @@ fn reads_what_the_words_ask(rt: HostRuntime) -> Result<(), Fail> {
             "word -- -x.img 18446744073709551615",
             "word 18446744073709551615 of -x.img",
         ),
+        ("compact a.img out.dump", "compact a.img by 2 into out.dump"),
+        ("compact --workers 64 a b", "compact a by 64 into b"),
+        ("compact a --workers=3 b", "compact a by 3 into b"),
+        ("compact a b --workers +01", "compact a by 1 into b"),
+        ("compact -- --workers 3", "compact --workers by 2 into 3"),
+        ("compact --workers 5 -- a -b", "compact a by 5 into -b"),
     ] {
         assert_eq!(rt; asked(rt.alloc(), line)?.as_str(), text);
     }
@@ -45,6 +58,9 @@ fn answers_help_where_it_is_asked(rt: HostRuntime) -> Result<(), Fail> {
         "help word",
         "word --help",
         "word three.img -h",
+        "help compact",
+        "compact --help",
+        "compact --workers 2 a -h",
     ] {
         let text = asked(rt.alloc(), line)?;
         assert!(rt; text.starts_with("help: "), "{line}");
@@ -66,7 +82,7 @@ fn answers_the_version_where_it_is_asked(rt: HostRuntime) -> Result<(), Fail> {
 }
 
 #[test]
-fn refuses_words_that_ask_neither(rt: HostRuntime) -> Result<(), Fail> {
+fn refuses_words_that_are_no_command(rt: HostRuntime) -> Result<(), Fail> {
     for line in [
         "",
         "--",
@@ -86,6 +102,23 @@ fn refuses_words_that_ask_neither(rt: HostRuntime) -> Result<(), Fail> {
         "word three.img -- -2",
         "word three.img 18446744073709551616",
         "word three.img 1 2",
+        "compact",
+        "compact a",
+        "compact a b c",
+        "compact --workers 0 a b",
+        "compact --workers 65 a b",
+        "compact --workers x a b",
+        "compact --workers= a b",
+        "compact --workers a b",
+        "compact a b --workers",
+        "compact --workers -- a b",
+        "compact --workers 2 --workers 3 a b",
+        "compact --workers=2 a --workers=2 b",
+        "compact -w 2 a b",
+        "compact --worker 2 a b",
+        "compact --fresh 2 a b",
+        "plan --workers 2 three.img",
+        "--workers 2 compact a b",
     ] {
         assert!(rt; asked(rt.alloc(), line)?.starts_with("error: "), "{line}");
     }

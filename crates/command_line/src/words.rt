@@ -3,10 +3,12 @@ ghost use Rattle.std.specs.Prelude.{◌≡◌, ◌≢◌, ◌⊎◌, ℕ, [], tr
 ghost use Rattle.std.specs.String.{string_bytes};
 ghost use Rattle.clap.specs.Words.{app_of, fault_of, first_value, found_of, kind_of, one_text, rule_of, subcommand_of, subcommand_rows_of};
 ghost use Rattle.clap.specs.declared.error.kind.ErrorKind.TheVariants.{DisplayHelp, DisplayVersion, OutOfMemory};
-ghost use Rattle.command_line.specs.Asked.{Asks, AsksNeither, IsAnswerOf, IsNumber};
-ghost use Rattle.command_line.specs.Forms.{plan_form, standing, text, word_form};
-ghost use Rattle.command_line.specs.Parser.{command as command_of, program, rule};
+ghost use Rattle.command_line.specs.Asked.{Asks, AsksNoCommand, HasLawfulCounts, IsAnswerOf};
+ghost use Rattle.command_line.specs.Forms.{compact_form, number_within, plan_form, standing, text, word_form, workers};
+ghost use Rattle.command_line.specs.Given.{IsNumber, IsNumberOr};
+ghost use Rattle.command_line.specs.Parser.{command as command_of, option_rule, optional_rule, program, rule};
 
+use clap::builder::ValueParser;
 use clap::error::ErrorKind;
 use clap::{Arg, ArgMatches, Command, Error, value_parser};
 use std::alloc::{AllocError, Global};
@@ -15,11 +17,24 @@ use std::alloc::{AllocError, Global};
 #[derive(Debug, Drop)]
 pub enum Task<'a> {
     /// The plan of the heap in an image.
-    Plan { image: &'a str },
+    Plan {
+        image: &'a str,
+    },
     /// The slid word at an index, of the heap in an image.
-    Word { image: &'a str, index: u64 },
+    Word {
+        image: &'a str,
+        index: u64,
+    },
+    /// The heap in an image is compacted by 1 to 64 workers, and its dump written to a path.
+    Compact {
+        image: &'a str,
+        dump: &'a str,
+        workers: u8,
+    },
     /// This text of help.
-    Help { text: String },
+    Help {
+        text: String,
+    },
     /// The program's version.
     Version,
 }
@@ -30,10 +45,14 @@ pub const VERSION_LINE: &str = "compressor 0.1.0\n";
 // The version, as clap is told of it.
 const VERSION: &str = "0.1.0";
 
+// The workers of a command that is told of none.
+const DEFAULT_WORKERS: u64 = 2;
+
 /// Reads the words after the program's name: the task is the one that they ask. An error comes where they ask none, or for want of memory.
 pub fn read_task<'a>(alloc: Global, words: &'a [String]) -> Result<Task<'a>, Error>
     ensures asked { IfOk result (Asks (map string_bytes words.entry.now)) }
-    ensures none { IfErr result (λ error. kind_of error ≢ OutOfMemory → AsksNeither (map string_bytes words.entry.now)) }
+    ensures none { IfErr result (λ error. kind_of error ≢ OutOfMemory → AsksNoCommand (map string_bytes words.entry.now)) }
+    ensures counts { IfOk result HasLawfulCounts }
     ensures no_help { IfErr result (λ error. kind_of error ≢ DisplayHelp) }
     ensures no_version { IfErr result (λ error. kind_of error ≢ DisplayVersion) }
 {
@@ -47,7 +66,8 @@ pub fn read_task<'a>(alloc: Global, words: &'a [String]) -> Result<Task<'a>, Err
 fn task_of<'a>(words: &'a [String], matches: &ArgMatches<'a>) -> Task<'a>
     requires taken { fault_of (program standing) (map string_bytes words.now) ≡ [] }
     requires found { subcommand_rows_of matches.now ≡ subcommand_of (program standing) (map string_bytes words.now) }
-    ensures { Asks (map string_bytes words.entry.now) result }
+    ensures asked { Asks (map string_bytes words.entry.now) result }
+    ensures counts { HasLawfulCounts result }
 {
     match matches.subcommand() {
         Some(("plan", found)) => Task::Plan {
@@ -56,6 +76,11 @@ fn task_of<'a>(words: &'a [String], matches: &ArgMatches<'a>) -> Task<'a>
         Some(("word", found)) => Task::Word {
             image: text_of(found, "IMAGE"),
             index: number_of(found, "INDEX"),
+        },
+        Some(("compact", found)) => Task::Compact {
+            image: text_of(found, "IMAGE"),
+            dump: text_of(found, "DUMP"),
+            workers: count_of(found, "workers", DEFAULT_WORKERS) as u8,
         },
         _ => unreachable!(),
     }
@@ -80,6 +105,17 @@ fn number_of(found: &ArgMatches, id: &str) -> u64
     match found.get_one::<u64>(id) {
         Some(number) => number,
         None => unreachable!(),
+    }
+}
+
+// The number of an option, or its default where it was left out.
+fn count_of(found: &ArgMatches, id: &str, default: u64) -> u64
+    requires { IfSome (one_text (found_of found.now) id.now) (λ text. (number : ℕ) × IsNumber text number) }
+    ensures { IsNumberOr default (one_text (found_of found.now) id.now) result }
+{
+    match found.get_one::<u64>(id) {
+        Some(number) => number,
+        None => default,
     }
 }
 
@@ -109,7 +145,8 @@ fn command<'a>(alloc: Global) -> Result<Command<'a>, AllocError>
         .no_binary_name(true)
         .subcommand_required(true)
         .subcommand(plan_command(alloc)?)?
-        .subcommand(word_command(alloc)?)
+        .subcommand(word_command(alloc)?)?
+        .subcommand(compact_command(alloc)?)
 }
 
 fn plan_command<'a>(alloc: Global) -> Result<Command<'a>, AllocError>
@@ -134,11 +171,52 @@ fn word_command<'a>(alloc: Global) -> Result<Command<'a>, AllocError>
         )
 }
 
+fn compact_command<'a>(alloc: Global) -> Result<Command<'a>, AllocError>
+    ensures { IfOk result (λ made. app_of made ≡ command_of compact_form) }
+{
+    Command::new(alloc, "compact")
+        .about("Compacts a heap by several workers, and writes its dump")
+        .arg(workers_option(alloc))?
+        .arg(image_argument(alloc))?
+        .arg(dump_argument(alloc))
+}
+
+fn workers_option<'a>(alloc: Global) -> Arg<'a>
+    ensures rule { rule_of result ≡ option_rule workers }
+    ensures local { result.global ≡ false }
+{
+    number_option(
+        alloc,
+        "workers",
+        1,
+        64,
+        "How many workers compact, 1 to 64 (2 by default)",
+    )
+}
+
+fn number_option<'a>(alloc: Global, name: &'a str, low: u64, high: u64, help: &'a str) -> Arg<'a>
+    ensures rule { rule_of result ≡ optional_rule (number_within name.entry.now low high) }
+    ensures local { result.global ≡ false }
+{
+    Arg::new(alloc, name)
+        .long(name)
+        .value_name("N")
+        .value_parser(ValueParser::unsigned(low, high))
+        .help(help)
+}
+
 fn image_argument<'a>(alloc: Global) -> Arg<'a>
     ensures rule { rule_of result ≡ rule (text (codes "IMAGE")) }
     ensures local { result.global ≡ false }
 {
     path_argument(alloc, "IMAGE", "The heap's image")
+}
+
+fn dump_argument<'a>(alloc: Global) -> Arg<'a>
+    ensures rule { rule_of result ≡ rule (text (codes "DUMP")) }
+    ensures local { result.global ≡ false }
+{
+    path_argument(alloc, "DUMP", "Where the dump is written")
 }
 
 fn path_argument<'a>(alloc: Global, name: &'a str, help: &'a str) -> Arg<'a>

@@ -4,12 +4,14 @@ use Rattle.std.proofs.lemmas.List.{length-map}
 use Rattle.heap_layout.specs.Heap.{Heap, live}
 use Rattle.page_plan.specs.Sliding.{forward}
 use Rattle.page_plan.specs.declared.builder.Builder.{Ghosts}
+use Rattle.cell_steps.specs.declared.steps.Steps.{Steps}
 use Rattle.page_cells.specs.Cells.{steps_of, AreNew}
 use Rattle.page_cells.proofs.Rows.{at_map}
 use Rattle.comp_mutator.specs.Forwarded.{AreForwarded}
 use Rattle.comp_mutator.specs.Mutators.{cells_of, pass_of, setup_of, AreMutatorsOf}
 use Rattle.comp_mutator.specs.declared.mutator.Mutator.{Mutator}
 use Rattle.comp_mutator.specs.declared.space.Space.{Space}
+use Rattle.comp_trace.specs.Bytes.{DidNothingYet}
 use Rattle.comp_trace.specs.Races.{AreAll}
 
 pub roots_count : (heap : Heap) (roots : List ℕ) → AreForwarded heap roots → length roots ≡ length heap.roots
@@ -22,3 +24,7 @@ all_of space n mutators of new whole = record {
   count = sym (length-map mutators pass_of) ∙ new.count ∙ sym whole;
   numbers = λ k m at. (new.new k (pass_of m) (at_map pass_of mutators k m at)).number;
 }
+
+-- new mutators have written nothing
+pub none_done : {L : Type 0} (table : Steps) (n : ℕ) (mutators : List (Mutator L)) → AreNew table n (map pass_of mutators) → DidNothingYet mutators
+none_done table n mutators new k m at = (new.new k (pass_of m) (at_map pass_of mutators k m at)).did

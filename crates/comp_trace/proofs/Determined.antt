@@ -17,7 +17,7 @@ use Rattle.page_plan.specs.Sliding.{to_address}
 use Rattle.page_plan.proofs.Shapes.{shape-behind}
 use Rattle.comp_journal.specs.declared.entry.Entry.{Entry}
 use Rattle.comp_journal.specs.Journal.{replayed, written}
-use Rattle.cell_steps.specs.Setup.{Setup, pages, base_of, address, fresh_page}
+use Rattle.cell_steps.specs.Setup.{Setup, base_of, address, fresh_page}
 use Rattle.cell_steps.specs.Lists.{but, by, on}
 use Rattle.cell_steps.specs.Lawful.{kinds_by, kinds_in, kinds_of_header, filled, Fits, IsFreshOf, IsNext, LawfulAfter}
 use Rattle.cell_steps.specs.Locks.{Journals}

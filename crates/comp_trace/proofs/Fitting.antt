@@ -13,7 +13,7 @@ use Rattle.comp_trace.specs.declared.line.Action.{Action}
 use Rattle.comp_trace.specs.declared.line.Action.TheVariants.{Root, Load, Get, Store, Put, New, Nil}
 use Rattle.comp_trace.specs.declared.line.Line.{Line}
 
-ok_not : (b : Bool) (e : TraceFault) (r : Result Line TraceFault) → is_ok (cond b (Err e) r) ≡ true → (b ≡ false) × (is_ok r ≡ true)
+pub ok_not : (b : Bool) (e : TraceFault) (r : Result Line TraceFault) → is_ok (cond b (Err e) r) ≡ true → (b ≡ false) × (is_ok r ≡ true)
 ok_not true e r h = absurd cc
 ok_not false e r h = (refl, h)
 

@@ -4,3 +4,7 @@ pub mod Traces
 pub mod Races
 pub mod Runners
 pub mod Runs
+pub mod Deeds
+pub mod Rounds
+pub mod Replays
+pub mod Bytes

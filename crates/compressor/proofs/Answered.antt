@@ -5,26 +5,31 @@ use Rattle.clap.specs.Words.{kind_of}
 use Rattle.clap.specs.declared.error.Error.{Error}
 use Rattle.clap.specs.declared.error.kind.ErrorKind.TheVariants.{OutOfMemory}
 use Rattle.heap_layout.specs.Heap.{Heap}
-use Rattle.command_line.specs.Asked.{Asks, AsksNeither}
+use Rattle.command_line.specs.Asked.{Asks, AsksNoCommand}
+use Rattle.compressor.specs.Compact.{Compacts}
 use Rattle.compressor.specs.Images.{IsImageOf, SomeGiven, SomeHeap}
 use Rattle.compressor.specs.Tasks.{Answers, AreWrong, HasAnswered}
 use Rattle.command_line.specs.declared.words.Task.{Task}
-use Rattle.command_line.specs.declared.words.Task.TheVariants.{Plan, Word, Help, Version}
+use Rattle.command_line.specs.declared.words.Task.TheVariants.{Plan, Word, Compact, Help, Version}
 
 -- the heap whose image was given is accepted
 heap_of : {R : Type 0} (gives : R → Type 0) (remaining : R → Option (List ℕ)) (P : Heap → Type 0) → SomeGiven gives remaining (IsImageOf P) → SomeHeap P
 heap_of gives remaining P (reader, given, image) = (image.0, image.1, image.2, image.3.1)
 
 -- what the words ask was printed, where the task that was read of them is done
-pub answered : {R : Type 0} (gives : List ℕ → R → Type 0) (remaining : R → Option (List ℕ)) (before after : Option (List ℕ)) (words : List (List ℕ)) (asked : Result Task Error)
-    → IfOk asked (Asks words) → Answers gives remaining before after asked → HasAnswered words before after
-answered gives remaining before after words (Ok (Plan image)) asks h = inl (image.now, asks, heap_of _ _ _ h)
-answered gives remaining before after words (Ok (Word image index)) asks h = inr (inl (image.now, index, asks, heap_of _ _ _ h))
-answered gives remaining before after words (Ok (Help text)) asks h = inr (inr (inl (asks, string_bytes text, h)))
-answered gives remaining before after words (Ok Version) asks h = inr (inr (inr (asks, h)))
-answered gives remaining before after words (Err error) asks h = absurd h
+pub answered : {R W : Type 0} (gives : List ℕ → R → Type 0) (remaining : R → Option (List ℕ)) (makes : List ℕ → W → Type 0) (contents : W → Option (List ℕ))
+    (before after : Option (List ℕ)) (words : List (List ℕ)) (asked : Result Task Error)
+    → IfOk asked (Asks words) → Answers gives remaining makes contents before after asked → HasAnswered words before after
+answered gives remaining makes contents before after words (Ok (Plan image)) asks h = inl (image.now, asks, heap_of _ _ _ h)
+answered gives remaining makes contents before after words (Ok (Word image index)) asks h = inr (inl (image.now, index, asks, heap_of _ _ _ h))
+answered gives remaining makes contents before after words (Ok (Compact image dump workers)) asks h =
+    let compacted = heap_of (gives image.now) remaining (Compacts (makes dump.now) contents workers before after) h in
+    inr (inr (inl (image.now, dump.now, workers, asks, (compacted.0, compacted.1, compacted.2, compacted.3.line))))
+answered gives remaining makes contents before after words (Ok (Help text)) asks h = inr (inr (inr (inl (asks, string_bytes text, h))))
+answered gives remaining makes contents before after words (Ok Version) asks h = inr (inr (inr (inr (asks, h))))
+answered gives remaining makes contents before after words (Err error) asks h = absurd h
 
 -- words of which no task was read, with memory there, ask neither
-pub misused : (words : List (List ℕ)) (asked : Result Task Error) → IfErr asked (λ error. kind_of error ≢ OutOfMemory → AsksNeither words) → AreWrong asked → AsksNeither words
+pub misused : (words : List (List ℕ)) (asked : Result Task Error) → IfErr asked (λ error. kind_of error ≢ OutOfMemory → AsksNoCommand words) → AreWrong asked → AsksNoCommand words
 misused words (Ok task) neither wrong = absurd wrong
 misused words (Err error) neither wrong = neither wrong

@@ -4,6 +4,8 @@
 ghost use Rattle.std.specs.Prelude.{◌≡◌, ◌≤◌, IfOk, IfErr};
 ghost use Rattle.compressor.specs.declared.refusal.Refusal.TheVariants as refusals;
 
+mod compact;
+mod dumps;
 mod images;
 mod plan;
 mod print;
@@ -16,11 +18,14 @@ mod word;
 use crate::refusal::Refusal;
 use crate::run::{REFUSED, run};
 use std::env;
-use std::io::{self, BufWriter};
+use std::io::{self, BufWriter, Write};
 use std::process::ExitCode;
+use std::rt::{Env, Files};
+use std::sync::Wait;
+use std::thread::Threads;
 
 fn main(rt: HostRuntime) -> ExitCode {
-    ExitCode::from(match start(&rt) {
+    ExitCode::from(match start(&rt, &mut rt.stderr()) {
         Ok(status) => status,
         Err(error) => {
             let _ = eprintln!(rt; "compressor: {error}");
@@ -30,7 +35,10 @@ fn main(rt: HostRuntime) -> ExitCode {
 }
 
 // Fetches the words and sets up standard output, which is written through a buffer.
-fn start(rt: &HostRuntime) -> Result<u8, Refusal>
+fn start<R: Env + Files + Print + AllocGlobal + Threads + Wait + Sync, E: Write>(
+    rt: &R,
+    err: &mut E,
+) -> Result<u8, Refusal>
     ensures status { IfOk result (λ status. status ≤ 2) }
     ensures cause { IfErr result (λ refusal. refusal ≡ refusals.OutOfMemory) }
 {
@@ -39,5 +47,5 @@ fn start(rt: &HostRuntime) -> Result<u8, Refusal>
         .skip(1)
         .collect(rt.alloc())?;
     let mut out = BufWriter::new(rt.alloc(), io::writer(rt)).map_err(|_| Refusal::OutOfMemory)?;
-    Ok(run(rt, words, &mut out, &mut rt.stderr()))
+    Ok(run(rt, words, &mut out, err))
 }

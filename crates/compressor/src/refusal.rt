@@ -1,7 +1,9 @@
 ghost use Rattle.std.specs.Prelude.{◌≡◌, Some, codes};
 ghost use Rattle.compressor.specs.declared.refusal.Refusal.TheVariants as refusal;
 
+use comp_audit::fault::DumpFault;
 use comp_mutator::refusal as mutators;
+use comp_sweep::refusal::SweepFault;
 use heap_layout::fault::{self, LayoutFault};
 use std::alloc::AllocError;
 use std::fmt;
@@ -23,6 +25,22 @@ impl fmt::Display for Input {
     }
 }
 
+/// A file that the program makes.
+#[derive(Clone, Copy, Debug, PartialEq, Eq)]
+pub enum Output {
+    Dump,
+}
+
+impl fmt::Display for Output {
+    ghost output = { λ _. Some (codes "dump") };
+
+    fn fmt<W: fmt::Write>(&self, f: &mut fmt::Formatter<W>) -> fmt::Result {
+        f.write_str(match self {
+            Output::Dump => "dump",
+        })
+    }
+}
+
 /// Why the program did not do what it was asked.
 #[derive(Clone, Copy, Debug, PartialEq, Eq, Error)]
 pub enum Refusal {
@@ -32,9 +50,18 @@ pub enum Refusal {
     /// A mutator is refused what it asked.
     #[error("{0}")]
     Mutator(mutators::Refusal),
+    /// The heap was not swept.
+    #[error("{0}")]
+    Sweep(SweepFault),
+    /// The dump was not written whole.
+    #[error("{0}")]
+    Dump(DumpFault),
     /// The file could not be opened.
     #[error("P1 CannotOpen({0})")]
     CannotOpen(Input),
+    /// The file could not be created.
+    #[error("P2 CannotCreate({0})")]
+    CannotCreate(Output),
     /// A call of standard output failed: it answered an error, or took nothing of what was to be written.
     #[error("P4 CannotPrint")]
     CannotPrint,
@@ -59,6 +86,14 @@ impl From<mutators::Refusal> for Refusal {
 
     fn from(refused: mutators::Refusal) -> Refusal {
         Refusal::Mutator(refused)
+    }
+}
+
+impl From<DumpFault> for Refusal {
+    ghost from_gives = { λ fault given. given ≡ refusal.Dump fault };
+
+    fn from(fault: DumpFault) -> Refusal {
+        Refusal::Dump(fault)
     }
 }
 

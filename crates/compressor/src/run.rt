@@ -1,11 +1,13 @@
-ghost use Rattle.std.specs.Prelude.{◌≡◌, ◌-◌, ◌^◌, ◌<◌, ◌≤◌, true, map, IfErr, OnOk, OnErr};
+ghost use Rattle.std.specs.Prelude.{◌≡◌, ◌-◌, ◌^◌, ◌<◌, ◌≤◌, true, map, IfOk, IfErr, OnOk, OnErr};
 ghost use Rattle.std.specs.String.{string_bytes};
 ghost use Rattle.std.specs.Io.KnownBytes.{Keeps};
 ghost use Rattle.heap_layout.specs.Counted.{inner_of, failures_of, is_flushed_of, writer_of};
-ghost use Rattle.command_line.specs.Asked.{AsksNeither};
+ghost use Rattle.command_line.specs.Asked.{AsksNoCommand, HasLawfulCounts};
 ghost use Rattle.compressor.specs.Printing.{CountsPrint, RefusedUnprinted};
 ghost use Rattle.compressor.specs.Tasks.{Answers, AreWrong, DoesTask, HasAnswered, IsRefused, RefusesTask};
 
+use crate::compact::{Compaction, print_compact};
+use crate::dumps::{Dumps, FileDumps};
 use crate::images::{FileImages, Images};
 use crate::plan::print_plan;
 use crate::print::{flush, print_help, print_text};
@@ -17,6 +19,8 @@ use heap_layout::counted::Counted;
 use std::alloc::Global;
 use std::io::Write;
 use std::rt::Files;
+use std::sync::Wait;
+use std::thread::Threads;
 
 /// The status of a run that did what it was asked, or printed help or the version.
 pub const DONE: u8 = 0;
@@ -27,9 +31,9 @@ pub const REFUSED: u8 = 1;
 /// The status of a run whose words were wrong.
 pub const MISUSED: u8 = 2;
 
-/// Does what the words after the program's name ask, and answers the status. Files are opened through `rt`; `out` is flushed at the end. A refusal
-/// is one line on `err`; a call of `out` that fails is one.
-pub fn run<R: Files + AllocGlobal, O: Write, E: Write>(
+/// Does what the words after the program's name ask, and answers the status. Files are opened, and threads started, through `rt`; `out` is flushed at the
+/// end. A refusal is one line on `err`; a call of `out` that fails is one.
+pub fn run<R: Files + AllocGlobal + Threads + Wait + Sync, O: Write, E: Write>(
     rt: &R,
     words: Vec<String>,
     out: &mut O,
@@ -37,34 +41,45 @@ pub fn run<R: Files + AllocGlobal, O: Write, E: Write>(
 ) -> u8
     ensures status { result ≤ 2 }
     ensures done { result ≡ 0 → HasAnswered (map string_bytes words.items) (O.contents out.old) (O.contents out.new) }
-    ensures wrong { result ≡ 2 → AsksNeither (map string_bytes words.items) }
+    ensures wrong { result ≡ 2 → AsksNoCommand (map string_bytes words.items) }
     ensures misused { result ≡ 2 → Keeps (O.contents out.old) (O.contents out.new) }
 {
     let mut out = Counted::new(out);
     let asked = read_task(rt.alloc(), &words);
-    respond(rt.alloc(), &FileImages { rt }, asked, &mut out, err)
+    respond(
+        rt.alloc(),
+        rt,
+        &FileImages { rt },
+        &mut FileDumps { rt },
+        asked,
+        &mut out,
+        err,
+    )
 }
 
 /// Does what is asked, and answers the status. A refusal is one line on `err`; a call of `out` that fails is one.
-pub fn respond<I: Images, O: Write, E: Write>(
+pub fn respond<R: Threads + Wait + Sync, I: Images, D: Dumps, O: Write, E: Write>(
     alloc: Global,
+    rt: &R,
     images: &I,
+    dumps: &mut D,
     asked: Result<Task, clap::Error>,
     out: &mut Counted<&mut O>,
     err: &mut E,
 ) -> u8
-    requires { failures_of out.old < 2 ^ 64 - 1 }
+    requires written { failures_of out.old < 2 ^ 64 - 1 }
+    requires counts { IfOk asked HasLawfulCounts }
     ensures status { result ≤ 2 }
-    ensures done { result ≡ 0 → Answers (I.gives images.now) I.Reader.remaining (O.contents (inner_of out.old).now) (O.contents (inner_of out.new).now) asked.entry }
+    ensures done { result ≡ 0 → Answers (I.gives images.now) I.Reader.remaining (D.gives dumps.old) D.Writer.contents (O.contents (inner_of out.old).now) (O.contents (inner_of out.new).now) asked.entry }
     ensures flushed { result ≡ 0 → is_flushed_of out.new ≡ true }
-    ensures refused { result ≡ 1 → IsRefused (I.lacks images.now) (I.gives images.now) I.Reader.remaining asked.entry }
+    ensures refused { result ≡ 1 → IsRefused (I.lacks images.now) (I.gives images.now) I.Reader.remaining (D.lacks dumps.old) (D.gives dumps.old) D.Writer.contents asked.entry }
     ensures unprinted { result ≡ 1 → failures_of out.new ≡ failures_of out.old → Keeps (O.contents (inner_of out.old).now) (O.contents (inner_of out.new).now) }
     ensures wrong { result ≡ 2 → AreWrong asked.entry }
     ensures misused { result ≡ 2 → Keeps (O.contents (inner_of out.old).now) (O.contents (inner_of out.new).now) }
     ensures same_writer { writer_of out.new ≡ writer_of out.old }
 {
     match asked {
-        Ok(task) => told(perform(alloc, images, task, out), err),
+        Ok(task) => told(perform(alloc, rt, images, dumps, task, out), err),
         Err(error) if error.kind() == ErrorKind::OutOfMemory => told(
             Err(Refusal::OutOfMemory),
             err,
@@ -77,15 +92,18 @@ pub fn respond<I: Images, O: Write, E: Write>(
 }
 
 /// Does a task.
-pub fn perform<I: Images, O: Write>(
+pub fn perform<R: Threads + Wait + Sync, I: Images, D: Dumps, O: Write>(
     alloc: Global,
+    rt: &R,
     images: &I,
+    dumps: &mut D,
     task: Task,
     out: &mut Counted<&mut O>,
 ) -> Result<(), Refusal>
-    requires { failures_of out.old < 2 ^ 64 - 1 }
-    ensures done { OnOk result (DoesTask (I.gives images.now) I.Reader.remaining (O.contents (inner_of out.old).now) (O.contents (inner_of out.new).now) task.entry) }
-    ensures cause { IfErr result (RefusesTask (I.lacks images.now) (I.gives images.now) I.Reader.remaining task.entry) }
+    requires written { failures_of out.old < 2 ^ 64 - 1 }
+    requires counts { HasLawfulCounts task }
+    ensures done { OnOk result (DoesTask (I.gives images.now) I.Reader.remaining (D.gives dumps.old) D.Writer.contents (O.contents (inner_of out.old).now) (O.contents (inner_of out.new).now) task.entry) }
+    ensures cause { IfErr result (RefusesTask (I.lacks images.now) (I.gives images.now) I.Reader.remaining (D.lacks dumps.old) (D.gives dumps.old) D.Writer.contents task.entry) }
     ensures flushed { OnOk result (is_flushed_of out.new ≡ true) }
     ensures counts { CountsPrint (failures_of out.old) (failures_of out.new) result }
     ensures same_writer { writer_of out.new ≡ writer_of out.old }
@@ -94,6 +112,22 @@ pub fn perform<I: Images, O: Write>(
     match task {
         Task::Plan { image } => print_plan(alloc, images, image, out)?,
         Task::Word { image, index } => print_word(alloc, images, image, index, out)?,
+        Task::Compact {
+            image,
+            dump,
+            workers,
+        } => print_compact(
+            alloc,
+            rt,
+            images,
+            dumps,
+            Compaction {
+                image,
+                dump,
+                workers,
+            },
+            out,
+        )?,
         Task::Help { text } => print_help(&text, out)?,
         Task::Version => print_text(VERSION_LINE, out)?,
     }

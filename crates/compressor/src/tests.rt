@@ -1,6 +1,12 @@
 //! Runs of the program: what it prints, and its status.
 ghost use Rattle.std.specs.Prelude.{◌≡◌, ◌≢◌, All, Any};
+ghost use Rattle.command_line.specs.Asked.{HasLawfulCounts};
 
+mod compacting;
+mod places;
+mod refusing;
+
+use crate::dumps::FileDumps;
 use crate::images::Images;
 use crate::refusal::{Input, Refusal};
 use crate::run::{perform, run};
@@ -11,14 +17,16 @@ use std::alloc::Global;
 use std::fs;
 use std::io::{Error, ErrorKind, Result as IoResult, Write};
 use std::rt::Files;
+use std::sync::Wait;
 use std::test::Fail;
+use std::thread::Threads;
 
 // What a run printed, and its status.
 #[derive(Drop)]
-struct Ran {
-    status: u8,
-    out: String,
-    err: String,
+pub(crate) struct Ran {
+    pub status: u8,
+    pub out: String,
+    pub err: String,
 }
 
 fn words_of<R: AllocGlobal>(rt: &R, line: &str) -> Result<Vec<String>, Fail> {
@@ -30,7 +38,10 @@ fn words_of<R: AllocGlobal>(rt: &R, line: &str) -> Result<Vec<String>, Fail> {
 }
 
 // Runs the program on the words of a line.
-fn run_on<R: Files + AllocGlobal>(rt: &R, line: &str) -> Result<Ran, Fail> {
+pub(crate) fn run_on<R: Files + AllocGlobal + Threads + Wait + Sync>(
+    rt: &R,
+    line: &str,
+) -> Result<Ran, Fail> {
     let mut out = Vec::new(rt.alloc());
     let mut err = Vec::new(rt.alloc());
     let status = run(rt, words_of(rt, line)?, &mut out, &mut err);
@@ -42,7 +53,7 @@ fn run_on<R: Files + AllocGlobal>(rt: &R, line: &str) -> Result<Ran, Fail> {
 }
 
 // The image of three objects, of which the first and the last are marked.
-fn three_image(alloc: Global) -> Result<Vec<u8>, Fail> {
+pub(crate) fn three_image(alloc: Global) -> Result<Vec<u8>, Fail> {
     let mut bytes = b"COMPHEAP".to_vec(alloc)?;
     for count in [1u32, 7, 2, 1] {
         bytes.extend_from_slice(&count.to_le_bytes())?;
@@ -90,15 +101,15 @@ fn prints_words_and_plans(rt: HostRuntime) -> Result<(), Fail> {
 
 // An image in memory.
 #[derive(Drop)]
-struct Image<'a> {
-    path: &'a str,
-    bytes: &'a [u8],
+pub(crate) struct Image<'a> {
+    pub path: &'a str,
+    pub bytes: &'a [u8],
 }
 
 // Images in memory, each at its path.
 #[derive(Drop)]
-struct Memory<'a> {
-    images: &'a [Image<'a>],
+pub(crate) struct Memory<'a> {
+    pub images: &'a [Image<'a>],
 }
 
 impl<'a> Images for Memory<'a> {
@@ -117,14 +128,23 @@ impl<'a> Images for Memory<'a> {
 }
 
 // Does a task on images, wherever they lie, and tells what it answers, whether nothing is left to flush, and what it prints.
-fn performed<I: Images>(
-    alloc: Global,
+fn performed<R: AllocGlobal + Files + Threads + Wait + Sync, I: Images>(
+    rt: &R,
     images: &I,
     task: Task,
-) -> Result<(Result<(), Refusal>, bool, String), Fail> {
-    let mut bytes = Vec::new(alloc);
+) -> Result<(Result<(), Refusal>, bool, String), Fail>
+    requires { HasLawfulCounts task }
+{
+    let mut bytes = Vec::new(rt.alloc());
     let mut out = Counted::new(&mut bytes);
-    let answer = perform(alloc, images, task, &mut out);
+    let answer = perform(
+        rt.alloc(),
+        rt,
+        images,
+        &mut FileDumps { rt },
+        task,
+        &mut out,
+    );
     let flushed = out.is_flushed();
     Ok((answer, flushed, String::from_utf8(bytes)?))
 }
@@ -156,20 +176,12 @@ fn performs_tasks_on_images_in_memory(rt: HostRuntime) -> Result<(), Fail> {
         ),
         ("", 2, Err(Refusal::CannotOpen(Input::Image)), ""),
     ] {
-        let (answered, flushed, printed) = performed(
-            rt.alloc(),
-            &memory,
-            Task::Word { image, index },
-        )?;
+        let (answered, flushed, printed) = performed(&rt, &memory, Task::Word { image, index })?;
         assert_eq!(rt; answered, answer);
         assert!(rt; flushed);
         assert_eq!(rt; printed.as_str(), text);
     }
-    let (answered, flushed, printed) = performed(
-        rt.alloc(),
-        &memory,
-        Task::Plan { image: "three.img" },
-    )?;
+    let (answered, flushed, printed) = performed(&rt, &memory, Task::Plan { image: "three.img" })?;
     assert_eq!(rt; answered, Ok(()));
     assert!(rt; flushed);
     assert_eq!(rt;
@@ -309,7 +321,7 @@ impl Write for Failing {
 }
 
 // Runs the program on the words of a line, and tells its status and its one line of refusal.
-fn run_on_failing<R: Files + AllocGlobal>(
+fn run_on_failing<R: Files + AllocGlobal + Threads + Wait + Sync>(
     rt: &R,
     line: &str,
     out: &mut Failing,

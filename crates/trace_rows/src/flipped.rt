@@ -1,6 +1,7 @@
 //! Flipped heaps, and traces that are read for them.
 ghost use Rattle.std.specs.Prelude.{◌≡◌, length, IfOk};
 ghost use Rattle.comp_mutator.specs.Mutators.{setup_of};
+ghost use Rattle.comp_trace.specs.Bytes.{DidNothingYet};
 ghost use Rattle.comp_trace.specs.Races.{AreAll};
 ghost use Rattle.comp_trace.specs.Traces.{IsParsedFor};
 
@@ -27,6 +28,7 @@ pub fn flipped<L: Ledger, B: Builder>(
     requires parts { blank.parts ≡ L.parts }
     requires count { blank.parts ≡ n }
     ensures all { IfOk result (λ made. AreAll made.0 made.1.items) }
+    ensures new { IfOk result (λ made. DidNothingYet made.1.items) }
     ensures whole { IfOk result (λ made. (setup_of made.0).mutators ≡ n) }
 {
     let builder = Arc::new(alloc, builder)?;
@@ -34,8 +36,8 @@ pub fn flipped<L: Ledger, B: Builder>(
     Ok((space, mutators))
 }
 
-// How many roots the heap has.
-fn root_count<L: Ledger, B: Builder>(space: &Space<L, B>) -> Result<u16, Fail>
+/// How many roots the heap has.
+pub fn root_count<L: Ledger, B: Builder>(space: &Space<L, B>) -> Result<u16, Fail>
     ensures { IfOk result (λ count. count ≡ length (setup_of space.now).heap.roots) }
 {
     let all = space.roots();

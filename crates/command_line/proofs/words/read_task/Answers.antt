@@ -1,12 +1,19 @@
-use Rattle.command_line.proofs.Found.{error_told, answer_told, kind_at, neither_told, texts_utf8}
-use Rattle.command_line.proofs.TopLevel.{standing_plan, standing_program, standing_word}
+use Rattle.command_line.proofs.Found.{answer_counts, answer_told, error_told, kind_at, none_told, taken_at, texts_utf8}
+use Rattle.command_line.proofs.Parsed.{standing_commands}
+use Rattle.command_line.proofs.TopLevel.{standing_program}
 use Rattle.command_line.specs.Forms.{standing}
 use Rattle.command_line.proofs.words.read_task.Goals as goal
 
+pub task_of-requires-clause-taken : goal.task_of-requires-clause-taken
+task_of-requires-clause-taken c = taken_at standing standing_program _ _ c.in_ok-command.ensures c.in-Ok.ensures.kinds
+
 pub returns-in-Err-clause-asked : goal.returns-in-Err-clause-asked
-returns-in-Err-clause-asked c = answer_told standing standing_program standing_plan standing_word _ (texts_utf8 c.args.words.now) c.in-Err.error c.answer_task.result
+returns-in-Err-clause-asked c = answer_told standing standing_program standing_commands _ (texts_utf8 c.args.words.now) c.in-Err.error c.answer_task.result
     (kind_at standing standing_program _ _ c.in-Err.error c.in_ok-command.ensures c.in-Err.ensures.kinds) c.answer_task.ensures.answer
 
 pub returns-in-Err-clause-none : goal.returns-in-Err-clause-none
-returns-in-Err-clause-none c = neither_told _ c.answer_task.result (error_told standing standing_program standing_plan standing_word _ (texts_utf8 c.args.words.now) c.in-Err.error c.answer_task.result
+returns-in-Err-clause-none c = none_told _ c.answer_task.result (error_told standing standing_program standing_commands _ (texts_utf8 c.args.words.now) c.in-Err.error c.answer_task.result
     (kind_at standing standing_program _ _ c.in-Err.error c.in_ok-command.ensures c.in-Err.ensures.kinds) c.answer_task.ensures.error)
+
+pub returns-in-Err-clause-counts : goal.returns-in-Err-clause-counts
+returns-in-Err-clause-counts c = answer_counts c.in-Err.error c.answer_task.result c.answer_task.ensures.answer

@@ -1,12 +1,14 @@
-use Rattle.std.proofs.Common.{rules, ◌≡◌, ◌∙◌, codes, is_some, ap, Option, List, ℕ, None, Some, refl, IsSomeAnd, IfSome, sym, map, subst}
+use Rattle.std.proofs.Common.{rules, arith, [], ◌≡◌, ◌∙◌, All, IsUtf8, codes, is_some, ap, Option, List, ℕ, None, Some, refl, IsSomeAnd, IfSome, sym, map, subst}
 use Rattle.std.specs.String.{string_bytes}
 use Rattle.std.proofs.lemmas.Option.{same_Some}
-use Rattle.clap.specs.Words.{rows_of, found_of, subcommand_of}
-use Rattle.command_line.specs.Asked.{AsksPlan, AsksWord, IsNumber}
+use Rattle.clap.specs.Words.{fault_of, one_text, rows_of, found_of, subcommand_of}
+use Rattle.clap.specs.declared.parser.matches.Found.{Found}
+use Rattle.command_line.specs.Asked.{AsksPlan, AsksWord}
+use Rattle.command_line.specs.Given.{IsNumber}
 use Rattle.command_line.specs.Parser.{program}
-use Rattle.command_line.specs.Forms.{plan_form, standing, word_form}
-use Rattle.command_line.proofs.TopLevel.{standing_plan, standing_program, standing_word}
-use Rattle.command_line.proofs.Found.{command_asked, none_of_standing, plan_asked, same_name, texts_utf8, word_asked}
+use Rattle.command_line.specs.Forms.{compact_form, plan_form, standing, text, word_form}
+use Rattle.command_line.proofs.TopLevel.{standing_compact, standing_plan, standing_program, standing_word}
+use Rattle.command_line.proofs.Found.{CommandAsked, command_asked, compact_asked, none_of_standing, plan_asked, same_name, texts_utf8, two_paths, word_asked, workers_fit, workers_number, workers_within}
 use Rattle.command_line.proofs.words.task_of.Goals.{in_default-via-in-Some+in_default, in_default-via-in_default}
 use Rattle.command_line.proofs.words.task_of.Goals as goal
 
@@ -34,24 +36,67 @@ unreachable-requires c = elim c.in_default.branch [
       let found : subcommand_of (program standing) (map string_bytes c.args.words.now) ≡ Some (w.in_default.field-0.0.now, rows_of (found_of w.in_default.field-0.1.now)) = search rules in
       let no_plan : ¬ (w.in_default.field-0.0.now ≡ codes "plan") = search rules in
       let no_word : ¬ (w.in_default.field-0.0.now ≡ codes "word") = search rules in
+      let no_compact : ¬ (w.in_default.field-0.0.now ≡ codes "compact") = search rules in
       none_of_standing _ _ (texts_utf8 c.args.words.now) c.requires.taken found
-      (λ rows e. no_plan (same_name _ _ _ _ rows refl e)) (λ rows e. no_word (same_name _ _ _ _ rows refl e))
+      (λ rows e. no_plan (same_name _ _ _ _ rows refl e)) (λ rows e. no_word (same_name _ _ _ _ rows refl e)) (λ rows e. no_compact (same_name _ _ _ _ rows refl e))
   | in_default-via-in_default w ↦
       let found : subcommand_of (program standing) (map string_bytes c.args.words.now) ≡ None = search rules in
-      none_of_standing _ _ (texts_utf8 c.args.words.now) c.requires.taken found (λ rows e. cc) (λ rows e. cc)
+      none_of_standing _ _ (texts_utf8 c.args.words.now) c.requires.taken found (λ rows e. cc) (λ rows e. cc) (λ rows e. cc)
 ]
 
-pub returns-in-Some-plan-default : goal.returns-in-Some-plan-default
-returns-in-Some-plan-default c =
+pub returns-in-Some-plan-default-clause-asked : goal.returns-in-Some-plan-default-clause-asked
+returns-in-Some-plan-default-clause-asked c =
     let found : subcommand_of (program standing) (map string_bytes c.args.words.now) ≡ Some (codes "plan", rows_of (found_of c.in-Some-plan-default.found.now)) = search rules in
     let got = plan_asked _ (found_of c.in-Some-plan-default.found.now) (command_asked standing standing_program plan_form standing_plan _ (found_of c.in-Some-plan-default.found.now) (texts_utf8 c.args.words.now) c.requires.taken found) in
     let same : c.text_of.result.now ≡ got.0 = same_Some _ _ (c.text_of.ensures ∙ got.1) in
     subst (AsksPlan (map string_bytes c.args.words.now)) (sym same) got.2
 
-pub returns-in-Some-word-default : goal.returns-in-Some-word-default
-returns-in-Some-word-default c =
+pub returns-in-Some-word-default-clause-asked : goal.returns-in-Some-word-default-clause-asked
+returns-in-Some-word-default-clause-asked c =
     let found : subcommand_of (program standing) (map string_bytes c.args.words.now) ≡ Some (codes "word", rows_of (found_of c.in-Some-word-default.found.now)) = search rules in
     let got = word_asked _ (found_of c.in-Some-word-default.found.now) (command_asked standing standing_program word_form standing_word _ (found_of c.in-Some-word-default.found.now) (texts_utf8 c.args.words.now) c.requires.taken found) in
     let same : c.text_of-in-Some-word-default.result.now ≡ got.0 = same_Some _ _ (c.text_of-in-Some-word-default.ensures ∙ got.2) in
     let number : IsNumber got.1 c.number_of.result = subst (λ (o : Option (List ℕ)). IfSome o (λ text. IsNumber text c.number_of.result)) got.3 c.number_of.ensures in
     subst (λ (path : List ℕ). AsksWord (map string_bytes c.args.words.now) path c.number_of.result) (sym same) (got.5 c.number_of.result number)
+
+-- what `compact` was given, where it was entered
+compact_given : (words : List (List ℕ)) (f : Found) → All IsUtf8 words → fault_of (program standing) words ≡ []
+    → subcommand_of (program standing) words ≡ Some (codes "compact", rows_of f) → CommandAsked words f compact_form
+compact_given words f utf8 taken found = command_asked standing standing_program compact_form standing_compact words f utf8 taken found
+
+pub text_of-requires-in-Some-compact-default : goal.text_of-requires-in-Some-compact-default
+text_of-requires-in-Some-compact-default c =
+    let found : subcommand_of (program standing) (map string_bytes c.args.words.now) ≡ Some (codes "compact", rows_of (found_of c.in-Some-compact-default.found.now)) = search rules in
+    let given = compact_given _ (found_of c.in-Some-compact-default.found.now) (texts_utf8 c.args.words.now) c.requires.taken found in
+    (two_paths (map string_bytes c.args.words.now) (found_of c.in-Some-compact-default.found.now) compact_form given (text (codes "IMAGE")) (text (codes "DUMP")) refl).0
+
+pub text_of-requires-in-Some-compact-default-2 : goal.text_of-requires-in-Some-compact-default-2
+text_of-requires-in-Some-compact-default-2 c =
+    let found : subcommand_of (program standing) (map string_bytes c.args.words.now) ≡ Some (codes "compact", rows_of (found_of c.in-Some-compact-default.found.now)) = search rules in
+    let given = compact_given _ (found_of c.in-Some-compact-default.found.now) (texts_utf8 c.args.words.now) c.requires.taken found in
+    (two_paths (map string_bytes c.args.words.now) (found_of c.in-Some-compact-default.found.now) compact_form given (text (codes "IMAGE")) (text (codes "DUMP")) refl).1
+
+pub count_of-requires : goal.count_of-requires
+count_of-requires c =
+    let found : subcommand_of (program standing) (map string_bytes c.args.words.now) ≡ Some (codes "compact", rows_of (found_of c.in-Some-compact-default.found.now)) = search rules in
+    let given = compact_given _ (found_of c.in-Some-compact-default.found.now) (texts_utf8 c.args.words.now) c.requires.taken found in
+    workers_number (one_text (found_of c.in-Some-compact-default.found.now) (codes "workers")) (workers_fit (map string_bytes c.args.words.now) (found_of c.in-Some-compact-default.found.now) given)
+
+pub overflow_cast-result : goal.overflow_cast-result
+overflow_cast-result c =
+    let found : subcommand_of (program standing) (map string_bytes c.args.words.now) ≡ Some (codes "compact", rows_of (found_of c.in-Some-compact-default.found.now)) = search rules in
+    let given = compact_given _ (found_of c.in-Some-compact-default.found.now) (texts_utf8 c.args.words.now) c.requires.taken found in
+    omega (arith, (workers_within (map string_bytes c.args.words.now) (found_of c.in-Some-compact-default.found.now) given c.count_of.result c.count_of.ensures).1)
+
+pub returns-in-Some-compact-default-clause-asked : goal.returns-in-Some-compact-default-clause-asked
+returns-in-Some-compact-default-clause-asked c =
+    let found : subcommand_of (program standing) (map string_bytes c.args.words.now) ≡ Some (codes "compact", rows_of (found_of c.in-Some-compact-default.found.now)) = search rules in
+    let given = compact_given _ (found_of c.in-Some-compact-default.found.now) (texts_utf8 c.args.words.now) c.requires.taken found in
+    compact_asked (map string_bytes c.args.words.now) (found_of c.in-Some-compact-default.found.now) given c.text_of-in-Some-compact-default.result.now c.text_of-in-Some-compact-default-2.result.now c.count_of.result
+    c.text_of-in-Some-compact-default.ensures c.text_of-in-Some-compact-default-2.ensures c.count_of.ensures
+
+pub returns-in-Some-compact-default-clause-counts : goal.returns-in-Some-compact-default-clause-counts
+returns-in-Some-compact-default-clause-counts c =
+    let found : subcommand_of (program standing) (map string_bytes c.args.words.now) ≡ Some (codes "compact", rows_of (found_of c.in-Some-compact-default.found.now)) = search rules in
+    let given = compact_given _ (found_of c.in-Some-compact-default.found.now) (texts_utf8 c.args.words.now) c.requires.taken found in
+    workers_within (map string_bytes c.args.words.now) (found_of c.in-Some-compact-default.found.now) given c.count_of.result c.count_of.ensures

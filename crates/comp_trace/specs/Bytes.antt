@@ -1,0 +1,93 @@
+-- What a replay shows, by the bytes of an image and the text of a trace.
+use Rattle.std.specs.Prelude.{◌≡◌, ◌⊎◌, ℕ, ◌+◌, List, [], Ok, Err, length, take}
+use mathlib.Core.Option.{some}
+use lib.ListN.{get_elem?}
+use Rattle.heap_layout.specs.Encoding.{encoding, AreCounted}
+use Rattle.heap_layout.specs.Heap.{live, Heap, IsStored}
+use Rattle.page_plan.specs.Sliding.{pages}
+use Rattle.cell_steps.specs.Lists.{Each}
+use Rattle.cell_steps.specs.Locks.{Journals}
+use Rattle.cell_steps.specs.Passes.{did, seen, KnowsFresh}
+use Rattle.cell_steps.specs.Setup.{Setup}
+use Rattle.cell_steps.specs.declared.pass.Pass.{Pass}
+use Rattle.page_cells.specs.Objects.{HasHeader}
+use Rattle.comp_history.specs.Merged.{written_by}
+use Rattle.comp_mutator.specs.Mutators.{pass_of}
+use Rattle.comp_mutator.specs.declared.mutator.Mutator.{Mutator}
+use Rattle.comp_mutator.specs.declared.refusal.Refusal.{Refusal}
+use Rattle.comp_trace.specs.Acting.{Refuses}
+use Rattle.comp_trace.specs.Grammar.{trace_of, IsReadAs}
+use Rattle.comp_trace.specs.Runs.{beginning, with_entries, Moment, Runs}
+use Rattle.comp_trace.specs.declared.fault.TraceFault.{TraceFault}
+use Rattle.comp_trace.specs.declared.fault.TraceFault.TheVariants.{BadLine, NoSuchMutator, NoSuchRegister, NumberTooLarge, NoSuchRoot, Refused, OutOfMemory}
+use Rattle.comp_trace.specs.declared.line.Line.{Line}
+use Rattle.comp_trace.specs.declared.shown.Shown.{Shown}
+
+-- nothing was written
+abbrev pub no_entries : Journals
+no_entries p = []
+
+-- none of these mutators has written anything
+abbrev pub DidNothingYet : {L : Type 0} → List (Mutator L) → Type 0
+DidNothingYet {L} mutators = Each mutators (λ (m : Mutator L). did (pass_of m) ≡ [])
+
+-- The text is a trace, whose run from no entries at all shows these values.
+pub record Shows (u : Setup) (text : List ℕ) (shown : List Shown) : Type 0 where
+  pub lines : List Line
+  pub text_is : trace_of u.mutators (length u.heap.roots) text ≡ Ok lines
+  pub end : Moment
+  pub runs : Runs u no_entries 1 lines beginning end
+  pub shown_is : shown ≡ end.shown
+
+-- The text is a trace, whose run from no entries at all shows these values before the line of this number. The call of that line was refused to a mutator that knew
+-- all entries, and all objects.
+pub record ShowsUntil (u : Setup) (text : List ℕ) (shown : List Shown) (number : ℕ) (refusal : Refusal) : Type 0 where
+  pub lines : List Line
+  pub text_is : trace_of u.mutators (length u.heap.roots) text ≡ Ok lines
+  pub count : ℕ
+  pub number_is : number ≡ count + 1
+  pub line : Line
+  pub there : get_elem? lines count ≡ some line
+  pub end : Moment
+  pub runs : Runs u no_entries 1 (take count lines) beginning end
+  pub shown_is : shown ≡ end.shown
+  pub old : Pass
+  pub new : Pass
+  pub did : did old ≡ written_by line.mutator end.added
+  pub knows : (p : ℕ) → seen old p ≡ with_entries no_entries end.added p
+  pub starts : (p offset header : ℕ) → HasHeader (with_entries no_entries end.added p) offset header → KnowsFresh old p offset
+  pub refuses : Refuses u line.action (end.registers line.mutator) old new refusal
+
+-- the run stopped: before its first line, for want of memory, or at a refused line
+abbrev pub Interrupts : Setup → List ℕ → List Shown → TraceFault → Type 0
+Interrupts u text shown (Refused number refusal) = ShowsUntil u text shown number refusal
+Interrupts u text shown OutOfMemory = shown ≡ []
+Interrupts u text shown (BadLine number) = ⊥
+Interrupts u text shown (NoSuchMutator number) = ⊥
+Interrupts u text shown (NoSuchRegister number) = ⊥
+Interrupts u text shown (NumberTooLarge number) = ⊥
+Interrupts u text shown (NoSuchRoot number) = ⊥
+
+-- the text is no trace, by this fault, or reading it wanted memory
+abbrev pub IsNoTrace : Setup → List ℕ → TraceFault → Type 0
+IsNoTrace u text fault = IsReadAs {A = List Line} (λ lines. lines) (Err fault) (trace_of u.mutators (length u.heap.roots) text)
+
+-- why a text shows no more than these values
+abbrev pub StopsShowing : Setup → List ℕ → List Shown → TraceFault → Type 0
+StopsShowing u text shown fault = ((shown ≡ []) × IsNoTrace u text fault) ⊎ Interrupts u text shown fault
+
+-- what a flipped heap is about
+abbrev pub flipped : Heap → ℕ → ℕ → Setup
+flipped heap mutators fresh = record { heap = heap; compacted = pages (live heap); fresh = fresh; mutators = mutators }
+
+-- The image is a heap's, and the trace is run over that heap.
+pub record ReplayShows (mutators fresh : ℕ) (image text : List ℕ) (shown : List Shown) : Type 0 where
+  pub heap : Heap
+  pub stored : IsStored heap
+  pub counted : AreCounted heap
+  pub image_is : image ≡ encoding heap
+  pub shows : Shows (flipped heap mutators fresh) text shown
+
+-- the same bytes show the same values
+abbrev pub ShowOnce : Type 0
+ShowOnce = (mutators fresh : ℕ) (image text : List ℕ) (shown other : List Shown) → ReplayShows mutators fresh image text shown → ReplayShows mutators fresh image text other → shown ≡ other

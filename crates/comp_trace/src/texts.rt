@@ -1,0 +1,41 @@
+//! Texts of traces that are run.
+ghost use Rattle.std.specs.Prelude.{◌≡◌, length, IfErr, IfOk};
+ghost use Rattle.comp_mutator.specs.Mutators.{setup_of};
+ghost use Rattle.comp_trace.specs.Bytes.{DidNothingYet, Shows, StopsShowing};
+ghost use Rattle.comp_trace.specs.Races.{AreAll};
+
+use crate::parsing::parse;
+use crate::replay::{Stopped, replay};
+use crate::shown::Shown;
+use comp_mutator::mutator::Mutator;
+use comp_mutator::space::Space;
+use page_plan::builder::Builder;
+use std::alloc::Global;
+use std::sync::ledger::Ledger;
+
+/// Reads the text of a trace, and runs it over a space whose mutators have written nothing yet. There are `count` mutators and `roots` shared roots.
+///
+/// The fault is that of the text, and no line has run, or the one for which the replay stopped.
+pub fn replay_text<L: Ledger, B: Builder>(
+    alloc: Global,
+    text: &[u8],
+    count: u8,
+    roots: u16,
+    space: &Space<L, B>,
+    mutators: &mut Vec<Mutator<L>>,
+) -> Result<Vec<Shown>, Stopped>
+    requires all { AreAll space.now mutators.old.items }
+    requires new { DidNothingYet mutators.old.items }
+    requires counts { (count ≡ (setup_of space.now).mutators) × (roots ≡ length (setup_of space.now).heap.roots) }
+    ensures all { AreAll space.now mutators.new.items }
+    ensures shows { IfOk result (λ shown. Shows (setup_of space.now) text.now shown.items) }
+    ensures stopped { IfErr result (λ stopped. StopsShowing (setup_of space.now) text.now stopped.shown.items stopped.fault) }
+{
+    match parse(alloc, text, count, roots) {
+        Ok(trace) => replay(alloc, &trace, space, mutators),
+        Err(fault) => Err(Stopped {
+            shown: Vec::new(alloc),
+            fault,
+        }),
+    }
+}

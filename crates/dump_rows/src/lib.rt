@@ -1,0 +1,21 @@
+//! Dumps of worked heaps, written, read, cut and changed: what no contract says, with values from outside.
+#![tactic(auto)]
+
+#[cfg(test)]
+mod cuts;
+#[cfg(test)]
+mod devices;
+#[cfg(test)]
+mod dumped;
+#[cfg(test)]
+mod encoded;
+#[cfg(test)]
+mod failing;
+#[cfg(test)]
+mod fields;
+#[cfg(test)]
+mod finished;
+#[cfg(test)]
+mod heads;
+#[cfg(test)]
+mod written;
