@@ -37,7 +37,8 @@ returns-in-Ok c =
 
 pub returns-in-Err-Fault : goal.returns-in-Err-Fault
 returns-in-Err-Fault c =
-    told_first _ _ c.check-found.result c.in-Err-Fault.field-0 c.in-Err-Fault.fault c.in-Err-Fault.is c.in-Err-Fault.field-0-is
+    let was = rw c.in-Err-Fault.is at c.in-Err-Fault.field-0-is in
+    told_first _ _ c.check-found.result c.in-Err-Fault.field-0 c.in-Err-Fault.fault c.in-Err-Fault.is was
     (parts_faults c.args.plan.now c.args.dump.now c.fresh_pages.result c.mutators.result c.roots.result.now (items_of c.builds.result.now) c.pages.result.now
     c.live_words.result c.fresh_pages.ensures c.mutators.ensures c.roots.ensures c.builds.ensures c.pages.ensures c.live_words.ensures.total)
     c.check-found.ensures

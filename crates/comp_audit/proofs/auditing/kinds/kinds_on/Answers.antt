@@ -1,4 +1,4 @@
-use Rattle.std.proofs.Common.{◌∙◌, List, [], ap, sym, arith}
+use Rattle.std.proofs.Common.{◌∙◌, List, [], length, ap, sym, arith}
 use Rattle.std.specs.Prelude.{slice_get}
 use Rattle.heap_layout.specs.declared.kind.Kind.{Kind}
 use Rattle.page_cells.proofs.Fields.{compacted_kind}
@@ -13,8 +13,13 @@ returns-then-p-pages c = λ o inside. c.page_kinds.ensures o inside ∙ sym (com
 pub kinds_made-requires : goal.kinds_made-requires
 kinds_made-requires c = room_on (setup_at c.args.setting) c.args.p [] c.args.journal.now (omega arith) c.requires.lawful
 
-pub returns-else-p-pages : goal.returns-else-p-pages
-returns-else-p-pages c = λ o inside.
+pub spread-requires : goal.spread-requires
+spread-requires c =
+    let room = room_on (setup_at c.args.setting) c.args.p [] c.args.journal.now (omega arith) c.requires.lawful in
+    omega (arith, room, ap length (c.deref.ensures.value ∙ c.in_ok-kinds.ensures))
+
+pub returns-in_ok-kinds : goal.returns-in_ok-kinds
+returns-in_ok-kinds c = λ o inside.
     c.spread.ensures o
     ∙ ap (λ (l : List Kind). slice_get l o) (c.deref.ensures.value ∙ c.in_ok-kinds.ensures)
     ∙ sym (fresh_kind (setup_at c.args.setting) c.args.p c.args.journal.now o (omega arith))

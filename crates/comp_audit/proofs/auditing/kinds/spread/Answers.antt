@@ -1,18 +1,18 @@
-use Rattle.std.proofs.Common.{◌≡◌, ◌∙◌, ℕ, ◌+◌, ◌<◌, ◌≤◌, List, length, get_or, set, Option, Some, None, inl, inr, sym, subst, refl, arith, length-replicate}
+use Rattle.std.proofs.Common.{◌≡◌, ◌∙◌, ℕ, ◌+◌, ◌<◌, ◌≤◌, List, length, get_or, set, Option, Some, None, inl, inr, sym, subst, refl, arith}
 use Rattle.std.specs.Prelude.{replicate, slice_get}
 use Rattle.std.proofs.lemmas.Bool.{cases_lt}
-use Rattle.std.proofs.lemmas.List.{length-set, get_or-replicate, get_or_past, get_or-set_same, get_or-set_other}
+use Rattle.std.proofs.lemmas.List.{length-replicate, length-set, get_or-replicate, get_or_past, get_or-set_same, get_or-set_other}
 use Rattle.std.proofs.lemmas.Option.{slice_get-get_or, slice_get_past}
 use Rattle.heap_layout.specs.declared.kind.Kind.{Kind}
 use Rattle.heap_layout.specs.declared.kind.Kind.TheVariants.{Header}
 use Rattle.comp_audit.proofs.auditing.kinds.spread.Goals as goal
 
 -- none is told yet
-none_told : (n o : ℕ) → get_or (replicate n (None {A = Kind})) o None ≡ None
-none_told n o =
+none_told : (n o : ℕ) (none : Option Kind) → get_or (replicate n none) o none ≡ none
+none_told n o none =
     elim (cases_lt o n) [
-      | inl lt ↦ get_or-replicate n o None None lt
-      | inr ge ↦ get_or_past (replicate n (None {A = Kind})) o None (omega (arith, length-replicate n (None {A = Kind}), ge))
+      | inl lt ↦ get_or-replicate n o none none lt
+      | inr ge ↦ get_or_past (replicate n none) o none (omega (arith, length-replicate n none, ge))
     ]
 
 -- one kind more
@@ -42,7 +42,7 @@ all_told kinds all i past told rest o =
     ]
 
 pub loop-offset-init : goal.loop-offset-init
-loop-offset-init c = record { long = refl; told = λ o lt. absurd (omega (arith, lt)); rest = λ o le. none_told 64 o }
+loop-offset-init c = record { long = refl; told = λ o lt. absurd (omega (arith, lt)); rest = λ o le. none_told 64 o None }
 
 pub loop-offset-preserved : goal.loop-offset-preserved
 loop-offset-preserved c =
