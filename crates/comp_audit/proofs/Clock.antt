@@ -30,7 +30,7 @@ stamps_long journals (suc n) =
     let front = entries_below journals n in
     let last = with_page n (journals n) in
     let rest = stamps_long journals n in
-    omega (arith, rest, length-map (front ++ last) stamp_of, length-map front stamp_of, length-append front last, length-map (journals n) (λ (e : Entry). (n, e)))
+    omega (arith, rest, length-map (front ++ last) stamp_of, length-map front stamp_of, length-append front last, length-map {B = ℕ × Entry} (journals n) (λ (e : Entry). (n, e)))
 
 only_few : (s x : ℕ) (xs : List ℕ) → times s (x ∷ xs) ≤ 1 + times s xs
 only_few s x xs =
