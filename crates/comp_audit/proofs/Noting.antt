@@ -1,5 +1,5 @@
 -- The starts of new objects, one header after the other.
-use Rattle.std.proofs.Common.{◌≡◌, ◌≢◌, ℕ, ◌+◌, ◌-◌, ◌*◌, ◌<◌, ◌≤◌, Bool, true, false, cond, eqb, ltb, ◌&&◌, ◌||◌, List, [], ◌∷◌, ◌++◌, length, take, get_or, set, All, Option, Some, None, is_some, refl, sym, ap, subst, ◌∙◌, inl, inr, arith, append_assoc}
+use Rattle.std.proofs.Common.{◌≡◌, ◌≢◌, ℕ, ◌+◌, ◌-◌, ◌*◌, ◌<◌, ◌≤◌, min, Bool, true, false, cond, eqb, ltb, ◌&&◌, ◌||◌, List, [], ◌∷◌, ◌++◌, length, take, get_or, set, All, Option, Some, None, is_some, refl, sym, ap, subst, ◌∙◌, inl, inr, arith, append_assoc}
 use Rattle.std.specs.List.{list_any}
 use Rattle.std.proofs.lemmas.Bool.{cases_lt, cases_eq, lt-ltb, le-ltb, eq-eqb, ne_eqb}
 use Rattle.std.proofs.lemmas.List.{get_or-set_same, get_or-set_other}
@@ -66,11 +66,11 @@ notes_other starts all x ne notes = record {
   older = λ a n. notes.older a n ∙ sym (any_less (λ (y : ℕ × Entry). makes a y && ltb (stamp_of y) n) all x (ap (λ (b : Bool). b && ltb (stamp_of x) n) (makes_none x a ne)));
 }
 
--- a header that was noted
-pub notes_header : (old new : Stamped) (all : List (ℕ × Entry)) (x : ℕ × Entry) → x.1.kind ≡ Header → is_some (stamp_at new (address_of x)) ≡ true
+-- a header that was noted at its address
+noted_header : (old new : Stamped) (all : List (ℕ × Entry)) (x : ℕ × Entry) → x.1.kind ≡ Header → is_some (stamp_at new (address_of x)) ≡ true
     → ((n : ℕ) → is_noted_before new (address_of x) n ≡ (is_noted_before old (address_of x) n || ltb (stamp_of x) n))
     → ((a : ℕ) → a ≢ address_of x → stamp_at new a ≡ stamp_at old a) → Notes old all → Notes new (all ++ x ∷ [])
-notes_header old new all x head some older elsewhere notes =
+noted_header old new all x head some older elsewhere notes =
     let older_test = λ (a n : ℕ) (y : ℕ × Entry). makes a y && ltb (stamp_of y) n in
     record {
       some = λ a. elim (cases_eq a (address_of x)) [
@@ -87,19 +87,24 @@ notes_header old new all x head some older elsewhere notes =
       ];
     }
 
--- the lesser of two stamps is below what one of them is below
-pub kept_below : (other stamp n : ℕ) → other ≤ stamp → ltb other n ≡ (ltb other n || ltb stamp n)
-kept_below other stamp n le =
-    elim (cases_lt other n) [
-      | inl lt ↦ rw (lt-ltb other n lt) refl
-      | inr ge ↦ rw (le-ltb other n ge, le-ltb stamp n (omega (arith, le, ge))) refl
-    ]
+pub notes_header : (old new : Stamped) (all : List (ℕ × Entry)) (x : ℕ × Entry) (a : ℕ) → a ≡ address_of x → x.1.kind ≡ Header → is_some (stamp_at new a) ≡ true
+    → ((n : ℕ) → is_noted_before new a n ≡ (is_noted_before old a n || ltb (stamp_of x) n))
+    → ((b : ℕ) → b ≢ a → stamp_at new b ≡ stamp_at old b) → Notes old all → Notes new (all ++ x ∷ [])
+notes_header old new all x a is head some older elsewhere notes =
+    noted_header old new all x head (subst (λ (b : ℕ). is_some (stamp_at new b) ≡ true) is some)
+    (λ n. subst (λ (b : ℕ). is_noted_before new b n ≡ (is_noted_before old b n || ltb (stamp_of x) n)) is (older n))
+    (λ b ne. elsewhere b (λ e. ne (e ∙ is))) notes
 
-pub less_below : (other stamp n : ℕ) → stamp < other → ltb stamp n ≡ (ltb other n || ltb stamp n)
-less_below other stamp n less =
-    elim (cases_lt stamp n) [
-      | inl lt ↦ rw (lt-ltb stamp n lt) (sym (or_true (ltb other n)))
-      | inr ge ↦ rw (le-ltb stamp n ge, le-ltb other n (omega (arith, less, ge))) refl
+-- the lesser of two stamps is below what one of them is below
+pub lesser_below : (one other n : ℕ) → ltb (min one other) n ≡ (ltb one n || ltb other n)
+lesser_below one other n =
+    elim (cases_lt one n) [
+      | inl lt ↦ rw (lt-ltb (min one other) n (omega (arith, lt)), lt-ltb one n lt) refl
+      | inr ge ↦
+          elim (cases_lt other n) [
+            | inl less ↦ rw (lt-ltb (min one other) n (omega (arith, less)), le-ltb one n ge, lt-ltb other n less) refl
+            | inr above ↦ rw (le-ltb (min one other) n (omega (arith, ge, above)), le-ltb one n ge, le-ltb other n above) refl
+          ]
     ]
 
 -- what is noted at an address, and what stays elsewhere

@@ -1,15 +1,16 @@
 //! The third check: each entry may follow those before it on its page.
-ghost use Rattle.std.specs.Prelude.{◌≡◌, ℕ, List, ◌+◌, ◌<◌, ◌≤◌, [], All, length, true};
-ghost use Rattle.heap_layout.specs.Heap.{Heap};
+ghost use Rattle.std.specs.Prelude.{◌≡◌, ℕ, List, ◌+◌, ◌*◌, ◌<◌, ◌≤◌, [], All, None, length, slice_index_or, true};
+ghost use Rattle.heap_layout.specs.Heap.{Heap, live};
+ghost use Rattle.page_plan.specs.Sliding.{kind};
 ghost use Rattle.comp_journal.specs.declared.entry.Entry.{Entry};
-ghost use Rattle.cell_steps.specs.Setup.{fresh_page, pages};
+ghost use Rattle.cell_steps.specs.Setup.{fresh_page, pages, Setup};
 ghost use Rattle.cell_steps.specs.Lawful.{kinds_by, kinds_in};
 ghost use Rattle.comp_audit.specs.Checks.{each_built, entry_faults, fits, journal_faults, setup_for};
 ghost use Rattle.comp_audit.specs.Dumped.{IsStoredEntry, IsStoredRecord};
 ghost use Rattle.comp_audit.specs.Judged.{Tells};
 ghost use Rattle.comp_audit.specs.Noted.{setup_at};
 
-use crate::auditing::kinds::{add_kinds, is_of};
+use crate::auditing::kinds::{add_kinds, is_of, is_word_of};
 use crate::auditing::setting::Setting;
 use crate::page::DumpedPage;
 use crate::verdict::{AuditFault, Stop};
@@ -62,15 +63,25 @@ fn check_compacted(setting: Setting<'_>, p: u64, journal: &[Entry]) -> Result<()
     let kinds = setting.plan.page_kinds(p);
     let mut low = 0;
     for (k, &entry) in journal.iter().enumerate() {
-        if u128::from(entry.stamp) < low
-            || entry.kind == Kind::Header
-            || kinds[entry.offset as usize] != Some(entry.kind)
-        {
+        if u128::from(entry.stamp) < low || !may_change(&kinds, entry) {
             return Err(Stop::Fault(AuditFault::BadEntry(p, k as u64)));
         }
         low = u128::from(entry.stamp) + 1;
     }
     Ok(())
+}
+
+/// Whether an entry may stand on a compacted page with these words: it makes no object, and changes a word of its kind.
+fn may_change(kinds: &[Option<Kind>; 64], entry: Entry) -> bool
+    requires inside { entry.offset < 64 }
+    ensures { (u : Setup) (p : ℕ) (before : List Entry) → p < u.compacted
+        → ((offset : ℕ) → offset < 64 → slice_index_or kinds.now offset None ≡ kind (live u.heap) (64 * p + offset))
+        → result ≡ fits u p before entry.kind entry.writer entry.offset entry.value }
+{
+    match entry.kind {
+        Kind::Header => false,
+        Kind::Reference | Kind::Data => is_word_of(kinds[entry.offset as usize], entry.kind),
+    }
 }
 
 /// The same, of page `p`, which is fresh page `number`.

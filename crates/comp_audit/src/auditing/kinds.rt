@@ -89,6 +89,13 @@ fn push_kinds(kinds: &mut Vec<Kind>, count: u16, kind: Kind)
     }
 }
 
+/// Whether a word, if there is one, is of this kind.
+pub fn is_word_of(found: Option<Kind>, kind: Kind) -> bool
+    ensures { result ≡ is_kind kind found }
+{
+    found == Some(kind)
+}
+
 /// Whether the word at an offset is of this kind.
 pub fn is_of(kinds: &[Kind], offset: u8, kind: Kind) -> bool
     ensures { result ≡ is_kind kind (slice_get kinds.now offset) }

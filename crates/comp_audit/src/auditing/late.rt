@@ -79,8 +79,9 @@ fn earlier(found: Option<Late>, late: Late) -> Late
         → IsEarliest (λ s. faults s ++ unless (not (late.stamp == s)) (BadEntry late.page late.number)) (Some result) }
 {
     match found {
+        None => late,
         Some(other) if other.stamp <= late.stamp => other,
-        _ => late,
+        Some(_) => late,
     }
 }
 

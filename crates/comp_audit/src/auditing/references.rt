@@ -9,7 +9,7 @@ ghost use Rattle.comp_audit.specs.Dumped.{IsStoredPage, IsStoredRecord};
 ghost use Rattle.comp_audit.specs.Judged.{Tells};
 ghost use Rattle.comp_audit.specs.Noted.{leads, setup_at};
 
-use crate::auditing::kinds::kinds_on;
+use crate::auditing::kinds::{is_word_of, kinds_on};
 use crate::auditing::setting::Setting;
 use crate::auditing::starts::Starts;
 use crate::page::DumpedPage;
@@ -71,7 +71,7 @@ fn check_loose(
     ensures { Tells (loose_faults (λ offset. is_kind sorts.Reference (slice_index_or kinds.now offset None)) (leads plan.now starts.now) p words.now) result }
 {
     for (offset, &word) in words.iter().enumerate() {
-        if kinds[offset] == Some(Kind::Reference) && word != 0 && !starts.leads(plan, word) {
+        if is_word_of(kinds[offset], Kind::Reference) && word != 0 && !starts.leads(plan, word) {
             let address = TO_SPACE + 64 * p + offset as u64;
             return Err(Stop::Fault(AuditFault::LooseReference(address)));
         }

@@ -1,5 +1,5 @@
 //! Where new objects start: the places of all headers that were written, each with the least stamp of one.
-ghost use Rattle.std.specs.Prelude.{◌≡◌, ◌≢◌, ℕ, List, ◌+◌, ◌*◌, ◌<◌, ◌≤◌, ◌++◌, ◌||◌, IfOk, All, length, nat_lt, is_some, true, Some, None};
+ghost use Rattle.std.specs.Prelude.{◌≡◌, ◌≢◌, ℕ, List, ◌+◌, ◌*◌, ◌<◌, ◌≤◌, [], ◌∷◌, ◌++◌, ◌||◌, IfOk, All, length, nat_lt, is_some, true, Some, None};
 ghost use Rattle.heap_layout.specs.declared.kind.Kind.TheVariants as sorts;
 ghost use Rattle.comp_journal.specs.declared.entry.Entry.{Entry};
 ghost use Rattle.cell_steps.specs.Setup.{address, pages};
@@ -52,10 +52,7 @@ impl Starts {
         ensures elsewhere { (a : ℕ) → a ≢ address → stamp_at self.new a ≡ stamp_at self.old a }
     {
         let i = (address - self.first) as usize;
-        let least = match self.stamps[i] {
-            Some(other) if other <= stamp => other,
-            _ => stamp,
-        };
+        let least = lesser(self.stamps[i], stamp);
         self.stamps[i] = Some(least);
     }
 
@@ -90,6 +87,16 @@ impl Starts {
     }
 }
 
+/// The lesser of a stamp that was noted, if there is one, and another.
+fn lesser(noted: Option<u64>, stamp: u64) -> u64
+    ensures { (n : ℕ) → nat_lt result n ≡ (is_below noted n || nat_lt stamp n) }
+{
+    match noted {
+        Some(other) => other.min(stamp),
+        None => stamp,
+    }
+}
+
 /// The starts of all new objects.
 pub fn starts_of(
     alloc: Global,
@@ -118,8 +125,20 @@ fn note_page(starts: &mut Starts, p: u64, journal: &[Entry])
     ensures noted { (all : List (ℕ × Entry)) → Notes starts.old all → Notes starts.new (all ++ with_page p journal.now) }
 {
     for &entry in journal {
-        if entry.kind == Kind::Header {
-            starts.note(TO_SPACE + 64 * p + u64::from(entry.offset), entry.stamp);
-        }
+        note_entry(starts, p, entry);
+    }
+}
+
+/// Notes an entry of page `p`, if it writes a header.
+fn note_entry(starts: &mut Starts, p: u64, entry: Entry)
+    requires inside { p < 20480 }
+    requires covered { entry.kind ≡ sorts.Header → (starts.old.first ≤ address p entry.offset) × (address p entry.offset < starts.old.first + length starts.old.stamps) }
+    ensures same { (starts.new.first ≡ starts.old.first) × (length starts.new.stamps ≡ length starts.old.stamps) }
+    ensures noted { (all : List (ℕ × Entry)) → Notes starts.old all → Notes starts.new (all ++ (p, entry) ∷ []) }
+{
+    match entry.kind {
+        Kind::Header => starts.note(TO_SPACE + 64 * p + u64::from(entry.offset), entry.stamp),
+        Kind::Reference => (),
+        Kind::Data => (),
     }
 }

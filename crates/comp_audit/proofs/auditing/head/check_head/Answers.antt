@@ -20,5 +20,5 @@ returns-clause-told c =
     let heap = c.args.setting.plan.now in
     let right : c.in_ok-forwarded.forwarded.items ≡ map (forwarded (live heap)) heap.roots = are_forwarded (forward (live heap)) _ _ c.in_ok-forwarded.ensures in
     let there = ap (bytes_eq c.args.roots.now) (c.as_slice.ensures.value ∙ right) in
-    let long : length c.args.records.now ≡ pages (setup_at c.args.setting) = omega (arith, c.if-len-pages.false, c.pages.ensures.pages, c.from.ensures) in
+    let long : length c.args.records.now ≡ pages (setup_at c.args.setting) = omega (arith, c.if-records-pages.false, c.pages.ensures.pages, c.from.ensures) in
     both_pass _ _ _ (eq-eqb _ _ long) (sym there ∙ not-false _ (sym c.ne.ensures ∙ c.if-ne.false))

@@ -7,7 +7,7 @@ use Rattle.comp_audit.proofs.auditing.starts.starts_of.Goals as goal
 
 pub loop-p-init : goal.loop-p-init
 loop-p-init c = record {
-  covers = (omega (arith, c.in_ok-starts.ensures.covers.0, c.pages.ensures.pages), omega (arith, c.in_ok-starts.ensures.covers.1, c.from.ensures));
+  covers = (omega (arith, c.in_ok-starts.ensures.covers.0, c.pages.ensures.pages), omega (arith, c.in_ok-starts.ensures.covers.1));
   noted = notes_none c.in_ok-starts.starts c.in_ok-starts.ensures.none;
 }
 
