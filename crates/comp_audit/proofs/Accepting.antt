@@ -1,5 +1,5 @@
 -- Of a lawful dump the audit finds nothing.
-use Rattle.std.proofs.Common.{◌≡◌, ◌≢◌, ℕ, ◌+◌, ◌-◌, ◌<◌, ◌≤◌, ◌⊎◌, inl, inr, ⊎_elim, Bool, true, false, eqb, ltb, leb, not, ◌&&◌, ◌||◌, is_some, List, [], ◌∷◌, ◌++◌, length, map, get_or, Option, Some, None, refl, sym, ap, subst, ◌∙◌, arith}
+use Rattle.std.proofs.Common.{◌≡◌, ℕ, ◌+◌, ◌<◌, ◌≤◌, ◌⊎◌, inl, inr, ⊎_elim, Bool, true, false, eqb, ltb, leb, not, ◌&&◌, ◌||◌, is_some, List, [], ◌∷◌, ◌++◌, length, map, get_or, Option, Some, None, refl, sym, ap, subst, ◌∙◌, arith}
 use Rattle.std.specs.Prelude.{bytes_eq}
 use Rattle.std.specs.List.{list_any}
 use Rattle.std.proofs.lemmas.Slice.Eq.{bytes_eq-Decides}
@@ -7,7 +7,7 @@ use Rattle.std.proofs.lemmas.Bool.{cases_lt, eq-eqb, lt-ltb, le-leb}
 use Rattle.std.proofs.lemmas.List.{get_or_default}
 use mathlib.Core.Option as maybe
 use lib.ListN.{get_elem?}
-use Rattle.heap_layout.specs.Heap.{Heap, live, IsClosed}
+use Rattle.heap_layout.specs.Heap.{live}
 use Rattle.heap_layout.specs.declared.kind.Kind.{Kind}
 use Rattle.heap_layout.specs.declared.kind.Kind.TheVariants.{Header, Reference, Data}
 use Rattle.page_plan.specs.Sliding.{forwarded, live_words}
@@ -23,21 +23,20 @@ use Rattle.cell_steps.specs.Closing.{IsMadeBefore, LeadsToOlder}
 use Rattle.cell_steps.proofs.Sums.{there_at, read_at}
 use Rattle.page_cells.specs.Objects.{IsMadeAt, LeadsToObject, ReferencesAreStarts}
 use Rattle.page_cells.proofs.Leading.{each_leads, older_closed}
-use Rattle.comp_history.specs.Merged.{entries_below, history, stamp_of, CanMerge}
+use Rattle.comp_history.specs.Merged.{entries_below, stamp_of, CanMerge}
 use Rattle.comp_history.specs.OneThread.{address_of}
 use Rattle.comp_history.specs.Shares.{allocated}
 use Rattle.comp_history.proofs.Sorted.{In, at_in}
 use Rattle.comp_history.proofs.Pages.{below_in}
 use Rattle.comp_mutator.specs.Finishes.{named}
-use Rattle.comp_audit.specs.Dumped.{BuiltPage, Dumped, IsStored}
+use Rattle.comp_audit.specs.Dumped.{BuiltPage, Dumped}
 use Rattle.comp_audit.specs.declared.verdict.AuditFault.{AuditFault}
 use Rattle.comp_audit.specs.declared.verdict.AuditFault.TheVariants.{WrongHead, WrongWord, WrongTotal, BuildUnclaimed, BadEntry, LooseReference, StampRepeated, StampMissing}
-use Rattle.comp_audit.specs.Checks.{setup_for, unless, all_entries, all_stamps, journal_of, journals_in, above, head_faults, is_claimed, build_faults, journal_faults, same_words, word_faults, each_built, is_kind, makes, is_start, is_made_before, is_led, reference_faults, late_on, late_with, late_faults, repeat_faults, missing_faults, total_faults}
-use Rattle.comp_audit.specs.Judged.{faults}
-use Rattle.comp_audit.specs.Meant.{built_count, page_of, journals_of, IsLawfulDump, LawfulIsYes}
+use Rattle.comp_audit.specs.Checks.{setup_for, unless, all_stamps, journal_of, journals_in, above, head_faults, is_claimed, build_faults, journal_faults, same_words, word_faults, each_built, is_kind, makes, is_start, is_made_before, is_led, reference_faults, late_on, late_with, late_faults, repeat_faults, missing_faults, total_faults}
+use Rattle.comp_audit.specs.Meant.{built_count, page_of, IsLawfulDump, LawfulIsYes}
 use Rattle.comp_audit.proofs.Telling.{both_pass, none_items}
-use Rattle.comp_audit.proofs.Meanings.{true_and, kind_means, kind_tested, faultless_is_lawful}
-use Rattle.comp_audit.proofs.Noting.{kind_other, makes_here}
+use Rattle.comp_audit.proofs.Meanings.{true_and, kind_means, faultless_is_lawful}
+use Rattle.comp_audit.proofs.Noting.{makes_here}
 use Rattle.comp_audit.proofs.Ranges.{none_in_range}
 use Rattle.comp_audit.proofs.Built.{none_built}
 use Rattle.comp_audit.proofs.Clock.{stamps_counted, stamps_long}

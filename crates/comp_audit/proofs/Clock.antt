@@ -1,5 +1,5 @@
 -- The stamps of all entries, counted: where no stamp stands twice and none below their count is missing, there are no others.
-use Rattle.std.proofs.Common.{◌≡◌, ◌≢◌, ℕ, zero, suc, ◌+◌, ◌<◌, ◌≤◌, inl, inr, Bool, cond, List, [], ◌∷◌, ◌++◌, length, map, leb, refl, sym, ap, ◌∙◌, arith, length-append}
+use Rattle.std.proofs.Common.{◌≡◌, ℕ, zero, suc, ◌+◌, ◌<◌, ◌≤◌, inl, inr, Bool, cond, List, [], ◌∷◌, ◌++◌, length, map, leb, refl, sym, ap, ◌∙◌, arith, length-append}
 use Rattle.std.proofs.lemmas.List.{length-map}
 use Rattle.std.proofs.lemmas.Bool.{cases_lt, cases_eq, leb-true, eq-eqb}
 use Rattle.std.specs.List.{flat_map, range_with_len}
@@ -30,7 +30,7 @@ stamps_long journals (suc n) =
     let front = entries_below journals n in
     let last = with_page n (journals n) in
     let rest = stamps_long journals n in
-    omega (arith, rest, length-map (front ++ last) stamp_of, length-map front stamp_of, length-append front last, length-map (journals n) (λ (e : Entry). (n, e)))
+    omega (arith, rest, length-map (front ++ last) stamp_of, length-map front stamp_of, length-append front last, length-map {B = ℕ × Entry} (journals n) (λ (e : Entry). (n, e)))
 
 only_few : (s x : ℕ) (xs : List ℕ) → times s (x ∷ xs) ≤ 1 + times s xs
 only_few s x xs =

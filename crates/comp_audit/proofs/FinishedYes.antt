@@ -1,5 +1,5 @@
 -- The dump of a finished heap is lawful.
-use Rattle.std.proofs.Common.{◌≡◌, ℕ, ◌+◌, ◌<◌, List, length, map, get_or, Option, Some, None, refl, sym, ap, subst, ◌∙◌, arith}
+use Rattle.std.proofs.Common.{◌≡◌, ℕ, ◌+◌, List, length, get_or, Option, Some, None, refl, sym, ap, subst, ◌∙◌}
 use Rattle.std.proofs.Math.ListN.{get_or-map}
 use Rattle.std.proofs.Math.Path.{fun_ext}
 use Rattle.std.proofs.lemmas.List.{length-map}
@@ -7,18 +7,17 @@ use Rattle.heap_layout.specs.Heap.{live}
 use Rattle.page_plan.specs.Sliding.{forward, live_words}
 use Rattle.comp_journal.specs.Journal.{replayed}
 use Rattle.comp_journal.specs.declared.entry.Entry.{Entry}
-use Rattle.cell_steps.specs.Setup.{Setup, pages, base_of}
+use Rattle.cell_steps.specs.Setup.{Setup, base_of}
 use Rattle.cell_steps.specs.View.{Slot}
 use Rattle.cell_steps.specs.Closing.{journal_in, page_at, HasBase}
 use Rattle.comp_history.specs.Merged.{history, CanMerge}
 use Rattle.comp_history.specs.Shares.{allocated}
 use Rattle.comp_mutator.specs.Finishes as finished
-use Rattle.comp_mutator.specs.Finishes.{pages_of, builds_in, named, there, IsOfFlip}
+use Rattle.comp_mutator.specs.Finishes.{pages_of, named, there, IsOfFlip}
 use Rattle.comp_mutator.specs.declared.finishing.Finished.{Finished}
-use Rattle.comp_audit.specs.Dumped.{BuiltPage, Dumped, IsStored}
+use Rattle.comp_audit.specs.Dumped.{BuiltPage, Dumped}
 use Rattle.comp_audit.specs.Lent.{record_of, built_of}
 use Rattle.comp_audit.specs.Checks.{setup_for, journal_of}
-use Rattle.comp_audit.specs.Judged.{faults}
 use Rattle.comp_audit.specs.Meant.{built_count, page_of, journals_of, IsLawfulDump, IsDumpOf, FinishedIsYes}
 use Rattle.comp_audit.proofs.Telling.{are_forwarded}
 use Rattle.comp_audit.proofs.Accepting.{lawful_is_yes}

@@ -1,5 +1,5 @@
 -- Where the audit finds nothing, the dump is lawful, and its pages have one history.
-use Rattle.std.proofs.Common.{◌≡◌, ℕ, ◌+◌, ◌-◌, ◌*◌, ◌/◌, ◌<◌, ◌≤◌, ◌⊎◌, inl, inr, ⊎_elim, Bool, true, false, eqb, ltb, not, ◌&&◌, ◌||◌, is_some, List, [], ◌∷◌, ◌++◌, length, map, get_or, Option, Some, None, refl, sym, ap, subst, ◌∙◌, arith}
+use Rattle.std.proofs.Common.{◌≡◌, ℕ, ◌+◌, ◌-◌, ◌/◌, ◌<◌, ◌⊎◌, inl, inr, ⊎_elim, Bool, true, false, eqb, ltb, not, ◌&&◌, ◌||◌, is_some, List, [], ◌∷◌, length, map, get_or, Option, Some, None, refl, sym, ap, subst, ◌∙◌, arith}
 use Rattle.std.specs.Prelude.{bytes_eq}
 use Rattle.std.specs.List.{list_any}
 use Rattle.std.proofs.lemmas.Slice.Eq.{bytes_eq-Decides}
@@ -9,7 +9,7 @@ use Rattle.std.proofs.Math.ListN.{get_or-eq_default}
 use mathlib.Core.Option as maybe
 use mathlib.Core.Option.{some-ne-none}
 use lib.ListN.{get_elem?}
-use Rattle.heap_layout.specs.Heap.{Heap, live, IsClosed}
+use Rattle.heap_layout.specs.Heap.{live}
 use Rattle.heap_layout.specs.declared.kind.Kind.{Kind}
 use Rattle.heap_layout.specs.declared.kind.Kind.TheVariants.{Header, Reference}
 use Rattle.page_plan.specs.Sliding.{forwarded, live_words, shape_at}
@@ -19,8 +19,8 @@ use Rattle.cell_steps.specs.Setup.{Setup, pages, address, base_of}
 use Rattle.cell_steps.specs.Lists.{times}
 use Rattle.cell_steps.specs.Locks.{Journals}
 use Rattle.cell_steps.specs.History.{entries, stamped_with}
-use Rattle.cell_steps.specs.Starts.{IsPlace, HasHeadBefore}
-use Rattle.cell_steps.specs.Closing.{IsMadeBefore, LeadsToOlder, ReferencesAreOlder}
+use Rattle.cell_steps.specs.Starts.{HasHeadBefore}
+use Rattle.cell_steps.specs.Closing.{IsMadeBefore, LeadsToOlder}
 use Rattle.cell_steps.proofs.Sums.{read_at, is_inside}
 use Rattle.page_cells.specs.Objects.{AreLawful}
 use Rattle.page_cells.proofs.Heads.{all_made}
@@ -33,12 +33,10 @@ use Rattle.comp_history.proofs.Sorted.{In, in_at, at_in, total_sorted}
 use Rattle.comp_history.proofs.Pages.{in_below}
 use Rattle.comp_history.proofs.Legal.{one_history}
 use Rattle.comp_mutator.specs.Finishes.{named}
-use Rattle.comp_audit.specs.Dumped.{BuiltPage, Dumped, IsStored, IsStoredRecord}
-use Rattle.comp_audit.specs.declared.verdict.AuditFault.{AuditFault}
+use Rattle.comp_audit.specs.Dumped.{BuiltPage, IsStoredRecord}
 use Rattle.comp_audit.specs.declared.verdict.AuditFault.TheVariants.{WrongHead, WrongWord, WrongTotal, BuildUnclaimed, BadEntry}
-use Rattle.comp_audit.specs.Checks.{setup_for, unless, all_entries, all_stamps, journal_of, journals_in, above, head_faults, is_claimed, build_faults, journal_faults, same_words, word_faults, each_built, is_kind, makes, is_place, is_made_before, is_led, late_on, late_with, late_faults, repeat_faults, missing_faults, total_faults}
-use Rattle.comp_audit.specs.Judged.{page_faults, history_faults, faults_for, faults}
-use Rattle.comp_audit.specs.Meant.{built_count, page_of, journals_of, IsLawfulDump, IsSound, YesIsSound}
+use Rattle.comp_audit.specs.Checks.{setup_for, unless, all_entries, all_stamps, journal_of, journals_in, above, head_faults, is_claimed, build_faults, journal_faults, same_words, word_faults, each_built, is_kind, makes, is_place, is_made_before, is_led, late_on, late_with, late_faults, repeat_faults, missing_faults}
+use Rattle.comp_audit.specs.Meant.{built_count, journals_of, IsLawfulDump, YesIsSound}
 use Rattle.comp_audit.proofs.Telling.{none_both, unless_holds, item_none}
 use Rattle.comp_audit.proofs.Meanings.{and_true, kind_means}
 use Rattle.comp_audit.proofs.Built.{built_none, built_inside, lawful_records, rising_records}
