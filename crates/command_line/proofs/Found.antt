@@ -1,12 +1,12 @@
 -- From what the parser found to what the words ask.
 use Rattle.std.proofs.Common.{◌≡◌, ◌≢◌, ◌⊎◌, ◌∙◌, ◌∷◌, ◌≤◌, ℕ, List, Option, Some, IfOk, IfErr, Result, Ok, Err}
-use Rattle.std.proofs.Common.{[], None, arith, sym, ap, subst, inl, inr, codes, is_some, map, unwrap_or, refl, true, true≢false}
+use Rattle.std.proofs.Common.{[], None, arith, sym, ap, ap₂, subst, inl, inr, codes, is_some, map, unwrap_or, refl, true, true≢false}
 use Rattle.std.specs.Prelude.{IsUtf8, IfSome}
 use Rattle.std.specs.String.{string_bytes}
 use Rattle.std.specs.declared.string.String.{String}
 use Rattle.std.specs.List.{All, list_all, slice_index_or}
 use Rattle.std.proofs.lemmas.List.Elements.{All-head, All-map, All-tail}
-use Rattle.std.proofs.lemmas.Option.{IfSome_then}
+use Rattle.std.proofs.lemmas.Option.{IfSome_then, same_Some}
 use Rattle.std.proofs.lemmas.Str.{IsUtf8-string_bytes}
 use Rattle.clap.specs.Words.{App, IsAmong, HasKind, HasMatchesOf, Row, fault_of, first_of, first_value, is_simple, is_simple_and_free, kind_of, one_of, one_text, rows_of, subcommand_of, subcommand_rows_of}
 use Rattle.clap.specs.declared.error.Error.{Error}
@@ -16,14 +16,14 @@ use Rattle.clap.specs.declared.parser.matches.ArgMatches.{ArgMatches}
 use Rattle.clap.specs.declared.parser.matches.Found.{Found}
 use Rattle.clap.proofs.WalkLemmas.{both, first_value-rows, one_text-rows}
 use Rattle.command_line.specs.Asked.{given as given_values}
-use Rattle.command_line.specs.Asked.{Asks, AsksCompact, AsksHelp, AsksNoCommand, AsksPlan, AsksVersion, AsksWord, HasLawfulCounts, IsAnswerOf}
-use Rattle.command_line.specs.Forms.{Choice, Form, Parameter, compact_form, fresh, mutators, number, plan_form, replay_form, run_form, standing, text, word_form, workers}
+use Rattle.command_line.specs.Asked.{Asks, AsksAudit, AsksCompact, AsksHelp, AsksNoCommand, AsksPlan, AsksVersion, AsksWord, HasLawfulCounts, IsAnswerOf}
+use Rattle.command_line.specs.Forms.{Choice, Form, Parameter, audit_form, compact_form, fresh, mutators, number, plan_form, replay_form, run_form, standing, text, word_form, workers}
 use Rattle.command_line.specs.Given.{HasOption, IsCommandWith, IsNumber, IsNumberOr, Takes, text_given}
 use Rattle.command_line.specs.Finds.{HasRun, IsRunFound}
 use Rattle.command_line.specs.Parser.{program}
 use Rattle.command_line.specs.Runs.{AsksRun, Run}
 use Rattle.command_line.specs.declared.words.Task.{Task}
-use Rattle.command_line.specs.declared.words.Task.TheVariants.{Plan, Word, Replay, Compact, Help, Version}
+use Rattle.command_line.specs.declared.words.Task.TheVariants.{Plan, Word, Replay, Compact, Audit, Help, Version}
 use Rattle.command_line.proofs.Chosen.{chosen_fits}
 use Rattle.command_line.proofs.FormRules.{are_apart}
 use Rattle.command_line.proofs.KindLists.{some_kind}
@@ -215,6 +215,28 @@ module _ (words : List (List ℕ)) (f : Found) (asked : CommandAsked words f com
     choice_told words f compact_form asked (codes "workers") 2 n h,
   )
 
+-- ---- `audit`
+
+-- the words are `audit`, with the paths that were found
+pub audit_asked : (words : List (List ℕ)) (f : Found) → CommandAsked words f audit_form → (image dump : List ℕ) → Some image ≡ first_value f (codes "IMAGE")
+    → Some dump ≡ first_value f (codes "DUMP") → AsksAudit words image dump
+audit_asked words f (given, rows, asks) image dump at_image at_dump =
+    let plain = plain_values audit_form refl asks.gives in
+    go given rows asks.rest asks.begin plain.0 plain.1 asks.whole
+  where
+    go : (us : List Use) → rows_of f ≡ map row us → (rest : List (List ℕ)) → words ≡ codes "audit" ∷ rest → given_values rest ≡ Some (values_of audit_form us)
+        → Pairs (text (codes "IMAGE") ∷ text (codes "DUMP") ∷ []) (values_of audit_form us) us → is_whole audit_form us ≡ true → AsksAudit words image dump
+    go [] rows rest is values pairs whole = absurd (true≢false (sym whole))
+    go (u ∷ []) rows rest is values pairs whole =
+        absurd (true≢false (sym whole ∙ ap (λ (x : Use). is_whole audit_form (x ∷ [])) pairs.0))
+    go (u ∷ v ∷ []) rows rest is values pairs whole =
+        let both : List Use = (text (codes "IMAGE"), u.1) ∷ (text (codes "DUMP"), v.1) ∷ [] in
+        let same : u ∷ v ∷ [] ≡ both = ap (λ (x : Use). x ∷ v ∷ []) pairs.0 ∙ ap (λ (x : Use). (text (codes "IMAGE"), u.1) ∷ x ∷ []) pairs.1.0 in
+        let image_is : image ≡ u.1 = same_Some _ _ (at_image ∙ text_is f (u ∷ v ∷ []) rows (codes "IMAGE") ∙ ap (text_given (codes "IMAGE")) same) in
+        let dump_is : dump ≡ v.1 = same_Some _ _ (at_dump ∙ text_is f (u ∷ v ∷ []) rows (codes "DUMP") ∙ ap (text_given (codes "DUMP")) same) in
+        (rest, is, values ∙ ap₂ (λ (a b : List ℕ). Some (a ∷ b ∷ [])) (sym image_is) (sym dump_is))
+    go (u ∷ v ∷ w ∷ us) rows rest is values pairs whole = absurd pairs.1.1
+
 -- ---- nothing else is found
 
 -- the form that was entered is one of these
@@ -229,15 +251,16 @@ abbrev pub EnteredAs : Entered → Form → Type 0
 EnteredAs o form = (rows : List Row) → o ≡ Some (form.name, rows) → ⊥
 
 pub none_of_standing : (words : List (List ℕ)) (o : Entered) → All IsUtf8 words → fault_of (program standing) words ≡ [] → subcommand_of (program standing) words ≡ o
-    → EnteredAs o plan_form → EnteredAs o word_form → EnteredAs o replay_form → EnteredAs o compact_form → ⊥
-none_of_standing words o utf8 taken found plan word replay compact = go (entered_one standing standing_program words o utf8 taken found)
+    → EnteredAs o plan_form → EnteredAs o word_form → EnteredAs o replay_form → EnteredAs o compact_form → EnteredAs o audit_form → ⊥
+none_of_standing words o utf8 taken found plan word replay compact audit = go (entered_one standing standing_program words o utf8 taken found)
   where
     go : (form : Form) × (rows : List Row) × IsOneOf standing form × (o ≡ Some (form.name, rows)) → ⊥
     go (form, rows, inl same, is) = plan rows (is ∙ ap (λ (x : Form). Some (x.name, rows)) same)
     go (form, rows, inr (inl same), is) = word rows (is ∙ ap (λ (x : Form). Some (x.name, rows)) same)
     go (form, rows, inr (inr (inl same)), is) = replay rows (is ∙ ap (λ (x : Form). Some (x.name, rows)) same)
     go (form, rows, inr (inr (inr (inl same))), is) = compact rows (is ∙ ap (λ (x : Form). Some (x.name, rows)) same)
-    go (form, rows, inr (inr (inr (inr none))), is) = none
+    go (form, rows, inr (inr (inr (inr (inl same)))), is) = audit rows (is ∙ ap (λ (x : Form). Some (x.name, rows)) same)
+    go (form, rows, inr (inr (inr (inr (inr none)))), is) = none
 
 -- ---- what is told in place of a task
 
@@ -278,6 +301,7 @@ answer_counts error (Ok (Plan image)) answer = _
 answer_counts error (Ok (Word image index)) answer = _
 answer_counts error (Ok (Replay run)) answer = absurd answer
 answer_counts error (Ok (Compact image dump n)) answer = absurd answer
+answer_counts error (Ok (Audit image dump)) answer = _
 answer_counts error (Ok (Help text)) answer = _
 answer_counts error (Ok Version) answer = _
 answer_counts error (Err told) answer = _
@@ -297,6 +321,7 @@ module _ (forms : List Form) (is : IsProgram forms) (has : HasCommands forms) (w
   answer_told error (Ok (Word image index)) kind answer = absurd answer
   answer_told error (Ok (Replay run)) kind answer = absurd answer
   answer_told error (Ok (Compact image dump n)) kind answer = absurd answer
+  answer_told error (Ok (Audit image dump)) kind answer = absurd answer
   answer_told error (Ok (Help text)) kind answer = help_asked (among_kinds _ error DisplayHelp kind answer (λ e. cc))
   answer_told error (Ok Version) kind answer = version_asked (among_kinds _ error DisplayVersion kind answer (λ e. cc))
   answer_told error (Err told) kind answer = _

@@ -4,7 +4,7 @@ use Rattle.std.proofs.lemmas.List.Elements.{All-tail}
 use Rattle.clap.specs.Words.{IsAmong, Text, fault_of, subcommand_of}
 use Rattle.clap.specs.declared.error.kind.ErrorKind.TheVariants.{DisplayHelp, DisplayVersion}
 use Rattle.command_line.specs.Asked.{AreCommand, AsksNoCommand, is_help, is_version}
-use Rattle.command_line.specs.Forms.{Form, compact_form, number, plan_form, replay_form, standing, text, word_form}
+use Rattle.command_line.specs.Forms.{Form, audit_form, compact_form, number, plan_form, replay_form, standing, text, word_form}
 use Rattle.command_line.specs.Given.{IsCommandWith, IsNumber, Takes}
 use Rattle.command_line.specs.Parser.{program}
 use Rattle.std.proofs.lemmas.List.Elements.{All-cons, All-nil}
@@ -12,7 +12,7 @@ use Rattle.command_line.proofs.FormLevel.{FormTaken, form_help, form_no_version,
 use Rattle.command_line.proofs.Levels.{level, shape}
 use Rattle.command_line.proofs.Plain.{pairs_give}
 use Rattle.command_line.proofs.Settled.{AreFresh, row}
-use Rattle.command_line.proofs.TopLevel.{BeginWith, Decided, IsCommand, IsProgram, command_first, command_found, first_decides, standing_compact, standing_plan, standing_replay, standing_word}
+use Rattle.command_line.proofs.TopLevel.{BeginWith, Decided, IsCommand, IsProgram, command_first, command_found, first_decides, standing_audit, standing_compact, standing_plan, standing_replay, standing_word}
 use Rattle.command_line.proofs.Uses.{Use}
 
 -- ---- words
@@ -82,7 +82,7 @@ within_u64 n h = omega arith
 number_taken : (id digits : Text) (n : ℕ) → IsNumber digits n → Takes (number id) digits
 number_taken id digits n h = (n, h, zero-le, within_u64 n h.fits)
 
--- `plan IMAGE` and `word IMAGE INDEX` are their commands, with what is given
+-- `plan IMAGE`, `word IMAGE INDEX` and `audit IMAGE DUMP` are their commands, with what is given
 plan_given : (words : List Text) (path : Text) → AreCommand (codes "plan") (path ∷ []) words → IsCommandWith plan_form words ((text (codes "IMAGE"), path) ∷ [])
 plan_given words path (rest, is, given) = record {
   rest = rest;
@@ -106,16 +106,30 @@ word_given words path digits n h (rest, is, given) = record {
   whole = refl;
 }
 
+audit_given : (words : List Text) (image dump : Text) → AreCommand (codes "audit") (image ∷ dump ∷ []) words
+    → IsCommandWith audit_form words ((text (codes "IMAGE"), image) ∷ (text (codes "DUMP"), dump) ∷ [])
+audit_given words image dump (rest, is, given) = record {
+  rest = rest;
+  begin = is;
+  gives = pairs_give audit_form rest (image ∷ dump ∷ []) given (text (codes "IMAGE") ∷ text (codes "DUMP") ∷ [])
+      ((text (codes "IMAGE"), image) ∷ (text (codes "DUMP"), dump) ∷ []) (refl, (refl, refl));
+  once = refl;
+  fit = All-cons (λ (g : Use). Takes g.0 g.1) (text (codes "IMAGE"), image) ((text (codes "DUMP"), dump) ∷ []) (any_path (codes "IMAGE") image)
+      (All-cons (λ (g : Use). Takes g.0 g.1) (text (codes "DUMP"), dump) [] (any_path (codes "DUMP") dump) (All-nil (λ (g : Use). Takes g.0 g.1)));
+  whole = refl;
+}
+
 -- the commands are among those of the program
 pub record HasCommands (forms : List Form) : Type 0 where
   pub plan : IsCommand forms plan_form
   pub word : IsCommand forms word_form
   pub replay : IsCommand forms replay_form
   pub compact : IsCommand forms compact_form
+  pub audit : IsCommand forms audit_form
 
 -- they are among those that stand
 pub standing_commands : HasCommands standing
-standing_commands = record { plan = standing_plan; word = standing_word; replay = standing_replay; compact = standing_compact }
+standing_commands = record { plan = standing_plan; word = standing_word; replay = standing_replay; compact = standing_compact; audit = standing_audit }
 
 module _ (forms : List Form) (program_is : IsProgram forms) (words : List Text) where
   -- words that clap takes are a command
@@ -155,4 +169,5 @@ module _ (forms : List Form) (program_is : IsProgram forms) (words : List Text) 
     no_word = λ path index (digits, number, asks). refused_command word_form has.word fails _ (word_given words path digits index number asks);
     no_replay = λ run asks. refused_command replay_form has.replay fails asks.texts asks.is_command;
     no_compact = λ image dump n asks. refused_command compact_form has.compact fails asks.0 asks.1;
+    no_audit = λ image dump asks. refused_command audit_form has.audit fails _ (audit_given words image dump asks);
   }

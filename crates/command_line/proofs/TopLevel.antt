@@ -16,7 +16,7 @@ use Rattle.clap.proofs.OnLiterals.{clap_on_literals}
 use Rattle.clap.proofs.WalkLemmas.{walk_stopped}
 use Rattle.command_line.specs.Asked.{is_help, is_version}
 use Rattle.command_line.specs.Given.{is_flag}
-use Rattle.command_line.specs.Forms.{Form, compact_form, plan_form, replay_form, standing, word_form}
+use Rattle.command_line.specs.Forms.{Form, audit_form, compact_form, plan_form, replay_form, standing, word_form}
 use Rattle.command_line.specs.Parser.{program}
 use Rattle.std.proofs.lemmas.Bool.{eqb-true}
 use Rattle.command_line.proofs.Lexed.{IsBundle, IsLong, flag_read}
@@ -124,6 +124,9 @@ replay_readable = record { distinct = refl; apart = refl; names = refl; few = om
 compact_readable : IsReadable compact_form
 compact_readable = record { distinct = refl; apart = refl; names = refl; few = omega arith }
 
+audit_readable : IsReadable audit_form
+audit_readable = record { distinct = refl; apart = refl; names = refl; few = omega arith }
+
 -- ---- the program as it stands
 
 pub standing_plan : IsCommand standing plan_form
@@ -137,6 +140,9 @@ standing_replay = record { is_one = refl; is_met = refl; is_entered = refl; is_n
 
 pub standing_compact : IsCommand standing compact_form
 standing_compact = record { is_one = refl; is_met = refl; is_entered = refl; is_not_help = refl; is_readable = compact_readable }
+
+pub standing_audit : IsCommand standing audit_form
+standing_audit = record { is_one = refl; is_met = refl; is_entered = refl; is_not_help = refl; is_readable = audit_readable }
 
 standing_help : (rest : List Text) → AreRefused (codes "help" ∷ rest) (fault_of (program standing) (codes "help" ∷ rest))
 unfolding clap_on_literals
@@ -154,7 +160,7 @@ standing_none = refused [] MissingSubcommand [] refl
 pub standing_program : IsProgram standing
 standing_program = record {
   is_free = refl;
-  are_commands = (standing_plan, (standing_word, (standing_replay, (standing_compact, tt))));
+  are_commands = (standing_plan, (standing_word, (standing_replay, (standing_compact, (standing_audit, tt)))));
   named = refl;
   help_first = standing_help;
   end_first = standing_end;

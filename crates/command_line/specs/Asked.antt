@@ -8,7 +8,7 @@ use Rattle.command_line.specs.Forms.{Parameter, compact_form, workers}
 use Rattle.command_line.specs.Given.{IsChosen, IsCommandWith, IsNumber, is_flag, text_given}
 use Rattle.command_line.specs.Runs.{AsksRun, IsLawfulRun, Run, run_of}
 use Rattle.command_line.specs.declared.words.Task.{Task}
-use Rattle.command_line.specs.declared.words.Task.TheVariants.{Plan, Word, Replay, Compact, Help, Version}
+use Rattle.command_line.specs.declared.words.Task.TheVariants.{Plan, Word, Replay, Compact, Audit, Help, Version}
 
 -- what a command is given: behind a first `--` each word, before it each that is no flag; None where there is a flag before it
 abbrev pub given : List (List ℕ) → Option (List (List ℕ))
@@ -38,12 +38,17 @@ abbrev pub AsksCompact : List (List ℕ) → List ℕ → List ℕ → ℕ → T
 AsksCompact words image dump n = (texts : List (Parameter × List ℕ)) × IsCommandWith compact_form words texts
     × (text_given (codes "IMAGE") texts ≡ Some image) × (text_given (codes "DUMP") texts ≡ Some dump) × IsChosen workers texts n
 
+-- the words are `audit IMAGE DUMP`, with these paths of an image and of a dump
+abbrev pub AsksAudit : List (List ℕ) → List ℕ → List ℕ → Type 0
+AsksAudit words image dump = AreCommand (codes "audit") (image ∷ dump ∷ []) words
+
 -- the words are none of these commands
 pub record AsksNoCommand (words : List (List ℕ)) : Type 0 where
   pub no_plan : (path : List ℕ) → ¬ (AsksPlan words path)
   pub no_word : (path : List ℕ) (index : ℕ) → ¬ (AsksWord words path index)
   pub no_replay : (run : Run) → ¬ (AsksReplay words run)
   pub no_compact : (image dump : List ℕ) (n : ℕ) → ¬ (AsksCompact words image dump n)
+  pub no_audit : (image dump : List ℕ) → ¬ (AsksAudit words image dump)
 
 -- `help`, `--help`, or a flag that begins with `-h`
 abbrev pub is_help : List ℕ → Bool
@@ -67,6 +72,7 @@ Asks words (Plan image) = AsksPlan words image.now
 Asks words (Word image index) = AsksWord words image.now index
 Asks words (Replay run) = AsksReplay words (run_of run)
 Asks words (Compact image dump n) = AsksCompact words image.now dump.now n
+Asks words (Audit image dump) = AsksAudit words image.now dump.now
 Asks words (Help text) = AsksHelp words
 Asks words Version = AsksVersion words
 
@@ -76,6 +82,7 @@ HasLawfulCounts (Plan image) = Unit {0}
 HasLawfulCounts (Word image index) = Unit {0}
 HasLawfulCounts (Replay run) = IsLawfulRun (run_of run)
 HasLawfulCounts (Compact image dump n) = (1 ≤ n) × (n ≤ 64)
+HasLawfulCounts (Audit image dump) = Unit {0}
 HasLawfulCounts (Help text) = Unit {0}
 HasLawfulCounts Version = Unit {0}
 
@@ -85,5 +92,6 @@ IsAnswerOf kind (Plan image) = ⊥
 IsAnswerOf kind (Word image index) = ⊥
 IsAnswerOf kind (Replay run) = ⊥
 IsAnswerOf kind (Compact image dump n) = ⊥
+IsAnswerOf kind (Audit image dump) = ⊥
 IsAnswerOf kind (Help text) = kind ≡ DisplayHelp
 IsAnswerOf kind Version = kind ≡ DisplayVersion

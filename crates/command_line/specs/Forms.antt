@@ -68,6 +68,10 @@ replay_form = run_form (codes "replay")
 abbrev pub compact_form : Form
 compact_form = record { name = codes "compact"; options = workers ∷ []; arguments = text (codes "IMAGE") ∷ text (codes "DUMP") ∷ [] }
 
+-- `audit IMAGE DUMP`
+abbrev pub audit_form : Form
+audit_form = record { name = codes "audit"; options = []; arguments = text (codes "IMAGE") ∷ text (codes "DUMP") ∷ [] }
+
 -- the commands that the program has
 abbrev pub standing : List Form
-standing = plan_form ∷ word_form ∷ replay_form ∷ compact_form ∷ []
+standing = plan_form ∷ word_form ∷ replay_form ∷ compact_form ∷ audit_form ∷ []

@@ -20,6 +20,7 @@ fn asked(alloc: Global, line: &str) -> Result<String, Fail> {
                 workers,
             },
         ) => { format!(in alloc; "compact {image} by {workers} into {dump}")? }
+        Ok(Task::Audit { image, dump }) => format!(in alloc; "audit {dump} by {image}")?,
         Ok(Task::Help { text }) => format!(in alloc; "help: {text}")?,
         Ok(Task::Version) => format!(in alloc; "{VERSION_LINE}")?,
         Err(error) => format!(in alloc; "{error}")?,
@@ -75,6 +76,12 @@ fn reads_what_the_words_ask(rt: HostRuntime) -> Result<(), Fail> {
         ("compact a b --workers +01", "compact a by 1 into b"),
         ("compact -- --workers 3", "compact --workers by 2 into 3"),
         ("compact --workers 5 -- a -b", "compact a by 5 into -b"),
+        (
+            "audit three.img forged.dump",
+            "audit forged.dump by three.img",
+        ),
+        ("audit a -- -b", "audit -b by a"),
+        ("audit -- --help --", "audit -- by --help"),
     ] {
         assert_eq!(rt; asked(rt.alloc(), line)?.as_str(), text);
     }
@@ -97,6 +104,8 @@ fn answers_help_where_it_is_asked(rt: HostRuntime) -> Result<(), Fail> {
         "replay --fresh 2 a -h",
         "compact --help",
         "compact --workers 2 a -h",
+        "help audit",
+        "audit a --help",
     ] {
         let text = asked(rt.alloc(), line)?;
         assert!(rt; text.starts_with("help: "), "{line}");
@@ -165,6 +174,12 @@ fn refuses_words_that_are_no_command(rt: HostRuntime) -> Result<(), Fail> {
         "compact -w 2 a b",
         "compact --worker 2 a b",
         "compact --fresh 2 a b",
+        "audit",
+        "audit a",
+        "audit a b c",
+        "audit --workers 2 a b",
+        "audit a b --fresh 2",
+        "audit a -b",
         "plan --workers 2 three.img",
         "--workers 2 compact a b",
     ] {

@@ -4,7 +4,7 @@ ghost use Rattle.std.specs.String.{string_bytes};
 ghost use Rattle.clap.specs.Words.{app_of, fault_of, first_value, found_of, kind_of, one_text, rule_of, subcommand_of, subcommand_rows_of};
 ghost use Rattle.clap.specs.declared.error.kind.ErrorKind.TheVariants.{DisplayHelp, DisplayVersion, OutOfMemory};
 ghost use Rattle.command_line.specs.Asked.{Asks, AsksNoCommand, HasLawfulCounts, IsAnswerOf};
-ghost use Rattle.command_line.specs.Forms.{compact_form, fresh, mutators, number_within, plan_form, replay_form, run_form, standing, text, word_form, workers};
+ghost use Rattle.command_line.specs.Forms.{audit_form, compact_form, fresh, mutators, number_within, plan_form, replay_form, run_form, standing, text, word_form, workers};
 ghost use Rattle.command_line.specs.Given.{IsNumber, IsNumberOr};
 ghost use Rattle.command_line.specs.Finds.{HasRun, IsRunFound};
 ghost use Rattle.command_line.specs.Parser.{bare_program, command as command_of, option_rule, optional_rule, program, rule};
@@ -34,6 +34,11 @@ pub enum Task<'a> {
         image: &'a str,
         dump: &'a str,
         workers: u8,
+    },
+    /// The dump at a path is judged as what a compaction of the heap in an image left.
+    Audit {
+        image: &'a str,
+        dump: &'a str,
     },
     /// This text of help.
     Help {
@@ -107,6 +112,10 @@ fn task_of<'a>(words: &'a [String], matches: &ArgMatches<'a>) -> Task<'a>
             image: text_of(found, "IMAGE"),
             dump: text_of(found, "DUMP"),
             workers: count_of(found, "workers", DEFAULT_WORKERS) as u8,
+        },
+        Some(("audit", found)) => Task::Audit {
+            image: text_of(found, "IMAGE"),
+            dump: text_of(found, "DUMP"),
         },
         _ => unreachable!(),
     }
@@ -183,7 +192,8 @@ fn command<'a>(alloc: Global) -> Result<Command<'a>, AllocError>
         .subcommand(plan_command(alloc)?)?
         .subcommand(word_command(alloc)?)?
         .subcommand(replay_command(alloc)?)?
-        .subcommand(compact_command(alloc)?)
+        .subcommand(compact_command(alloc)?)?
+        .subcommand(audit_command(alloc)?)
 }
 
 fn bare_command<'a>(alloc: Global) -> Result<Command<'a>, AllocError>
@@ -251,6 +261,15 @@ fn compact_command<'a>(alloc: Global) -> Result<Command<'a>, AllocError>
         .arg(workers_option(alloc))?
         .arg(image_argument(alloc))?
         .arg(dump_argument(alloc))
+}
+
+fn audit_command<'a>(alloc: Global) -> Result<Command<'a>, AllocError>
+    ensures { IfOk result (λ made. app_of made ≡ command_of audit_form) }
+{
+    Command::new(alloc, "audit")
+        .about("Judges the dump of a compaction of a heap")
+        .arg(image_argument(alloc))?
+        .arg(path_argument(alloc, "DUMP", "The dump"))
 }
 
 fn mutators_option<'a>(alloc: Global) -> Arg<'a>

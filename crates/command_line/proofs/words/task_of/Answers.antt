@@ -6,10 +6,10 @@ use Rattle.clap.specs.declared.parser.matches.Found.{Found}
 use Rattle.command_line.specs.Asked.{AsksPlan, AsksWord}
 use Rattle.command_line.specs.Given.{IsNumber}
 use Rattle.command_line.specs.Parser.{program}
-use Rattle.command_line.specs.Forms.{compact_form, plan_form, replay_form, standing, text, word_form}
+use Rattle.command_line.specs.Forms.{audit_form, compact_form, plan_form, replay_form, standing, text, word_form}
 use Rattle.command_line.specs.Runs.{run_of}
-use Rattle.command_line.proofs.TopLevel.{standing_compact, standing_plan, standing_program, standing_replay, standing_word}
-use Rattle.command_line.proofs.Found.{CommandAsked, bounded_number, command_asked, compact_asked, none_of_standing, plan_asked, run_asked, run_found, same_name, texts_utf8, two_paths, word_asked, workers_fit, workers_within}
+use Rattle.command_line.proofs.TopLevel.{standing_audit, standing_compact, standing_plan, standing_program, standing_replay, standing_word}
+use Rattle.command_line.proofs.Found.{CommandAsked, audit_asked, bounded_number, command_asked, compact_asked, none_of_standing, plan_asked, run_asked, run_found, same_name, texts_utf8, two_paths, word_asked, workers_fit, workers_within}
 use Rattle.command_line.proofs.words.task_of.Goals.{in_default-via-in-Some+in_default, in_default-via-in_default}
 use Rattle.command_line.proofs.words.task_of.Goals as goal
 
@@ -39,12 +39,14 @@ unreachable-requires c = elim c.in_default.branch [
       let no_word : ¬ (w.in_default.field-0.0.now ≡ codes "word") = search rules in
       let no_replay : ¬ (w.in_default.field-0.0.now ≡ codes "replay") = search rules in
       let no_compact : ¬ (w.in_default.field-0.0.now ≡ codes "compact") = search rules in
+      let no_audit : ¬ (w.in_default.field-0.0.now ≡ codes "audit") = search rules in
       none_of_standing _ _ (texts_utf8 c.args.words.now) c.requires.taken found
       (λ rows e. no_plan (same_name _ _ _ _ rows refl e)) (λ rows e. no_word (same_name _ _ _ _ rows refl e))
       (λ rows e. no_replay (same_name _ _ _ _ rows refl e)) (λ rows e. no_compact (same_name _ _ _ _ rows refl e))
+      (λ rows e. no_audit (same_name _ _ _ _ rows refl e))
   | in_default-via-in_default w ↦
       let found : subcommand_of (program standing) (map string_bytes c.args.words.now) ≡ None = search rules in
-      none_of_standing _ _ (texts_utf8 c.args.words.now) c.requires.taken found (λ rows e. cc) (λ rows e. cc) (λ rows e. cc) (λ rows e. cc)
+      none_of_standing _ _ (texts_utf8 c.args.words.now) c.requires.taken found (λ rows e. cc) (λ rows e. cc) (λ rows e. cc) (λ rows e. cc) (λ rows e. cc)
 ]
 
 pub returns-in-Some-plan-default-clause-asked : goal.returns-in-Some-plan-default-clause-asked
@@ -123,3 +125,27 @@ returns-in-Some-replay-default-clause-asked c =
 
 pub returns-in-Some-replay-default-clause-counts : goal.returns-in-Some-replay-default-clause-counts
 returns-in-Some-replay-default-clause-counts c = c.trace_run.ensures.counts
+
+-- what `audit` was given, where it was entered
+audit_given : (words : List (List ℕ)) (f : Found) → All IsUtf8 words → fault_of (program standing) words ≡ []
+    → subcommand_of (program standing) words ≡ Some (codes "audit", rows_of f) → CommandAsked words f audit_form
+audit_given words f utf8 taken found = command_asked standing standing_program audit_form standing_audit words f utf8 taken found
+
+pub text_of-requires-in-Some-audit-default : goal.text_of-requires-in-Some-audit-default
+text_of-requires-in-Some-audit-default c =
+    let found : subcommand_of (program standing) (map string_bytes c.args.words.now) ≡ Some (codes "audit", rows_of (found_of c.in-Some-audit-default.found.now)) = search rules in
+    let given = audit_given _ (found_of c.in-Some-audit-default.found.now) (texts_utf8 c.args.words.now) c.requires.taken found in
+    (two_paths (map string_bytes c.args.words.now) (found_of c.in-Some-audit-default.found.now) audit_form given (text (codes "IMAGE")) (text (codes "DUMP")) refl).0
+
+pub text_of-requires-in-Some-audit-default-2 : goal.text_of-requires-in-Some-audit-default-2
+text_of-requires-in-Some-audit-default-2 c =
+    let found : subcommand_of (program standing) (map string_bytes c.args.words.now) ≡ Some (codes "audit", rows_of (found_of c.in-Some-audit-default.found.now)) = search rules in
+    let given = audit_given _ (found_of c.in-Some-audit-default.found.now) (texts_utf8 c.args.words.now) c.requires.taken found in
+    (two_paths (map string_bytes c.args.words.now) (found_of c.in-Some-audit-default.found.now) audit_form given (text (codes "IMAGE")) (text (codes "DUMP")) refl).1
+
+pub returns-in-Some-audit-default-clause-asked : goal.returns-in-Some-audit-default-clause-asked
+returns-in-Some-audit-default-clause-asked c =
+    let found : subcommand_of (program standing) (map string_bytes c.args.words.now) ≡ Some (codes "audit", rows_of (found_of c.in-Some-audit-default.found.now)) = search rules in
+    let given = audit_given _ (found_of c.in-Some-audit-default.found.now) (texts_utf8 c.args.words.now) c.requires.taken found in
+    audit_asked (map string_bytes c.args.words.now) (found_of c.in-Some-audit-default.found.now) given c.text_of-in-Some-audit-default.result.now c.text_of-in-Some-audit-default-2.result.now
+    c.text_of-in-Some-audit-default.ensures c.text_of-in-Some-audit-default-2.ensures
