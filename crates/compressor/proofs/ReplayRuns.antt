@@ -293,12 +293,35 @@ module _ {R S W : Type 0} (given : R → Type 0) (remaining : R → Option (List
     (mutators fresh : ℕ) (before between after : Option (List ℕ)) where
   pub flushed_run : Keeps between after → SomeRun given remaining told rest mutators (Replays gives contents mutators fresh before between)
       → SomeRun given remaining told rest mutators (Replays gives contents mutators fresh before after)
-  flushed_run kept (reader, is_given, (heap, stored, accepted, (known, (other, is_told, (text, is_text, (lines, has_lines, h)))))) =
-      (reader, is_given, (heap, stored, accepted, (known, (other, is_told, (text, is_text, (lines, has_lines, record {
-        run = h.run;
-        written = h.written;
-        printed = Appends-kept before between after _ h.printed kept;
-      }))))))
+  flushed_run kept (reader, is_given, (heap, stored, accepted, (known, (other, is_told, (text, is_text, (lines, has_lines, h)))))) = (
+    reader,
+    is_given,
+    (
+      heap,
+      stored,
+      accepted,
+      (
+        known,
+        (
+          other,
+          is_told,
+          (
+            text,
+            is_text,
+            (
+              lines,
+              has_lines,
+              record {
+                run = h.run;
+                written = h.written;
+                printed = Appends-kept before between after _ h.printed kept;
+              },
+            ),
+          ),
+        ),
+      ),
+    ),
+  )
 
   pub unflushed_run : (lacks : Type 0) → SomeRun given remaining told rest mutators (Replays gives contents mutators fresh before between)
       → SomeRun given remaining told rest mutators (RefusesRun lacks gives contents mutators fresh before after CannotPrint)
