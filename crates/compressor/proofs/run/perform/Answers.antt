@@ -13,10 +13,10 @@ returns-clause-done g c =
     (g.D.Dumps.gives c.args.dumps.now) g.D.Writer.Write.contents output between c.args.task = elim c.match-task.branch [
       | in-Plan+in_ok-print_plan-in-Plan w ↦ search rules
       | in-Word+in_ok-print_word-in-Word w ↦ search rules
-      | in-Replay+in_ok-print_replay-in-Replay w ↦ search rules
+      | in-Replay+in_ok-print_replay-in-Replay w ↦ rw (w.in-Replay.is, w.out-is) w.in_ok-print_replay-in-Replay.ensures.replayed
       | in-Compact+in_ok-print_compact-in-Compact w ↦ search rules
       | in-Help+in_ok-print_help-in-Help w ↦ search rules
-      | in-Version+in_ok-print_text-in-Version w ↦ search rules
+      | in-Version+in_ok-print_text-in-Version w ↦ rw (w.in-Version.is, w.out-is) w.in_ok-print_text-in-Version.ensures.printed
     ] in
     ok_by c.flush.result (flushed_task (g.I.Images.lacks c.args.images.now) (g.I.Images.gives c.args.images.now) g.I.Reader.Read.remaining
     (g.T.Traces.lacks c.args.traces.now) (g.T.Traces.gives c.args.traces.now) g.T.Reader.Read.remaining
@@ -30,10 +30,10 @@ returns-clause-cause g c =
     (g.D.Dumps.gives c.args.dumps.now) g.D.Writer.Write.contents output between c.args.task = elim c.match-task.branch [
       | in-Plan+in_ok-print_plan-in-Plan w ↦ search rules
       | in-Word+in_ok-print_word-in-Word w ↦ search rules
-      | in-Replay+in_ok-print_replay-in-Replay w ↦ search rules
+      | in-Replay+in_ok-print_replay-in-Replay w ↦ rw (w.in-Replay.is, w.out-is) w.in_ok-print_replay-in-Replay.ensures.replayed
       | in-Compact+in_ok-print_compact-in-Compact w ↦ search rules
       | in-Help+in_ok-print_help-in-Help w ↦ search rules
-      | in-Version+in_ok-print_text-in-Version w ↦ search rules
+      | in-Version+in_ok-print_text-in-Version w ↦ rw (w.in-Version.is, w.out-is) w.in_ok-print_text-in-Version.ensures.printed
     ] in
     err_by (RefusesTask (g.I.Images.lacks c.args.images.now) (g.I.Images.gives c.args.images.now) g.I.Reader.Read.remaining
     (g.T.Traces.lacks c.args.traces.now) (g.T.Traces.gives c.args.traces.now) g.T.Reader.Read.remaining
