@@ -1,5 +1,5 @@
 -- The history of a finished heap is what a run of one thread added.
-use Rattle.std.proofs.Common.{◌≡◌, ℕ, zero, suc, ◌+◌, ◌<◌, ◌≤◌, ◌⊎◌, ◌==◌, Bool, List, [], ◌∷◌, ◌++◌, length, map, All, Some, None, refl, sym, ap, subst, ◌∙◌, inl, inr, ⊎_elim, arith, eq-eqb, append-nil}
+use Rattle.std.proofs.Common.{◌≡◌, ℕ, ◌+◌, ◌<◌, ◌≤◌, ◌⊎◌, ◌==◌, Bool, List, [], ◌∷◌, ◌++◌, length, map, All, Some, None, refl, sym, ap, subst, ◌∙◌, inl, inr, ⊎_elim, arith, eq-eqb, append-nil}
 use Rattle.std.proofs.lemmas.Bool.{cases_lt}
 use Rattle.std.proofs.lemmas.List.{length-map, get_or-map, get_or_past}
 use Rattle.std.proofs.lemmas.List.Elements.{All-head, All-tail}
@@ -8,7 +8,6 @@ use mathlib.Core.Option.{some}
 use lib.ListN.{get_elem?}
 use Rattle.heap_layout.specs.Heap.{live}
 use Rattle.heap_layout.specs.declared.kind.Kind.{Kind}
-use Rattle.page_plan.specs.Sliding as sliding
 use Rattle.page_plan.specs.Sliding.{forward, live_words}
 use Rattle.comp_journal.specs.Journal.{replayed}
 use Rattle.comp_journal.specs.declared.entry.Entry.{Entry}
@@ -25,7 +24,7 @@ use Rattle.comp_history.specs.Shares.{allocated}
 use Rattle.comp_history.proofs.Merging.{rises_all}
 use Rattle.comp_history.proofs.Pages.{on_in}
 use Rattle.comp_history.proofs.Sorted.{filter_has, in_filter, in_parts, same_rising, In, Rise}
-use Rattle.comp_mutator.specs.Finishes.{builds_in, history_of, journals_of, live_of, pages_of, roots_of, there, IsFinished}
+use Rattle.comp_mutator.specs.Finishes.{history_of, journals_of, pages_of, roots_of, there, IsFinished}
 use Rattle.comp_mutator.specs.declared.finishing.Finished.{Finished}
 use Rattle.comp_trace.specs.Bytes.{no_entries}
 use Rattle.comp_trace.specs.Runs.{with_entries, Acts, IsAboveAll, IsOneEntry, Moment, Runs}
