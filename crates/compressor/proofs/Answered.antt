@@ -7,12 +7,14 @@ use Rattle.clap.specs.declared.error.kind.ErrorKind.TheVariants.{OutOfMemory}
 use Rattle.heap_layout.specs.Heap.{Heap}
 use Rattle.command_line.specs.Asked.{Asks, AsksNoCommand}
 use Rattle.command_line.specs.Runs.{run_of}
+use Rattle.comp_audit.specs.Dumped.{Dumped}
+use Rattle.compressor.specs.Audits.{Passes, SomeAudit}
 use Rattle.compressor.specs.Compact.{Compacts}
 use Rattle.compressor.specs.Images.{IsImageOf, SomeGiven, SomeHeap}
 use Rattle.compressor.specs.Replays.{PrintsReplay, Replays, SomeRun}
 use Rattle.compressor.specs.Tasks.{Answers, AreWrong, HasAnswered}
 use Rattle.command_line.specs.declared.words.Task.{Task}
-use Rattle.command_line.specs.declared.words.Task.TheVariants.{Plan, Word, Replay, Compact, Help, Version}
+use Rattle.command_line.specs.declared.words.Task.TheVariants.{Plan, Word, Replay, Compact, Audit, Help, Version}
 
 -- the heap whose image was given is accepted
 heap_of : {R : Type 0} (gives : R → Type 0) (remaining : R → Option (List ℕ)) (P : Heap → Type 0) → SomeGiven gives remaining (IsImageOf P) → SomeHeap P
@@ -23,6 +25,11 @@ printed_of : {R S W : Type 0} (given : R → Type 0) (remaining : R → Option (
     (mutators fresh : ℕ) (before after : Option (List ℕ)) → SomeRun given remaining told rest mutators (Replays gives contents mutators fresh before after) → SomeHeap (PrintsReplay mutators fresh before after)
 printed_of given remaining told rest gives contents mutators fresh before after (reader, is_given, (heap, stored, accepted, (known, (other, is_told, (text, is_text, (lines, has_lines, h)))))) =
     (heap, stored, accepted, (text, lines, has_lines, h.run, h.printed))
+
+-- the heap whose image was given is accepted, and the dump passed
+passed_of : {R : Type 0} (given told : R → Type 0) (remaining : R → Option (List ℕ)) (before after : Option (List ℕ)) → SomeAudit given told remaining (Passes before after)
+    → SomeHeap (λ heap. (dump : Dumped) × Passes before after heap dump)
+passed_of given told remaining before after (reader, is_given, (heap, stored, accepted, (known, (other, is_told, (dump, in_range, is_read, passes))))) = (heap, stored, accepted, (dump, passes))
 
 -- what the words ask was printed, where the task that was read of them is done
 pub answered : {R S W : Type 0} (gives : List ℕ → R → Type 0) (remaining : R → Option (List ℕ)) (told : List ℕ → S → Type 0) (rest : S → Option (List ℕ)) (makes : List ℕ → W → Type 0) (contents : W → Option (List ℕ))
@@ -35,8 +42,10 @@ answered gives remaining told rest makes contents before after words (Ok (Replay
 answered gives remaining told rest makes contents before after words (Ok (Compact image dump workers)) asks h =
     let compacted = heap_of (gives image.now) remaining (Compacts (makes dump.now) contents workers before after) h in
     inr (inr (inr (inl (image.now, dump.now, workers, asks, (compacted.0, compacted.1, compacted.2, compacted.3.line)))))
-answered gives remaining told rest makes contents before after words (Ok (Help text)) asks h = inr (inr (inr (inr (inl (asks, string_bytes text, h)))))
-answered gives remaining told rest makes contents before after words (Ok Version) asks h = inr (inr (inr (inr (inr (asks, h)))))
+answered gives remaining told rest makes contents before after words (Ok (Audit image dump)) asks h =
+    inr (inr (inr (inr (inl (image.now, dump.now, asks, passed_of (gives image.now) (gives dump.now) remaining before after h)))))
+answered gives remaining told rest makes contents before after words (Ok (Help text)) asks h = inr (inr (inr (inr (inr (inl (asks, string_bytes text, h))))))
+answered gives remaining told rest makes contents before after words (Ok Version) asks h = inr (inr (inr (inr (inr (inr (asks, h))))))
 answered gives remaining told rest makes contents before after words (Err error) asks h = absurd h
 
 -- words of which no task was read, with memory there, ask neither

@@ -17,7 +17,7 @@ use Rattle.compressor.specs.Printing.{named, CountsPrint}
 use Rattle.compressor.specs.declared.refusal.Input.TheVariants.{Image}
 use Rattle.compressor.specs.declared.refusal.Input.TheVariants as inputs
 use Rattle.compressor.specs.declared.refusal.Refusal.{Refusal}
-use Rattle.compressor.specs.declared.refusal.Refusal.TheVariants.{Layout, Mutator, Sweep, Trace, Dump, CannotOpen, CannotCreate, ReadFailed, CannotPrint, NoSuchWord, OutOfMemory}
+use Rattle.compressor.specs.declared.refusal.Refusal.TheVariants.{Layout, Mutator, Sweep, Trace, Dump, Audit, CannotOpen, CannotCreate, ReadFailed, CannotPrint, NoSuchWord, OutOfMemory}
 use Rattle.compressor.proofs.Outcomes.{same_parts, uncounted_by}
 
 -- what holds of the heap of an image
@@ -61,8 +61,10 @@ module _ {R W : Type 0} (absent closed : Type 0) (given : R → Type 0) (remaini
   of_sweep (Sweep fault) h = h
   of_sweep (Trace fault) h = absurd h.2
   of_sweep (Dump fault) h = absurd h.2
+  of_sweep (Audit fault) h = absurd h.2
   of_sweep (CannotOpen Image) h = h
   of_sweep (CannotOpen inputs.Trace) h = absurd h.2
+  of_sweep (CannotOpen inputs.Dump) h = absurd h.2
   of_sweep (CannotCreate output) h = absurd h.2
   of_sweep (ReadFailed input) h = absurd h.2
   of_sweep CannotPrint h = absurd h.2
@@ -82,6 +84,7 @@ module _ {R W : Type 0} (absent closed : Type 0) (given : R → Type 0) (remaini
     of_dumping (Dump BadField) h = absurd h
     of_dumping (Dump faults.OutOfMemory) h = absurd h
     of_dumping (Dump Device) h = (swept.0, swept.1, of_image (IsSweptHeap workers f) (BeginsDump gives contents workers) (remaining swept.0) (λ heap s. begins workers f dump parts heap s gives contents h) swept.2)
+    of_dumping (Audit fault) h = absurd h
     of_dumping (CannotOpen input) h = absurd h
     of_dumping (CannotCreate output) h = (swept.0, swept.1, (h, of_image (IsSweptHeap workers f) (WasSwept workers) (remaining swept.0) (λ heap s. (f, s)) swept.2))
     of_dumping (ReadFailed input) h = absurd h

@@ -5,7 +5,7 @@ use Rattle.comp_audit.specs.Dumped.{BuiltPage, Dumped}
 use Rattle.compressor.specs.Dumps.{IsOfDumping, RefusedUncreated}
 use Rattle.compressor.specs.Printing.{CountsPrint, RefusedUnprinted}
 use Rattle.compressor.specs.declared.refusal.Refusal.{Refusal}
-use Rattle.compressor.specs.declared.refusal.Refusal.TheVariants.{Layout, Mutator, Sweep, Trace, Dump, CannotOpen, CannotCreate, ReadFailed, CannotPrint, NoSuchWord, OutOfMemory}
+use Rattle.compressor.specs.declared.refusal.Refusal.TheVariants.{Layout, Mutator, Sweep, Trace, Dump, Audit, CannotOpen, CannotCreate, ReadFailed, CannotPrint, NoSuchWord, OutOfMemory}
 
 -- a refusal that is none of the output counts no failed call of it
 pub uncounted_by : (old new : ℕ) (refusal : Refusal) → new ≡ old → (refusal ≡ CannotPrint → ⊥) → CountsPrint {T = Unit {0}} old new (Err refusal)
@@ -14,6 +14,7 @@ uncounted_by old new (Mutator refused) same other = same
 uncounted_by old new (Sweep fault) same other = same
 uncounted_by old new (Trace fault) same other = same
 uncounted_by old new (Dump fault) same other = same
+uncounted_by old new (Audit fault) same other = same
 uncounted_by old new (CannotOpen input) same other = same
 uncounted_by old new (CannotCreate output) same other = same
 uncounted_by old new (ReadFailed input) same other = same
@@ -32,6 +33,7 @@ unprinted before (Mutator refused) = Keeps-refl before
 unprinted before (Sweep fault) = Keeps-refl before
 unprinted before (Trace fault) = Keeps-refl before
 unprinted before (Dump fault) = Keeps-refl before
+unprinted before (Audit fault) = Keeps-refl before
 unprinted before (CannotOpen input) = Keeps-refl before
 unprinted before (CannotCreate output) = Keeps-refl before
 unprinted before (ReadFailed input) = Keeps-refl before
@@ -46,6 +48,7 @@ uncreated dumps (Mutator refused) = refl
 uncreated dumps (Sweep fault) = refl
 uncreated dumps (Trace fault) = refl
 uncreated dumps (Dump fault) = tt
+uncreated dumps (Audit fault) = refl
 uncreated dumps (CannotOpen input) = refl
 uncreated dumps (CannotCreate output) = tt
 uncreated dumps (ReadFailed input) = refl
@@ -60,6 +63,7 @@ created closed gives contents bytes before after (Mutator refused) h = absurd h
 created closed gives contents bytes before after (Sweep fault) h = absurd h
 created closed gives contents bytes before after (Trace fault) h = absurd h
 created closed gives contents bytes before after (Dump fault) h = tt
+created closed gives contents bytes before after (Audit fault) h = absurd h
 created closed gives contents bytes before after (CannotOpen input) h = absurd h
 created closed gives contents bytes before after (CannotCreate output) h = tt
 created closed gives contents bytes before after (ReadFailed input) h = absurd h

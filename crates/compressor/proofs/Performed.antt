@@ -6,7 +6,8 @@ use Rattle.compressor.specs.Tasks.{DoesTask, RefusesTask}
 use Rattle.compressor.specs.declared.refusal.Refusal.{Refusal}
 use Rattle.compressor.specs.declared.refusal.Refusal.TheVariants.{CannotPrint}
 use Rattle.command_line.specs.declared.words.Task.{Task}
-use Rattle.command_line.specs.declared.words.Task.TheVariants.{Plan, Word, Replay, Compact, Help, Version}
+use Rattle.command_line.specs.declared.words.Task.TheVariants.{Plan, Word, Replay, Compact, Audit, Help, Version}
+use Rattle.compressor.proofs.Audited.{flushed_audit, unflushed_audit}
 use Rattle.compressor.proofs.ReplayRuns.{flushed_run, unflushed_run}
 
 -- what holds anyway holds of an Ok
@@ -30,6 +31,7 @@ module _ {R S W : Type 0} (lacks : List ℕ → Type 0) (gives : List ℕ → R 
       flushed_run (gives run.image.now) remaining (told run.trace.now) rest (makes run.dump.now) contents run.mutators run.fresh before between after kept h
   flushed_task kept (Compact image dump workers) (reader, is_given, (heap, stored, accepted, (known, h))) =
       (reader, is_given, (heap, stored, accepted, (known, record { dump = h.dump; line = Appends-kept before between after _ h.line kept })))
+  flushed_task kept (Audit image dump) h = flushed_audit (gives image.now) (gives dump.now) remaining before between after kept h
   flushed_task kept (Help text) printed = Appends-kept before between after _ printed kept
   flushed_task kept Version printed = Appends-kept before between after _ printed kept
 
@@ -40,5 +42,6 @@ module _ {R S W : Type 0} (lacks : List ℕ → Type 0) (gives : List ℕ → R 
   unflushed_task (Replay run) h =
       unflushed_run (gives run.image.now) remaining (told run.trace.now) rest (makes run.dump.now) contents run.mutators run.fresh before between after (closed run.dump.now) h
   unflushed_task (Compact image dump workers) (reader, is_given, (heap, stored, accepted, (known, h))) = (reader, is_given, (heap, stored, accepted, (known, h.dump)))
+  unflushed_task (Audit image dump) h = unflushed_audit (gives image.now) (gives dump.now) remaining before between h
   unflushed_task (Help text) printed = refl
   unflushed_task Version printed = refl

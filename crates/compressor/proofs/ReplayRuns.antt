@@ -27,7 +27,7 @@ use Rattle.compressor.specs.Replays.{dumped_of, shown_lines, HasRun, IsHalted, I
 use Rattle.compressor.specs.Texts.{HasLines, IsOfReading, IsTextOf, RefusesText, RefusesTextAt, SomeText}
 use Rattle.compressor.specs.declared.refusal.Input.TheVariants as inputs
 use Rattle.compressor.specs.declared.refusal.Refusal.{Refusal}
-use Rattle.compressor.specs.declared.refusal.Refusal.TheVariants.{Layout, Mutator, Sweep, Trace, Dump, CannotOpen, CannotCreate, ReadFailed, CannotPrint, NoSuchWord, OutOfMemory}
+use Rattle.compressor.specs.declared.refusal.Refusal.TheVariants.{Layout, Mutator, Sweep, Trace, Dump, Audit, CannotOpen, CannotCreate, ReadFailed, CannotPrint, NoSuchWord, OutOfMemory}
 use Rattle.compressor.proofs.Outcomes.{same_parts, uncounted_by}
 
 -- what holds of the one heap of an image
@@ -89,8 +89,10 @@ module _ {R S W : Type 0} (absent : Type 0) (given : R → Type 0) (remaining : 
   of_image (Sweep fault) h = absurd h.2
   of_image (Trace fault) h = absurd h.2
   of_image (Dump fault) h = absurd h.2
+  of_image (Audit fault) h = absurd h.2
   of_image (CannotOpen inputs.Image) h = h
   of_image (CannotOpen inputs.Trace) h = absurd h.2
+  of_image (CannotOpen inputs.Dump) h = absurd h.2
   of_image (CannotCreate output) h = absurd h.2
   of_image (ReadFailed input) h = absurd h.2
   of_image CannotPrint h = absurd h.2
@@ -105,11 +107,14 @@ module _ {R S W : Type 0} (absent : Type 0) (given : R → Type 0) (remaining : 
     by_trace kept (Sweep fault) h = absurd h.2
     by_trace kept (Trace fault) h = inl (some_refused given remaining told rest mutators heap image (Trace fault) h, kept)
     by_trace kept (Dump fault) h = absurd h.2
+    by_trace kept (Audit fault) h = absurd h.2
     by_trace kept (CannotOpen inputs.Image) h = absurd h.2
     by_trace kept (CannotOpen inputs.Trace) h = (h, some_heap given remaining told rest mutators heap image)
+    by_trace kept (CannotOpen inputs.Dump) h = absurd h.2
     by_trace kept (CannotCreate output) h = absurd h.2
     by_trace kept (ReadFailed inputs.Image) h = absurd h.2
     by_trace kept (ReadFailed inputs.Trace) h = some_refused given remaining told rest mutators heap image (ReadFailed inputs.Trace) h
+    by_trace kept (ReadFailed inputs.Dump) h = absurd h.2
     by_trace kept CannotPrint h = absurd h.2
     by_trace kept (NoSuchWord index) h = absurd h.2
     by_trace kept OutOfMemory h = tt
@@ -130,6 +135,7 @@ module _ {R S W : Type 0} (absent : Type 0) (given : R → Type 0) (remaining : 
       of_halt shown printed (Trace fault) h =
           inr (some_run given remaining told rest mutators heap image (StopsReplay mutators fresh before after fault) lines trace (shown, h, printed))
       of_halt shown printed (Dump fault) h = absurd h
+      of_halt shown printed (Audit fault) h = absurd h
       of_halt shown printed (CannotOpen input) h = absurd h
       of_halt shown printed (CannotCreate output) h = absurd h
       of_halt shown printed (ReadFailed input) h = absurd h
@@ -154,6 +160,7 @@ module _ {R S W : Type 0} (absent : Type 0) (given : R → Type 0) (remaining : 
         of_writing (Dump BadField) w = absurd w
         of_writing (Dump faults.OutOfMemory) w = absurd w
         of_writing (Dump Device) w = by_run (Dump Device) (has_run mutators fresh lines shown f heap h, w)
+        of_writing (Audit fault) w = absurd w
         of_writing (CannotOpen input) w = absurd w
         of_writing (CannotCreate output) w = by_run (CannotCreate output) (w, has_run mutators fresh lines shown f heap h)
         of_writing (ReadFailed input) w = absurd w
@@ -187,10 +194,12 @@ of_reading mutators roots known (Trace fault) h = subst (λ (f : TraceFault). Re
     unread None = ([], tt, tt)
     unread (Some bytes) = (bytes, refl, tt)
 of_reading mutators roots known (Dump fault) h = absurd h
+of_reading mutators roots known (Audit fault) h = absurd h
 of_reading mutators roots known (CannotOpen input) h = absurd h
 of_reading mutators roots known (CannotCreate output) h = absurd h
 of_reading mutators roots known (ReadFailed inputs.Image) h = absurd h
 of_reading mutators roots known (ReadFailed inputs.Trace) h = tt
+of_reading mutators roots known (ReadFailed inputs.Dump) h = absurd h
 of_reading mutators roots known CannotPrint h = absurd h
 of_reading mutators roots known (NoSuchWord index) h = absurd h
 of_reading mutators roots known OutOfMemory h = absurd h
@@ -225,6 +234,7 @@ unprinted_halt before (Mutator refused) = Keeps-refl before
 unprinted_halt before (Sweep fault) = Keeps-refl before
 unprinted_halt before (Trace fault) = unprinted_trace before fault
 unprinted_halt before (Dump fault) = Keeps-refl before
+unprinted_halt before (Audit fault) = Keeps-refl before
 unprinted_halt before (CannotOpen input) = Keeps-refl before
 unprinted_halt before (CannotCreate output) = Keeps-refl before
 unprinted_halt before (ReadFailed input) = Keeps-refl before
@@ -260,6 +270,7 @@ halt_unprinted mutators fresh lines shown heap before after (Mutator refused) re
 halt_unprinted mutators fresh lines shown heap before after (Sweep fault) read printed h = absurd h
 halt_unprinted mutators fresh lines shown heap before after (Trace fault) (text, has) printed h = halt_untraced (flipped heap mutators fresh) text shown before after fault printed (h text has)
 halt_unprinted mutators fresh lines shown heap before after (Dump fault) read printed h = absurd h
+halt_unprinted mutators fresh lines shown heap before after (Audit fault) read printed h = absurd h
 halt_unprinted mutators fresh lines shown heap before after (CannotOpen input) read printed h = absurd h
 halt_unprinted mutators fresh lines shown heap before after (CannotCreate output) read printed h = absurd h
 halt_unprinted mutators fresh lines shown heap before after (ReadFailed input) read printed h = absurd h
@@ -275,6 +286,7 @@ writing_of lacks gives contents bytes (Mutator refused) h = h
 writing_of lacks gives contents bytes (Sweep fault) h = h
 writing_of lacks gives contents bytes (Trace fault) h = h
 writing_of lacks gives contents bytes (Dump fault) h = h
+writing_of lacks gives contents bytes (Audit fault) h = h
 writing_of lacks gives contents bytes (CannotOpen input) h = h
 writing_of lacks gives contents bytes (CannotCreate output) h = h
 writing_of lacks gives contents bytes (ReadFailed input) h = h

@@ -6,4 +6,5 @@ pub mod Dumps
 pub mod Compact
 pub mod Texts
 pub mod Replays
+pub mod Audits
 pub mod Tasks

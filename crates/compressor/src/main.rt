@@ -4,6 +4,7 @@
 ghost use Rattle.std.specs.Prelude.{◌≡◌, ◌≤◌, IfOk, IfErr};
 ghost use Rattle.compressor.specs.declared.refusal.Refusal.TheVariants as refusals;
 
+mod audit;
 mod compact;
 mod dumps;
 mod images;

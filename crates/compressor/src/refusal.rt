@@ -2,6 +2,7 @@ ghost use Rattle.std.specs.Prelude.{◌≡◌, Some, codes};
 ghost use Rattle.compressor.specs.declared.refusal.Refusal.TheVariants as refusal;
 
 use comp_audit::fault::DumpFault;
+use comp_audit::verdict::AuditFault;
 use comp_mutator::refusal as mutators;
 use comp_sweep::refusal::SweepFault;
 use comp_trace::fault::TraceFault;
@@ -15,6 +16,7 @@ use thiserror::Error;
 pub enum Input {
     Image,
     Trace,
+    Dump,
 }
 
 impl fmt::Display for Input {
@@ -26,6 +28,7 @@ impl fmt::Display for Input {
         f.write_str(match self {
             Input::Image => "image",
             Input::Trace => "trace",
+            Input::Dump => "dump",
         })
     }
 }
@@ -61,9 +64,12 @@ pub enum Refusal {
     /// The text of the trace is refused, or one of its lines.
     #[error("{0}")]
     Trace(TraceFault),
-    /// The dump was not written whole.
+    /// The dump was not written whole, or what is at its path is no dump.
     #[error("{0}")]
     Dump(DumpFault),
+    /// The dump is none that a compaction of the heap can have left.
+    #[error("{0}")]
+    Audit(AuditFault),
     /// The file could not be opened.
     #[error("P1 CannotOpen({0})")]
     CannotOpen(Input),

@@ -7,6 +7,7 @@ ghost use Rattle.compressor.specs.Printing.{CountsPrint};
 ghost use Rattle.compressor.specs.Replays.{StopsUnprinted};
 ghost use Rattle.compressor.specs.Tasks.{Answers, AreWrong, DoesTask, HasAnswered, IsRefused, RefusesTask};
 
+use crate::audit::print_audit;
 use crate::compact::{Compaction, print_compact};
 use crate::dumps::{Dumps, FileDumps};
 use crate::images::{FileImages, Images};
@@ -149,6 +150,7 @@ pub fn perform<R: Threads + Wait + Sync, I: Images, T: Traces, D: Dumps, O: Writ
             },
             out,
         )?,
+        Task::Audit { image, dump } => print_audit(alloc, images, image, dump, out)?,
         Task::Help { text } => print_help(&text, out)?,
         Task::Version => print_text(VERSION_LINE, out)?,
     }

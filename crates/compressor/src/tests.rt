@@ -2,6 +2,7 @@
 ghost use Rattle.std.specs.Prelude.{◌≡◌, ◌≢◌, All, Any};
 ghost use Rattle.command_line.specs.Asked.{HasLawfulCounts};
 
+mod auditing;
 mod compacting;
 mod places;
 mod refusing;

@@ -14,13 +14,13 @@ use std::test::Fail;
 
 // What the audit of a dump in memory answers, and what it prints.
 #[derive(Drop)]
-struct Judged {
+struct AuditOutcome {
     answer: Result<(), Refusal>,
     printed: String,
 }
 
 // Judges a dump, where the heap of this image was compacted.
-fn judged(alloc: Global, image: &[u8], dump: &[u8]) -> Result<Judged, Fail> {
+fn judged(alloc: Global, image: &[u8], dump: &[u8]) -> Result<AuditOutcome, Fail> {
     let images = [
         Image {
             path: "heap.img",
@@ -39,7 +39,7 @@ fn judged(alloc: Global, image: &[u8], dump: &[u8]) -> Result<Judged, Fail> {
         "left.dump",
         &mut Counted::new(&mut printed),
     );
-    Ok(Judged {
+    Ok(AuditOutcome {
         answer,
         printed: String::from_utf8(printed)?,
     })

@@ -45,7 +45,7 @@ fn push_page(
 }
 
 // The dump behind the run that makes a new object: one mutator, which built page 1 and then page 0; page 2 was never built.
-fn fresh_dump(alloc: Global) -> Result<Vec<u8>, Fail> {
+pub fn fresh_dump(alloc: Global) -> Result<Vec<u8>, Fail> {
     let mut bytes = b"COMPDUMP".to_vec(alloc)?;
     push_small_numbers(&mut bytes, &[1, 1, 2, 3, 1])?;
     bytes.extend_from_slice(&8_589_934_594u64.to_le_bytes())?;
