@@ -69,12 +69,9 @@ impl Object {
 
     /// Sets a field of this kind, if it is there.
     pub fn set(&mut self, kind: Kind, field: u16, value: u64) {
-        let fields = match kind {
-            Kind::Reference => &mut self.references,
-            _ => &mut self.data_words,
-        };
-        if let Some(word) = fields.get_mut(usize::from(field)) {
-            *word = value;
+        match kind {
+            Kind::Reference => set_word(&mut self.references, field, value),
+            _ => set_word(&mut self.data_words, field, value),
         }
     }
 
@@ -100,5 +97,12 @@ fn put_words(words: &mut [u64], start: u64, values: &[u64]) {
             *word = *value;
         }
         place = place.wrapping_add(1);
+    }
+}
+
+// This word becomes the value, if it is there.
+fn set_word(words: &mut [u64], field: u16, value: u64) {
+    if let Some(word) = words.get_mut(usize::from(field)) {
+        *word = value;
     }
 }

@@ -35,9 +35,7 @@ impl PlainRun {
 
     fn set(&mut self, mutator: u8, register: u8, value: u64) {
         if let Some(registers) = self.registers.get_mut(usize::from(mutator)) {
-            if let Some(word) = registers.get_mut(usize::from(register)) {
-                *word = value;
-            }
+            set_register(registers, register, value);
         }
     }
 
@@ -108,5 +106,11 @@ impl PlainRun {
             Action::Put { .. } => {}
         }
         Ok(())
+    }
+}
+
+fn set_register(registers: &mut [u64; 16], register: u8, value: u64) {
+    if let Some(word) = registers.get_mut(usize::from(register)) {
+        *word = value;
     }
 }
