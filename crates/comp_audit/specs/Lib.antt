@@ -3,3 +3,7 @@ pub mod DumpEncoding
 pub mod DumpReading
 pub mod DumpWriting
 pub mod Lent
+pub mod Checks
+pub mod Judged
+pub mod Noted
+pub mod Meant

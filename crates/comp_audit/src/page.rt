@@ -1,4 +1,5 @@
 ghost use Rattle.std.specs.Prelude.{◌≡◌, ◌^◌, ◌<◌, All, length};
+ghost use Rattle.comp_audit.specs.Checks.{journal_of};
 ghost use Rattle.comp_audit.specs.Lent.{built_of, IsTypedEntry, IsTypedPage};
 
 use comp_journal::entry::Entry;
@@ -70,6 +71,16 @@ impl<'a> DumpedPage<'a> {
             Place::Lent(page) => page.journal(),
             Place::Owned(_, journal) => journal,
         }
+    }
+}
+
+/// The entries of a page, where it was built; else none.
+pub(crate) fn journal_of<'a>(place: &'a Option<DumpedPage<'_>>) -> &'a [Entry]
+    ensures { result.now ≡ journal_of place.now }
+{
+    match place {
+        None => &[],
+        Some(page) => page.journal(),
     }
 }
 

@@ -2,13 +2,14 @@
 ghost use Rattle.std.specs.Prelude.{◌≡◌, ◌+◌, ◌*◌, ◌^◌, ◌<◌, ◌≤◌, length, slice_index};
 ghost use Rattle.heap_layout.specs.Header.{size_of};
 ghost use Rattle.heap_layout.specs.Heap.{live, object_at};
-ghost use Rattle.page_plan.specs.Sliding.{live_words, moved, pages, slid_words};
+ghost use Rattle.page_plan.specs.Sliding.{kind, live_words, moved, pages, slid_words};
 ghost use Rattle.page_plan.specs.Planned.{IsAt};
 
 use crate::first_objects::{first_number, size_at};
 use crate::places::{place_of, words_below};
 use crate::plan::Plan;
 use heap_layout::header::Header;
+use heap_layout::kind::Kind;
 
 /// A word of the slid words: its place, the number of the live object that has it, and which word of that object it is.
 #[derive(Clone, Copy)]
@@ -95,4 +96,25 @@ fn moved_word(plan: &Plan, number: usize, within: usize) -> u64
     } else {
         word
     }
+}
+
+/// What the slid word there is: a header, a reference or a data word; None behind the last one.
+pub fn kind_at(plan: &Plan, cursor: Cursor) -> Option<Kind>
+    requires { IsAt plan.now cursor.place cursor.number cursor.within }
+    ensures { result ≡ kind (live plan.now) cursor.place }
+{
+    let words = plan.heap().words();
+    let marks = plan.heap().marks();
+    if cursor.number >= marks.len() {
+        return None;
+    }
+    let start = marks[cursor.number] as usize;
+    let refs = usize::from(Header::from_word(words[start]).refs());
+    Some(if cursor.within == 0 {
+        Kind::Header
+    } else if cursor.within <= refs {
+        Kind::Reference
+    } else {
+        Kind::Data
+    })
 }

@@ -1,14 +1,15 @@
-ghost use Rattle.std.specs.Prelude.{◌≡◌, ◌-◌, ◌<◌, ◌≤◌, Some, map, IfOk, IfSome, ◌*◌, ◌^◌};
+ghost use Rattle.std.specs.Prelude.{◌≡◌, ℕ, ◌+◌, ◌-◌, ◌<◌, ◌≤◌, None, Some, map, slice_index_or, IfOk, IfSome, ◌*◌, ◌^◌};
 ghost use Rattle.heap_layout.specs.Heap.{live, IsClosed};
 ghost use Rattle.mark_tables.specs.LiveWords.{live_indices};
 ghost use Rattle.page_plan.specs.Planned.{AreFirst};
-ghost use Rattle.page_plan.specs.Sliding.{first_object, forward, live_words, page, pages, shape_at, to_address, HasObject, slid_words, IsPartFrom};
+ghost use Rattle.page_plan.specs.Sliding.{first_object, forward, kind, live_words, page, pages, shape_at, to_address, HasObject, slid_words, IsPartFrom};
 
 use crate::places::TO_SPACE;
 use crate::{first_objects, page_builder, places};
 use heap_layout::fault::OutOfMemory;
 use heap_layout::header::Header;
 use heap_layout::heap::MarkedHeap;
+use heap_layout::kind::Kind;
 use heap_layout::page_words::PageWords;
 use mark_tables::tables::Tables;
 use std::alloc::Global;
@@ -150,5 +151,19 @@ impl Plan {
             cursor = page_builder::next(self, cursor);
         }
         Ok(page)
+    }
+
+    /// What each of the 64 words of page `p` is; None behind the last live word. Takes no memory.
+    pub fn page_kinds(&self, p: u64) -> [Option<Kind>; 64]
+        requires { p < pages (live self.now) }
+        ensures { (offset : ℕ) → offset < 64 → slice_index_or result offset None ≡ kind (live self.now) (64 * p + offset) }
+    {
+        let mut kinds = [None; 64];
+        let mut cursor = page_builder::cursor_at(self, p);
+        for offset in 0..64 {
+            kinds[offset] = page_builder::kind_at(self, cursor);
+            cursor = page_builder::next(self, cursor);
+        }
+        kinds
     }
 }

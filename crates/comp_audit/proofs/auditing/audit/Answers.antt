@@ -1,0 +1,44 @@
+use Rattle.std.proofs.Common.{◌≡◌, ◌∙◌, ℕ, List, Option, Result, Err, ap, sym, subst}
+use Rattle.heap_layout.specs.Heap.{Heap}
+use Rattle.page_cells.specs.Ends.{lists as items_of}
+use Rattle.comp_audit.specs.Checks.{setup_for}
+use Rattle.comp_audit.specs.Dumped.{BuiltPage, Dumped}
+use Rattle.comp_audit.specs.Judged.{faults, faults_for, IsFirst, Tells}
+use Rattle.comp_audit.specs.declared.verdict.AuditFault.{AuditFault}
+use Rattle.comp_audit.specs.declared.verdict.Stop.{Stop}
+use Rattle.comp_audit.specs.declared.verdict.Stop.TheVariants as stop
+use Rattle.comp_audit.proofs.auditing.audit.Goals as goal
+
+-- what is wrong with a dump is wrong with its parts
+parts_faults : (heap : Heap) (dump : Dumped) (fresh mutators : ℕ) (roots : List ℕ) (builds : List (List ℕ)) (pages : List (Option BuiltPage)) (total : ℕ)
+    → fresh ≡ dump.fresh → mutators ≡ dump.mutators → roots ≡ dump.roots → builds ≡ dump.builds → pages ≡ dump.pages → total ≡ dump.total
+    → faults_for (setup_for heap fresh mutators) roots builds pages total ≡ faults heap dump
+parts_faults heap dump fresh mutators roots builds pages total f m r b p t =
+    ap (λ (n : ℕ). faults_for (setup_for heap n mutators) roots builds pages total) f
+    ∙ ap (λ (n : ℕ). faults_for (setup_for heap dump.fresh n) roots builds pages total) m
+    ∙ ap (λ (l : List ℕ). faults_for (setup_for heap dump.fresh dump.mutators) l builds pages total) r
+    ∙ ap (λ (l : List (List ℕ)). faults_for (setup_for heap dump.fresh dump.mutators) dump.roots l pages total) b
+    ∙ ap (λ (l : List (Option BuiltPage)). faults_for (setup_for heap dump.fresh dump.mutators) dump.roots dump.builds l total) p
+    ∙ ap (λ (n : ℕ). faults_for (setup_for heap dump.fresh dump.mutators) dump.roots dump.builds dump.pages n) t
+
+-- a fault that is told is the first
+told_first : (list all : List AuditFault) (result : Result (Unit {0}) Stop) (why : Stop) (fault : AuditFault) → result ≡ Err why → why ≡ stop.Fault fault → list ≡ all
+    → Tells list result → IsFirst all fault
+told_first list all result why fault is was same told =
+    let early : Tells list (Err why) = subst (λ (r : Result (Unit {0}) Stop). Tells list r) is told in
+    let first : IsFirst list fault = subst (λ (w : Stop). Tells list (Err w)) was early in
+    subst (λ (l : List AuditFault). IsFirst l fault) same first
+
+pub returns-in-Ok : goal.returns-in-Ok
+returns-in-Ok c =
+    sym (parts_faults c.args.plan.now c.args.dump.now c.fresh_pages.result c.mutators.result c.roots.result.now (items_of c.builds.result.now) c.pages.result.now
+    c.live_words.result c.fresh_pages.ensures c.mutators.ensures c.roots.ensures c.builds.ensures c.pages.ensures c.live_words.ensures.total)
+    ∙ c.in-Ok.ensures
+
+pub returns-in-Err-Fault : goal.returns-in-Err-Fault
+returns-in-Err-Fault c =
+    let was = rw c.in-Err-Fault.is at c.in-Err-Fault.field-0-is in
+    told_first _ _ c.check-found.result c.in-Err-Fault.field-0 c.in-Err-Fault.fault c.in-Err-Fault.is was
+    (parts_faults c.args.plan.now c.args.dump.now c.fresh_pages.result c.mutators.result c.roots.result.now (items_of c.builds.result.now) c.pages.result.now
+    c.live_words.result c.fresh_pages.ensures c.mutators.ensures c.roots.ensures c.builds.ensures c.pages.ensures c.live_words.ensures.total)
+    c.check-found.ensures

@@ -1,0 +1,77 @@
+-- What the audit's answers mean in the words of the cells and of the merged history.
+use Rattle.std.specs.Prelude.{◌≡◌, ◌↔◌, ℕ, ◌+◌, ◌<◌, List, [], length, map, slice_index_or, Option, Some, None}
+use Rattle.heap_layout.specs.Heap.{Heap, live, IsClosed}
+use Rattle.page_plan.specs.Sliding.{forwarded, live_words}
+use Rattle.comp_journal.specs.Journal.{replayed}
+use Rattle.comp_journal.specs.declared.entry.Entry.{Entry}
+use Rattle.cell_steps.specs.Lists.{Rises}
+use Rattle.cell_steps.specs.Setup.{Setup, pages, base_of}
+use Rattle.cell_steps.specs.Lawful.{IsLawful}
+use Rattle.page_cells.specs.Objects.{ReferencesAreStarts}
+use Rattle.comp_history.specs.Merged.{history, CanMerge, IsOneHistory}
+use Rattle.comp_history.specs.Shares.{allocated}
+use Rattle.comp_mutator.specs.Finishes.{builds_in, live_of, named, pages_of, roots_of, IsOfFlip}
+use Rattle.comp_mutator.specs.declared.finishing.Finished.{Finished}
+use Rattle.comp_audit.specs.Dumped.{BuiltPage, Dumped, IsStored}
+use Rattle.comp_audit.specs.Lent.{record_of}
+use Rattle.comp_audit.specs.Checks.{setup_for, journals_in, entry_faults}
+use Rattle.comp_audit.specs.Judged.{faults}
+
+-- a journal has no fault where it is lawful and its stamps rise, and only there
+abbrev pub FaultlessIsLawful : Type 0
+FaultlessIsLawful = (u : Setup) (p : ℕ) (journal : List Entry) → (entry_faults u p 0 0 [] journal ≡ []) ↔ (IsLawful u p journal × ((n : ℕ) × Rises 0 journal n))
+
+-- 1 where a page was built, and 0 where it never was
+abbrev pub built_count : Option BuiltPage → ℕ
+built_count None = 0
+built_count (Some page) = 1
+
+-- page p, or None where there is no such page
+abbrev pub page_of : Dumped → ℕ → Option BuiltPage
+page_of dump p = slice_index_or dump.pages p None
+
+-- the journals of its pages
+abbrev pub journals_of : Dumped → ℕ → List Entry
+journals_of dump = journals_in dump.pages
+
+-- A dump that a compaction can have left.
+pub record IsLawfulDump (u : Setup) (dump : Dumped) : Type 0 where
+  -- there is a place for each page
+  pub places : length dump.pages ≡ pages u
+  -- the roots lead where the objects slid
+  pub roots : dump.roots ≡ map (forwarded (live u.heap)) u.heap.roots
+  -- a page that was built is named once in all lists of builds, and no other page is
+  pub claims : (p : ℕ) → p < pages u → named p dump.builds ≡ built_count (page_of dump p)
+  -- its words are what its journal makes of the words with which it began
+  pub words : (p : ℕ) (page : BuiltPage) → page_of dump p ≡ Some page → page.words ≡ replayed (base_of u p) page.journal
+  -- the journals can be merged
+  pub merges : CanMerge u (journals_of dump)
+  -- the total is that of the words that slid and of the objects that the merged history makes
+  pub total : dump.total ≡ live_words (live u.heap) + allocated (history u (journals_of dump))
+
+-- Where the audit says yes, the dump is lawful, its pages have one history, and each of their references is null or an object's start.
+pub record IsSound (u : Setup) (dump : Dumped) : Type 0 where
+  pub lawful : IsLawfulDump u dump
+  pub one : IsOneHistory u (journals_of dump) (history u (journals_of dump))
+  pub closed : ReferencesAreStarts u (journals_of dump)
+
+abbrev pub YesIsSound : Type 0
+YesIsSound = (heap : Heap) (dump : Dumped) → IsClosed heap → IsStored dump → faults heap dump ≡ [] → IsSound (setup_for heap dump.fresh dump.mutators) dump
+
+-- and of a lawful dump it says yes
+abbrev pub LawfulIsYes : Type 0
+LawfulIsYes = (heap : Heap) (dump : Dumped) → IsStored dump → IsLawfulDump (setup_for heap dump.fresh dump.mutators) dump → faults heap dump ≡ []
+
+-- what the dump of a finished heap has
+pub record IsDumpOf (mutators fresh : ℕ) (f : Finished) (dump : Dumped) : Type 0 where
+  pub mutators_are : dump.mutators ≡ mutators
+  pub fresh_are : dump.fresh ≡ fresh
+  pub roots : dump.roots ≡ roots_of f
+  pub pages : dump.pages ≡ map record_of (pages_of f)
+  pub builds : dump.builds ≡ builds_in f
+  pub total : dump.total ≡ live_of f
+
+-- so of a heap that was finished it says yes
+abbrev pub FinishedIsYes : Type 0
+FinishedIsYes = (mutators fresh : ℕ) (f : Finished) (of : IsOfFlip mutators fresh f) (dump : Dumped) → IsStored dump → IsDumpOf mutators fresh f dump
+    → faults of.setup.heap dump ≡ []
