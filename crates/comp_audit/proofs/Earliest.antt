@@ -1,6 +1,6 @@
 -- Of entries that fail a test, the one with the least stamp is that of the first fault.
 use Rattle.std.proofs.Common.{◌≡◌, ◌≢◌, ℕ, ◌+◌, ◌<◌, ◌≤◌, Bool, true, false, eqb, not, ◌||◌, List, [], ◌∷◌, ◌++◌, length, take, get_or, Option, Some, None, refl, sym, ap, subst, ◌∙◌, inl, inr, arith, append-nil, append_assoc}
-use Rattle.std.specs.List.{flat_map, enumerate_from, range_with_len}
+use Rattle.std.specs.List.{flat_map, enumerate_from}
 use Rattle.std.proofs.Math.Path.{fun_ext}
 use Rattle.std.proofs.lemmas.Bool.{cases_lt, eq-eqb, ne_eqb}
 use Rattle.std.proofs.lemmas.List.{take_all}
@@ -12,7 +12,7 @@ use Rattle.comp_audit.specs.declared.verdict.AuditFault.TheVariants.{BadEntry}
 use Rattle.comp_audit.specs.declared.auditing.late.Late.{Late}
 use Rattle.comp_audit.specs.Checks.{unless, above, all_stamps, journal_of, of_built, late_on, late_with, late_faults}
 use Rattle.comp_audit.specs.Judged.{IsFirst}
-use Rattle.comp_audit.specs.Noted.{IsEarliestOf, IsEarliest}
+use Rattle.comp_audit.specs.Noted.{IsEarliest}
 use Rattle.comp_audit.proofs.Telling.{first_part, faults_more}
 use Rattle.comp_audit.proofs.Ranges.{first_in_range, none_in_range}
 use Rattle.comp_audit.proofs.Built.{none_built, built_inside}

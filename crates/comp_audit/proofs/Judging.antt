@@ -1,5 +1,5 @@
 -- What the checks between pages tell together.
-use Rattle.std.proofs.Common.{◌≡◌, ℕ, Bool, ◌||◌, List, [], ◌++◌, Option, Result, Err, refl, sym, ap, subst, ◌∙◌, append_assoc}
+use Rattle.std.proofs.Common.{◌≡◌, ℕ, Bool, ◌||◌, List, [], ◌++◌, Option, Result, Err, sym, ap, subst, ◌∙◌, append_assoc}
 use Rattle.std.proofs.Math.Path.{fun_ext}
 use Rattle.cell_steps.specs.Setup.{Setup}
 use Rattle.comp_audit.specs.Dumped.{BuiltPage}

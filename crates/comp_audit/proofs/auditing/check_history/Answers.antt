@@ -1,4 +1,3 @@
-use Rattle.std.proofs.Common.{◌∙◌, sym, subst, Err, Result}
 use Rattle.std.proofs.lemmas.Result.{err_from_is_err_and}
 use Rattle.comp_audit.specs.Noted.{setup_at}
 use Rattle.comp_audit.proofs.Judging.{references_end, stamps_end, late_end}

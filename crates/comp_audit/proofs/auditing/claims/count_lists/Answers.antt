@@ -1,4 +1,4 @@
-use Rattle.std.proofs.Common.{ℕ, List, ◌∙◌, ◌≡◌, ◌<◌, All, length, subst, sym, arith}
+use Rattle.std.proofs.Common.{ℕ, List, ◌∙◌, ◌<◌, All, length, subst, sym, arith}
 use Rattle.std.proofs.lemmas.List.{length-map}
 use Rattle.page_cells.specs.Ends.{lists as items_of}
 use Rattle.comp_audit.specs.Dumped.{IsStoredList}

@@ -1,4 +1,4 @@
-use Rattle.std.proofs.Common.{◌≡◌, ◌+◌, ◌++◌, ◌∙◌, ◌≤◌, List, sym, ap, arith, take, drop, get_or, ℕ, length, true, length-append}
+use Rattle.std.proofs.Common.{◌≡◌, ◌+◌, ◌++◌, ◌∙◌, List, sym, ap, arith, take, drop, get_or, ℕ, length, true, length-append}
 use Rattle.heap_layout.specs.declared.kind.Kind.{Kind}
 use Rattle.heap_layout.specs.declared.kind.Kind.TheVariants.{Header}
 use Rattle.comp_journal.specs.declared.entry.Entry.{Entry}

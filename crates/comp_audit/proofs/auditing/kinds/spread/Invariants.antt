@@ -1,6 +1,5 @@
-use Rattle.std.proofs.Common.{◌≡◌, ◌<◌, ◌≤◌, ℕ, length, Option, None}
+use Rattle.std.proofs.Common.{◌≡◌, ◌<◌, ◌≤◌, ℕ, length, None}
 use Rattle.std.specs.Prelude.{slice_get, slice_index_or}
-use Rattle.heap_layout.specs.declared.kind.Kind.{Kind}
 use Rattle.comp_audit.proofs.auditing.kinds.spread.Given as goal
 
 abbrev pub invariant-loop-offset : goal.invariant-loop-offset

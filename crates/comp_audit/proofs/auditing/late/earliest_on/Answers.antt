@@ -1,10 +1,9 @@
-use Rattle.std.proofs.Common.{◌≡◌, ◌∙◌, ◌+◌, ◌++◌, ℕ, List, true, false, get_or, Option, Some, sym, ap, subst, refl, arith}
+use Rattle.std.proofs.Common.{◌≡◌, ◌∙◌, ◌+◌, ◌++◌, true, false, get_or, Some, sym, subst, refl, arith}
 use Rattle.std.proofs.lemmas.List.{get_or_default}
 use Rattle.heap_layout.specs.declared.kind.Kind.TheVariants.{Header}
 use Rattle.comp_journal.specs.declared.entry.Entry.{Entry}
 use Rattle.comp_audit.specs.Checks.{is_led}
 use Rattle.comp_audit.specs.Noted.{is_noted_before, IsEarliest}
-use Rattle.comp_audit.specs.declared.auditing.late.Late.{Late}
 use Rattle.comp_audit.proofs.Earliest.{front_late, late_begun, late_done, passes_late, fails_late}
 use Rattle.comp_audit.proofs.auditing.late.earliest_on.Goals as goal
 use Rattle.comp_audit.proofs.auditing.late.earliest_on.Goals.{then-not-is_led, else-not-is_led}

@@ -1,4 +1,4 @@
-use Rattle.std.proofs.Common.{◌≡◌, ◌==◌, ◌||◌, not, drop, Option, None}
+use Rattle.std.proofs.Common.{◌≡◌, ◌==◌, ◌||◌, not, drop, None}
 use Rattle.std.specs.Prelude.{slice_index_or}
 use Rattle.std.specs.List.{flat_map, enumerate_from}
 use Rattle.heap_layout.specs.declared.kind.Kind.TheVariants as sorts

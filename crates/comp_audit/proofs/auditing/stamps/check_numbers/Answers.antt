@@ -1,4 +1,4 @@
-use Rattle.std.proofs.Common.{◌≡◌, ◌++◌, ◌∙◌, ap, sym, subst, List, arith}
+use Rattle.std.proofs.Common.{◌++◌, ◌∙◌, ap, subst, List, arith}
 use Rattle.std.proofs.lemmas.Map.Keys.{ge_from_not_lt}
 use Rattle.comp_audit.specs.declared.verdict.AuditFault.{AuditFault}
 use Rattle.comp_audit.specs.Checks.{repeat_faults, missing_faults}

@@ -1,5 +1,4 @@
-use Rattle.std.proofs.Common.{ℕ, arith}
-use Rattle.heap_layout.specs.declared.kind.Kind.TheVariants.{Header, Reference, Data}
+use Rattle.std.proofs.Common.{arith}
 use Rattle.comp_audit.proofs.Noting.{notes_header, notes_other}
 use Rattle.comp_audit.proofs.auditing.starts.note_entry.Goals as goal
 

@@ -1,4 +1,4 @@
-use Rattle.std.proofs.Common.{◌∙◌, ◌++◌, ℕ, List, get_or, refl, sym, subst, arith, append-nil}
+use Rattle.std.proofs.Common.{◌∙◌, ◌++◌, List, get_or, refl, sym, subst, arith, append-nil}
 use Rattle.std.proofs.lemmas.List.{take_all, get_or_default}
 use Rattle.heap_layout.specs.declared.kind.Kind.TheVariants.{Header}
 use Rattle.comp_journal.specs.declared.entry.Entry.{Entry}
