@@ -2,7 +2,7 @@
 use Rattle.std.proofs.Common.{◌≡◌, ◌≢◌, ℕ, ◌+◌, ◌<◌, ◌≤◌, Bool, true, false, eqb, not, ◌||◌, List, [], ◌∷◌, ◌++◌, length, take, get_or, Option, Some, None, refl, sym, ap, subst, ◌∙◌, inl, inr, arith, append-nil, append_assoc}
 use Rattle.std.specs.List.{flat_map, enumerate_from}
 use Rattle.std.proofs.Math.Path.{fun_ext}
-use Rattle.std.proofs.lemmas.Bool.{cases_lt, eq-eqb, ne_eqb}
+use Rattle.std.proofs.lemmas.Bool.{cases_lt, ne_eqb}
 use Rattle.std.proofs.lemmas.List.{take_all}
 use Rattle.comp_journal.specs.declared.entry.Entry.{Entry}
 use Rattle.comp_history.proofs.Sorted.{In}
@@ -13,7 +13,7 @@ use Rattle.comp_audit.specs.declared.auditing.late.Late.{Late}
 use Rattle.comp_audit.specs.Checks.{unless, above, all_stamps, journal_of, of_built, late_on, late_with, late_faults}
 use Rattle.comp_audit.specs.Judged.{IsFirst}
 use Rattle.comp_audit.specs.Noted.{IsEarliest}
-use Rattle.comp_audit.proofs.Telling.{first_part, faults_more}
+use Rattle.comp_audit.proofs.Telling.{faults_more}
 use Rattle.comp_audit.proofs.Ranges.{first_in_range, none_in_range}
 use Rattle.comp_audit.proofs.Built.{none_built, built_inside}
 use Rattle.comp_audit.proofs.Entries.{stamp_below}
@@ -22,44 +22,8 @@ use Rattle.comp_audit.proofs.Entries.{stamp_below}
 abbrev pub at_stamp : Late → ℕ → List AuditFault
 at_stamp late s = unless (not (eqb late.stamp s)) (BadEntry late.page late.number)
 
-at_own : (late : Late) → at_stamp late late.stamp ≡ BadEntry late.page late.number ∷ []
-at_own late = ap (λ (b : Bool). unless (not b) (BadEntry late.page late.number)) (eq-eqb late.stamp late.stamp refl)
-
-at_other : (late : Late) (s : ℕ) → late.stamp ≢ s → at_stamp late s ≡ []
-at_other late s ne = ap (λ (b : Bool). unless (not b) (BadEntry late.page late.number)) (ne_eqb late.stamp s ne)
-
 both_none : (one others : List AuditFault) → one ≡ [] → others ≡ [] → one ++ others ≡ []
 both_none one others p q = rw (p, q) refl
-
--- where there is no other fault it is the first
-only_here : (front : List AuditFault) (late : Late) → front ≡ [] → IsFirst (front ++ at_stamp late late.stamp) (BadEntry late.page late.number)
-only_here front late none =
-    let parts : front ++ at_stamp late late.stamp ≡ BadEntry late.page late.number ∷ [] =
-    ap (λ (l : List AuditFault). l ++ at_stamp late late.stamp) none ∙ at_own late in
-    subst (λ (l : List AuditFault). IsFirst l (BadEntry late.page late.number)) (sym parts) refl
-
--- none is found yet
-pub first_found : (faults : ℕ → List AuditFault) (late : Late) → IsEarliest faults None → IsEarliest (λ s. faults s ++ at_stamp late s) (Some late)
-first_found faults late none = record {
-  before = λ s lt. both_none (faults s) (at_stamp late s) (none s) (at_other late s (λ e. omega (arith, lt, e)));
-  here = only_here (faults late.stamp) late (none late.stamp);
-}
-
--- one that was found is no later
-pub found_stays : (faults : ℕ → List AuditFault) (found late : Late) → found.stamp ≤ late.stamp → IsEarliest faults (Some found)
-    → IsEarliest (λ s. faults s ++ at_stamp late s) (Some found)
-found_stays faults found late le is = record {
-  before = λ s lt. both_none (faults s) (at_stamp late s) (is.before s lt) (at_other late s (λ e. omega (arith, lt, le, e)));
-  here = first_part (faults found.stamp) (at_stamp late found.stamp) (BadEntry found.page found.number) is.here;
-}
-
--- one that was found is later
-pub found_later : (faults : ℕ → List AuditFault) (found late : Late) → late.stamp < found.stamp → IsEarliest faults (Some found)
-    → IsEarliest (λ s. faults s ++ at_stamp late s) (Some late)
-found_later faults found late less is = record {
-  before = λ s lt. both_none (faults s) (at_stamp late s) (is.before s (omega (arith, lt, less))) (at_other late s (λ e. omega (arith, lt, e)));
-  here = only_here (faults late.stamp) late (is.before late.stamp less);
-}
 
 -- what has the same faults
 pub same_earliest : (one other : ℕ → List AuditFault) (found : Option Late) → ((s : ℕ) → one s ≡ other s) → IsEarliest one found → IsEarliest other found

@@ -1,5 +1,5 @@
 -- The entries of a page, one after the other.
-use Rattle.std.proofs.Common.{◌≡◌, ℕ, suc, ◌+◌, ◌<◌, ◌≤◌, Bool, true, false, leb, ◌&&◌, List, [], ◌∷◌, ◌++◌, length, take, drop, get_or, refl, sym, ap, subst, ◌∙◌, arith, append-nil, take-append-drop, length-append}
+use Rattle.std.proofs.Common.{◌≡◌, ℕ, suc, ◌+◌, ◌<◌, ◌≤◌, Bool, true, leb, ◌&&◌, List, [], ◌∷◌, ◌++◌, length, take, drop, get_or, refl, sym, ap, subst, ◌∙◌, arith, append-nil, take-append-drop, length-append}
 use Rattle.std.proofs.Math.Seq.{drop-cons}
 use Rattle.std.proofs.lemmas.List.{take_more}
 use Rattle.std.proofs.lemmas.Bool.{le-leb}
@@ -13,7 +13,6 @@ use Rattle.comp_history.proofs.Words.{kinds_long}
 use Rattle.comp_audit.specs.declared.verdict.AuditFault.{AuditFault}
 use Rattle.comp_audit.specs.declared.verdict.AuditFault.TheVariants.{BadEntry}
 use Rattle.comp_audit.specs.Checks.{unless, entry_faults, fits}
-use Rattle.comp_audit.specs.Judged.{IsFirst}
 
 both_true : (a b : Bool) (fault : AuditFault) → a ≡ true → b ≡ true → unless (a && b) fault ≡ []
 both_true a b fault p q = rw (p, q) refl
@@ -56,18 +55,6 @@ entry_next u p i low j d inside rises may =
     ap (λ (front : List Entry). entry_faults u p (i + 1) (e.stamp + 1) front (drop (i + 1) j)) (take_more j i d inside)
     ∙ ap (λ (k : ℕ). entry_faults u p (i + 1) (e.stamp + 1) (take i j ++ e ∷ []) (drop k j)) next
     ∙ sym here
-
--- and one that may not is the first fault of those that are left
-pub entry_bad : (u : Setup) (p i low : ℕ) (j : List Entry) (d : Entry) → i < length j
-    → (leb low (get_or j i d).stamp && fits u p (take i j) (get_or j i d).kind (get_or j i d).writer (get_or j i d).offset (get_or j i d).value) ≡ false
-    → IsFirst (entry_faults u p i low (take i j) (drop i j)) (BadEntry p i)
-entry_bad u p i low j d inside bad =
-    let e = get_or j i d in
-    let others = entry_faults u p (i + 1) (e.stamp + 1) (take i j ++ e ∷ []) (drop (suc i) j) in
-    let here : entry_faults u p i low (take i j) (drop i j) ≡ BadEntry p i ∷ others =
-    ap (λ (rest : List Entry). entry_faults u p i low (take i j) rest) (drop-cons j i d inside)
-    ∙ ap (λ (b : Bool). unless b (BadEntry p i) ++ others) bad in
-    subst (λ (l : List AuditFault). IsFirst l (BadEntry p i)) (sym here) refl
 
 -- an entry that may follow others has room on its page
 room_kept : (u : Setup) (p : ℕ) (before : List Entry) (k : Kind) (writer offset value : ℕ) → filled before ≤ 64 → Fits u p before k writer offset value

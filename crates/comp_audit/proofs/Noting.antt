@@ -1,8 +1,7 @@
 -- The starts of new objects, one header after the other.
-use Rattle.std.proofs.Common.{◌≡◌, ◌≢◌, ℕ, ◌+◌, ◌-◌, ◌*◌, ◌<◌, ◌≤◌, min, Bool, true, false, cond, eqb, ltb, ◌&&◌, ◌||◌, List, [], ◌∷◌, ◌++◌, length, take, get_or, set, All, Option, Some, None, is_some, refl, sym, ap, subst, ◌∙◌, inl, inr, arith, append_assoc}
+use Rattle.std.proofs.Common.{◌≡◌, ◌≢◌, ℕ, ◌+◌, ◌*◌, ◌<◌, ◌≤◌, min, Bool, true, false, eqb, ltb, ◌&&◌, ◌||◌, List, [], ◌∷◌, ◌++◌, length, take, get_or, All, Option, Some, None, is_some, refl, sym, ap, subst, ◌∙◌, inl, inr, arith, append_assoc}
 use Rattle.std.specs.List.{list_any}
 use Rattle.std.proofs.lemmas.Bool.{cases_lt, cases_eq, lt-ltb, le-ltb, eq-eqb, ne_eqb}
-use Rattle.std.proofs.lemmas.List.{get_or-set_same, get_or-set_other}
 use Rattle.std.proofs.lemmas.List.Folds.{list_any-append}
 use Rattle.heap_layout.specs.declared.kind.Kind.{Kind}
 use Rattle.heap_layout.specs.declared.kind.Kind.TheVariants.{Header, Reference, Data}
@@ -105,21 +104,6 @@ lesser_below one other n =
             | inl less ↦ rw (lt-ltb (min one other) n (omega (arith, less)), le-ltb one n ge, lt-ltb other n less) refl
             | inr above ↦ rw (le-ltb (min one other) n (omega (arith, ge, above)), le-ltb one n ge, le-ltb other n above) refl
           ]
-    ]
-
--- what is noted at an address, and what stays elsewhere
-pub noted_here : (first : ℕ) (stamps : List (Option ℕ)) (a least : ℕ) → first ≤ a → a < first + length stamps
-    → stamp_at (record { first = first; stamps = set stamps (a - first) (Some least) }) a ≡ Some least
-noted_here first stamps a least le lt = rw (le-ltb a first le) (get_or-set_same stamps (a - first) (Some least) None (omega (arith, le, lt)))
-
-pub noted_elsewhere : (first : ℕ) (stamps : List (Option ℕ)) (b : ℕ) (least : Option ℕ) (a : ℕ) → first ≤ b → a ≢ b
-    → stamp_at (record { first = first; stamps = set stamps (b - first) least }) a ≡ stamp_at (record { first = first; stamps = stamps }) a
-noted_elsewhere first stamps b least a le ne =
-    elim (cases_lt a first) [
-      | inl lt ↦ rw (lt-ltb a first lt) refl
-      | inr ge ↦
-          let other : a - first ≢ b - first = λ e. ne (omega (arith, e, ge, le)) in
-          ap (λ (o : Option ℕ). cond (ltb a first) None o) (get_or-set_other stamps (b - first) (a - first) least None other)
     ]
 
 -- none so far

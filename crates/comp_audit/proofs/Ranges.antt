@@ -34,10 +34,10 @@ none_in_range f low (suc n) none =
     ap (λ (front : List AuditFault). front ++ flat_map f (range_with_len (low + 1) n)) (none low (omega arith) (omega arith))
     ∙ none_in_range f (low + 1) n (λ s ge lt. none s (omega (arith, ge)) (omega (arith, lt)))
 
-pub only_same : (s x : ℕ) → s ≡ x → only s x ≡ 1
+only_same : (s x : ℕ) → s ≡ x → only s x ≡ 1
 only_same s x e = ap (λ (b : Bool). cond b 1 0) (eq-eqb s x e)
 
-pub only_other : (s x : ℕ) → (s ≡ x → ⊥) → only s x ≡ 0
+only_other : (s x : ℕ) → (s ≡ x → ⊥) → only s x ≡ 0
 only_other s x ne = ap (λ (b : Bool). cond b 1 0) (ne_eqb s x ne)
 
 -- a number stands nowhere

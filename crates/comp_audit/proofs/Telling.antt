@@ -55,7 +55,7 @@ faults_next {X = X} f i xs x inside =
     ap (λ (rest : List X). flat_map f (enumerate_from i rest)) (drop-cons xs i x inside)
     ∙ ap (λ (k : ℕ). f (i, get_or xs i x) ++ flat_map f (enumerate_from (i + 1) (drop k xs))) next
 
--- an item of a list, of which those before it have no fault: it has the first fault, its check ends early, or it has none
+-- an item of a list, of which those before it have no fault: it has the first fault, or it has none
 module _ {X : Type 0} (f : ℕ × X → List AuditFault) (i : ℕ) (xs : List X) (x : X) (all : List AuditFault) (inside : i < length xs) (is : x ≡ get_or xs i x)
     (left : flat_map f (enumerate_from i (drop i xs)) ≡ all) where
   abbrev behind : List AuditFault
@@ -66,9 +66,6 @@ module _ {X : Type 0} (f : ℕ × X → List AuditFault) (i : ℕ) (xs : List X)
 
   pub first_here : (fault : AuditFault) → f (i, x) ≡ fault ∷ [] → IsFirst all fault
   first_here fault one = subst (λ (l : List AuditFault). IsFirst l fault) (ap (λ (front : List AuditFault). front ++ behind) (sym one) ∙ parts) refl
-
-  pub tells_here : (why : Stop) → Tells (f (i, x)) (Err why) → Tells all (Err why)
-  tells_here why told = subst (λ (l : List AuditFault). Tells l (Err why)) parts (tells_first (f (i, x)) behind why told)
 
   pub none_here : f (i, x) ≡ [] → behind ≡ all
   none_here none = ap (λ (front : List AuditFault). front ++ behind) (sym none) ∙ parts
