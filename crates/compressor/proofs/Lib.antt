@@ -9,3 +9,4 @@ pub mod Pieces
 pub mod Histories
 pub mod Runnings
 pub mod ReplayRuns
+pub mod Walking
