@@ -10,3 +10,4 @@ pub mod Histories
 pub mod Runnings
 pub mod ReplayRuns
 pub mod Walking
+pub mod Racing
