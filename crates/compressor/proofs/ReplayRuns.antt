@@ -4,9 +4,14 @@ use Rattle.std.proofs.KnownBytes.{Keeps-refl}
 use Rattle.std.specs.Io.KnownBytes.{Appends, Keeps}
 use Rattle.heap_layout.specs.Heap.{live, Heap}
 use Rattle.page_plan.specs.Sliding.{live_words}
+use Rattle.cell_steps.specs.Setup.{Setup}
 use Rattle.comp_history.specs.Shares.{allocated}
 use Rattle.comp_mutator.specs.Finishes.{builds_in, live_of, pages_of, roots_of}
 use Rattle.comp_mutator.specs.declared.finishing.Finished.{Finished}
+use Rattle.comp_trace.specs.Bytes.{flipped, Interrupts}
+use Rattle.comp_trace.specs.declared.fault.TraceFault.{TraceFault}
+use Rattle.comp_trace.specs.declared.fault.TraceFault.TheVariants.{BadLine, NoSuchMutator, NoSuchRegister, NumberTooLarge, NoSuchRoot, Refused}
+use Rattle.comp_trace.specs.declared.fault.TraceFault.TheVariants as traces
 use Rattle.comp_trace.specs.declared.line.Line.{Line}
 use Rattle.comp_trace.specs.declared.shown.Shown.{Shown}
 use Rattle.comp_audit.specs.Dumped.{Dumped}
@@ -162,12 +167,22 @@ pub halt_uncounted : (mutators fresh : ℕ) (lines : List Line) (shown : List Sh
     → CountsPrint {T = Unit {0}} old new (Err refusal)
 halt_uncounted mutators fresh lines shown heap old new refusal same h = uncounted_by old new refusal same (λ e. subst (IsHalted mutators fresh lines shown heap) e h)
 
--- what a run leaves of the output that was halted, and of the dump
+-- what a trace that is refused before anything is printed leaves of the output
+unprinted_trace : (before : Option (List ℕ)) (fault : TraceFault) → StopsUnprinted {T = Unit {0}} before before (Err (Trace fault))
+unprinted_trace before (BadLine number) = Keeps-refl before
+unprinted_trace before (NoSuchMutator number) = Keeps-refl before
+unprinted_trace before (NoSuchRegister number) = Keeps-refl before
+unprinted_trace before (NumberTooLarge number) = Keeps-refl before
+unprinted_trace before (NoSuchRoot number) = Keeps-refl before
+unprinted_trace before (Refused number refusal) = tt
+unprinted_trace before traces.OutOfMemory = Keeps-refl before
+
+-- what a refusal leaves of the output that comes before anything is printed
 pub unprinted_halt : (before : Option (List ℕ)) (refusal : Refusal) → StopsUnprinted {T = Unit {0}} before before (Err refusal)
 unprinted_halt before (Layout fault) = Keeps-refl before
 unprinted_halt before (Mutator refused) = Keeps-refl before
 unprinted_halt before (Sweep fault) = Keeps-refl before
-unprinted_halt before (Trace fault) = tt
+unprinted_halt before (Trace fault) = unprinted_trace before fault
 unprinted_halt before (Dump fault) = Keeps-refl before
 unprinted_halt before (CannotOpen input) = Keeps-refl before
 unprinted_halt before (CannotCreate output) = Keeps-refl before
@@ -185,19 +200,31 @@ appends_none (Some x) (Some y) h = h ∙ append-nil x
 none_printed : (before after : Option (List ℕ)) (shown : List Shown) → shown ≡ [] → Appends before after (shown_lines shown) → Keeps before after
 none_printed before after shown none printed = appends_none before after (subst (λ (values : List Shown). Appends before after (shown_lines values)) none printed)
 
-pub halt_unprinted : (mutators fresh : ℕ) (lines : List Line) (shown : List Shown) (heap : Heap) (before after : Option (List ℕ)) (refusal : Refusal) → Appends before after (shown_lines shown)
+-- the same of a run whose values were printed until it was halted
+halt_untraced : (u : Setup) (text : List ℕ) (shown : List Shown) (before after : Option (List ℕ)) (fault : TraceFault) → Appends before after (shown_lines shown) → Interrupts u text shown fault
+    → StopsUnprinted {T = Unit {0}} before after (Err (Trace fault))
+halt_untraced u text shown before after (BadLine number) printed h = absurd h
+halt_untraced u text shown before after (NoSuchMutator number) printed h = absurd h
+halt_untraced u text shown before after (NoSuchRegister number) printed h = absurd h
+halt_untraced u text shown before after (NumberTooLarge number) printed h = absurd h
+halt_untraced u text shown before after (NoSuchRoot number) printed h = absurd h
+halt_untraced u text shown before after (Refused number refusal) printed h = tt
+halt_untraced u text shown before after traces.OutOfMemory printed h = none_printed before after shown h printed
+
+pub halt_unprinted : (mutators fresh : ℕ) (lines : List Line) (shown : List Shown) (heap : Heap) (before after : Option (List ℕ)) (refusal : Refusal)
+    → (text : List ℕ) × HasLines mutators (length heap.roots) lines text → Appends before after (shown_lines shown)
     → IsHalted mutators fresh lines shown heap refusal → StopsUnprinted {T = Unit {0}} before after (Err refusal)
-halt_unprinted mutators fresh lines shown heap before after (Layout fault) printed h = absurd h
-halt_unprinted mutators fresh lines shown heap before after (Mutator refused) printed h = none_printed before after shown h.1 printed
-halt_unprinted mutators fresh lines shown heap before after (Sweep fault) printed h = absurd h
-halt_unprinted mutators fresh lines shown heap before after (Trace fault) printed h = tt
-halt_unprinted mutators fresh lines shown heap before after (Dump fault) printed h = absurd h
-halt_unprinted mutators fresh lines shown heap before after (CannotOpen input) printed h = absurd h
-halt_unprinted mutators fresh lines shown heap before after (CannotCreate output) printed h = absurd h
-halt_unprinted mutators fresh lines shown heap before after (ReadFailed input) printed h = absurd h
-halt_unprinted mutators fresh lines shown heap before after CannotPrint printed h = tt
-halt_unprinted mutators fresh lines shown heap before after (NoSuchWord index) printed h = absurd h
-halt_unprinted mutators fresh lines shown heap before after OutOfMemory printed h = none_printed before after shown h printed
+halt_unprinted mutators fresh lines shown heap before after (Layout fault) read printed h = absurd h
+halt_unprinted mutators fresh lines shown heap before after (Mutator refused) read printed h = none_printed before after shown h.1 printed
+halt_unprinted mutators fresh lines shown heap before after (Sweep fault) read printed h = absurd h
+halt_unprinted mutators fresh lines shown heap before after (Trace fault) (text, has) printed h = halt_untraced (flipped heap mutators fresh) text shown before after fault printed (h text has)
+halt_unprinted mutators fresh lines shown heap before after (Dump fault) read printed h = absurd h
+halt_unprinted mutators fresh lines shown heap before after (CannotOpen input) read printed h = absurd h
+halt_unprinted mutators fresh lines shown heap before after (CannotCreate output) read printed h = absurd h
+halt_unprinted mutators fresh lines shown heap before after (ReadFailed input) read printed h = absurd h
+halt_unprinted mutators fresh lines shown heap before after CannotPrint read printed h = tt
+halt_unprinted mutators fresh lines shown heap before after (NoSuchWord index) read printed h = absurd h
+halt_unprinted mutators fresh lines shown heap before after OutOfMemory read printed h = none_printed before after shown h printed
 
 -- a refusal of the dump is one of the writing
 pub writing_of : {W : Type 0} (lacks : Type 0) (gives : W → Type 0) (contents : W → Option (List ℕ)) (bytes : List ℕ) (refusal : Refusal) → IsOfDumping lacks gives contents bytes refusal

@@ -19,6 +19,7 @@ use Rattle.comp_mutator.specs.declared.refusal.Refusal.TheVariants as refusals
 use Rattle.comp_trace.specs.Bytes.{flipped, no_entries, Interrupts}
 use Rattle.comp_trace.specs.Runs.{beginning, Moment, Runs}
 use Rattle.comp_trace.specs.declared.fault.TraceFault.{TraceFault}
+use Rattle.comp_trace.specs.declared.fault.TraceFault.TheVariants.{Refused}
 use Rattle.comp_trace.specs.declared.line.Line.{Line}
 use Rattle.comp_trace.specs.declared.shown.Shown.{Shown}
 use Rattle.comp_audit.specs.Dumped.{BuiltPage, Dumped}
@@ -27,7 +28,7 @@ use Rattle.comp_audit.specs.Lent.{record_of}
 use Rattle.comp_audit.specs.declared.fault.DumpFault.TheVariants.{Device}
 use Rattle.compressor.specs.Dumps.{IsOfDumping, WritesBeginning, WritesWhole}
 use Rattle.compressor.specs.Images.{IsImageOf, SomeGiven}
-use Rattle.compressor.specs.Printing.{named}
+use Rattle.compressor.specs.Printing.{named, RefusedUnprinted}
 use Rattle.compressor.specs.Texts.{HasLines, RefusesText, SomeText}
 use Rattle.compressor.specs.declared.refusal.Input.TheVariants as inputs
 use Rattle.compressor.specs.declared.refusal.Refusal.{Refusal}
@@ -125,6 +126,11 @@ pub record Replays {W : Type 0} (gives : W → Type 0) (contents : W → Option 
   pub written : WritesWhole gives contents (dump_of_run run)
   pub printed : PrintsRun before after run.end.shown (live_words (live heap) + allocated run.end.added)
 
+-- what was printed, between these two contents of the output, are the values of a trace that was run over the heap, and the live words
+abbrev pub PrintsReplay : ℕ → ℕ → Option (List ℕ) → Option (List ℕ) → Heap → Type 0
+PrintsReplay mutators fresh before after heap = (text : List ℕ) × (lines : List Line) × HasLines mutators (length heap.roots) lines text
+    × (run : HasRun mutators fresh lines heap) × PrintsRun before after run.end.shown (live_words (live heap) + allocated run.end.added)
+
 -- a line was refused, or there was no memory for the values: what was shown until then was printed
 abbrev pub StopsReplay : ℕ → ℕ → Option (List ℕ) → Option (List ℕ) → TraceFault → List Line → Heap → Type 0
 StopsReplay mutators fresh before after fault lines heap =
@@ -149,12 +155,10 @@ abbrev pub IsOfWritingRun : {W : Type 0} → Type 0 → (W → Type 0) → (W �
 IsOfWritingRun lacks gives contents bytes CannotPrint = WritesWhole gives contents bytes
 IsOfWritingRun lacks gives contents bytes refusal = IsOfDumping lacks gives contents bytes refusal
 
--- a refused call left the output as it was, except where a call of the output failed, or a trace was refused: what a refused line left is told with its cause
+-- a refused call left the output as it was, except where a call of the output failed, or a line of a trace was refused: what that left is told with its cause
 abbrev pub StopsUnprinted : {T : Type 0} → Option (List ℕ) → Option (List ℕ) → Result T Refusal → Type 0
-StopsUnprinted before after (Ok _) = Unit {0}
-StopsUnprinted before after (Err CannotPrint) = Unit {0}
-StopsUnprinted before after (Err (Trace fault)) = Unit {0}
-StopsUnprinted before after (Err _) = Keeps before after
+StopsUnprinted before after (Err (Trace (Refused number refusal))) = Unit {0}
+StopsUnprinted before after result = RefusedUnprinted before after result
 
 -- P holds of the lines of the trace, and the heap of the image, that some given readers tell
 abbrev pub SomeRun : {R S : Type 0} → (R → Type 0) → (R → Option (List ℕ)) → (S → Type 0) → (S → Option (List ℕ)) → ℕ → (List Line → Heap → Type 0) → Type 0
