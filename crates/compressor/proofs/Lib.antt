@@ -11,3 +11,4 @@ pub mod Runnings
 pub mod ReplayRuns
 pub mod Walking
 pub mod Racing
+pub mod RaceRuns

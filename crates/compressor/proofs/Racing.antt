@@ -68,7 +68,7 @@ module _ {L B : Type 0} {g : Ghosts B} (space : Space L B g) (lines : List Line)
         let m = at_map_back pass_of before k old at_old in
         let n = at_map_back pass_of after k now at_now in
         subst (λ (pass : Pass). Ran (setup_of space) own pass now run.shown.items run.fault) m.2
-            (subst (λ (pass : Pass). Ran (setup_of space) own (pass_of m.0) pass run.shown.items run.fault) n.2 (raced.ran k m.0 n.0 run m.1 n.1 at_run));
+        (subst (λ (pass : Pass). Ran (setup_of space) own (pass_of m.0) pass run.shown.items run.fault) n.2 (raced.ran k m.0 n.0 run m.1 n.1 at_run));
   }
 
   module _ (compacted : (setup_of space).compacted ≡ sliding.pages (live (setup_of space).heap)) (shown : List Shown) (in_order : AreByLine runs shown) where

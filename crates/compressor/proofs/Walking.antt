@@ -117,7 +117,7 @@ left_behind n line lines m (value ∷ values) h =
     let own = own_lines m (numbered (n + 1) lines) in
     tells_is n (λ (o : Option Shown). AreOf own (untold o (value ∷ values))) value
     (λ (e : value.line ≡ n). ⊎_elim (λ a. let le = starts_from m (n + 1) lines value values a in absurd (omega (arith, le, e)))
-        (λ b. let same : values ≡ b.1 = cc in subst (AreOf own) (sym same) b.3) h)
+    (λ b. let same : values ≡ b.1 = cc in subst (AreOf own) (sym same) b.3) h)
     (λ (ne : value.line ≡ n → ⊥). ⊎_elim (λ a. a) (λ b. let one : value ≡ record { line = n; value = b.0 } = cc in absurd (ne (ap (λ (x : Shown). x.line) one))) h)
 
 -- each mutator has values of its own lines left
@@ -138,7 +138,7 @@ module _ (n : ℕ) (line : Line) (lines : List Line) (left : ℕ → List Shown)
       let m = line.mutator in
       let own_m = subst (λ (b : Bool). AreOf (cond b ((n, line) ∷ own_lines m (numbered (n + 1) lines)) (own_lines m (numbered (n + 1) lines))) (left m)) (eq-eqb m m refl) (own m) in
       subst (λ (j : ℕ). AreOf (own_lines j (numbered (n + 1) lines)) (then_left j)) (sym e)
-          (subst (AreOf (own_lines m (numbered (n + 1) lines))) (sym (but-same left m behind)) (left_behind n line lines m (left m) own_m)))
+      (subst (AreOf (own_lines m (numbered (n + 1) lines))) (sym (but-same left m behind)) (left_behind n line lines m (left m) own_m)))
       (λ (ne : k ≡ line.mutator → ⊥).
       let m = line.mutator in
       let own_k = subst (λ (b : Bool). AreOf (cond b ((n, line) ∷ own_lines k (numbered (n + 1) lines)) (own_lines k (numbered (n + 1) lines))) (left k)) (ne_eqb m k (λ (e : m ≡ k). ne (sym e))) (own k) in
@@ -221,7 +221,7 @@ shown_at_run (other ∷ runs) (suc k) run e = shown_at_run runs k run e
 pub told_by_line : (lines : List Line) (runs : List Run) → AreOwn lines runs → AreByLine runs (walked 1 lines (shown_by runs))
 told_by_line lines runs own =
     let h = walk_is 1 lines (shown_by runs)
-        (own_shown (λ k values. AreOf (own_lines k (numbered 1 lines)) values) runs own (λ k. no_values (own_lines k (numbered 1 lines)))) in
+    (own_shown (λ k values. AreOf (own_lines k (numbered 1 lines)) values) runs own (λ k. no_values (own_lines k (numbered 1 lines)))) in
     record {
       rise = h.rise;
       shown = λ x i. let r = h.from x (at_in (walked 1 lines (shown_by runs)) i.0 x i.1) in
@@ -234,7 +234,7 @@ told_by_line lines runs own =
 walked_line : (lines : List Line) (at : ℕ) (d : Line) (left : ℕ → List Shown) → at < length lines
     → (let line : Line = get_or lines at d in
     walked (at + 1) (drop at lines) left
-      ≡ listed (told_of (at + 1) (left line.mutator)) ++ walked (at + 1 + 1) (drop (at + 1) lines) (but left line.mutator (untold (told_of (at + 1) (left line.mutator)) (left line.mutator))))
+    ≡ listed (told_of (at + 1) (left line.mutator)) ++ walked (at + 1 + 1) (drop (at + 1) lines) (but left line.mutator (untold (told_of (at + 1) (left line.mutator)) (left line.mutator))))
 walked_line lines at d left lt =
     let more : suc at ≡ at + 1 = omega arith in
     let cut : drop at lines ≡ get_or lines at d ∷ drop (at + 1) lines = drop-cons lines at d lt ∙ ap (λ (j : ℕ). get_or lines at d ∷ drop j lines) more in
@@ -243,8 +243,8 @@ walked_line lines at d left lt =
 left_more_at : (runs : List Run) (next : List ℕ) (m : ℕ) → m < length next → (k : ℕ) → left_of runs (set next m (get_or next m 0 + 1)) k ≡ but (left_of runs next) m (drop 1 (left_of runs next m)) k
 left_more_at runs next m lt k = ⊎_elim
     (λ (e : k ≡ m). subst (λ (j : ℕ). left_of runs (set next m (get_or next m 0 + 1)) j ≡ but (left_of runs next) m (drop 1 (left_of runs next m)) j) (sym e)
-        (ap (λ (n : ℕ). drop n (shown_by runs m)) (get_or-set_same next m (get_or next m 0 + 1) 0 lt) ∙ sym (drop-drop 1 (get_or next m 0) (shown_by runs m))
-        ∙ sym (but-same (left_of runs next) m (drop 1 (left_of runs next m)))))
+    (ap (λ (n : ℕ). drop n (shown_by runs m)) (get_or-set_same next m (get_or next m 0 + 1) 0 lt) ∙ sym (drop-drop 1 (get_or next m 0) (shown_by runs m))
+    ∙ sym (but-same (left_of runs next) m (drop 1 (left_of runs next m)))))
     (λ (ne : k ≡ m → ⊥). ap (λ (n : ℕ). drop n (shown_by runs k)) (get_or-set_other next m k (get_or next m 0 + 1) 0 ne) ∙ sym (but-other (left_of runs next) m (drop 1 (left_of runs next m)) k ne))
     (same_or_not k m)
 
@@ -344,7 +344,7 @@ first_with runs run (Some first) None e h = least_still runs run first h (λ oth
 first_with runs run (Some first) (Some other) e h = ⊎_elim
     (λ (lt : other.line < first.line). subst (λ (b : Bool). IsFirstStop (runs ++ run ∷ []) (if b then Some other else Some first)) (sym (lt-ltb other.line first.line lt)) (least_now runs run first other h e lt))
     (λ (le : first.line ≤ other.line). subst (λ (b : Bool). IsFirstStop (runs ++ run ∷ []) (if b then Some other else Some first)) (sym (ltb-false other.line first.line le))
-        (least_still runs run first h (λ third is. let same : Some third ≡ Some other = sym is ∙ e in let one : third ≡ other = cc in omega (arith, le, ap (λ (s : Stop). s.line) one))))
+    (least_still runs run first h (λ third is. let same : Some third ≡ Some other = sym is ∙ e in let one : third ≡ other = cc in omega (arith, le, ap (λ (s : Stop). s.line) one))))
     (cases_lt other.line first.line)
 
 -- one run more

@@ -18,7 +18,7 @@ use comp_mutator::mutator::Mutator;
 use comp_mutator::refusal::{FlipFault, Refusal as MutatorRefusal};
 use comp_mutator::space::Space;
 use comp_trace::fault::TraceFault;
-use comp_trace::race::race;
+use comp_trace::race::{Run, race};
 use comp_trace::trace::Trace;
 use heap_layout::heap::MarkedHeap;
 use page_plan::plan::Plan;
@@ -116,27 +116,29 @@ fn race_and_finish<L: Ledger + Send + Sync, R: Threads + Wait + Sync>(
     ensures flipped { IfOk result (λ run. IsOfFlip (setup_of space).mutators (setup_of space).fresh run.finished) }
     ensures halted { IfErr result (λ run. IsHaltedRace (setup_of space).mutators (setup_of space).fresh (lines_of trace.now) run.shown.items (setup_of space).heap run.refusal) }
 {
-    let Ok(room) = Vec::with_capacity(alloc, trace.lines().len()) else {
+    let lines = trace.lines();
+    let Ok(room) = Vec::with_capacity(alloc, lines.len()) else {
         return Err(unshown(alloc, Refusal::Trace(TraceFault::OutOfMemory)));
     };
     let Ok(raced) = race(alloc, rt, trace, &space, mutators) else {
         return Err(unshown(alloc, Refusal::Trace(TraceFault::OutOfMemory)));
     };
-    let shown = by_line(trace.lines(), &raced.runs, room);
-    if let Some(stop) = first_stop(&raced.runs) {
-        return Err(Halted {
+    let runs: &[Run] = &raced.runs;
+    let shown = by_line(lines, runs, room);
+    match first_stop(runs) {
+        Some(stop) => Err(Halted {
             shown,
             refusal: Refusal::Trace(TraceFault::Refused(stop.line, stop.refusal)),
-        });
-    }
-    match space.finish(alloc, raced.mutators) {
-        Ok(finished) => Ok(Replayed { shown, finished }),
-        Err(left) => match left.fault {
-            FinishFault::OutOfMemory => Err(unshown(
-                alloc,
-                Refusal::Mutator(MutatorRefusal::OutOfMemory),
-            )),
-            FinishFault::MutatorMissing(_) => unreachable!(),
+        }),
+        None => match space.finish(alloc, raced.mutators) {
+            Ok(finished) => Ok(Replayed { shown, finished }),
+            Err(left) => match left.fault {
+                FinishFault::OutOfMemory => Err(unshown(
+                    alloc,
+                    Refusal::Mutator(MutatorRefusal::OutOfMemory),
+                )),
+                FinishFault::MutatorMissing(_) => unreachable!(),
+            },
         },
     }
 }

@@ -1,4 +1,4 @@
-use Rattle.std.proofs.Common.{◌≡◌, ◌+◌, ◌<◌, ◌≤◌, ℕ, List, ◌∷◌, ◌++◌, All, length, length-append, length-set, replicate, drop, get_or, Option, Some, None, Vec, vec_capacity, refl, sym, ap, subst, ◌∙◌, arith, append-nil}
+use Rattle.std.proofs.Common.{◌≡◌, ◌+◌, ◌<◌, ◌≤◌, ℕ, List, ◌∷◌, ◌++◌, All, length, length-append, length-set, replicate, drop, get_or, Option, Some, None, Vec, Global, vec_capacity, refl, sym, ap, subst, ◌∙◌, arith, append-nil}
 use Rattle.std.proofs.lemmas.List.{drop_all, length-replicate}
 use Rattle.std.proofs.lemmas.List.Elements.{All-get_or}
 use Rattle.comp_trace.specs.declared.line.Line.{Line}
@@ -41,7 +41,7 @@ loop-at-preserved c =
     elim c.match-told.branch [
       | in-Some w ↦
           let is : c.told.result ≡ Some w.in-Some.value = w.in-Some.is in
-          let items : c.match-told.shown.items ≡ out ++ w.in-Some.value ∷ [] = ap (λ (v : Vec Shown _). v.items) w.shown-is ∙ w.push_reserved.ensures.items in
+          let items : c.match-told.shown.items ≡ out ++ w.in-Some.value ∷ [] = ap (λ (v : Vec Shown Global). v.items) w.shown-is ∙ w.push_reserved.ensures.items in
           let told : c.match-told.shown.items ≡ out ++ listed c.told.result = items ∙ ap (λ (o : Option Shown). out ++ listed o) (sym is) in
           let after : c.match-told.next ≡ told_behind c.told.result next m = w.next-is ∙ ap (λ (o : Option Shown). told_behind o next m) (sym is) in
           record {
@@ -53,11 +53,11 @@ loop-at-preserved c =
       | in_default w ↦
           let is : c.told.result ≡ None = none_there c.told.result (λ one e. w.in_default.not-Some one e) in
           let told : c.match-told.shown.items ≡ out ++ listed c.told.result =
-          ap (λ (v : Vec Shown _). v.items) w.shown-is ∙ sym (append-nil out) ∙ ap (λ (o : Option Shown). out ++ listed o) (sym is) in
+          ap (λ (v : Vec Shown Global). v.items) w.shown-is ∙ sym (append-nil out) ∙ ap (λ (o : Option Shown). out ++ listed o) (sym is) in
           let after : c.match-told.next ≡ told_behind c.told.result next m = w.next-is ∙ ap (λ (o : Option Shown). told_behind o next m) (sym is) in
           record {
             walk = ap (λ (l : List Shown). l ++ behind c.match-told.next) told ∙ ap (λ (n : List ℕ). (out ++ listed c.told.result) ++ behind n) after ∙ step;
-            few = omega (arith, ap (λ (v : Vec Shown _). length v.items) w.shown-is, i.few);
+            few = omega (arith, ap (λ (v : Vec Shown Global). length v.items) w.shown-is, i.few);
             room = ap vec_capacity w.shown-is ∙ i.room;
             places = ap length w.next-is ∙ i.places;
           }
