@@ -1,5 +1,6 @@
 -- What the command `race` does and refuses, from what its parts do and refuse.
-use Rattle.std.proofs.Common.{◌≡◌, ℕ, ◌+◌, List, [], Option, Some, None, Result, Ok, Err, IfErr, OnOk, length, inl, inr, refl, sym, subst, ⊤}
+use Rattle.std.proofs.Common.{◌≡◌, ℕ, ◌+◌, List, [], Option, Some, None, Result, Ok, Err, IfErr, OnOk, length, inl, inr, refl, sym, subst}
+use Rattle.std.specs.Prelude.{⊤}
 use Rattle.std.proofs.KnownBytes.{Appends-kept, Keeps-refl}
 use Rattle.std.specs.Io.KnownBytes.{Appends, Keeps}
 use Rattle.heap_layout.specs.Heap.{Heap}
@@ -26,7 +27,7 @@ use Rattle.compressor.proofs.Outcomes.{uncounted_by}
 use Rattle.compressor.proofs.ReplayRuns.{none_printed, some_heap, some_refused, some_run}
 
 -- a race, and what was left of it
-has_race : (mutators fresh : ℕ) (lines : List Line) (shown : List Shown) (f : Finished) (heap : Heap) → IsRacedHeap mutators fresh lines shown f heap → HasRace mutators fresh lines heap
+abbrev has_race : (mutators fresh : ℕ) (lines : List Line) (shown : List Shown) (f : Finished) (heap : Heap) → IsRacedHeap mutators fresh lines shown f heap → HasRace mutators fresh lines heap
 has_race mutators fresh lines shown f heap h = record { shown = shown; left = f; raced = h }
 
 races : {W : Type 0} (gives : W → Type 0) (contents : W → Option (List ℕ)) (mutators fresh : ℕ) (before after : Option (List ℕ)) (lines : List Line) (shown : List Shown) (f : Finished) (heap : Heap)

@@ -1,7 +1,7 @@
 -- A walk along the lines of a trace, by which what several runs showed is told in the order of the lines.
-use Rattle.std.proofs.Common.{◌≡◌, ◌≢◌, ℕ, zero, suc, ◌+◌, ◌<◌, ◌≤◌, ◌⊎◌, ◌==◌, if◌then◌else◌, Bool, true, false, cond, List, [], ◌∷◌, ◌++◌, Option, Some, None, length, drop, get_or, set, replicate, take, refl, sym, ap, subst, ◌∙◌, inl, inr, ⊎_elim, arith, eqb, eq-eqb, ltb-false, drop-cons, append_assoc}
+use Rattle.std.proofs.Common.{◌≡◌, ◌≢◌, ℕ, zero, suc, ◌+◌, ◌<◌, ◌≤◌, ◌⊎◌, ◌==◌, if◌then◌else◌, Bool, true, false, cond, List, [], ◌∷◌, ◌++◌, Option, Some, None, length, drop, get_or, set, replicate, take, refl, sym, ap, subst, ◌∙◌, inl, inr, ⊎_elim, arith, eqb, eq-eqb, drop-cons, append_assoc}
 use Rattle.std.proofs.Math.ListN.{get_or-eq_default}
-use Rattle.std.proofs.lemmas.Bool.{cases_lt, lt-ltb, ne_eqb}
+use Rattle.std.proofs.lemmas.Bool.{cases_lt, le-ltb, lt-ltb, ne_eqb}
 use Rattle.std.proofs.lemmas.Bool.Decides.{eqb_tells}
 use Rattle.std.proofs.lemmas.List.{drop-drop, length-replicate, get_or-replicate, get_or-set_other, get_or-set_same, take_more}
 use mathlib.Core.Option.{some, some-injective, some-ne-none}
@@ -343,7 +343,7 @@ first_with runs run None (Some stop) e h = first_of_more runs run stop h e
 first_with runs run (Some first) None e h = least_still runs run first h (λ other is. let none : Some other ≡ None = sym is ∙ e in absurd (some_not_none other none))
 first_with runs run (Some first) (Some other) e h = ⊎_elim
     (λ (lt : other.line < first.line). subst (λ (b : Bool). IsFirstStop (runs ++ run ∷ []) (if b then Some other else Some first)) (sym (lt-ltb other.line first.line lt)) (least_now runs run first other h e lt))
-    (λ (le : first.line ≤ other.line). subst (λ (b : Bool). IsFirstStop (runs ++ run ∷ []) (if b then Some other else Some first)) (sym (ltb-false other.line first.line le))
+    (λ (le : first.line ≤ other.line). subst (λ (b : Bool). IsFirstStop (runs ++ run ∷ []) (if b then Some other else Some first)) (sym (le-ltb other.line first.line le))
     (least_still runs run first h (λ third is. let same : Some third ≡ Some other = sym is ∙ e in let one : third ≡ other = cc in omega (arith, le, ap (λ (s : Stop). s.line) one))))
     (cases_lt other.line first.line)
 

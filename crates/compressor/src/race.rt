@@ -49,7 +49,7 @@ pub fn print_race<R: Threads + Wait + Sync, I: Images, T: Traces, D: Dumps, O: W
     let roots = heap.roots().len() as u16;
     let trace = trace_at(alloc, traces, asked.trace, asked.mutators, roots)?;
     match race_heap(alloc, rt, heap, &trace, asked.mutators, asked.fresh) {
-        Ok(run) => write_run(alloc, dumps, asked, &run, out),
+        Ok(raced) => write_run(alloc, dumps, asked, &raced, out),
         Err(halted) => {
             print_shown(&halted.shown, out)?;
             Err(halted.refusal)

@@ -81,7 +81,7 @@ returns-in-Ok-clause-raced g c =
     (g.T.Traces.lacks c.args.traces.now paths.trace.now) told rest
     (g.D.Dumps.lacks c.args.dumps.now paths.dump.now) (g.D.Dumps.gives c.args.dumps.now paths.dump.now) g.D.Writer.Write.contents
     paths.mutators paths.fresh (g.O.Write.contents (inner_of c.args.out.now).now) (g.O.Write.contents (inner_of c.write_run.new.out).now)
-    c.in_ok-heap.heap c.in_ok-heap.ensures.heap (lines_of c.in_ok-trace.trace) trace c.in-Ok.run.shown.items c.in-Ok.run.finished c.in-Ok.ensures.raced
+    c.in_ok-heap.heap c.in_ok-heap.ensures.heap (lines_of c.in_ok-trace.trace) trace c.in-Ok.raced.shown.items c.in-Ok.raced.finished c.in-Ok.ensures.raced
     c.write_run.result c.write_run.ensures.written c.write_run.ensures.printed
 
 pub returns-in-Ok-clause-cause : goal.returns-in-Ok-clause-cause
@@ -94,12 +94,12 @@ returns-in-Ok-clause-cause g c =
     (g.T.Traces.lacks c.args.traces.now paths.trace.now) told rest
     (g.D.Dumps.lacks c.args.dumps.now paths.dump.now) (g.D.Dumps.gives c.args.dumps.now paths.dump.now) g.D.Writer.Write.contents
     paths.mutators paths.fresh (g.O.Write.contents (inner_of c.args.out.now).now) (g.O.Write.contents (inner_of c.write_run.new.out).now)
-    c.in_ok-heap.heap c.in_ok-heap.ensures.heap (lines_of c.in_ok-trace.trace) trace c.in-Ok.run.shown.items c.in-Ok.run.finished c.in-Ok.ensures.raced
+    c.in_ok-heap.heap c.in_ok-heap.ensures.heap (lines_of c.in_ok-trace.trace) trace c.in-Ok.raced.shown.items c.in-Ok.raced.finished c.in-Ok.ensures.raced
     c.write_run.result c.write_run.ensures.cause
 
 -- They did not, and what they had shown was printed.
-pub returns-in-Err-clause-cause : goal.returns-in-Err-clause-cause
-returns-in-Err-clause-cause g c =
+pub returns-clause-cause : goal.returns-clause-cause
+returns-clause-cause g c =
     let paths = c.args.asked in
     let told = g.T.Traces.gives c.args.traces.now paths.trace.now in
     let rest = g.T.Reader.Read.remaining in
@@ -108,30 +108,30 @@ returns-in-Err-clause-cause g c =
     (g.T.Traces.lacks c.args.traces.now paths.trace.now) told rest
     (g.D.Dumps.lacks c.args.dumps.now paths.dump.now) (g.D.Dumps.gives c.args.dumps.now paths.dump.now) g.D.Writer.Write.contents
     paths.mutators paths.fresh (g.O.Write.contents (inner_of c.args.out.now).now) (g.O.Write.contents (inner_of c.print_shown.new.out).now)
-    c.in_ok-heap.heap c.in_ok-heap.ensures.heap (lines_of c.in_ok-trace.trace) trace c.in-Err.halted.shown.items c.in_ok-print_shown.ensures.printed c.in-Err.halted.refusal c.in-Err.ensures.halted
+    c.in_ok-heap.heap c.in_ok-heap.ensures.heap (lines_of c.in_ok-trace.trace) trace c.in-Err.halted.shown.items c.in_ok-print_shown-in-Err.ensures.printed c.in-Err.halted.refusal c.in-Err.ensures.halted
 
-pub returns-in-Err-clause-counts : goal.returns-in-Err-clause-counts
-returns-in-Err-clause-counts g c =
+pub returns-clause-counts : goal.returns-clause-counts
+returns-clause-counts g c =
     halted_uncounted c.args.asked.mutators c.args.asked.fresh (lines_of c.in_ok-trace.trace) c.in-Err.halted.shown.items c.in_ok-heap.heap (failures_of c.args.out.now) (failures_of c.print_shown.new.out)
-    c.in-Err.halted.refusal c.in_ok-print_shown.ensures.counts c.in-Err.ensures.halted
+    c.in-Err.halted.refusal c.in_ok-print_shown-in-Err.ensures.counts c.in-Err.ensures.halted
 
-pub returns-in-Err-clause-unprinted : goal.returns-in-Err-clause-unprinted
-returns-in-Err-clause-unprinted g c =
+pub returns-clause-unprinted : goal.returns-clause-unprinted
+returns-clause-unprinted g c =
     halted_unprinted c.args.asked.mutators c.args.asked.fresh (lines_of c.in_ok-trace.trace) c.in-Err.halted.shown.items c.in_ok-heap.heap
-    (g.O.Write.contents (inner_of c.args.out.now).now) (g.O.Write.contents (inner_of c.print_shown.new.out).now) c.in-Err.halted.refusal c.in_ok-print_shown.ensures.printed c.in-Err.ensures.halted
+    (g.O.Write.contents (inner_of c.args.out.now).now) (g.O.Write.contents (inner_of c.print_shown.new.out).now) c.in-Err.halted.refusal c.in_ok-print_shown-in-Err.ensures.printed c.in-Err.ensures.halted
 
-pub returns-in-Err-clause-uncreated : goal.returns-in-Err-clause-uncreated
-returns-in-Err-clause-uncreated g c = uncreated c.args.dumps.now c.in-Err.halted.refusal
+pub returns-clause-uncreated : goal.returns-clause-uncreated
+returns-clause-uncreated g c = uncreated c.args.dumps.now c.in-Err.halted.refusal
 
 -- Or a call of the output failed.
-pub returns-in_err-print_shown-clause-cause : goal.returns-in_err-print_shown-clause-cause
-returns-in_err-print_shown-clause-cause g c =
-    let p = err_from_is_err_and c.from_residual-in_err-print_shown.result c.from_residual-in_err-print_shown.ensures.1 in
+pub returns-in_err-print_shown-in-Err-clause-cause : goal.returns-in_err-print_shown-in-Err-clause-cause
+returns-in_err-print_shown-in-Err-clause-cause g c =
+    let p = err_from_is_err_and c.from_residual-in_err-print_shown-in-Err.result c.from_residual-in_err-print_shown-in-Err.ensures.1 in
     let paths = c.args.asked in
     let told = g.T.Traces.gives c.args.traces.now paths.trace.now in
     let rest = g.T.Reader.Read.remaining in
     let trace = some_text told rest paths.mutators _ (length c.in_ok-heap.heap.roots) (lines_of c.in_ok-trace.trace) (ap length c.roots.ensures.roots) c.in_ok-trace.ensures.lines in
-    rw (p.1, p.2, c.in_err-print_shown.ensures.cause) (of_halt_unprinted (g.I.Images.lacks c.args.images.now paths.image.now) (g.I.Images.gives c.args.images.now paths.image.now) g.I.Reader.Read.remaining
+    rw (p.1, p.2, c.in_err-print_shown-in-Err.ensures.cause) (of_halt_unprinted (g.I.Images.lacks c.args.images.now paths.image.now) (g.I.Images.gives c.args.images.now paths.image.now) g.I.Reader.Read.remaining
     (g.T.Traces.lacks c.args.traces.now paths.trace.now) told rest
     (g.D.Dumps.lacks c.args.dumps.now paths.dump.now) (g.D.Dumps.gives c.args.dumps.now paths.dump.now) g.D.Writer.Write.contents
     paths.mutators paths.fresh (g.O.Write.contents (inner_of c.args.out.now).now) (g.O.Write.contents (inner_of c.print_shown.new.out).now)

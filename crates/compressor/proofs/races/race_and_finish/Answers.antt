@@ -13,35 +13,29 @@ use Rattle.compressor.proofs.Runnings.{all_row, all_there}
 use Rattle.compressor.proofs.races.race_and_finish.Goals as goal
 
 pub race-requires-clause-all : goal.race-requires-clause-all
-race-requires-clause-all g c = all_of c.args.space (setup_of c.args.space).mutators c.args.mutators.items c.requires.of c.requires.new refl
+race-requires-clause-all g c κs within = all_of c.args.space (setup_of c.args.space).mutators c.args.mutators.items c.requires.of c.requires.new refl
 
-pub by_line-requires-clause-own : goal.by_line-requires-clause-own
-by_line-requires-clause-own g c =
+pub by_line-shown-requires-clause-own : goal.by_line-shown-requires-clause-own
+by_line-shown-requires-clause-own g c =
     let raced = c.in-Ok-race.raced in
     subst (λ (ls : List Line). AreOwn ls c.deref-runs.result.now) (sym c.lines-lines.ensures)
     (subst (AreOwn (lines_of c.args.trace.now)) (sym c.deref-runs.ensures.value)
     (each_own c.args.space (lines_of c.args.trace.now) c.args.mutators.items raced.mutators.items raced.runs.items c.requires.new c.in-Ok-race.ensures.raced))
 
-pub by_line-requires-clause-inside : goal.by_line-requires-clause-inside
-by_line-requires-clause-inside g c =
+pub by_line-shown-requires-clause-inside : goal.by_line-shown-requires-clause-inside
+by_line-shown-requires-clause-inside g c =
     let raced = c.in-Ok-race.raced in
     let u = setup_of c.args.space in
     let many = many_runs c.args.space (lines_of c.args.trace.now) c.args.mutators.items raced.mutators.items raced.runs.items c.requires.new c.in-Ok-race.ensures.raced in
     subst (λ (ls : List Line). All (λ (line : Line). line.mutator < length c.deref-runs.result.now) ls) (sym c.lines-lines.ensures)
     (all_inside u.mutators (length u.heap.roots) (length c.deref-runs.result.now) (lines_of c.args.trace.now) c.requires.read.0 (ap length c.deref-runs.ensures.value ∙ many) c.requires.read.1)
 
-pub by_line-requires-clause-few : goal.by_line-requires-clause-few
-by_line-requires-clause-few g c =
-    let raced = c.in-Ok-race.raced in
-    let many = many_runs c.args.space (lines_of c.args.trace.now) c.args.mutators.items raced.mutators.items raced.runs.items c.requires.new c.in-Ok-race.ensures.raced in
-    omega (arith, ap length c.deref-runs.ensures.value, many, c.requires.few)
-
 pub unreachable-requires : goal.unreachable-requires
 unreachable-requires g c =
     let space = c.args.space in
     let after = c.in-Ok-race.raced.mutators.items in
     let k = c.in-MutatorMissing.field-0 in
-    let least = subst (λ (fault : FinishFault). IsUnfinishedFor (setup_of space).mutators after fault) c.in-MutatorMissing.is c.in-Err-finish.ensures.fault in
+    let least = subst (λ (fault : FinishFault). IsUnfinishedFor (setup_of space).mutators after fault) c.in-MutatorMissing.is c.in-Err.ensures.fault in
     least.missing (all_there space after c.in-Ok-race.ensures.raced.all k least.below)
 
 -- A line was refused.
