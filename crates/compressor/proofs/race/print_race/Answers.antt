@@ -1,8 +1,12 @@
 use Rattle.std.proofs.Common.{◌≡◌, List, ℕ, ap, length, rules, subst, sym}
 use Rattle.std.proofs.KnownBytes.{Keeps-refl}
 use Rattle.std.proofs.lemmas.Result.{err_from_is_err_and}
+use Rattle.std.specs.Io.KnownBytes.{Appends}
 use Rattle.heap_layout.specs.Counted.{inner_of, failures_of}
 use Rattle.comp_trace.specs.Traces.{lines_of}
+use Rattle.comp_trace.specs.declared.shown.Shown.{Shown}
+use Rattle.compressor.specs.Replays.{shown_lines}
+use Rattle.compressor.specs.declared.refusal.Refusal.TheVariants.{CannotPrint}
 use Rattle.compressor.proofs.Outcomes.{uncreated}
 use Rattle.compressor.proofs.RaceRuns.{halted_uncounted, halted_unprinted, of_all_ok, of_halt, of_halt_unprinted, of_image, of_trace, of_writing_err}
 use Rattle.compressor.proofs.ReplayRuns.{image_uncounted, some_text, text_for, trace_uncounted, unprinted_halt}
@@ -66,7 +70,7 @@ returns-in_err-trace-clause-uncreated g c =
 
 -- The lines are those of a text for the roots of the heap.
 pub race_heap-requires-clause-read : goal.race_heap-requires-clause-read
-race_heap-requires-clause-read g c =
+race_heap-requires-clause-read g c κs within =
     text_for (g.T.Traces.gives c.args.traces.now c.args.asked.trace.now) g.T.Reader.Read.remaining c.args.asked.mutators _ (length c.in_ok-heap.heap.roots) (lines_of c.in_ok-trace.trace)
     (ap length c.roots.ensures.roots) c.in_ok-trace.ensures.lines
 
@@ -104,11 +108,13 @@ returns-clause-cause g c =
     let told = g.T.Traces.gives c.args.traces.now paths.trace.now in
     let rest = g.T.Reader.Read.remaining in
     let trace = some_text told rest paths.mutators _ (length c.in_ok-heap.heap.roots) (lines_of c.in_ok-trace.trace) (ap length c.roots.ensures.roots) c.in_ok-trace.ensures.lines in
+    let printed = subst (λ (values : List Shown). Appends (g.O.Write.contents (inner_of c.args.out.now).now) (g.O.Write.contents (inner_of c.print_shown.new.out).now) (shown_lines values))
+        c.deref.ensures.value c.in_ok-print_shown-in-Err.ensures.printed in
     of_halt (g.I.Images.lacks c.args.images.now paths.image.now) (g.I.Images.gives c.args.images.now paths.image.now) g.I.Reader.Read.remaining
     (g.T.Traces.lacks c.args.traces.now paths.trace.now) told rest
     (g.D.Dumps.lacks c.args.dumps.now paths.dump.now) (g.D.Dumps.gives c.args.dumps.now paths.dump.now) g.D.Writer.Write.contents
     paths.mutators paths.fresh (g.O.Write.contents (inner_of c.args.out.now).now) (g.O.Write.contents (inner_of c.print_shown.new.out).now)
-    c.in_ok-heap.heap c.in_ok-heap.ensures.heap (lines_of c.in_ok-trace.trace) trace c.in-Err.halted.shown.items c.in_ok-print_shown-in-Err.ensures.printed c.in-Err.halted.refusal c.in-Err.ensures.halted
+    c.in_ok-heap.heap c.in_ok-heap.ensures.heap (lines_of c.in_ok-trace.trace) trace c.in-Err.halted.shown.items printed c.in-Err.halted.refusal c.in-Err.ensures.halted
 
 pub returns-clause-counts : goal.returns-clause-counts
 returns-clause-counts g c =
@@ -117,8 +123,10 @@ returns-clause-counts g c =
 
 pub returns-clause-unprinted : goal.returns-clause-unprinted
 returns-clause-unprinted g c =
+    let printed = subst (λ (values : List Shown). Appends (g.O.Write.contents (inner_of c.args.out.now).now) (g.O.Write.contents (inner_of c.print_shown.new.out).now) (shown_lines values))
+        c.deref.ensures.value c.in_ok-print_shown-in-Err.ensures.printed in
     halted_unprinted c.args.asked.mutators c.args.asked.fresh (lines_of c.in_ok-trace.trace) c.in-Err.halted.shown.items c.in_ok-heap.heap
-    (g.O.Write.contents (inner_of c.args.out.now).now) (g.O.Write.contents (inner_of c.print_shown.new.out).now) c.in-Err.halted.refusal c.in_ok-print_shown-in-Err.ensures.printed c.in-Err.ensures.halted
+    (g.O.Write.contents (inner_of c.args.out.now).now) (g.O.Write.contents (inner_of c.print_shown.new.out).now) c.in-Err.halted.refusal printed c.in-Err.ensures.halted
 
 pub returns-clause-uncreated : goal.returns-clause-uncreated
 returns-clause-uncreated g c = uncreated c.args.dumps.now c.in-Err.halted.refusal
@@ -131,7 +139,9 @@ returns-in_err-print_shown-in-Err-clause-cause g c =
     let told = g.T.Traces.gives c.args.traces.now paths.trace.now in
     let rest = g.T.Reader.Read.remaining in
     let trace = some_text told rest paths.mutators _ (length c.in_ok-heap.heap.roots) (lines_of c.in_ok-trace.trace) (ap length c.roots.ensures.roots) c.in_ok-trace.ensures.lines in
-    rw (p.1, p.2, c.in_err-print_shown-in-Err.ensures.cause) (of_halt_unprinted (g.I.Images.lacks c.args.images.now paths.image.now) (g.I.Images.gives c.args.images.now paths.image.now) g.I.Reader.Read.remaining
+    let told_err = c.in_err-print_shown-in-Err.ensures.cause in
+    let is : c.in_err-print_shown-in-Err.field-0.0 ≡ CannotPrint = cc in
+    rw (p.1, p.2, is) (of_halt_unprinted (g.I.Images.lacks c.args.images.now paths.image.now) (g.I.Images.gives c.args.images.now paths.image.now) g.I.Reader.Read.remaining
     (g.T.Traces.lacks c.args.traces.now paths.trace.now) told rest
     (g.D.Dumps.lacks c.args.dumps.now paths.dump.now) (g.D.Dumps.gives c.args.dumps.now paths.dump.now) g.D.Writer.Write.contents
     paths.mutators paths.fresh (g.O.Write.contents (inner_of c.args.out.now).now) (g.O.Write.contents (inner_of c.print_shown.new.out).now)
