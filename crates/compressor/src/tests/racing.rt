@@ -24,7 +24,8 @@ const SEEN: &str = "0 root 0 0\n0 load 1 0 0\n0 put 1 0 7\n1 root 0 0\n1 load 1 
 const FRESH: &str = "0 root 0 0\n0 new 1 0 0 0\n0 store 0 0 1\n";
 
 // Each of both mutators shows a value, and reads a field of null then: mutator 1 in line 7, and mutator 0 in line 9.
-const STOPPED: &str = "0 root 0 0\n0 load 1 0 0\n1 root 0 0\n1 load 1 0 0\n0 get 1 0\n1 get 1 0\n1 get 2 0\n0 get 1 0\n0 get 2 0\n1 get 1 0\n";
+const STOPPED: &str =
+    "0 root 0 0\n0 load 1 0 0\n1 root 0 0\n1 load 1 0 0\n0 get 1 0\n1 get 1 0\n1 get 2 0\n0 get 1 0\n0 get 2 0\n1 get 1 0\n";
 
 // Races a trace over the heap of an image, and gives the answer and what was printed.
 fn race_on<R: Files + AllocGlobal + Threads + Wait + Sync>(

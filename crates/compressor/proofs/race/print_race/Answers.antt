@@ -109,7 +109,7 @@ returns-clause-cause g c =
     let rest = g.T.Reader.Read.remaining in
     let trace = some_text told rest paths.mutators _ (length c.in_ok-heap.heap.roots) (lines_of c.in_ok-trace.trace) (ap length c.roots.ensures.roots) c.in_ok-trace.ensures.lines in
     let printed = subst (λ (values : List Shown). Appends (g.O.Write.contents (inner_of c.args.out.now).now) (g.O.Write.contents (inner_of c.print_shown.new.out).now) (shown_lines values))
-        c.deref.ensures.value c.in_ok-print_shown-in-Err.ensures.printed in
+    c.deref.ensures.value c.in_ok-print_shown-in-Err.ensures.printed in
     of_halt (g.I.Images.lacks c.args.images.now paths.image.now) (g.I.Images.gives c.args.images.now paths.image.now) g.I.Reader.Read.remaining
     (g.T.Traces.lacks c.args.traces.now paths.trace.now) told rest
     (g.D.Dumps.lacks c.args.dumps.now paths.dump.now) (g.D.Dumps.gives c.args.dumps.now paths.dump.now) g.D.Writer.Write.contents
@@ -124,7 +124,7 @@ returns-clause-counts g c =
 pub returns-clause-unprinted : goal.returns-clause-unprinted
 returns-clause-unprinted g c =
     let printed = subst (λ (values : List Shown). Appends (g.O.Write.contents (inner_of c.args.out.now).now) (g.O.Write.contents (inner_of c.print_shown.new.out).now) (shown_lines values))
-        c.deref.ensures.value c.in_ok-print_shown-in-Err.ensures.printed in
+    c.deref.ensures.value c.in_ok-print_shown-in-Err.ensures.printed in
     halted_unprinted c.args.asked.mutators c.args.asked.fresh (lines_of c.in_ok-trace.trace) c.in-Err.halted.shown.items c.in_ok-heap.heap
     (g.O.Write.contents (inner_of c.args.out.now).now) (g.O.Write.contents (inner_of c.print_shown.new.out).now) c.in-Err.halted.refusal printed c.in-Err.ensures.halted
 
