@@ -9,6 +9,7 @@ pub mod Pieces
 pub mod Histories
 pub mod Runnings
 pub mod ReplayRuns
+pub mod Performed
 pub mod Walking
 pub mod Racing
 pub mod RaceRuns

@@ -1,6 +1,7 @@
 -- What the command `replay` does and refuses, from what its parts do and refuse.
-use Rattle.std.proofs.Common.{◌≡◌, ℕ, ◌+◌, List, [], Option, Some, None, Ok, Err, length, map, inl, inr, refl, sym, subst, ◌∙◌, append-nil, ⊤}
-use Rattle.std.proofs.KnownBytes.{Keeps-refl}
+use Rattle.std.proofs.Common.{◌≡◌, ℕ, ◌+◌, List, [], Option, Some, None, Result, Ok, Err, IfErr, OnOk, length, map, inl, inr, refl, sym, subst, ◌∙◌, append-nil}
+use Rattle.std.specs.Bool.{⊤}
+use Rattle.std.proofs.KnownBytes.{Appends-kept, Keeps-refl}
 use Rattle.std.specs.Io.KnownBytes.{Appends, Keeps}
 use Rattle.heap_layout.specs.Heap.{live, Heap}
 use Rattle.page_plan.specs.Sliding.{live_words}
@@ -23,7 +24,7 @@ use Rattle.compressor.specs.Dumps.{IsOfDumping, WritesWhole}
 use Rattle.compressor.specs.Images.{IsImageOf, RefusesAt, RefusesImage, SomeGiven}
 use Rattle.compressor.specs.Printing.{CountsPrint}
 use Rattle.compressor.specs.Replays.{dumped_of, shown_lines, HasRun, IsHalted, IsOfWritingRun, IsReplayedHeap, PrintsRun, RefusesReplay, RefusesRun, Replays, SomeRun, StopsReplay, StopsUnprinted}
-use Rattle.compressor.specs.Texts.{HasLines, IsTextOf, RefusesText, RefusesTextAt, SomeText}
+use Rattle.compressor.specs.Texts.{HasLines, IsOfReading, IsTextOf, RefusesText, RefusesTextAt, SomeText}
 use Rattle.compressor.specs.declared.refusal.Input.TheVariants as inputs
 use Rattle.compressor.specs.declared.refusal.Refusal.{Refusal}
 use Rattle.compressor.specs.declared.refusal.Refusal.TheVariants.{Layout, Mutator, Sweep, Trace, Dump, CannotOpen, CannotCreate, ReadFailed, CannotPrint, NoSuchWord, OutOfMemory}
@@ -34,7 +35,7 @@ of_heap : (Q : Heap → Type 0) (heap : Heap) (known : Option (List ℕ)) → Q 
 of_heap Q heap known q image = (image.0, image.1, image.2, (image.3.0, subst Q (sym image.3.1) q))
 
 -- a run, and its dump
-pub has_run : (mutators fresh : ℕ) (lines : List Line) (shown : List Shown) (f : Finished) (heap : Heap) → IsReplayedHeap mutators fresh lines shown f heap → HasRun mutators fresh lines heap
+abbrev pub has_run : (mutators fresh : ℕ) (lines : List Line) (shown : List Shown) (f : Finished) (heap : Heap) → IsReplayedHeap mutators fresh lines shown f heap → HasRun mutators fresh lines heap
 has_run mutators fresh lines shown f heap h = record { end = h.end; runs = h.runs; dump = dumped_of mutators fresh f; left = h.left }
 
 replays : {W : Type 0} (gives : W → Type 0) (contents : W → Option (List ℕ)) (mutators fresh : ℕ) (before after : Option (List ℕ)) (lines : List Line) (shown : List Shown) (f : Finished) (heap : Heap)
@@ -46,6 +47,15 @@ replays gives contents mutators fresh before after lines shown f heap h written 
   printed = subst (λ (values : List Shown). PrintsRun before after values (live_words (live heap) + allocated h.end.added)) h.shown_is
       (subst (PrintsRun before after shown) h.left.total printed);
 }
+
+-- the lines of a text for so many roots, which are those of the heap
+pub some_text : {S : Type 0} (told : S → Type 0) (rest : S → Option (List ℕ)) (mutators roots other : ℕ) (lines : List Line) → roots ≡ other → SomeGiven told rest (IsTextOf mutators roots lines)
+    → SomeGiven told rest (IsTextOf mutators other lines)
+some_text told rest mutators roots other lines e given = subst (λ (r : ℕ). SomeGiven told rest (IsTextOf mutators r lines)) e given
+
+pub text_for : {S : Type 0} (told : S → Type 0) (rest : S → Option (List ℕ)) (mutators roots other : ℕ) (lines : List Line) → roots ≡ other → SomeGiven told rest (IsTextOf mutators roots lines)
+    → (text : List ℕ) × HasLines mutators other lines text
+text_for told rest mutators roots other lines e given = (given.2.0, subst (λ (r : ℕ). HasLines mutators r lines given.2.0) e given.2.2)
 
 module _ {R S : Type 0} (given : R → Type 0) (remaining : R → Option (List ℕ)) (told : S → Type 0) (rest : S → Option (List ℕ)) (mutators : ℕ) (heap : Heap)
     (image : SomeGiven given remaining (IsImageOf (λ other. other ≡ heap))) where
@@ -89,20 +99,23 @@ module _ {R S W : Type 0} (absent : Type 0) (given : R → Type 0) (remaining : 
 
   module _ (heap : Heap) (image : SomeGiven given remaining (IsImageOf (λ other. other ≡ heap))) where
     -- there is no trace for it, and nothing was printed
-    pub of_trace : Keeps before after → (refusal : Refusal) → RefusesTextAt missing told rest mutators (length heap.roots) refusal → IsCause refusal
-    of_trace kept (Layout fault) h = absurd h.2
-    of_trace kept (Mutator refused) h = absurd h.2
-    of_trace kept (Sweep fault) h = absurd h.2
-    of_trace kept (Trace fault) h = inl (some_refused given remaining told rest mutators heap image (Trace fault) h, kept)
-    of_trace kept (Dump fault) h = absurd h.2
-    of_trace kept (CannotOpen inputs.Image) h = absurd h.2
-    of_trace kept (CannotOpen inputs.Trace) h = (h, some_heap given remaining told rest mutators heap image)
-    of_trace kept (CannotCreate output) h = absurd h.2
-    of_trace kept (ReadFailed inputs.Image) h = absurd h.2
-    of_trace kept (ReadFailed inputs.Trace) h = some_refused given remaining told rest mutators heap image (ReadFailed inputs.Trace) h
-    of_trace kept CannotPrint h = absurd h.2
-    of_trace kept (NoSuchWord index) h = absurd h.2
-    of_trace kept OutOfMemory h = tt
+    by_trace : Keeps before after → (refusal : Refusal) → RefusesTextAt missing told rest mutators (length heap.roots) refusal → IsCause refusal
+    by_trace kept (Layout fault) h = absurd h.2
+    by_trace kept (Mutator refused) h = absurd h.2
+    by_trace kept (Sweep fault) h = absurd h.2
+    by_trace kept (Trace fault) h = inl (some_refused given remaining told rest mutators heap image (Trace fault) h, kept)
+    by_trace kept (Dump fault) h = absurd h.2
+    by_trace kept (CannotOpen inputs.Image) h = absurd h.2
+    by_trace kept (CannotOpen inputs.Trace) h = (h, some_heap given remaining told rest mutators heap image)
+    by_trace kept (CannotCreate output) h = absurd h.2
+    by_trace kept (ReadFailed inputs.Image) h = absurd h.2
+    by_trace kept (ReadFailed inputs.Trace) h = some_refused given remaining told rest mutators heap image (ReadFailed inputs.Trace) h
+    by_trace kept CannotPrint h = absurd h.2
+    by_trace kept (NoSuchWord index) h = absurd h.2
+    by_trace kept OutOfMemory h = tt
+
+    pub of_trace : (roots : ℕ) → roots ≡ length heap.roots → Keeps before after → (refusal : Refusal) → RefusesTextAt missing told rest mutators roots refusal → IsCause refusal
+    of_trace roots e kept refusal h = by_trace kept refusal (subst (λ (r : ℕ). RefusesTextAt missing told rest mutators r refusal) e h)
 
     module _ (lines : List Line) (trace : SomeGiven told rest (IsTextOf mutators (length heap.roots) lines)) where
       by_run : (refusal : Refusal) → RefusesRun lacks gives contents mutators fresh before after refusal lines heap
@@ -130,7 +143,7 @@ module _ {R S W : Type 0} (absent : Type 0) (given : R → Type 0) (remaining : 
 
       module _ (shown : List Shown) (f : Finished) (h : IsReplayedHeap mutators fresh lines shown f heap) where
         -- they ran, and the dump was not written, or a call of the output failed
-        pub of_writing : (refusal : Refusal) → IsOfWritingRun lacks gives contents (dump_bytes (dumped_of mutators fresh f)) refusal → IsCause refusal
+        of_writing : (refusal : Refusal) → IsOfWritingRun lacks gives contents (dump_bytes (dumped_of mutators fresh f)) refusal → IsCause refusal
         of_writing (Layout fault) w = absurd w
         of_writing (Mutator refused) w = absurd w
         of_writing (Sweep fault) w = absurd w
@@ -148,11 +161,39 @@ module _ {R S W : Type 0} (absent : Type 0) (given : R → Type 0) (remaining : 
         of_writing (NoSuchWord index) w = absurd w
         of_writing OutOfMemory w = tt
 
+        pub of_writing_err : (result : Result (Unit {0}) Refusal) → IfErr result (IsOfWritingRun lacks gives contents (dump_bytes (dumped_of mutators fresh f))) → IfErr result IsCause
+        of_writing_err (Ok _) w = tt
+        of_writing_err (Err refusal) w = of_writing refusal w
+
         -- the dump was written, and all was printed
-        pub of_all : WritesWhole gives contents (dump_bytes (dumped_of mutators fresh f)) → PrintsRun before after shown (live_of f)
+        of_all : WritesWhole gives contents (dump_bytes (dumped_of mutators fresh f)) → PrintsRun before after shown (live_of f)
             → SomeRun given remaining told rest mutators (Replays gives contents mutators fresh before after)
         of_all written printed = some_run given remaining told rest mutators heap image (Replays gives contents mutators fresh before after) lines trace
             (replays gives contents mutators fresh before after lines shown f heap h written printed)
+
+        pub of_all_ok : (result : Result (Unit {0}) Refusal) → OnOk result (WritesWhole gives contents (dump_bytes (dumped_of mutators fresh f))) → OnOk result (PrintsRun before after shown (live_of f))
+            → OnOk result (SomeRun given remaining told rest mutators (Replays gives contents mutators fresh before after))
+        of_all_ok (Ok _) written printed = of_all written printed
+        of_all_ok (Err refusal) written printed = tt
+
+-- a text that was not read whole is no trace
+pub of_reading : (mutators roots : ℕ) (known : Option (List ℕ)) (refusal : Refusal) → IsOfReading refusal → RefusesText mutators roots refusal known
+of_reading mutators roots known (Layout fault) h = absurd h
+of_reading mutators roots known (Mutator refused) h = absurd h
+of_reading mutators roots known (Sweep fault) h = absurd h
+of_reading mutators roots known (Trace fault) h = subst (λ (f : TraceFault). RefusesText mutators roots (Trace f) known) (sym h) (unread known)
+  where
+    unread : (told : Option (List ℕ)) → RefusesText mutators roots (Trace traces.OutOfMemory) told
+    unread None = ([], tt, tt)
+    unread (Some bytes) = (bytes, refl, tt)
+of_reading mutators roots known (Dump fault) h = absurd h
+of_reading mutators roots known (CannotOpen input) h = absurd h
+of_reading mutators roots known (CannotCreate output) h = absurd h
+of_reading mutators roots known (ReadFailed inputs.Image) h = absurd h
+of_reading mutators roots known (ReadFailed inputs.Trace) h = tt
+of_reading mutators roots known CannotPrint h = absurd h
+of_reading mutators roots known (NoSuchWord index) h = absurd h
+of_reading mutators roots known OutOfMemory h = absurd h
 
 -- no refusal of an image, of a trace, or of a run counts a failed call of the output
 pub image_uncounted : {R : Type 0} (absent : Type 0) (given : R → Type 0) (remaining : R → Option (List ℕ)) (n : ℕ) (refusal : Refusal) → RefusesAt absent given remaining RefusesImage refusal
@@ -246,3 +287,43 @@ pub dumped_same : (mutators fresh : ℕ) (f : Finished) (dump : Dumped) → dump
     → dump.builds ≡ builds_in f → dump.total ≡ live_of f → dump ≡ dumped_of mutators fresh f
 dumped_same mutators fresh f dump em en er ep eb et =
     same_parts dump.mutators mutators dump.fresh fresh dump.total (live_of f) dump.roots (roots_of f) dump.pages (map record_of (pages_of f)) dump.builds (builds_in f) em en er ep eb et
+
+-- What was done of a run, where the output is flushed behind it, or is not.
+module _ {R S W : Type 0} (given : R → Type 0) (remaining : R → Option (List ℕ)) (told : S → Type 0) (rest : S → Option (List ℕ)) (gives : W → Type 0) (contents : W → Option (List ℕ))
+    (mutators fresh : ℕ) (before between after : Option (List ℕ)) where
+  pub flushed_run : Keeps between after → SomeRun given remaining told rest mutators (Replays gives contents mutators fresh before between)
+      → SomeRun given remaining told rest mutators (Replays gives contents mutators fresh before after)
+  flushed_run kept (reader, is_given, (heap, stored, accepted, (known, (other, is_told, (text, is_text, (lines, has_lines, h)))))) = (
+    reader,
+    is_given,
+    (
+      heap,
+      stored,
+      accepted,
+      (
+        known,
+        (
+          other,
+          is_told,
+          (
+            text,
+            is_text,
+            (
+              lines,
+              has_lines,
+              record {
+                run = h.run;
+                written = h.written;
+                printed = Appends-kept before between after _ h.printed kept;
+              },
+            ),
+          ),
+        ),
+      ),
+    ),
+  )
+
+  pub unflushed_run : (lacks : Type 0) → SomeRun given remaining told rest mutators (Replays gives contents mutators fresh before between)
+      → SomeRun given remaining told rest mutators (RefusesRun lacks gives contents mutators fresh before after CannotPrint)
+  unflushed_run lacks (reader, is_given, (heap, stored, accepted, (known, (other, is_told, (text, is_text, (lines, has_lines, h)))))) =
+      (reader, is_given, (heap, stored, accepted, (known, (other, is_told, (text, is_text, (lines, has_lines, inl (h.run, h.written)))))))

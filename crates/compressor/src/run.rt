@@ -3,7 +3,8 @@ ghost use Rattle.std.specs.String.{string_bytes};
 ghost use Rattle.std.specs.Io.KnownBytes.{Keeps};
 ghost use Rattle.heap_layout.specs.Counted.{inner_of, failures_of, is_flushed_of, writer_of};
 ghost use Rattle.command_line.specs.Asked.{AsksNoCommand, HasLawfulCounts};
-ghost use Rattle.compressor.specs.Printing.{CountsPrint, StopsUnprinted};
+ghost use Rattle.compressor.specs.Printing.{CountsPrint};
+ghost use Rattle.compressor.specs.Replays.{StopsUnprinted};
 ghost use Rattle.compressor.specs.Tasks.{Answers, AreWrong, DoesTask, HasAnswered, IsRefused, RefusesTask};
 
 use crate::compact::{Compaction, print_compact};

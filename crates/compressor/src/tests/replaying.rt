@@ -112,7 +112,10 @@ fn tells_what_is_refused_of_a_trace(rt: HostRuntime) -> Result<(), Fail> {
         assert_eq!(rt; ran.status, 1);
         assert_eq!(rt; ran.out.as_str(), out);
         assert_eq!(rt; ran.err, told);
-        assert_eq!(rt; fs::read(&rt, "halt.tests.out")?.as_slice(), b"kept".as_slice());
+        assert_eq!(rt;
+            fs::read(&rt, "halt.tests.out")?.as_slice(),
+            b"kept".as_slice()
+        );
     }
     for path in ["halt.tests.img", "halt.tests.trace", "halt.tests.out"] {
         fs::remove_file(&rt, path)?;

@@ -19,7 +19,7 @@ returns-in_err-write_to-clause-cause g c =
     let dump = c.in_ok-dump.dump in
     let same = dumped_same asked.mutators asked.fresh c.args.run.now.finished dump (omega (arith, made.mutators, c.from.ensures)) made.fresh made.roots made.pages made.builds made.total in
     rw (p.1, p.2) (writing_of lacks gives g.D.Writer.Write.contents _ _
-    (subst (λ (d : Dumped). IsOfDumping lacks gives g.D.Writer.Write.contents (dump_bytes d) c.in_err-write_to.field-0) same c.in_err-write_to.ensures.cause))
+    (subst (λ (d : Dumped). IsOfDumping lacks gives g.D.Writer.Write.contents (dump_bytes d) c.in_err-write_to.field-0.0) same c.in_err-write_to.ensures.cause))
 
 pub returns-in_err-write_to-clause-counts : goal.returns-in_err-write_to-clause-counts
 returns-in_err-write_to-clause-counts g c =

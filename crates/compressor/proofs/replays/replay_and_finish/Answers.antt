@@ -9,7 +9,7 @@ use Rattle.compressor.proofs.Runnings.{all_row, all_there, halted_run, replayed_
 use Rattle.compressor.proofs.replays.replay_and_finish.Goals as goal
 
 pub replay-requires-clause-all : goal.replay-requires-clause-all
-replay-requires-clause-all g c = λ names. all_of c.args.space (setup_of c.args.space).mutators c.args.mutators.items c.requires.of c.requires.new refl
+replay-requires-clause-all g c = λ names lives. all_of c.args.space (setup_of c.args.space).mutators c.args.mutators.items c.requires.of c.requires.new refl
 
 pub returns-in-Ok-finish-clause-replayed : goal.returns-in-Ok-finish-clause-replayed
 returns-in-Ok-finish-clause-replayed g c =
