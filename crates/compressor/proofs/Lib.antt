@@ -10,3 +10,6 @@ pub mod Histories
 pub mod Runnings
 pub mod ReplayRuns
 pub mod Performed
+pub mod Walking
+pub mod Racing
+pub mod RaceRuns

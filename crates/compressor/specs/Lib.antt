@@ -6,4 +6,6 @@ pub mod Dumps
 pub mod Compact
 pub mod Texts
 pub mod Replays
+pub mod ByLine
+pub mod Races
 pub mod Tasks

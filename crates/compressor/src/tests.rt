@@ -4,6 +4,7 @@ ghost use Rattle.command_line.specs.Asked.{HasLawfulCounts};
 
 mod compacting;
 mod places;
+mod racing;
 mod refusing;
 mod replaying;
 
