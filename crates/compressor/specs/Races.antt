@@ -27,6 +27,7 @@ use Rattle.compressor.specs.ByLine.{AreByLine, HasEnded, IsLeastStop}
 use Rattle.compressor.specs.Dumps.{WritesBeginning, WritesWhole}
 use Rattle.compressor.specs.Images.{IsImageOf, SomeGiven}
 use Rattle.compressor.specs.Replays.{dumped_of, shown_lines, IsDumpAfter, PrintsRun, RefusesTrace, SomeRun}
+use Rattle.compressor.specs.Texts.{HasLines}
 use Rattle.compressor.specs.declared.refusal.Input.TheVariants as inputs
 use Rattle.compressor.specs.declared.refusal.Refusal.{Refusal}
 use Rattle.compressor.specs.declared.refusal.Refusal.TheVariants.{CannotCreate, CannotOpen, CannotPrint, Dump, Layout, Mutator, OutOfMemory, ReadFailed, Trace}
@@ -95,6 +96,11 @@ pub record Races {W : Type 0} (gives : W → Type 0) (contents : W → Option (L
   pub race : HasRace mutators fresh lines heap
   pub written : WritesWhole gives contents (dump_of_race race)
   pub printed : PrintsRun before after race.shown (live_of race.left)
+
+-- what was printed, between these two contents of the output, are the values of a trace that was raced over the heap, and the live words
+abbrev pub PrintsRace : ℕ → ℕ → Option (List ℕ) → Option (List ℕ) → Heap → Type 0
+PrintsRace mutators fresh before after heap = (text : List ℕ) × (lines : List Line) × HasLines mutators (length heap.roots) lines text
+    × (race : HasRace mutators fresh lines heap) × PrintsRun before after race.shown (live_of race.left)
 
 -- lines were refused, or there was no memory for the values: what was shown was printed
 abbrev pub StopsRace : ℕ → ℕ → Option (List ℕ) → Option (List ℕ) → TraceFault → List Line → Heap → Type 0
