@@ -8,26 +8,29 @@ use Rattle.std.specs.List.{All, list_all, slice_index_or}
 use Rattle.std.proofs.lemmas.List.Elements.{All-head, All-map, All-tail}
 use Rattle.std.proofs.lemmas.Option.{IfSome_then}
 use Rattle.std.proofs.lemmas.Str.{IsUtf8-string_bytes}
-use Rattle.clap.specs.Words.{App, IsAmong, HasKind, Row, fault_of, first_of, first_value, is_simple_and_free, kind_of, one_of, one_text, rows_of, subcommand_of}
+use Rattle.clap.specs.Words.{App, IsAmong, HasKind, HasMatchesOf, Row, fault_of, first_of, first_value, is_simple, is_simple_and_free, kind_of, one_of, one_text, rows_of, subcommand_of, subcommand_rows_of}
 use Rattle.clap.specs.declared.error.Error.{Error}
 use Rattle.clap.specs.declared.error.kind.ErrorKind.{ErrorKind}
 use Rattle.clap.specs.declared.error.kind.ErrorKind.TheVariants.{DisplayHelp, DisplayVersion, OutOfMemory}
+use Rattle.clap.specs.declared.parser.matches.ArgMatches.{ArgMatches}
 use Rattle.clap.specs.declared.parser.matches.Found.{Found}
 use Rattle.clap.proofs.WalkLemmas.{both, first_value-rows, one_text-rows}
 use Rattle.command_line.specs.Asked.{given as given_values}
 use Rattle.command_line.specs.Asked.{Asks, AsksCompact, AsksHelp, AsksNoCommand, AsksPlan, AsksVersion, AsksWord, HasLawfulCounts, IsAnswerOf}
-use Rattle.command_line.specs.Forms.{Choice, Form, Parameter, all_forms, audit_form, compact_form, number, plan_form, race_form, replay_form, standing, text, word_form, workers}
+use Rattle.command_line.specs.Forms.{Choice, Form, Parameter, compact_form, fresh, mutators, number, plan_form, race_form, replay_form, run_form, standing, text, word_form, workers}
 use Rattle.command_line.specs.Given.{HasOption, IsCommandWith, IsNumber, IsNumberOr, Takes, text_given}
+use Rattle.command_line.specs.Finds.{HasRun, IsRunFound}
 use Rattle.command_line.specs.Parser.{program}
+use Rattle.command_line.specs.Runs.{AsksRun, Run}
 use Rattle.command_line.specs.declared.words.Task.{Task}
-use Rattle.command_line.specs.declared.words.Task.TheVariants.{Plan, Word, Compact, Help, Version}
+use Rattle.command_line.specs.declared.words.Task.TheVariants.{Plan, Word, Replay, Race, Compact, Help, Version}
 use Rattle.command_line.proofs.Chosen.{chosen_fits}
 use Rattle.command_line.proofs.FormRules.{are_apart}
 use Rattle.command_line.proofs.KindLists.{some_kind}
 use Rattle.command_line.proofs.Parsed.{HasCommands, parsed, faulty, helped, standing_commands, versioned}
 use Rattle.command_line.proofs.Plain.{Pairs, plain_values, values_of}
 use Rattle.command_line.proofs.Settled.{first_found, is_whole, one_found, row}
-use Rattle.command_line.proofs.TopLevel.{IsCommand, IsOneOf, IsProgram, all_program, one_of_these, same_form, standing_program}
+use Rattle.command_line.proofs.TopLevel.{IsCommand, IsOneOf, IsProgram, one_of_these, same_form, standing_program}
 use Rattle.command_line.proofs.Uses.{Use}
 
 -- the bytes of texts are UTF-8
@@ -121,7 +124,7 @@ word_asked words f (given, rows, asks) =
 -- ---- commands with options
 
 -- the number of an option is within the bounds of the texts that it takes, where its default is
-within_bounds : (text : Option (List ℕ)) (default low high n : ℕ) → low ≤ default → default ≤ high
+pub within_bounds : (text : Option (List ℕ)) (default low high n : ℕ) → low ≤ default → default ≤ high
     → IfSome text (λ digits. (m : ℕ) × IsNumber digits m × (low ≤ m) × (m ≤ high)) → IsNumberOr default text n → (low ≤ n) × (n ≤ high)
 within_bounds None default low high n least most takes is = (subst (λ k. low ≤ k) (sym is) least, subst (λ k. k ≤ high) (sym is) most)
 within_bounds (Some digits) default low high n least most (m, number, above, below) is =
@@ -158,11 +161,39 @@ two_paths words f form (given, rows, asks) a b is =
     let two = both _ _ one.1 in
     (text_there f given rows a.id one.0, text_there f given rows b.id two.0)
 
--- ---- `compact`
+-- a text that an option takes is a number
+pub bounded_number : (low high : ℕ) (o : Option (List ℕ)) → IfSome o (λ text. (n : ℕ) × IsNumber text n × (low ≤ n) × (n ≤ high))
+    → IfSome o (λ text. (n : ℕ) × IsNumber text n)
+bounded_number low high o h = IfSome_then o h (λ text takes. (takes.0, takes.1))
 
--- a text that `--workers` takes is a number
-pub workers_number : (o : Option (List ℕ)) → IfSome o (Takes workers.takes) → IfSome o (λ text. (n : ℕ) × IsNumber text n)
-workers_number o h = IfSome_then o h (λ text takes. (takes.0, takes.1))
+-- ---- `replay` and `race`
+
+module _ (words : List (List ℕ)) (f : Found) (name : List ℕ) (asked : CommandAsked words f (run_form name)) where
+  -- a run is found where such a command is asked
+  pub run_found : HasRun f
+  run_found =
+      let paths = three_paths words f (run_form name) asked (text (codes "IMAGE")) (text (codes "TRACE")) (text (codes "DUMP")) refl in
+      record {
+        has_image = paths.0;
+        has_trace = paths.1;
+        has_dump = paths.2;
+        fits_mutators = choice_fits words f (run_form name) asked mutators refl refl;
+        fits_fresh = choice_fits words f (run_form name) asked fresh refl refl;
+      }
+
+  -- and it is what the words ask
+  pub run_asked : (run : Run) → IsRunFound f run → AsksRun name words run
+  run_asked run is = record {
+    texts = asked.0;
+    is_command = asked.2;
+    with_image = path_told words f (run_form name) asked (codes "IMAGE") run.image is.image_is;
+    with_trace = path_told words f (run_form name) asked (codes "TRACE") run.trace is.trace_is;
+    with_dump = path_told words f (run_form name) asked (codes "DUMP") run.dump is.dump_is;
+    with_mutators = choice_told words f (run_form name) asked (codes "mutators") 2 run.count is.mutators_are;
+    with_fresh = choice_told words f (run_form name) asked (codes "fresh") 64 run.pages is.fresh_are;
+  }
+
+-- ---- `compact`
 
 module _ (words : List (List ℕ)) (f : Found) (asked : CommandAsked words f compact_form) where
   -- what `--workers` takes was found, if anything
@@ -198,27 +229,16 @@ abbrev pub EnteredAs : Entered → Form → Type 0
 EnteredAs o form = (rows : List Row) → o ≡ Some (form.name, rows) → ⊥
 
 pub none_of_standing : (words : List (List ℕ)) (o : Entered) → All IsUtf8 words → fault_of (program standing) words ≡ [] → subcommand_of (program standing) words ≡ o
-    → EnteredAs o plan_form → EnteredAs o word_form → EnteredAs o compact_form → ⊥
-none_of_standing words o utf8 taken found plan word compact = go (entered_one standing standing_program words o utf8 taken found)
+    → EnteredAs o plan_form → EnteredAs o word_form → EnteredAs o replay_form → EnteredAs o race_form → EnteredAs o compact_form → ⊥
+none_of_standing words o utf8 taken found plan word replay race compact = go (entered_one standing standing_program words o utf8 taken found)
   where
     go : (form : Form) × (rows : List Row) × IsOneOf standing form × (o ≡ Some (form.name, rows)) → ⊥
-    go (form, rows, inl same, is) = plan rows (is ∙ ap (λ (x : Form). Some (x.name, rows)) same)
-    go (form, rows, inr (inl same), is) = word rows (is ∙ ap (λ (x : Form). Some (x.name, rows)) same)
-    go (form, rows, inr (inr (inl same)), is) = compact rows (is ∙ ap (λ (x : Form). Some (x.name, rows)) same)
-    go (form, rows, inr (inr (inr none)), is) = none
-
-pub none_of_all : (words : List (List ℕ)) (o : Entered) → All IsUtf8 words → fault_of (program all_forms) words ≡ [] → subcommand_of (program all_forms) words ≡ o
-    → EnteredAs o plan_form → EnteredAs o word_form → EnteredAs o replay_form → EnteredAs o race_form → EnteredAs o compact_form → EnteredAs o audit_form → ⊥
-none_of_all words o utf8 taken found plan word replay race compact audit = go (entered_one all_forms all_program words o utf8 taken found)
-  where
-    go : (form : Form) × (rows : List Row) × IsOneOf all_forms form × (o ≡ Some (form.name, rows)) → ⊥
     go (form, rows, inl same, is) = plan rows (is ∙ ap (λ (x : Form). Some (x.name, rows)) same)
     go (form, rows, inr (inl same), is) = word rows (is ∙ ap (λ (x : Form). Some (x.name, rows)) same)
     go (form, rows, inr (inr (inl same)), is) = replay rows (is ∙ ap (λ (x : Form). Some (x.name, rows)) same)
     go (form, rows, inr (inr (inr (inl same))), is) = race rows (is ∙ ap (λ (x : Form). Some (x.name, rows)) same)
     go (form, rows, inr (inr (inr (inr (inl same)))), is) = compact rows (is ∙ ap (λ (x : Form). Some (x.name, rows)) same)
-    go (form, rows, inr (inr (inr (inr (inr (inl same))))), is) = audit rows (is ∙ ap (λ (x : Form). Some (x.name, rows)) same)
-    go (form, rows, inr (inr (inr (inr (inr (inr none))))), is) = none
+    go (form, rows, inr (inr (inr (inr (inr none)))), is) = none
 
 -- ---- what is told in place of a task
 
@@ -246,10 +266,19 @@ pub taken_at : (forms : List Form) → IsProgram forms → (a : App) (words : Li
     → fault_of (program forms) words ≡ []
 taken_at forms is a words e h = subst (λ (x : App). fault_of x words ≡ []) e (h (ap is_simple_and_free e ∙ is.is_free))
 
+-- and the command that was entered is the one that clap finds in them
+pub found_at : (forms : List Form) → IsProgram forms → (a : App) (words : List (List ℕ)) (m : ArgMatches) → a ≡ program forms → HasMatchesOf a words m
+    → subcommand_rows_of m ≡ subcommand_of (program forms) words
+found_at forms is a words m e h =
+    let simple : is_simple a ≡ true = (both _ _ (ap is_simple_and_free e ∙ is.is_free)).0 in
+    subst (λ (x : App). subcommand_rows_of m ≡ subcommand_of x words) e (h simple).1
+
 -- an answer in place of a command has no counts
 pub answer_counts : (error : Error) (r : Result Task Error) → IfOk r (IsAnswerOf (kind_of error)) → IfOk r HasLawfulCounts
 answer_counts error (Ok (Plan image)) answer = _
 answer_counts error (Ok (Word image index)) answer = _
+answer_counts error (Ok (Replay run)) answer = absurd answer
+answer_counts error (Ok (Race run)) answer = absurd answer
 answer_counts error (Ok (Compact image dump n)) answer = absurd answer
 answer_counts error (Ok (Help text)) answer = _
 answer_counts error (Ok Version) answer = _
@@ -268,6 +297,8 @@ module _ (forms : List Form) (is : IsProgram forms) (has : HasCommands forms) (w
   pub answer_told : (error : Error) (r : Result Task Error) → HasKind (fault_of (program forms) words) error → IfOk r (IsAnswerOf (kind_of error)) → IfOk r (Asks words)
   answer_told error (Ok (Plan image)) kind answer = absurd answer
   answer_told error (Ok (Word image index)) kind answer = absurd answer
+  answer_told error (Ok (Replay run)) kind answer = absurd answer
+  answer_told error (Ok (Race run)) kind answer = absurd answer
   answer_told error (Ok (Compact image dump n)) kind answer = absurd answer
   answer_told error (Ok (Help text)) kind answer = help_asked (among_kinds _ error DisplayHelp kind answer (λ e. cc))
   answer_told error (Ok Version) kind answer = version_asked (among_kinds _ error DisplayVersion kind answer (λ e. cc))

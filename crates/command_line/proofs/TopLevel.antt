@@ -4,7 +4,7 @@ use Rattle.std.specs.Prelude.{find}
 use Rattle.std.proofs.lemmas.List.Elements.{All-head}
 use Rattle.std.proofs.lemmas.Option.{same_Some}
 use Rattle.std.proofs.lemmas.Slice.Eq.{bytes_eq-Decides}
-use Rattle.clap.specs.Words.{App, IsAmong, Kinds, Rule, Shape, Text, fault_of, is_simple_and_free, new_app, subcommand_of}
+use Rattle.clap.specs.Words.{IsAmong, Kinds, Rule, Shape, Text, fault_of, is_simple_and_free, subcommand_of}
 use Rattle.clap.specs.Kinds.{or_else}
 use Rattle.clap.specs.Simple.{built, entered, filled, label_of, names_of, version_rule}
 use Rattle.clap.specs.Walk.{Names, Walk, answers_to, arg_by_long, finished, idle, nothing_held, rows_after, settled, subcommand_met, walk_from, walked}
@@ -16,18 +16,14 @@ use Rattle.clap.proofs.OnLiterals.{clap_on_literals}
 use Rattle.clap.proofs.WalkLemmas.{walk_stopped}
 use Rattle.command_line.specs.Asked.{is_help, is_version}
 use Rattle.command_line.specs.Given.{is_flag}
-use Rattle.command_line.specs.Forms.{Form, all_forms, audit_form, compact_form, plan_form, race_form, replay_form, standing, word_form}
-use Rattle.command_line.specs.Parser.{asked_of_all, program}
+use Rattle.command_line.specs.Forms.{Form, compact_form, plan_form, race_form, replay_form, standing, word_form}
+use Rattle.command_line.specs.Parser.{program}
 use Rattle.std.proofs.lemmas.Bool.{eqb-true}
 use Rattle.command_line.proofs.Lexed.{IsBundle, IsLong, flag_read}
 use Rattle.command_line.proofs.KindLists.{NoAnswer, no_answer_among, or_else_nil}
 use Rattle.command_line.proofs.Levels.{level, shape}
 use Rattle.command_line.proofs.LevelSteps.{built_help, plain_turn, unnamed_turn}
 use Rattle.command_line.proofs.FormLevel.{IsReadable}
-
--- the program without a command
-abbrev pub empty_app : App
-empty_app = record (new_app (codes "compressor")) { top = record (asked_of_all (new_app (codes "compressor")).top) { is_leaf = true } }
 
 -- the level above the commands
 abbrev top : Shape
@@ -131,9 +127,6 @@ race_readable = record { distinct = refl; apart = refl; names = refl; few = omeg
 compact_readable : IsReadable compact_form
 compact_readable = record { distinct = refl; apart = refl; names = refl; few = omega arith }
 
-audit_readable : IsReadable audit_form
-audit_readable = record { distinct = refl; apart = refl; names = refl; few = omega arith }
-
 -- ---- the program as it stands
 
 pub standing_plan : IsCommand standing plan_form
@@ -141,6 +134,12 @@ standing_plan = record { is_one = refl; is_met = refl; is_entered = refl; is_not
 
 pub standing_word : IsCommand standing word_form
 standing_word = record { is_one = refl; is_met = refl; is_entered = refl; is_not_help = refl; is_readable = word_readable }
+
+pub standing_replay : IsCommand standing replay_form
+standing_replay = record { is_one = refl; is_met = refl; is_entered = refl; is_not_help = refl; is_readable = replay_readable }
+
+pub standing_race : IsCommand standing race_form
+standing_race = record { is_one = refl; is_met = refl; is_entered = refl; is_not_help = refl; is_readable = race_readable }
 
 pub standing_compact : IsCommand standing compact_form
 standing_compact = record { is_one = refl; is_met = refl; is_entered = refl; is_not_help = refl; is_readable = compact_readable }
@@ -161,54 +160,11 @@ standing_none = refused [] MissingSubcommand [] refl
 pub standing_program : IsProgram standing
 standing_program = record {
   is_free = refl;
-  are_commands = (standing_plan, (standing_word, (standing_compact, tt)));
+  are_commands = (standing_plan, (standing_word, (standing_replay, (standing_race, (standing_compact, tt)))));
   named = refl;
   help_first = standing_help;
   end_first = standing_end;
   none_first = standing_none;
-}
-
--- ---- the program with all commands
-
-pub all_plan : IsCommand all_forms plan_form
-all_plan = record { is_one = refl; is_met = refl; is_entered = refl; is_not_help = refl; is_readable = plan_readable }
-
-pub all_word : IsCommand all_forms word_form
-all_word = record { is_one = refl; is_met = refl; is_entered = refl; is_not_help = refl; is_readable = word_readable }
-
-pub all_replay : IsCommand all_forms replay_form
-all_replay = record { is_one = refl; is_met = refl; is_entered = refl; is_not_help = refl; is_readable = replay_readable }
-
-pub all_race : IsCommand all_forms race_form
-all_race = record { is_one = refl; is_met = refl; is_entered = refl; is_not_help = refl; is_readable = race_readable }
-
-pub all_compact : IsCommand all_forms compact_form
-all_compact = record { is_one = refl; is_met = refl; is_entered = refl; is_not_help = refl; is_readable = compact_readable }
-
-pub all_audit : IsCommand all_forms audit_form
-all_audit = record { is_one = refl; is_met = refl; is_entered = refl; is_not_help = refl; is_readable = audit_readable }
-
-all_help : (rest : List Text) → AreRefused (codes "help" ∷ rest) (fault_of (program all_forms) (codes "help" ∷ rest))
-unfolding clap_on_literals
-all_help rest = told_help (codes "help") rest (InvalidSubcommand ∷ []) refl refl
-
-all_end : (rest : List Text) → AreRefused (codes "--" ∷ rest) (fault_of (program all_forms) (codes "--" ∷ rest))
-unfolding clap_on_literals
-all_end [] = refused (codes "--" ∷ []) MissingSubcommand [] refl
-all_end (word ∷ rest) = refused (codes "--" ∷ word ∷ rest) UnknownArgument (InvalidSubcommand ∷ []) refl
-
-all_none : AreRefused [] (fault_of (program all_forms) [])
-unfolding clap_on_literals
-all_none = refused [] MissingSubcommand [] refl
-
-pub all_program : IsProgram all_forms
-all_program = record {
-  is_free = refl;
-  are_commands = (all_plan, (all_word, (all_replay, (all_race, (all_compact, (all_audit, tt))))));
-  named = refl;
-  help_first = all_help;
-  end_first = all_end;
-  none_first = all_none;
 }
 
 -- ---- forms that are commands

@@ -6,8 +6,9 @@ use Rattle.clap.specs.declared.error.kind.ErrorKind.{ErrorKind}
 use Rattle.clap.specs.declared.error.kind.ErrorKind.TheVariants.{DisplayHelp, DisplayVersion}
 use Rattle.command_line.specs.Forms.{Parameter, compact_form, workers}
 use Rattle.command_line.specs.Given.{IsChosen, IsCommandWith, IsNumber, is_flag, text_given}
+use Rattle.command_line.specs.Runs.{AsksRun, IsLawfulRun, Run, run_of}
 use Rattle.command_line.specs.declared.words.Task.{Task}
-use Rattle.command_line.specs.declared.words.Task.TheVariants.{Plan, Word, Compact, Help, Version}
+use Rattle.command_line.specs.declared.words.Task.TheVariants.{Plan, Word, Replay, Race, Compact, Help, Version}
 
 -- what a command is given: behind a first `--` each word, before it each that is no flag; None where there is a flag before it
 abbrev pub given : List (List ℕ) → Option (List (List ℕ))
@@ -28,6 +29,14 @@ AsksPlan words path = AreCommand (codes "plan") (path ∷ []) words
 abbrev pub AsksWord : List (List ℕ) → List ℕ → ℕ → Type 0
 AsksWord words path index = (digits : List ℕ) × IsNumber digits index × AreCommand (codes "word") (path ∷ digits ∷ []) words
 
+-- the words are `replay [--mutators N] [--fresh N] IMAGE TRACE DUMP`, with this run
+abbrev pub AsksReplay : List (List ℕ) → Run → Type 0
+AsksReplay words run = AsksRun (codes "replay") words run
+
+-- the words are `race`, the same words behind it, with this run
+abbrev pub AsksRace : List (List ℕ) → Run → Type 0
+AsksRace words run = AsksRun (codes "race") words run
+
 -- the words are `compact [--workers N] IMAGE DUMP`, with these paths of an image and of the dump, and this number of workers
 abbrev pub AsksCompact : List (List ℕ) → List ℕ → List ℕ → ℕ → Type 0
 AsksCompact words image dump n = (texts : List (Parameter × List ℕ)) × IsCommandWith compact_form words texts
@@ -37,6 +46,8 @@ AsksCompact words image dump n = (texts : List (Parameter × List ℕ)) × IsCom
 pub record AsksNoCommand (words : List (List ℕ)) : Type 0 where
   pub no_plan : (path : List ℕ) → ¬ (AsksPlan words path)
   pub no_word : (path : List ℕ) (index : ℕ) → ¬ (AsksWord words path index)
+  pub no_replay : (run : Run) → ¬ (AsksReplay words run)
+  pub no_race : (run : Run) → ¬ (AsksRace words run)
   pub no_compact : (image dump : List ℕ) (n : ℕ) → ¬ (AsksCompact words image dump n)
 
 -- `help`, `--help`, or a flag that begins with `-h`
@@ -59,14 +70,18 @@ AsksVersion words = AsksNoCommand words × ((word : List ℕ) × (rest : List (L
 abbrev pub Asks : List (List ℕ) → Task → Type 0
 Asks words (Plan image) = AsksPlan words image.now
 Asks words (Word image index) = AsksWord words image.now index
+Asks words (Replay run) = AsksReplay words (run_of run)
+Asks words (Race run) = AsksRace words (run_of run)
 Asks words (Compact image dump n) = AsksCompact words image.now dump.now n
 Asks words (Help text) = AsksHelp words
 Asks words Version = AsksVersion words
 
--- the counts of the task are ones that a command takes: 1 to 64 workers
+-- the counts of the task are ones that a command takes: 1 to 64 mutators or workers, at most 4096 fresh pages
 abbrev pub HasLawfulCounts : Task → Type 0
 HasLawfulCounts (Plan image) = Unit {0}
 HasLawfulCounts (Word image index) = Unit {0}
+HasLawfulCounts (Replay run) = IsLawfulRun (run_of run)
+HasLawfulCounts (Race run) = IsLawfulRun (run_of run)
 HasLawfulCounts (Compact image dump n) = (1 ≤ n) × (n ≤ 64)
 HasLawfulCounts (Help text) = Unit {0}
 HasLawfulCounts Version = Unit {0}
@@ -75,6 +90,8 @@ HasLawfulCounts Version = Unit {0}
 abbrev pub IsAnswerOf : ErrorKind → Task → Type 0
 IsAnswerOf kind (Plan image) = ⊥
 IsAnswerOf kind (Word image index) = ⊥
+IsAnswerOf kind (Replay run) = ⊥
+IsAnswerOf kind (Race run) = ⊥
 IsAnswerOf kind (Compact image dump n) = ⊥
 IsAnswerOf kind (Help text) = kind ≡ DisplayHelp
 IsAnswerOf kind Version = kind ≡ DisplayVersion

@@ -56,26 +56,22 @@ workers = option (codes "workers") 1 64 2
 abbrev pub run_paths : List Parameter
 run_paths = text (codes "IMAGE") ∷ text (codes "TRACE") ∷ text (codes "DUMP") ∷ []
 
+-- a command of this name, `NAME [--mutators N] [--fresh N] IMAGE TRACE DUMP`
+abbrev pub run_form : List ℕ → Form
+run_form name = record { name = name; options = mutators ∷ fresh ∷ []; arguments = run_paths }
+
 -- `replay [--mutators N] [--fresh N] IMAGE TRACE DUMP`
 abbrev pub replay_form : Form
-replay_form = record { name = codes "replay"; options = mutators ∷ fresh ∷ []; arguments = run_paths }
+replay_form = run_form (codes "replay")
 
 -- `race`, the same words
 abbrev pub race_form : Form
-race_form = record { name = codes "race"; options = mutators ∷ fresh ∷ []; arguments = run_paths }
+race_form = run_form (codes "race")
 
 -- `compact [--workers N] IMAGE DUMP`
 abbrev pub compact_form : Form
 compact_form = record { name = codes "compact"; options = workers ∷ []; arguments = text (codes "IMAGE") ∷ text (codes "DUMP") ∷ [] }
 
--- `audit IMAGE DUMP`
-abbrev pub audit_form : Form
-audit_form = record { name = codes "audit"; options = []; arguments = text (codes "IMAGE") ∷ text (codes "DUMP") ∷ [] }
-
 -- the commands that the program has
 abbrev pub standing : List Form
-standing = plan_form ∷ word_form ∷ compact_form ∷ []
-
--- and with those that it does not have yet
-abbrev pub all_forms : List Form
-all_forms = plan_form ∷ word_form ∷ replay_form ∷ race_form ∷ compact_form ∷ audit_form ∷ []
+standing = plan_form ∷ word_form ∷ replay_form ∷ race_form ∷ compact_form ∷ []

@@ -1,4 +1,6 @@
 pub mod Forms
 pub mod Given
+pub mod Runs
 pub mod Asked
 pub mod Parser
+pub mod Finds

@@ -24,6 +24,10 @@ command form = record (new_app form.name) { top = record (new_app form.name).top
 abbrev pub asked_of_all : Shape → Shape
 asked_of_all top = record top { has_version = true; no_binary_name = true; subcommand_required = true; is_leaf = false }
 
+-- the program before it has a command
+abbrev pub bare_program : App
+bare_program = record (new_app (codes "compressor")) { top = record (asked_of_all (new_app (codes "compressor")).top) { is_leaf = true } }
+
 -- the program, with these commands
 abbrev pub program : List Form → App
 program forms = record { top = asked_of_all (new_app (codes "compressor")).top; subs = map (λ form. (command form).top) forms }

@@ -1,5 +1,5 @@
 //! Which words ask what.
-use crate::words::{Task, VERSION_LINE, read_task};
+use crate::words::{Task, TraceRun, VERSION_LINE, read_task};
 use std::alloc::Global;
 use std::test::Fail;
 
@@ -12,6 +12,8 @@ fn asked(alloc: Global, line: &str) -> Result<String, Fail> {
     Ok(match read_task(alloc, words.as_slice()) {
         Ok(Task::Plan { image }) => format!(in alloc; "the plan of {image}")?,
         Ok(Task::Word { image, index }) => format!(in alloc; "word {index} of {image}")?,
+        Ok(Task::Replay(run)) => format!(in alloc; "replay {}", told(alloc, &run)?)?,
+        Ok(Task::Race(run)) => format!(in alloc; "race {}", told(alloc, &run)?)?,
         Ok(
             Task::Compact {
                 image,
@@ -25,6 +27,14 @@ fn asked(alloc: Global, line: &str) -> Result<String, Fail> {
     })
 }
 
+// What a run of a trace is asked with, as text.
+fn told(alloc: Global, run: &TraceRun) -> Result<String, Fail> {
+    Ok(format!(in alloc;
+        "{} of {} by {} with {} into {}",
+        run.trace, run.image, run.mutators, run.fresh, run.dump
+    )?)
+}
+
 #[test]
 fn reads_what_the_words_ask(rt: HostRuntime) -> Result<(), Fail> {
     for (line, text) in [
@@ -35,6 +45,30 @@ fn reads_what_the_words_ask(rt: HostRuntime) -> Result<(), Fail> {
         (
             "word -- -x.img 18446744073709551615",
             "word 18446744073709551615 of -x.img",
+        ),
+        (
+            "replay three.img t19 out",
+            "replay t19 of three.img by 2 with 64 into out",
+        ),
+        (
+            "replay a t --fresh=4096 d --mutators 64",
+            "replay t of a by 64 with 4096 into d",
+        ),
+        (
+            "replay -- --fresh 0 1",
+            "replay 0 of --fresh by 2 with 64 into 1",
+        ),
+        (
+            "race --mutators 1 --fresh 2 three.img t18 out",
+            "race t18 of three.img by 1 with 2 into out",
+        ),
+        (
+            "race --fresh 0 three.img t18 out",
+            "race t18 of three.img by 2 with 0 into out",
+        ),
+        (
+            "race a --mutators=7 -- -t -d",
+            "race -t of a by 7 with 64 into -d",
         ),
         ("compact a.img out.dump", "compact a.img by 2 into out.dump"),
         ("compact --workers 64 a b", "compact a by 64 into b"),
@@ -59,6 +93,9 @@ fn answers_help_where_it_is_asked(rt: HostRuntime) -> Result<(), Fail> {
         "word --help",
         "word three.img -h",
         "help compact",
+        "help replay",
+        "race --help",
+        "race --fresh 2 a -h",
         "compact --help",
         "compact --workers 2 a -h",
     ] {
@@ -102,6 +139,19 @@ fn refuses_words_that_are_no_command(rt: HostRuntime) -> Result<(), Fail> {
         "word three.img -- -2",
         "word three.img 18446744073709551616",
         "word three.img 1 2",
+        "replay",
+        "replay a t",
+        "replay a t d e",
+        "replay --workers 2 a t d",
+        "replay --mutators 0 a t d",
+        "replay --mutators 65 a t d",
+        "replay --mutators 1 --mutators 1 a t d",
+        "race a t",
+        "race --fresh 4097 a t d",
+        "race --fresh -1 a t d",
+        "race --fresh 2 a t d --fresh=2",
+        "race --mutators a t d",
+        "race --seed 1 a t d",
         "compact",
         "compact a",
         "compact a b c",

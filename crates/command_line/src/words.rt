@@ -4,9 +4,11 @@ ghost use Rattle.std.specs.String.{string_bytes};
 ghost use Rattle.clap.specs.Words.{app_of, fault_of, first_value, found_of, kind_of, one_text, rule_of, subcommand_of, subcommand_rows_of};
 ghost use Rattle.clap.specs.declared.error.kind.ErrorKind.TheVariants.{DisplayHelp, DisplayVersion, OutOfMemory};
 ghost use Rattle.command_line.specs.Asked.{Asks, AsksNoCommand, HasLawfulCounts, IsAnswerOf};
-ghost use Rattle.command_line.specs.Forms.{compact_form, number_within, plan_form, standing, text, word_form, workers};
+ghost use Rattle.command_line.specs.Forms.{compact_form, fresh, mutators, number_within, plan_form, race_form, replay_form, run_form, standing, text, word_form, workers};
 ghost use Rattle.command_line.specs.Given.{IsNumber, IsNumberOr};
-ghost use Rattle.command_line.specs.Parser.{command as command_of, option_rule, optional_rule, program, rule};
+ghost use Rattle.command_line.specs.Finds.{HasRun, IsRunFound};
+ghost use Rattle.command_line.specs.Parser.{bare_program, command as command_of, option_rule, optional_rule, program, rule};
+ghost use Rattle.command_line.specs.Runs.{IsLawfulRun, run_of};
 
 use clap::builder::ValueParser;
 use clap::error::ErrorKind;
@@ -25,6 +27,10 @@ pub enum Task<'a> {
         image: &'a str,
         index: u64,
     },
+    /// The lines of a trace, run in their order by one thread.
+    Replay(TraceRun<'a>),
+    /// The lines of each mutator of a trace, run in a thread of its own.
+    Race(TraceRun<'a>),
     /// The heap in an image is compacted by 1 to 64 workers, and its dump written to a path.
     Compact {
         image: &'a str,
@@ -39,13 +45,34 @@ pub enum Task<'a> {
     Version,
 }
 
+/// What a run of a trace is asked with.
+#[derive(Debug, Drop)]
+pub struct TraceRun<'a> {
+    /// The path of the heap's image.
+    pub image: &'a str,
+    /// The path of the trace.
+    pub trace: &'a str,
+    /// The path that the dump is written to.
+    pub dump: &'a str,
+    /// How many mutators there are, 1 to 64.
+    pub mutators: u8,
+    /// How many fresh pages there are, 4,096 at most.
+    pub fresh: u32,
+}
+
 /// The program's name and version, as a line.
 pub const VERSION_LINE: &str = "compressor 0.1.0\n";
 
 // The version, as clap is told of it.
 const VERSION: &str = "0.1.0";
 
-// The workers of a command that is told of none.
+// The mutators of a command that is told of none.
+const DEFAULT_MUTATORS: u64 = 2;
+
+// Its fresh pages.
+const DEFAULT_FRESH: u64 = 64;
+
+// And its workers.
 const DEFAULT_WORKERS: u64 = 2;
 
 /// Reads the words after the program's name: the task is the one that they ask. An error comes where they ask none, or for want of memory.
@@ -77,12 +104,29 @@ fn task_of<'a>(words: &'a [String], matches: &ArgMatches<'a>) -> Task<'a>
             image: text_of(found, "IMAGE"),
             index: number_of(found, "INDEX"),
         },
+        Some(("replay", found)) => Task::Replay(trace_run(found)),
+        Some(("race", found)) => Task::Race(trace_run(found)),
         Some(("compact", found)) => Task::Compact {
             image: text_of(found, "IMAGE"),
             dump: text_of(found, "DUMP"),
             workers: count_of(found, "workers", DEFAULT_WORKERS) as u8,
         },
         _ => unreachable!(),
+    }
+}
+
+// The run of a trace that was found.
+fn trace_run<'a>(found: &ArgMatches<'a>) -> TraceRun<'a>
+    requires { HasRun (found_of found.now) }
+    ensures run { IsRunFound (found_of found.now) (run_of result) }
+    ensures counts { IsLawfulRun (run_of result) }
+{
+    TraceRun {
+        image: text_of(found, "IMAGE"),
+        trace: text_of(found, "TRACE"),
+        dump: text_of(found, "DUMP"),
+        mutators: count_of(found, "mutators", DEFAULT_MUTATORS) as u8,
+        fresh: count_of(found, "fresh", DEFAULT_FRESH) as u32,
     }
 }
 
@@ -114,7 +158,7 @@ fn count_of(found: &ArgMatches, id: &str, default: u64) -> u64
     ensures { IsNumberOr default (one_text (found_of found.now) id.now) result }
 {
     match found.get_one::<u64>(id) {
-        Some(number) => number,
+        Some(count) => count,
         None => default,
     }
 }
@@ -138,15 +182,25 @@ fn answer_task<'a>(alloc: Global, error: Error) -> Result<Task<'a>, Error>
 fn command<'a>(alloc: Global) -> Result<Command<'a>, AllocError>
     ensures { IfOk result (λ made. app_of made ≡ program standing) }
 {
-    Command::new(alloc, "compressor")
-        .bin_name("compressor")?
-        .about("Compacts marked heaps by sliding, page by page")
-        .version(VERSION)
-        .no_binary_name(true)
-        .subcommand_required(true)
+    bare_command(alloc)?
         .subcommand(plan_command(alloc)?)?
         .subcommand(word_command(alloc)?)?
+        .subcommand(replay_command(alloc)?)?
+        .subcommand(race_command(alloc)?)?
         .subcommand(compact_command(alloc)?)
+}
+
+fn bare_command<'a>(alloc: Global) -> Result<Command<'a>, AllocError>
+    ensures { IfOk result (λ made. app_of made ≡ bare_program) }
+{
+    Ok(
+        Command::new(alloc, "compressor")
+            .bin_name("compressor")?
+            .about("Compacts marked heaps by sliding, page by page")
+            .version(VERSION)
+            .no_binary_name(true)
+            .subcommand_required(true),
+    )
 }
 
 fn plan_command<'a>(alloc: Global) -> Result<Command<'a>, AllocError>
@@ -171,6 +225,38 @@ fn word_command<'a>(alloc: Global) -> Result<Command<'a>, AllocError>
         )
 }
 
+fn replay_command<'a>(alloc: Global) -> Result<Command<'a>, AllocError>
+    ensures { IfOk result (λ made. app_of made ≡ command_of replay_form) }
+{
+    run_command(
+        alloc,
+        "replay",
+        "Runs a trace by one thread, in the order of its lines, and writes the dump",
+    )
+}
+
+fn race_command<'a>(alloc: Global) -> Result<Command<'a>, AllocError>
+    ensures { IfOk result (λ made. app_of made ≡ command_of race_form) }
+{
+    run_command(
+        alloc,
+        "race",
+        "Runs a trace with a thread for each mutator, and writes the dump",
+    )
+}
+
+fn run_command<'a>(alloc: Global, name: &'a str, about: &'a str) -> Result<Command<'a>, AllocError>
+    ensures { IfOk result (λ made. app_of made ≡ command_of (run_form name.entry.now)) }
+{
+    Command::new(alloc, name)
+        .about(about)
+        .arg(mutators_option(alloc))?
+        .arg(fresh_option(alloc))?
+        .arg(image_argument(alloc))?
+        .arg(trace_argument(alloc))?
+        .arg(dump_argument(alloc))
+}
+
 fn compact_command<'a>(alloc: Global) -> Result<Command<'a>, AllocError>
     ensures { IfOk result (λ made. app_of made ≡ command_of compact_form) }
 {
@@ -179,6 +265,32 @@ fn compact_command<'a>(alloc: Global) -> Result<Command<'a>, AllocError>
         .arg(workers_option(alloc))?
         .arg(image_argument(alloc))?
         .arg(dump_argument(alloc))
+}
+
+fn mutators_option<'a>(alloc: Global) -> Arg<'a>
+    ensures rule { rule_of result ≡ option_rule mutators }
+    ensures local { result.global ≡ false }
+{
+    number_option(
+        alloc,
+        "mutators",
+        1,
+        64,
+        "How many mutators there are, 1 to 64 (2 by default)",
+    )
+}
+
+fn fresh_option<'a>(alloc: Global) -> Arg<'a>
+    ensures rule { rule_of result ≡ option_rule fresh }
+    ensures local { result.global ≡ false }
+{
+    number_option(
+        alloc,
+        "fresh",
+        0,
+        4096,
+        "How many fresh pages there are, 0 to 4096 (64 by default)",
+    )
 }
 
 fn workers_option<'a>(alloc: Global) -> Arg<'a>
@@ -210,6 +322,13 @@ fn image_argument<'a>(alloc: Global) -> Arg<'a>
     ensures local { result.global ≡ false }
 {
     path_argument(alloc, "IMAGE", "The heap's image")
+}
+
+fn trace_argument<'a>(alloc: Global) -> Arg<'a>
+    ensures rule { rule_of result ≡ rule (text (codes "TRACE")) }
+    ensures local { result.global ≡ false }
+{
+    path_argument(alloc, "TRACE", "The trace")
 }
 
 fn dump_argument<'a>(alloc: Global) -> Arg<'a>

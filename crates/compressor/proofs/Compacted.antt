@@ -1,23 +1,24 @@
 -- The dump of a swept heap, and what was written and printed of it.
 use Rattle.std.proofs.Common.{◌≡◌, ℕ, List, Option, Result, Ok, Err, IfErr, OnErr, map, codes, refl, sym, subst, ◌∙◌}
-use Rattle.std.proofs.KnownBytes.{Keeps-refl}
 use Rattle.std.specs.Io.KnownBytes.{Appends}
 use Rattle.heap_layout.specs.Heap.{Heap, live}
 use Rattle.page_plan.specs.Sliding.{forwarded, live_words}
 use Rattle.comp_mutator.specs.Finishes.{builds_in, live_of, pages_of, roots_of}
 use Rattle.comp_mutator.specs.declared.finishing.Finished.{Finished}
-use Rattle.comp_audit.specs.Dumped.{BuiltPage, Dumped}
+use Rattle.comp_audit.specs.Dumped.{Dumped}
 use Rattle.comp_audit.specs.DumpEncoding.{dump_bytes}
 use Rattle.comp_audit.specs.Lent.{record_of}
 use Rattle.comp_audit.specs.declared.fault.DumpFault.TheVariants.{Truncated, TrailingBytes, BadMagic, BadField, Device}
 use Rattle.comp_audit.specs.declared.fault.DumpFault.TheVariants as faults
 use Rattle.compressor.specs.Compact.{slid_records, swept_dump, BeginsDump, Compacts, DumpsHeap, IsSweptHeap, RefusesCompact, RefusesSweep, WasSwept}
-use Rattle.compressor.specs.Dumps.{IsOfDumping, RefusedUncreated, WritesBeginning, WritesWhole}
+use Rattle.compressor.specs.Dumps.{IsOfDumping, WritesBeginning, WritesWhole}
 use Rattle.compressor.specs.Images.{IsImageOf, RefusesAt, SomeGiven}
-use Rattle.compressor.specs.Printing.{named, CountsPrint, RefusedUnprinted}
+use Rattle.compressor.specs.Printing.{named, CountsPrint}
 use Rattle.compressor.specs.declared.refusal.Input.TheVariants.{Image}
+use Rattle.compressor.specs.declared.refusal.Input.TheVariants as inputs
 use Rattle.compressor.specs.declared.refusal.Refusal.{Refusal}
-use Rattle.compressor.specs.declared.refusal.Refusal.TheVariants.{Layout, Mutator, Sweep, Dump, CannotOpen, CannotCreate, CannotPrint, NoSuchWord, OutOfMemory}
+use Rattle.compressor.specs.declared.refusal.Refusal.TheVariants.{Layout, Mutator, Sweep, Trace, Dump, CannotOpen, CannotCreate, ReadFailed, CannotPrint, NoSuchWord, OutOfMemory}
+use Rattle.compressor.proofs.Outcomes.{same_parts, uncounted_by}
 
 -- what holds of the heap of an image
 pub of_image : (P Q : Heap → Type 0) (known : Option (List ℕ)) → ((heap : Heap) → P heap → Q heap) → IsImageOf P known → IsImageOf Q known
@@ -31,12 +32,6 @@ pub record IsDumpOf (workers : ℕ) (f : Finished) (dump : Dumped) : Type 0 wher
   pub pages : dump.pages ≡ map record_of (pages_of f)
   pub builds : dump.builds ≡ builds_in f
   pub total : dump.total ≡ live_of f
-
-same_parts : (m m' n n' t t' : ℕ) (r r' : List ℕ) (p p' : List (Option BuiltPage)) (b b' : List (List ℕ))
-    → m ≡ m' → n ≡ n' → r ≡ r' → p ≡ p' → b ≡ b' → t ≡ t'
-    → (let one : Dumped = record { mutators = m; fresh = n; roots = r; pages = p; builds = b; total = t } in
-    let other : Dumped = record { mutators = m'; fresh = n'; roots = r'; pages = p'; builds = b'; total = t' } in one ≡ other)
-same_parts m m' n n' t t' r r' p p' b b' em en er ep eb et = cc
 
 module _ (workers : ℕ) (f : Finished) (dump : Dumped) (parts : IsDumpOf workers f dump) (heap : Heap) (h : IsSweptHeap workers f heap) where
   same_dump : dump ≡ swept_dump workers heap (builds_in f)
@@ -64,9 +59,12 @@ module _ {R W : Type 0} (absent closed : Type 0) (given : R → Type 0) (remaini
   of_sweep (Layout fault) h = h
   of_sweep (Mutator refused) h = h
   of_sweep (Sweep fault) h = h
+  of_sweep (Trace fault) h = absurd h.2
   of_sweep (Dump fault) h = absurd h.2
   of_sweep (CannotOpen Image) h = h
+  of_sweep (CannotOpen inputs.Trace) h = absurd h.2
   of_sweep (CannotCreate output) h = absurd h.2
+  of_sweep (ReadFailed input) h = absurd h.2
   of_sweep CannotPrint h = absurd h.2
   of_sweep (NoSuchWord index) h = absurd h.2
   of_sweep OutOfMemory h = tt
@@ -77,6 +75,7 @@ module _ {R W : Type 0} (absent closed : Type 0) (given : R → Type 0) (remaini
     of_dumping (Layout fault) h = absurd h
     of_dumping (Mutator refused) h = absurd h
     of_dumping (Sweep fault) h = absurd h
+    of_dumping (Trace fault) h = absurd h
     of_dumping (Dump Truncated) h = absurd h
     of_dumping (Dump TrailingBytes) h = absurd h
     of_dumping (Dump BadMagic) h = absurd h
@@ -85,6 +84,7 @@ module _ {R W : Type 0} (absent closed : Type 0) (given : R → Type 0) (remaini
     of_dumping (Dump Device) h = (swept.0, swept.1, of_image (IsSweptHeap workers f) (BeginsDump gives contents workers) (remaining swept.0) (λ heap s. begins workers f dump parts heap s gives contents h) swept.2)
     of_dumping (CannotOpen input) h = absurd h
     of_dumping (CannotCreate output) h = (swept.0, swept.1, (h, of_image (IsSweptHeap workers f) (WasSwept workers) (remaining swept.0) (λ heap s. (f, s)) swept.2))
+    of_dumping (ReadFailed input) h = absurd h
     of_dumping CannotPrint h = absurd h
     of_dumping (NoSuchWord index) h = absurd h
     of_dumping OutOfMemory h = tt
@@ -112,66 +112,4 @@ module _ {R W : Type 0} (absent closed : Type 0) (given : R → Type 0) (remaini
 
 -- a refusal to sweep is none of the output
 pub uncounted : {R : Type 0} (absent : Type 0) (given : R → Type 0) (remaining : R → Option (List ℕ)) (n : ℕ) (refusal : Refusal) → RefusesAt absent given remaining RefusesSweep refusal → CountsPrint {T = Unit {0}} n n (Err refusal)
-uncounted absent given remaining n (Layout fault) h = refl
-uncounted absent given remaining n (Mutator refused) h = refl
-uncounted absent given remaining n (Sweep fault) h = refl
-uncounted absent given remaining n (Dump fault) h = refl
-uncounted absent given remaining n (CannotOpen input) h = refl
-uncounted absent given remaining n (CannotCreate output) h = refl
-uncounted absent given remaining n CannotPrint h = absurd h.2
-uncounted absent given remaining n (NoSuchWord index) h = refl
-uncounted absent given remaining n OutOfMemory h = refl
-
--- nor is one of the dump
-pub uncounted_dump : {W : Type 0} (closed : Type 0) (gives : W → Type 0) (contents : W → Option (List ℕ)) (bytes : List ℕ) (n : ℕ) (refusal : Refusal) → IsOfDumping closed gives contents bytes refusal → CountsPrint {T = Unit {0}} n n (Err refusal)
-uncounted_dump closed gives contents bytes n (Layout fault) h = refl
-uncounted_dump closed gives contents bytes n (Mutator refused) h = refl
-uncounted_dump closed gives contents bytes n (Sweep fault) h = refl
-uncounted_dump closed gives contents bytes n (Dump fault) h = refl
-uncounted_dump closed gives contents bytes n (CannotOpen input) h = refl
-uncounted_dump closed gives contents bytes n (CannotCreate output) h = refl
-uncounted_dump closed gives contents bytes n CannotPrint h = absurd h
-uncounted_dump closed gives contents bytes n (NoSuchWord index) h = refl
-uncounted_dump closed gives contents bytes n OutOfMemory h = refl
-
--- what was not printed leaves the output as it was
-pub unprinted : (before : Option (List ℕ)) (refusal : Refusal) → RefusedUnprinted {T = Unit {0}} before before (Err refusal)
-unprinted before (Layout fault) = Keeps-refl before
-unprinted before (Mutator refused) = Keeps-refl before
-unprinted before (Sweep fault) = Keeps-refl before
-unprinted before (Dump fault) = Keeps-refl before
-unprinted before (CannotOpen input) = Keeps-refl before
-unprinted before (CannotCreate output) = Keeps-refl before
-unprinted before CannotPrint = tt
-unprinted before (NoSuchWord index) = Keeps-refl before
-unprinted before OutOfMemory = Keeps-refl before
-
--- what was refused before the dump created none
-pub uncreated : {D : Type 0} (dumps : D) (refusal : Refusal) → RefusedUncreated {T = Unit {0}} dumps dumps (Err refusal)
-uncreated dumps (Layout fault) = refl
-uncreated dumps (Mutator refused) = refl
-uncreated dumps (Sweep fault) = refl
-uncreated dumps (Dump fault) = tt
-uncreated dumps (CannotOpen input) = refl
-uncreated dumps (CannotCreate output) = tt
-uncreated dumps CannotPrint = tt
-uncreated dumps (NoSuchWord index) = refl
-uncreated dumps OutOfMemory = tt
-
--- a refusal of the dump is one that may leave one
-pub created : {W D : Type 0} (closed : Type 0) (gives : W → Type 0) (contents : W → Option (List ℕ)) (bytes : List ℕ) (before after : D) (refusal : Refusal) → IsOfDumping closed gives contents bytes refusal → RefusedUncreated {T = Unit {0}} before after (Err refusal)
-created closed gives contents bytes before after (Layout fault) h = absurd h
-created closed gives contents bytes before after (Mutator refused) h = absurd h
-created closed gives contents bytes before after (Sweep fault) h = absurd h
-created closed gives contents bytes before after (Dump fault) h = tt
-created closed gives contents bytes before after (CannotOpen input) h = absurd h
-created closed gives contents bytes before after (CannotCreate output) h = tt
-created closed gives contents bytes before after CannotPrint h = tt
-created closed gives contents bytes before after (NoSuchWord index) h = absurd h
-created closed gives contents bytes before after OutOfMemory h = tt
-
-pub created_line : {D : Type 0} (before after : D) (result : Result (Unit {0}) Refusal) → OnErr result (result ≡ Err CannotPrint) → RefusedUncreated before after result
-created_line before after (Ok _) h = tt
-created_line before after (Err refusal) h =
-    let is : refusal ≡ CannotPrint = cc in
-    subst (λ (r : Refusal). RefusedUncreated {T = Unit {0}} before after (Err r)) (sym is) tt
+uncounted absent given remaining n refusal h = uncounted_by n n refusal refl (λ e. (subst (RefusesAt absent given remaining RefusesSweep) e h).2)

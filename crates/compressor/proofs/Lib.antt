@@ -4,3 +4,12 @@ pub mod Answered
 pub mod Written
 pub mod Swept
 pub mod Compacted
+pub mod Outcomes
+pub mod Pieces
+pub mod Histories
+pub mod Runnings
+pub mod ReplayRuns
+pub mod Performed
+pub mod Walking
+pub mod Racing
+pub mod RaceRuns

@@ -2,10 +2,10 @@
 use Rattle.std.specs.Prelude.{◌≡◌, ℕ, List, Option, IfSome}
 use Rattle.heap_layout.specs.Heap.{Heap, IsStored}
 use Rattle.heap_layout.specs.Faults.{IsAccepted}
-use Rattle.heap_layout.specs.Encoding.{encoding}
+use Rattle.heap_layout.specs.Encoding.{encoding, Refuses}
 use Rattle.compressor.specs.declared.refusal.Input.TheVariants.{Image}
 use Rattle.compressor.specs.declared.refusal.Refusal.{Refusal}
-use Rattle.compressor.specs.declared.refusal.Refusal.TheVariants.{CannotOpen, OutOfMemory}
+use Rattle.compressor.specs.declared.refusal.Refusal.TheVariants.{CannotOpen, Layout, OutOfMemory}
 
 -- P holds of some accepted heap
 abbrev pub SomeHeap : (Heap → Type 0) → Type 0
@@ -24,3 +24,8 @@ abbrev pub RefusesAt : {R : Type 0} → Type 0 → (R → Type 0) → (R → Opt
 RefusesAt lacks gives remaining P (CannotOpen Image) = lacks
 RefusesAt lacks gives remaining P OutOfMemory = Unit {0}
 RefusesAt lacks gives remaining P refusal = SomeGiven gives remaining (P refusal)
+
+-- the image is refused, as its known bytes tell
+abbrev pub RefusesImage : Refusal → Option (List ℕ) → Type 0
+RefusesImage (Layout fault) known = IfSome known (Refuses fault)
+RefusesImage _ known = ⊥

@@ -4,4 +4,8 @@ pub mod Word
 pub mod Plan
 pub mod Dumps
 pub mod Compact
+pub mod Texts
+pub mod Replays
+pub mod ByLine
+pub mod Races
 pub mod Tasks

@@ -4,9 +4,15 @@ use Rattle.std.specs.Fmt.{decimal}
 use Rattle.std.specs.Io.KnownBytes.{Keeps}
 use Rattle.std.specs.Str.{trim_end}
 use Rattle.heap_layout.specs.Counted.{CountsFailure}
-use Rattle.compressor.specs.declared.refusal.Input.TheVariants.{Image}
+use Rattle.compressor.specs.declared.refusal.Input.{Input}
+use Rattle.compressor.specs.declared.refusal.Input.TheVariants.{Image, Trace}
 use Rattle.compressor.specs.declared.refusal.Refusal.{Refusal}
 use Rattle.compressor.specs.declared.refusal.Refusal.TheVariants.{Layout, CannotOpen, CannotPrint, OutOfMemory}
+
+-- a file that is read, as refusals call it
+abbrev pub input_name : Input → List ℕ
+input_name Image = codes "image"
+input_name Trace = codes "trace"
 
 -- a number as it is printed: its decimal digits and a line feed
 abbrev pub line_of : ℕ → List ℕ

@@ -1,8 +1,12 @@
 //! Where the images lie.
-ghost use Rattle.std.specs.Prelude.{ℕ, List, IfOk, IfErr};
+ghost use Rattle.std.specs.Prelude.{◌≡◌, ℕ, List, IfOk, IfErr};
+ghost use Rattle.compressor.specs.Images.{IsImageOf, RefusesAt, RefusesImage, SomeGiven};
 ghost use Rattle.compressor.specs.Printing.{IsOfOpening};
 
 use crate::refusal::{Input, Refusal};
+use heap_layout::counted::Counted;
+use heap_layout::heap::MarkedHeap;
+use heap_layout::image::read_image;
 use std::alloc::Global;
 use std::fs;
 use std::io::{BufReader, Read};
@@ -42,4 +46,13 @@ impl<R: Files + AllocGlobal> Images for FileImages<'_, R> {
         let file = fs::open(self.rt, path).map_err(|_| Refusal::CannotOpen(Input::Image))?;
         BufReader::new(self.rt.alloc(), file).map_err(|_| Refusal::OutOfMemory)
     }
+}
+
+/// The heap whose image lies at a path.
+pub fn heap_at<I: Images>(alloc: Global, images: &I, path: &str) -> Result<MarkedHeap, Refusal>
+    ensures heap { IfOk result (λ heap. SomeGiven (I.gives images.now path.now) I.Reader.remaining (IsImageOf (λ other. other ≡ heap))) }
+    ensures cause { IfErr result (RefusesAt (I.lacks images.now path.now) (I.gives images.now path.now) I.Reader.remaining RefusesImage) }
+{
+    let mut reader = Counted::new(images.open(path)?);
+    Ok(read_image(alloc, &mut reader)?)
 }

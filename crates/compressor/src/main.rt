@@ -4,15 +4,22 @@
 ghost use Rattle.std.specs.Prelude.{◌≡◌, ◌≤◌, IfOk, IfErr};
 ghost use Rattle.compressor.specs.declared.refusal.Refusal.TheVariants as refusals;
 
+mod by_line;
 mod compact;
 mod dumps;
 mod images;
 mod plan;
 mod print;
+mod race;
+mod races;
 mod refusal;
+mod replay;
+mod replays;
 mod run;
+mod shown;
 #[cfg(test)]
 mod tests;
+mod traces;
 mod word;
 
 use crate::refusal::Refusal;

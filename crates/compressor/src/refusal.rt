@@ -4,6 +4,7 @@ ghost use Rattle.compressor.specs.declared.refusal.Refusal.TheVariants as refusa
 use comp_audit::fault::DumpFault;
 use comp_mutator::refusal as mutators;
 use comp_sweep::refusal::SweepFault;
+use comp_trace::fault::TraceFault;
 use heap_layout::fault::{self, LayoutFault};
 use std::alloc::AllocError;
 use std::fmt;
@@ -13,14 +14,18 @@ use thiserror::Error;
 #[derive(Clone, Copy, Debug, PartialEq, Eq)]
 pub enum Input {
     Image,
+    Trace,
 }
 
 impl fmt::Display for Input {
-    ghost output = { λ _. Some (codes "image") };
+    ghost use Rattle.compressor.specs.Printing.{input_name};
+
+    ghost output = { λ input. Some (input_name input) };
 
     fn fmt<W: fmt::Write>(&self, f: &mut fmt::Formatter<W>) -> fmt::Result {
         f.write_str(match self {
             Input::Image => "image",
+            Input::Trace => "trace",
         })
     }
 }
@@ -53,6 +58,9 @@ pub enum Refusal {
     /// The heap was not swept.
     #[error("{0}")]
     Sweep(SweepFault),
+    /// The text of the trace is refused, or one of its lines.
+    #[error("{0}")]
+    Trace(TraceFault),
     /// The dump was not written whole.
     #[error("{0}")]
     Dump(DumpFault),
@@ -62,6 +70,9 @@ pub enum Refusal {
     /// The file could not be created.
     #[error("P2 CannotCreate({0})")]
     CannotCreate(Output),
+    /// A call of the file's reader answered an error.
+    #[error("P3 ReadFailed({0})")]
+    ReadFailed(Input),
     /// A call of standard output failed: it answered an error, or took nothing of what was to be written.
     #[error("P4 CannotPrint")]
     CannotPrint,
@@ -86,6 +97,14 @@ impl From<mutators::Refusal> for Refusal {
 
     fn from(refused: mutators::Refusal) -> Refusal {
         Refusal::Mutator(refused)
+    }
+}
+
+impl From<TraceFault> for Refusal {
+    ghost from_gives = { λ fault given. given ≡ refusal.Trace fault };
+
+    fn from(fault: TraceFault) -> Refusal {
+        Refusal::Trace(fault)
     }
 }
 

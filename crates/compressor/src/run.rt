@@ -3,7 +3,8 @@ ghost use Rattle.std.specs.String.{string_bytes};
 ghost use Rattle.std.specs.Io.KnownBytes.{Keeps};
 ghost use Rattle.heap_layout.specs.Counted.{inner_of, failures_of, is_flushed_of, writer_of};
 ghost use Rattle.command_line.specs.Asked.{AsksNoCommand, HasLawfulCounts};
-ghost use Rattle.compressor.specs.Printing.{CountsPrint, RefusedUnprinted};
+ghost use Rattle.compressor.specs.Printing.{CountsPrint};
+ghost use Rattle.compressor.specs.Replays.{StopsUnprinted};
 ghost use Rattle.compressor.specs.Tasks.{Answers, AreWrong, DoesTask, HasAnswered, IsRefused, RefusesTask};
 
 use crate::compact::{Compaction, print_compact};
@@ -11,7 +12,10 @@ use crate::dumps::{Dumps, FileDumps};
 use crate::images::{FileImages, Images};
 use crate::plan::print_plan;
 use crate::print::{flush, print_help, print_text};
+use crate::race::print_race;
 use crate::refusal::Refusal;
+use crate::replay::{Running, print_replay};
+use crate::traces::{FileTraces, Traces};
 use crate::word::print_word;
 use clap::error::ErrorKind;
 use command_line::words::{Task, VERSION_LINE, read_task};
@@ -50,6 +54,7 @@ pub fn run<R: Files + AllocGlobal + Threads + Wait + Sync, O: Write, E: Write>(
         rt.alloc(),
         rt,
         &FileImages { rt },
+        &FileTraces { rt },
         &mut FileDumps { rt },
         asked,
         &mut out,
@@ -58,10 +63,11 @@ pub fn run<R: Files + AllocGlobal + Threads + Wait + Sync, O: Write, E: Write>(
 }
 
 /// Does what is asked, and answers the status. A refusal is one line on `err`; a call of `out` that fails is one.
-pub fn respond<R: Threads + Wait + Sync, I: Images, D: Dumps, O: Write, E: Write>(
+pub fn respond<R: Threads + Wait + Sync, I: Images, T: Traces, D: Dumps, O: Write, E: Write>(
     alloc: Global,
     rt: &R,
     images: &I,
+    traces: &T,
     dumps: &mut D,
     asked: Result<Task, clap::Error>,
     out: &mut Counted<&mut O>,
@@ -70,16 +76,16 @@ pub fn respond<R: Threads + Wait + Sync, I: Images, D: Dumps, O: Write, E: Write
     requires written { failures_of out.old < 2 ^ 64 - 1 }
     requires counts { IfOk asked HasLawfulCounts }
     ensures status { result ≤ 2 }
-    ensures done { result ≡ 0 → Answers (I.gives images.now) I.Reader.remaining (D.gives dumps.old) D.Writer.contents (O.contents (inner_of out.old).now) (O.contents (inner_of out.new).now) asked.entry }
+    ensures done { result ≡ 0 → Answers (I.gives images.now) I.Reader.remaining (T.gives traces.now) T.Reader.remaining (D.gives dumps.old) D.Writer.contents (O.contents (inner_of out.old).now) (O.contents (inner_of out.new).now) asked.entry }
     ensures flushed { result ≡ 0 → is_flushed_of out.new ≡ true }
-    ensures refused { result ≡ 1 → IsRefused (I.lacks images.now) (I.gives images.now) I.Reader.remaining (D.lacks dumps.old) (D.gives dumps.old) D.Writer.contents asked.entry }
-    ensures unprinted { result ≡ 1 → failures_of out.new ≡ failures_of out.old → Keeps (O.contents (inner_of out.old).now) (O.contents (inner_of out.new).now) }
+    ensures refused { result ≡ 1 → IsRefused (I.lacks images.now) (I.gives images.now) I.Reader.remaining (T.lacks traces.now) (T.gives traces.now) T.Reader.remaining
+        (D.lacks dumps.old) (D.gives dumps.old) D.Writer.contents (failures_of out.old) (failures_of out.new) (O.contents (inner_of out.old).now) (O.contents (inner_of out.new).now) asked.entry }
     ensures wrong { result ≡ 2 → AreWrong asked.entry }
     ensures misused { result ≡ 2 → Keeps (O.contents (inner_of out.old).now) (O.contents (inner_of out.new).now) }
     ensures same_writer { writer_of out.new ≡ writer_of out.old }
 {
     match asked {
-        Ok(task) => told(perform(alloc, rt, images, dumps, task, out), err),
+        Ok(task) => told(perform(alloc, rt, images, traces, dumps, task, out), err),
         Err(error) if error.kind() == ErrorKind::OutOfMemory => told(
             Err(Refusal::OutOfMemory),
             err,
@@ -92,26 +98,57 @@ pub fn respond<R: Threads + Wait + Sync, I: Images, D: Dumps, O: Write, E: Write
 }
 
 /// Does a task.
-pub fn perform<R: Threads + Wait + Sync, I: Images, D: Dumps, O: Write>(
+pub fn perform<R: Threads + Wait + Sync, I: Images, T: Traces, D: Dumps, O: Write>(
     alloc: Global,
     rt: &R,
     images: &I,
+    traces: &T,
     dumps: &mut D,
     task: Task,
     out: &mut Counted<&mut O>,
 ) -> Result<(), Refusal>
     requires written { failures_of out.old < 2 ^ 64 - 1 }
     requires counts { HasLawfulCounts task }
-    ensures done { OnOk result (DoesTask (I.gives images.now) I.Reader.remaining (D.gives dumps.old) D.Writer.contents (O.contents (inner_of out.old).now) (O.contents (inner_of out.new).now) task.entry) }
-    ensures cause { IfErr result (RefusesTask (I.lacks images.now) (I.gives images.now) I.Reader.remaining (D.lacks dumps.old) (D.gives dumps.old) D.Writer.contents task.entry) }
+    ensures done { OnOk result (DoesTask (I.gives images.now) I.Reader.remaining (T.gives traces.now) T.Reader.remaining (D.gives dumps.old) D.Writer.contents (O.contents (inner_of out.old).now) (O.contents (inner_of out.new).now) task.entry) }
+    ensures cause { IfErr result (RefusesTask (I.lacks images.now) (I.gives images.now) I.Reader.remaining (T.lacks traces.now) (T.gives traces.now) T.Reader.remaining
+        (D.lacks dumps.old) (D.gives dumps.old) D.Writer.contents (O.contents (inner_of out.old).now) (O.contents (inner_of out.new).now) task.entry) }
     ensures flushed { OnOk result (is_flushed_of out.new ≡ true) }
     ensures counts { CountsPrint (failures_of out.old) (failures_of out.new) result }
     ensures same_writer { writer_of out.new ≡ writer_of out.old }
-    ensures unprinted { RefusedUnprinted (O.contents (inner_of out.old).now) (O.contents (inner_of out.new).now) result }
+    ensures unprinted { StopsUnprinted (O.contents (inner_of out.old).now) (O.contents (inner_of out.new).now) result }
 {
     match task {
         Task::Plan { image } => print_plan(alloc, images, image, out)?,
         Task::Word { image, index } => print_word(alloc, images, image, index, out)?,
+        Task::Replay(run) => print_replay(
+            alloc,
+            images,
+            traces,
+            dumps,
+            Running {
+                image: run.image,
+                trace: run.trace,
+                dump: run.dump,
+                mutators: run.mutators,
+                fresh: run.fresh,
+            },
+            out,
+        )?,
+        Task::Race(run) => print_race(
+            alloc,
+            rt,
+            images,
+            traces,
+            dumps,
+            Running {
+                image: run.image,
+                trace: run.trace,
+                dump: run.dump,
+                mutators: run.mutators,
+                fresh: run.fresh,
+            },
+            out,
+        )?,
         Task::Compact {
             image,
             dump,

@@ -4,12 +4,15 @@ ghost use Rattle.command_line.specs.Asked.{HasLawfulCounts};
 
 mod compacting;
 mod places;
+mod racing;
 mod refusing;
+mod replaying;
 
 use crate::dumps::FileDumps;
 use crate::images::Images;
 use crate::refusal::{Input, Refusal};
 use crate::run::{perform, run};
+use crate::traces::FileTraces;
 use command_line::words::Task;
 use heap_layout::counted::Counted;
 use heap_layout::fault::LayoutFault;
@@ -141,6 +144,7 @@ fn performed<R: AllocGlobal + Files + Threads + Wait + Sync, I: Images>(
         rt.alloc(),
         rt,
         images,
+        &FileTraces { rt },
         &mut FileDumps { rt },
         task,
         &mut out,

@@ -1,4 +1,4 @@
-use Rattle.command_line.proofs.Found.{answer_counts, answer_told, error_told, kind_at, none_told, taken_at, texts_utf8}
+use Rattle.command_line.proofs.Found.{answer_counts, answer_told, error_told, found_at, kind_at, none_told, taken_at, texts_utf8}
 use Rattle.command_line.proofs.Parsed.{standing_commands}
 use Rattle.command_line.proofs.TopLevel.{standing_program}
 use Rattle.command_line.specs.Forms.{standing}
@@ -6,6 +6,9 @@ use Rattle.command_line.proofs.words.read_task.Goals as goal
 
 pub task_of-requires-clause-taken : goal.task_of-requires-clause-taken
 task_of-requires-clause-taken c = taken_at standing standing_program _ _ c.in_ok-command.ensures c.in-Ok.ensures.kinds
+
+pub task_of-requires-clause-found : goal.task_of-requires-clause-found
+task_of-requires-clause-found c = found_at standing standing_program _ _ _ c.in_ok-command.ensures c.in-Ok.ensures.matches
 
 pub returns-in-Err-clause-asked : goal.returns-in-Err-clause-asked
 returns-in-Err-clause-asked c = answer_told standing standing_program standing_commands _ (texts_utf8 c.args.words.now) c.in-Err.error c.answer_task.result
