@@ -26,7 +26,7 @@ fn push_counting_object(bytes: &mut Vec<u8>) -> Result<(), AllocError> {
     Ok(())
 }
 
-fn push_small_numbers(bytes: &mut Vec<u8>, numbers: &[u32]) -> Result<(), AllocError> {
+pub fn push_small_numbers(bytes: &mut Vec<u8>, numbers: &[u32]) -> Result<(), AllocError> {
     for number in numbers {
         bytes.extend_from_slice(&number.to_le_bytes())?;
     }
