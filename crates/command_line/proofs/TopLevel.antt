@@ -16,7 +16,7 @@ use Rattle.clap.proofs.OnLiterals.{clap_on_literals}
 use Rattle.clap.proofs.WalkLemmas.{walk_stopped}
 use Rattle.command_line.specs.Asked.{is_help, is_version}
 use Rattle.command_line.specs.Given.{is_flag}
-use Rattle.command_line.specs.Forms.{Form, audit_form, compact_form, plan_form, replay_form, standing, word_form}
+use Rattle.command_line.specs.Forms.{Form, audit_form, compact_form, plan_form, race_form, replay_form, standing, word_form}
 use Rattle.command_line.specs.Parser.{program}
 use Rattle.std.proofs.lemmas.Bool.{eqb-true}
 use Rattle.command_line.proofs.Lexed.{IsBundle, IsLong, flag_read}
@@ -121,6 +121,9 @@ word_readable = record { distinct = refl; apart = refl; names = refl; few = omeg
 replay_readable : IsReadable replay_form
 replay_readable = record { distinct = refl; apart = refl; names = refl; few = omega arith }
 
+race_readable : IsReadable race_form
+race_readable = record { distinct = refl; apart = refl; names = refl; few = omega arith }
+
 compact_readable : IsReadable compact_form
 compact_readable = record { distinct = refl; apart = refl; names = refl; few = omega arith }
 
@@ -137,6 +140,9 @@ standing_word = record { is_one = refl; is_met = refl; is_entered = refl; is_not
 
 pub standing_replay : IsCommand standing replay_form
 standing_replay = record { is_one = refl; is_met = refl; is_entered = refl; is_not_help = refl; is_readable = replay_readable }
+
+pub standing_race : IsCommand standing race_form
+standing_race = record { is_one = refl; is_met = refl; is_entered = refl; is_not_help = refl; is_readable = race_readable }
 
 pub standing_compact : IsCommand standing compact_form
 standing_compact = record { is_one = refl; is_met = refl; is_entered = refl; is_not_help = refl; is_readable = compact_readable }
@@ -160,7 +166,7 @@ standing_none = refused [] MissingSubcommand [] refl
 pub standing_program : IsProgram standing
 standing_program = record {
   is_free = refl;
-  are_commands = (standing_plan, (standing_word, (standing_replay, (standing_compact, (standing_audit, tt)))));
+  are_commands = (standing_plan, (standing_word, (standing_replay, (standing_race, (standing_compact, (standing_audit, tt))))));
   named = refl;
   help_first = standing_help;
   end_first = standing_end;

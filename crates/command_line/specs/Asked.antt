@@ -8,7 +8,7 @@ use Rattle.command_line.specs.Forms.{Parameter, compact_form, workers}
 use Rattle.command_line.specs.Given.{IsChosen, IsCommandWith, IsNumber, is_flag, text_given}
 use Rattle.command_line.specs.Runs.{AsksRun, IsLawfulRun, Run, run_of}
 use Rattle.command_line.specs.declared.words.Task.{Task}
-use Rattle.command_line.specs.declared.words.Task.TheVariants.{Plan, Word, Replay, Compact, Audit, Help, Version}
+use Rattle.command_line.specs.declared.words.Task.TheVariants.{Plan, Word, Replay, Race, Compact, Audit, Help, Version}
 
 -- what a command is given: behind a first `--` each word, before it each that is no flag; None where there is a flag before it
 abbrev pub given : List (List ℕ) → Option (List (List ℕ))
@@ -33,6 +33,10 @@ AsksWord words path index = (digits : List ℕ) × IsNumber digits index × AreC
 abbrev pub AsksReplay : List (List ℕ) → Run → Type 0
 AsksReplay words run = AsksRun (codes "replay") words run
 
+-- the words are `race`, the same words behind it, with this run
+abbrev pub AsksRace : List (List ℕ) → Run → Type 0
+AsksRace words run = AsksRun (codes "race") words run
+
 -- the words are `compact [--workers N] IMAGE DUMP`, with these paths of an image and of the dump, and this number of workers
 abbrev pub AsksCompact : List (List ℕ) → List ℕ → List ℕ → ℕ → Type 0
 AsksCompact words image dump n = (texts : List (Parameter × List ℕ)) × IsCommandWith compact_form words texts
@@ -47,6 +51,7 @@ pub record AsksNoCommand (words : List (List ℕ)) : Type 0 where
   pub no_plan : (path : List ℕ) → ¬ (AsksPlan words path)
   pub no_word : (path : List ℕ) (index : ℕ) → ¬ (AsksWord words path index)
   pub no_replay : (run : Run) → ¬ (AsksReplay words run)
+  pub no_race : (run : Run) → ¬ (AsksRace words run)
   pub no_compact : (image dump : List ℕ) (n : ℕ) → ¬ (AsksCompact words image dump n)
   pub no_audit : (image dump : List ℕ) → ¬ (AsksAudit words image dump)
 
@@ -71,6 +76,7 @@ abbrev pub Asks : List (List ℕ) → Task → Type 0
 Asks words (Plan image) = AsksPlan words image.now
 Asks words (Word image index) = AsksWord words image.now index
 Asks words (Replay run) = AsksReplay words (run_of run)
+Asks words (Race run) = AsksRace words (run_of run)
 Asks words (Compact image dump n) = AsksCompact words image.now dump.now n
 Asks words (Audit image dump) = AsksAudit words image.now dump.now
 Asks words (Help text) = AsksHelp words
@@ -81,6 +87,7 @@ abbrev pub HasLawfulCounts : Task → Type 0
 HasLawfulCounts (Plan image) = Unit {0}
 HasLawfulCounts (Word image index) = Unit {0}
 HasLawfulCounts (Replay run) = IsLawfulRun (run_of run)
+HasLawfulCounts (Race run) = IsLawfulRun (run_of run)
 HasLawfulCounts (Compact image dump n) = (1 ≤ n) × (n ≤ 64)
 HasLawfulCounts (Audit image dump) = Unit {0}
 HasLawfulCounts (Help text) = Unit {0}
@@ -91,6 +98,7 @@ abbrev pub IsAnswerOf : ErrorKind → Task → Type 0
 IsAnswerOf kind (Plan image) = ⊥
 IsAnswerOf kind (Word image index) = ⊥
 IsAnswerOf kind (Replay run) = ⊥
+IsAnswerOf kind (Race run) = ⊥
 IsAnswerOf kind (Compact image dump n) = ⊥
 IsAnswerOf kind (Audit image dump) = ⊥
 IsAnswerOf kind (Help text) = kind ≡ DisplayHelp

@@ -64,6 +64,10 @@ run_form name = record { name = name; options = mutators ∷ fresh ∷ []; argum
 abbrev pub replay_form : Form
 replay_form = run_form (codes "replay")
 
+-- `race`, the same words
+abbrev pub race_form : Form
+race_form = run_form (codes "race")
+
 -- `compact [--workers N] IMAGE DUMP`
 abbrev pub compact_form : Form
 compact_form = record { name = codes "compact"; options = workers ∷ []; arguments = text (codes "IMAGE") ∷ text (codes "DUMP") ∷ [] }
@@ -74,4 +78,4 @@ audit_form = record { name = codes "audit"; options = []; arguments = text (code
 
 -- the commands that the program has
 abbrev pub standing : List Form
-standing = plan_form ∷ word_form ∷ replay_form ∷ compact_form ∷ audit_form ∷ []
+standing = plan_form ∷ word_form ∷ replay_form ∷ race_form ∷ compact_form ∷ audit_form ∷ []

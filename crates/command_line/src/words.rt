@@ -4,7 +4,7 @@ ghost use Rattle.std.specs.String.{string_bytes};
 ghost use Rattle.clap.specs.Words.{app_of, fault_of, first_value, found_of, kind_of, one_text, rule_of, subcommand_of, subcommand_rows_of};
 ghost use Rattle.clap.specs.declared.error.kind.ErrorKind.TheVariants.{DisplayHelp, DisplayVersion, OutOfMemory};
 ghost use Rattle.command_line.specs.Asked.{Asks, AsksNoCommand, HasLawfulCounts, IsAnswerOf};
-ghost use Rattle.command_line.specs.Forms.{audit_form, compact_form, fresh, mutators, number_within, plan_form, replay_form, run_form, standing, text, word_form, workers};
+ghost use Rattle.command_line.specs.Forms.{audit_form, compact_form, fresh, mutators, number_within, plan_form, race_form, replay_form, run_form, standing, text, word_form, workers};
 ghost use Rattle.command_line.specs.Given.{IsNumber, IsNumberOr};
 ghost use Rattle.command_line.specs.Finds.{HasRun, IsRunFound};
 ghost use Rattle.command_line.specs.Parser.{bare_program, command as command_of, option_rule, optional_rule, program, rule};
@@ -29,6 +29,8 @@ pub enum Task<'a> {
     },
     /// The lines of a trace, run in their order by one thread.
     Replay(TraceRun<'a>),
+    /// The lines of each mutator of a trace, run in a thread of its own.
+    Race(TraceRun<'a>),
     /// The heap in an image is compacted by 1 to 64 workers, and its dump written to a path.
     Compact {
         image: &'a str,
@@ -108,6 +110,7 @@ fn task_of<'a>(words: &'a [String], matches: &ArgMatches<'a>) -> Task<'a>
             index: number_of(found, "INDEX"),
         },
         Some(("replay", found)) => Task::Replay(trace_run(found)),
+        Some(("race", found)) => Task::Race(trace_run(found)),
         Some(("compact", found)) => Task::Compact {
             image: text_of(found, "IMAGE"),
             dump: text_of(found, "DUMP"),
@@ -192,6 +195,7 @@ fn command<'a>(alloc: Global) -> Result<Command<'a>, AllocError>
         .subcommand(plan_command(alloc)?)?
         .subcommand(word_command(alloc)?)?
         .subcommand(replay_command(alloc)?)?
+        .subcommand(race_command(alloc)?)?
         .subcommand(compact_command(alloc)?)?
         .subcommand(audit_command(alloc)?)
 }
@@ -238,6 +242,16 @@ fn replay_command<'a>(alloc: Global) -> Result<Command<'a>, AllocError>
         alloc,
         "replay",
         "Runs a trace by one thread, in the order of its lines, and writes the dump",
+    )
+}
+
+fn race_command<'a>(alloc: Global) -> Result<Command<'a>, AllocError>
+    ensures { IfOk result (λ made. app_of made ≡ command_of race_form) }
+{
+    run_command(
+        alloc,
+        "race",
+        "Runs a trace with a thread for each mutator, and writes the dump",
     )
 }
 

@@ -10,4 +10,7 @@ pub mod Histories
 pub mod Runnings
 pub mod ReplayRuns
 pub mod Performed
+pub mod Walking
+pub mod Racing
+pub mod RaceRuns
 pub mod Audited

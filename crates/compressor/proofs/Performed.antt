@@ -6,8 +6,9 @@ use Rattle.compressor.specs.Tasks.{DoesTask, RefusesTask}
 use Rattle.compressor.specs.declared.refusal.Refusal.{Refusal}
 use Rattle.compressor.specs.declared.refusal.Refusal.TheVariants.{CannotPrint}
 use Rattle.command_line.specs.declared.words.Task.{Task}
-use Rattle.command_line.specs.declared.words.Task.TheVariants.{Plan, Word, Replay, Compact, Audit, Help, Version}
+use Rattle.command_line.specs.declared.words.Task.TheVariants.{Plan, Word, Replay, Race, Compact, Audit, Help, Version}
 use Rattle.compressor.proofs.Audited.{flushed_audit, unflushed_audit}
+use Rattle.compressor.proofs.RaceRuns.{flushed_race, unflushed_race}
 use Rattle.compressor.proofs.ReplayRuns.{flushed_run, unflushed_run}
 
 -- what holds anyway holds of an Ok
@@ -29,6 +30,8 @@ module _ {R S W : Type 0} (lacks : List ℕ → Type 0) (gives : List ℕ → R 
       (reader, is_given, (heap, stored, accepted, (known, record { word = h.word; is_at = h.is_at; printed = Appends-kept before between after _ h.printed kept })))
   flushed_task kept (Replay run) h =
       flushed_run (gives run.image.now) remaining (told run.trace.now) rest (makes run.dump.now) contents run.mutators run.fresh before between after kept h
+  flushed_task kept (Race run) h =
+      flushed_race (gives run.image.now) remaining (told run.trace.now) rest (makes run.dump.now) contents run.mutators run.fresh before between after kept h
   flushed_task kept (Compact image dump workers) (reader, is_given, (heap, stored, accepted, (known, h))) =
       (reader, is_given, (heap, stored, accepted, (known, record { dump = h.dump; line = Appends-kept before between after _ h.line kept })))
   flushed_task kept (Audit image dump) h = flushed_audit (gives image.now) (gives dump.now) remaining before between after kept h
@@ -41,6 +44,8 @@ module _ {R S W : Type 0} (lacks : List ℕ → Type 0) (gives : List ℕ → R 
   unflushed_task (Word image index) (reader, is_given, (heap, stored, accepted, (known, h))) = (reader, is_given, (h.word, (heap, stored, accepted, (known, h.is_at))))
   unflushed_task (Replay run) h =
       unflushed_run (gives run.image.now) remaining (told run.trace.now) rest (makes run.dump.now) contents run.mutators run.fresh before between after (closed run.dump.now) h
+  unflushed_task (Race run) h =
+      unflushed_race (gives run.image.now) remaining (told run.trace.now) rest (makes run.dump.now) contents run.mutators run.fresh before between after (closed run.dump.now) h
   unflushed_task (Compact image dump workers) (reader, is_given, (heap, stored, accepted, (known, h))) = (reader, is_given, (heap, stored, accepted, (known, h.dump)))
   unflushed_task (Audit image dump) h = unflushed_audit (gives image.now) (gives dump.now) remaining before between h
   unflushed_task (Help text) printed = refl

@@ -248,7 +248,7 @@ appends_none None b h = tt
 appends_none (Some x) None h = absurd h
 appends_none (Some x) (Some y) h = h ∙ append-nil x
 
-none_printed : (before after : Option (List ℕ)) (shown : List Shown) → shown ≡ [] → Appends before after (shown_lines shown) → Keeps before after
+pub none_printed : (before after : Option (List ℕ)) (shown : List Shown) → shown ≡ [] → Appends before after (shown_lines shown) → Keeps before after
 none_printed before after shown none printed = appends_none before after (subst (λ (values : List Shown). Appends before after (shown_lines values)) none printed)
 
 -- the same of a run whose values were printed until it was halted

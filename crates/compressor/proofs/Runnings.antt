@@ -64,7 +64,7 @@ all_none mutators none p = record { rises = (0, omega arith); own = λ k lt. sym
 abbrev setup_with : Heap → ℕ → ℕ → ℕ → Setup
 setup_with heap fresh mutators compacted = record { heap = heap; compacted = compacted; fresh = fresh; mutators = mutators }
 
-setup_is : (u : Setup) → u.compacted ≡ sliding.pages (live u.heap) → u ≡ flipped u.heap u.mutators u.fresh
+pub setup_is : (u : Setup) → u.compacted ≡ sliding.pages (live u.heap) → u ≡ flipped u.heap u.mutators u.fresh
 setup_is u e = ap (setup_with u.heap u.fresh u.mutators) e
 
 pub replayed_heap : {L : Type 0} (u : Setup) (before after : List (Mutator L)) (text : List ℕ) (lines : List Line) (shown : List Shown) (f : Finished)

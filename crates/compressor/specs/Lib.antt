@@ -6,5 +6,7 @@ pub mod Dumps
 pub mod Compact
 pub mod Texts
 pub mod Replays
+pub mod ByLine
+pub mod Races
 pub mod Audits
 pub mod Tasks

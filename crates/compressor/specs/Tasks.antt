@@ -5,7 +5,7 @@ use Rattle.std.specs.String.{string_bytes}
 use Rattle.clap.specs.Values.{kind_of}
 use Rattle.clap.specs.declared.error.Error.{Error}
 use Rattle.clap.specs.declared.error.kind.ErrorKind.TheVariants.{OutOfMemory}
-use Rattle.command_line.specs.Asked.{AsksAudit, AsksCompact, AsksHelp, AsksPlan, AsksReplay, AsksVersion, AsksWord}
+use Rattle.command_line.specs.Asked.{AsksAudit, AsksCompact, AsksHelp, AsksPlan, AsksRace, AsksReplay, AsksVersion, AsksWord}
 use Rattle.command_line.specs.Runs.{Run}
 use Rattle.comp_audit.specs.Dumped.{Dumped}
 use Rattle.compressor.specs.Audits.{Passes, RefusesAudit, SomeAudit}
@@ -13,21 +13,24 @@ use Rattle.compressor.specs.Compact.{Compacts, PrintsLive, RefusesCompact}
 use Rattle.compressor.specs.Images.{IsImageOf, SomeGiven, SomeHeap, RefusesAt}
 use Rattle.compressor.specs.Plan.{PrintsPlan, RefusesPlan}
 use Rattle.compressor.specs.Printing.{help_lines, version_line, CountsPrint}
+use Rattle.compressor.specs.Races.{PrintsRace, Races, RefusesRace}
 use Rattle.compressor.specs.Replays.{PrintsReplay, RefusesReplay, Replays, SomeRun, StopsUnprinted}
 use Rattle.compressor.specs.Word.{PrintsWordAt, RefusesPrint}
 use Rattle.compressor.specs.declared.refusal.Refusal.{Refusal}
 use Rattle.compressor.specs.declared.refusal.Refusal.TheVariants.{CannotPrint}
 use Rattle.command_line.specs.declared.words.Task.{Task}
-use Rattle.command_line.specs.declared.words.Task.TheVariants.{Plan, Word, Replay, Compact, Audit, Help, Version}
+use Rattle.command_line.specs.declared.words.Task.TheVariants.{Plan, Word, Replay, Race, Compact, Audit, Help, Version}
 
 -- a task is done: between these two contents of the output, what it asks of the image at its path was printed, or the text of help, or the version. Where it asks so, a
--- dump was read of its path, of the readers of images, or a trace at its own, whose readers are `told`, and a dump was written to its own, whose writers are `makes`
+-- dump was read at its path, by a reader as those of images, or a trace at its own, whose readers are `told`, and a dump was written to its own, whose writers are `makes`
 abbrev pub DoesTask : {R S W : Type 0} → (List ℕ → R → Type 0) → (R → Option (List ℕ)) → (List ℕ → S → Type 0) → (S → Option (List ℕ)) → (List ℕ → W → Type 0) → (W → Option (List ℕ))
     → Option (List ℕ) → Option (List ℕ) → Task → Type 0
 DoesTask gives remaining told rest makes contents before after (Plan image) = SomeGiven (gives image.now) remaining (IsImageOf (PrintsPlan before after))
 DoesTask gives remaining told rest makes contents before after (Word image index) = SomeGiven (gives image.now) remaining (IsImageOf (PrintsWordAt index before after))
 DoesTask gives remaining told rest makes contents before after (Replay run) =
     SomeRun (gives run.image.now) remaining (told run.trace.now) rest run.mutators (Replays (makes run.dump.now) contents run.mutators run.fresh before after)
+DoesTask gives remaining told rest makes contents before after (Race run) =
+    SomeRun (gives run.image.now) remaining (told run.trace.now) rest run.mutators (Races (makes run.dump.now) contents run.mutators run.fresh before after)
 DoesTask gives remaining told rest makes contents before after (Compact image dump workers) =
     SomeGiven (gives image.now) remaining (IsImageOf (Compacts (makes dump.now) contents workers before after))
 DoesTask gives remaining told rest makes contents before after (Audit image dump) = SomeAudit (gives image.now) (gives dump.now) remaining (Passes before after)
@@ -42,6 +45,9 @@ RefusesTask lacks gives remaining missing told rest closed makes contents before
 RefusesTask lacks gives remaining missing told rest closed makes contents before after (Word image index) refusal = RefusesAt (lacks image.now) (gives image.now) remaining (RefusesPrint index) refusal
 RefusesTask lacks gives remaining missing told rest closed makes contents before after (Replay run) refusal =
     RefusesReplay (lacks run.image.now) (gives run.image.now) remaining (missing run.trace.now) (told run.trace.now) rest (closed run.dump.now) (makes run.dump.now) contents run.mutators run.fresh
+    before after refusal
+RefusesTask lacks gives remaining missing told rest closed makes contents before after (Race run) refusal =
+    RefusesRace (lacks run.image.now) (gives run.image.now) remaining (missing run.trace.now) (told run.trace.now) rest (closed run.dump.now) (makes run.dump.now) contents run.mutators run.fresh
     before after refusal
 RefusesTask lacks gives remaining missing told rest closed makes contents before after (Compact image dump workers) refusal =
     RefusesAt (lacks image.now) (gives image.now) remaining (RefusesCompact (closed dump.now) (makes dump.now) contents workers) refusal
@@ -75,12 +81,13 @@ AreWrong (Ok task) = ⊥
 AreWrong (Err error) = kind_of error ≢ OutOfMemory
 
 -- what the words ask was printed, between these two contents of the output: the plan of some accepted heap, the word at their index of one, the values of a
--- trace that was run over one and its live words, the live words of one that was compacted, those of a dump that passes as what a compaction of one left, a text of help, or the version
+-- trace that was run or raced over one and its live words, the live words of one that was compacted, those of a dump that has no fault for one, a text of help, or the version
 abbrev pub HasAnswered : List (List ℕ) → Option (List ℕ) → Option (List ℕ) → Type 0
 HasAnswered words before after =
     ((path : List ℕ) × AsksPlan words path × SomeHeap (PrintsPlan before after))
     ⊎ ((path : List ℕ) × (index : ℕ) × AsksWord words path index × SomeHeap (PrintsWordAt index before after))
     ⊎ ((run : Run) × AsksReplay words run × SomeHeap (PrintsReplay run.count run.pages before after))
+    ⊎ ((run : Run) × AsksRace words run × SomeHeap (PrintsRace run.count run.pages before after))
     ⊎ ((image : List ℕ) × (dump : List ℕ) × (workers : ℕ) × AsksCompact words image dump workers × SomeHeap (PrintsLive before after))
     ⊎ ((image : List ℕ) × (dump : List ℕ) × AsksAudit words image dump × SomeHeap (λ heap. (judged : Dumped) × Passes before after heap judged))
     ⊎ (AsksHelp words × (text : List ℕ) × Appends before after (help_lines text))

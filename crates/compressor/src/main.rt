@@ -5,11 +5,14 @@ ghost use Rattle.std.specs.Prelude.{◌≡◌, ◌≤◌, IfOk, IfErr};
 ghost use Rattle.compressor.specs.declared.refusal.Refusal.TheVariants as refusals;
 
 mod audit;
+mod by_line;
 mod compact;
 mod dumps;
 mod images;
 mod plan;
 mod print;
+mod race;
+mod races;
 mod refusal;
 mod replay;
 mod replays;

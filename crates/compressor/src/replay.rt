@@ -65,8 +65,8 @@ pub fn print_replay<I: Images, T: Traces, D: Dumps, O: Write>(
     }
 }
 
-// Writes the dump of a run, and prints the values that it showed, and the live words.
-fn write_run<D: Dumps, O: Write>(
+/// Writes the dump of a run, and prints the values that it showed, and the live words.
+pub fn write_run<D: Dumps, O: Write>(
     alloc: Global,
     dumps: &mut D,
     asked: Running<'_>,

@@ -40,7 +40,7 @@ pub struct Halted {
 }
 
 /// A run that was refused before it showed anything.
-fn unshown(alloc: Global, refusal: Refusal) -> Halted
+pub fn unshown(alloc: Global, refusal: Refusal) -> Halted
     ensures none { result.shown.items ≡ [] }
     ensures refusal { result.refusal ≡ refusal }
 {

@@ -13,6 +13,7 @@ use crate::dumps::{Dumps, FileDumps};
 use crate::images::{FileImages, Images};
 use crate::plan::print_plan;
 use crate::print::{flush, print_help, print_text};
+use crate::race::print_race;
 use crate::refusal::Refusal;
 use crate::replay::{Running, print_replay};
 use crate::traces::{FileTraces, Traces};
@@ -122,6 +123,21 @@ pub fn perform<R: Threads + Wait + Sync, I: Images, T: Traces, D: Dumps, O: Writ
         Task::Word { image, index } => print_word(alloc, images, image, index, out)?,
         Task::Replay(run) => print_replay(
             alloc,
+            images,
+            traces,
+            dumps,
+            Running {
+                image: run.image,
+                trace: run.trace,
+                dump: run.dump,
+                mutators: run.mutators,
+                fresh: run.fresh,
+            },
+            out,
+        )?,
+        Task::Race(run) => print_race(
+            alloc,
+            rt,
             images,
             traces,
             dumps,

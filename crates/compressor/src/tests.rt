@@ -5,6 +5,7 @@ ghost use Rattle.command_line.specs.Asked.{HasLawfulCounts};
 mod auditing;
 mod compacting;
 mod places;
+mod racing;
 mod refusing;
 mod replaying;
 

@@ -14,8 +14,6 @@ mod meetings;
 #[cfg(test)]
 mod objects;
 #[cfg(test)]
-mod plain_objects;
-#[cfg(test)]
 mod random_calls;
 #[cfg(test)]
 mod refusals;

@@ -4,20 +4,21 @@ ghost use Rattle.comp_mutator.specs.Mutators.{IsMutatorOf};
 
 use crate::expected::expect_all_stamps;
 use crate::flipped::{allocate, finish, read_data, read_ref, trio, two, write_data, write_ref};
-use crate::plain_objects::{Call, Object, Objects, Random};
 use comp_mutator::finishing::Finished;
 use comp_mutator::mutator::Mutator;
 use comp_mutator::refusal::Refusal;
 use comp_mutator::space::Space;
-use heap_layout::header::Header;
 use page_plan::builder::Builder;
-use page_plan::plan::Plan;
-use std::alloc::{AllocError, Global};
+use plain_objects::call::Call;
+use plain_objects::objects::Objects;
+use plain_objects::random::Random;
+use plain_objects::two_live::{opening, two_live};
+use std::alloc::Global;
 use std::marker::Brand;
 use std::process::Abort;
 use std::sync::ledger::{Blank, Ledger as Named};
 use std::test::Fail;
-use worked_heaps::heaps::{F, T, heap, planned};
+use worked_heaps::heaps::T;
 
 // The call's answer by the space.
 fn answer<L: Named, B: Builder>(
@@ -45,7 +46,8 @@ fn answer<L: Named, B: Builder>(
         Call::Alloc {
             references,
             data_words,
-        } => allocate(alloc, space, m, references, data_words, 9),
+            tag,
+        } => allocate(alloc, space, m, references, data_words, tag),
     }
 }
 
@@ -62,52 +64,9 @@ fn play<L: Named, B: Builder>(
     ensures of { IsMutatorOf space.now m.new }
 {
     let call = random.call(objects);
-    let wanted = objects.answer(alloc, usize::from(m.number()), call)?;
+    let wanted = objects.answer(alloc, m.number(), call)?;
     assert_eq!(rt; answer(alloc, space, m, call), wanted);
     Ok(())
-}
-
-// Two live objects that refer to one another, and one that is not marked between them.
-fn two_live(alloc: Global) -> Result<Plan, Fail> {
-    let words = [
-        Header::new(2, 1, 1).word(),
-        F + 6,
-        0,
-        10,
-        Header::new(0, 1, 2).word(),
-        20,
-        Header::new(1, 2, 3).word(),
-        F,
-        30,
-        31,
-    ];
-    planned(alloc, heap(alloc, &words, &[0, 6], &[F])?)
-}
-
-// An object with these fields.
-fn object_with(
-    alloc: Global,
-    address: u64,
-    references: &[u64],
-    data_words: &[u64],
-) -> Result<Object, AllocError> {
-    Ok(Object {
-        address,
-        references: references.to_vec(alloc)?,
-        data_words: data_words.to_vec(alloc)?,
-    })
-}
-
-// The two live objects once they have slid, and six fresh pages.
-fn opening(alloc: Global, mutators: usize) -> Result<Objects, AllocError> {
-    let first = object_with(alloc, T, &[T + 4, 0], &[10])?;
-    let second = object_with(alloc, T + 4, &[T], &[30, 31])?;
-    Ok(Objects {
-        objects: vec![in alloc; first, second]?,
-        mutators,
-        used: vec![in alloc; 0; 6]?,
-        entries: 0,
-    })
 }
 
 // The word at an address, on a page that is there.
@@ -148,7 +107,7 @@ fn expect_objects(
             .wrapping_add(data_words);
     }
     assert_eq!(rt; finished.live_words(), live);
-    expect_all_stamps(rt, alloc, finished, objects.entries)
+    expect_all_stamps(rt, alloc, finished, objects.written.len() as u64)
 }
 
 // Two mutators, six hundred calls each.

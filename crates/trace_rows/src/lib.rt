@@ -2,9 +2,19 @@
 #![tactic(auto)]
 
 #[cfg(test)]
+mod drawn;
+#[cfg(test)]
+mod finished;
+#[cfg(test)]
 mod flipped;
 #[cfg(test)]
+mod plain_run;
+#[cfg(test)]
 mod races;
+#[cfg(test)]
+mod random_races;
+#[cfg(test)]
+mod random_traces;
 #[cfg(test)]
 mod replays;
 #[cfg(test)]

@@ -101,23 +101,29 @@ fn stops_at_an_object_that_is_too_large(rt: HostRuntime) -> Result<(), Fail> {
     expect_stop(&rt, run, &[], fault)
 }
 
-// A mutator that is alone makes an object and stores it; then the heap is finished.
-fn finish_alone<L: Ledger>(rt: &impl Abort, alloc: Global, blank: Blank) -> Result<Finished, Fail>
+// A text shows these values on the three objects, and runs to its end; then the heap is finished.
+fn finish_on_three<L: Ledger>(
+    rt: &impl Abort,
+    alloc: Global,
+    blank: Blank,
+    n: u8,
+    text: &[u8],
+    wanted: &[Shown],
+) -> Result<Finished, Fail>
     requires name { blank.name ≡ L.name }
     requires parts { blank.parts ≡ L.parts }
-    requires count { blank.parts ≡ 1 }
+    requires count { blank.parts ≡ n }
 {
     let (space, mut mutators) = flipped::<L, _>(
         alloc,
         blank,
         planned(alloc, three(alloc)?)?,
-        1,
+        u32::from(n),
         2,
     )?;
-    let text = b"0 root 0 0\n0 new 1 0 0 0\n0 store 0 0 1\n";
-    let trace = read_for(alloc, &space, text, 1)?;
+    let trace = read_for(alloc, &space, text, n)?;
     let run = replay(alloc, &trace, &space, &mut mutators);
-    expect_shown(rt, run, &[])?;
+    expect_shown(rt, run, wanted)?;
     match space.finish(alloc, mutators) {
         Ok(finished) => Ok(finished),
         Err(_) => Err(Fail::from("not finished")),
@@ -136,7 +142,8 @@ fn expect_entry(rt: &impl Abort, finished: &Finished, p: usize, wanted: Entry) {
 
 #[test]
 fn writes_an_object_and_then_a_reference_to_it(rt: HostRuntime) -> Result<(), Fail> {
-    let finished = finish_alone::<Brand>(&rt, rt.alloc(), Blank::new(1))?;
+    let text = b"0 root 0 0\n0 new 1 0 0 0\n0 store 0 0 1\n";
+    let finished = finish_on_three::<Brand>(&rt, rt.alloc(), Blank::new(1), 1, text, &[])?;
     assert_eq!(rt; finished.live_words(), 5);
     let made = Entry {
         stamp: 0,
@@ -155,6 +162,38 @@ fn writes_an_object_and_then_a_reference_to_it(rt: HostRuntime) -> Result<(), Fa
     };
     expect_entry(&rt, &finished, 0, linked);
     Ok(())
+}
+
+#[test]
+fn leaves_the_words_that_slid(rt: HostRuntime) -> Result<(), Fail> {
+    let text = b"0 root 0 0\n0 load 1 0 0\n0 put 1 0 7\n1 root 0 0\n1 load 1 0 0\n1 get 1 0\n";
+    let shown = [Shown { line: 6, value: 7 }];
+    let finished = finish_on_three::<Brand>(&rt, rt.alloc(), Blank::new(2), 2, text, &shown)?;
+    assert_eq!(rt; finished.live_words(), 4);
+    let put = Entry {
+        stamp: 0,
+        writer: 0,
+        kind: Kind::Data,
+        offset: 1,
+        value: 7,
+    };
+    expect_entry(&rt, &finished, 0, put);
+    Ok(())
+}
+
+#[test]
+fn stops_at_a_full_journal(rt: HostRuntime) -> Result<(), Fail> {
+    let mut text = b"0 root 0 0\n0 load 1 0 0\n".to_vec(rt.alloc())?;
+    for _ in 0..1_025 {
+        text.extend_from_slice(b"0 put 1 0 7\n")?;
+    }
+    let run = shown_on_three::<Brand>(rt.alloc(), Blank::new(2), &text)?;
+    expect_stop(
+        &rt,
+        run,
+        &[],
+        TraceFault::Refused(1_027, Refusal::JournalFull(0)),
+    )
 }
 
 // What the text shows on new mutators, read and run in one.

@@ -69,7 +69,7 @@ pub fn twenty_dump(alloc: Global, workers: u32, lists: &[&[u32]]) -> Result<Vec<
     push_small_numbers(&mut bytes, &[1, workers, 0, 20, 0])?;
     push_pages(&mut bytes, &words)?;
     for list in lists {
-        push_small_numbers(&mut bytes, &[u32::try_from(list.len())?])?;
+        push_small_numbers(&mut bytes, &[u32::try_from(list.len()).unwrap_or(u32::MAX)])?;
         push_small_numbers(&mut bytes, list)?;
     }
     bytes.extend_from_slice(&1_280u64.to_le_bytes())?;

@@ -6,9 +6,9 @@ use Rattle.clap.specs.declared.parser.matches.Found.{Found}
 use Rattle.command_line.specs.Asked.{AsksPlan, AsksWord}
 use Rattle.command_line.specs.Given.{IsNumber}
 use Rattle.command_line.specs.Parser.{program}
-use Rattle.command_line.specs.Forms.{audit_form, compact_form, plan_form, replay_form, standing, text, word_form}
+use Rattle.command_line.specs.Forms.{audit_form, compact_form, plan_form, race_form, replay_form, standing, text, word_form}
 use Rattle.command_line.specs.Runs.{run_of}
-use Rattle.command_line.proofs.TopLevel.{standing_audit, standing_compact, standing_plan, standing_program, standing_replay, standing_word}
+use Rattle.command_line.proofs.TopLevel.{standing_audit, standing_compact, standing_plan, standing_program, standing_race, standing_replay, standing_word}
 use Rattle.command_line.proofs.Found.{CommandAsked, audit_asked, bounded_number, command_asked, compact_asked, none_of_standing, plan_asked, run_asked, run_found, same_name, texts_utf8, two_paths, word_asked, workers_fit, workers_within}
 use Rattle.command_line.proofs.words.task_of.Goals.{in_default-via-in-Some+in_default, in_default-via-in_default}
 use Rattle.command_line.proofs.words.task_of.Goals as goal
@@ -38,15 +38,16 @@ unreachable-requires c = elim c.in_default.branch [
       let no_plan : ¬ (w.in_default.field-0.0.now ≡ codes "plan") = search rules in
       let no_word : ¬ (w.in_default.field-0.0.now ≡ codes "word") = search rules in
       let no_replay : ¬ (w.in_default.field-0.0.now ≡ codes "replay") = search rules in
+      let no_race : ¬ (w.in_default.field-0.0.now ≡ codes "race") = search rules in
       let no_compact : ¬ (w.in_default.field-0.0.now ≡ codes "compact") = search rules in
       let no_audit : ¬ (w.in_default.field-0.0.now ≡ codes "audit") = search rules in
       none_of_standing _ _ (texts_utf8 c.args.words.now) c.requires.taken found
       (λ rows e. no_plan (same_name _ _ _ _ rows refl e)) (λ rows e. no_word (same_name _ _ _ _ rows refl e))
-      (λ rows e. no_replay (same_name _ _ _ _ rows refl e)) (λ rows e. no_compact (same_name _ _ _ _ rows refl e))
+      (λ rows e. no_replay (same_name _ _ _ _ rows refl e)) (λ rows e. no_race (same_name _ _ _ _ rows refl e)) (λ rows e. no_compact (same_name _ _ _ _ rows refl e))
       (λ rows e. no_audit (same_name _ _ _ _ rows refl e))
   | in_default-via-in_default w ↦
       let found : subcommand_of (program standing) (map string_bytes c.args.words.now) ≡ None = search rules in
-      none_of_standing _ _ (texts_utf8 c.args.words.now) c.requires.taken found (λ rows e. cc) (λ rows e. cc) (λ rows e. cc) (λ rows e. cc) (λ rows e. cc)
+      none_of_standing _ _ (texts_utf8 c.args.words.now) c.requires.taken found (λ rows e. cc) (λ rows e. cc) (λ rows e. cc) (λ rows e. cc) (λ rows e. cc) (λ rows e. cc)
 ]
 
 pub returns-in-Some-plan-default-clause-asked : goal.returns-in-Some-plan-default-clause-asked
@@ -111,6 +112,11 @@ replay_given : (words : List (List ℕ)) (f : Found) → All IsUtf8 words → fa
     → subcommand_of (program standing) words ≡ Some (codes "replay", rows_of f) → CommandAsked words f replay_form
 replay_given words f utf8 taken found = command_asked standing standing_program replay_form standing_replay words f utf8 taken found
 
+-- what `race` was given, where it was entered
+race_given : (words : List (List ℕ)) (f : Found) → All IsUtf8 words → fault_of (program standing) words ≡ []
+    → subcommand_of (program standing) words ≡ Some (codes "race", rows_of f) → CommandAsked words f race_form
+race_given words f utf8 taken found = command_asked standing standing_program race_form standing_race words f utf8 taken found
+
 pub trace_run-requires : goal.trace_run-requires
 trace_run-requires c =
     let found : subcommand_of (program standing) (map string_bytes c.args.words.now) ≡ Some (codes "replay", rows_of (found_of c.in-Some-replay-default.found.now)) = search rules in
@@ -123,8 +129,23 @@ returns-in-Some-replay-default-clause-asked c =
     let given = replay_given _ (found_of c.in-Some-replay-default.found.now) (texts_utf8 c.args.words.now) c.requires.taken found in
     run_asked (map string_bytes c.args.words.now) (found_of c.in-Some-replay-default.found.now) (codes "replay") given (run_of c.trace_run.result) c.trace_run.ensures.run
 
+pub trace_run-requires-in-Some-race-default : goal.trace_run-requires-in-Some-race-default
+trace_run-requires-in-Some-race-default c =
+    let found : subcommand_of (program standing) (map string_bytes c.args.words.now) ≡ Some (codes "race", rows_of (found_of c.in-Some-race-default.found.now)) = search rules in
+    let given = race_given _ (found_of c.in-Some-race-default.found.now) (texts_utf8 c.args.words.now) c.requires.taken found in
+    run_found (map string_bytes c.args.words.now) (found_of c.in-Some-race-default.found.now) (codes "race") given
+
+pub returns-in-Some-race-default-clause-asked : goal.returns-in-Some-race-default-clause-asked
+returns-in-Some-race-default-clause-asked c =
+    let found : subcommand_of (program standing) (map string_bytes c.args.words.now) ≡ Some (codes "race", rows_of (found_of c.in-Some-race-default.found.now)) = search rules in
+    let given = race_given _ (found_of c.in-Some-race-default.found.now) (texts_utf8 c.args.words.now) c.requires.taken found in
+    run_asked (map string_bytes c.args.words.now) (found_of c.in-Some-race-default.found.now) (codes "race") given (run_of c.trace_run-in-Some-race-default.result) c.trace_run-in-Some-race-default.ensures.run
+
 pub returns-in-Some-replay-default-clause-counts : goal.returns-in-Some-replay-default-clause-counts
 returns-in-Some-replay-default-clause-counts c = c.trace_run.ensures.counts
+
+pub returns-in-Some-race-default-clause-counts : goal.returns-in-Some-race-default-clause-counts
+returns-in-Some-race-default-clause-counts c = c.trace_run-in-Some-race-default.ensures.counts
 
 -- what `audit` was given, where it was entered
 audit_given : (words : List (List ℕ)) (f : Found) → All IsUtf8 words → fault_of (program standing) words ≡ []

@@ -2,7 +2,7 @@ use Rattle.std.proofs.Common.{rules}
 use Rattle.heap_layout.specs.Counted.{inner_of}
 use Rattle.compressor.specs.Tasks.{DoesTask, RefusesTask}
 use Rattle.compressor.proofs.Performed.{err_by, flushed_task, ok_by, unflushed_task}
-use Rattle.compressor.proofs.run.perform.Goals.{in-Plan+in_ok-print_plan-in-Plan, in-Word+in_ok-print_word-in-Word, in-Replay+in_ok-print_replay-in-Replay, in-Compact+in_ok-print_compact-in-Compact, in-Audit+in_ok-print_audit-in-Audit, in-Help+in_ok-print_help-in-Help, in-Version+in_ok-print_text-in-Version}
+use Rattle.compressor.proofs.run.perform.Goals.{in-Plan+in_ok-print_plan-in-Plan, in-Word+in_ok-print_word-in-Word, in-Replay+in_ok-print_replay-in-Replay, in-Race+in_ok-print_race-in-Race, in-Compact+in_ok-print_compact-in-Compact, in-Audit+in_ok-print_audit-in-Audit, in-Help+in_ok-print_help-in-Help, in-Version+in_ok-print_text-in-Version}
 use Rattle.compressor.proofs.run.perform.Goals as goal
 
 pub returns-clause-done : goal.returns-clause-done
@@ -14,6 +14,7 @@ returns-clause-done g c =
       | in-Plan+in_ok-print_plan-in-Plan w ↦ search rules
       | in-Word+in_ok-print_word-in-Word w ↦ search rules
       | in-Replay+in_ok-print_replay-in-Replay w ↦ rw (w.in-Replay.is, w.out-is) w.in_ok-print_replay-in-Replay.ensures.replayed
+      | in-Race+in_ok-print_race-in-Race w ↦ rw (w.in-Race.is, w.out-is) w.in_ok-print_race-in-Race.ensures.raced
       | in-Compact+in_ok-print_compact-in-Compact w ↦ search rules
       | in-Audit+in_ok-print_audit-in-Audit w ↦ rw (w.in-Audit.is, w.out-is) w.in_ok-print_audit-in-Audit.ensures.passed
       | in-Help+in_ok-print_help-in-Help w ↦ search rules
@@ -32,6 +33,7 @@ returns-clause-cause g c =
       | in-Plan+in_ok-print_plan-in-Plan w ↦ search rules
       | in-Word+in_ok-print_word-in-Word w ↦ search rules
       | in-Replay+in_ok-print_replay-in-Replay w ↦ rw (w.in-Replay.is, w.out-is) w.in_ok-print_replay-in-Replay.ensures.replayed
+      | in-Race+in_ok-print_race-in-Race w ↦ rw (w.in-Race.is, w.out-is) w.in_ok-print_race-in-Race.ensures.raced
       | in-Compact+in_ok-print_compact-in-Compact w ↦ search rules
       | in-Audit+in_ok-print_audit-in-Audit w ↦ rw (w.in-Audit.is, w.out-is) w.in_ok-print_audit-in-Audit.ensures.passed
       | in-Help+in_ok-print_help-in-Help w ↦ search rules
