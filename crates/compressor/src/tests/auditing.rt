@@ -58,7 +58,7 @@ fn refused(alloc: Global, dump: &[u8]) -> Result<Refusal, Fail> {
 }
 
 // A number at a place of a dump, in so many bytes.
-#[derive(Clone, Copy, Debug)]
+#[derive(Clone, Copy)]
 struct Change {
     at: usize,
     width: usize,
@@ -93,10 +93,13 @@ const fn eight(at: usize, number: u64) -> Change {
 fn forged(alloc: Global, changes: &[Change]) -> Result<Vec<u8>, Fail> {
     let mut bytes = fresh_dump(alloc)?;
     for change in changes {
-        let number = change.number.to_le_bytes();
-        for (k, byte) in number.iter().take(change.width).enumerate() {
-            if let Some(place) = bytes.get_mut(change.at + k) {
-                *place = *byte;
+        for (k, byte) in change.number.to_le_bytes().iter().enumerate() {
+            let Some(at) = change.at.checked_add(k) else {
+                return Err("a place of the dump".into());
+            };
+            match bytes.get_mut(at) {
+                Some(place) if k < change.width => *place = *byte,
+                _ => {}
             }
         }
     }
@@ -108,7 +111,11 @@ const VERSION: usize = 8;
 
 const ROOT: usize = 28;
 
-const WORDS: usize = 37;
+const FIRST_DATA: usize = 45;
+
+const REFERENCE: usize = 61;
+
+const LAST_WORD: usize = 541;
 
 const REFERENCE_STAMP: usize = 553;
 
@@ -150,15 +157,15 @@ fn names_the_first_fault_of_a_forged_dump(rt: HostRuntime) -> Result<(), Fail> {
             AuditFault::BadEntry(1, 0),
         ),
         (
-            [eight(WORDS + 8, 12), eight(TOTAL, 6)],
+            [eight(FIRST_DATA, 12), eight(TOTAL, 6)],
             AuditFault::WrongWord(8_589_934_593),
         ),
         (
-            [eight(WORDS + 504, 1), eight(TOTAL, 6)],
+            [eight(LAST_WORD, 1), eight(TOTAL, 6)],
             AuditFault::WrongWord(8_589_934_655),
         ),
         (
-            [eight(REFERENCE_VALUE, inner), eight(WORDS + 24, inner)],
+            [eight(REFERENCE_VALUE, inner), eight(REFERENCE, inner)],
             AuditFault::LooseReference(8_589_934_595),
         ),
         (
@@ -189,7 +196,7 @@ fn claimed(alloc: Global, list: &[u32]) -> Result<Vec<u8>, Fail> {
     let whole = fresh_dump(alloc)?;
     let mut bytes = Vec::new(alloc);
     bytes.extend_from_slice(whole.get(..BUILDS).ok_or("a dump")?)?;
-    push_small_numbers(&mut bytes, &[list.len() as u32])?;
+    push_small_numbers(&mut bytes, &[u32::try_from(list.len()).unwrap_or(u32::MAX)])?;
     push_small_numbers(&mut bytes, list)?;
     bytes.extend_from_slice(whole.get(TOTAL..).ok_or("a dump")?)?;
     Ok(bytes)
