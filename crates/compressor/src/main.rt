@@ -2,29 +2,10 @@
 #![tactic(auto)]
 
 ghost use Rattle.std.specs.Prelude.{◌≡◌, ◌≤◌, IfOk, IfErr};
-ghost use Rattle.compressor.specs.declared.refusal.Refusal.TheVariants as refusals;
+ghost use Rattle.commands.specs.declared.refusal.Refusal.TheVariants as refusals;
 
-mod audit;
-mod by_line;
-mod compact;
-mod dumps;
-mod images;
-mod plan;
-mod print;
-mod race;
-mod races;
-mod refusal;
-mod replay;
-mod replays;
-mod run;
-mod shown;
-#[cfg(test)]
-mod tests;
-mod traces;
-mod word;
-
-use crate::refusal::Refusal;
-use crate::run::{REFUSED, run};
+use commands::refusal::Refusal;
+use commands::run::{REFUSED, run};
 use std::env;
 use std::io::{self, BufWriter, Write};
 use std::process::ExitCode;

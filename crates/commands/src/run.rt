@@ -1,0 +1,189 @@
+ghost use Rattle.std.specs.Prelude.{◌≡◌, ◌-◌, ◌^◌, ◌<◌, ◌≤◌, true, map, IfOk, IfErr, OnOk, OnErr};
+ghost use Rattle.std.specs.String.{string_bytes};
+ghost use Rattle.std.specs.Io.KnownBytes.{Keeps};
+ghost use Rattle.heap_layout.specs.Counted.{inner_of, failures_of, is_flushed_of, writer_of};
+ghost use Rattle.command_line.specs.Asked.{AsksNoCommand, HasLawfulCounts};
+ghost use Rattle.commands.specs.Printing.{CountsPrint};
+ghost use Rattle.commands.specs.Replays.{StopsUnprinted};
+ghost use Rattle.commands.specs.Tasks.{Answers, AreWrong, DoesTask, HasAnswered, IsRefused, RefusesTask};
+
+use crate::audit::print_audit;
+use crate::compact::{Compaction, print_compact};
+use crate::dumps::{Dumps, FileDumps};
+use crate::images::{FileImages, Images};
+use crate::plan::print_plan;
+use crate::print::{flush, print_help, print_text};
+use crate::race::print_race;
+use crate::refusal::Refusal;
+use crate::replay::{Running, print_replay};
+use crate::traces::{FileTraces, Traces};
+use crate::word::print_word;
+use clap::error::ErrorKind;
+use command_line::words::{Task, VERSION_LINE, read_task};
+use heap_layout::counted::Counted;
+use std::alloc::Global;
+use std::io::Write;
+use std::rt::Files;
+use std::sync::Wait;
+use std::thread::Threads;
+
+/// The status of a run that did what it was asked, or printed help or the version.
+pub const DONE: u8 = 0;
+
+/// The status of a run that was refused by name, on standard error.
+pub const REFUSED: u8 = 1;
+
+/// The status of a run whose words were wrong.
+pub const MISUSED: u8 = 2;
+
+/// Does what the words after the program's name ask, and answers the status. Files are opened, and threads started, through `rt`; `out` is flushed at the
+/// end. A refusal is one line on `err`; a call of `out` that fails is one.
+pub fn run<R: Files + AllocGlobal + Threads + Wait + Sync, O: Write, E: Write>(
+    rt: &R,
+    words: Vec<String>,
+    out: &mut O,
+    err: &mut E,
+) -> u8
+    ensures status { result ≤ 2 }
+    ensures done { result ≡ 0 → HasAnswered (map string_bytes words.items) (O.contents out.old) (O.contents out.new) }
+    ensures wrong { result ≡ 2 → AsksNoCommand (map string_bytes words.items) }
+    ensures misused { result ≡ 2 → Keeps (O.contents out.old) (O.contents out.new) }
+{
+    let mut out = Counted::new(out);
+    let asked = read_task(rt.alloc(), &words);
+    respond(
+        rt.alloc(),
+        rt,
+        &FileImages { rt },
+        &FileTraces { rt },
+        &mut FileDumps { rt },
+        asked,
+        &mut out,
+        err,
+    )
+}
+
+/// Does what is asked, and answers the status. A refusal is one line on `err`; a call of `out` that fails is one.
+pub fn respond<R: Threads + Wait + Sync, I: Images, T: Traces, D: Dumps, O: Write, E: Write>(
+    alloc: Global,
+    rt: &R,
+    images: &I,
+    traces: &T,
+    dumps: &mut D,
+    asked: Result<Task, clap::Error>,
+    out: &mut Counted<&mut O>,
+    err: &mut E,
+) -> u8
+    requires written { failures_of out.old < 2 ^ 64 - 1 }
+    requires counts { IfOk asked HasLawfulCounts }
+    ensures status { result ≤ 2 }
+    ensures done { result ≡ 0 → Answers (I.gives images.now) I.Reader.remaining (T.gives traces.now) T.Reader.remaining (D.gives dumps.old) D.Writer.contents (O.contents (inner_of out.old).now) (O.contents (inner_of out.new).now) asked.entry }
+    ensures flushed { result ≡ 0 → is_flushed_of out.new ≡ true }
+    ensures refused { result ≡ 1 → IsRefused (I.lacks images.now) (I.gives images.now) I.Reader.remaining (T.lacks traces.now) (T.gives traces.now) T.Reader.remaining
+        (D.lacks dumps.old) (D.gives dumps.old) D.Writer.contents (failures_of out.old) (failures_of out.new) (O.contents (inner_of out.old).now) (O.contents (inner_of out.new).now) asked.entry }
+    ensures wrong { result ≡ 2 → AreWrong asked.entry }
+    ensures misused { result ≡ 2 → Keeps (O.contents (inner_of out.old).now) (O.contents (inner_of out.new).now) }
+    ensures same_writer { writer_of out.new ≡ writer_of out.old }
+{
+    match asked {
+        Ok(task) => told(perform(alloc, rt, images, traces, dumps, task, out), err),
+        Err(error) if error.kind() == ErrorKind::OutOfMemory => told(
+            Err(Refusal::OutOfMemory),
+            err,
+        ),
+        Err(error) => {
+            let _ = write!(err, "{error}");
+            MISUSED
+        }
+    }
+}
+
+/// Does a task.
+pub fn perform<R: Threads + Wait + Sync, I: Images, T: Traces, D: Dumps, O: Write>(
+    alloc: Global,
+    rt: &R,
+    images: &I,
+    traces: &T,
+    dumps: &mut D,
+    task: Task,
+    out: &mut Counted<&mut O>,
+) -> Result<(), Refusal>
+    requires written { failures_of out.old < 2 ^ 64 - 1 }
+    requires counts { HasLawfulCounts task }
+    ensures done { OnOk result (DoesTask (I.gives images.now) I.Reader.remaining (T.gives traces.now) T.Reader.remaining (D.gives dumps.old) D.Writer.contents (O.contents (inner_of out.old).now) (O.contents (inner_of out.new).now) task.entry) }
+    ensures cause { IfErr result (RefusesTask (I.lacks images.now) (I.gives images.now) I.Reader.remaining (T.lacks traces.now) (T.gives traces.now) T.Reader.remaining
+        (D.lacks dumps.old) (D.gives dumps.old) D.Writer.contents (O.contents (inner_of out.old).now) (O.contents (inner_of out.new).now) task.entry) }
+    ensures flushed { OnOk result (is_flushed_of out.new ≡ true) }
+    ensures counts { CountsPrint (failures_of out.old) (failures_of out.new) result }
+    ensures same_writer { writer_of out.new ≡ writer_of out.old }
+    ensures unprinted { StopsUnprinted (O.contents (inner_of out.old).now) (O.contents (inner_of out.new).now) result }
+{
+    match task {
+        Task::Plan { image } => print_plan(alloc, images, image, out)?,
+        Task::Word { image, index } => print_word(alloc, images, image, index, out)?,
+        Task::Replay(run) => print_replay(
+            alloc,
+            images,
+            traces,
+            dumps,
+            Running {
+                image: run.image,
+                trace: run.trace,
+                dump: run.dump,
+                mutators: run.mutators,
+                fresh: run.fresh,
+            },
+            out,
+        )?,
+        Task::Race(run) => print_race(
+            alloc,
+            rt,
+            images,
+            traces,
+            dumps,
+            Running {
+                image: run.image,
+                trace: run.trace,
+                dump: run.dump,
+                mutators: run.mutators,
+                fresh: run.fresh,
+            },
+            out,
+        )?,
+        Task::Compact {
+            image,
+            dump,
+            workers,
+        } => print_compact(
+            alloc,
+            rt,
+            images,
+            dumps,
+            Compaction {
+                image,
+                dump,
+                workers,
+            },
+            out,
+        )?,
+        Task::Audit { image, dump } => print_audit(alloc, images, image, dump, out)?,
+        Task::Help { text } => print_help(&text, out)?,
+        Task::Version => print_text(VERSION_LINE, out)?,
+    }
+    flush(out)
+}
+
+// The status of a task; a refusal is told. There is nowhere left to tell that telling failed.
+fn told<E: Write>(outcome: Result<(), Refusal>, err: &mut E) -> u8
+    ensures done { OnOk outcome (result ≡ 0) }
+    ensures refused { OnErr outcome (result ≡ 1) }
+{
+    match outcome {
+        Ok(()) => DONE,
+        Err(refusal) => {
+            let _ = writeln!(err, "compressor: {refusal}");
+            let _ = err.flush();
+            REFUSED
+        }
+    }
+}
