@@ -1,6 +1,4 @@
 //! What the words of the command line ask.
 #![tactic(auto)]
 
-#[cfg(test)]
-mod tests;
 pub mod words;

@@ -1,6 +1,8 @@
-//! Runs of the program and of its commands: what they print, write and refuse, with values from outside.
+//! What words ask, and runs of the program and of its commands: what they print, write and refuse, with values from outside.
 #![tactic(auto)]
 
+#[cfg(test)]
+mod asking;
 #[cfg(test)]
 mod auditing;
 #[cfg(test)]

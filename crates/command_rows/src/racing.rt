@@ -2,11 +2,11 @@
 ghost use Rattle.std.specs.Prelude.{◌≤◌};
 
 use crate::programs::three_image;
+use command_line::words::TraceRun;
 use commands::dumps::FileDumps;
 use commands::images::FileImages;
 use commands::race::print_race;
 use commands::refusal::{Input, Refusal};
-use commands::replay::Running;
 use commands::traces::FileTraces;
 use comp_mutator::refusal::Refusal as MutatorRefusal;
 use comp_trace::fault::TraceFault;
@@ -45,7 +45,7 @@ fn race_on<R: Files + AllocGlobal + Threads + Wait + Sync>(
         &FileImages { rt },
         &FileTraces { rt },
         &mut FileDumps { rt },
-        Running {
+        TraceRun {
             image,
             trace,
             dump: "race.tests.out",

@@ -1,10 +1,11 @@
 //! Traces that are run over heaps: the dump, the lines, and what a refusal leaves.
 use crate::places::{Failure, Narrow, Place, push_small_numbers};
 use crate::programs::{run_on, three_image};
+use command_line::words::TraceRun;
 use commands::dumps::FileDumps;
 use commands::images::FileImages;
 use commands::refusal::{Input, Refusal};
-use commands::replay::{Running, print_replay};
+use commands::replay::print_replay;
 use commands::traces::{FileTraces, trace_in};
 use comp_audit::fault::DumpFault;
 use heap_layout::counted::Counted;
@@ -183,7 +184,7 @@ fn prints_nothing_where_the_dump_is_cut_off(rt: HostRuntime) -> Result<(), Fail>
             &FileImages { rt: &rt },
             &FileTraces { rt: &rt },
             &mut place,
-            Running {
+            TraceRun {
                 image: "cut.tests.img",
                 trace: "cut.tests.trace",
                 dump: "out",

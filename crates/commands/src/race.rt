@@ -10,9 +10,10 @@ use crate::dumps::Dumps;
 use crate::images::{Images, heap_at};
 use crate::races::race_heap;
 use crate::refusal::Refusal;
-use crate::replay::{Running, write_run};
+use crate::replay::write_run;
 use crate::shown::print_shown;
 use crate::traces::{Traces, trace_at};
+use command_line::words::TraceRun;
 use heap_layout::counted::Counted;
 use std::alloc::Global;
 use std::io::Write;
@@ -28,7 +29,7 @@ pub fn print_race<R: Threads + Wait + Sync, I: Images, T: Traces, D: Dumps, O: W
     images: &I,
     traces: &T,
     dumps: &mut D,
-    asked: Running<'_>,
+    asked: TraceRun<'_>,
     out: &mut Counted<&mut O>,
 ) -> Result<(), Refusal>
     requires mutators { (1 ≤ asked.mutators) × (asked.mutators ≤ 64) }

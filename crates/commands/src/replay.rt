@@ -14,20 +14,11 @@ use crate::refusal::Refusal;
 use crate::replays::{Replayed, replay_heap};
 use crate::shown::print_shown;
 use crate::traces::{Traces, trace_at};
+use command_line::words::TraceRun;
 use comp_audit::dump::Dump;
 use heap_layout::counted::Counted;
 use std::alloc::Global;
 use std::io::Write;
-
-/// What a trace is to be run over, and with how many mutators, 1 to 64, and fresh pages, 4,096 at most. The dump is written to its own path.
-#[derive(Clone, Copy, Debug)]
-pub struct Running<'a> {
-    pub image: &'a str,
-    pub trace: &'a str,
-    pub dump: &'a str,
-    pub mutators: u8,
-    pub fresh: u32,
-}
 
 /// Runs the trace at a path over the heap whose image lies at another, by one thread; the dump of what is left is written, and then the values that lines showed are
 /// printed, and the live words. Where a line is refused, the values of those before it are printed, and no dump is created.
@@ -36,7 +27,7 @@ pub fn print_replay<I: Images, T: Traces, D: Dumps, O: Write>(
     images: &I,
     traces: &T,
     dumps: &mut D,
-    asked: Running<'_>,
+    asked: TraceRun<'_>,
     out: &mut Counted<&mut O>,
 ) -> Result<(), Refusal>
     requires mutators { (1 ≤ asked.mutators) × (asked.mutators ≤ 64) }
@@ -69,7 +60,7 @@ pub fn print_replay<I: Images, T: Traces, D: Dumps, O: Write>(
 pub fn write_run<D: Dumps, O: Write>(
     alloc: Global,
     dumps: &mut D,
-    asked: Running<'_>,
+    asked: TraceRun<'_>,
     run: &Replayed,
     out: &mut Counted<&mut O>,
 ) -> Result<(), Refusal>

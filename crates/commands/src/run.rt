@@ -15,7 +15,7 @@ use crate::plan::print_plan;
 use crate::print::{flush, print_help, print_text};
 use crate::race::print_race;
 use crate::refusal::Refusal;
-use crate::replay::{Running, print_replay};
+use crate::replay::print_replay;
 use crate::traces::{FileTraces, Traces};
 use crate::word::print_word;
 use clap::error::ErrorKind;
@@ -121,35 +121,8 @@ pub fn perform<R: Threads + Wait + Sync, I: Images, T: Traces, D: Dumps, O: Writ
     match task {
         Task::Plan { image } => print_plan(alloc, images, image, out)?,
         Task::Word { image, index } => print_word(alloc, images, image, index, out)?,
-        Task::Replay(run) => print_replay(
-            alloc,
-            images,
-            traces,
-            dumps,
-            Running {
-                image: run.image,
-                trace: run.trace,
-                dump: run.dump,
-                mutators: run.mutators,
-                fresh: run.fresh,
-            },
-            out,
-        )?,
-        Task::Race(run) => print_race(
-            alloc,
-            rt,
-            images,
-            traces,
-            dumps,
-            Running {
-                image: run.image,
-                trace: run.trace,
-                dump: run.dump,
-                mutators: run.mutators,
-                fresh: run.fresh,
-            },
-            out,
-        )?,
+        Task::Replay(run) => print_replay(alloc, images, traces, dumps, run, out)?,
+        Task::Race(run) => print_race(alloc, rt, images, traces, dumps, run, out)?,
         Task::Compact {
             image,
             dump,

@@ -1,5 +1,5 @@
 //! Which words ask what.
-use crate::words::{Task, TraceRun, VERSION_LINE, read_task};
+use command_line::words::{Task, TraceRun, VERSION_LINE, read_task};
 use std::alloc::Global;
 use std::test::Fail;
 
