@@ -14,3 +14,4 @@ pub mod Walking
 pub mod Racing
 pub mod RaceRuns
 pub mod Audited
+pub mod Once

@@ -1,7 +1,6 @@
 -- What the command `race` does and refuses, from what its parts do and refuse.
-use Rattle.std.proofs.Common.{◌≡◌, ℕ, ◌+◌, List, [], Option, Some, None, Result, Ok, Err, IfErr, OnOk, length, inl, inr, refl, sym, subst}
-use Rattle.std.specs.Prelude.{⊤}
-use Rattle.std.proofs.KnownBytes.{Appends-kept, Keeps-refl}
+use Rattle.std.proofs.Common.{◌≡◌, ℕ, List, Option, Result, Ok, Err, IfErr, OnOk, length, inl, inr, subst}
+use Rattle.std.proofs.KnownBytes.{Appends-kept}
 use Rattle.std.specs.Io.KnownBytes.{Appends, Keeps}
 use Rattle.heap_layout.specs.Heap.{Heap}
 use Rattle.comp_mutator.specs.Finishes.{live_of}

@@ -1,8 +1,6 @@
 -- What a race over new mutators leaves.
-use Rattle.std.proofs.Common.{◌≡◌, ℕ, ◌<◌, List, All, length, map, refl, sym, ap, subst, ◌∙◌, arith}
+use Rattle.std.proofs.Common.{◌≡◌, ℕ, ◌<◌, List, All, length, map, refl, sym, subst, ◌∙◌, arith}
 use Rattle.std.proofs.lemmas.List.{length-map}
-use mathlib.Core.Option.{some}
-use lib.ListN.{get_elem?}
 use Rattle.heap_layout.specs.Heap.{live}
 use Rattle.page_plan.specs.Sliding as sliding
 use Rattle.page_plan.specs.declared.builder.Builder.{Ghosts}
@@ -16,10 +14,8 @@ use Rattle.comp_mutator.specs.Finishes.{history_of, IsFinished}
 use Rattle.comp_mutator.specs.Mutators.{cells_of, pass_of, setup_of}
 use Rattle.comp_mutator.specs.declared.finishing.Finished.{Finished}
 use Rattle.comp_mutator.specs.declared.mutator.Mutator.{Mutator}
-use Rattle.comp_mutator.specs.declared.refusal.Refusal.{Refusal}
 use Rattle.comp_mutator.specs.declared.space.Space.{Space}
-use Rattle.comp_trace.specs.Bytes.{flipped}
-use Rattle.comp_trace.specs.Grammar.{parts, trace_of}
+use Rattle.comp_trace.specs.Grammar.{parts}
 use Rattle.comp_trace.specs.Races.{numbered, own_lines, HaveRaced, Ran}
 use Rattle.comp_trace.specs.declared.fault.Stop.{Stop}
 use Rattle.comp_trace.specs.declared.line.Line.{Line}

@@ -3,8 +3,9 @@ use Rattle.std.specs.Prelude.{◌≡◌, ◌⊎◌, ℕ, ◌+◌, ◌<◌, ◌�
 use Rattle.std.specs.Fmt.{decimal}
 use Rattle.std.specs.Io.KnownBytes.{Appends, Keeps}
 use Rattle.std.specs.List.{flat_map, range_with_len}
-use Rattle.heap_layout.specs.Encoding.{Refuses}
-use Rattle.heap_layout.specs.Heap.{live, Heap}
+use Rattle.heap_layout.specs.Encoding.{encoding, Refuses}
+use Rattle.heap_layout.specs.Faults.{IsAccepted}
+use Rattle.heap_layout.specs.Heap.{live, Heap, IsStored}
 use Rattle.page_plan.specs.Sliding.{forwarded, live_words}
 use Rattle.comp_journal.specs.Journal.{replayed}
 use Rattle.comp_journal.specs.declared.entry.Entry.{Entry}
@@ -184,3 +185,30 @@ RefusesReplay absent given remaining missing told rest lacks gives contents muta
 RefusesReplay absent given remaining missing told rest lacks gives contents mutators fresh before after OutOfMemory = Unit {0}
 RefusesReplay absent given remaining missing told rest lacks gives contents mutators fresh before after refusal =
     SomeRun given remaining told rest mutators (RefusesRun lacks gives contents mutators fresh before after refusal)
+
+-- ---- a replay is one function of its files
+
+-- The bytes of an image are those of a stored and accepted heap, and the text is a trace, whose run over that heap leads here, with a dump behind it.
+pub record IsReplay (mutators fresh : ℕ) (image text : List ℕ) (end : Moment) (dump : Dumped) : Type 0 where
+  pub heap : Heap
+  pub stored : IsStored heap
+  pub accepted : IsAccepted heap
+  pub image_is : image ≡ encoding heap
+  pub lines : List Line
+  pub text_is : HasLines mutators (length heap.roots) lines text
+  pub runs : Runs (flipped heap mutators fresh) no_entries 1 lines beginning end
+  pub left : IsDumpAfter (flipped heap mutators fresh) end.added dump
+
+-- Two replays show the same values and add the same entries; their dumps have the same roots and live words, and each page that both have built is the same.
+pub record AreOne (end other : Moment) (dump second : Dumped) : Type 0 where
+  pub shown : end.shown ≡ other.shown
+  pub added : end.added ≡ other.added
+  pub roots : dump.roots ≡ second.roots
+  pub total : dump.total ≡ second.total
+  pub places : length dump.pages ≡ length second.pages
+  pub pages : (p : ℕ) (page found : BuiltPage) → p < length dump.pages → page_in dump p ≡ Some page → page_in second p ≡ Some found → page ≡ found
+
+-- the same bytes, with the same numbers of mutators and of fresh pages, have one replay
+abbrev pub ReplaysAreOne : Type 0
+ReplaysAreOne = (mutators fresh : ℕ) (image text : List ℕ) (end other : Moment) (dump second : Dumped)
+    → IsReplay mutators fresh image text end dump → IsReplay mutators fresh image text other second → AreOne end other dump second

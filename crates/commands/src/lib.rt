@@ -6,6 +6,7 @@ mod by_line;
 pub mod compact;
 pub mod dumps;
 pub mod images;
+pub mod laws;
 pub mod plan;
 mod print;
 pub mod race;
