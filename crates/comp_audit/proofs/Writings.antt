@@ -1,12 +1,12 @@
 -- Lemmas on writing one part behind another.
-use Rattle.std.proofs.Common.{◌≡◌, ℕ, suc, ◌+◌, ◌<◌, inl, inr, List, [], ◌∷◌, ◌++◌, length, take, drop, get_or, Option, sym, ap, subst, ◌∙◌, arith, append-nil, take-append-drop, All}
+use Rattle.std.proofs.Common.{◌≡◌, ℕ, suc, ◌+◌, ◌-◌, ◌<◌, inl, inr, List, [], ◌∷◌, ◌++◌, length, take, drop, get_or, Option, sym, ap, subst, ◌∙◌, arith, append-nil, take-append-drop, All}
 use Rattle.std.specs.List.{flat_map}
 use Rattle.std.specs.Io.KnownBytes.{Appends}
 use Rattle.std.proofs.KnownBytes.{Appends-trans}
 use Rattle.std.proofs.lemmas.List.{take-append-le, take_all}
 use Rattle.std.proofs.lemmas.List.Concat.{flat_map-append, flat_map-cons}
 use Rattle.std.proofs.lemmas.Bool.{cases_lt}
-use Rattle.std.proofs.Math.Seq.{take-append-add, drop-cons}
+use Rattle.std.proofs.Math.Seq.{take-add, take-append-add, drop-cons}
 use Rattle.std.specs.Global.{Vec}
 use Rattle.std.proofs.Math.ListN.{get_or-map}
 use Rattle.std.proofs.lemmas.List.{length-map, map-append, take_more}
@@ -43,6 +43,31 @@ some_in {X = X} bytes a b c i d x xs inside is before h =
     ap (flat_map bytes) parts ∙ flat_map-append bytes (take i xs) (x ∷ behind) ∙ ap (λ (rest : List ℕ). flat_map bytes (take i xs) ++ rest) (flat_map-cons bytes x behind) in
     subst (AppendsSome a c) (sym all)
     (some_then a b c (flat_map bytes (take i xs)) (bytes x ++ flat_map bytes behind) before (some_first b c (bytes x) (flat_map bytes behind) h))
+
+-- some items more, behind the first i
+pub items_more : {X : Type 0} (bytes : X → List ℕ) (a b c : Option (List ℕ)) (i n : ℕ) (xs : List X)
+    → Appends a b (flat_map bytes (take i xs)) → Appends b c (flat_map bytes (take (i + n - i) (drop i xs))) → Appends a c (flat_map bytes (take (i + n) xs))
+items_more {X = X} bytes a b c i n xs before h =
+    let some = take n (drop i xs) in
+    let many : i + n - i ≡ n = omega arith in
+    let all : flat_map bytes (take (i + n) xs) ≡ flat_map bytes (take i xs) ++ flat_map bytes some =
+    ap (flat_map bytes) (take-add i n xs) ∙ flat_map-append bytes (take i xs) some in
+    let appended : Appends b c (flat_map bytes some) = subst (λ (k : ℕ). Appends b c (flat_map bytes (take k (drop i xs)))) many h in
+    subst (Appends a c) (sym all) (Appends-trans a b c (flat_map bytes (take i xs)) (flat_map bytes some) before appended)
+
+-- of some items behind the first i a beginning is written
+pub some_within : {X : Type 0} (bytes : X → List ℕ) (a b c : Option (List ℕ)) (i n : ℕ) (xs : List X)
+    → Appends a b (flat_map bytes (take i xs)) → AppendsSome b c (flat_map bytes (take n (drop i xs))) → AppendsSome a c (flat_map bytes xs)
+some_within {X = X} bytes a b c i n xs before h =
+    let front = take i xs in
+    let rest = drop i xs in
+    let parts : rest ≡ take n rest ++ drop n rest = sym (take-append-drop n rest) in
+    let all : flat_map bytes xs ≡ flat_map bytes front ++ (flat_map bytes (take n rest) ++ flat_map bytes (drop n rest)) =
+    ap (flat_map bytes) (sym (take-append-drop i xs)) ∙ flat_map-append bytes front rest
+    ∙ ap (λ (more : List ℕ). flat_map bytes front ++ more) (ap (flat_map bytes) parts ∙ flat_map-append bytes (take n rest) (drop n rest)) in
+    subst (AppendsSome a c) (sym all)
+    (some_then a b c (flat_map bytes front) (flat_map bytes (take n rest) ++ flat_map bytes (drop n rest)) before
+    (some_first b c (flat_map bytes (take n rest)) (flat_map bytes (drop n rest)) h))
 
 -- what holds of the items of each list holds of those of one
 pub list_at : (P : List ℕ → Type 0) (lists : List (Vec ℕ)) (i : ℕ) (d v : Vec ℕ) → i < length lists → v ≡ get_or lists i d → All P (items_of lists) → P v.items

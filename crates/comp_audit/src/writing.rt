@@ -99,13 +99,28 @@ fn write_entries<W: Write>(w: &mut Counted<W>, journal: &[Entry]) -> Result<(), 
     Ok(())
 }
 
-/// Numbers of 8 bytes each.
+/// At most 64 numbers of 8 bytes each, as one part.
+fn write_some_words<W: Write>(w: &mut Counted<W>, words: &[u64]) -> Result<(), DumpFault>
+    requires { length words.now ≤ 64 }
+    ensures writes { Writes (W.contents (inner_of w.old)) (W.contents (inner_of w.new)) (flat_map eight_bytes words.now) result }
+    ensures counts { CountsOne (failures_of w.old) (failures_of w.new) result }
+{
+    let mut bytes = [0; 512];
+    let part = &mut bytes[..8 * words.len()];
+    LittleEndian::write_u64_into(words, part);
+    write_part(w, part)
+}
+
+/// Numbers of 8 bytes each, a page of them at a time.
 fn write_words<W: Write>(w: &mut Counted<W>, words: &[u64]) -> Result<(), DumpFault>
     ensures writes { Writes (W.contents (inner_of w.old)) (W.contents (inner_of w.new)) (flat_map eight_bytes words.now) result }
     ensures counts { CountsOne (failures_of w.old) (failures_of w.new) result }
 {
-    for word in words {
-        write_eight(w, *word)?;
+    let mut written = 0;
+    while written < words.len() {
+        let some = (words.len() - written).min(64);
+        write_some_words(w, &words[written..written + some])?;
+        written += some;
     }
     Ok(())
 }

@@ -2,6 +2,7 @@ ghost use Rattle.std.specs.Prelude.{◌≡◌, ◌↔◌, ◌+◌, ◌-◌, ◌<
 ghost use Rattle.comp_journal.specs.Journal.{replayed};
 ghost use Rattle.comp_journal.specs.declared.refusal.JournalRefusal.TheVariants.{JournalFull};
 
+use crate::base_words::{BaseWords, keep};
 use crate::entry::Entry;
 use crate::refusal::JournalRefusal;
 use heap_layout::page_words::{PAGE_WORDS, PageWords};
@@ -14,23 +15,26 @@ pub const MOST_ENTRIES: usize = 1_024;
 /// A page with its journal. Its words are what the journal, in order, makes of the base.
 #[derive(Debug, Drop)]
 pub struct JournaledPage {
-    base: [u64; PAGE_WORDS],
+    // Kept apart from the first reservation on; a page that has none has no journal, and begins with its words.
+    base: Option<BaseWords>,
     words: PageWords,
     journal: Vec<Entry>,
 }
 
 impl Model for JournaledPage {
-    ghost use Rattle.std.specs.Prelude.{◌≡◌, ◌≤◌, ◌-◌, min, length, vec_len, vec_capacity};
+    ghost use Rattle.std.specs.Prelude.{◌≡◌, ◌≤◌, ◌-◌, None, min, length, vec_len, vec_capacity};
+    ghost use Rattle.std.specs.Option.{unwrap_or};
     ghost use Rattle.comp_journal.specs.Journal.{replayed, Reserved};
 
     ghost Value = { Reserved };
 
     ghost view = { λ page. record {
-      page = record { base = page.base; journal = page.journal.items };
+      page = record { base = unwrap_or page.base page.words; journal = page.journal.items };
       room = min (vec_capacity page.journal) 1024 - vec_len page.journal;
     } };
 
-    ghost invariant = { λ page. (page.words ≡ replayed page.base page.journal.items) × (vec_len page.journal ≤ 1024) };
+    ghost invariant = { λ page. (page.words ≡ replayed (unwrap_or page.base page.words) page.journal.items) × (vec_len page.journal ≤ 1024)
+        × (page.base ≡ None → (vec_len page.journal ≡ 0) × (vec_capacity page.journal ≡ 0)) };
 }
 
 impl JournaledPage {
@@ -38,9 +42,8 @@ impl JournaledPage {
     pub fn new(alloc: Global, words: PageWords) -> JournaledPage
         ensures { result.page ≡ record { base = words; journal = [] } }
     {
-        let base = *words.as_array();
         JournaledPage {
-            base,
+            base: None,
             words,
             journal: Vec::new(alloc),
         }
@@ -65,7 +68,10 @@ impl JournaledPage {
     pub fn base(&self) -> &[u64; PAGE_WORDS]
         ensures { result.now ≡ self.now.page.base }
     {
-        &self.base
+        match &self.base {
+            Some(base) => base.as_array(),
+            None => self.words.as_array(),
+        }
     }
 
     /// Reserves room for one entry.
@@ -80,6 +86,8 @@ impl JournaledPage {
         if self.journal.len() == MOST_ENTRIES {
             return Err(JournalRefusal::JournalFull);
         }
+        let alloc = *self.journal.allocator();
+        keep(&mut self.base, alloc, self.words.as_array())?;
         self.journal.reserve(1)?;
         Ok(())
     }

@@ -1,13 +1,20 @@
-use Rattle.std.proofs.Common.{refl}
+use Rattle.std.proofs.Common.{rules, arith}
 use Rattle.std.proofs.lemmas.Result.{err_from_is_err_and}
 use Rattle.comp_audit.specs.DumpEncoding.{eight_bytes}
-use Rattle.comp_audit.proofs.Writings.{some_in}
+use Rattle.comp_audit.proofs.Writings.{items_more, some_within}
 use Rattle.comp_audit.proofs.writing.write_words.Goals as goal
 
-pub returns-in_err-write_eight-clause-writes : goal.returns-in_err-write_eight-clause-writes
-returns-in_err-write_eight-clause-writes g c =
+pub returns-in_err-write_some_words-clause-writes : goal.returns-in_err-write_some_words-clause-writes
+returns-in_err-write_some_words-clause-writes g c =
     let p = err_from_is_err_and c.from_residual.result c.from_residual.ensures.1 in
     rw (p.1, p.2) (
-      c.in_err-write_eight.ensures.writes.0,
-      some_in eight_bytes _ _ _ c.loop-word.word-index _ _ c.args.words.now c.loop-word-test.true refl c.loop-word.invariant.written c.in_err-write_eight.ensures.writes.1,
+      c.in_err-write_some_words.ensures.writes.0,
+      some_within eight_bytes _ _ _ c.loop-written.written _ c.args.words.now c.loop-written.invariant.appended c.in_err-write_some_words.ensures.writes.1,
     )
+
+pub loop-written-preserved : goal.loop-written-preserved
+loop-written-preserved g c = record {
+  within = search rules;
+  appended = items_more eight_bytes _ _ _ c.loop-written.written c.min-some.result c.args.words.now c.loop-written.invariant.appended c.in_ok-write_some_words.ensures.writes;
+  none_failed = omega (arith, c.in_ok-write_some_words.ensures.counts, c.loop-written.invariant.none_failed);
+}
