@@ -16,6 +16,9 @@ use std::fs;
 use std::io::{BufWriter, Write};
 use std::rt::Files;
 
+// How many bytes of a dump are written by one call of its file.
+const WRITTEN_AT_ONCE: usize = 65_536;
+
 /// Where the dumps lie that the program makes, by their paths.
 pub trait Dumps {
     type Writer: Write + Drop;
@@ -48,7 +51,8 @@ impl<R: Files + AllocGlobal> Dumps for FileDumps<'_, R> {
 
     fn create(&mut self, path: &str) -> Result<BufWriter<R::File, Global>, Refusal> {
         let file = fs::create(self.rt, path).map_err(|_| Refusal::CannotCreate(Output::Dump))?;
-        BufWriter::new(self.rt.alloc(), file).map_err(|_| Refusal::OutOfMemory)
+        BufWriter::with_capacity(self.rt.alloc(), WRITTEN_AT_ONCE, file)
+            .map_err(|_| Refusal::OutOfMemory)
     }
 }
 
