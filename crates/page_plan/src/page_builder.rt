@@ -44,9 +44,36 @@ pub fn cursor_to(plan: &Plan, place: u64) -> Cursor
 {
     let mut cursor = cursor_at(plan, place / 64);
     while cursor.place < place {
-        cursor = next(plan, cursor);
+        cursor = skip(plan, cursor, place - cursor.place);
     }
     cursor
+}
+
+// So many words further, but no further than the first word of the next object.
+fn skip(plan: &Plan, cursor: Cursor, words: u64) -> Cursor
+    requires at { IsAt plan.now cursor.place cursor.number cursor.within }
+    requires known { cursor.place < live_words (live plan.now) }
+    requires some { 0 < words }
+    requires small { cursor.place + words < 2 ^ 40 }
+    ensures at { IsAt plan.now result.place result.number result.within }
+    ensures further { cursor.place < result.place }
+    ensures within { result.place ≤ cursor.place + words }
+{
+    let mark = plan.heap().marks()[cursor.number];
+    let rest = size_at(plan.heap().words(), mark) - cursor.within as u64;
+    if words < rest {
+        Cursor {
+            place: cursor.place + words,
+            number: cursor.number,
+            within: cursor.within + words as usize,
+        }
+    } else {
+        Cursor {
+            place: cursor.place + rest,
+            number: cursor.number + 1,
+            within: 0,
+        }
+    }
 }
 
 /// The word behind it.

@@ -147,8 +147,10 @@ impl Plan {
         let mut page = PageWords::zeros(alloc)?;
         let mut cursor = page_builder::cursor_at(self, p);
         for offset in 0..64 {
-            page.set(offset, page_builder::word_at(self, cursor));
+            let word = page_builder::word_at(self, cursor);
+            // Found before the write, so that what was read of the object need not be read anew.
             cursor = page_builder::next(self, cursor);
+            page.set(offset, word);
         }
         Ok(page)
     }
