@@ -1,7 +1,7 @@
 //! What tests expect of pages, of the answers of calls, and of finished heaps.
 ghost use Rattle.comp_mutator.specs.Mutators.{IsMutatorOf};
 
-use crate::flipped::{allocate, copy, read_data, touch};
+use crate::flipped::{copy, touch};
 use comp_mutator::finishing::Finished;
 use comp_mutator::mutator::Mutator;
 use comp_mutator::pages::{PageCopy, Touched};
@@ -12,6 +12,26 @@ use std::alloc::Global;
 use std::process::Abort;
 use std::sync::ledger::Ledger as Named;
 use std::test::Fail;
+
+/// The call of this row is answered so.
+pub fn expect_answer(
+    rt: &impl Abort,
+    row: usize,
+    found: Result<u64, Refusal>,
+    wanted: Result<u64, Refusal>,
+) {
+    assert_eq!(rt; found, wanted, "row {row}");
+}
+
+/// There are so many.
+pub fn expect_count(rt: &impl Abort, found: u64, wanted: u64) {
+    assert_eq!(rt; found, wanted);
+}
+
+/// The roots of the space lead there.
+pub fn expect_roots<L: Named, B: Builder>(rt: &impl Abort, space: &Space<L, B>, wanted: &[u64]) {
+    assert_eq!(rt; space.roots(), wanted);
+}
 
 /// The page begins with these words, and all others are 0.
 pub fn expect_words(rt: &impl Abort, page: &PageCopy, begin: &[u64]) {
@@ -34,14 +54,15 @@ pub fn expect_unwritten<L: Named, B: Builder>(
     m: &mut Mutator<L>,
     p: u64,
     begin: &[u64],
-) -> Result<(), Fail>
+)
     requires of { IsMutatorOf space.now m.old }
     ensures of { IsMutatorOf space.now m.new }
 {
-    let page = copy(rt, alloc, space, m, p)?;
+    let Ok(page) = copy(rt, alloc, space, m, p) else {
+        panic!(rt; "a copy of page {p}");
+    };
     expect_words(rt, &page, begin);
-    assert_eq!(rt; page.journal.len(), 0);
-    Ok(())
+    expect_count(rt, page.journal.len() as u64, 0);
 }
 
 /// A touch of page `p`, which is there, is answered so.
@@ -57,40 +78,6 @@ pub fn expect_touch<L: Named, B: Builder>(
     ensures of { IsMutatorOf space.now m.new }
 {
     assert_eq!(rt; touch(rt, alloc, space, m, p), answer, "page {p}");
-}
-
-/// A read of a data field is answered so.
-pub fn expect_data<L: Named, B: Builder>(
-    rt: &impl Abort,
-    alloc: Global,
-    space: &Space<L, B>,
-    m: &mut Mutator<L>,
-    object: u64,
-    field: u16,
-    answer: Result<u64, Refusal>,
-)
-    requires of { IsMutatorOf space.now m.old }
-    ensures of { IsMutatorOf space.now m.new }
-{
-    let word = read_data(alloc, space, m, object, field);
-    assert_eq!(rt; word, answer, "field {field} of {object}");
-}
-
-/// A new object without references is answered so.
-pub fn expect_object<L: Named, B: Builder>(
-    rt: &impl Abort,
-    alloc: Global,
-    space: &Space<L, B>,
-    m: &mut Mutator<L>,
-    data_words: u16,
-    tag: u32,
-    answer: Result<u64, Refusal>,
-)
-    requires of { IsMutatorOf space.now m.old }
-    ensures of { IsMutatorOf space.now m.new }
-{
-    let address = allocate(alloc, space, m, 0, data_words, tag);
-    assert_eq!(rt; address, answer, "of {data_words} words");
 }
 
 /// The mutator of this number has built these pages, in this order.

@@ -2,10 +2,11 @@
 ghost use Rattle.std.specs.Prelude.{◌≡◌};
 ghost use Rattle.comp_mutator.specs.Mutators.{IsMutatorOf};
 
-use crate::expected::expect_built;
-use crate::flipped::{allocate, finish, finish_two, two};
+use crate::expected::{expect_built, expect_count};
+use crate::flipped::{finish, finish_two, two};
+use crate::rows::{Row, expect_rows};
 use comp_journal::journaled_page::JournaledPage;
-use comp_mutator::finishing::FinishFault;
+use comp_mutator::finishing::{FinishFault, Finished};
 use comp_mutator::mutator::Mutator;
 use comp_mutator::space::Space;
 use page_plan::builder::Builder;
@@ -17,6 +18,11 @@ use std::sync::ledger::{Blank, Ledger as Named};
 use std::test::Fail;
 use worked_heaps::heaps::{counting_heap, empty, planned};
 
+// The heap was not finished for this cause.
+fn expect_fault(rt: &impl Abort, found: FinishFault, wanted: FinishFault) {
+    assert_eq!(rt; found, wanted);
+}
+
 // No object at all: one of two mutators is handed in alone, and then both are.
 fn hand_in_one<L: Named>(rt: &impl Abort, alloc: Global, blank: Blank) -> Result<(), Fail>
     requires name { blank.name ≡ L.name }
@@ -27,12 +33,12 @@ fn hand_in_one<L: Named>(rt: &impl Abort, alloc: Global, blank: Blank) -> Result
     let Err(left) = space.finish(alloc, vec![in alloc; m0]?) else {
         panic!(rt; "mutator 1 is missing");
     };
-    assert_eq!(rt; left.fault, FinishFault::MutatorMissing(1));
+    expect_fault(rt, left.fault, FinishFault::MutatorMissing(1));
     let mut both = left.mutators;
-    assert_eq!(rt; both.len(), 1);
+    expect_count(rt, both.len() as u64, 1);
     both.push(m1)?;
     let finished = finish(rt, alloc, left.space, both);
-    assert_eq!(rt; finished.live_words(), 0);
+    expect_count(rt, finished.live_words(), 0);
     Ok(())
 }
 
@@ -46,9 +52,22 @@ fn settle<L: Named, B: Builder, R: Abort + Wait>(rt: &R, space: &Space<L, B>, m:
     requires of { IsMutatorOf space.now m.old }
     ensures of { IsMutatorOf space.now m.new }
 {
-    assert_eq!(rt; m.unposted(), 3);
+    expect_count(rt, m.unposted(), 3);
     assert_eq!(rt; space.settle(rt, m), Ok(()));
-    assert_eq!(rt; m.unposted(), 0);
+    expect_count(rt, m.unposted(), 0);
+}
+
+// An object of 3 words, and one of 5.
+const FIRST: [Row; 1] = [Row::Alloc(0, 2, 0, Ok(8_589_934_656))];
+
+const SECOND: [Row; 1] = [Row::Alloc(1, 3, 0, Ok(8_589_934_720))];
+
+// The finished heap has 18 words, and each mutator has built the page of its object.
+fn expect_eighteen(rt: &impl Abort, finished: &Finished) {
+    expect_count(rt, finished.live_words(), 18);
+    expect_slots(rt, finished.pages());
+    expect_built(rt, finished, 0, &[1]);
+    expect_built(rt, finished, 1, &[2]);
 }
 
 // 10 words slid; two mutators make objects of 3 and of 5 words, and the first one settles or does not.
@@ -64,18 +83,13 @@ fn finish_eighteen<L: Named, R: Abort + Wait>(
 {
     let builder = planned(alloc, counting_heap(alloc, 9)?)?;
     let (space, mut m0, mut m1) = two::<L, _>(rt, alloc, blank, builder, 2)?;
-    let first = allocate(alloc, &space, &mut m0, 0, 2, 0);
-    assert_eq!(rt; first, Ok(8_589_934_656));
-    let second = allocate(alloc, &space, &mut m1, 1, 3, 0);
-    assert_eq!(rt; second, Ok(8_589_934_720));
+    expect_rows(rt, alloc, &space, &mut m0, &FIRST);
+    expect_rows(rt, alloc, &space, &mut m1, &SECOND);
     if settles {
         settle(rt, &space, &mut m0);
     }
     let finished = finish_two(rt, alloc, space, m0, m1)?;
-    assert_eq!(rt; finished.live_words(), 18);
-    expect_slots(rt, finished.pages());
-    expect_built(rt, &finished, 0, &[1]);
-    expect_built(rt, &finished, 1, &[2]);
+    expect_eighteen(rt, &finished);
     Ok(())
 }
 

@@ -18,6 +18,8 @@ mod random_calls;
 #[cfg(test)]
 mod refusals;
 #[cfg(test)]
+mod rows;
+#[cfg(test)]
 mod threads;
 #[cfg(test)]
 mod touches;

@@ -2,8 +2,9 @@
 ghost use Rattle.std.specs.Prelude.{◌≡◌};
 ghost use Rattle.comp_mutator.specs.Mutators.{IsMutatorOf};
 
-use crate::expected::{expect_builds, expect_data, expect_touch};
-use crate::flipped::{allocate, finish_two, two, two_of_three, write_data, write_ref};
+use crate::expected::expect_count;
+use crate::flipped::{finish_two, two, two_of_three};
+use crate::rows::{Row, expect_rows};
 use comp_mutator::mutator::Mutator;
 use comp_mutator::pages::Touched;
 use comp_mutator::space::Space;
@@ -24,6 +25,16 @@ fn meet<L: Named, B: Builder>(space: &Space<L, B>, told: &mut Mutator<L>, m: &mu
     space.meet(told, m);
 }
 
+// One writes, and reads what the other one wrote.
+const WRITES: [Row; 1] = [Row::WriteData(T, 0, 7, Ok(0))];
+
+const READS: [Row; 2] = [Row::ReadData(T, 0, Ok(8)), Row::Builds(&[0])];
+
+// The other one reads, and writes; it has built nothing.
+const ANSWERS: [Row; 2] = [Row::ReadData(T, 0, Ok(7)), Row::WriteData(T, 0, 8, Ok(1))];
+
+const NOT_BUILT: [Row; 1] = [Row::Builds(&[])];
+
 // One writes, the two meet, and the other reads; then the other way round.
 fn read_met<L: Named>(rt: &impl Abort, alloc: Global, blank: Blank) -> Result<(), Fail>
     requires name { blank.name ≡ L.name }
@@ -31,14 +42,12 @@ fn read_met<L: Named>(rt: &impl Abort, alloc: Global, blank: Blank) -> Result<()
     requires count { blank.parts ≡ 2 }
 {
     let (space, mut m0, mut m1) = two_of_three::<L>(rt, alloc, blank, 0)?;
-    assert_eq!(rt; write_data(alloc, &space, &mut m0, T, 0, 7), Ok(0));
+    expect_rows(rt, alloc, &space, &mut m0, &WRITES);
     meet(&space, &mut m0, &mut m1);
-    expect_data(rt, alloc, &space, &mut m1, T, 0, Ok(7));
-    assert_eq!(rt; write_data(alloc, &space, &mut m1, T, 0, 8), Ok(1));
+    expect_rows(rt, alloc, &space, &mut m1, &ANSWERS);
     meet(&space, &mut m0, &mut m1);
-    expect_data(rt, alloc, &space, &mut m0, T, 0, Ok(8));
-    expect_builds(rt, &m0, &[0]);
-    expect_builds(rt, &m1, &[]);
+    expect_rows(rt, alloc, &space, &mut m0, &READS);
+    expect_rows(rt, alloc, &space, &mut m1, &NOT_BUILT);
     Ok(())
 }
 
@@ -47,25 +56,34 @@ fn reads_what_one_wrote_that_it_met(rt: HostRuntime) -> Result<(), Fail> {
     read_met::<Brand>(&rt, rt.alloc(), Blank::new(2))
 }
 
-// One makes an object of one word behind the three, and builds both pages; the other one then stores a reference to it, and touches them.
+// An object of one word is made behind the three, and both pages are built.
+const MADE: [Row; 2] = [
+    Row::Alloc(0, 0, 5, Ok(8_589_934_656)),
+    Row::Touch(0, Ok(Touched::Built)),
+];
+
+const LEFT: [Row; 2] = [Row::Builds(&[1, 0]), Row::Unposted(1)];
+
+// A reference to it is stored, and both pages are there.
+const STORED: [Row; 5] = [
+    Row::WriteRef(T + 2, 0, 8_589_934_656, Ok(1)),
+    Row::Touch(0, Ok(Touched::AlreadyBuilt)),
+    Row::Touch(1, Ok(Touched::AlreadyBuilt)),
+    Row::Builds(&[]),
+    Row::Unposted(0),
+];
+
+// One makes an object and builds both pages; the other one, once they met, stores a reference to it.
 fn store_met<L: Named>(rt: &impl Abort, alloc: Global, blank: Blank) -> Result<(), Fail>
     requires name { blank.name ≡ L.name }
     requires parts { blank.parts ≡ L.parts }
     requires count { blank.parts ≡ 2 }
 {
     let (space, mut m0, mut m1) = two_of_three::<L>(rt, alloc, blank, 2)?;
-    let made = allocate(alloc, &space, &mut m0, 0, 0, 5);
-    assert_eq!(rt; made, Ok(8_589_934_656));
-    expect_touch(rt, alloc, &space, &mut m0, 0, Ok(Touched::Built));
+    expect_rows(rt, alloc, &space, &mut m0, &MADE);
     meet(&space, &mut m1, &mut m0);
-    let stored = write_ref(alloc, &space, &mut m1, T + 2, 0, 8_589_934_656);
-    assert_eq!(rt; stored, Ok(1));
-    expect_touch(rt, alloc, &space, &mut m1, 0, Ok(Touched::AlreadyBuilt));
-    expect_touch(rt, alloc, &space, &mut m1, 1, Ok(Touched::AlreadyBuilt));
-    expect_builds(rt, &m0, &[1, 0]);
-    expect_builds(rt, &m1, &[]);
-    assert_eq!(rt; m0.unposted(), 1);
-    assert_eq!(rt; m1.unposted(), 0);
+    expect_rows(rt, alloc, &space, &mut m1, &STORED);
+    expect_rows(rt, alloc, &space, &mut m0, &LEFT);
     Ok(())
 }
 
@@ -85,8 +103,8 @@ fn meet_without_pages<L: Named>(rt: &impl Abort, alloc: Global, blank: Blank) ->
     meet(&space, &mut m0, &mut m1);
     meet(&space, &mut m1, &mut m0);
     let finished = finish_two(rt, alloc, space, m0, m1)?;
-    assert_eq!(rt; finished.pages().len(), 0);
-    assert_eq!(rt; finished.live_words(), 0);
+    expect_count(rt, finished.pages().len() as u64, 0);
+    expect_count(rt, finished.live_words(), 0);
     Ok(())
 }
 

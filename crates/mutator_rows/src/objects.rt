@@ -2,12 +2,9 @@
 ghost use Rattle.std.specs.Prelude.{◌≡◌};
 ghost use Rattle.comp_mutator.specs.Mutators.{setup_of, IsMutatorOf};
 
-use crate::expected::{
-    expect_all_stamps, expect_builds, expect_built, expect_object, expect_words,
-};
-use crate::flipped::{
-    allocate, copy, finish_one, finish_two, one, read_ref, two_of_three, write_ref,
-};
+use crate::expected::{expect_all_stamps, expect_built, expect_count, expect_words};
+use crate::flipped::{copy, finish_one, finish_two, one, two_of_three};
+use crate::rows::{Row, expect_rows};
 use comp_journal::entry::Entry;
 use comp_mutator::mutator::Mutator;
 use comp_mutator::pages::PageCopy;
@@ -23,25 +20,16 @@ use std::test::Fail;
 use worked_heaps::heaps::{planned, smallest};
 
 // Objects of one mutator, until its two fresh pages are full.
-fn fill_pages<L: Named, B: Builder>(
-    rt: &impl Abort,
-    alloc: Global,
-    space: &Space<L, B>,
-    m: &mut Mutator<L>,
-)
-    requires of { IsMutatorOf space.now m.old }
-    ensures of { IsMutatorOf space.now m.new }
-{
-    expect_object(rt, alloc, space, m, 63, 0, Ok(8_589_934_656));
-    expect_object(rt, alloc, space, m, 0, 5, Ok(8_589_934_720));
-    expect_object(rt, alloc, space, m, 64, 0, Err(Refusal::ObjectTooLarge));
-    expect_object(rt, alloc, space, m, 63, 0, Err(Refusal::OutOfPages));
-    expect_object(rt, alloc, space, m, 62, 0, Ok(8_589_934_721));
-    expect_object(rt, alloc, space, m, 0, 0, Err(Refusal::OutOfPages));
-    let longest = allocate(alloc, space, m, u16::MAX, u16::MAX, u32::MAX);
-    assert_eq!(rt; longest, Err(Refusal::ObjectTooLarge));
-    assert_eq!(rt; m.unposted(), 128);
-}
+const FULL_PAGES: [Row; 8] = [
+    Row::Alloc(0, 63, 0, Ok(8_589_934_656)),
+    Row::Alloc(0, 0, 5, Ok(8_589_934_720)),
+    Row::Alloc(0, 64, 0, Err(Refusal::ObjectTooLarge)),
+    Row::Alloc(0, 63, 0, Err(Refusal::OutOfPages)),
+    Row::Alloc(0, 62, 0, Ok(8_589_934_721)),
+    Row::Alloc(0, 0, 0, Err(Refusal::OutOfPages)),
+    Row::Alloc(u16::MAX, u16::MAX, u32::MAX, Err(Refusal::ObjectTooLarge)),
+    Row::Unposted(128),
+];
 
 // The smallest heap and two full pages, finished: 1 word that slid, and 64 + 1 + 63 that were made.
 fn finish_full_pages<L: Named>(rt: &impl Abort, alloc: Global, blank: Blank) -> Result<(), Fail>
@@ -51,10 +39,10 @@ fn finish_full_pages<L: Named>(rt: &impl Abort, alloc: Global, blank: Blank) -> 
 {
     let builder = planned(alloc, smallest(alloc)?)?;
     let (space, mut m) = one::<L, _>(rt, alloc, blank, builder, 2)?;
-    fill_pages(rt, alloc, &space, &mut m);
+    expect_rows(rt, alloc, &space, &mut m, &FULL_PAGES);
     let finished = finish_one(rt, alloc, space, m)?;
-    assert_eq!(rt; finished.live_words(), 129);
-    assert_eq!(rt; finished.pages().len(), 3);
+    expect_count(rt, finished.live_words(), 129);
+    expect_count(rt, finished.pages().len() as u64, 3);
     Ok(())
 }
 
@@ -64,47 +52,24 @@ fn fills_fresh_pages(rt: HostRuntime) -> Result<(), Fail> {
 }
 
 // A mutator makes an object with a reference to a slid one, whose reference then leads back.
-fn link_two<L: Named, B: Builder>(
-    rt: &impl Abort,
-    alloc: Global,
-    space: &Space<L, B>,
-    m: &mut Mutator<L>,
-)
-    requires of { IsMutatorOf space.now m.old }
-    ensures of { IsMutatorOf space.now m.new }
-{
-    assert_eq!(rt; allocate(alloc, space, m, 1, 0, 4), Ok(8_589_934_656));
-    assert_eq!(rt;
-        write_ref(alloc, space, m, 8_589_934_656, 0, 8_589_934_594),
-        Ok(1)
-    );
-    assert_eq!(rt;
-        write_ref(alloc, space, m, 8_589_934_594, 0, 8_589_934_656),
-        Ok(2)
-    );
-}
+const LINKED: [Row; 3] = [
+    Row::Alloc(1, 0, 4, Ok(8_589_934_656)),
+    Row::WriteRef(8_589_934_656, 0, 8_589_934_594, Ok(1)),
+    Row::WriteRef(8_589_934_594, 0, 8_589_934_656, Ok(2)),
+];
 
 // Another one reads both references, clears the first and makes an object of its own.
-fn read_and_clear<L: Named, B: Builder>(
-    rt: &impl Abort,
-    alloc: Global,
-    space: &Space<L, B>,
-    m: &mut Mutator<L>,
-)
-    requires of { IsMutatorOf space.now m.old }
-    ensures of { IsMutatorOf space.now m.new }
-{
-    assert_eq!(rt;
-        read_ref(alloc, space, m, 8_589_934_656, 0),
-        Ok(8_589_934_594)
-    );
-    assert_eq!(rt;
-        read_ref(alloc, space, m, 8_589_934_594, 0),
-        Ok(8_589_934_656)
-    );
-    assert_eq!(rt; write_ref(alloc, space, m, 8_589_934_656, 0, 0), Ok(3));
-    assert_eq!(rt; allocate(alloc, space, m, 0, 0, 0), Ok(8_589_934_720));
-}
+const CLEARED: [Row; 6] = [
+    Row::ReadRef(8_589_934_656, 0, Ok(8_589_934_594)),
+    Row::ReadRef(8_589_934_594, 0, Ok(8_589_934_656)),
+    Row::WriteRef(8_589_934_656, 0, 0, Ok(3)),
+    Row::Alloc(0, 0, 0, Ok(8_589_934_720)),
+    Row::Builds(&[2]),
+    Row::Unposted(1),
+];
+
+// What the first one has built then, and not posted.
+const LEFT: [Row; 2] = [Row::Builds(&[1, 0]), Row::Unposted(2)];
 
 // The entries of page 1 after those calls: the header, and two writes of its reference.
 fn expect_entries(rt: &impl Abort, page: &PageCopy) {
@@ -115,10 +80,12 @@ fn expect_entries(rt: &impl Abort, page: &PageCopy) {
         offset: 0,
         value: 17_179_869_185,
     };
-    assert_eq!(rt; page.journal.len(), 3);
-    assert_eq!(rt; page.journal.first().copied(), Some(header));
-    assert_eq!(rt; page.journal.get(1).map(|entry| entry.stamp), Some(1));
-    assert_eq!(rt; page.journal.get(2).map(|entry| entry.stamp), Some(3));
+    let [first, second, third] = page.journal.as_slice() else {
+        panic!(rt; "three entries");
+    };
+    assert_eq!(rt; *first, header);
+    expect_count(rt, second.stamp, 1);
+    expect_count(rt, third.stamp, 3);
 }
 
 // The heap after those calls, finished: 4 words that slid, 2 and 1 that were made.
@@ -134,7 +101,7 @@ fn finish_linked<L: Named, B: Builder>(
     requires whole { (setup_of space).mutators ≡ L.parts }
 {
     let finished = finish_two(rt, alloc, space, m0, m1)?;
-    assert_eq!(rt; finished.live_words(), 7);
+    expect_count(rt, finished.live_words(), 7);
     assert_eq!(rt; finished.roots().first().copied(), Some(8_589_934_594));
     expect_all_stamps(rt, alloc, &finished, 5)?;
     expect_built(rt, &finished, 0, &[1, 0]);
@@ -149,15 +116,12 @@ fn write_and_allocate<L: Named>(rt: &impl Abort, alloc: Global, blank: Blank) ->
     requires count { blank.parts ≡ 2 }
 {
     let (space, mut m0, mut m1) = two_of_three::<L>(rt, alloc, blank, 2)?;
-    link_two(rt, alloc, &space, &mut m0);
-    read_and_clear(rt, alloc, &space, &mut m1);
+    expect_rows(rt, alloc, &space, &mut m0, &LINKED);
+    expect_rows(rt, alloc, &space, &mut m1, &CLEARED);
     let page = copy(rt, alloc, &space, &mut m0, 1)?;
     expect_words(rt, &page, &[17_179_869_185]);
     expect_entries(rt, &page);
-    expect_builds(rt, &m0, &[1, 0]);
-    expect_builds(rt, &m1, &[2]);
-    assert_eq!(rt; m0.unposted(), 2);
-    assert_eq!(rt; m1.unposted(), 1);
+    expect_rows(rt, alloc, &space, &mut m0, &LEFT);
     finish_linked(rt, alloc, space, m0, m1)
 }
 

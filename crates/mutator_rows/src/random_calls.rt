@@ -2,7 +2,7 @@
 ghost use Rattle.std.specs.Prelude.{◌≡◌};
 ghost use Rattle.comp_mutator.specs.Mutators.{IsMutatorOf};
 
-use crate::expected::expect_all_stamps;
+use crate::expected::{expect_all_stamps, expect_answer, expect_count};
 use crate::flipped::{allocate, finish, read_data, read_ref, trio, two, write_data, write_ref};
 use comp_mutator::finishing::Finished;
 use comp_mutator::mutator::Mutator;
@@ -65,7 +65,12 @@ fn play<L: Named, B: Builder>(
 {
     let call = random.call(objects);
     let wanted = objects.answer(alloc, m.number(), call)?;
-    assert_eq!(rt; answer(alloc, space, m, call), wanted);
+    expect_answer(
+        rt,
+        objects.written.len(),
+        answer(alloc, space, m, call),
+        wanted,
+    );
     Ok(())
 }
 
@@ -106,8 +111,28 @@ fn expect_objects(
             .wrapping_add(references)
             .wrapping_add(data_words);
     }
-    assert_eq!(rt; finished.live_words(), live);
+    expect_count(rt, finished.live_words(), live);
     expect_all_stamps(rt, alloc, finished, objects.written.len() as u64)
+}
+
+// Six hundred calls of each of two mutators, by turns.
+fn play_rounds_of_two<L: Named, B: Builder>(
+    rt: &impl Abort,
+    alloc: Global,
+    space: &Space<L, B>,
+    m0: &mut Mutator<L>,
+    m1: &mut Mutator<L>,
+    objects: &mut Objects,
+) -> Result<(), Fail>
+    requires first { IsMutatorOf space.now m0.old }
+    requires second { IsMutatorOf space.now m1.old }
+{
+    let mut random = Random { state: 2006 };
+    for _ in 0..600 {
+        play(rt, alloc, space, m0, objects, &mut random)?;
+        play(rt, alloc, space, m1, objects, &mut random)?;
+    }
+    Ok(())
 }
 
 // Two mutators, six hundred calls each.
@@ -118,17 +143,38 @@ fn play_two<L: Named>(rt: &impl Abort, alloc: Global, blank: Blank) -> Result<()
 {
     let mut objects = opening(alloc, 2)?;
     let (space, mut m0, mut m1) = two::<L, _>(rt, alloc, blank, two_live(alloc)?, 6)?;
-    let mut random = Random { state: 2006 };
-    for _ in 0..600 {
-        play(rt, alloc, &space, &mut m0, &mut objects, &mut random)?;
-        play(rt, alloc, &space, &mut m1, &mut objects, &mut random)?;
-    }
-    Ok(())
+    play_rounds_of_two(rt, alloc, &space, &mut m0, &mut m1, &mut objects)
 }
 
 #[test]
 fn agrees_with_plain_objects(rt: HostRuntime) -> Result<(), Fail> {
     play_two::<Brand>(&rt, rt.alloc(), Blank::new(2))
+}
+
+// 334 calls of each of three mutators, by turns.
+fn play_rounds_of_three<L: Named, B: Builder>(
+    rt: &impl Abort,
+    alloc: Global,
+    space: &Space<L, B>,
+    m0: &mut Mutator<L>,
+    m1: &mut Mutator<L>,
+    m2: &mut Mutator<L>,
+    objects: &mut Objects,
+) -> Result<(), Fail>
+    requires first { IsMutatorOf space.now m0.old }
+    requires second { IsMutatorOf space.now m1.old }
+    requires third { IsMutatorOf space.now m2.old }
+    ensures first { IsMutatorOf space.now m0.new }
+    ensures second { IsMutatorOf space.now m1.new }
+    ensures third { IsMutatorOf space.now m2.new }
+{
+    let mut random = Random { state: 1978 };
+    for _ in 0..334 {
+        play(rt, alloc, space, m0, objects, &mut random)?;
+        play(rt, alloc, space, m1, objects, &mut random)?;
+        play(rt, alloc, space, m2, objects, &mut random)?;
+    }
+    Ok(())
 }
 
 // Three mutators, 334 calls each, and then the finished heap.
@@ -139,12 +185,7 @@ fn play_three<L: Named>(rt: &impl Abort, alloc: Global, blank: Blank) -> Result<
 {
     let mut objects = opening(alloc, 3)?;
     let (space, mut m0, mut m1, mut m2) = trio::<L, _>(rt, alloc, blank, two_live(alloc)?, 6)?;
-    let mut random = Random { state: 1978 };
-    for _ in 0..334 {
-        play(rt, alloc, &space, &mut m0, &mut objects, &mut random)?;
-        play(rt, alloc, &space, &mut m1, &mut objects, &mut random)?;
-        play(rt, alloc, &space, &mut m2, &mut objects, &mut random)?;
-    }
+    play_rounds_of_three(rt, alloc, &space, &mut m0, &mut m1, &mut m2, &mut objects)?;
     let finished = finish(rt, alloc, space, vec![in alloc; m1, m2, m0]?);
     expect_objects(rt, alloc, &finished, &objects)
 }

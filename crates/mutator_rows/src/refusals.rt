@@ -3,7 +3,13 @@ use comp_journal::refusal::JournalRefusal;
 use comp_mutator::finishing::FinishFault;
 use comp_mutator::refusal::{FlipFault, Refusal};
 use page_cells::refusal::CellRefusal;
+use std::process::Abort;
 use std::test::Fail;
+
+// It is printed so.
+fn expect_text(rt: &impl Abort, printed: &str, text: &str) {
+    assert_eq!(rt; printed, text);
+}
 
 #[test]
 fn prints_refusals_of_journals(rt: HostRuntime) -> Result<(), Fail> {
@@ -11,7 +17,7 @@ fn prints_refusals_of_journals(rt: HostRuntime) -> Result<(), Fail> {
         (JournalRefusal::JournalFull, "J1 JournalFull"),
         (JournalRefusal::OutOfMemory, "J2 OutOfMemory"),
     ] {
-        assert_eq!(rt; refusal.to_string(rt.alloc())?.as_str(), text);
+        expect_text(&rt, &refusal.to_string(rt.alloc())?, text);
     }
     Ok(())
 }
@@ -24,7 +30,7 @@ fn prints_refusals_of_cells(rt: HostRuntime) -> Result<(), Fail> {
         (CellRefusal::OutOfMemory, "C3 OutOfMemory"),
         (CellRefusal::PassMissing(1), "C4 PassMissing(1)"),
     ] {
-        assert_eq!(rt; refusal.to_string(rt.alloc())?.as_str(), text);
+        expect_text(&rt, &refusal.to_string(rt.alloc())?, text);
     }
     Ok(())
 }
@@ -44,19 +50,29 @@ fn prints_refusals_of_mutators(rt: HostRuntime) -> Result<(), Fail> {
         (Refusal::JournalFull(0), "M7 JournalFull(0)"),
         (Refusal::OutOfMemory, "M8 OutOfMemory"),
     ] {
-        assert_eq!(rt; refusal.to_string(rt.alloc())?.as_str(), text);
+        expect_text(&rt, &refusal.to_string(rt.alloc())?, text);
     }
+    Ok(())
+}
+
+#[test]
+fn prints_faults_of_flips(rt: HostRuntime) -> Result<(), Fail> {
     for (fault, text) in [
         (FlipFault::OutOfMemory, "M8 OutOfMemory"),
         (FlipFault::BadCounts, "M10 BadCounts"),
     ] {
-        assert_eq!(rt; fault.to_string(rt.alloc())?.as_str(), text);
+        expect_text(&rt, &fault.to_string(rt.alloc())?, text);
     }
+    Ok(())
+}
+
+#[test]
+fn prints_faults_of_finishes(rt: HostRuntime) -> Result<(), Fail> {
     for (fault, text) in [
         (FinishFault::OutOfMemory, "M8 OutOfMemory"),
         (FinishFault::MutatorMissing(1), "M9 MutatorMissing(1)"),
     ] {
-        assert_eq!(rt; fault.to_string(rt.alloc())?.as_str(), text);
+        expect_text(&rt, &fault.to_string(rt.alloc())?, text);
     }
     Ok(())
 }

@@ -2,9 +2,11 @@
 ghost use Rattle.std.specs.Prelude.{◌≡◌, IfOk};
 ghost use Rattle.comp_mutator.specs.Mutators.{IsMutatorOf};
 
-use crate::expected::{expect_all_stamps, expect_built, expect_touch};
-use crate::flipped::{copy, finish_two, one_of_three, read_data, touch, two, two_of_three};
+use crate::expected::{expect_all_stamps, expect_answer, expect_built, expect_count, expect_touch};
+use crate::flipped::{copy, finish_two, one_of_three, touch, two, two_of_three, write_data};
+use crate::rows::{Row, expect_rows};
 use comp_journal::entry::Entry;
+use comp_mutator::finishing::Finished;
 use comp_mutator::mutator::Mutator;
 use comp_mutator::pages::{PageCopy, Touched};
 use comp_mutator::refusal::Refusal;
@@ -21,21 +23,77 @@ use std::thread::{self, Threads};
 use worked_heaps::builders::Meeting;
 use worked_heaps::heaps::{T, counting_heap, planned};
 
-// Writes 7 into the first data word of the first object, and reads it.
-fn write_seven<L: Named, B: Builder>(
-    alloc: Global,
-    space: &Space<L, B>,
-    m: &mut Mutator<L>,
-) -> (Result<u64, Refusal>, Result<u64, Refusal>)
-    requires of { IsMutatorOf space.now m.old }
-    ensures of { IsMutatorOf space.now m.new }
-{
-    let stamp = space.try_write_data(alloc, m, T, 0, 7);
-    (stamp, space.try_read_data(alloc, m, T, 0))
+// What a thread does with its mutator.
+#[derive(Clone, Copy)]
+enum Work {
+    // Its rows.
+    Rows(&'static [Row]),
+    // A write of this value into this data word of the first object.
+    Word(u16, u64),
+    // Writes of this value and the ones behind it.
+    Rising(u64),
+    // New objects, writes and settlements, by turns.
+    Objects,
 }
 
+// Does a thread's work, and gives the mutator back: true where no call was refused.
+fn do_work<L: Named, B: Builder, R: Abort + Wait>(
+    rt: &R,
+    alloc: Global,
+    space: &Space<L, B>,
+    mut m: Mutator<L>,
+    task: Work,
+) -> (bool, Mutator<L>)
+    requires of { IsMutatorOf space.now m }
+    ensures of { IsMutatorOf space.now result.1 }
+{
+    let well = match task {
+        Work::Rows(rows) => {
+            expect_rows(rt, alloc, space, &mut m, rows);
+            true
+        }
+        Work::Word(field, value) => write_data(alloc, space, &mut m, T, field, value).is_ok(),
+        Work::Rising(first) => write_rising(rt, alloc, space, &mut m, first).is_ok(),
+        Work::Objects => make_and_settle(rt, alloc, space, &mut m),
+    };
+    (well, m)
+}
+
+// Two threads at once, each at its work with its mutator: no call is refused.
+fn both_at_once<L: Named + Send + Sync, B: Builder, R: Abort + Threads + Wait + Sync>(
+    rt: &R,
+    alloc: Global,
+    space: &Space<L, B>,
+    m0: Mutator<L>,
+    first: Work,
+    m1: Mutator<L>,
+    second: Work,
+) -> (Mutator<L>, Mutator<L>)
+    requires first { IsMutatorOf space.now m0 }
+    requires second { IsMutatorOf space.now m1 }
+    ensures first { IsMutatorOf space.now result.0 }
+    ensures second { IsMutatorOf space.now result.1 }
+{
+    let ((one, m0), (other, m1)) = thread::join(
+        rt,
+        ||
+            requires { IsMutatorOf space.now m0 }
+        { do_work(rt, alloc, space, m0, first) },
+        ||
+            requires { IsMutatorOf space.now m1 }
+        { do_work(rt, alloc, space, m1, second) },
+    );
+    assert!(rt; one && other);
+    (m0, m1)
+}
+
+// A thread writes 7 into the first data word of the first object, and reads it.
+const SEVEN: [Row; 2] = [Row::WriteData(T, 0, 7, Ok(0)), Row::ReadData(T, 0, Ok(7))];
+
+const READ_SEVEN: [Row; 1] = [Row::ReadData(T, 0, Ok(7))];
+
 // One thread writes; then the other mutator reads.
-fn read_across_threads<L: Named + Send + Sync, R: Abort + Threads + Sync>(
+fn read_across_threads<L: Named + Send + Sync, R: Abort + Threads + Wait + Sync>(
     rt: &R,
     alloc: Global,
     blank: Blank,
@@ -44,17 +102,17 @@ fn read_across_threads<L: Named + Send + Sync, R: Abort + Threads + Sync>(
     requires parts { blank.parts ≡ L.parts }
     requires count { blank.parts ≡ 2 }
 {
-    let (space, mut m0, mut m1) = two_of_three::<L>(rt, alloc, blank, 2)?;
-    let ((stamp, word), _) = thread::join(
+    let (space, m0, m1) = two_of_three::<L>(rt, alloc, blank, 2)?;
+    let (_m0, mut m1) = both_at_once(
         rt,
-        ||
-            requires { IsMutatorOf space m0 }
-        { write_seven(alloc, &space, &mut m0) },
-        || (),
+        alloc,
+        &space,
+        m0,
+        Work::Rows(&SEVEN),
+        m1,
+        Work::Rows(&[]),
     );
-    assert_eq!(rt; stamp, Ok(0));
-    assert_eq!(rt; word, Ok(7));
-    assert_eq!(rt; read_data(alloc, &space, &mut m1, T, 0), Ok(7));
+    expect_rows(rt, alloc, &space, &mut m1, &READ_SEVEN);
     expect_seven(rt, &copy(rt, alloc, &space, &mut m1, 0)?);
     Ok(())
 }
@@ -73,8 +131,7 @@ fn expect_seven(rt: &impl Abort, page: &PageCopy) {
         offset: 1,
         value: 7,
     };
-    assert_eq!(rt; page.journal.len(), 1);
-    assert_eq!(rt; page.journal.first().copied(), Some(wanted));
+    assert_eq!(rt; page.journal.as_slice(), [wanted].as_slice());
 }
 
 // Two threads that touch one page at once.
@@ -97,19 +154,38 @@ fn race_to_build<L: Named + Send + Sync, R: Abort + Threads + Sync>(
             requires { IsMutatorOf space m1 }
         { touch(rt, alloc, &space, &mut m1, 0) },
     );
-    let mut builds = m0.builds().to_vec(alloc)?;
-    builds.extend_from_slice(m1.builds())?;
-    assert_eq!(rt; builds.as_slice(), [0].as_slice());
+    expect_one_built(rt, one, other);
+    expect_one_list(rt, alloc, m0.builds(), m1.builds())
+}
+
+// One touch built the page; the other one came later, or while it was busy.
+fn expect_one_built(
+    rt: &impl Abort,
+    one: Result<Touched, Refusal>,
+    other: Result<Touched, Refusal>,
+) {
     let lost = if one == Ok(Touched::Built) {
         other
     } else {
-        assert_eq!(rt; other, Ok(Touched::Built));
+        expect_built_page(rt, other);
         one
     };
     assert!(rt;
         lost == Ok(Touched::AlreadyBuilt) || lost == Err(Refusal::Busy(0)),
         "{lost:?}"
     );
+}
+
+// The touch built the page.
+fn expect_built_page(rt: &impl Abort, touched: Result<Touched, Refusal>) {
+    assert_eq!(rt; touched, Ok(Touched::Built));
+}
+
+// The two lists together have page 0 once, and no other.
+fn expect_one_list(rt: &impl Abort, alloc: Global, one: &[u64], other: &[u64]) -> Result<(), Fail> {
+    let mut builds = one.to_vec(alloc)?;
+    builds.extend_from_slice(other)?;
+    assert_eq!(rt; builds.as_slice(), [0].as_slice());
     Ok(())
 }
 
@@ -118,23 +194,13 @@ fn builds_once_in_a_race(rt: HostRuntime) -> Result<(), Fail> {
     race_to_build::<Brand, HostRuntime>(&rt, rt.alloc(), Blank::new(2))
 }
 
-// Writes a value into a data word of the first object, and gives the mutator back.
-fn write_word<L: Named, B: Builder>(
-    alloc: Global,
-    space: &Space<L, B>,
-    mut m: Mutator<L>,
-    field: u16,
-    value: u64,
-) -> (Result<u64, Refusal>, Mutator<L>)
-    requires of { IsMutatorOf space.now m }
-    ensures of { IsMutatorOf space.now result.1 }
-{
-    let stamp = space.try_write_data(alloc, &mut m, T, field, value);
-    (stamp, m)
-}
+// What the other thread has written.
+const FIVE: [Row; 1] = [Row::ReadData(T, 0, Ok(5))];
+
+const SIX: [Row; 1] = [Row::ReadData(T, 100, Ok(6))];
 
 // Two threads that write to different pages, whose builds wait for one another.
-fn write_two_pages<L: Named + Send + Sync, R: Abort + Threads + Sync>(
+fn write_two_pages<L: Named + Send + Sync, R: Abort + Threads + Wait + Sync>(
     rt: &R,
     alloc: Global,
     blank: Blank,
@@ -145,18 +211,17 @@ fn write_two_pages<L: Named + Send + Sync, R: Abort + Threads + Sync>(
 {
     let builder = Meeting::new(planned(alloc, counting_heap(alloc, 255)?)?);
     let (space, m0, m1) = two::<L, _>(rt, alloc, blank, builder, 0)?;
-    let ((one, mut m0), (other, mut m1)) = thread::join(
+    let (mut m0, mut m1) = both_at_once(
         rt,
-        ||
-            requires { IsMutatorOf space m0 }
-        { write_word(alloc, &space, m0, 0, 5) },
-        ||
-            requires { IsMutatorOf space m1 }
-        { write_word(alloc, &space, m1, 100, 6) },
+        alloc,
+        &space,
+        m0,
+        Work::Word(0, 5),
+        m1,
+        Work::Word(100, 6),
     );
-    assert!(rt; one.is_ok() && other.is_ok());
-    assert_eq!(rt; read_data(alloc, &space, &mut m1, T, 0), Ok(5));
-    assert_eq!(rt; read_data(alloc, &space, &mut m0, T, 100), Ok(6));
+    expect_rows(rt, alloc, &space, &mut m1, &FIVE);
+    expect_rows(rt, alloc, &space, &mut m0, &SIX);
     Ok(())
 }
 
@@ -168,30 +233,27 @@ fn writes_two_pages_at_once(rt: HostRuntime) -> Result<(), Fail> {
 // How many entries each thread writes into one page.
 const ENTRIES: u64 = 100;
 
-// Writes `first`, `first + 1`, .. into the first data word of the first object, and gives the mutator back.
+// Writes `first`, `first + 1`, .. into the first data word of the first object.
 fn write_rising<L: Named, B: Builder, R: Wait>(
     rt: &R,
     alloc: Global,
     space: &Space<L, B>,
-    mut m: Mutator<L>,
+    m: &mut Mutator<L>,
     first: u64,
-) -> (Result<(), Refusal>, Mutator<L>)
-    requires of { IsMutatorOf space.now m }
-    ensures of { IsMutatorOf space.now result.1 }
+) -> Result<(), Refusal>
+    requires of { IsMutatorOf space.now m.old }
+    ensures of { IsMutatorOf space.now m.new }
 {
     for step in 0..ENTRIES {
-        let value = first.wrapping_add(step);
-        if let Err(refusal) = space.write_data(alloc, rt, &mut m, T, 0, value) {
-            return (Err(refusal), m);
-        }
+        space.write_data(alloc, rt, m, T, 0, first.wrapping_add(step))?;
     }
-    (Ok(()), m)
+    Ok(())
 }
 
 // The stamps count from 0.
 fn expect_stamps(rt: &impl Abort, journal: &[Entry]) {
     for (stamp, entry) in journal.iter().enumerate() {
-        assert_eq!(rt; entry.stamp, stamp as u64);
+        expect_count(rt, entry.stamp, stamp as u64);
     }
 }
 
@@ -200,11 +262,11 @@ fn expect_rising(rt: &impl Abort, journal: &[Entry], writer: u8, first: u64) {
     let mut count = 0u64;
     for entry in journal {
         if entry.writer == writer {
-            assert_eq!(rt; entry.value, first.wrapping_add(count));
+            expect_count(rt, entry.value, first.wrapping_add(count));
             count = count.wrapping_add(1);
         }
     }
-    assert_eq!(rt; count, ENTRIES);
+    expect_count(rt, count, ENTRIES);
 }
 
 // Two threads that write to one page, each waiting while the other holds it.
@@ -218,17 +280,15 @@ fn write_by_turns<L: Named + Send + Sync, R: Abort + Threads + Wait + Sync>(
     requires count { blank.parts ≡ 2 }
 {
     let (space, m0, m1) = two_of_three::<L>(rt, alloc, blank, 0)?;
-    let ((one, mut m0), (other, _m1)) = thread::join(
+    let (mut m0, _m1) = both_at_once(
         rt,
-        ||
-            requires { IsMutatorOf space m0 }
-        { write_rising(rt, alloc, &space, m0, 0) },
-        ||
-            requires { IsMutatorOf space m1 }
-        { write_rising(rt, alloc, &space, m1, 1000) },
+        alloc,
+        &space,
+        m0,
+        Work::Rising(0),
+        m1,
+        Work::Rising(1000),
     );
-    assert_eq!(rt; one, Ok(()));
-    assert_eq!(rt; other, Ok(()));
     let page = copy(rt, alloc, &space, &mut m0, 0)?;
     expect_turns(rt, &page);
     Ok(())
@@ -241,7 +301,7 @@ fn writes_one_page_by_turns(rt: HostRuntime) -> Result<(), Fail> {
 
 // What the two threads have written: 200 entries, the last of which gives the word.
 fn expect_turns(rt: &impl Abort, page: &PageCopy) {
-    assert_eq!(rt; page.journal.len(), 200);
+    expect_count(rt, page.journal.len() as u64, 200);
     expect_stamps(rt, &page.journal);
     expect_rising(rt, &page.journal, 0, 0);
     expect_rising(rt, &page.journal, 1, 1000);
@@ -249,19 +309,21 @@ fn expect_turns(rt: &impl Abort, page: &PageCopy) {
     assert_eq!(rt; last, Some(page.words.get(1)));
 }
 
-// Touches page `p`, which is there, and waits while it is busy.
+// A touch of page `p`, which is there, waits while it is busy, and is answered so.
 fn touch_at_last<L: Named, B: Builder, R: Abort + Wait>(
     rt: &R,
     alloc: Global,
     space: &Space<L, B>,
     m: &mut Mutator<L>,
     p: u64,
-) -> Result<Touched, Refusal>
+    wanted: Touched,
+)
     requires of { IsMutatorOf space.now m.old }
     ensures of { IsMutatorOf space.now m.new }
 {
     assert!(rt; p < space.pages());
-    space.touch(alloc, rt, m, p)
+    let touched = space.touch(alloc, rt, m, p);
+    assert_eq!(rt; touched, Ok(wanted));
 }
 
 // An object is made, and its reference written and read, each at once.
@@ -274,9 +336,12 @@ fn link_at_last<L: Named, B: Builder, R: Abort + Wait>(
     requires of { IsMutatorOf space.now m.old }
     ensures of { IsMutatorOf space.now m.new }
 {
-    assert_eq!(rt; space.alloc(alloc, rt, m, 1, 0, 4), Ok(T + 64));
-    assert_eq!(rt; space.write_ref(alloc, rt, m, T + 64, 0, T + 2), Ok(1));
-    assert_eq!(rt; space.read_ref(alloc, rt, m, T + 64, 0), Ok(T + 2));
+    let made = space.alloc(alloc, rt, m, 1, 0, 4);
+    expect_answer(rt, 0, made, Ok(T + 64));
+    let stamp = space.write_ref(alloc, rt, m, T + 64, 0, T + 2);
+    expect_answer(rt, 1, stamp, Ok(1));
+    let reference = space.read_ref(alloc, rt, m, T + 64, 0);
+    expect_answer(rt, 2, reference, Ok(T + 2));
 }
 
 // A data word is written and read, and none of null, each at once.
@@ -289,9 +354,12 @@ fn fill_at_last<L: Named, B: Builder, R: Abort + Wait>(
     requires of { IsMutatorOf space.now m.old }
     ensures of { IsMutatorOf space.now m.new }
 {
-    assert_eq!(rt; space.write_data(alloc, rt, m, T, 0, 9), Ok(2));
-    assert_eq!(rt; space.read_data(alloc, rt, m, T, 0), Ok(9));
-    assert_eq!(rt; space.read_data(alloc, rt, m, 0, 0), Err(Refusal::Null));
+    let stamp = space.write_data(alloc, rt, m, T, 0, 9);
+    expect_answer(rt, 0, stamp, Ok(2));
+    let word = space.read_data(alloc, rt, m, T, 0);
+    expect_answer(rt, 1, word, Ok(9));
+    let refused = space.read_data(alloc, rt, m, 0, 0);
+    expect_answer(rt, 2, refused, Err(Refusal::Null));
 }
 
 // The waiting calls of a mutator that is alone.
@@ -305,10 +373,8 @@ fn answer_at_once<L: Named, R: Abort + Wait>(
     requires count { blank.parts ≡ 1 }
 {
     let (space, mut m) = one_of_three::<L>(rt, alloc, blank, 1)?;
-    let touched = touch_at_last(rt, alloc, &space, &mut m, 0);
-    assert_eq!(rt; touched, Ok(Touched::Built));
-    let touched = touch_at_last(rt, alloc, &space, &mut m, 0);
-    assert_eq!(rt; touched, Ok(Touched::AlreadyBuilt));
+    touch_at_last(rt, alloc, &space, &mut m, 0, Touched::Built);
+    touch_at_last(rt, alloc, &space, &mut m, 0, Touched::AlreadyBuilt);
     link_at_last(rt, alloc, &space, &mut m);
     fill_at_last(rt, alloc, &space, &mut m);
     Ok(())
@@ -322,23 +388,32 @@ fn answers_at_once_when_no_page_is_busy(rt: HostRuntime) -> Result<(), Fail> {
 // How many objects each thread makes.
 const OBJECTS: u64 = 16;
 
-// Makes objects of 4 words, writes into the slid page and settles, by turns; gives the mutator back.
+// Makes objects of 4 words, writes into the slid page and settles, by turns: true where nothing was refused.
 fn make_and_settle<L: Named, B: Builder, R: Wait>(
     rt: &R,
     alloc: Global,
     space: &Space<L, B>,
-    mut m: Mutator<L>,
-) -> (bool, Mutator<L>)
-    requires of { IsMutatorOf space.now m }
-    ensures of { IsMutatorOf space.now result.1 }
+    m: &mut Mutator<L>,
+) -> bool
+    requires of { IsMutatorOf space.now m.old }
+    ensures of { IsMutatorOf space.now m.new }
 {
     let mut all = true;
     for value in 0..OBJECTS {
-        all &= space.alloc(alloc, rt, &mut m, 1, 2, 0).is_ok();
-        all &= space.write_data(alloc, rt, &mut m, T, 0, value).is_ok();
-        all &= space.settle(rt, &mut m).is_ok();
+        all &= space.alloc(alloc, rt, m, 1, 2, 0).is_ok();
+        all &= space.write_data(alloc, rt, m, T, 0, value).is_ok();
+        all &= space.settle(rt, m).is_ok();
     }
-    (all, m)
+    all
+}
+
+// 4 words slid, and two threads made 16 objects of 4 words each. Each entry, of a header or of a word, has its stamp.
+fn expect_objects(rt: &impl Abort, alloc: Global, finished: &Finished) -> Result<(), Fail> {
+    expect_count(rt, finished.live_words(), 4 + 2 * 16 * 4);
+    expect_all_stamps(rt, alloc, finished, 4 * OBJECTS)?;
+    expect_built(rt, finished, 0, &[0, 1]);
+    expect_built(rt, finished, 1, &[2]);
+    Ok(())
 }
 
 // Two threads that make objects, write one page and settle; then the finished heap. The slid page is built before them.
@@ -353,24 +428,11 @@ fn finish_two_threads<L: Named + Send + Sync, R: Abort + Threads + Wait + Sync>(
 {
     let (space, mut m0, m1) = two_of_three::<L>(rt, alloc, blank, 4)?;
     expect_touch(rt, alloc, &space, &mut m0, 0, Ok(Touched::Built));
-    let ((one, m0), (other, m1)) = thread::join(
-        rt,
-        ||
-            requires { IsMutatorOf space m0 }
-        { make_and_settle(rt, alloc, &space, m0) },
-        ||
-            requires { IsMutatorOf space m1 }
-        { make_and_settle(rt, alloc, &space, m1) },
-    );
-    assert!(rt; one && other);
-    assert_eq!(rt; m0.unposted(), 0);
-    assert_eq!(rt; m1.unposted(), 0);
+    let (m0, m1) = both_at_once(rt, alloc, &space, m0, Work::Objects, m1, Work::Objects);
+    expect_count(rt, m0.unposted(), 0);
+    expect_count(rt, m1.unposted(), 0);
     let finished = finish_two(rt, alloc, space, m0, m1)?;
-    assert_eq!(rt; finished.live_words(), 4 + 2 * 16 * 4);
-    expect_all_stamps(rt, alloc, &finished, 4 * OBJECTS)?;
-    expect_built(rt, &finished, 0, &[0, 1]);
-    expect_built(rt, &finished, 1, &[2]);
-    Ok(())
+    expect_objects(rt, alloc, &finished)
 }
 
 #[test]

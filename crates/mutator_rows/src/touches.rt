@@ -1,8 +1,10 @@
 //! Flips, and the first touches of pages.
 ghost use Rattle.std.specs.Prelude.{◌≡◌};
 
-use crate::expected::{expect_builds, expect_built, expect_touch, expect_unwritten};
-use crate::flipped::{finish, one, one_shared};
+use crate::expected::{expect_built, expect_count};
+use crate::flipped::{finish, one_shared};
+use crate::rows::{Row, expect_rows, play_alone};
+use comp_mutator::finishing::Finished;
 use comp_mutator::flipping::flip;
 use comp_mutator::mutator::Mutator;
 use comp_mutator::pages::Touched;
@@ -41,9 +43,9 @@ fn expect_bad_counts<L: Named>(
 // Mutators that count from 0, none of which has done anything.
 fn expect_new<L: Named>(rt: &impl Abort, mutators: &[Mutator<L>]) {
     for (number, m) in mutators.iter().enumerate() {
-        assert_eq!(rt; usize::from(m.number()), number);
-        assert_eq!(rt; m.builds().len(), 0);
-        assert_eq!(rt; m.unposted(), 0);
+        expect_count(rt, u64::from(m.number()), number as u64);
+        expect_count(rt, m.builds().len() as u64, 0);
+        expect_count(rt, m.unposted(), 0);
     }
 }
 
@@ -55,9 +57,9 @@ fn flip_most<L: Named>(rt: &impl Abort, alloc: Global, blank: Blank) -> Result<(
 {
     let builder = Arc::new(alloc, planned(alloc, smallest(alloc)?)?)?;
     let (space, mutators) = flip::<L, _>(alloc, blank, builder, 64, 4096)?;
-    assert_eq!(rt; mutators.len(), 64);
-    assert_eq!(rt; space.compacted_pages(), 1);
-    assert_eq!(rt; space.pages(), 4097);
+    expect_count(rt, mutators.len() as u64, 64);
+    expect_count(rt, space.compacted_pages(), 1);
+    expect_count(rt, space.pages(), 4097);
     expect_new(rt, &mutators);
     Ok(())
 }
@@ -72,6 +74,16 @@ fn flips_within_the_limits(rt: HostRuntime) -> Result<(), Fail> {
     flip_most::<Brand>(&rt, alloc, Blank::new(64))
 }
 
+// No page, no root and no word; neither of two mutators has built a page.
+fn expect_empty(rt: &impl Abort, finished: &Finished) {
+    expect_count(rt, finished.pages().len() as u64, 0);
+    expect_count(rt, finished.roots().len() as u64, 0);
+    expect_count(rt, finished.live_words(), 0);
+    expect_count(rt, finished.builds().len() as u64, 2);
+    expect_built(rt, finished, 0, &[]);
+    expect_built(rt, finished, 1, &[]);
+}
+
 // No object at all, with two mutators, which then finish.
 fn flip_empty<L: Named>(rt: &impl Abort, alloc: Global, blank: Blank) -> Result<(), Fail>
     requires name { blank.name ≡ L.name }
@@ -80,16 +92,11 @@ fn flip_empty<L: Named>(rt: &impl Abort, alloc: Global, blank: Blank) -> Result<
 {
     let builder = Arc::new(alloc, planned(alloc, empty(alloc)?)?)?;
     let (space, mutators) = flip::<L, _>(alloc, blank, builder, 2, 0)?;
-    assert_eq!(rt; space.pages(), 0);
-    assert_eq!(rt; space.roots().len(), 0);
-    assert_eq!(rt; mutators.len(), 2);
+    expect_count(rt, space.pages(), 0);
+    expect_count(rt, space.roots().len() as u64, 0);
+    expect_count(rt, mutators.len() as u64, 2);
     let finished = finish(rt, alloc, space, mutators);
-    assert_eq!(rt; finished.pages().len(), 0);
-    assert_eq!(rt; finished.roots().len(), 0);
-    assert_eq!(rt; finished.live_words(), 0);
-    assert_eq!(rt; finished.builds().len(), 2);
-    expect_built(rt, &finished, 0, &[]);
-    expect_built(rt, &finished, 1, &[]);
+    expect_empty(rt, &finished);
     Ok(())
 }
 
@@ -99,65 +106,53 @@ fn flips_an_empty_heap(rt: HostRuntime) -> Result<(), Fail> {
 }
 
 // The smallest heap, whose page is touched twice and copied.
-fn touch_twice<L: Named>(rt: &impl Abort, alloc: Global, blank: Blank) -> Result<(), Fail>
-    requires name { blank.name ≡ L.name }
-    requires parts { blank.parts ≡ L.parts }
-    requires count { blank.parts ≡ 1 }
-{
-    let builder = planned(alloc, smallest(alloc)?)?;
-    let (space, mut m) = one::<L, _>(rt, alloc, blank, builder, 0)?;
-    assert_eq!(rt; space.roots().first().copied(), Some(8_589_934_592));
-    assert_eq!(rt; space.roots().len(), 1);
-    expect_touch(rt, alloc, &space, &mut m, 0, Ok(Touched::Built));
-    expect_touch(rt, alloc, &space, &mut m, 0, Ok(Touched::AlreadyBuilt));
-    expect_unwritten(rt, alloc, &space, &mut m, 0, &[30_064_771_072])
-}
+const TWICE: [Row; 4] = [
+    Row::Roots(&[8_589_934_592]),
+    Row::Touch(0, Ok(Touched::Built)),
+    Row::Touch(0, Ok(Touched::AlreadyBuilt)),
+    Row::Unwritten(0, &[30_064_771_072]),
+];
 
 #[test]
 fn touches_a_page(rt: HostRuntime) -> Result<(), Fail> {
-    touch_twice::<Brand>(&rt, rt.alloc(), Blank::new(1))
+    let builder = planned(rt.alloc(), smallest(rt.alloc())?)?;
+    play_alone::<Brand, _>(&rt, rt.alloc(), Blank::new(1), builder, 0, &TWICE)
 }
 
 // Seventeen pages, the last of which is built alone.
-fn touch_last<L: Named>(rt: &impl Abort, alloc: Global, blank: Blank) -> Result<(), Fail>
-    requires name { blank.name ≡ L.name }
-    requires parts { blank.parts ≡ L.parts }
-    requires count { blank.parts ≡ 1 }
-{
-    let builder = planned(alloc, seventeen_pages(alloc)?)?;
-    let (space, mut m) = one::<L, _>(rt, alloc, blank, builder, 0)?;
-    assert_eq!(rt; space.pages(), 17);
-    expect_touch(rt, alloc, &space, &mut m, 16, Ok(Touched::Built));
-    expect_builds(rt, &m, &[16]);
-    expect_unwritten(rt, alloc, &space, &mut m, 16, &[1023])?;
-    expect_builds(rt, &m, &[16]);
-    Ok(())
-}
+const LAST_FIRST: [Row; 5] = [
+    Row::Pages(17),
+    Row::Touch(16, Ok(Touched::Built)),
+    Row::Builds(&[16]),
+    Row::Unwritten(16, &[1023]),
+    Row::Builds(&[16]),
+];
 
 #[test]
 fn touches_the_last_page_first(rt: HostRuntime) -> Result<(), Fail> {
-    touch_last::<Brand>(&rt, rt.alloc(), Blank::new(1))
+    let builder = planned(rt.alloc(), seventeen_pages(rt.alloc())?)?;
+    play_alone::<Brand, _>(&rt, rt.alloc(), Blank::new(1), builder, 0, &LAST_FIRST)
 }
 
 // A page whose first build finds no memory, and whose second one does.
-fn touch_again<L: Named>(rt: &impl Abort, alloc: Global, blank: Blank) -> Result<(), Fail>
-    requires name { blank.name ≡ L.name }
-    requires parts { blank.parts ≡ L.parts }
-    requires count { blank.parts ≡ 1 }
-{
-    let builder = Refusing::new(planned(alloc, counting_heap(alloc, 255)?)?);
-    let (space, mut m) = one::<L, _>(rt, alloc, blank, builder, 0)?;
-    expect_touch(rt, alloc, &space, &mut m, 3, Err(Refusal::OutOfMemory));
-    expect_builds(rt, &m, &[]);
-    expect_touch(rt, alloc, &space, &mut m, 3, Ok(Touched::Built));
-    expect_builds(rt, &m, &[3]);
-    Ok(())
-}
+const AGAIN: [Row; 4] = [
+    Row::Touch(3, Err(Refusal::OutOfMemory)),
+    Row::Builds(&[]),
+    Row::Touch(3, Ok(Touched::Built)),
+    Row::Builds(&[3]),
+];
 
 #[test]
 fn touches_after_a_refusal(rt: HostRuntime) -> Result<(), Fail> {
-    touch_again::<Brand>(&rt, rt.alloc(), Blank::new(1))
+    let builder = Refusing::new(planned(rt.alloc(), counting_heap(rt.alloc(), 255)?)?);
+    play_alone::<Brand, _>(&rt, rt.alloc(), Blank::new(1), builder, 0, &AGAIN)
 }
+
+// A page that is touched twice.
+const TOUCHES: [Row; 2] = [
+    Row::Touch(0, Ok(Touched::Built)),
+    Row::Touch(0, Ok(Touched::AlreadyBuilt)),
+];
 
 // A page that is touched twice, with a builder that counts.
 fn count_builds<L: Named>(rt: &impl Abort, alloc: Global, blank: Blank) -> Result<(), Fail>
@@ -167,10 +162,9 @@ fn count_builds<L: Named>(rt: &impl Abort, alloc: Global, blank: Blank) -> Resul
 {
     let builder = Arc::new(alloc, Counting::new(planned(alloc, three(alloc)?)?))?;
     let (space, mut m) = one_shared::<L, _>(rt, alloc, blank, builder.clone()?, 4)?;
-    assert_eq!(rt; builder.count(), 0);
-    expect_touch(rt, alloc, &space, &mut m, 0, Ok(Touched::Built));
-    expect_touch(rt, alloc, &space, &mut m, 0, Ok(Touched::AlreadyBuilt));
-    assert_eq!(rt; builder.count(), 1);
+    expect_count(rt, builder.count(), 0);
+    expect_rows(rt, alloc, &space, &mut m, &TOUCHES);
+    expect_count(rt, builder.count(), 1);
     Ok(())
 }
 

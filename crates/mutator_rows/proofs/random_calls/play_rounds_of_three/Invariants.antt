@@ -1,5 +1,5 @@
 use Rattle.comp_mutator.specs.Mutators.{IsMutatorOf}
-use Rattle.mutator_rows.proofs.random_calls.play_three.Given as goal
+use Rattle.mutator_rows.proofs.random_calls.play_rounds_of_three.Given as goal
 
 abbrev pub invariant-loop : goal.invariant-loop
 invariant-loop g l = record {
