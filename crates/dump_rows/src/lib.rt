@@ -16,6 +16,10 @@ mod fields;
 #[cfg(test)]
 mod finished;
 #[cfg(test)]
+mod forged;
+#[cfg(test)]
 mod heads;
+#[cfg(test)]
+mod judged;
 #[cfg(test)]
 mod written;
