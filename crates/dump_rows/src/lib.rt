@@ -8,6 +8,8 @@ mod devices;
 #[cfg(test)]
 mod dumped;
 #[cfg(test)]
+mod each_byte;
+#[cfg(test)]
 mod encoded;
 #[cfg(test)]
 mod failing;
