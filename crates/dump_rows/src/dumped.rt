@@ -1,6 +1,7 @@
 //! Dumps written into memory, read from there, and compared.
 ghost use Rattle.comp_mutator.specs.Finishes.{IsOfFlip};
 
+use crate::judged::expect_yes;
 use comp_audit::dump::Dump;
 use comp_audit::fault::DumpFault;
 use comp_audit::page::DumpedPage;
@@ -8,6 +9,7 @@ use comp_audit::reading::read_dump;
 use comp_audit::writing::write_dump;
 use comp_mutator::finishing::Finished;
 use heap_layout::counted::Counted;
+use page_plan::plan::Plan;
 use std::alloc::Global;
 use std::process::Abort;
 use std::test::Fail;
@@ -29,10 +31,12 @@ pub fn expect_fault(rt: &impl Abort, alloc: Global, bytes: &[u8], wanted: DumpFa
     assert_eq!(rt; read(alloc, bytes).err(), Some(wanted), "{change}");
 }
 
-/// The bytes of the dump of a finished heap, of so many mutators and fresh pages. They are read as the same dump again.
+/// The bytes of the dump of a finished heap, of so many mutators and fresh pages. They are read as the same dump again, which by this plan is judged lawful
+/// before and after.
 pub fn dumped(
     rt: &impl Abort,
     alloc: Global,
+    plan: &Plan,
     finished: &Finished,
     mutators: u32,
     fresh_pages: u32,
@@ -40,8 +44,11 @@ pub fn dumped(
     requires { IsOfFlip mutators fresh_pages finished.now }
 {
     let dump = Dump::of(alloc, finished, mutators, fresh_pages)?;
+    expect_yes(rt, alloc, plan, &dump)?;
     let bytes = written(alloc, &dump)?;
-    expect_same(rt, &dump, &read(alloc, &bytes)?);
+    let again = read(alloc, &bytes)?;
+    expect_same(rt, &dump, &again);
+    expect_yes(rt, alloc, plan, &again)?;
     Ok(bytes)
 }
 

@@ -103,3 +103,20 @@ pub fn put_bytes(alloc: Global) -> Result<Vec<u8>, AllocError> {
     put_eights(&mut bytes, &[4])?;
     Ok(bytes)
 }
+
+/// The dump of two objects of 640 words each, all zeros behind their headers: 20 pages in three regions, of which the first of two mutators built the first
+/// and the last, and the second one the second. It has 10,464 bytes.
+pub fn twenty_bytes(alloc: Global) -> Result<Vec<u8>, AllocError> {
+    let mut bytes = head(alloc, 2, 0, 20, 0)?;
+    for p in 0..20 {
+        let first = match p {
+            0 | 10 => 41_877_504,
+            _ => 0,
+        };
+        put_page(&mut bytes, &[first], 0)?;
+    }
+    put_fours(&mut bytes, &[12, 0, 1, 2, 3, 4, 5, 6, 7, 16, 17, 18, 19])?;
+    put_fours(&mut bytes, &[8, 8, 9, 10, 11, 12, 13, 14, 15])?;
+    put_eights(&mut bytes, &[1_280])?;
+    Ok(bytes)
+}

@@ -17,7 +17,7 @@ use std::process::Abort;
 use std::sync::Arc;
 use std::sync::ledger::{Blank, Ledger as Named};
 use std::test::Fail;
-use worked_heaps::heaps::{T, empty, planned, smallest, three};
+use worked_heaps::heaps::{T, empty, heap, planned, smallest, three};
 
 // A flipped heap, and all its mutators.
 fn flipped<L: Named>(
@@ -77,7 +77,8 @@ fn dump_empty<L: Named>(rt: &impl Abort, alloc: Global, blank: Blank) -> Result<
 {
     let (space, mutators) = flipped::<L>(alloc, blank, empty(alloc)?, 2, 0)?;
     let finished = finish(rt, alloc, space, mutators);
-    dumped(rt, alloc, &finished, 2, 0)
+    let plan = planned(alloc, empty(alloc)?)?;
+    dumped(rt, alloc, &plan, &finished, 2, 0)
 }
 
 /// The dump of no object at all, finished by two mutators.
@@ -104,12 +105,35 @@ fn dump_smallest<L: Named>(rt: &impl Abort, alloc: Global, blank: Blank) -> Resu
     let (mut m, _) = last_of(rt, &space, mutators);
     touch_first(rt, alloc, &space, &mut m);
     let finished = finish(rt, alloc, space, vec![in alloc; m]?);
-    dumped(rt, alloc, &finished, 1, 0)
+    let plan = planned(alloc, smallest(alloc)?)?;
+    dumped(rt, alloc, &plan, &finished, 1, 0)
 }
 
 /// The dump of the smallest heap, touched by one mutator.
 pub fn smallest_dumped(rt: &impl Abort, alloc: Global) -> Result<Vec<u8>, Fail> {
     dump_smallest::<Brand>(rt, alloc, Blank::new(1))
+}
+
+// One mutator alone puts what looks like an address of from-space into the first of the three objects, and gets it.
+fn dump_address<L: Named>(rt: &impl Abort, alloc: Global, blank: Blank) -> Result<Vec<u8>, Fail>
+    requires name { blank.name ≡ L.name }
+    requires parts { blank.parts ≡ L.parts }
+    requires count { blank.parts ≡ 1 }
+{
+    let (space, mutators) = flipped::<L>(alloc, blank, three(alloc)?, 1, 0)?;
+    let (mut m, _) = last_of(rt, &space, mutators);
+    let stamp = space.try_write_data(alloc, &mut m, T, 0, 4_294_967_296);
+    assert_eq!(rt; stamp, Ok(0));
+    let word = space.try_read_data(alloc, &mut m, T, 0);
+    assert_eq!(rt; word, Ok(4_294_967_296));
+    let finished = finish(rt, alloc, space, vec![in alloc; m]?);
+    let plan = planned(alloc, three(alloc)?)?;
+    dumped(rt, alloc, &plan, &finished, 1, 0)
+}
+
+/// The dump of the three objects, into whose first one its one mutator put what looks like an address of from-space.
+pub fn address_dumped(rt: &impl Abort, alloc: Global) -> Result<Vec<u8>, Fail> {
+    dump_address::<Brand>(rt, alloc, Blank::new(1))
 }
 
 // A new object of one word, and a reference to it in the last object.
@@ -133,7 +157,8 @@ fn dump_linked<L: Named>(rt: &impl Abort, alloc: Global, blank: Blank) -> Result
     let (mut m, _) = last_of(rt, &space, mutators);
     link_new(rt, alloc, &space, &mut m);
     let finished = finish(rt, alloc, space, vec![in alloc; m]?);
-    dumped(rt, alloc, &finished, 1, 2)
+    let plan = planned(alloc, three(alloc)?)?;
+    dumped(rt, alloc, &plan, &finished, 1, 2)
 }
 
 /// The dump of the three objects, of which one mutator made the last refer to a new one. There are two fresh pages.
@@ -171,10 +196,58 @@ fn dump_put<L: Named>(rt: &impl Abort, alloc: Global, blank: Blank) -> Result<Ve
     let (mut m0, _) = last_of(rt, &space, mutators);
     put_and_get(rt, alloc, &space, &mut m0, &mut m1);
     let finished = finish(rt, alloc, space, vec![in alloc; m1, m0]?);
-    dumped(rt, alloc, &finished, 2, 64)
+    let plan = planned(alloc, three(alloc)?)?;
+    dumped(rt, alloc, &plan, &finished, 2, 64)
 }
 
 /// The dump of the three objects, into whose first one the first of two mutators put 7. There are 64 fresh pages.
 pub fn put_dumped(rt: &impl Abort, alloc: Global) -> Result<Vec<u8>, Fail> {
     dump_put::<Brand>(rt, alloc, Blank::new(2))
+}
+
+// Two objects of 640 words each, all zeros behind their headers.
+fn twenty(alloc: Global) -> Result<MarkedHeap, Fail> {
+    let mut words = vec![in alloc; 0u64; 1_280]?;
+    words[0] = 41_877_504;
+    words[640] = 41_877_504;
+    heap(alloc, &words, &[0, 640], &[])
+}
+
+// Touches these pages, of which none was touched before.
+fn touch_each<L: Named>(
+    rt: &impl Abort,
+    alloc: Global,
+    space: &Space<L, Plan>,
+    m: &mut Mutator<L>,
+    pages: &[u64],
+)
+    requires of { IsMutatorOf space.now m.old }
+    ensures of { IsMutatorOf space.now m.new }
+{
+    for &p in pages {
+        assert!(rt; p < space.pages());
+        assert_eq!(rt; space.try_touch(alloc, m, p), Ok(Touched::Built));
+    }
+}
+
+// The twenty pages of those objects, each region built by one of two mutators in turn.
+fn dump_twenty<L: Named>(rt: &impl Abort, alloc: Global, blank: Blank) -> Result<Vec<u8>, Fail>
+    requires name { blank.name ≡ L.name }
+    requires parts { blank.parts ≡ L.parts }
+    requires count { blank.parts ≡ 2 }
+{
+    let (space, mutators) = flipped::<L>(alloc, blank, twenty(alloc)?, 2, 0)?;
+    let (mut m1, mutators) = last_of(rt, &space, mutators);
+    let (mut m0, _) = last_of(rt, &space, mutators);
+    touch_each(rt, alloc, &space, &mut m0, &[0, 1, 2, 3, 4, 5, 6, 7]);
+    touch_each(rt, alloc, &space, &mut m1, &[8, 9, 10, 11, 12, 13, 14, 15]);
+    touch_each(rt, alloc, &space, &mut m0, &[16, 17, 18, 19]);
+    let finished = finish(rt, alloc, space, vec![in alloc; m1, m0]?);
+    let plan = planned(alloc, twenty(alloc)?)?;
+    dumped(rt, alloc, &plan, &finished, 2, 0)
+}
+
+/// The dump of two objects of 640 words each, of which two mutators built the regions in turn.
+pub fn twenty_dumped(rt: &impl Abort, alloc: Global) -> Result<Vec<u8>, Fail> {
+    dump_twenty::<Brand>(rt, alloc, Blank::new(2))
 }

@@ -8,6 +8,8 @@ mod devices;
 #[cfg(test)]
 mod dumped;
 #[cfg(test)]
+mod each_byte;
+#[cfg(test)]
 mod encoded;
 #[cfg(test)]
 mod failing;
@@ -16,6 +18,10 @@ mod fields;
 #[cfg(test)]
 mod finished;
 #[cfg(test)]
+mod forged;
+#[cfg(test)]
 mod heads;
+#[cfg(test)]
+mod judged;
 #[cfg(test)]
 mod written;

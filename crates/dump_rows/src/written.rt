@@ -1,7 +1,9 @@
 //! What is written of worked heaps, and what is read of that.
 use crate::dumped::read;
-use crate::encoded::{linked_bytes, put_bytes};
-use crate::finished::{empty_dumped, linked_dumped, put_dumped, smallest_dumped};
+use crate::encoded::{linked_bytes, put_bytes, twenty_bytes};
+use crate::finished::{
+    address_dumped, empty_dumped, linked_dumped, put_dumped, smallest_dumped, twenty_dumped,
+};
 use comp_audit::page::DumpedPage;
 use comp_journal::entry::Entry;
 use heap_layout::kind::Kind;
@@ -57,6 +59,22 @@ fn dumps_what_one_of_two_put(rt: HostRuntime) -> Result<(), Fail> {
     let bytes = put_dumped(&rt, rt.alloc())?;
     assert_eq!(rt; bytes.len(), 656);
     let wanted = put_bytes(rt.alloc())?;
+    assert_eq!(rt; bytes.as_slice(), wanted.as_slice());
+    Ok(())
+}
+
+#[test]
+fn dumps_what_looks_like_an_address(rt: HostRuntime) -> Result<(), Fail> {
+    let bytes = address_dumped(&rt, rt.alloc())?;
+    expect_at(&rt, &bytes, 45, &[0, 0, 0, 0, 1, 0, 0, 0]);
+    Ok(())
+}
+
+#[test]
+fn dumps_twenty_pages(rt: HostRuntime) -> Result<(), Fail> {
+    let bytes = twenty_dumped(&rt, rt.alloc())?;
+    assert_eq!(rt; bytes.len(), 10_464);
+    let wanted = twenty_bytes(rt.alloc())?;
     assert_eq!(rt; bytes.as_slice(), wanted.as_slice());
     Ok(())
 }

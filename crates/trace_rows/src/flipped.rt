@@ -30,6 +30,7 @@ pub fn flipped<L: Ledger, B: Builder>(
     ensures all { IfOk result (λ made. AreAll made.0 made.1.items) }
     ensures new { IfOk result (λ made. DidNothingYet made.1.items) }
     ensures whole { IfOk result (λ made. (setup_of made.0).mutators ≡ n) }
+    ensures fresh { IfOk result (λ made. (setup_of made.0).fresh ≡ fresh_pages) }
 {
     let builder = Arc::new(alloc, builder)?;
     let (space, mutators) = flip(alloc, blank, builder, n, fresh_pages)?;

@@ -8,6 +8,8 @@ mod finished;
 #[cfg(test)]
 mod flipped;
 #[cfg(test)]
+mod judged;
+#[cfg(test)]
 mod plain_run;
 #[cfg(test)]
 mod races;

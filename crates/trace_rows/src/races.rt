@@ -2,6 +2,7 @@
 ghost use Rattle.std.specs.Prelude.{◌≡◌};
 
 use crate::flipped::{flipped, read_for};
+use crate::judged::expect_lawful;
 use comp_mutator::finishing::Finished;
 use comp_mutator::refusal::Refusal;
 use comp_trace::fault::Stop;
@@ -166,10 +167,12 @@ fn finish_alone<L: Ledger + Send + Sync, R: Abort + Threads + Wait + Sync>(
     for run in &raced.runs {
         expect_run(rt, run, &[], None);
     }
-    match space.finish(alloc, raced.mutators) {
-        Ok(finished) => Ok(finished),
-        Err(_) => Err(Fail::from("not finished")),
-    }
+    let Ok(finished) = space.finish(alloc, raced.mutators) else {
+        return Err(Fail::from("not finished"));
+    };
+    let plan = planned(alloc, three(alloc)?)?;
+    expect_lawful(rt, alloc, &plan, &finished, 1, 2)?;
+    Ok(finished)
 }
 
 #[test]

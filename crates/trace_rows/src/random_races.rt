@@ -4,6 +4,7 @@ ghost use Rattle.std.specs.Prelude.{◌≡◌};
 use crate::drawn::draw_trace;
 use crate::finished::history;
 use crate::flipped::flipped;
+use crate::judged::expect_lawful;
 use crate::random_traces::read_lines;
 use comp_mutator::refusal::Refusal;
 use comp_trace::line::{Action, Line};
@@ -187,6 +188,7 @@ fn race_drawn<L: Ledger + Send + Sync, R: Abort + Threads + Wait + Sync>(
     let Ok(finished) = space.finish(alloc, mutators) else {
         return Err(Fail::from("not finished"));
     };
+    expect_lawful(rt, alloc, &two_live(alloc)?, &finished, u32::from(n), 6)?;
     let objects = history(rt, alloc, &finished, n)?;
     expect_runs(rt, alloc, &drawn.lines, &runs, &objects)
 }

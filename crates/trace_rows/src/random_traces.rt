@@ -6,6 +6,7 @@ ghost use Rattle.comp_trace.specs.Traces.{IsParsedFor};
 use crate::drawn::{Drawn, draw_trace, text_of};
 use crate::finished::expect_pages;
 use crate::flipped::{flipped, read_for};
+use crate::judged::expect_lawful;
 use comp_mutator::space::Space;
 use comp_trace::fault::TraceFault;
 use comp_trace::line::Line;
@@ -73,10 +74,11 @@ fn replay_drawn<L: Ledger>(
     let trace = read_lines(rt, alloc, &space, &drawn.lines, n)?;
     let run = replay(alloc, &trace, &space, &mut mutators);
     expect_replay(rt, run, &drawn);
-    match space.finish(alloc, mutators) {
-        Ok(finished) => expect_pages(rt, alloc, &finished, &drawn.run.objects),
-        Err(_) => Err(Fail::from("not finished")),
-    }
+    let Ok(finished) = space.finish(alloc, mutators) else {
+        return Err(Fail::from("not finished"));
+    };
+    expect_lawful(rt, alloc, &two_live(alloc)?, &finished, u32::from(n), 6)?;
+    expect_pages(rt, alloc, &finished, &drawn.run.objects)
 }
 
 #[test]
@@ -133,10 +135,11 @@ fn race_alone<L: Ledger + Send + Sync, R: Abort + Threads + Wait + Sync>(
         assert_eq!(rt; run.shown.as_slice(), drawn.run.shown.as_slice());
         assert_eq!(rt; run.fault, drawn.stop);
     }
-    match space.finish(alloc, raced.mutators) {
-        Ok(finished) => expect_pages(rt, alloc, &finished, &drawn.run.objects),
-        Err(_) => Err(Fail::from("not finished")),
-    }
+    let Ok(finished) = space.finish(alloc, raced.mutators) else {
+        return Err(Fail::from("not finished"));
+    };
+    expect_lawful(rt, alloc, &two_live(alloc)?, &finished, 1, 6)?;
+    expect_pages(rt, alloc, &finished, &drawn.run.objects)
 }
 
 #[test]

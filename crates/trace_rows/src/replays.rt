@@ -2,6 +2,7 @@
 ghost use Rattle.std.specs.Prelude.{◌≡◌};
 
 use crate::flipped::{flipped, read_for, root_count};
+use crate::judged::expect_lawful;
 use comp_journal::entry::Entry;
 use comp_mutator::finishing::Finished;
 use comp_mutator::refusal::Refusal;
@@ -124,10 +125,12 @@ fn finish_on_three<L: Ledger>(
     let trace = read_for(alloc, &space, text, n)?;
     let run = replay(alloc, &trace, &space, &mut mutators);
     expect_shown(rt, run, wanted)?;
-    match space.finish(alloc, mutators) {
-        Ok(finished) => Ok(finished),
-        Err(_) => Err(Fail::from("not finished")),
-    }
+    let Ok(finished) = space.finish(alloc, mutators) else {
+        return Err(Fail::from("not finished"));
+    };
+    let plan = planned(alloc, three(alloc)?)?;
+    expect_lawful(rt, alloc, &plan, &finished, u32::from(n), 2)?;
+    Ok(finished)
 }
 
 // This page has just this entry.
