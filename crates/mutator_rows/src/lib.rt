@@ -23,3 +23,5 @@ mod rows;
 mod threads;
 #[cfg(test)]
 mod touches;
+#[cfg(test)]
+mod waiting;

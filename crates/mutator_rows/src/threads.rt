@@ -2,8 +2,8 @@
 ghost use Rattle.std.specs.Prelude.{◌≡◌, IfOk};
 ghost use Rattle.comp_mutator.specs.Mutators.{IsMutatorOf};
 
-use crate::expected::{expect_all_stamps, expect_answer, expect_built, expect_count, expect_touch};
-use crate::flipped::{copy, finish_two, one_of_three, touch, two, two_of_three, write_data};
+use crate::expected::{expect_all_stamps, expect_built, expect_count, expect_touch};
+use crate::flipped::{copy, finish_two, touch, two, two_of_three, write_data};
 use crate::rows::{Row, expect_rows};
 use comp_journal::entry::Entry;
 use comp_mutator::finishing::Finished;
@@ -307,82 +307,6 @@ fn expect_turns(rt: &impl Abort, page: &PageCopy) {
     expect_rising(rt, &page.journal, 1, 1000);
     let last = page.journal.last().map(|entry| entry.value);
     assert_eq!(rt; last, Some(page.words.get(1)));
-}
-
-// A touch of page `p`, which is there, waits while it is busy, and is answered so.
-fn touch_at_last<L: Named, B: Builder, R: Abort + Wait>(
-    rt: &R,
-    alloc: Global,
-    space: &Space<L, B>,
-    m: &mut Mutator<L>,
-    p: u64,
-    wanted: Touched,
-)
-    requires of { IsMutatorOf space.now m.old }
-    ensures of { IsMutatorOf space.now m.new }
-{
-    assert!(rt; p < space.pages());
-    let touched = space.touch(alloc, rt, m, p);
-    assert_eq!(rt; touched, Ok(wanted));
-}
-
-// An object is made, and its reference written and read, each at once.
-fn link_at_last<L: Named, B: Builder, R: Abort + Wait>(
-    rt: &R,
-    alloc: Global,
-    space: &Space<L, B>,
-    m: &mut Mutator<L>,
-)
-    requires of { IsMutatorOf space.now m.old }
-    ensures of { IsMutatorOf space.now m.new }
-{
-    let made = space.alloc(alloc, rt, m, 1, 0, 4);
-    expect_answer(rt, 0, made, Ok(T + 64));
-    let stamp = space.write_ref(alloc, rt, m, T + 64, 0, T + 2);
-    expect_answer(rt, 1, stamp, Ok(1));
-    let reference = space.read_ref(alloc, rt, m, T + 64, 0);
-    expect_answer(rt, 2, reference, Ok(T + 2));
-}
-
-// A data word is written and read, and none of null, each at once.
-fn fill_at_last<L: Named, B: Builder, R: Abort + Wait>(
-    rt: &R,
-    alloc: Global,
-    space: &Space<L, B>,
-    m: &mut Mutator<L>,
-)
-    requires of { IsMutatorOf space.now m.old }
-    ensures of { IsMutatorOf space.now m.new }
-{
-    let stamp = space.write_data(alloc, rt, m, T, 0, 9);
-    expect_answer(rt, 0, stamp, Ok(2));
-    let word = space.read_data(alloc, rt, m, T, 0);
-    expect_answer(rt, 1, word, Ok(9));
-    let refused = space.read_data(alloc, rt, m, 0, 0);
-    expect_answer(rt, 2, refused, Err(Refusal::Null));
-}
-
-// The waiting calls of a mutator that is alone.
-fn answer_at_once<L: Named, R: Abort + Wait>(
-    rt: &R,
-    alloc: Global,
-    blank: Blank,
-) -> Result<(), Fail>
-    requires name { blank.name ≡ L.name }
-    requires parts { blank.parts ≡ L.parts }
-    requires count { blank.parts ≡ 1 }
-{
-    let (space, mut m) = one_of_three::<L>(rt, alloc, blank, 1)?;
-    touch_at_last(rt, alloc, &space, &mut m, 0, Touched::Built);
-    touch_at_last(rt, alloc, &space, &mut m, 0, Touched::AlreadyBuilt);
-    link_at_last(rt, alloc, &space, &mut m);
-    fill_at_last(rt, alloc, &space, &mut m);
-    Ok(())
-}
-
-#[test]
-fn answers_at_once_when_no_page_is_busy(rt: HostRuntime) -> Result<(), Fail> {
-    answer_at_once::<Brand, HostRuntime>(&rt, rt.alloc(), Blank::new(1))
 }
 
 // How many objects each thread makes.
