@@ -43,8 +43,8 @@ same_entries [] (y ∷ ys) bare stamps = cc
 same_entries (x ∷ xs) [] bare stamps = cc
 same_entries (x ∷ xs) (y ∷ ys) bare stamps =
     consed x y xs ys
-      (same_entry x y (heads_are (unstamped_on x) (unstamped_on y) (map unstamped_on xs) (map unstamped_on ys) bare) (heads_are (stamp_of x) (stamp_of y) (map stamp_of xs) (map stamp_of ys) stamps))
-      (same_entries xs ys (tails_are (unstamped_on x) (unstamped_on y) (map unstamped_on xs) (map unstamped_on ys) bare) (tails_are (stamp_of x) (stamp_of y) (map stamp_of xs) (map stamp_of ys) stamps))
+    (same_entry x y (heads_are (unstamped_on x) (unstamped_on y) (map unstamped_on xs) (map unstamped_on ys) bare) (heads_are (stamp_of x) (stamp_of y) (map stamp_of xs) (map stamp_of ys) stamps))
+    (same_entries xs ys (tails_are (unstamped_on x) (unstamped_on y) (map unstamped_on xs) (map unstamped_on ys) bare) (tails_are (stamp_of x) (stamp_of y) (map stamp_of xs) (map stamp_of ys) stamps))
 
 counted : (xs ys : List (ℕ × Entry)) → map unstamped_on xs ≡ map unstamped_on ys → length xs ≡ length ys
 counted [] [] bare = refl
@@ -72,9 +72,9 @@ dumps_agree u end other dump second alike x y =
       total = x.total ∙ sym second_left.total;
       places = x.places ∙ sym y.places;
       pages = λ p page found inside there here.
-        let is_page : IsPageAfter u end.added p (Some page) = subst (IsPageAfter u end.added p) there (x.page_by_page p (omega (arith, inside, x.places))) in
-        let is_found : IsPageAfter u end.added p (Some found) = subst (IsPageAfter u end.added p) here (second_left.page_by_page p (omega (arith, inside, x.places))) in
-        same_page u end.added p page found is_page is_found;
+          let is_page : IsPageAfter u end.added p (Some page) = subst (IsPageAfter u end.added p) there (x.page_by_page p (omega (arith, inside, x.places))) in
+          let is_found : IsPageAfter u end.added p (Some found) = subst (IsPageAfter u end.added p) here (second_left.page_by_page p (omega (arith, inside, x.places))) in
+          same_page u end.added p page found is_page is_found;
     }
 
 -- ---- the same bytes

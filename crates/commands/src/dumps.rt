@@ -51,8 +51,9 @@ impl<R: Files + AllocGlobal> Dumps for FileDumps<'_, R> {
 
     fn create(&mut self, path: &str) -> Result<BufWriter<R::File, Global>, Refusal> {
         let file = fs::create(self.rt, path).map_err(|_| Refusal::CannotCreate(Output::Dump))?;
-        BufWriter::with_capacity(self.rt.alloc(), WRITTEN_AT_ONCE, file)
-            .map_err(|_| Refusal::OutOfMemory)
+        BufWriter::with_capacity(self.rt.alloc(), WRITTEN_AT_ONCE, file).map_err(
+            |_| Refusal::OutOfMemory,
+        )
     }
 }
 
