@@ -1,8 +1,6 @@
 //! Heaps that are compacted: the dump and the line.
 ghost use Rattle.std.specs.Prelude.{◌≤◌};
 
-use crate::places::{ALL, Failure, compacted, empty_image, twenty_dump, twenty_image};
-use crate::programs::{Image, run_on, three_image};
 use commands::compact::{Compaction, print_compact};
 use commands::dumps::FileDumps;
 use commands::images::FileImages;
@@ -12,6 +10,9 @@ use std::process::Abort;
 use std::sync::Wait;
 use std::test::Fail;
 use std::thread::Threads;
+use worked_commands::files::{ALL, empty_image, three_image, twenty_dump, twenty_image};
+use worked_commands::places::{Failure, Image, compacted};
+use worked_commands::runs::run_on;
 
 // Compacts the twenty pages by so many workers, who then have these lists of builds.
 fn expect_twenty<R: Abort + AllocGlobal + Threads + Wait + Sync>(

@@ -1,5 +1,4 @@
 //! Runs of the program: what it prints, and its status.
-ghost use Rattle.std.specs.Prelude.{◌≡◌, ◌≢◌, All, Any};
 ghost use Rattle.command_line.specs.Asked.{HasLawfulCounts};
 
 use command_line::words::Task;
@@ -17,61 +16,9 @@ use std::rt::Files;
 use std::sync::Wait;
 use std::test::Fail;
 use std::thread::Threads;
-
-// What a run printed, and its status.
-#[derive(Drop)]
-pub(crate) struct Ran {
-    pub status: u8,
-    pub out: String,
-    pub err: String,
-}
-
-fn words_of<R: AllocGlobal>(rt: &R, line: &str) -> Result<Vec<String>, Fail> {
-    let mut owned = Vec::new(rt.alloc());
-    for word in line.split_whitespace() {
-        owned.push(String::from_str(rt.alloc(), word)?)?;
-    }
-    Ok(owned)
-}
-
-// Runs the program on the words of a line.
-pub(crate) fn run_on<R: Files + AllocGlobal + Threads + Wait + Sync>(
-    rt: &R,
-    line: &str,
-) -> Result<Ran, Fail> {
-    let mut out = Vec::new(rt.alloc());
-    let mut err = Vec::new(rt.alloc());
-    let status = run(rt, words_of(rt, line)?, &mut out, &mut err);
-    Ok(Ran {
-        status,
-        out: String::from_utf8(out)?,
-        err: String::from_utf8(err)?,
-    })
-}
-
-// The image of three objects, of which the first and the last are marked.
-pub(crate) fn three_image(alloc: Global) -> Result<Vec<u8>, Fail> {
-    let mut bytes = b"COMPHEAP".to_vec(alloc)?;
-    for count in [1u32, 7, 2, 1] {
-        bytes.extend_from_slice(&count.to_le_bytes())?;
-    }
-    for word in [
-        4_295_032_832u64,
-        11,
-        8_590_000_129,
-        0,
-        22,
-        12_884_901_889,
-        4_294_967_296,
-    ] {
-        bytes.extend_from_slice(&word.to_le_bytes())?;
-    }
-    for mark in [0u32, 5] {
-        bytes.extend_from_slice(&mark.to_le_bytes())?;
-    }
-    bytes.extend_from_slice(&4_294_967_301u64.to_le_bytes())?;
-    Ok(bytes)
-}
+use worked_commands::files::three_image;
+use worked_commands::places::{Failure, Image, Memory};
+use worked_commands::runs::run_on;
 
 #[test]
 fn prints_words_and_plans(rt: HostRuntime) -> Result<(), Fail> {
@@ -94,34 +41,6 @@ fn prints_words_and_plans(rt: HostRuntime) -> Result<(), Fail> {
     }
     fs::remove_file(&rt, "three.tests.img")?;
     Ok(())
-}
-
-// An image in memory.
-#[derive(Drop)]
-pub(crate) struct Image<'a> {
-    pub path: &'a str,
-    pub bytes: &'a [u8],
-}
-
-// Images in memory, each at its path.
-#[derive(Drop)]
-pub(crate) struct Memory<'a> {
-    pub images: &'a [Image<'a>],
-}
-
-impl<'a> Images for Memory<'a> {
-    type Reader = &'a [u8];
-
-    ghost gives = { λ memory path reader. Any (λ image. (image.path.now ≡ path) × (image.bytes.now ≡ reader.now)) memory.images.now };
-
-    ghost lacks = { λ memory path. All (λ image. image.path.now ≢ path) memory.images.now };
-
-    fn open(&self, path: &str) -> Result<&'a [u8], Refusal> {
-        match self.images.iter().find(|image| image.path == path) {
-            Some(image) => Ok(image.bytes),
-            None => Err(Refusal::CannotOpen(Input::Image)),
-        }
-    }
 }
 
 // Does a task on images, wherever they lie, and tells what it answers, whether nothing is left to flush, and what it prints.
@@ -283,14 +202,6 @@ fn prints_its_version(rt: HostRuntime) -> Result<(), Fail> {
         assert_eq!(rt; ran.err.as_str(), "");
     }
     Ok(())
-}
-
-// How an output fails.
-#[derive(Clone, Copy, PartialEq, Eq)]
-enum Failure {
-    Error,
-    TakesNone,
-    Flush,
 }
 
 // Takes as many bytes as it has room for, by three at a time, and then fails.

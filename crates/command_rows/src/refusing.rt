@@ -1,6 +1,4 @@
 //! Heaps that are not compacted, and dumps that are not written.
-use crate::places::{ALL, Failure, Narrow, Place, compacted, twenty_dump, twenty_image};
-use crate::programs::{Image, Memory, three_image};
 use commands::compact::{Compaction, print_compact};
 use commands::dumps::FileDumps;
 use commands::refusal::{Input, Output, Refusal};
@@ -8,6 +6,8 @@ use comp_audit::fault::DumpFault;
 use heap_layout::counted::Counted;
 use heap_layout::fault::LayoutFault;
 use std::test::Fail;
+use worked_commands::files::{ALL, three_image, twenty_dump, twenty_image};
+use worked_commands::places::{Failure, Image, Memory, Narrow, Place, compacted};
 
 #[test]
 fn tells_that_a_dump_is_cut_off(rt: HostRuntime) -> Result<(), Fail> {

@@ -1,7 +1,6 @@
 //! Traces whose mutators race over heaps: the lines, the dump, and what refusals leave.
 ghost use Rattle.std.specs.Prelude.{◌≤◌};
 
-use crate::programs::three_image;
 use command_line::words::TraceRun;
 use commands::dumps::FileDumps;
 use commands::images::FileImages;
@@ -16,6 +15,7 @@ use std::rt::Files;
 use std::sync::Wait;
 use std::test::Fail;
 use std::thread::Threads;
+use worked_commands::files::three_image;
 
 // A data field is written by mutator 0, and read by mutator 1: before that, or after it.
 const SEEN: &str = "0 root 0 0\n0 load 1 0 0\n0 put 1 0 7\n1 root 0 0\n1 load 1 0 0\n1 get 1 0\n";

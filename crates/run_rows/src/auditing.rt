@@ -1,7 +1,4 @@
 //! Dumps that are judged: true ones, and forged ones.
-use crate::places::{ALL, push_small_numbers, twenty_dump, twenty_image};
-use crate::programs::{Image, Memory, run_on, three_image};
-use crate::replaying::fresh_dump;
 use commands::audit::print_audit;
 use commands::refusal::{Input, Refusal};
 use comp_audit::fault::DumpFault;
@@ -11,6 +8,11 @@ use heap_layout::fault::LayoutFault;
 use std::alloc::Global;
 use std::fs;
 use std::test::Fail;
+use worked_commands::files::{
+    ALL, fresh_dump, push_small_numbers, three_image, twenty_dump, twenty_image,
+};
+use worked_commands::places::{Image, Memory};
+use worked_commands::runs::run_on;
 
 // What the audit of a dump in memory answers, and what it prints.
 #[derive(Drop)]

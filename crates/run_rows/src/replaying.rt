@@ -1,6 +1,4 @@
 //! Traces that are run over heaps: the dump, the lines, and what a refusal leaves.
-use crate::places::{Failure, Narrow, Place, push_small_numbers};
-use crate::programs::{run_on, three_image};
 use command_line::words::TraceRun;
 use commands::dumps::FileDumps;
 use commands::images::FileImages;
@@ -13,6 +11,9 @@ use std::alloc::Global;
 use std::fs;
 use std::io::{Error, ErrorKind, Read, Result as IoResult};
 use std::test::Fail;
+use worked_commands::files::{push_small_numbers, three_image};
+use worked_commands::places::{Failure, Narrow, Place};
+use worked_commands::runs::run_on;
 
 // A data field is written by mutator 0, and read by mutator 1.
 const SEEN: &str = "0 root 0 0\n0 load 1 0 0\n0 put 1 0 7\n1 root 0 0\n1 load 1 0 0\n1 get 1 0\n";
@@ -22,47 +23,6 @@ const FRESH: &str = "0 root 0 0\n0 new 1 0 0 0\n0 store 0 0 1\n";
 
 // Line 3 shows a value, and line 4 reads a field that is not there.
 const HALTED: &str = "0 root 0 0\n0 load 1 0 0\n0 get 1 0\n0 get 1 9\n0 get 1 0\n";
-
-// A page of a dump with these first words, and one entry.
-fn push_page(
-    bytes: &mut Vec<u8>,
-    words: &[u64],
-    stamp: u64,
-    place: [u8; 3],
-    value: u64,
-) -> Result<(), Fail> {
-    bytes.push(1)?;
-    for word in words {
-        bytes.extend_from_slice(&word.to_le_bytes())?;
-    }
-    for _ in words.len()..64 {
-        bytes.extend_from_slice(&[0; 8])?;
-    }
-    push_small_numbers(bytes, &[1])?;
-    bytes.extend_from_slice(&stamp.to_le_bytes())?;
-    bytes.extend_from_slice(&place)?;
-    bytes.extend_from_slice(&value.to_le_bytes())?;
-    Ok(())
-}
-
-// The dump behind the run that makes a new object: one mutator, which built page 1 and then page 0; page 2 was never built.
-pub fn fresh_dump(alloc: Global) -> Result<Vec<u8>, Fail> {
-    let mut bytes = b"COMPDUMP".to_vec(alloc)?;
-    push_small_numbers(&mut bytes, &[1, 1, 2, 3, 1])?;
-    bytes.extend_from_slice(&8_589_934_594u64.to_le_bytes())?;
-    push_page(
-        &mut bytes,
-        &[4_295_032_832, 11, 12_884_901_889, 8_589_934_656],
-        1,
-        [0, 1, 3],
-        8_589_934_656,
-    )?;
-    push_page(&mut bytes, &[], 0, [0, 0, 0], 0)?;
-    bytes.push(0)?;
-    push_small_numbers(&mut bytes, &[2, 1, 0])?;
-    bytes.extend_from_slice(&5u64.to_le_bytes())?;
-    Ok(bytes)
-}
 
 #[test]
 fn replays_traces(rt: HostRuntime) -> Result<(), Fail> {

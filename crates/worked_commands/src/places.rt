@@ -1,0 +1,144 @@
+//! Images in memory, and places for dumps, whose writers fail.
+ghost use Rattle.std.specs.Prelude.{◌≡◌, ◌≢◌, ◌≤◌, All, Any};
+
+use commands::compact::{Compaction, print_compact};
+use commands::dumps::Dumps;
+use commands::images::Images;
+use commands::refusal::{Input, Output, Refusal};
+use heap_layout::counted::Counted;
+use std::io::{Error, ErrorKind, Result as IoResult, Write};
+use std::sync::Wait;
+use std::test::Fail;
+use std::thread::Threads;
+
+/// An image in memory.
+#[derive(Drop)]
+pub struct Image<'a> {
+    pub path: &'a str,
+    pub bytes: &'a [u8],
+}
+
+/// Images in memory, each at its path.
+#[derive(Drop)]
+pub struct Memory<'a> {
+    pub images: &'a [Image<'a>],
+}
+
+impl<'a> Images for Memory<'a> {
+    type Reader = &'a [u8];
+
+    ghost gives = { λ memory path reader. Any (λ image. (image.path.now ≡ path) × (image.bytes.now ≡ reader.now)) memory.images.now };
+
+    ghost lacks = { λ memory path. All (λ image. image.path.now ≢ path) memory.images.now };
+
+    fn open(&self, path: &str) -> Result<&'a [u8], Refusal> {
+        match self.images.iter().find(|image| image.path == path) {
+            Some(image) => Ok(image.bytes),
+            None => Err(Refusal::CannotOpen(Input::Image)),
+        }
+    }
+}
+
+/// How a writer of a dump fails.
+#[derive(Clone, Copy, PartialEq, Eq)]
+pub enum Failure {
+    Error,
+    TakesNone,
+    Flush,
+}
+
+/// Takes as many bytes as it has room for, and then fails.
+#[derive(Drop)]
+pub struct Narrow<'a> {
+    pub taken: &'a mut Vec<u8>,
+    pub room: usize,
+    pub failure: Failure,
+}
+
+impl<'a> Write for Narrow<'a> {
+    fn write(&mut self, buf: &[u8]) -> IoResult<usize> {
+        let (taken, _) = buf.split_at(buf.len().min(self.room));
+        if taken.is_empty() && self.failure == Failure::Error {
+            return Err(Error::from(ErrorKind::StorageFull));
+        }
+        if self.taken.extend_from_slice(taken).is_err() {
+            return Err(Error::from(ErrorKind::OutOfMemory));
+        }
+        self.room -= taken.len();
+        Ok(taken.len())
+    }
+
+    fn flush(&mut self) -> IoResult<()> {
+        if self.failure == Failure::Flush {
+            return Err(Error::from(ErrorKind::StorageFull));
+        }
+        Ok(())
+    }
+}
+
+/// A place for one dump, in memory, at the path `out`.
+#[derive(Drop)]
+pub struct Place<'a> {
+    pub writer: Option<Narrow<'a>>,
+}
+
+impl<'a> Dumps for Place<'a> {
+    type Writer = Narrow<'a>;
+
+    ghost gives = { λ _ _ _. Unit {0} };
+
+    ghost lacks = { λ _ _. Unit {0} };
+
+    fn create(&mut self, path: &str) -> Result<Narrow<'a>, Refusal> {
+        if path != "out" {
+            return Err(Refusal::CannotCreate(Output::Dump));
+        }
+        match self.writer.take() {
+            Some(writer) => Ok(writer),
+            None => Err(Refusal::CannotCreate(Output::Dump)),
+        }
+    }
+}
+
+/// What compacting a heap in memory answers, the bytes of its dump, and what it prints.
+#[derive(Drop)]
+pub struct Outcome {
+    pub answer: Result<(), Refusal>,
+    pub dump: Vec<u8>,
+    pub printed: String,
+}
+
+/// Compacts a heap in memory, with a writer of the dump that fails behind so many bytes.
+pub fn compacted<R: AllocGlobal + Threads + Wait + Sync>(
+    rt: &R,
+    images: &[Image],
+    asked: Compaction,
+    room: usize,
+    failure: Failure,
+) -> Result<Outcome, Fail>
+    requires { (1 ≤ asked.workers) × (asked.workers ≤ 64) }
+{
+    let mut dump = Vec::new(rt.alloc());
+    let mut printed = Vec::new(rt.alloc());
+    let mut place = Place {
+        writer: Some(Narrow {
+            taken: &mut dump,
+            room,
+            failure,
+        }),
+    };
+    let mut out = Counted::new(&mut printed);
+    let answer = print_compact(
+        rt.alloc(),
+        rt,
+        &Memory { images },
+        &mut place,
+        asked,
+        &mut out,
+    );
+    Ok(Outcome {
+        answer,
+        dump,
+        printed: String::from_utf8(printed)?,
+    })
+}
