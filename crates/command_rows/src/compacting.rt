@@ -12,7 +12,7 @@ use std::test::Fail;
 use std::thread::Threads;
 use worked_commands::files::{ALL, empty_image, three_image, twenty_dump, twenty_image};
 use worked_commands::places::{Failure, Image, compacted};
-use worked_commands::runs::run_on;
+use worked_commands::runs::{expect_refusal, expect_run, remove_files};
 
 // Compacts the twenty pages by so many workers, who then have these lists of builds.
 fn expect_twenty<R: Abort + AllocGlobal + Threads + Wait + Sync>(
@@ -122,31 +122,20 @@ fn runs_compactions(rt: HostRuntime) -> Result<(), Fail> {
         ("compact --workers 1 run.tests.img run.tests.out", 10_460),
         ("compact run.tests.img --workers=64 run.tests.out", 10_712),
     ] {
-        let ran = run_on(&rt, line)?;
-        assert_eq!(rt; ran.status, 0);
-        assert_eq!(rt; ran.out.as_str(), "live 1280\n");
-        assert_eq!(rt; ran.err.as_str(), "");
+        expect_run(&rt, line, 0, "live 1280\n", "")?;
         assert_eq!(rt; fs::read(&rt, "run.tests.out")?.len(), length);
     }
-    for (line, status, err) in [
+    for (line, refusal) in [
         (
             "compact run.tests.img absent.tests/run.out",
-            1,
-            "compressor: P2 CannotCreate(dump)\n",
+            "P2 CannotCreate(dump)",
         ),
         (
             "compact absent.tests.img run.tests.out",
-            1,
-            "compressor: P1 CannotOpen(image)\n",
+            "P1 CannotOpen(image)",
         ),
     ] {
-        let ran = run_on(&rt, line)?;
-        assert_eq!(rt; ran.status, status);
-        assert_eq!(rt; ran.out.as_str(), "");
-        assert_eq!(rt; ran.err.as_str(), err);
+        expect_refusal(&rt, line, "", refusal)?;
     }
-    for path in ["run.tests.img", "run.tests.out"] {
-        fs::remove_file(&rt, path)?;
-    }
-    Ok(())
+    remove_files(&rt, &["run.tests.img", "run.tests.out"])
 }

@@ -18,7 +18,7 @@ use std::test::Fail;
 use std::thread::Threads;
 use worked_commands::files::three_image;
 use worked_commands::places::{Failure, Image, Memory};
-use worked_commands::runs::run_on;
+use worked_commands::runs::{expect_run, remove_files, run_on, words_of};
 
 #[test]
 fn prints_words_and_plans(rt: HostRuntime) -> Result<(), Fail> {
@@ -34,10 +34,7 @@ fn prints_words_and_plans(rt: HostRuntime) -> Result<(), Fail> {
             "live 4\npages 1\npage 0 first 0\nroot 0 8589934594\n",
         ),
     ] {
-        let ran = run_on(&rt, line)?;
-        assert_eq!(rt; ran.status, 0);
-        assert_eq!(rt; ran.out.as_str(), text);
-        assert_eq!(rt; ran.err.as_str(), "");
+        expect_run(&rt, line, 0, text, "")?;
     }
     fs::remove_file(&rt, "three.tests.img")?;
     Ok(())
@@ -135,14 +132,12 @@ fn tells_one_line_of_a_refusal(rt: HostRuntime) -> Result<(), Fail> {
         ("word folder.tests 0", "compressor: H12 Device\n"),
         ("plan folder.tests", "compressor: H12 Device\n"),
     ] {
-        let ran = run_on(&rt, line)?;
-        assert_eq!(rt; ran.status, 1);
-        assert_eq!(rt; ran.out.as_str(), "");
-        assert_eq!(rt; ran.err.as_str(), text);
+        expect_run(&rt, line, 1, "", text)?;
     }
-    for path in ["whole.tests.img", "root.tests.img", "empty.tests.img"] {
-        fs::remove_file(&rt, path)?;
-    }
+    remove_files(
+        &rt,
+        &["whole.tests.img", "root.tests.img", "empty.tests.img"],
+    )?;
     fs::remove_dir(&rt, "folder.tests")?;
     Ok(())
 }
@@ -196,10 +191,7 @@ fn prints_help_on_standard_output(rt: HostRuntime) -> Result<(), Fail> {
 #[test]
 fn prints_its_version(rt: HostRuntime) -> Result<(), Fail> {
     for line in ["--version", "-V", "-Vx", "--version word"] {
-        let ran = run_on(&rt, line)?;
-        assert_eq!(rt; ran.status, 0);
-        assert_eq!(rt; ran.out.as_str(), "compressor 0.1.0\n");
-        assert_eq!(rt; ran.err.as_str(), "");
+        expect_run(&rt, line, 0, "compressor 0.1.0\n", "")?;
     }
     Ok(())
 }

@@ -12,7 +12,7 @@ use worked_commands::files::{
     ALL, fresh_dump, push_small_numbers, three_image, twenty_dump, twenty_image,
 };
 use worked_commands::places::{Image, Memory};
-use worked_commands::runs::run_on;
+use worked_commands::runs::{expect_refusal, expect_run, remove_files};
 
 // What the audit of a dump in memory answers, and what it prints.
 #[derive(Drop)]
@@ -293,15 +293,12 @@ fn passes_what_the_program_dumps(rt: HostRuntime) -> Result<(), Fail> {
         ),
         ("audit left.tests.img left.tests.out", "ok 5\n"),
     ] {
-        let ran = run_on(&rt, line)?;
-        assert_eq!(rt; ran.err.as_str(), "");
-        assert_eq!(rt; ran.status, 0);
-        assert_eq!(rt; ran.out.as_str(), text);
+        expect_run(&rt, line, 0, text, "")?;
     }
-    for path in ["left.tests.img", "left.tests.trace", "left.tests.out"] {
-        fs::remove_file(&rt, path)?;
-    }
-    Ok(())
+    remove_files(
+        &rt,
+        &["left.tests.img", "left.tests.trace", "left.tests.out"],
+    )
 }
 
 #[test]
@@ -328,15 +325,9 @@ fn tells_why_a_dump_does_not_pass(rt: HostRuntime) -> Result<(), Fail> {
         ("audit judge.tests.img judge.tests", "B6 Device"),
         ("audit judge.tests judge.tests.img", "H12 Device"),
     ] {
-        let ran = run_on(&rt, line)?;
-        let told = format!(in rt.alloc(); "compressor: {refusal}\n")?;
-        assert_eq!(rt; ran.status, 1);
-        assert_eq!(rt; ran.out.as_str(), "");
-        assert_eq!(rt; ran.err, told);
+        expect_refusal(&rt, line, "", refusal)?;
     }
-    for path in ["judge.tests.img", "late.tests.dump"] {
-        fs::remove_file(&rt, path)?;
-    }
+    remove_files(&rt, &["judge.tests.img", "late.tests.dump"])?;
     fs::remove_dir(&rt, "judge.tests")?;
     Ok(())
 }

@@ -11,9 +11,9 @@ use std::alloc::Global;
 use std::fs;
 use std::io::{Error, ErrorKind, Read, Result as IoResult};
 use std::test::Fail;
-use worked_commands::files::{push_small_numbers, three_image};
+use worked_commands::files::{fresh_dump, three_image};
 use worked_commands::places::{Failure, Narrow, Place};
-use worked_commands::runs::run_on;
+use worked_commands::runs::{expect_file, expect_refusal, expect_run, remove_files};
 
 // A data field is written by mutator 0, and read by mutator 1.
 const SEEN: &str = "0 root 0 0\n0 load 1 0 0\n0 put 1 0 7\n1 root 0 0\n1 load 1 0 0\n1 get 1 0\n";
@@ -36,18 +36,15 @@ fn replays_traces(rt: HostRuntime) -> Result<(), Fail> {
         let line = format!(in rt.alloc();
             "replay {options} rows.tests.img rows.tests.trace rows.tests.out"
         )?;
-        let ran = run_on(&rt, &line)?;
-        assert_eq!(rt; ran.err.as_str(), "");
-        assert_eq!(rt; ran.status, 0);
-        assert_eq!(rt; ran.out.as_str(), text);
+        expect_run(&rt, &line, 0, text, "")?;
         let dump = fs::read(&rt, "rows.tests.out")?;
         assert_eq!(rt; dump.len(), length);
         assert!(rt; length != 1_129 || dump == fresh_dump(rt.alloc())?);
     }
-    for path in ["rows.tests.img", "rows.tests.trace", "rows.tests.out"] {
-        fs::remove_file(&rt, path)?;
-    }
-    Ok(())
+    remove_files(
+        &rt,
+        &["rows.tests.img", "rows.tests.trace", "rows.tests.out"],
+    )
 }
 
 #[test]
@@ -68,20 +65,14 @@ fn tells_what_is_refused_of_a_trace(rt: HostRuntime) -> Result<(), Fail> {
         ("0 root 0 1\n", "", "T5 NoSuchRoot(1)"),
     ] {
         fs::write(&rt, "halt.tests.trace", trace.as_bytes())?;
-        let ran = run_on(&rt, "replay halt.tests.img halt.tests.trace halt.tests.out")?;
-        let told = format!(in rt.alloc(); "compressor: {refusal}\n")?;
-        assert_eq!(rt; ran.status, 1);
-        assert_eq!(rt; ran.out.as_str(), out);
-        assert_eq!(rt; ran.err, told);
-        assert_eq!(rt;
-            fs::read(&rt, "halt.tests.out")?.as_slice(),
-            b"kept".as_slice()
-        );
+        let line = "replay halt.tests.img halt.tests.trace halt.tests.out";
+        expect_refusal(&rt, line, out, refusal)?;
+        expect_file(&rt, "halt.tests.out", b"kept")?;
     }
-    for path in ["halt.tests.img", "halt.tests.trace", "halt.tests.out"] {
-        fs::remove_file(&rt, path)?;
-    }
-    Ok(())
+    remove_files(
+        &rt,
+        &["halt.tests.img", "halt.tests.trace", "halt.tests.out"],
+    )
 }
 
 #[test]
@@ -107,10 +98,7 @@ fn tells_which_file_of_a_replay_is_wrong(rt: HostRuntime) -> Result<(), Fail> {
             "compressor: P2 CannotCreate(dump)\n",
         ),
     ] {
-        let ran = run_on(&rt, line)?;
-        assert_eq!(rt; ran.status, 1);
-        assert_eq!(rt; ran.out.as_str(), "");
-        assert_eq!(rt; ran.err.as_str(), text);
+        expect_run(&rt, line, 1, "", text)?;
     }
     for path in ["file.tests.img", "file.tests.trace"] {
         fs::remove_file(&rt, path)?;
