@@ -1,11 +1,10 @@
 -- A replay is one function of its files.
 use Rattle.std.proofs.Common.{◌≡◌, ℕ, ◌∙◌, List, [], ◌∷◌, ◌++◌, Some, length, map, refl, sym, ap, subst, arith}
-use Rattle.std.specs.List.{flat_map, range_with_len}
+use Rattle.std.specs.List.{range_with_len}
 use Rattle.heap_layout.specs.Encoding.{AreCounted, ImagesDiffer}
-use Rattle.heap_layout.specs.Faults.{mark_faults, object_faults, root_faults, size_faults, target_faults, IsAccepted}
-use Rattle.heap_layout.specs.Heap.{starts, Heap}
-use Rattle.heap_layout.proofs.Marked.{sizes-few}
-use Rattle.heap_layout.proofs.Rows.{append-none}
+use Rattle.heap_layout.specs.Faults.{IsAccepted}
+use Rattle.heap_layout.specs.Heap.{Heap}
+use Rattle.heap_layout.proofs.Marked.{passed, sizes-few}
 use Rattle.comp_journal.specs.declared.entry.Entry.{Entry}
 use Rattle.cell_steps.specs.Setup.{Setup}
 use Rattle.comp_history.specs.Merged.{stamp_of}
@@ -93,14 +92,7 @@ of_heap heap mutators fresh text lines more end other dump second text_is more_i
 -- an accepted heap has few words, marks and roots
 counted_of : (heap : Heap) → IsAccepted heap → AreCounted heap
 counted_of heap accepted =
-    let sizes = size_faults (length heap.words) (length heap.marks) (length heap.roots) in
-    let row = flat_map (object_faults heap.words) (starts heap.words) in
-    let marks = mark_faults (starts heap.words) 0 heap.marks in
-    let roots = root_faults heap.marks heap.roots in
-    let four = append-none (sizes ++ row ++ marks ++ roots) (target_faults heap.words heap.marks heap.marks) accepted in
-    let three = append-none (sizes ++ row ++ marks) roots four.0 in
-    let two = append-none (sizes ++ row) marks three.0 in
-    let few = sizes-few (length heap.words) (length heap.marks) (length heap.roots) (append-none sizes row two.0).0 in
+    let few = sizes-few (length heap.words) (length heap.marks) (length heap.roots) (passed heap accepted).sizes in
     record { words = omega (arith, few.0); marks = omega (arith, few.1); roots = omega (arith, few.2) }
 
 -- what is known of a replay, of its heap alone

@@ -29,7 +29,7 @@ use Rattle.comp_trace.specs.Runs.{beginning, Runs}
 use Rattle.comp_trace.specs.declared.fault.TraceFault.{TraceFault}
 use Rattle.comp_trace.specs.declared.line.Line.{Line}
 use Rattle.comp_trace.specs.declared.shown.Shown.{Shown}
-use Rattle.comp_trace.proofs.Bytes.{interrupts_of}
+use Rattle.comp_trace.proofs.Bytes.{deeds_none, have_none, interrupts_of}
 use Rattle.comp_trace.proofs.Inside.{read_inside}
 use Rattle.commands.specs.Replays.{dumped_of, IsDumpAfter, IsHalted, IsReplayedHeap}
 use Rattle.commands.specs.declared.refusal.Refusal.TheVariants.{Trace}
@@ -52,15 +52,6 @@ deeds_at [] k m at = absurd (some-ne-none m (sym at))
 deeds_at {L} (x ∷ xs) zero m at = ap (λ (y : Mutator L). did (pass_of y)) (some-injective x m at)
 deeds_at (x ∷ xs) (suc k) m at = deeds_at xs k m at
 
--- those who did nothing yet
-deeds_none : {L : Type 0} (mutators : List (Mutator L)) → DidNothingYet mutators → (k : ℕ) → deeds_of mutators k ≡ []
-deeds_none [] none k = refl
-deeds_none (m ∷ mutators) none zero = none 0 m refl
-deeds_none (m ∷ mutators) none (suc k) = deeds_none mutators (λ j x at. none (suc j) x at) k
-
-all_none : {L : Type 0} (mutators : List (Mutator L)) → DidNothingYet mutators → HaveAll mutators no_entries
-all_none mutators none p = record { rises = (0, omega arith); own = λ k lt. sym (ap (on p) (deeds_none mutators none k)); strangers = λ k le. refl }
-
 abbrev setup_with : Heap → ℕ → ℕ → ℕ → Setup
 setup_with heap fresh mutators compacted = record { heap = heap; compacted = compacted; fresh = fresh; mutators = mutators }
 
@@ -72,7 +63,7 @@ pub replayed_heap : {L : Type 0} (u : Setup) (before after : List (Mutator L)) (
     → trace_of u.mutators (length u.heap.roots) text ≡ Ok lines → HaveReplayed u before after lines shown → IsFinished u (map pass_of after) f
     → IsReplayedHeap u.mutators u.fresh lines shown f u.heap
 replayed_heap {L} u before after text lines shown f compacted none many still text_is replayed end =
-    let ran = replayed no_entries (all_none before none) in
+    let ran = replayed no_entries (have_none before none) in
     let added = ran.0.added in
     let crew : length (map pass_of after) ≡ u.mutators = length-map after pass_of ∙ still in
     let inside : All (λ (line : Line). line.mutator < length (map pass_of after)) lines =

@@ -68,6 +68,7 @@ pub fn write_to<D: Dumps>(dumps: &mut D, path: &str, dump: &Dump<'_>) -> Result<
 }
 
 /// Writes a dump, and sends on what the writer still holds. The first call of the writer that fails ends the writing.
+#[tactic(auto, using(crate::proofs::Written::unflushed))]
 fn write_flushed<W: Write>(dump: &Dump<'_>, w: &mut Counted<W>) -> Result<(), DumpFault>
     requires { failures_of w.old < 2 ^ 64 - 1 }
     ensures writes { Writes (W.contents (inner_of w.old)) (W.contents (inner_of w.new)) (dump_bytes dump.now) result }

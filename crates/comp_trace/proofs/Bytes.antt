@@ -38,12 +38,12 @@ show_once differ mutators fresh image text shown other x y =
 
 -- ---- where nothing was done
 
-deeds_none : {L : Type 0} (mutators : List (Mutator L)) → DidNothingYet mutators → (k : ℕ) → deeds_of mutators k ≡ []
+pub deeds_none : {L : Type 0} (mutators : List (Mutator L)) → DidNothingYet mutators → (k : ℕ) → deeds_of mutators k ≡ []
 deeds_none [] none k = refl
 deeds_none (m ∷ mutators) none zero = none 0 m refl
 deeds_none (m ∷ mutators) none (suc k) = deeds_none mutators (λ j x at. none (suc j) x at) k
 
-have_none : {L : Type 0} (mutators : List (Mutator L)) → DidNothingYet mutators → HaveAll mutators no_entries
+pub have_none : {L : Type 0} (mutators : List (Mutator L)) → DidNothingYet mutators → HaveAll mutators no_entries
 have_none mutators none p = record { rises = (0, omega arith); own = λ k lt. sym (ap (on p) (deeds_none mutators none k)); strangers = λ k le. refl }
 
 know_none : {L : Type 0} (mutators : List (Mutator L)) → DidNothingYet mutators → KnowTheirs mutators
