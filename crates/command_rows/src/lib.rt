@@ -1,11 +1,11 @@
-//! What words ask, and runs of the program: what it prints, and the dumps of compactions, with values from outside.
+//! Runs of the program: what it prints and tells, and the dumps of compactions, with values from outside.
 #![tactic(auto)]
 
 #[cfg(test)]
-mod asking;
-#[cfg(test)]
 mod compacting;
 #[cfg(test)]
-mod programs;
+mod performing;
 #[cfg(test)]
-mod refusing;
+mod printing;
+#[cfg(test)]
+mod programs;

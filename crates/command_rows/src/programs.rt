@@ -1,262 +1,173 @@
 //! Runs of the program: what it prints, and its status.
-ghost use Rattle.command_line.specs.Asked.{HasLawfulCounts};
-
-use command_line::words::Task;
-use commands::dumps::FileDumps;
-use commands::images::Images;
-use commands::refusal::{Input, Refusal};
-use commands::run::{perform, run};
-use commands::traces::FileTraces;
-use heap_layout::counted::Counted;
-use heap_layout::fault::LayoutFault;
-use std::alloc::Global;
-use std::fs;
-use std::io::{Error, ErrorKind, Result as IoResult, Write};
-use std::rt::Files;
-use std::sync::Wait;
 use std::test::Fail;
-use std::thread::Threads;
-use worked_commands::files::three_image;
-use worked_commands::places::{Failure, Image, Memory};
-use worked_commands::runs::{expect_run, remove_files, run_on, words_of};
+use worked_commands::steps::{Step, take_steps};
+use worked_files::images::{EMPTY_IMAGE, THREE_IMAGE, THREE_OBJECTS, TWENTY_IMAGE};
+use worked_files::parts::Part;
+
+// Words and plans of the heap of three objects.
+const PRINTED: [Step; 8] = [
+    Step::Write("three.tests.img", &THREE_IMAGE),
+    Step::Prints("word three.tests.img 2", "12884901889\n"),
+    Step::Prints("word -- three.tests.img 2", "12884901889\n"),
+    Step::Prints("word three.tests.img +02 --", "12884901889\n"),
+    Step::Prints("word three.tests.img 3", "8589934592\n"),
+    Step::Prints("word three.tests.img 63", "0\n"),
+    Step::Prints(
+        "plan three.tests.img",
+        "live 4\npages 1\npage 0 first 0\nroot 0 8589934594\n",
+    ),
+    Step::Remove("three.tests.img"),
+];
 
 #[test]
 fn prints_words_and_plans(rt: HostRuntime) -> Result<(), Fail> {
-    fs::write(&rt, "three.tests.img", three_image(rt.alloc())?.as_slice())?;
-    for (line, text) in [
-        ("word three.tests.img 2", "12884901889\n"),
-        ("word -- three.tests.img 2", "12884901889\n"),
-        ("word three.tests.img +02 --", "12884901889\n"),
-        ("word three.tests.img 3", "8589934592\n"),
-        ("word three.tests.img 63", "0\n"),
-        (
-            "plan three.tests.img",
-            "live 4\npages 1\npage 0 first 0\nroot 0 8589934594\n",
-        ),
-    ] {
-        expect_run(&rt, line, 0, text, "")?;
-    }
-    fs::remove_file(&rt, "three.tests.img")?;
-    Ok(())
+    take_steps(&rt, &PRINTED)
 }
 
-// Does a task on images, wherever they lie, and tells what it answers, whether nothing is left to flush, and what it prints.
-fn performed<R: AllocGlobal + Files + Threads + Wait + Sync, I: Images>(
-    rt: &R,
-    images: &I,
-    task: Task,
-) -> Result<(Result<(), Refusal>, bool, String), Fail>
-    requires { HasLawfulCounts task }
-{
-    let mut bytes = Vec::new(rt.alloc());
-    let mut out = Counted::new(&mut bytes);
-    let answer = perform(
-        rt.alloc(),
-        rt,
-        images,
-        &FileTraces { rt },
-        &mut FileDumps { rt },
-        task,
-        &mut out,
-    );
-    let flushed = out.is_flushed();
-    Ok((answer, flushed, String::from_utf8(bytes)?))
-}
+// The image of the three objects, with a root that leads to none of them.
+const BAD_ROOT_IMAGE: [Part; 5] = [
+    Part::Bytes(b"COMPHEAP"),
+    Part::Numbers(&[1, 7, 2, 1]),
+    THREE_OBJECTS,
+    Part::Numbers(&[0, 5]),
+    Part::Words(&[4_294_967_297]),
+];
 
-#[test]
-fn performs_tasks_on_images_in_memory(rt: HostRuntime) -> Result<(), Fail> {
-    let bytes = three_image(rt.alloc())?;
-    let images = [
-        Image {
-            path: "empty.img",
-            bytes: b"",
-        },
-        Image {
-            path: "three.img",
-            bytes: bytes.as_slice(),
-        },
-    ];
-    let memory = Memory { images: &images };
-    for (image, index, answer, text) in [
-        ("three.img", 2, Ok(()), "12884901889\n"),
-        ("three.img", 3, Ok(()), "8589934592\n"),
-        ("three.img", 63, Ok(()), "0\n"),
-        ("three.img", 64, Err(Refusal::NoSuchWord(64)), ""),
-        (
-            "empty.img",
-            2,
-            Err(Refusal::Layout(LayoutFault::Truncated)),
-            "",
-        ),
-        ("", 2, Err(Refusal::CannotOpen(Input::Image)), ""),
-    ] {
-        let (answered, flushed, printed) = performed(&rt, &memory, Task::Word { image, index })?;
-        assert_eq!(rt; answered, answer);
-        assert!(rt; flushed);
-        assert_eq!(rt; printed.as_str(), text);
-    }
-    let (answered, flushed, printed) = performed(&rt, &memory, Task::Plan { image: "three.img" })?;
-    assert_eq!(rt; answered, Ok(()));
-    assert!(rt; flushed);
-    assert_eq!(rt;
-        printed.as_str(),
-        "live 4\npages 1\npage 0 first 0\nroot 0 8589934594\n"
-    );
-    Ok(())
-}
+// Words and plans that there are not.
+const REFUSED: [Step; 16] = [
+    Step::Write("whole.tests.img", &THREE_IMAGE),
+    Step::Write("root.tests.img", &BAD_ROOT_IMAGE),
+    Step::Write("empty.tests.img", &[]),
+    Step::MakeFolder("folder.tests"),
+    Step::Refuses("word whole.tests.img 64", "", "P5 NoSuchWord(64)"),
+    Step::Refuses("word absent.tests.img 0", "", "P1 CannotOpen(image)"),
+    Step::Refuses("word root.tests.img 64", "", "H6 BadRoot(0)"),
+    Step::Refuses("word empty.tests.img 0", "", "H8 Truncated"),
+    Step::Refuses("plan root.tests.img", "", "H6 BadRoot(0)"),
+    Step::Refuses("plan absent.tests.img", "", "P1 CannotOpen(image)"),
+    Step::Refuses("word folder.tests 0", "", "H12 Device"),
+    Step::Refuses("plan folder.tests", "", "H12 Device"),
+    Step::Remove("whole.tests.img"),
+    Step::Remove("root.tests.img"),
+    Step::Remove("empty.tests.img"),
+    Step::RemoveFolder("folder.tests"),
+];
 
 #[test]
 fn tells_one_line_of_a_refusal(rt: HostRuntime) -> Result<(), Fail> {
-    let image = three_image(rt.alloc())?;
-    let mut bad_root = image.clone()?;
-    if let Some(byte) = bad_root.get_mut(88) {
-        *byte = 1;
-    }
-    fs::write(&rt, "whole.tests.img", image.as_slice())?;
-    fs::write(&rt, "root.tests.img", bad_root.as_slice())?;
-    fs::write(&rt, "empty.tests.img", b"".as_slice())?;
-    fs::create_dir(&rt, "folder.tests")?;
-    for (line, text) in [
-        ("word whole.tests.img 64", "compressor: P5 NoSuchWord(64)\n"),
-        (
-            "word absent.tests.img 0",
-            "compressor: P1 CannotOpen(image)\n",
-        ),
-        ("word root.tests.img 64", "compressor: H6 BadRoot(0)\n"),
-        ("word empty.tests.img 0", "compressor: H8 Truncated\n"),
-        ("plan root.tests.img", "compressor: H6 BadRoot(0)\n"),
-        (
-            "plan absent.tests.img",
-            "compressor: P1 CannotOpen(image)\n",
-        ),
-        ("word folder.tests 0", "compressor: H12 Device\n"),
-        ("plan folder.tests", "compressor: H12 Device\n"),
-    ] {
-        expect_run(&rt, line, 1, "", text)?;
-    }
-    remove_files(
-        &rt,
-        &["whole.tests.img", "root.tests.img", "empty.tests.img"],
-    )?;
-    fs::remove_dir(&rt, "folder.tests")?;
-    Ok(())
+    take_steps(&rt, &REFUSED)
 }
+
+// Words that are no command.
+const MISUSED: [Step; 15] = [
+    Step::Misuses("word three.img x"),
+    Step::Misuses("word three.img"),
+    Step::Misuses("word three.img -1"),
+    Step::Misuses("word three.img 18446744073709551616"),
+    Step::Misuses("word three.img 1 2"),
+    Step::Misuses("plan"),
+    Step::Misuses("word three.img -- -2"),
+    Step::Misuses("word --index three.img 1"),
+    Step::Misuses("plan three.img 1"),
+    Step::Misuses("plan --page 1 --page 2 three.img"),
+    Step::Misuses("-- word three.img 2"),
+    Step::Misuses("word --version"),
+    Step::Misuses("version"),
+    Step::Misuses("sweep three.img"),
+    Step::Misuses(""),
+];
 
 #[test]
 fn tells_of_wrong_words_on_standard_error(rt: HostRuntime) -> Result<(), Fail> {
-    for line in [
-        "word three.img x",
-        "word three.img",
-        "word three.img -1",
-        "word three.img 18446744073709551616",
-        "word three.img 1 2",
-        "plan",
-        "word three.img -- -2",
-        "word --index three.img 1",
-        "plan three.img 1",
-        "plan --page 1 --page 2 three.img",
-        "-- word three.img 2",
-        "word --version",
-        "version",
-        "sweep three.img",
-        "",
-    ] {
-        let ran = run_on(&rt, line)?;
-        assert_eq!(rt; ran.status, 2);
-        assert_eq!(rt; ran.out.as_str(), "");
-        assert!(rt; !ran.err.is_empty());
-    }
-    Ok(())
+    take_steps(&rt, &MISUSED)
 }
+
+// Words that ask for help.
+const HELPED: [Step; 7] = [
+    Step::Helps("--help"),
+    Step::Helps("-h"),
+    Step::Helps("help"),
+    Step::Helps("help word"),
+    Step::Helps("word --help"),
+    Step::Helps("word -h"),
+    Step::Helps("plan --help"),
+];
 
 #[test]
 fn prints_help_on_standard_output(rt: HostRuntime) -> Result<(), Fail> {
-    for line in [
-        "--help",
-        "-h",
-        "help",
-        "help word",
-        "word --help",
-        "word -h",
-        "plan --help",
-    ] {
-        let ran = run_on(&rt, line)?;
-        assert_eq!(rt; ran.status, 0);
-        assert!(rt; ran.out.contains("Usage: compressor"));
-        assert_eq!(rt; ran.err.as_str(), "");
-    }
-    Ok(())
+    take_steps(&rt, &HELPED)
 }
+
+// Words that ask for the version.
+const VERSIONS: [Step; 4] = [
+    Step::Prints("--version", "compressor 0.1.0\n"),
+    Step::Prints("-V", "compressor 0.1.0\n"),
+    Step::Prints("-Vx", "compressor 0.1.0\n"),
+    Step::Prints("--version word", "compressor 0.1.0\n"),
+];
 
 #[test]
 fn prints_its_version(rt: HostRuntime) -> Result<(), Fail> {
-    for line in ["--version", "-V", "-Vx", "--version word"] {
-        expect_run(&rt, line, 0, "compressor 0.1.0\n", "")?;
-    }
-    Ok(())
+    take_steps(&rt, &VERSIONS)
 }
 
-// Takes as many bytes as it has room for, by three at a time, and then fails.
-#[derive(Drop)]
-struct Failing {
-    room: usize,
-    failure: Failure,
-}
-
-impl Write for Failing {
-    fn write(&mut self, buf: &[u8]) -> IoResult<usize> {
-        if self.room == 0 && self.failure == Failure::Error {
-            return Err(Error::from(ErrorKind::StorageFull));
-        }
-        let taken = buf.len().min(self.room).min(3);
-        self.room -= taken;
-        Ok(taken)
-    }
-
-    fn flush(&mut self) -> IoResult<()> {
-        if self.failure == Failure::Flush {
-            return Err(Error::from(ErrorKind::StorageFull));
-        }
-        Ok(())
-    }
-}
-
-// Runs the program on the words of a line, and tells its status and its one line of refusal.
-fn run_on_failing<R: Files + AllocGlobal + Threads + Wait + Sync>(
-    rt: &R,
-    line: &str,
-    out: &mut Failing,
-) -> Result<(u8, String), Fail> {
-    let mut err = Vec::new(rt.alloc());
-    let status = run(rt, words_of(rt, line)?, out, &mut err);
-    Ok((status, String::from_utf8(err)?))
-}
+// Small heaps that are compacted, the first one over a longer file; and a dump that cannot be created.
+const COMPACTED: [Step; 11] = [
+    Step::Write("none.tests.img", &EMPTY_IMAGE),
+    Step::Write("one.tests.img", &THREE_IMAGE),
+    Step::Write(
+        "all.tests.out",
+        &[Part::Bytes(b"what was there before, which is longer than an empty dump")],
+    ),
+    Step::Prints("compact none.tests.img all.tests.out", "live 0\n"),
+    Step::Length("all.tests.out", 44),
+    Step::Prints("compact one.tests.img all.tests.out", "live 4\n"),
+    Step::Length("all.tests.out", 573),
+    Step::Refuses(
+        "compact one.tests.img absent.tests/three.out",
+        "",
+        "P2 CannotCreate(dump)",
+    ),
+    Step::Remove("none.tests.img"),
+    Step::Remove("one.tests.img"),
+    Step::Remove("all.tests.out"),
+];
 
 #[test]
-fn tells_that_it_cannot_print(rt: HostRuntime) -> Result<(), Fail> {
-    fs::write(&rt, "print.tests.img", three_image(rt.alloc())?.as_slice())?;
-    for (line, length) in [
-        ("word print.tests.img 2", 12),
-        ("plan print.tests.img", 48),
-        ("--help", 1),
-        ("--version", 17),
-    ] {
-        for failure in [Failure::Error, Failure::TakesNone] {
-            for room in 0..length {
-                let (status, err) = run_on_failing(&rt, line, &mut Failing { room, failure })?;
-                assert_eq!(rt; status, 1);
-                assert_eq!(rt; err.as_str(), "compressor: P4 CannotPrint\n");
-            }
-        }
-        for (failure, wanted) in [(Failure::Error, 0), (Failure::Flush, 1)] {
-            let mut out = Failing {
-                room: 4_096,
-                failure,
-            };
-            let (status, _) = run_on_failing(&rt, line, &mut out)?;
-            assert_eq!(rt; status, wanted);
-        }
-    }
-    fs::remove_file(&rt, "print.tests.img")?;
-    Ok(())
+fn compacts_files(rt: HostRuntime) -> Result<(), Fail> {
+    take_steps(&rt, &COMPACTED)
+}
+
+// The twenty pages, compacted by some workers; and what is refused then.
+const SWEPT: [Step; 11] = [
+    Step::Write("run.tests.img", &TWENTY_IMAGE),
+    Step::Prints("compact run.tests.img run.tests.out", "live 1280\n"),
+    Step::Length("run.tests.out", 10_464),
+    Step::Prints(
+        "compact --workers 1 run.tests.img run.tests.out",
+        "live 1280\n",
+    ),
+    Step::Length("run.tests.out", 10_460),
+    Step::Prints(
+        "compact run.tests.img --workers=64 run.tests.out",
+        "live 1280\n",
+    ),
+    Step::Length("run.tests.out", 10_712),
+    Step::Refuses(
+        "compact run.tests.img absent.tests/run.out",
+        "",
+        "P2 CannotCreate(dump)",
+    ),
+    Step::Refuses(
+        "compact absent.tests.img run.tests.out",
+        "",
+        "P1 CannotOpen(image)",
+    ),
+    Step::Remove("run.tests.img"),
+    Step::Remove("run.tests.out"),
+];
+
+#[test]
+fn runs_compactions(rt: HostRuntime) -> Result<(), Fail> {
+    take_steps(&rt, &SWEPT)
 }

@@ -5,107 +5,115 @@ use comp_audit::fault::DumpFault;
 use comp_audit::verdict::AuditFault;
 use heap_layout::counted::Counted;
 use heap_layout::fault::LayoutFault;
-use std::alloc::Global;
 use std::fs;
+use std::process::Abort;
 use std::test::Fail;
-use worked_commands::files::{
-    ALL, fresh_dump, push_small_numbers, three_image, twenty_dump, twenty_image,
-};
 use worked_commands::places::{Image, Memory};
-use worked_commands::runs::{expect_refusal, expect_run, remove_files};
+use worked_commands::steps::{Step, take_steps};
+use worked_files::images::{ALL, FRESH_DUMP, THREE_IMAGE, TWENTY_IMAGE};
+use worked_files::parts::{Part, bytes_of, push_parts};
 
-// What the audit of a dump in memory answers, and what it prints.
-#[derive(Drop)]
-struct AuditOutcome {
+// The audit of a dump, where the images lie in memory: it has to be answered so, and to print just this.
+fn expect_audit<R: Abort + AllocGlobal>(
+    rt: &R,
+    images: &[Image],
+    paths: (&str, &str),
+    name: &str,
     answer: Result<(), Refusal>,
-    printed: String,
+    text: &str,
+) {
+    let mut printed = Vec::new(rt.alloc());
+    let (image, dump) = paths;
+    let found = print_audit(
+        rt.alloc(),
+        &Memory { images },
+        image,
+        dump,
+        &mut Counted::new(&mut printed),
+    );
+    assert!(rt;
+        found == answer && printed.as_slice() == text.as_bytes(),
+        "{name}: {found:?}"
+    );
 }
 
-// Judges a dump, where the heap of this image was compacted.
-fn judged(alloc: Global, image: &[u8], dump: &[u8]) -> Result<AuditOutcome, Fail> {
+// The audit of a dump, where the heap of an image was compacted.
+fn expect_judged<R: Abort + AllocGlobal>(
+    rt: &R,
+    image: &[Part],
+    dump: &[u8],
+    name: &str,
+    answer: Result<(), Refusal>,
+    text: &str,
+) -> Result<(), Fail> {
+    let bytes = bytes_of(rt.alloc(), image)?;
     let images = [
         Image {
             path: "heap.img",
-            bytes: image,
+            bytes: &bytes,
         },
         Image {
             path: "left.dump",
             bytes: dump,
         },
     ];
-    let mut printed = Vec::new(alloc);
-    let answer = print_audit(
-        alloc,
-        &Memory { images: &images },
-        "heap.img",
-        "left.dump",
-        &mut Counted::new(&mut printed),
-    );
-    Ok(AuditOutcome {
-        answer,
-        printed: String::from_utf8(printed)?,
-    })
+    expect_audit(rt, &images, ("heap.img", "left.dump"), name, answer, text);
+    Ok(())
 }
 
-// What is refused of a dump, where the heap of three objects was compacted. Nothing is printed.
-fn refused(alloc: Global, dump: &[u8]) -> Result<Refusal, Fail> {
-    let told = judged(alloc, &three_image(alloc)?, dump)?;
-    if !told.printed.is_empty() {
-        return Err("something was printed".into());
+// A change of a dump.
+enum Change {
+    /// At this place stand these bytes.
+    Bytes(usize, &'static [u8]),
+    /// At this place stands this word of 8 bytes.
+    Word(usize, u64),
+    /// Only so many bytes are left.
+    Cut(usize),
+    /// These parts are put behind it.
+    Add(&'static [Part]),
+}
+
+// Puts bytes at a place.
+fn put(rt: &impl Abort, bytes: &mut [u8], at: usize, new: &[u8]) {
+    let (_, rest) = bytes.split_at_mut_checked(at).expect(rt, "a place");
+    let (place, _) = rest.split_at_mut_checked(new.len()).expect(rt, "a place");
+    place.copy_from_slice(new);
+}
+
+// Makes a change.
+fn make_change<R: Abort + AllocGlobal>(
+    rt: &R,
+    bytes: &mut Vec<u8>,
+    made: &Change,
+) -> Result<(), Fail> {
+    match made {
+        Change::Bytes(at, new) => put(rt, bytes, *at, new),
+        Change::Word(at, new) => put(rt, bytes, *at, &new.to_le_bytes()),
+        Change::Cut(length) => bytes.truncate(*length),
+        Change::Add(parts) => push_parts(bytes, parts)?,
     }
-    match told.answer {
-        Err(refusal) => Ok(refusal),
-        Ok(()) => Err("the dump passed".into()),
-    }
+    Ok(())
 }
 
-// A number at a place of a dump, in so many bytes.
-#[derive(Clone, Copy)]
-struct Change {
-    at: usize,
-    width: usize,
-    number: u64,
-}
-
-const fn one(at: usize, number: u64) -> Change {
-    Change {
-        at,
-        width: 1,
-        number,
-    }
-}
-
-const fn four(at: usize, number: u64) -> Change {
-    Change {
-        at,
-        width: 4,
-        number,
-    }
-}
-
-const fn eight(at: usize, number: u64) -> Change {
-    Change {
-        at,
-        width: 8,
-        number,
-    }
-}
-
-// The dump behind the run that makes a new object, with these numbers in it.
-fn forged(alloc: Global, changes: &[Change]) -> Result<Vec<u8>, Fail> {
-    let mut bytes = fresh_dump(alloc)?;
-    for change in changes {
-        for (k, byte) in change.number.to_le_bytes().iter().enumerate() {
-            let Some(at) = change.at.checked_add(k) else {
-                return Err("a place of the dump".into());
-            };
-            match bytes.get_mut(at) {
-                Some(place) if k < change.width => *place = *byte,
-                _ => {}
-            }
-        }
+// The dump behind the run that makes a new object, with these changes.
+fn forged<R: Abort + AllocGlobal>(rt: &R, changes: &[Change]) -> Result<Vec<u8>, Fail> {
+    let mut bytes = bytes_of(rt.alloc(), &FRESH_DUMP)?;
+    for made in changes {
+        make_change(rt, &mut bytes, made)?;
     }
     Ok(bytes)
+}
+
+// A forged dump, where the heap of three objects was compacted: its name, the changes, and what is refused.
+type Forgery = (&'static str, &'static [Change], Refusal);
+
+// These forged dumps are refused so, and nothing is printed.
+fn expect_refused<R: Abort + AllocGlobal>(rt: &R, forgeries: &[Forgery]) -> Result<(), Fail> {
+    for (name, changes, refusal) in forgeries {
+        let dump = forged(rt, changes)?;
+        expect_judged(rt, &THREE_IMAGE, &dump, name, Err(*refusal), "")?;
+    }
+    Ok(())
 }
 
 // Where its fields lie.
@@ -133,119 +141,164 @@ const BUILDS: usize = 1_109;
 
 const TOTAL: usize = 1_121;
 
+// The dump of the twenty pages, which the first of two workers built.
+const BY_THE_FIRST: [Part; 8] = [
+    Part::Bytes(b"COMPDUMP"),
+    Part::Numbers(&[1, 2, 0, 20, 0]),
+    Part::Pages,
+    Part::Pages,
+    Part::Numbers(&[20]),
+    Part::Numbers(&ALL),
+    Part::Numbers(&[0]),
+    Part::Words(&[1_280]),
+];
+
 #[test]
 fn passes_true_dumps(rt: HostRuntime) -> Result<(), Fail> {
-    let told = judged(
-        rt.alloc(),
-        &three_image(rt.alloc())?,
-        &fresh_dump(rt.alloc())?,
-    )?;
-    assert_eq!(rt; told.answer, Ok(()));
-    assert_eq!(rt; told.printed.as_str(), "ok 5\n");
-    let dump = twenty_dump(rt.alloc(), 2, &[&ALL, &[]])?;
-    let told = judged(rt.alloc(), &twenty_image(rt.alloc())?, &dump)?;
-    assert_eq!(rt; told.answer, Ok(()));
-    assert_eq!(rt; told.printed.as_str(), "ok 1280\n");
-    Ok(())
+    let dump = bytes_of(rt.alloc(), &FRESH_DUMP)?;
+    expect_judged(&rt, &THREE_IMAGE, &dump, "fresh", Ok(()), "ok 5\n")?;
+    let dump = bytes_of(rt.alloc(), &BY_THE_FIRST)?;
+    expect_judged(&rt, &TWENTY_IMAGE, &dump, "twenty", Ok(()), "ok 1280\n")
 }
+
+// Each dump has a second fault, which is not told.
+const FORGED: [Forgery; 9] = [
+    (
+        "a root",
+        &[Change::Word(ROOT, 0), Change::Word(TOTAL, 6)],
+        Refusal::Audit(AuditFault::WrongHead),
+    ),
+    (
+        "an entry's offset",
+        &[Change::Bytes(HEADER_OFFSET, &[1]), Change::Word(TOTAL, 6)],
+        Refusal::Audit(AuditFault::BadEntry(1, 0)),
+    ),
+    (
+        "a data word",
+        &[Change::Word(FIRST_DATA, 12), Change::Word(TOTAL, 6)],
+        Refusal::Audit(AuditFault::WrongWord(8_589_934_593)),
+    ),
+    (
+        "the last word",
+        &[Change::Word(LAST_WORD, 1), Change::Word(TOTAL, 6)],
+        Refusal::Audit(AuditFault::WrongWord(8_589_934_655)),
+    ),
+    (
+        "a reference into an object",
+        &[
+            Change::Word(REFERENCE_VALUE, 8_589_934_593),
+            Change::Word(REFERENCE, 8_589_934_593),
+        ],
+        Refusal::Audit(AuditFault::LooseReference(8_589_934_595)),
+    ),
+    (
+        "a stamp twice",
+        &[Change::Word(REFERENCE_STAMP, 0), Change::Word(TOTAL, 6)],
+        Refusal::Audit(AuditFault::StampRepeated(0)),
+    ),
+    (
+        "a stamp that is not there",
+        &[Change::Word(REFERENCE_STAMP, 2), Change::Word(TOTAL, 6)],
+        Refusal::Audit(AuditFault::StampMissing(1)),
+    ),
+    (
+        "a stamp that is too late",
+        &LATE,
+        Refusal::Audit(AuditFault::BadEntry(0, 0)),
+    ),
+    (
+        "the total",
+        &[Change::Word(TOTAL, 6), Change::Word(REFERENCE_STAMP, 1)],
+        Refusal::Audit(AuditFault::WrongTotal),
+    ),
+];
+
+// The header of the new object is stamped after the reference to it.
+const LATE: [Change; 2] = [
+    Change::Word(HEADER_STAMP, 1),
+    Change::Word(REFERENCE_STAMP, 0),
+];
 
 #[test]
 fn names_the_first_fault_of_a_forged_dump(rt: HostRuntime) -> Result<(), Fail> {
-    let inner = 8_589_934_593;
-    for (changes, fault) in [
-        ([eight(ROOT, 0), eight(TOTAL, 6)], AuditFault::WrongHead),
-        (
-            [one(HEADER_OFFSET, 1), eight(TOTAL, 6)],
-            AuditFault::BadEntry(1, 0),
-        ),
-        (
-            [eight(FIRST_DATA, 12), eight(TOTAL, 6)],
-            AuditFault::WrongWord(8_589_934_593),
-        ),
-        (
-            [eight(LAST_WORD, 1), eight(TOTAL, 6)],
-            AuditFault::WrongWord(8_589_934_655),
-        ),
-        (
-            [eight(REFERENCE_VALUE, inner), eight(REFERENCE, inner)],
-            AuditFault::LooseReference(8_589_934_595),
-        ),
-        (
-            [eight(REFERENCE_STAMP, 0), eight(TOTAL, 6)],
-            AuditFault::StampRepeated(0),
-        ),
-        (
-            [eight(REFERENCE_STAMP, 2), eight(TOTAL, 6)],
-            AuditFault::StampMissing(1),
-        ),
-        (
-            [eight(HEADER_STAMP, 1), eight(REFERENCE_STAMP, 0)],
-            AuditFault::BadEntry(0, 0),
-        ),
-        (
-            [eight(TOTAL, 6), eight(REFERENCE_STAMP, 1)],
-            AuditFault::WrongTotal,
-        ),
-    ] {
-        let dump = forged(rt.alloc(), &changes)?;
-        assert_eq!(rt; refused(rt.alloc(), &dump)?, Refusal::Audit(fault));
-    }
-    Ok(())
+    expect_refused(&rt, &FORGED)
 }
 
-// The dump with these lists of builds.
-fn claimed(alloc: Global, list: &[u32]) -> Result<Vec<u8>, Fail> {
-    let whole = fresh_dump(alloc)?;
-    let mut bytes = Vec::new(alloc);
-    bytes.extend_from_slice(whole.get(..BUILDS).ok_or("a dump")?)?;
-    push_small_numbers(&mut bytes, &[u32::try_from(list.len()).unwrap_or(u32::MAX)])?;
-    push_small_numbers(&mut bytes, list)?;
-    bytes.extend_from_slice(whole.get(TOTAL..).ok_or("a dump")?)?;
-    Ok(bytes)
-}
+// The dump with other lists of builds.
+const UNCLAIMED: [Forgery; 3] = [
+    (
+        "without page 0",
+        &[
+            Change::Cut(BUILDS),
+            Change::Add(&[Part::Numbers(&[1, 1]), Part::Words(&[5])]),
+        ],
+        Refusal::Audit(AuditFault::BuildUnclaimed(0)),
+    ),
+    (
+        "with page 2",
+        &[
+            Change::Cut(BUILDS),
+            Change::Add(&[Part::Numbers(&[3, 1, 0, 2]), Part::Words(&[5])]),
+        ],
+        Refusal::Audit(AuditFault::BuildUnclaimed(2)),
+    ),
+    (
+        "with page 0 twice",
+        &[
+            Change::Cut(BUILDS),
+            Change::Add(&[Part::Numbers(&[3, 1, 0, 0]), Part::Words(&[5])]),
+        ],
+        Refusal::Audit(AuditFault::BuildUnclaimed(0)),
+    ),
+];
 
 #[test]
 fn names_the_page_that_no_list_of_builds_claims(rt: HostRuntime) -> Result<(), Fail> {
-    for (list, page) in [([1u32].as_slice(), 0u64), (&[1, 0, 2], 2), (&[1, 0, 0], 0)] {
-        let dump = claimed(rt.alloc(), list)?;
-        assert_eq!(rt;
-            refused(rt.alloc(), &dump)?,
-            Refusal::Audit(AuditFault::BuildUnclaimed(page))
-        );
-    }
-    Ok(())
+    expect_refused(&rt, &UNCLAIMED)
 }
+
+const TRUNCATED: Refusal = Refusal::Dump(DumpFault::Truncated);
+
+const NO_DUMPS: [Forgery; 13] = [
+    ("no byte", &[Change::Cut(0)], TRUNCATED),
+    ("7 bytes", &[Change::Cut(7)], TRUNCATED),
+    ("8 bytes", &[Change::Cut(8)], TRUNCATED),
+    ("27 bytes", &[Change::Cut(27)], TRUNCATED),
+    ("36 bytes", &[Change::Cut(36)], TRUNCATED),
+    ("548 bytes", &[Change::Cut(548)], TRUNCATED),
+    ("1108 bytes", &[Change::Cut(1_108)], TRUNCATED),
+    ("1120 bytes", &[Change::Cut(1_120)], TRUNCATED),
+    ("1128 bytes", &[Change::Cut(1_128)], TRUNCATED),
+    (
+        "a byte more",
+        &[Change::Add(&[Part::Bytes(&[0])])],
+        Refusal::Dump(DumpFault::TrailingBytes),
+    ),
+    (
+        "the magic",
+        &[Change::Bytes(0, &[0])],
+        Refusal::Dump(DumpFault::BadMagic),
+    ),
+    (
+        "the version",
+        &[Change::Bytes(VERSION, &[9, 0, 0, 0])],
+        Refusal::Dump(DumpFault::BadMagic),
+    ),
+    (
+        "the last page",
+        &[Change::Bytes(LAST_PAGE, &[2])],
+        Refusal::Dump(DumpFault::BadField),
+    ),
+];
 
 #[test]
 fn refuses_bytes_that_are_no_dump(rt: HostRuntime) -> Result<(), Fail> {
-    let whole = fresh_dump(rt.alloc())?;
-    for length in [0, 7, 8, 27, 36, 548, 1_108, 1_120, 1_128] {
-        let begin = whole.get(..length).ok_or("a dump")?;
-        assert_eq!(rt;
-            refused(rt.alloc(), begin)?,
-            Refusal::Dump(DumpFault::Truncated)
-        );
-    }
-    let mut longer = fresh_dump(rt.alloc())?;
-    longer.push(0)?;
-    assert_eq!(rt;
-        refused(rt.alloc(), &longer)?,
-        Refusal::Dump(DumpFault::TrailingBytes)
-    );
-    for (change, fault) in [
-        (one(0, 0), DumpFault::BadMagic),
-        (four(VERSION, 9), DumpFault::BadMagic),
-        (one(LAST_PAGE, 2), DumpFault::BadField),
-    ] {
-        let dump = forged(rt.alloc(), &[change])?;
-        assert_eq!(rt; refused(rt.alloc(), &dump)?, Refusal::Dump(fault));
-    }
-    Ok(())
+    expect_refused(&rt, &NO_DUMPS)
 }
 
 #[test]
 fn reads_the_image_before_the_dump(rt: HostRuntime) -> Result<(), Fail> {
-    let whole = three_image(rt.alloc())?;
+    let whole = bytes_of(rt.alloc(), &THREE_IMAGE)?;
     let images = [
         Image {
             path: "cut.img",
@@ -253,7 +306,7 @@ fn reads_the_image_before_the_dump(rt: HostRuntime) -> Result<(), Fail> {
         },
         Image {
             path: "three.img",
-            bytes: whole.as_slice(),
+            bytes: &whole,
         },
     ];
     for (image, dump, refusal) in [
@@ -262,72 +315,63 @@ fn reads_the_image_before_the_dump(rt: HostRuntime) -> Result<(), Fail> {
         ("three.img", "absent", Refusal::CannotOpen(Input::Dump)),
         ("three.img", "three.img", Refusal::Dump(DumpFault::BadMagic)),
     ] {
-        let mut printed = Vec::new(rt.alloc());
-        let answer = print_audit(
-            rt.alloc(),
-            &Memory { images: &images },
-            image,
-            dump,
-            &mut Counted::new(&mut printed),
-        );
-        assert_eq!(rt; answer, Err(refusal));
-        assert!(rt; printed.is_empty());
+        expect_audit(&rt, &images, (image, dump), image, Err(refusal), "");
     }
     Ok(())
 }
+
+const PASSED: [Step; 9] = [
+    Step::Write("left.tests.img", &THREE_IMAGE),
+    Step::Write(
+        "left.tests.trace",
+        &[Part::Bytes(b"0 root 0 0\n0 new 1 0 0 0\n0 store 0 0 1\n")],
+    ),
+    Step::Prints("compact left.tests.img left.tests.out", "live 4\n"),
+    Step::Prints("audit left.tests.img left.tests.out", "ok 4\n"),
+    Step::Prints(
+        "replay --fresh 2 left.tests.img left.tests.trace left.tests.out",
+        "live 5\n",
+    ),
+    Step::Prints("audit left.tests.img left.tests.out", "ok 5\n"),
+    Step::Remove("left.tests.img"),
+    Step::Remove("left.tests.trace"),
+    Step::Remove("left.tests.out"),
+];
 
 #[test]
 fn passes_what_the_program_dumps(rt: HostRuntime) -> Result<(), Fail> {
-    fs::write(&rt, "left.tests.img", three_image(rt.alloc())?.as_slice())?;
-    fs::write(
-        &rt,
-        "left.tests.trace",
-        b"0 root 0 0\n0 new 1 0 0 0\n0 store 0 0 1\n".as_slice(),
-    )?;
-    for (line, text) in [
-        ("compact left.tests.img left.tests.out", "live 4\n"),
-        ("audit left.tests.img left.tests.out", "ok 4\n"),
-        (
-            "replay --fresh 2 left.tests.img left.tests.trace left.tests.out",
-            "live 5\n",
-        ),
-        ("audit left.tests.img left.tests.out", "ok 5\n"),
-    ] {
-        expect_run(&rt, line, 0, text, "")?;
-    }
-    remove_files(
-        &rt,
-        &["left.tests.img", "left.tests.trace", "left.tests.out"],
-    )
+    take_steps(&rt, &PASSED)
 }
+
+const JUDGED: [Step; 11] = [
+    Step::Write("judge.tests.img", &THREE_IMAGE),
+    Step::MakeFolder("judge.tests"),
+    Step::Refuses(
+        "audit judge.tests.img late.tests.dump",
+        "",
+        "A3 BadEntry(0, 0)",
+    ),
+    Step::Refuses(
+        "audit judge.tests.img absent.tests.dump",
+        "",
+        "P1 CannotOpen(dump)",
+    ),
+    Step::Refuses(
+        "audit absent.tests.img absent.tests.dump",
+        "",
+        "P1 CannotOpen(image)",
+    ),
+    Step::Refuses("audit judge.tests.img judge.tests.img", "", "B3 BadMagic"),
+    Step::Refuses("audit judge.tests.img judge.tests", "", "B6 Device"),
+    Step::Refuses("audit judge.tests judge.tests.img", "", "H12 Device"),
+    Step::Remove("judge.tests.img"),
+    Step::Remove("late.tests.dump"),
+    Step::RemoveFolder("judge.tests"),
+];
 
 #[test]
 fn tells_why_a_dump_does_not_pass(rt: HostRuntime) -> Result<(), Fail> {
-    let late = [eight(HEADER_STAMP, 1), eight(REFERENCE_STAMP, 0)];
-    fs::write(&rt, "judge.tests.img", three_image(rt.alloc())?.as_slice())?;
-    fs::write(
-        &rt,
-        "late.tests.dump",
-        forged(rt.alloc(), &late)?.as_slice(),
-    )?;
-    fs::create_dir(&rt, "judge.tests")?;
-    for (line, refusal) in [
-        ("audit judge.tests.img late.tests.dump", "A3 BadEntry(0, 0)"),
-        (
-            "audit judge.tests.img absent.tests.dump",
-            "P1 CannotOpen(dump)",
-        ),
-        (
-            "audit absent.tests.img absent.tests.dump",
-            "P1 CannotOpen(image)",
-        ),
-        ("audit judge.tests.img judge.tests.img", "B3 BadMagic"),
-        ("audit judge.tests.img judge.tests", "B6 Device"),
-        ("audit judge.tests judge.tests.img", "H12 Device"),
-    ] {
-        expect_refusal(&rt, line, "", refusal)?;
-    }
-    remove_files(&rt, &["judge.tests.img", "late.tests.dump"])?;
-    fs::remove_dir(&rt, "judge.tests")?;
-    Ok(())
+    let late = forged(&rt, &LATE)?;
+    fs::write(&rt, "late.tests.dump", late.as_slice())?;
+    take_steps(&rt, &JUDGED)
 }

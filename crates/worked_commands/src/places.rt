@@ -1,15 +1,10 @@
 //! Images in memory, and places for dumps, whose writers fail.
-ghost use Rattle.std.specs.Prelude.{◌≡◌, ◌≢◌, ◌≤◌, All, Any};
+ghost use Rattle.std.specs.Prelude.{◌≡◌, ◌≢◌, All, Any};
 
-use commands::compact::{Compaction, print_compact};
 use commands::dumps::Dumps;
 use commands::images::Images;
 use commands::refusal::{Input, Output, Refusal};
-use heap_layout::counted::Counted;
 use std::io::{Error, ErrorKind, Result as IoResult, Write};
-use std::sync::Wait;
-use std::test::Fail;
-use std::thread::Threads;
 
 /// An image in memory.
 #[derive(Drop)]
@@ -47,17 +42,18 @@ pub enum Failure {
     Flush,
 }
 
-/// Takes as many bytes as it has room for, and then fails.
+/// Takes as many bytes as it has room for, so many at once at most, and then fails.
 #[derive(Drop)]
 pub struct Narrow<'a> {
     pub taken: &'a mut Vec<u8>,
     pub room: usize,
+    pub at_once: usize,
     pub failure: Failure,
 }
 
 impl<'a> Write for Narrow<'a> {
     fn write(&mut self, buf: &[u8]) -> IoResult<usize> {
-        let (taken, _) = buf.split_at(buf.len().min(self.room));
+        let (taken, _) = buf.split_at(buf.len().min(self.room).min(self.at_once));
         if taken.is_empty() && self.failure == Failure::Error {
             return Err(Error::from(ErrorKind::StorageFull));
         }
@@ -98,47 +94,4 @@ impl<'a> Dumps for Place<'a> {
             None => Err(Refusal::CannotCreate(Output::Dump)),
         }
     }
-}
-
-/// What compacting a heap in memory answers, the bytes of its dump, and what it prints.
-#[derive(Drop)]
-pub struct Outcome {
-    pub answer: Result<(), Refusal>,
-    pub dump: Vec<u8>,
-    pub printed: String,
-}
-
-/// Compacts a heap in memory, with a writer of the dump that fails behind so many bytes.
-pub fn compacted<R: AllocGlobal + Threads + Wait + Sync>(
-    rt: &R,
-    images: &[Image],
-    asked: Compaction,
-    room: usize,
-    failure: Failure,
-) -> Result<Outcome, Fail>
-    requires { (1 ≤ asked.workers) × (asked.workers ≤ 64) }
-{
-    let mut dump = Vec::new(rt.alloc());
-    let mut printed = Vec::new(rt.alloc());
-    let mut place = Place {
-        writer: Some(Narrow {
-            taken: &mut dump,
-            room,
-            failure,
-        }),
-    };
-    let mut out = Counted::new(&mut printed);
-    let answer = print_compact(
-        rt.alloc(),
-        rt,
-        &Memory { images },
-        &mut place,
-        asked,
-        &mut out,
-    );
-    Ok(Outcome {
-        answer,
-        dump,
-        printed: String::from_utf8(printed)?,
-    })
 }

@@ -1,86 +1,96 @@
-//! Runs of the program on the words of a line, and the files that they are about.
+//! Runs of the program on the words of a line.
 use commands::run::run;
-use std::fs;
+use std::alloc::{AllocError, Global};
+use std::io::Write;
 use std::rt::Files;
+use std::str::from_utf8;
 use std::sync::Wait;
 use std::test::Fail;
 use std::thread::Threads;
 
-/// What a run printed, and its status.
-#[derive(Drop)]
-pub struct Ran {
-    pub status: u8,
-    pub out: String,
-    pub err: String,
+/// What a text has to be.
+#[derive(Clone, Copy)]
+pub enum Text<'a> {
+    /// Just this text.
+    Is(&'a str),
+    /// The one text or the other.
+    Either(&'a str, &'a str),
+    /// A text that has this in it.
+    Has(&'a str),
+    /// Some text.
+    Some,
+    /// The line that tells this refusal.
+    Refusal(&'a str),
 }
 
-/// The words of a line.
-pub fn words_of<R: AllocGlobal>(rt: &R, line: &str) -> Result<Vec<String>, Fail> {
-    let mut owned = Vec::new(rt.alloc());
-    for word in line.split_whitespace() {
-        owned.push(String::from_str(rt.alloc(), word)?)?;
+// A text is as it has to be.
+fn fits(text: &str, wanted: &Text) -> bool {
+    match wanted {
+        Text::Is(whole) => text == *whole,
+        Text::Either(one, other) => text == *one || text == *other,
+        Text::Has(piece) => text.contains(*piece),
+        Text::Some => !text.is_empty(),
+        Text::Refusal(refusal) => match text.strip_prefix("compressor: ") {
+            Some(rest) => rest.strip_suffix('\n') == Some(*refusal),
+            None => false,
+        },
     }
-    Ok(owned)
 }
 
-/// Runs the program on the words of a line.
-pub fn run_on<R: Files + AllocGlobal + Threads + Wait + Sync>(
+// The words of a line.
+fn words_of(alloc: Global, line: &str) -> Result<Vec<String>, AllocError> {
+    let mut words = Vec::new(alloc);
+    for word in line.split_whitespace() {
+        words.push(String::from_str(alloc, word)?)?;
+    }
+    Ok(words)
+}
+
+/// Runs the program on the words of a line. It prints into `out`, tells of refusals in `err`, and ends with a status.
+pub fn run_into<R: Files + AllocGlobal + Threads + Wait + Sync, O: Write>(
     rt: &R,
     line: &str,
-) -> Result<Ran, Fail> {
-    let mut out = Vec::new(rt.alloc());
-    let mut err = Vec::new(rt.alloc());
-    let status = run(rt, words_of(rt, line)?, &mut out, &mut err);
-    Ok(Ran {
-        status,
-        out: String::from_utf8(out)?,
-        err: String::from_utf8(err)?,
-    })
+    out: &mut O,
+    err: &mut Vec<u8>,
+) -> Result<u8, AllocError> {
+    let words = words_of(rt.alloc(), line)?;
+    Ok(run(rt, words, out, err))
 }
 
-/// Runs the program on the words of a line: it has to end with this status, and to print just this.
+/// A run on the words of a line that ended with a status and left these bytes has to be so.
+pub fn expect_ran(
+    line: &str,
+    ran: (u8, &[u8], &[u8]),
+    status: u8,
+    out: &Text,
+    err: &Text,
+) -> Result<(), Fail> {
+    let (ended, printed, told) = ran;
+    let (printed, told) = (text_of(printed), text_of(told));
+    if ended == status && fits(printed, out) && fits(told, err) {
+        return Ok(());
+    }
+    Err(Fail::new(format_args!("{line}: status {ended}, printed {printed:?}, told {told:?}")))
+}
+
+// The text of these bytes.
+fn text_of(bytes: &[u8]) -> &str {
+    match from_utf8(bytes) {
+        Ok(text) => text,
+        Err(_) => "(bytes that are no text)",
+    }
+}
+
+/// Runs the program on the words of a line: it has to end with this status, and to print and tell this.
 pub fn expect_run<R: Files + AllocGlobal + Threads + Wait + Sync>(
     rt: &R,
     line: &str,
     status: u8,
-    out: &str,
-    err: &str,
+    out: &Text,
+    err: &Text,
 ) -> Result<(), Fail> {
-    let ran = run_on(rt, line)?;
-    if ran.status == status && ran.out.as_str() == out && ran.err.as_str() == err {
-        Ok(())
-    } else {
-        Err(Fail::new(format_args!(
-            "{line}: status {}, printed {:?}, told {:?}",
-            ran.status, ran.out, ran.err
-        )))
-    }
-}
-
-/// Runs the program on the words of a line: it has to be refused so, behind just this on its output.
-pub fn expect_refusal<R: Files + AllocGlobal + Threads + Wait + Sync>(
-    rt: &R,
-    line: &str,
-    out: &str,
-    refusal: &str,
-) -> Result<(), Fail> {
-    let told = format!(in rt.alloc(); "compressor: {refusal}\n")?;
-    expect_run(rt, line, 1, out, &told)
-}
-
-/// Removes files.
-pub fn remove_files<R: Files + AllocGlobal>(rt: &R, paths: &[&str]) -> Result<(), Fail> {
-    for path in paths {
-        fs::remove_file(rt, path)?;
-    }
-    Ok(())
-}
-
-/// A file has just these bytes.
-pub fn expect_file<R: Files + AllocGlobal>(rt: &R, path: &str, bytes: &[u8]) -> Result<(), Fail> {
-    if fs::read(rt, path)?.as_slice() == bytes {
-        Ok(())
-    } else {
-        Err(Fail::new(format_args!("{path} has other bytes")))
-    }
+    let mut printed = Vec::new(rt.alloc());
+    let mut told = Vec::new(rt.alloc());
+    let ended = run_into(rt, line, &mut printed, &mut told)?;
+    expect_ran(line, (ended, &printed, &told), status, out, err)
 }

@@ -1,0 +1,133 @@
+//! Replays whose dump is cut off, and traces that are not read whole.
+use command_line::words::TraceRun;
+use commands::dumps::FileDumps;
+use commands::images::FileImages;
+use commands::refusal::{Input, Refusal};
+use commands::replay::print_replay;
+use commands::traces::{FileTraces, trace_in};
+use comp_audit::fault::DumpFault;
+use heap_layout::counted::Counted;
+use std::alloc::Global;
+use std::io::{Error, ErrorKind, Read, Result as IoResult};
+use std::process::Abort;
+use std::rt::Files;
+use std::test::Fail;
+use worked_commands::places::{Failure, Narrow, Place};
+use worked_commands::steps::{Step, take_steps};
+use worked_files::images::{FRESH_DUMP, THREE_IMAGE};
+use worked_files::parts::{Part, bytes_of};
+
+// Replays the trace that makes a new object: a writer of the dump that has so much room fails so, and nothing is printed.
+fn expect_cut_off<R: Abort + AllocGlobal + Files>(
+    rt: &R,
+    room: usize,
+    failure: Failure,
+    whole: &[u8],
+) {
+    let mut dump = Vec::new(rt.alloc());
+    let mut printed = Vec::new(rt.alloc());
+    let mut place = Place {
+        writer: Some(Narrow {
+            taken: &mut dump,
+            room,
+            at_once: usize::MAX,
+            failure,
+        }),
+    };
+    let answer = print_replay(
+        rt.alloc(),
+        &FileImages { rt },
+        &FileTraces { rt },
+        &mut place,
+        TraceRun {
+            image: "cut.tests.img",
+            trace: "cut.tests.trace",
+            dump: "out",
+            mutators: 1,
+            fresh: 2,
+        },
+        &mut Counted::new(&mut printed),
+    );
+    assert!(rt;
+        answer == Err(Refusal::Dump(DumpFault::Device)) && printed.is_empty(),
+        "room for {room}"
+    );
+    assert!(rt;
+        dump.len() == room && whole.starts_with(&dump),
+        "room for {room}"
+    );
+}
+
+// A new object becomes the field of the root.
+const FRESH: [Step; 2] = [
+    Step::Write("cut.tests.img", &THREE_IMAGE),
+    Step::Write(
+        "cut.tests.trace",
+        &[Part::Bytes(b"0 root 0 0\n0 new 1 0 0 0\n0 store 0 0 1\n")],
+    ),
+];
+
+const REMOVED: [Step; 2] = [
+    Step::Remove("cut.tests.img"),
+    Step::Remove("cut.tests.trace"),
+];
+
+#[test]
+fn prints_nothing_where_the_dump_is_cut_off(rt: HostRuntime) -> Result<(), Fail> {
+    take_steps(&rt, &FRESH)?;
+    let whole = bytes_of(rt.alloc(), &FRESH_DUMP)?;
+    for (room, failure) in [
+        (0, Failure::Error),
+        (600, Failure::TakesNone),
+        (1_128, Failure::Error),
+        (1_129, Failure::Flush),
+    ] {
+        expect_cut_off(&rt, room, failure, &whole);
+    }
+    take_steps(&rt, &REMOVED)
+}
+
+// Gives a byte a call, and an error at the call of this number.
+#[derive(Drop)]
+struct Broken<'a> {
+    bytes: &'a [u8],
+    calls: u64,
+}
+
+impl Read for Broken<'_> {
+    fn read(&mut self, buf: &mut [u8]) -> IoResult<usize> {
+        if self.calls == 0 {
+            return Err(Error::from(ErrorKind::Interrupted));
+        }
+        self.calls -= 1;
+        let given = buf.len().min(self.bytes.len()).min(1);
+        let (first, others) = self.bytes.split_at(given);
+        buf[..given].copy_from_slice(first);
+        self.bytes = others;
+        Ok(given)
+    }
+}
+
+// How many lines are read of a trace, whose reader fails at the call of this number.
+fn lines_read(alloc: Global, calls: u64) -> Result<usize, Refusal> {
+    let mut reader = Counted::new(Broken {
+        bytes: b"0 nil 0\n",
+        calls,
+    });
+    match trace_in(alloc, &mut reader, 1, 0) {
+        Ok(trace) => Ok(trace.lines().len()),
+        Err(refusal) => Err(refusal),
+    }
+}
+
+#[test]
+fn tells_that_a_trace_is_not_read_whole(rt: HostRuntime) {
+    for calls in 0..16u64 {
+        let wanted = if calls < 9 {
+            Err(Refusal::ReadFailed(Input::Trace))
+        } else {
+            Ok(1)
+        };
+        assert!(rt; lines_read(rt.alloc(), calls) == wanted, "call {calls}");
+    }
+}

@@ -1,0 +1,104 @@
+//! Tests of the program as lists of steps: files that are written, runs, and what they leave.
+use crate::runs::{Text, expect_run};
+use std::fs;
+use std::rt::Files;
+use std::sync::Wait;
+use std::test::Fail;
+use std::thread::Threads;
+use worked_files::parts::{Part, bytes_of};
+
+/// A step of a test. Of a run it has the line first.
+pub enum Step {
+    /// A file is written: its path, and its bytes.
+    Write(&'static str, &'static [Part]),
+    /// A folder is made.
+    MakeFolder(&'static str),
+    /// A run does what it was asked, and prints just this.
+    Prints(&'static str, &'static str),
+    /// A run does what it was asked, and prints just the one or just the other.
+    PrintsEither(&'static str, &'static str, &'static str),
+    /// A run prints how the program is used.
+    Helps(&'static str),
+    /// A run prints just this, and is refused so, in one line on standard error.
+    Refuses(&'static str, &'static str, &'static str),
+    /// The words are wrong: a run prints nothing, and tells something on standard error.
+    Misuses(&'static str),
+    /// The file at this path has just these bytes.
+    Holds(&'static str, &'static [Part]),
+    /// The file at this path has so many bytes.
+    Length(&'static str, usize),
+    /// A file is removed.
+    Remove(&'static str),
+    /// A folder is removed.
+    RemoveFolder(&'static str),
+}
+
+/// Takes the steps of a test, one after another.
+pub fn take_steps<R: Files + AllocGlobal + Threads + Wait + Sync>(
+    rt: &R,
+    steps: &[Step],
+) -> Result<(), Fail> {
+    for step in steps {
+        take_step(rt, step)?;
+    }
+    Ok(())
+}
+
+// Takes a step.
+fn take_step<R: Files + AllocGlobal + Threads + Wait + Sync>(
+    rt: &R,
+    step: &Step,
+) -> Result<(), Fail> {
+    match step {
+        Step::Prints(line, out) => expect_run(rt, line, 0, &Text::Is(out), &Text::Is("")),
+        Step::PrintsEither(line, one, other) => {
+            expect_run(rt, line, 0, &Text::Either(one, other), &Text::Is(""))
+        }
+        Step::Helps(line) => {
+            expect_run(rt, line, 0, &Text::Has("Usage: compressor"), &Text::Is(""))
+        }
+        Step::Refuses(line, out, refusal) => {
+            expect_run(rt, line, 1, &Text::Is(out), &Text::Refusal(refusal))
+        }
+        Step::Misuses(line) => expect_run(rt, line, 2, &Text::Is(""), &Text::Some),
+        _ => take_file_step(rt, step),
+    }
+}
+
+// Takes a step that is no run.
+fn take_file_step<R: Files + AllocGlobal>(rt: &R, step: &Step) -> Result<(), Fail> {
+    match step {
+        Step::Write(path, parts) => write_file(rt, path, parts),
+        Step::MakeFolder(path) => Ok(fs::create_dir(rt, path)?),
+        Step::Holds(path, parts) => expect_file(rt, path, parts),
+        Step::Length(path, length) => expect_length(rt, path, *length),
+        Step::Remove(path) => Ok(fs::remove_file(rt, path)?),
+        Step::RemoveFolder(path) => Ok(fs::remove_dir(rt, path)?),
+        _ => Err("a run".into()),
+    }
+}
+
+// Writes the file at a path, with these bytes.
+fn write_file<R: Files + AllocGlobal>(rt: &R, path: &str, parts: &[Part]) -> Result<(), Fail> {
+    let bytes = bytes_of(rt.alloc(), parts)?;
+    Ok(fs::write(rt, path, bytes.as_slice())?)
+}
+
+// The file at a path has just these bytes.
+fn expect_file<R: Files + AllocGlobal>(rt: &R, path: &str, parts: &[Part]) -> Result<(), Fail> {
+    let wanted = bytes_of(rt.alloc(), parts)?;
+    let found = fs::read(rt, path)?;
+    if found == wanted {
+        return Ok(());
+    }
+    Err(Fail::new(format_args!("{path} has other bytes")))
+}
+
+// The file at a path has so many bytes.
+fn expect_length<R: Files + AllocGlobal>(rt: &R, path: &str, length: usize) -> Result<(), Fail> {
+    let found = fs::read(rt, path)?.len();
+    if found == length {
+        return Ok(());
+    }
+    Err(Fail::new(format_args!("{path} has {found} bytes")))
+}

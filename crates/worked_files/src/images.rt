@@ -1,0 +1,66 @@
+//! Images of worked heaps, and dumps of them.
+use crate::parts::Part;
+
+/// All pages of the heap of twenty pages.
+pub const ALL: [u32; 20] = [
+    0, 1, 2, 3, 4, 5, 6, 7, 8, 9, 10, 11, 12, 13, 14, 15, 16, 17, 18, 19,
+];
+
+/// The image of two objects of 640 words, both marked: 20 pages.
+pub const TWENTY_IMAGE: [Part; 5] = [
+    Part::Bytes(b"COMPHEAP"),
+    Part::Numbers(&[1, 1_280, 2, 0]),
+    Part::Object,
+    Part::Object,
+    Part::Numbers(&[0, 640]),
+];
+
+/// The image of no object at all.
+pub const EMPTY_IMAGE: [Part; 2] = [Part::Bytes(b"COMPHEAP"), Part::Numbers(&[1, 0, 0, 0])];
+
+/// The image of three objects, of which the first and the last are marked, and a root that leads to the last.
+pub const THREE_IMAGE: [Part; 5] = [
+    Part::Bytes(b"COMPHEAP"),
+    Part::Numbers(&[1, 7, 2, 1]),
+    THREE_OBJECTS,
+    Part::Numbers(&[0, 5]),
+    Part::Words(&[4_294_967_301]),
+];
+
+/// The words of the three objects.
+pub const THREE_OBJECTS: Part = Part::Words(&[
+    4_295_032_832,
+    11,
+    8_590_000_129,
+    0,
+    22,
+    12_884_901_889,
+    4_294_967_296,
+]);
+
+/// The dump behind the run that makes a new object: one mutator, which built page 1 and then page 0; page 2 was never built.
+pub const FRESH_DUMP: [Part; 19] = [
+    Part::Bytes(b"COMPDUMP"),
+    Part::Numbers(&[1, 1, 2, 3, 1]),
+    Part::Words(&[8_589_934_594]),
+    // page 0, and its entry
+    Part::Bytes(&[1]),
+    Part::Words(&[4_295_032_832, 11, 12_884_901_889, 8_589_934_656]),
+    Part::Zeros(60),
+    Part::Numbers(&[1]),
+    Part::Words(&[1]),
+    Part::Bytes(&[0, 1, 3]),
+    Part::Words(&[8_589_934_656]),
+    // page 1, and its entry
+    Part::Bytes(&[1]),
+    Part::Zeros(64),
+    Part::Numbers(&[1]),
+    Part::Words(&[0]),
+    Part::Bytes(&[0, 0, 0]),
+    Part::Words(&[0]),
+    // page 2
+    Part::Bytes(&[0]),
+    // how many pages the mutator built, and which; the live words
+    Part::Numbers(&[2, 1, 0]),
+    Part::Words(&[5]),
+];
