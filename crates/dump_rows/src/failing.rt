@@ -107,7 +107,7 @@ fn expect_beginnings(
     expect_outcome(rt, bytes.len() as u64, found, DONE);
 }
 
-const FULL: [(usize, WhenFull); 3] = [
+static FULL: [(usize, WhenFull); 3] = [
     (1_129, WhenFull::Fails(ErrorKind::StorageFull)),
     (3, WhenFull::Fails(ErrorKind::Interrupted)),
     (1, WhenFull::TakesNone),
@@ -115,8 +115,8 @@ const FULL: [(usize, WhenFull); 3] = [
 
 fn expect_each_full(rt: &impl Abort, alloc: Global, bytes: &[u8]) -> Result<(), Fail> {
     let dump = read(alloc, bytes)?;
-    for (piece, when_full) in FULL {
-        expect_beginnings(rt, alloc, &dump, bytes, piece, when_full);
+    for (piece, when_full) in &FULL {
+        expect_beginnings(rt, alloc, &dump, bytes, *piece, *when_full);
     }
     Ok(())
 }

@@ -149,7 +149,7 @@ fn reads_numbers_at_the_end_of_their_range(rt: HostRuntime) -> Result<(), Fail> 
     Ok(())
 }
 
-const TEXTS: [(DumpFault, &str); 6] = [
+static TEXTS: [(DumpFault, &str); 6] = [
     (DumpFault::Truncated, "B1 Truncated"),
     (DumpFault::TrailingBytes, "B2 TrailingBytes"),
     (DumpFault::BadMagic, "B3 BadMagic"),
@@ -166,8 +166,8 @@ fn expect_text(rt: &impl Abort, alloc: Global, fault: DumpFault, text: &str) -> 
 
 #[test]
 fn prints_refusals_of_dumps(rt: HostRuntime) -> Result<(), Fail> {
-    for (fault, text) in TEXTS {
-        expect_text(&rt, rt.alloc(), fault, text)?;
+    for (fault, text) in &TEXTS {
+        expect_text(&rt, rt.alloc(), *fault, text)?;
     }
     Ok(())
 }

@@ -36,6 +36,8 @@ pub enum Worked {
 
 /// A call of a mutator.
 pub enum Call {
+    /// How many pages the space has.
+    Pages,
     /// A touch of a page that is there: 1 is the answer where the page was not built, and the call has built it.
     Touch(u64),
     /// A read of a reference field: the object and the field.
@@ -132,6 +134,7 @@ fn answer<L: Named>(
     ensures of { IsMutatorOf space.now m.new }
 {
     match call {
+        Call::Pages => Ok(space.pages()),
         Call::Touch(p) => touch(rt, alloc, space, m, *p),
         Call::ReadRef(object, field) => space.try_read_ref(alloc, m, *object, *field),
         Call::ReadData(object, field) => space.try_read_data(alloc, m, *object, *field),

@@ -56,7 +56,7 @@ static TOUCHED: Run = Run {
     heap: Worked::Smallest,
     mutators: 1,
     fresh_pages: 0,
-    rows: &[Row(0, Call::Touch(0), 1)],
+    rows: &[Row(0, Call::Pages, 1), Row(0, Call::Touch(0), 1)],
     last_first: false,
     length: 569,
     parts: &OF_TOUCHED,
