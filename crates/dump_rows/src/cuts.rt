@@ -1,57 +1,140 @@
-//! Dumps that end early or late.
+//! Dumps that end early or late, and dumps of another magic or version.
 use crate::dumped::read;
-use crate::encoded::{linked_bytes, smallest_bytes};
+use crate::encoded::{Change, LINKED, Part, SMALLEST, encoded};
+use crate::judged::{Row, Told, expect_rows};
 use comp_audit::fault::DumpFault;
 use std::alloc::Global;
 use std::process::Abort;
 use std::test::Fail;
 
 // Whatever comes before the dump's end is cut short.
-fn expect_truncated(rt: &(impl Abort + AllocGlobal), bytes: &[u8]) {
+fn expect_truncated(rt: &impl Abort, alloc: Global, bytes: &[u8]) {
     for n in 0..bytes.len() {
-        assert_eq!(rt;
-            read(rt.alloc(), &bytes[..n]).err(),
-            Some(DumpFault::Truncated),
-            "first {n}"
-        );
+        let fault = read(alloc, &bytes[..n]).err();
+        assert_eq!(rt; fault, Some(DumpFault::Truncated), "first {n}");
     }
+}
+
+// The dump of these parts, which has so many bytes.
+fn expect_each_truncated(
+    rt: &impl Abort,
+    alloc: Global,
+    parts: &[Part],
+    length: usize,
+) -> Result<(), Fail> {
+    let bytes = encoded(alloc, parts)?;
+    assert!(rt; bytes.len() == length);
+    expect_truncated(rt, alloc, &bytes);
+    Ok(())
 }
 
 #[test]
 fn refuses_each_beginning(rt: HostRuntime) -> Result<(), Fail> {
-    let bytes = smallest_bytes(rt.alloc())?;
-    assert_eq!(rt; bytes.len(), 569);
-    expect_truncated(&rt, &bytes);
-    let bytes = linked_bytes(rt.alloc())?;
-    assert_eq!(rt; bytes.len(), 1_129);
-    expect_truncated(&rt, &bytes);
-    Ok(())
+    expect_each_truncated(&rt, rt.alloc(), &SMALLEST, 569)?;
+    expect_each_truncated(&rt, rt.alloc(), &LINKED, 1_129)
 }
 
-// With one byte more behind its end, this is no dump.
-fn expect_too_long(rt: &impl Abort, alloc: Global, mut bytes: Vec<u8>) -> Result<(), Fail> {
-    bytes.push(0)?;
-    let fault = read(alloc, &bytes).err();
-    assert_eq!(rt; fault, Some(DumpFault::TrailingBytes));
-    Ok(())
-}
+const TOO_LONG: Told = Err(DumpFault::TrailingBytes);
+
+static LONGER: [Row; 2] = [
+    Row(
+        "one byte more behind the smallest heap",
+        &SMALLEST,
+        &[Change(569, 0, Part::Bytes(&[0]))],
+        TOO_LONG,
+    ),
+    Row(
+        "one byte more behind the new object",
+        &LINKED,
+        &[Change(1_129, 0, Part::Bytes(&[0]))],
+        TOO_LONG,
+    ),
+];
 
 #[test]
 fn refuses_one_byte_more(rt: HostRuntime) -> Result<(), Fail> {
-    expect_too_long(&rt, rt.alloc(), smallest_bytes(rt.alloc())?)?;
-    expect_too_long(&rt, rt.alloc(), linked_bytes(rt.alloc())?)
+    expect_rows(&rt, &LONGER)
 }
+
+const OTHER: Told = Err(DumpFault::BadMagic);
+
+// Each byte of the magic and of the version, with bit 3 turned.
+static OTHERS: [Row; 12] = [
+    Row(
+        "byte 0",
+        &SMALLEST,
+        &[Change(0, 1, Part::Bytes(b"K"))],
+        OTHER,
+    ),
+    Row(
+        "byte 1",
+        &SMALLEST,
+        &[Change(1, 1, Part::Bytes(b"G"))],
+        OTHER,
+    ),
+    Row(
+        "byte 2",
+        &SMALLEST,
+        &[Change(2, 1, Part::Bytes(b"E"))],
+        OTHER,
+    ),
+    Row(
+        "byte 3",
+        &SMALLEST,
+        &[Change(3, 1, Part::Bytes(b"X"))],
+        OTHER,
+    ),
+    Row(
+        "byte 4",
+        &SMALLEST,
+        &[Change(4, 1, Part::Bytes(b"L"))],
+        OTHER,
+    ),
+    Row(
+        "byte 5",
+        &SMALLEST,
+        &[Change(5, 1, Part::Bytes(b"]"))],
+        OTHER,
+    ),
+    Row(
+        "byte 6",
+        &SMALLEST,
+        &[Change(6, 1, Part::Bytes(b"E"))],
+        OTHER,
+    ),
+    Row(
+        "byte 7",
+        &SMALLEST,
+        &[Change(7, 1, Part::Bytes(b"X"))],
+        OTHER,
+    ),
+    Row(
+        "byte 8",
+        &SMALLEST,
+        &[Change(8, 1, Part::Bytes(&[9]))],
+        OTHER,
+    ),
+    Row(
+        "byte 9",
+        &SMALLEST,
+        &[Change(9, 1, Part::Bytes(&[8]))],
+        OTHER,
+    ),
+    Row(
+        "byte 10",
+        &SMALLEST,
+        &[Change(10, 1, Part::Bytes(&[8]))],
+        OTHER,
+    ),
+    Row(
+        "byte 11",
+        &SMALLEST,
+        &[Change(11, 1, Part::Bytes(&[8]))],
+        OTHER,
+    ),
+];
 
 #[test]
 fn refuses_another_magic_or_version(rt: HostRuntime) -> Result<(), Fail> {
-    let mut bytes = smallest_bytes(rt.alloc())?;
-    assert_eq!(rt; bytes.len(), 569);
-    for at in 0..12usize {
-        let right = bytes[at];
-        bytes[at] = right ^ 8;
-        let fault = read(rt.alloc(), &bytes).err();
-        assert_eq!(rt; fault, Some(DumpFault::BadMagic), "byte {at}");
-        bytes[at] = right;
-    }
-    Ok(())
+    expect_rows(&rt, &OTHERS)
 }

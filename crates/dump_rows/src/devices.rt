@@ -41,7 +41,7 @@ impl Read for Pieces<'_> {
 }
 
 /// What a writer answers once it is full.
-#[derive(Clone, Copy, Debug, PartialEq, Eq)]
+#[derive(Clone, Copy)]
 pub enum WhenFull {
     /// An error of this kind.
     Fails(ErrorKind),

@@ -1,13 +1,16 @@
-//! Worked heaps, flipped and finished, and the bytes of their dumps.
+//! Worked heaps, flipped, worked on and finished, and the bytes of their dumps.
 ghost use Rattle.std.specs.Prelude.{◌≡◌, IfOk};
 ghost use Rattle.comp_mutator.specs.Finishes.{IsOfFlip};
 ghost use Rattle.comp_mutator.specs.Mutators.{setup_of, AreMutatorsOf, IsMutatorOf};
 
 use crate::dumped::dumped;
+use crate::encoded::Part;
+use comp_audit::dump::Dump;
 use comp_mutator::finishing::Finished;
 use comp_mutator::flipping::flip;
 use comp_mutator::mutator::Mutator;
 use comp_mutator::pages::Touched;
+use comp_mutator::refusal::Refusal;
 use comp_mutator::space::Space;
 use heap_layout::heap::MarkedHeap;
 use page_plan::plan::Plan;
@@ -17,39 +20,174 @@ use std::process::Abort;
 use std::sync::Arc;
 use std::sync::ledger::{Blank, Ledger as Named};
 use std::test::Fail;
-use worked_heaps::heaps::{T, empty, heap, planned, smallest, three};
+use worked_heaps::heaps::{empty, heap, planned, smallest, three};
 
-// A flipped heap, and all its mutators.
+/// A worked heap.
+pub enum Worked {
+    /// No object at all.
+    Empty,
+    /// The smallest heap.
+    Smallest,
+    /// The three objects.
+    Three,
+    /// Two objects of 640 words each, all zeros behind their headers.
+    Twenty,
+}
+
+/// A call of a mutator.
+pub enum Call {
+    /// How many pages the space has.
+    Pages,
+    /// A touch of a page that is there: 1 is the answer where the page was not built, and the call has built it.
+    Touch(u64),
+    /// A read of a reference field: the object and the field.
+    ReadRef(u64, u16),
+    /// A read of a data field: the object and the field.
+    ReadData(u64, u16),
+    /// A write of a reference field, whose answer is the entry's stamp: the object, the field and the value.
+    WriteRef(u64, u16, u64),
+    /// A write of a data field, whose answer is the entry's stamp: the object, the field and the value.
+    WriteData(u64, u16, u64),
+    /// A new object of one word with tag 0, whose address is the answer.
+    Alloc,
+}
+
+/// The mutator of this number makes this call, and this is the answer.
+pub struct Row(pub usize, pub Call, pub u64);
+
+/// A run: a heap, flipped, and what its mutators do.
+pub struct Run {
+    pub heap: Worked,
+    pub mutators: u32,
+    pub fresh_pages: u32,
+    pub rows: &'static [Row],
+    /// Whether the last mutator comes first when all are handed back.
+    pub last_first: bool,
+    /// How many bytes the dump of what is left has.
+    pub length: usize,
+    /// That dump.
+    pub parts: &'static [Part],
+}
+
+fn twenty(alloc: Global) -> Result<MarkedHeap, Fail> {
+    let mut words = vec![in alloc; 0u64; 1_280]?;
+    words[0] = 41_877_504;
+    words[640] = 41_877_504;
+    heap(alloc, &words, &[0, 640], &[])
+}
+
+fn marked(alloc: Global, worked: &Worked) -> Result<MarkedHeap, Fail> {
+    match worked {
+        Worked::Empty => empty(alloc),
+        Worked::Smallest => smallest(alloc),
+        Worked::Three => three(alloc),
+        Worked::Twenty => twenty(alloc),
+    }
+}
+
+fn plan_of(alloc: Global, worked: &Worked) -> Result<Plan, Fail> {
+    planned(alloc, marked(alloc, worked)?)
+}
+
+// The flipped heap of a run, and all its mutators.
 fn flipped<L: Named>(
     alloc: Global,
     blank: Blank,
-    heap: MarkedHeap,
-    mutators: u32,
-    fresh_pages: u32,
+    run: &Run,
 ) -> Result<(Space<L, Plan>, Vec<Mutator<L>>), Fail>
     requires name { blank.name ≡ L.name }
     requires parts { blank.parts ≡ L.parts }
-    requires count { blank.parts ≡ mutators }
+    requires count { blank.parts ≡ run.now.mutators }
     ensures of { IfOk result (λ made. AreMutatorsOf made.0 made.1.items) }
     ensures whole { IfOk result (λ made. (setup_of made.0).mutators ≡ L.parts) }
-    ensures fresh { IfOk result (λ made. (setup_of made.0).fresh ≡ fresh_pages) }
+    ensures fresh { IfOk result (λ made. (setup_of made.0).fresh ≡ run.now.fresh_pages) }
 {
-    let builder = Arc::new(alloc, planned(alloc, heap)?)?;
-    Ok(flip(alloc, blank, builder, mutators, fresh_pages)?)
+    let builder = Arc::new(alloc, plan_of(alloc, &run.heap)?)?;
+    Ok(flip(alloc, blank, builder, run.mutators, run.fresh_pages)?)
 }
 
-// The last of a flipped heap's mutators, and the others.
-fn last_of<L: Named>(
+// Touches a page that is there.
+fn touch<L: Named>(
     rt: &impl Abort,
-    _space: &Space<L, Plan>,
-    mut mutators: Vec<Mutator<L>>,
-) -> (Mutator<L>, Vec<Mutator<L>>)
-    requires of { AreMutatorsOf _space.now mutators.items }
-    ensures last { IsMutatorOf _space.now result.0 }
-    ensures others { AreMutatorsOf _space.now result.1.items }
+    alloc: Global,
+    space: &Space<L, Plan>,
+    m: &mut Mutator<L>,
+    p: u64,
+) -> Result<u64, Refusal>
+    requires of { IsMutatorOf space.now m.old }
+    ensures of { IsMutatorOf space.now m.new }
 {
-    let last = mutators.pop().expect(rt, "a mutator");
-    (last, mutators)
+    assert!(rt; p < space.pages());
+    let touched = space.try_touch(alloc, m, p)?;
+    Ok(u64::from(touched == Touched::Built))
+}
+
+// What a call is answered.
+fn answer<L: Named>(
+    rt: &impl Abort,
+    alloc: Global,
+    space: &Space<L, Plan>,
+    m: &mut Mutator<L>,
+    call: &Call,
+) -> Result<u64, Refusal>
+    requires of { IsMutatorOf space.now m.old }
+    ensures of { IsMutatorOf space.now m.new }
+{
+    match call {
+        Call::Pages => Ok(space.pages()),
+        Call::Touch(p) => touch(rt, alloc, space, m, *p),
+        Call::ReadRef(object, field) => space.try_read_ref(alloc, m, *object, *field),
+        Call::ReadData(object, field) => space.try_read_data(alloc, m, *object, *field),
+        Call::WriteRef(object, field, value) => {
+            space.try_write_ref(alloc, m, *object, *field, *value)
+        }
+        Call::WriteData(object, field, value) => {
+            space.try_write_data(alloc, m, *object, *field, *value)
+        }
+        Call::Alloc => space.try_alloc(alloc, m, 0, 0, 0),
+    }
+}
+
+fn expect_answer(rt: &impl Abort, at: usize, found: Result<u64, Refusal>, wanted: u64) {
+    assert_eq!(rt; found, Ok(wanted), "row {at}");
+}
+
+// One of the mutators makes its call.
+fn expect_row<L: Named>(
+    rt: &impl Abort,
+    alloc: Global,
+    space: &Space<L, Plan>,
+    mutators: &mut [Mutator<L>],
+    at: usize,
+    row: &Row,
+)
+    requires of { AreMutatorsOf space.now mutators.old }
+    ensures of { AreMutatorsOf space.now mutators.new }
+{
+    let Row(by, call, wanted) = row;
+    let by = *by;
+    assert!(rt; by < mutators.len());
+    let found = answer(rt, alloc, space, &mut mutators[by], call);
+    expect_answer(rt, at, found, *wanted);
+}
+
+// The calls of a run, one after another.
+fn expect_rows<L: Named>(
+    rt: &impl Abort,
+    alloc: Global,
+    space: &Space<L, Plan>,
+    mutators: &mut [Mutator<L>],
+    run: &Run,
+)
+    requires of { AreMutatorsOf space.now mutators.old }
+    ensures of { AreMutatorsOf space.now mutators.new }
+{
+    for (at, row) in run.rows.iter().enumerate() {
+        expect_row(rt, alloc, space, mutators, at, row);
+    }
+    if run.last_first {
+        mutators.reverse();
+    }
 }
 
 // Finishes with all mutators.
@@ -69,185 +207,48 @@ fn finish<L: Named>(
     finished
 }
 
-// No object at all, and two mutators that do nothing.
-fn dump_empty<L: Named>(rt: &impl Abort, alloc: Global, blank: Blank) -> Result<Vec<u8>, Fail>
+// The bytes of the dump of a run, by the plan of its heap.
+fn dump_planned(
+    rt: &impl Abort,
+    alloc: Global,
+    run: &Run,
+    dump: &Dump<'_>,
+) -> Result<Vec<u8>, Fail> {
+    let plan = plan_of(alloc, &run.heap)?;
+    dumped(rt, alloc, &plan, dump)
+}
+
+// The bytes of the dump of what a run left.
+fn dump_finished(
+    rt: &impl Abort,
+    alloc: Global,
+    run: &Run,
+    finished: &Finished,
+) -> Result<Vec<u8>, Fail>
+    requires { IsOfFlip run.now.mutators run.now.fresh_pages finished.now }
+{
+    let dump = Dump::of(alloc, finished, run.mutators, run.fresh_pages)?;
+    dump_planned(rt, alloc, run, &dump)
+}
+
+fn dump_run<L: Named>(
+    rt: &impl Abort,
+    alloc: Global,
+    blank: Blank,
+    run: &Run,
+) -> Result<Vec<u8>, Fail>
     requires name { blank.name ≡ L.name }
     requires parts { blank.parts ≡ L.parts }
-    requires count { blank.parts ≡ 2 }
+    requires count { blank.parts ≡ run.now.mutators }
 {
-    let (space, mutators) = flipped::<L>(alloc, blank, empty(alloc)?, 2, 0)?;
+    let (space, mut mutators) = flipped::<L>(alloc, blank, run)?;
+    expect_rows(rt, alloc, &space, &mut mutators, run);
     let finished = finish(rt, alloc, space, mutators);
-    let plan = planned(alloc, empty(alloc)?)?;
-    dumped(rt, alloc, &plan, &finished, 2, 0)
+    dump_finished(rt, alloc, run, &finished)
 }
 
-/// The dump of no object at all, finished by two mutators.
-pub fn empty_dumped(rt: &impl Abort, alloc: Global) -> Result<Vec<u8>, Fail> {
-    dump_empty::<Brand>(rt, alloc, Blank::new(2))
-}
-
-// Touches the one page.
-fn touch_first<L: Named>(rt: &impl Abort, alloc: Global, space: &Space<L, Plan>, m: &mut Mutator<L>)
-    requires of { IsMutatorOf space.now m.old }
-    ensures of { IsMutatorOf space.now m.new }
-{
-    assert_eq!(rt; space.pages(), 1);
-    assert_eq!(rt; space.try_touch(alloc, m, 0), Ok(Touched::Built));
-}
-
-// The smallest heap, whose page its one mutator touches.
-fn dump_smallest<L: Named>(rt: &impl Abort, alloc: Global, blank: Blank) -> Result<Vec<u8>, Fail>
-    requires name { blank.name ≡ L.name }
-    requires parts { blank.parts ≡ L.parts }
-    requires count { blank.parts ≡ 1 }
-{
-    let (space, mutators) = flipped::<L>(alloc, blank, smallest(alloc)?, 1, 0)?;
-    let (mut m, _) = last_of(rt, &space, mutators);
-    touch_first(rt, alloc, &space, &mut m);
-    let finished = finish(rt, alloc, space, vec![in alloc; m]?);
-    let plan = planned(alloc, smallest(alloc)?)?;
-    dumped(rt, alloc, &plan, &finished, 1, 0)
-}
-
-/// The dump of the smallest heap, touched by one mutator.
-pub fn smallest_dumped(rt: &impl Abort, alloc: Global) -> Result<Vec<u8>, Fail> {
-    dump_smallest::<Brand>(rt, alloc, Blank::new(1))
-}
-
-// One mutator alone puts what looks like an address of from-space into the first of the three objects, and gets it.
-fn dump_address<L: Named>(rt: &impl Abort, alloc: Global, blank: Blank) -> Result<Vec<u8>, Fail>
-    requires name { blank.name ≡ L.name }
-    requires parts { blank.parts ≡ L.parts }
-    requires count { blank.parts ≡ 1 }
-{
-    let (space, mutators) = flipped::<L>(alloc, blank, three(alloc)?, 1, 0)?;
-    let (mut m, _) = last_of(rt, &space, mutators);
-    let stamp = space.try_write_data(alloc, &mut m, T, 0, 4_294_967_296);
-    assert_eq!(rt; stamp, Ok(0));
-    let word = space.try_read_data(alloc, &mut m, T, 0);
-    assert_eq!(rt; word, Ok(4_294_967_296));
-    let finished = finish(rt, alloc, space, vec![in alloc; m]?);
-    let plan = planned(alloc, three(alloc)?)?;
-    dumped(rt, alloc, &plan, &finished, 1, 0)
-}
-
-/// The dump of the three objects, into whose first one its one mutator put what looks like an address of from-space.
-pub fn address_dumped(rt: &impl Abort, alloc: Global) -> Result<Vec<u8>, Fail> {
-    dump_address::<Brand>(rt, alloc, Blank::new(1))
-}
-
-// A new object of one word, and a reference to it in the last object.
-fn link_new<L: Named>(rt: &impl Abort, alloc: Global, space: &Space<L, Plan>, m: &mut Mutator<L>)
-    requires of { IsMutatorOf space.now m.old }
-    ensures of { IsMutatorOf space.now m.new }
-{
-    let made = space.try_alloc(alloc, m, 0, 0, 0);
-    assert_eq!(rt; made, Ok(8_589_934_656));
-    let stamp = space.try_write_ref(alloc, m, T + 2, 0, 8_589_934_656);
-    assert_eq!(rt; stamp, Ok(1));
-}
-
-// The three objects, of which the one mutator makes the last refer to a new one.
-fn dump_linked<L: Named>(rt: &impl Abort, alloc: Global, blank: Blank) -> Result<Vec<u8>, Fail>
-    requires name { blank.name ≡ L.name }
-    requires parts { blank.parts ≡ L.parts }
-    requires count { blank.parts ≡ 1 }
-{
-    let (space, mutators) = flipped::<L>(alloc, blank, three(alloc)?, 1, 2)?;
-    let (mut m, _) = last_of(rt, &space, mutators);
-    link_new(rt, alloc, &space, &mut m);
-    let finished = finish(rt, alloc, space, vec![in alloc; m]?);
-    let plan = planned(alloc, three(alloc)?)?;
-    dumped(rt, alloc, &plan, &finished, 1, 2)
-}
-
-/// The dump of the three objects, of which one mutator made the last refer to a new one. There are two fresh pages.
-pub fn linked_dumped(rt: &impl Abort, alloc: Global) -> Result<Vec<u8>, Fail> {
-    dump_linked::<Brand>(rt, alloc, Blank::new(1))
-}
-
-// The first one loads an address from the last object, and puts 7 into the object there; the second one does the same and gets 7.
-fn put_and_get<L: Named>(
-    rt: &impl Abort,
-    alloc: Global,
-    space: &Space<L, Plan>,
-    m0: &mut Mutator<L>,
-    m1: &mut Mutator<L>,
-)
-    requires first { IsMutatorOf space.now m0.old }
-    requires second { IsMutatorOf space.now m1.old }
-    ensures first { IsMutatorOf space.now m0.new }
-    ensures second { IsMutatorOf space.now m1.new }
-{
-    assert_eq!(rt; space.try_read_ref(alloc, m0, T + 2, 0), Ok(T));
-    assert_eq!(rt; space.try_write_data(alloc, m0, T, 0, 7), Ok(0));
-    assert_eq!(rt; space.try_read_ref(alloc, m1, T + 2, 0), Ok(T));
-    assert_eq!(rt; space.try_read_data(alloc, m1, T, 0), Ok(7));
-}
-
-// The three objects, into whose first one the first of two mutators puts 7, which the second one gets.
-fn dump_put<L: Named>(rt: &impl Abort, alloc: Global, blank: Blank) -> Result<Vec<u8>, Fail>
-    requires name { blank.name ≡ L.name }
-    requires parts { blank.parts ≡ L.parts }
-    requires count { blank.parts ≡ 2 }
-{
-    let (space, mutators) = flipped::<L>(alloc, blank, three(alloc)?, 2, 64)?;
-    let (mut m1, mutators) = last_of(rt, &space, mutators);
-    let (mut m0, _) = last_of(rt, &space, mutators);
-    put_and_get(rt, alloc, &space, &mut m0, &mut m1);
-    let finished = finish(rt, alloc, space, vec![in alloc; m1, m0]?);
-    let plan = planned(alloc, three(alloc)?)?;
-    dumped(rt, alloc, &plan, &finished, 2, 64)
-}
-
-/// The dump of the three objects, into whose first one the first of two mutators put 7. There are 64 fresh pages.
-pub fn put_dumped(rt: &impl Abort, alloc: Global) -> Result<Vec<u8>, Fail> {
-    dump_put::<Brand>(rt, alloc, Blank::new(2))
-}
-
-// Two objects of 640 words each, all zeros behind their headers.
-fn twenty(alloc: Global) -> Result<MarkedHeap, Fail> {
-    let mut words = vec![in alloc; 0u64; 1_280]?;
-    words[0] = 41_877_504;
-    words[640] = 41_877_504;
-    heap(alloc, &words, &[0, 640], &[])
-}
-
-// Touches these pages, of which none was touched before.
-fn touch_each<L: Named>(
-    rt: &impl Abort,
-    alloc: Global,
-    space: &Space<L, Plan>,
-    m: &mut Mutator<L>,
-    pages: &[u64],
-)
-    requires of { IsMutatorOf space.now m.old }
-    ensures of { IsMutatorOf space.now m.new }
-{
-    for &p in pages {
-        assert!(rt; p < space.pages());
-        assert_eq!(rt; space.try_touch(alloc, m, p), Ok(Touched::Built));
-    }
-}
-
-// The twenty pages of those objects, each region built by one of two mutators in turn.
-fn dump_twenty<L: Named>(rt: &impl Abort, alloc: Global, blank: Blank) -> Result<Vec<u8>, Fail>
-    requires name { blank.name ≡ L.name }
-    requires parts { blank.parts ≡ L.parts }
-    requires count { blank.parts ≡ 2 }
-{
-    let (space, mutators) = flipped::<L>(alloc, blank, twenty(alloc)?, 2, 0)?;
-    let (mut m1, mutators) = last_of(rt, &space, mutators);
-    let (mut m0, _) = last_of(rt, &space, mutators);
-    touch_each(rt, alloc, &space, &mut m0, &[0, 1, 2, 3, 4, 5, 6, 7]);
-    touch_each(rt, alloc, &space, &mut m1, &[8, 9, 10, 11, 12, 13, 14, 15]);
-    touch_each(rt, alloc, &space, &mut m0, &[16, 17, 18, 19]);
-    let finished = finish(rt, alloc, space, vec![in alloc; m1, m0]?);
-    let plan = planned(alloc, twenty(alloc)?)?;
-    dumped(rt, alloc, &plan, &finished, 2, 0)
-}
-
-/// The dump of two objects of 640 words each, of which two mutators built the regions in turn.
-pub fn twenty_dumped(rt: &impl Abort, alloc: Global) -> Result<Vec<u8>, Fail> {
-    dump_twenty::<Brand>(rt, alloc, Blank::new(2))
+/// The bytes of the dump of a run.
+pub fn run_dumped(rt: &impl Abort, alloc: Global, run: &Run) -> Result<Vec<u8>, Fail> {
+    let blank = Blank::new(u64::from(run.mutators));
+    dump_run::<Brand>(rt, alloc, blank, run)
 }
