@@ -200,7 +200,7 @@ impl Drawn {
 /// The trace of this seed, of up to four mutators. Behind a line that is refused there are three more.
 pub fn draw_trace(alloc: Global, mutators: u8, seed: u64) -> Result<Drawn, AllocError> {
     let mut drawn = Drawn {
-        name: format!(in alloc; "{mutators} mutators, seed {seed}")?,
+        name: format!(in alloc; "mutators {mutators}, seed {seed}")?,
         lines: Vec::new(alloc),
         text: String::new(alloc),
         run: PlainRun::new(alloc, mutators)?,

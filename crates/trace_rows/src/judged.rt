@@ -16,7 +16,7 @@ use std::alloc::Global;
 use std::process::Abort;
 use std::sync::ledger::Ledger;
 
-/// The audit says yes to the dump of a finished heap, where this plan compacted it.
+// The audit says yes to the dump of a finished heap, where this plan compacted it.
 fn expect_lawful(rt: &impl Abort, alloc: Global, plan: &Plan, finished: &Finished, case: Case)
     requires { IsOfFlip case.mutators case.fresh_pages finished.now }
 {

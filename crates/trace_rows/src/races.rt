@@ -33,7 +33,6 @@ struct Seen {
 }
 
 // A text, and what is to come of it.
-#[derive(Clone, Copy)]
 struct Row {
     case: Case<'static>,
     runs: &'static [Wanted],
@@ -41,7 +40,7 @@ struct Row {
 }
 
 // On the three objects.
-const ROWS: [Row; 5] = [
+const ROWS: &[Row] = &[
     Row {
         case: Case {
             name: "shows what is read beside a write",
@@ -146,7 +145,7 @@ const ROWS: [Row; 5] = [
 ];
 
 // On an object of four pages, of which two are built only at one time.
-const SIDE_BY_SIDE: Row = Row {
+const SIDE_BY_SIDE: &Row = &Row {
     case: Case {
         name: "runs lines side by side",
         mutators: 2,
@@ -216,7 +215,7 @@ fn race_row<L: Ledger + Send + Sync, B: Builder, R: Abort + Threads + Wait + Syn
 fn races_on_three(rt: HostRuntime) -> Result<(), Fail> {
     let alloc = rt.alloc();
     let plan = planned(alloc, three(alloc)?)?;
-    for row in &ROWS {
+    for row in ROWS {
         let blank = Blank::new(u64::from(row.case.mutators));
         let builder = planned(alloc, three(alloc)?)?;
         race_row::<Brand, Plan, HostRuntime>(&rt, alloc, blank, row, builder, &plan)?;
@@ -237,5 +236,5 @@ fn runs_lines_side_by_side(rt: HostRuntime) -> Result<(), Fail> {
     let plan = zeros(alloc)?;
     let builder = Meeting::new(zeros(alloc)?);
     let blank = Blank::new(u64::from(SIDE_BY_SIDE.case.mutators));
-    race_row::<Brand, Meeting, HostRuntime>(&rt, alloc, blank, &SIDE_BY_SIDE, builder, &plan)
+    race_row::<Brand, Meeting, HostRuntime>(&rt, alloc, blank, SIDE_BY_SIDE, builder, &plan)
 }

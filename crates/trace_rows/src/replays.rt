@@ -19,7 +19,6 @@ use std::test::Fail;
 use worked_heaps::heaps::{planned, three};
 
 // A text, and what is to come of it.
-#[derive(Clone, Copy)]
 struct Row {
     case: Case<'static>,
     // how many lines `0 put 1 0 7` follow the text
@@ -31,7 +30,7 @@ struct Row {
     entries: &'static [(usize, Entry)],
 }
 
-const ROWS: [Row; 10] = [
+const ROWS: &[Row] = &[
     Row {
         case: Case {
             name: "shows what another mutator wrote, and leaves it to the words that slid",
@@ -233,6 +232,7 @@ fn expect_finished(row: &Row, finished: &Finished) -> Result<(), Fail> {
     }
 }
 
+// The text of the row showed, wrote and left what the row says.
 fn expect_row(
     row: &Row,
     run: &Result<Vec<Shown>, Stopped>,
@@ -277,7 +277,7 @@ fn replay_row<L: Ledger>(
 fn replays_on_three(rt: HostRuntime) -> Result<(), Fail> {
     let alloc = rt.alloc();
     let plan = planned(alloc, three(alloc)?)?;
-    for row in &ROWS {
+    for row in ROWS {
         let blank = Blank::new(u64::from(row.case.mutators));
         replay_row::<Brand>(&rt, alloc, blank, &plan, row)?;
     }
