@@ -8,10 +8,12 @@ use std::alloc::{AllocError, Global};
 /// How many lines are drawn, of which many would be refused and are left out.
 const DRAWS: u32 = 60;
 
-/// Lines, and their run over objects kept plainly: up to the one that is refused, if any.
+/// Lines, their text, and their run over objects kept plainly: up to the one that is refused, if any.
 #[derive(Drop)]
 pub struct Drawn {
+    pub name: String,
     pub lines: Vec<Line>,
+    pub text: String,
     pub run: PlainRun,
     pub stop: Option<Stop>,
 }
@@ -75,7 +77,68 @@ fn draw_line(random: &mut Random, run: &PlainRun, mutators: u8) -> Line {
     }
 }
 
+// The word of an action.
+fn word_of(action: Action) -> &'static str {
+    match action {
+        Action::Root { .. } => "root",
+        Action::Load { .. } => "load",
+        Action::Get { .. } => "get",
+        Action::Store { .. } => "store",
+        Action::Put { .. } => "put",
+        Action::New { .. } => "new",
+        Action::Nil { .. } => "nil",
+    }
+}
+
+// The numbers behind the word of an action.
+fn numbers_of(action: Action) -> [Option<u64>; 4] {
+    let (first, second, third) = match action {
+        Action::Root { to, root } => (to, Some(u64::from(root)), None),
+        Action::Load { to, object, field } => (to, Some(u64::from(object)), Some(u64::from(field))),
+        Action::Get { object, field } => (object, Some(u64::from(field)), None),
+        Action::Store {
+            object,
+            field,
+            value,
+        } => (object, Some(u64::from(field)), Some(u64::from(value))),
+        Action::Put {
+            object,
+            field,
+            value,
+        } => (object, Some(u64::from(field)), Some(value)),
+        Action::New {
+            to,
+            refs,
+            data_words,
+            ..
+        } => (to, Some(u64::from(refs)), Some(u64::from(data_words))),
+        Action::Nil { to } => (to, None, None),
+    };
+    let fourth = match action {
+        Action::New { tag, .. } => Some(u64::from(tag)),
+        _ => None,
+    };
+    [Some(u64::from(first)), second, third, fourth]
+}
+
+// A line behind the others of a text.
+fn push_text(alloc: Global, text: &mut String, line: Line) -> Result<(), AllocError> {
+    let word = word_of(line.action);
+    text.push_str(&format!(in alloc; "{} {word}", line.mutator)?)?;
+    for number in numbers_of(line.action) {
+        if let Some(number) = number {
+            text.push_str(&format!(in alloc; " {number}")?)?;
+        }
+    }
+    text.push_str("\n")
+}
+
 impl Drawn {
+    fn add(&mut self, alloc: Global, line: Line) -> Result<(), AllocError> {
+        self.lines.push(line)?;
+        push_text(alloc, &mut self.text, line)
+    }
+
     // The next line: true where the trace goes on behind it. Of lines that would be refused most are left out.
     fn next(
         &mut self,
@@ -88,11 +151,11 @@ impl Drawn {
         match self.run.answer(alloc, line)? {
             Ok(answer) => {
                 self.run.keep(number, line, answer)?;
-                self.lines.push(line)?;
+                self.add(alloc, line)?;
             }
             Err(refusal) => {
                 if random.below(12) == 0 {
-                    self.lines.push(line)?;
+                    self.add(alloc, line)?;
                     self.stop = Some(Stop {
                         line: number,
                         refusal,
@@ -105,9 +168,30 @@ impl Drawn {
     }
 
     // Three lines more, whatever they do.
-    fn add_three(&mut self, random: &mut Random, mutators: u8) -> Result<(), AllocError> {
+    fn add_three(
+        &mut self,
+        alloc: Global,
+        random: &mut Random,
+        mutators: u8,
+    ) -> Result<(), AllocError> {
         for _ in 0..3 {
-            self.lines.push(draw_line(random, &self.run, mutators))?;
+            let line = draw_line(random, &self.run, mutators);
+            self.add(alloc, line)?;
+        }
+        Ok(())
+    }
+
+    // All lines.
+    fn add_all(
+        &mut self,
+        alloc: Global,
+        random: &mut Random,
+        mutators: u8,
+    ) -> Result<(), AllocError> {
+        for _ in 0..DRAWS {
+            if !self.next(alloc, random, mutators)? {
+                return self.add_three(alloc, random, mutators);
+            }
         }
         Ok(())
     }
@@ -115,54 +199,13 @@ impl Drawn {
 
 /// The trace of this seed, of up to four mutators. Behind a line that is refused there are three more.
 pub fn draw_trace(alloc: Global, mutators: u8, seed: u64) -> Result<Drawn, AllocError> {
-    let mut random = Random { state: seed };
     let mut drawn = Drawn {
+        name: format!(in alloc; "mutators {mutators}, seed {seed}")?,
         lines: Vec::new(alloc),
+        text: String::new(alloc),
         run: PlainRun::new(alloc, mutators)?,
         stop: None,
     };
-    for _ in 0..DRAWS {
-        if !drawn.next(alloc, &mut random, mutators)? {
-            drawn.add_three(&mut random, mutators)?;
-            break;
-        }
-    }
+    drawn.add_all(alloc, &mut Random { state: seed }, mutators)?;
     Ok(drawn)
-}
-
-// What is behind the mutator's number.
-fn action_text(alloc: Global, action: Action) -> Result<String, AllocError> {
-    match action {
-        Action::Root { to, root } => format!(in alloc; "root {to} {root}"),
-        Action::Load { to, object, field } => format!(in alloc; "load {to} {object} {field}"),
-        Action::Get { object, field } => format!(in alloc; "get {object} {field}"),
-        Action::Store {
-            object,
-            field,
-            value,
-        } => format!(in alloc; "store {object} {field} {value}"),
-        Action::Put {
-            object,
-            field,
-            value,
-        } => format!(in alloc; "put {object} {field} {value}"),
-        Action::New {
-            to,
-            refs,
-            data_words,
-            tag,
-        } => format!(in alloc; "new {to} {refs} {data_words} {tag}"),
-        Action::Nil { to } => format!(in alloc; "nil {to}"),
-    }
-}
-
-/// The text of these lines.
-pub fn text_of(alloc: Global, lines: &[Line]) -> Result<String, AllocError> {
-    let mut text = String::new(alloc);
-    for line in lines {
-        let m = line.mutator;
-        let action = action_text(alloc, line.action)?;
-        text.push_str(&format!(in alloc; "{m} {action}\n")?)?;
-    }
-    Ok(text)
 }

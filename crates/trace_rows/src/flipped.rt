@@ -1,5 +1,5 @@
 //! Flipped heaps, and traces that are read for them.
-ghost use Rattle.std.specs.Prelude.{◌≡◌, length, IfOk};
+ghost use Rattle.std.specs.Prelude.{◌≡◌, length};
 ghost use Rattle.comp_mutator.specs.Mutators.{setup_of};
 ghost use Rattle.comp_trace.specs.Bytes.{DidNothingYet};
 ghost use Rattle.comp_trace.specs.Races.{AreAll};
@@ -12,54 +12,63 @@ use comp_trace::parsing::parse;
 use comp_trace::trace::Trace;
 use page_plan::builder::Builder;
 use std::alloc::Global;
+use std::process::Abort;
 use std::sync::Arc;
 use std::sync::ledger::{Blank, Ledger};
-use std::test::Fail;
+
+/// A text that is run on a flipped heap, by so many mutators and with so many fresh pages. Its name tells it where it fails.
+#[derive(Clone, Copy)]
+pub struct Case<'a> {
+    pub name: &'a str,
+    pub mutators: u8,
+    pub fresh_pages: u32,
+    pub text: &'a [u8],
+}
 
 /// A flipped heap, and all its mutators.
 pub fn flipped<L: Ledger, B: Builder>(
+    rt: &impl Abort,
     alloc: Global,
     blank: Blank,
     builder: B,
-    n: u32,
-    fresh_pages: u32,
-) -> Result<(Space<L, B>, Vec<Mutator<L>>), Fail>
+    case: Case,
+) -> (Space<L, B>, Vec<Mutator<L>>)
     requires name { blank.name ≡ L.name }
     requires parts { blank.parts ≡ L.parts }
-    requires count { blank.parts ≡ n }
-    ensures all { IfOk result (λ made. AreAll made.0 made.1.items) }
-    ensures new { IfOk result (λ made. DidNothingYet made.1.items) }
-    ensures whole { IfOk result (λ made. (setup_of made.0).mutators ≡ n) }
-    ensures fresh { IfOk result (λ made. (setup_of made.0).fresh ≡ fresh_pages) }
+    requires count { blank.parts ≡ case.mutators }
+    ensures all { AreAll result.0 result.1.items }
+    ensures new { DidNothingYet result.1.items }
+    ensures whole { (setup_of result.0).mutators ≡ case.entry.mutators }
+    ensures fresh { (setup_of result.0).fresh ≡ case.entry.fresh_pages }
 {
-    let builder = Arc::new(alloc, builder)?;
-    let (space, mutators) = flip(alloc, blank, builder, n, fresh_pages)?;
-    Ok((space, mutators))
+    let builder = Arc::new(alloc, builder).expect(rt, case.name);
+    let n = u32::from(case.mutators);
+    let Ok((space, mutators)) = flip(alloc, blank, builder, n, case.fresh_pages) else {
+        panic!(rt; "{}: not flipped", case.name);
+    };
+    (space, mutators)
 }
 
 /// How many roots the heap has.
-pub fn root_count<L: Ledger, B: Builder>(space: &Space<L, B>) -> Result<u16, Fail>
-    ensures { IfOk result (λ count. count ≡ length (setup_of space.now).heap.roots) }
+pub fn root_count<L: Ledger, B: Builder>(rt: &impl Abort, space: &Space<L, B>) -> u16
+    ensures { result ≡ length (setup_of space.now).heap.roots }
 {
     let all = space.roots();
     let count = all.len();
-    if count > 4096 {
-        return Err(Fail::from("too many roots"));
-    }
-    Ok(count as u16)
+    assert!(rt; count <= 4096);
+    count as u16
 }
 
-/// The trace of a text, for the roots of this space and its `n` mutators.
+/// The trace of a text, for the roots of this space and its mutators.
 pub fn read_for<L: Ledger, B: Builder>(
+    rt: &impl Abort,
     alloc: Global,
     space: &Space<L, B>,
-    text: &[u8],
-    n: u8,
-) -> Result<Trace, Fail>
-    requires { n ≡ (setup_of space.now).mutators }
-    ensures { IfOk result (IsParsedFor (setup_of space.now)) }
+    case: Case,
+) -> Trace
+    requires { case.mutators ≡ (setup_of space.now).mutators }
+    ensures { IsParsedFor (setup_of space.now) result }
 {
-    let roots = root_count(space)?;
-    let trace = parse(alloc, text, n, roots)?;
-    Ok(trace)
+    let roots = root_count(rt, space);
+    parse(alloc, case.text, case.mutators, roots).expect(rt, case.name)
 }

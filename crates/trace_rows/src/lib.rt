@@ -14,6 +14,8 @@ mod plain_run;
 #[cfg(test)]
 mod races;
 #[cfg(test)]
+mod ran;
+#[cfg(test)]
 mod random_races;
 #[cfg(test)]
 mod random_traces;

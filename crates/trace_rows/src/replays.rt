@@ -1,236 +1,285 @@
-//! Replays: what lines show, write and refuse, one after the other.
+//! Replays: what lines show, write and refuse, one after the other. Each row is a text that is replayed on the three objects, and the finished heap.
 ghost use Rattle.std.specs.Prelude.{◌≡◌};
 
-use crate::flipped::{flipped, read_for, root_count};
-use crate::judged::expect_lawful;
+use crate::flipped::Case;
+use crate::ran::replayed;
 use comp_journal::entry::Entry;
 use comp_mutator::finishing::Finished;
 use comp_mutator::refusal::Refusal;
 use comp_trace::fault::TraceFault;
-use comp_trace::replay::{Stopped, replay};
+use comp_trace::replay::Stopped;
 use comp_trace::shown::Shown;
-use comp_trace::texts::replay_text;
 use heap_layout::kind::Kind;
-use std::alloc::Global;
+use page_plan::plan::Plan;
+use std::alloc::{AllocError, Global};
 use std::marker::Brand;
 use std::process::Abort;
 use std::sync::ledger::{Blank, Ledger};
 use std::test::Fail;
 use worked_heaps::heaps::{planned, three};
 
-// What a text shows on the three objects, which two mutators have, and why it stops.
-fn shown_on_three<L: Ledger>(
-    alloc: Global,
-    blank: Blank,
-    text: &[u8],
-) -> Result<Result<Vec<Shown>, Stopped>, Fail>
-    requires name { blank.name ≡ L.name }
-    requires parts { blank.parts ≡ L.parts }
-    requires count { blank.parts ≡ 2 }
-{
-    let (space, mut mutators) = flipped::<L, _>(
-        alloc,
-        blank,
-        planned(alloc, three(alloc)?)?,
-        2,
-        0,
-    )?;
-    let trace = read_for(alloc, &space, text, 2)?;
-    Ok(replay(alloc, &trace, &space, &mut mutators))
+// A text, and what is to come of it.
+struct Row {
+    case: Case<'static>,
+    // how many lines `0 put 1 0 7` follow the text
+    puts: usize,
+    shown: &'static [Shown],
+    fault: Option<TraceFault>,
+    live_words: u64,
+    // the only entries of some pages
+    entries: &'static [(usize, Entry)],
 }
 
-// The text shows these values.
-fn expect_shown(
-    rt: &impl Abort,
-    run: Result<Vec<Shown>, Stopped>,
-    wanted: &[Shown],
+const ROWS: &[Row] = &[
+    Row {
+        case: Case {
+            name: "shows what another mutator wrote, and leaves it to the words that slid",
+            mutators: 2,
+            fresh_pages: 2,
+            text: b"0 root 0 0\n0 load 1 0 0\n0 put 1 0 7\n1 root 0 0\n1 load 1 0 0\n1 get 1 0\n",
+        },
+        puts: 0,
+        shown: &[Shown { line: 6, value: 7 }],
+        fault: None,
+        live_words: 4,
+        entries: &[(
+            0,
+            Entry {
+                stamp: 0,
+                writer: 0,
+                kind: Kind::Data,
+                offset: 1,
+                value: 7,
+            },
+        )],
+    },
+    Row {
+        case: Case {
+            name: "shows what another mutator wrote, without fresh pages",
+            mutators: 2,
+            fresh_pages: 0,
+            text: b"0 root 0 0\n0 load 1 0 0\n0 put 1 0 7\n1 root 0 0\n1 load 1 0 0\n1 get 1 0\n",
+        },
+        puts: 0,
+        shown: &[Shown { line: 6, value: 7 }],
+        fault: None,
+        live_words: 4,
+        entries: &[],
+    },
+    Row {
+        case: Case {
+            name: "writes an object and then a reference to it",
+            mutators: 1,
+            fresh_pages: 2,
+            text: b"0 root 0 0\n0 new 1 0 0 0\n0 store 0 0 1\n",
+        },
+        puts: 0,
+        shown: &[],
+        fault: None,
+        live_words: 5,
+        entries: &[
+            (
+                1,
+                Entry {
+                    stamp: 0,
+                    writer: 0,
+                    kind: Kind::Header,
+                    offset: 0,
+                    value: 0,
+                },
+            ),
+            (
+                0,
+                Entry {
+                    stamp: 1,
+                    writer: 0,
+                    kind: Kind::Reference,
+                    offset: 3,
+                    value: 8_589_934_656,
+                },
+            ),
+        ],
+    },
+    Row {
+        case: Case {
+            name: "shows nothing without lines",
+            mutators: 2,
+            fresh_pages: 0,
+            text: b"",
+        },
+        puts: 0,
+        shown: &[],
+        fault: None,
+        live_words: 4,
+        entries: &[],
+    },
+    Row {
+        case: Case {
+            name: "shows what was there and what was written",
+            mutators: 2,
+            fresh_pages: 0,
+            text: b"1 root 15 0\n1 load 3 15 0\n0 root 2 0\n0 load 4 2 0\n1 get 3 0\n0 put 4 0 9\n1 get 3 0\n",
+        },
+        puts: 0,
+        shown: &[Shown { line: 5, value: 11 }, Shown { line: 7, value: 9 }],
+        fault: None,
+        live_words: 4,
+        entries: &[],
+    },
+    Row {
+        case: Case {
+            name: "stops at a null register",
+            mutators: 2,
+            fresh_pages: 0,
+            text: b"0 nil 0\n0 get 0 0\n",
+        },
+        puts: 0,
+        shown: &[],
+        fault: Some(TraceFault::Refused(2, Refusal::Null)),
+        live_words: 4,
+        entries: &[],
+    },
+    Row {
+        case: Case {
+            name: "keeps what was shown before a stop",
+            mutators: 2,
+            fresh_pages: 0,
+            text: b"0 root 0 0\n0 load 1 0 0\n0 get 1 0\n1 get 1 0\n0 get 1 0\n",
+        },
+        puts: 0,
+        shown: &[Shown { line: 3, value: 11 }],
+        fault: Some(TraceFault::Refused(4, Refusal::Null)),
+        live_words: 4,
+        entries: &[],
+    },
+    Row {
+        case: Case {
+            name: "stops at an object that is too large",
+            mutators: 2,
+            fresh_pages: 0,
+            text: b"0 new 0 65535 65535 4294967295\n",
+        },
+        puts: 0,
+        shown: &[],
+        fault: Some(TraceFault::Refused(1, Refusal::ObjectTooLarge)),
+        live_words: 4,
+        entries: &[],
+    },
+    Row {
+        case: Case {
+            name: "stops at a full journal",
+            mutators: 2,
+            fresh_pages: 0,
+            text: b"0 root 0 0\n0 load 1 0 0\n",
+        },
+        puts: 1_025,
+        shown: &[],
+        fault: Some(TraceFault::Refused(1_027, Refusal::JournalFull(0))),
+        live_words: 4,
+        entries: &[],
+    },
+    Row {
+        case: Case {
+            name: "stops at a text that is none",
+            mutators: 2,
+            fresh_pages: 0,
+            text: b"0 nil 0\n0 root 0 1\n",
+        },
+        puts: 0,
+        shown: &[],
+        fault: Some(TraceFault::NoSuchRoot(2)),
+        live_words: 4,
+        entries: &[],
+    },
+];
+
+/// The replay showed this, and stopped for this cause, if any.
+pub fn expect_replay(
+    name: &str,
+    run: &Result<Vec<Shown>, Stopped>,
+    shown: &[Shown],
+    fault: Option<TraceFault>,
 ) -> Result<(), Fail> {
-    let Ok(shown) = run else {
-        return Err(Fail::from("stopped"));
+    let same = match run {
+        Ok(all) => all.as_slice() == shown && fault.is_none(),
+        Err(stopped) => stopped.shown.as_slice() == shown && fault == Some(stopped.fault),
     };
-    assert_eq!(rt; shown.as_slice(), wanted);
-    Ok(())
-}
-
-// The text shows these values, and stops so.
-fn expect_stop(
-    rt: &impl Abort,
-    run: Result<Vec<Shown>, Stopped>,
-    wanted: &[Shown],
-    fault: TraceFault,
-) -> Result<(), Fail> {
-    let Err(stopped) = run else {
-        return Err(Fail::from("not stopped"));
-    };
-    assert_eq!(rt; stopped.shown.as_slice(), wanted);
-    assert_eq!(rt; stopped.fault, fault);
-    Ok(())
-}
-
-#[test]
-fn shows_what_another_mutator_wrote(rt: HostRuntime) -> Result<(), Fail> {
-    let text = b"0 root 0 0\n0 load 1 0 0\n0 put 1 0 7\n1 root 0 0\n1 load 1 0 0\n1 get 1 0\n";
-    let run = shown_on_three::<Brand>(rt.alloc(), Blank::new(2), text)?;
-    expect_shown(&rt, run, &[Shown { line: 6, value: 7 }])
-}
-
-#[test]
-fn shows_nothing_without_lines(rt: HostRuntime) -> Result<(), Fail> {
-    let run = shown_on_three::<Brand>(rt.alloc(), Blank::new(2), b"")?;
-    expect_shown(&rt, run, &[])
-}
-
-#[test]
-fn stops_at_a_null_register(rt: HostRuntime) -> Result<(), Fail> {
-    let run = shown_on_three::<Brand>(rt.alloc(), Blank::new(2), b"0 nil 0\n0 get 0 0\n")?;
-    expect_stop(&rt, run, &[], TraceFault::Refused(2, Refusal::Null))
-}
-
-#[test]
-fn keeps_what_was_shown_before_a_stop(rt: HostRuntime) -> Result<(), Fail> {
-    let text = b"0 root 0 0\n0 load 1 0 0\n0 get 1 0\n1 get 1 0\n0 get 1 0\n";
-    let run = shown_on_three::<Brand>(rt.alloc(), Blank::new(2), text)?;
-    let shown = [Shown { line: 3, value: 11 }];
-    expect_stop(&rt, run, &shown, TraceFault::Refused(4, Refusal::Null))
-}
-
-#[test]
-fn stops_at_an_object_that_is_too_large(rt: HostRuntime) -> Result<(), Fail> {
-    let text = b"0 new 0 65535 65535 4294967295\n";
-    let run = shown_on_three::<Brand>(rt.alloc(), Blank::new(2), text)?;
-    let fault = TraceFault::Refused(1, Refusal::ObjectTooLarge);
-    expect_stop(&rt, run, &[], fault)
-}
-
-// A text shows these values on the three objects, and runs to its end; then the heap is finished.
-fn finish_on_three<L: Ledger>(
-    rt: &impl Abort,
-    alloc: Global,
-    blank: Blank,
-    n: u8,
-    text: &[u8],
-    wanted: &[Shown],
-) -> Result<Finished, Fail>
-    requires name { blank.name ≡ L.name }
-    requires parts { blank.parts ≡ L.parts }
-    requires count { blank.parts ≡ n }
-{
-    let (space, mut mutators) = flipped::<L, _>(
-        alloc,
-        blank,
-        planned(alloc, three(alloc)?)?,
-        u32::from(n),
-        2,
-    )?;
-    let trace = read_for(alloc, &space, text, n)?;
-    let run = replay(alloc, &trace, &space, &mut mutators);
-    expect_shown(rt, run, wanted)?;
-    let Ok(finished) = space.finish(alloc, mutators) else {
-        return Err(Fail::from("not finished"));
-    };
-    let plan = planned(alloc, three(alloc)?)?;
-    expect_lawful(rt, alloc, &plan, &finished, u32::from(n), 2)?;
-    Ok(finished)
+    if same {
+        Ok(())
+    } else {
+        Err(Fail::new(format_args!("{name}: {run:?}")))
+    }
 }
 
 // This page has just this entry.
-fn expect_entry(rt: &impl Abort, finished: &Finished, p: usize, wanted: Entry) {
-    let pages = finished.pages();
-    assert!(rt; p < pages.len());
-    let Some(page) = &pages[p] else {
-        panic!(rt; "the page was built");
-    };
-    assert_eq!(rt; page.journal(), [wanted].as_slice());
+fn has_entry(finished: &Finished, p: usize, wanted: Entry) -> bool {
+    match finished.pages().get(p) {
+        Some(Some(page)) => page.journal() == [wanted].as_slice(),
+        _ => false,
+    }
 }
 
-#[test]
-fn writes_an_object_and_then_a_reference_to_it(rt: HostRuntime) -> Result<(), Fail> {
-    let text = b"0 root 0 0\n0 new 1 0 0 0\n0 store 0 0 1\n";
-    let finished = finish_on_three::<Brand>(&rt, rt.alloc(), Blank::new(1), 1, text, &[])?;
-    assert_eq!(rt; finished.live_words(), 5);
-    let made = Entry {
-        stamp: 0,
-        writer: 0,
-        kind: Kind::Header,
-        offset: 0,
-        value: 0,
-    };
-    expect_entry(&rt, &finished, 1, made);
-    let linked = Entry {
-        stamp: 1,
-        writer: 0,
-        kind: Kind::Reference,
-        offset: 3,
-        value: 8_589_934_656,
-    };
-    expect_entry(&rt, &finished, 0, linked);
-    Ok(())
+// The finished heap has so many words, and these entries.
+fn expect_finished(row: &Row, finished: &Finished) -> Result<(), Fail> {
+    let mut same = finished.live_words() == row.live_words;
+    for (p, wanted) in row.entries {
+        same = same && has_entry(finished, *p, *wanted);
+    }
+    if same {
+        Ok(())
+    } else {
+        Err(Fail::new(format_args!("{}: {:?}", row.case.name, finished.pages())))
+    }
 }
 
-#[test]
-fn leaves_the_words_that_slid(rt: HostRuntime) -> Result<(), Fail> {
-    let text = b"0 root 0 0\n0 load 1 0 0\n0 put 1 0 7\n1 root 0 0\n1 load 1 0 0\n1 get 1 0\n";
-    let shown = [Shown { line: 6, value: 7 }];
-    let finished = finish_on_three::<Brand>(&rt, rt.alloc(), Blank::new(2), 2, text, &shown)?;
-    assert_eq!(rt; finished.live_words(), 4);
-    let put = Entry {
-        stamp: 0,
-        writer: 0,
-        kind: Kind::Data,
-        offset: 1,
-        value: 7,
-    };
-    expect_entry(&rt, &finished, 0, put);
-    Ok(())
+// The text of the row showed, wrote and left what the row says.
+fn expect_row(
+    row: &Row,
+    run: &Result<Vec<Shown>, Stopped>,
+    finished: &Finished,
+) -> Result<(), Fail> {
+    expect_replay(row.case.name, run, row.shown, row.fault)?;
+    expect_finished(row, finished)
 }
 
-#[test]
-fn stops_at_a_full_journal(rt: HostRuntime) -> Result<(), Fail> {
-    let mut text = b"0 root 0 0\n0 load 1 0 0\n".to_vec(rt.alloc())?;
-    for _ in 0..1_025 {
+// The text of a row.
+fn text_of(alloc: Global, row: &Row) -> Result<Vec<u8>, AllocError> {
+    let mut text = row.case.text.to_vec(alloc)?;
+    for _ in 0..row.puts {
         text.extend_from_slice(b"0 put 1 0 7\n")?;
     }
-    let run = shown_on_three::<Brand>(rt.alloc(), Blank::new(2), &text)?;
-    expect_stop(
-        &rt,
-        run,
-        &[],
-        TraceFault::Refused(1_027, Refusal::JournalFull(0)),
-    )
+    Ok(text)
 }
 
-// What the text shows on new mutators, read and run in one.
-fn shown_by_text<L: Ledger>(
+// The text of a row is replayed on the three objects, and the heap finished.
+fn replay_row<L: Ledger>(
+    rt: &impl Abort,
     alloc: Global,
     blank: Blank,
-    text: &[u8],
-) -> Result<Result<Vec<Shown>, Stopped>, Fail>
+    plan: &Plan,
+    row: &Row,
+) -> Result<(), Fail>
     requires name { blank.name ≡ L.name }
     requires parts { blank.parts ≡ L.parts }
-    requires count { blank.parts ≡ 2 }
+    requires count { blank.parts ≡ row.now.case.mutators }
 {
-    let (space, mut mutators) = flipped::<L, _>(
-        alloc,
-        blank,
-        planned(alloc, three(alloc)?)?,
-        2,
-        0,
-    )?;
-    let roots = root_count(&space)?;
-    Ok(replay_text(alloc, text, 2, roots, &space, &mut mutators))
+    let builder = planned(alloc, three(alloc)?)?;
+    let text = text_of(alloc, row).expect(rt, row.case.name);
+    let case = Case {
+        text: &text,
+        ..row.case
+    };
+    let (run, finished) = replayed::<L>(rt, alloc, blank, case, builder, plan);
+    expect_row(row, &run, &finished)
 }
 
 #[test]
-fn shows_by_a_text(rt: HostRuntime) -> Result<(), Fail> {
-    let text =
-        b"1 root 15 0\n1 load 3 15 0\n0 root 2 0\n0 load 4 2 0\n1 get 3 0\n0 put 4 0 9\n1 get 3 0\n";
-    let run = shown_by_text::<Brand>(rt.alloc(), Blank::new(2), text)?;
-    let shown = [Shown { line: 5, value: 11 }, Shown { line: 7, value: 9 }];
-    expect_shown(&rt, run, &shown)
-}
-
-#[test]
-fn stops_at_a_text_that_is_none(rt: HostRuntime) -> Result<(), Fail> {
-    let run = shown_by_text::<Brand>(rt.alloc(), Blank::new(2), b"0 nil 0\n0 root 0 1\n")?;
-    expect_stop(&rt, run, &[], TraceFault::NoSuchRoot(2))
+fn replays_on_three(rt: HostRuntime) -> Result<(), Fail> {
+    let alloc = rt.alloc();
+    let plan = planned(alloc, three(alloc)?)?;
+    for row in ROWS {
+        let blank = Blank::new(u64::from(row.case.mutators));
+        replay_row::<Brand>(&rt, alloc, blank, &plan, row)?;
+    }
+    Ok(())
 }

@@ -4,172 +4,307 @@ use comp_trace::fault::{Stop, TraceFault};
 use comp_trace::line::{Action, Line};
 use comp_trace::parsing::parse;
 use std::alloc::Global;
-use std::process::Abort;
 use std::test::Fail;
 
+// A text that is no trace of two mutators and one root, and the cause.
+struct Row {
+    name: &'static str,
+    text: &'static [u8],
+    fault: TraceFault,
+}
+
+// Lines that are none.
+const BAD_LINES: [Row; 14] = [
+    Row {
+        name: "two spaces",
+        text: b"0  nil 0\n",
+        fault: TraceFault::BadLine(1),
+    },
+    Row {
+        name: "no end of the line",
+        text: b"0 nil 0",
+        fault: TraceFault::BadLine(1),
+    },
+    Row {
+        name: "an empty line",
+        text: b"\n",
+        fault: TraceFault::BadLine(1),
+    },
+    Row {
+        name: "a zero in front",
+        text: b"00 nil 0\n",
+        fault: TraceFault::BadLine(1),
+    },
+    Row {
+        name: "a carriage return",
+        text: b"0 nil 0\r\n",
+        fault: TraceFault::BadLine(1),
+    },
+    Row {
+        name: "a byte past 127",
+        text: b"0 nil \x80\n",
+        fault: TraceFault::BadLine(1),
+    },
+    Row {
+        name: "a space in front",
+        text: b" 0 nil 0\n",
+        fault: TraceFault::BadLine(1),
+    },
+    Row {
+        name: "a space behind",
+        text: b"0 nil 0 \n",
+        fault: TraceFault::BadLine(1),
+    },
+    Row {
+        name: "a number too few",
+        text: b"0 nil\n",
+        fault: TraceFault::BadLine(1),
+    },
+    Row {
+        name: "a number too many",
+        text: b"0 nil 0 0\n",
+        fault: TraceFault::BadLine(1),
+    },
+    Row {
+        name: "a capital letter",
+        text: b"0 Nil 0\n",
+        fault: TraceFault::BadLine(1),
+    },
+    Row {
+        name: "a sign",
+        text: b"0 get 0 -1\n",
+        fault: TraceFault::BadLine(1),
+    },
+    Row {
+        name: "no mutator",
+        text: b"nil 0\n",
+        fault: TraceFault::BadLine(1),
+    },
+    Row {
+        name: "an empty second line",
+        text: b"0 nil 0\n\n",
+        fault: TraceFault::BadLine(2),
+    },
+];
+
+// Numbers past their bounds.
+const PAST_BOUNDS: [Row; 13] = [
+    Row {
+        name: "mutator 2",
+        text: b"2 nil 0\n",
+        fault: TraceFault::NoSuchMutator(1),
+    },
+    Row {
+        name: "mutator 2, and register 16",
+        text: b"2 nil 16\n",
+        fault: TraceFault::NoSuchMutator(1),
+    },
+    Row {
+        name: "register 16",
+        text: b"0 nil 16\n",
+        fault: TraceFault::NoSuchRegister(1),
+    },
+    Row {
+        name: "register 16, and root 9",
+        text: b"0 root 16 9\n",
+        fault: TraceFault::NoSuchRegister(1),
+    },
+    Row {
+        name: "a field of 17 bits, and then register 16",
+        text: b"0 store 0 65536 16\n",
+        fault: TraceFault::NoSuchRegister(1),
+    },
+    Row {
+        name: "register 16, and a value of 67 bits",
+        text: b"0 put 16 0 99999999999999999999\n",
+        fault: TraceFault::NoSuchRegister(1),
+    },
+    Row {
+        name: "a value of 65 bits",
+        text: b"0 put 0 0 18446744073709551616\n",
+        fault: TraceFault::NumberTooLarge(1),
+    },
+    Row {
+        name: "a count of 17 bits",
+        text: b"0 new 0 65536 0 0\n",
+        fault: TraceFault::NumberTooLarge(1),
+    },
+    Row {
+        name: "a tag of 33 bits",
+        text: b"0 new 0 0 0 4294967296\n",
+        fault: TraceFault::NumberTooLarge(1),
+    },
+    Row {
+        name: "root 1",
+        text: b"0 root 0 1\n",
+        fault: TraceFault::NoSuchRoot(1),
+    },
+    Row {
+        name: "a root of 67 bits",
+        text: b"0 root 0 99999999999999999999\n",
+        fault: TraceFault::NoSuchRoot(1),
+    },
+    Row {
+        name: "register 16 in line 2, and mutator 5 in line 3",
+        text: b"0 nil 0\n1 nil 16\n5 nil 0\n",
+        fault: TraceFault::NoSuchRegister(2),
+    },
+    Row {
+        name: "a mutator of 129 bits",
+        text: b"340282366920938463463374607431768211456 nil 0\n",
+        fault: TraceFault::NoSuchMutator(1),
+    },
+];
+
+// A line of each kind.
+const EACH_KIND: &[u8] =
+    b"1 root 15 0\n0 load 1 2 65535\n0 get 3 0\n1 store 4 5 6\n0 put 7 8 18446744073709551615\n0 new 9 1 2 4294967295\n1 nil 10\n";
+
+// What those lines say.
+const LINES: [Line; 7] = [
+    Line {
+        mutator: 1,
+        action: Action::Root { to: 15, root: 0 },
+    },
+    Line {
+        mutator: 0,
+        action: Action::Load {
+            to: 1,
+            object: 2,
+            field: 65_535,
+        },
+    },
+    Line {
+        mutator: 0,
+        action: Action::Get {
+            object: 3,
+            field: 0,
+        },
+    },
+    Line {
+        mutator: 1,
+        action: Action::Store {
+            object: 4,
+            field: 5,
+            value: 6,
+        },
+    },
+    Line {
+        mutator: 0,
+        action: Action::Put {
+            object: 7,
+            field: 8,
+            value: 18_446_744_073_709_551_615,
+        },
+    },
+    Line {
+        mutator: 0,
+        action: Action::New {
+            to: 9,
+            refs: 1,
+            data_words: 2,
+            tag: 4_294_967_295,
+        },
+    },
+    Line {
+        mutator: 1,
+        action: Action::Nil { to: 10 },
+    },
+];
+
+// Faults, and how they are printed.
+const PRINTED: [(TraceFault, &str); 8] = [
+    (TraceFault::BadLine(1), "T1 BadLine(1)"),
+    (TraceFault::NoSuchMutator(2), "T2 NoSuchMutator(2)"),
+    (TraceFault::NoSuchRegister(1), "T3 NoSuchRegister(1)"),
+    (TraceFault::NumberTooLarge(4), "T4 NumberTooLarge(4)"),
+    (TraceFault::NoSuchRoot(1), "T5 NoSuchRoot(1)"),
+    (
+        TraceFault::Refused(2, Refusal::Null),
+        "T6 Refused(2, M1 Null)",
+    ),
+    (
+        TraceFault::Refused(1, Refusal::ObjectTooLarge),
+        "T6 Refused(1, M4 ObjectTooLarge)",
+    ),
+    (TraceFault::OutOfMemory, "T7 OutOfMemory"),
+];
+
 // The text is no trace of two mutators and one root, for this cause.
-fn expect_fault(rt: &impl Abort, alloc: Global, text: &[u8], fault: TraceFault) {
-    assert_eq!(rt; parse(alloc, text, 2, 1).err(), Some(fault));
-}
-
-#[test]
-fn tells_lines_that_are_none(rt: HostRuntime) {
-    let texts: [&[u8]; 13] = [
-        b"0  nil 0\n",
-        b"0 nil 0",
-        b"\n",
-        b"00 nil 0\n",
-        b"0 nil 0\r\n",
-        b"0 nil \x80\n",
-        b" 0 nil 0\n",
-        b"0 nil 0 \n",
-        b"0 nil\n",
-        b"0 nil 0 0\n",
-        b"0 Nil 0\n",
-        b"0 get 0 -1\n",
-        b"nil 0\n",
-    ];
-    for text in texts {
-        expect_fault(&rt, rt.alloc(), text, TraceFault::BadLine(1));
-    }
-    expect_fault(&rt, rt.alloc(), b"0 nil 0\n\n", TraceFault::BadLine(2));
-}
-
-#[test]
-fn tells_numbers_past_their_bounds(rt: HostRuntime) {
-    let texts: [(&[u8], TraceFault); 13] = [
-        (b"2 nil 0\n", TraceFault::NoSuchMutator(1)),
-        (b"2 nil 16\n", TraceFault::NoSuchMutator(1)),
-        (b"0 nil 16\n", TraceFault::NoSuchRegister(1)),
-        (b"0 root 16 9\n", TraceFault::NoSuchRegister(1)),
-        (b"0 store 0 65536 16\n", TraceFault::NoSuchRegister(1)),
-        (
-            b"0 put 16 0 99999999999999999999\n",
-            TraceFault::NoSuchRegister(1),
-        ),
-        (
-            b"0 put 0 0 18446744073709551616\n",
-            TraceFault::NumberTooLarge(1),
-        ),
-        (b"0 new 0 65536 0 0\n", TraceFault::NumberTooLarge(1)),
-        (b"0 new 0 0 0 4294967296\n", TraceFault::NumberTooLarge(1)),
-        (b"0 root 0 1\n", TraceFault::NoSuchRoot(1)),
-        (
-            b"0 root 0 99999999999999999999\n",
-            TraceFault::NoSuchRoot(1),
-        ),
-        (
-            b"0 nil 0\n1 nil 16\n5 nil 0\n",
-            TraceFault::NoSuchRegister(2),
-        ),
-        (
-            b"340282366920938463463374607431768211456 nil 0\n",
-            TraceFault::NoSuchMutator(1),
-        ),
-    ];
-    for (text, fault) in texts {
-        expect_fault(&rt, rt.alloc(), text, fault);
+fn expect_fault(alloc: Global, name: &str, text: &[u8], fault: TraceFault) -> Result<(), Fail> {
+    match parse(alloc, text, 2, 1) {
+        Err(found) => {
+            if found == fault {
+                Ok(())
+            } else {
+                Err(Fail::new(format_args!("{name}: {found}")))
+            }
+        }
+        Ok(_) => Err(Fail::new(format_args!("{name}: a trace"))),
     }
 }
 
+// The texts are none, each for its cause.
+fn expect_faults(alloc: Global, rows: &[Row]) -> Result<(), Fail> {
+    for row in rows {
+        expect_fault(alloc, row.name, row.text, row.fault)?;
+    }
+    Ok(())
+}
+
 #[test]
-fn reads_a_number_of_any_length(rt: HostRuntime) -> Result<(), Fail> {
-    let mut text = b"0 get 0 ".to_vec(rt.alloc())?;
+fn tells_texts_that_are_none(rt: HostRuntime) -> Result<(), Fail> {
+    expect_faults(rt.alloc(), &BAD_LINES)?;
+    expect_faults(rt.alloc(), &PAST_BOUNDS)?;
+    expect_long_number(rt.alloc())
+}
+
+// A number of any length is read.
+fn expect_long_number(alloc: Global) -> Result<(), Fail> {
+    let mut text = b"0 get 0 ".to_vec(alloc)?;
     for _ in 0..100_000 {
         text.push(b'9')?;
     }
     text.push(b'\n')?;
-    expect_fault(&rt, rt.alloc(), &text, TraceFault::NumberTooLarge(1));
-    Ok(())
+    let fault = TraceFault::NumberTooLarge(1);
+    expect_fault(alloc, "a number of 100,000 digits", &text, fault)
 }
 
-#[test]
-fn reads_no_lines(rt: HostRuntime) -> Result<(), Fail> {
-    assert!(rt; parse(rt.alloc(), b"", 2, 1)?.lines().is_empty());
-    Ok(())
-}
-
-#[test]
-fn reads_each_kind_of_line(rt: HostRuntime) -> Result<(), Fail> {
-    let text =
-        b"1 root 15 0\n0 load 1 2 65535\n0 get 3 0\n1 store 4 5 6\n0 put 7 8 18446744073709551615\n0 new 9 1 2 4294967295\n1 nil 10\n";
-    let trace = parse(rt.alloc(), text, 2, 1)?;
-    let wanted = [
-        (1, Action::Root { to: 15, root: 0 }),
-        (
-            0,
-            Action::Load {
-                to: 1,
-                object: 2,
-                field: 65_535,
-            },
-        ),
-        (
-            0,
-            Action::Get {
-                object: 3,
-                field: 0,
-            },
-        ),
-        (
-            1,
-            Action::Store {
-                object: 4,
-                field: 5,
-                value: 6,
-            },
-        ),
-        (
-            0,
-            Action::Put {
-                object: 7,
-                field: 8,
-                value: 18_446_744_073_709_551_615,
-            },
-        ),
-        (
-            0,
-            Action::New {
-                to: 9,
-                refs: 1,
-                data_words: 2,
-                tag: 4_294_967_295,
-            },
-        ),
-        (1, Action::Nil { to: 10 }),
-    ];
-    assert_eq!(rt; trace.lines().len(), wanted.len());
-    for (line, (mutator, action)) in trace.lines().iter().zip(wanted) {
-        assert_eq!(rt; *line, Line { mutator, action });
+// The text is a trace of these lines.
+fn expect_lines(alloc: Global, text: &[u8], lines: &[Line]) -> Result<(), Fail> {
+    let trace = parse(alloc, text, 2, 1)?;
+    if trace.lines() == lines {
+        Ok(())
+    } else {
+        Err(Fail::new(format_args!("{:?}", trace.lines())))
     }
-    Ok(())
+}
+
+#[test]
+fn reads_no_lines_and_each_kind(rt: HostRuntime) -> Result<(), Fail> {
+    expect_lines(rt.alloc(), b"", &[])?;
+    expect_lines(rt.alloc(), EACH_KIND, &LINES)
+}
+
+// The fault is printed so.
+fn expect_printed(alloc: Global, fault: TraceFault, text: &str) -> Result<(), Fail> {
+    let printed = fault.to_string(alloc)?;
+    if printed.as_str() == text {
+        Ok(())
+    } else {
+        Err(Fail::new(format_args!("{printed}, and not {text}")))
+    }
 }
 
 #[test]
 fn prints_faults(rt: HostRuntime) -> Result<(), Fail> {
-    for (fault, text) in [
-        (TraceFault::BadLine(1), "T1 BadLine(1)"),
-        (TraceFault::NoSuchMutator(2), "T2 NoSuchMutator(2)"),
-        (TraceFault::NoSuchRegister(1), "T3 NoSuchRegister(1)"),
-        (TraceFault::NumberTooLarge(4), "T4 NumberTooLarge(4)"),
-        (TraceFault::NoSuchRoot(1), "T5 NoSuchRoot(1)"),
-        (
-            TraceFault::Refused(2, Refusal::Null),
-            "T6 Refused(2, M1 Null)",
-        ),
-        (
-            TraceFault::Refused(1, Refusal::ObjectTooLarge),
-            "T6 Refused(1, M4 ObjectTooLarge)",
-        ),
-        (TraceFault::OutOfMemory, "T7 OutOfMemory"),
-    ] {
-        assert_eq!(rt; fault.to_string(rt.alloc())?.as_str(), text);
+    for (fault, text) in PRINTED {
+        expect_printed(rt.alloc(), fault, text)?;
     }
     let stop = Stop {
         line: 7,
         refusal: Refusal::NotAStart(8_589_934_593),
     };
-    let printed = TraceFault::from(stop).to_string(rt.alloc())?;
-    assert_eq!(rt; printed.as_str(), "T6 Refused(7, M2 NotAStart(8589934593))");
-    Ok(())
+    let text = "T6 Refused(7, M2 NotAStart(8589934593))";
+    expect_printed(rt.alloc(), TraceFault::from(stop), text)
 }

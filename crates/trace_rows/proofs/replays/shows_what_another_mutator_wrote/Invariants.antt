@@ -1,4 +1,0 @@
-use Rattle.trace_rows.proofs.replays.shows_what_another_mutator_wrote.Given as goal
-
-abbrev pub ghosts-shown_on_three : goal.ghosts-shown_on_three
-ghosts-shown_on_three g a = record { name = a.blank.name; parts = a.blank.parts }
