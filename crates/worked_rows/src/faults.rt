@@ -14,6 +14,11 @@ fn fault(
     Ok(judged(rt.alloc(), words, marks, roots)?.err())
 }
 
+/// That is the first fault, where there is one.
+pub fn expect_same(rt: &impl Abort, found: Option<LayoutFault>, wanted: Option<LayoutFault>) {
+    assert_eq!(rt; found, wanted);
+}
+
 // That is the first fault of the heap of the three objects with these marks and this root.
 fn expect_fault(
     rt: &(impl Abort + AllocGlobal),
@@ -21,7 +26,7 @@ fn expect_fault(
     root: u64,
     wanted: Option<LayoutFault>,
 ) -> Result<(), Fail> {
-    assert_eq!(rt; fault(rt, &THREE, marks, &[root])?, wanted);
+    expect_same(rt, fault(rt, &THREE, marks, &[root])?, wanted);
     Ok(())
 }
 
@@ -31,7 +36,7 @@ fn expect_fault_of_words(
     words: &[u64],
     wanted: Option<LayoutFault>,
 ) -> Result<(), Fail> {
-    assert_eq!(rt; fault(rt, words, &[], &[])?, wanted);
+    expect_same(rt, fault(rt, words, &[], &[])?, wanted);
     Ok(())
 }
 
@@ -39,10 +44,8 @@ fn expect_fault_of_words(
 fn expect_fault_of_inner(rt: &(impl Abort + AllocGlobal)) -> Result<(), Fail> {
     let mut words = THREE;
     words[6] = F + 2;
-    assert_eq!(rt;
-        fault(rt, &words, &[0, 5], &[F + 5])?,
-        Some(LayoutFault::UnmarkedTarget(6))
-    );
+    let found = fault(rt, &words, &[0, 5], &[F + 5])?;
+    expect_same(rt, found, Some(LayoutFault::UnmarkedTarget(6)));
     Ok(())
 }
 
@@ -78,13 +81,16 @@ fn fault_of_many(
 
 #[test]
 fn refuses_what_is_too_large(rt: HostRuntime) -> Result<(), Fail> {
-    assert_eq!(rt; fault_of_many(&rt, 1_048_576, 4_096)?, None);
-    assert_eq!(rt;
-        fault_of_many(&rt, 1_048_577, 0)?,
-        Some(LayoutFault::TooLarge)
-    );
-    assert_eq!(rt; fault_of_many(&rt, 0, 4_097)?, Some(LayoutFault::TooLarge));
+    let too_large = Some(LayoutFault::TooLarge);
+    expect_same(&rt, fault_of_many(&rt, 1_048_576, 4_096)?, None);
+    expect_same(&rt, fault_of_many(&rt, 1_048_577, 0)?, too_large);
+    expect_same(&rt, fault_of_many(&rt, 0, 4_097)?, too_large);
     Ok(())
+}
+
+// It is printed so.
+fn expect_text(rt: &impl Abort, printed: &str, text: &str) {
+    assert_eq!(rt; printed, text);
 }
 
 #[test]
@@ -103,7 +109,7 @@ fn prints_each_fault(rt: HostRuntime) -> Result<(), Fail> {
         (LayoutFault::OutOfMemory, "H11 OutOfMemory"),
         (LayoutFault::Device, "H12 Device"),
     ] {
-        assert_eq!(rt; format!(in rt.alloc(); "{fault}")?.as_str(), text);
+        expect_text(&rt, &format!(in rt.alloc(); "{fault}")?, text);
     }
     Ok(())
 }

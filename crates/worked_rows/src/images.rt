@@ -1,4 +1,6 @@
 //! Images: read whole, cut, changed, and from readers that fail.
+use crate::faults::expect_same;
+use crate::pages::expect_count;
 use crate::readers::Pieces;
 use heap_layout::counted::Counted;
 use heap_layout::fault::LayoutFault;
@@ -55,7 +57,7 @@ fn is_three(heap: &MarkedHeap) -> bool {
 #[test]
 fn reads_an_image(rt: HostRuntime) -> Result<(), Fail> {
     let bytes = three_image(rt.alloc())?;
-    assert_eq!(rt; bytes.len(), 96);
+    expect_count(&rt, bytes.len() as u64, 96);
     assert!(rt; is_three(&read(&rt, &bytes)?));
     for piece in [1, 2, 7, 95] {
         let heap = read_image(
@@ -70,12 +72,14 @@ fn reads_an_image(rt: HostRuntime) -> Result<(), Fail> {
 // Whatever comes before the image's end is cut short.
 fn expect_truncated(rt: &(impl Abort + AllocGlobal), bytes: &[u8]) {
     for n in 0..bytes.len() {
-        assert_eq!(rt;
-            read(rt, &bytes[..n]).err(),
-            Some(LayoutFault::Truncated),
-            "first {n}"
-        );
+        let found = read(rt, &bytes[..n]).err();
+        assert!(rt; found == Some(LayoutFault::Truncated), "first {n}");
     }
+}
+
+// These bytes are refused for this cause.
+fn expect_refused(rt: &(impl Abort + AllocGlobal), bytes: &[u8], wanted: LayoutFault) {
+    expect_same(rt, read(rt, bytes).err(), Some(wanted));
 }
 
 // The beginning of an image that has more words than any heap.
@@ -93,10 +97,10 @@ fn refuses_what_is_no_image(rt: HostRuntime) -> Result<(), Fail> {
     expect_truncated(&rt, &bytes);
     let mut longer = bytes.clone()?;
     longer.push(0)?;
-    assert_eq!(rt; read(&rt, &longer).err(), Some(LayoutFault::TrailingBytes));
+    expect_refused(&rt, &longer, LayoutFault::TrailingBytes);
     let newer = image(alloc, 2, &THREE, &[0, 5], &[F + 5])?;
-    assert_eq!(rt; read(&rt, &newer).err(), Some(LayoutFault::BadMagic));
-    assert_eq!(rt; read(&rt, &huge(alloc)?).err(), Some(LayoutFault::TooLarge));
+    expect_refused(&rt, &newer, LayoutFault::BadMagic);
+    expect_refused(&rt, &huge(alloc)?, LayoutFault::TooLarge);
     Ok(())
 }
 
@@ -147,11 +151,11 @@ fn expect_three_or_device(
     match read_image(rt.alloc(), &mut reader) {
         Ok(heap) => {
             assert!(rt; is_three(&heap));
-            assert_eq!(rt; reader.failures(), 0);
+            expect_count(rt, reader.failures(), 0);
         }
         Err(fault) => {
-            assert_eq!(rt; fault, LayoutFault::Device);
-            assert_eq!(rt; reader.failures(), 1);
+            expect_same(rt, Some(fault), Some(LayoutFault::Device));
+            expect_count(rt, reader.failures(), 1);
         }
     }
 }

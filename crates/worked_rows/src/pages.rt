@@ -26,15 +26,25 @@ fn expect_page(rt: &impl Abort, page: &PageWords, begin: &[u64]) {
     }
 }
 
+/// There are so many.
+pub fn expect_count(rt: &impl Abort, found: u64, wanted: u64) {
+    assert_eq!(rt; found, wanted);
+}
+
+/// What is found at this place, or for this reference.
+pub fn expect_found(rt: &impl Abort, at: u64, found: Option<u64>, wanted: Option<u64>) {
+    assert_eq!(rt; found, wanted, "at {at}");
+}
+
 /// The plan has as many live words and pages.
 pub fn expect_counts(rt: &impl Abort, plan: &Plan, live_words: u64, pages: u64) {
-    assert_eq!(rt; plan.live_words(), live_words);
-    assert_eq!(rt; plan.pages(), pages);
+    expect_count(rt, plan.live_words(), live_words);
+    expect_count(rt, plan.pages(), pages);
 }
 
 /// The reference leads there.
 pub fn expect_forward(rt: &impl Abort, plan: &Plan, reference: u64, place: Option<u64>) {
-    assert_eq!(rt; plan.forward(reference), place, "of {reference}");
+    expect_found(rt, reference, plan.forward(reference), place);
 }
 
 /// Page `p` of a plan, which has it.
@@ -68,7 +78,7 @@ fn builds_pages_of_one_object(rt: HostRuntime) -> Result<(), Fail> {
     expect_page(&rt, &built(&rt, smallest(alloc)?, 0)?, &[30_064_771_072]);
     expect_page(&rt, &built(&rt, counting_heap(alloc, 64)?, 1)?, &[64]);
     let plan = planned(alloc, counting_heap(alloc, 63)?)?;
-    assert_eq!(rt; plan.pages(), 1);
+    expect_count(&rt, plan.pages(), 1);
     Ok(())
 }
 
@@ -105,9 +115,9 @@ fn build_by<B: Builder>(
 #[test]
 fn builds_by_any_builder(rt: HostRuntime) -> Result<(), Fail> {
     let counting = Counting::new(planned(rt.alloc(), three(rt.alloc())?)?);
-    assert_eq!(rt; counting.count(), 0);
+    expect_count(&rt, counting.count(), 0);
     expect_page(&rt, &build_by(&rt, &counting, 0)?, &SLID_THREE);
-    assert_eq!(rt; counting.count(), 1);
+    expect_count(&rt, counting.count(), 1);
     expect_page(&rt, &build_by(&rt, &counting.plan, 0)?, &SLID_THREE);
     Ok(())
 }

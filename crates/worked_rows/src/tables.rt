@@ -1,6 +1,6 @@
 //! Where live words go, by the tables and by a plain walk.
 use crate::larger_heaps::{across_blocks, every_second, scattered, step};
-use crate::pages::{expect_counts, expect_forward, page_of};
+use crate::pages::{expect_count, expect_counts, expect_forward, expect_found, page_of};
 use crate::plain_walk;
 use heap_layout::header::Header;
 use heap_layout::heap::MarkedHeap;
@@ -21,8 +21,8 @@ fn expect_places(
 ) -> Result<(), Fail> {
     let tables = Tables::build(rt.alloc(), heap)?;
     for &(i, place) in places {
-        assert_eq!(rt; tables.new_place(i), place, "of {i}");
-        assert_eq!(rt; tables.is_live(i), place.is_some(), "of {i}");
+        expect_found(rt, i, tables.new_place(i), place);
+        assert!(rt; tables.is_live(i) == place.is_some(), "of {i}");
     }
     Ok(())
 }
@@ -34,7 +34,7 @@ fn expect_live_words(
     live_words: u64,
 ) -> Result<(), Fail> {
     let tables = Tables::build(rt.alloc(), heap)?;
-    assert_eq!(rt; tables.live_words(), live_words);
+    expect_count(rt, tables.live_words(), live_words);
     Ok(())
 }
 
@@ -71,7 +71,7 @@ fn tells_places_across_blocks(rt: HostRuntime) -> Result<(), Fail> {
 
 // Page `p` begins in this object.
 fn expect_first_object(rt: &impl Abort, plan: &Plan, p: u64, first: Option<u64>) {
-    assert_eq!(rt; plan.first_object(p), first, "of {p}");
+    expect_found(rt, p, plan.first_object(p), first);
 }
 
 // An object of this header starts at the address once it has slid.
@@ -136,9 +136,9 @@ fn expect_second_page(rt: &impl Abort, page: &PageWords) {
 #[test]
 fn builds_a_page_before_the_first(rt: HostRuntime) -> Result<(), Fail> {
     let plan = planned(rt.alloc(), step(rt.alloc())?)?;
-    assert_eq!(rt; plan.pages(), 2);
+    expect_count(&rt, plan.pages(), 2);
     expect_second_page(&rt, &page_of(&rt, &plan, 1)?);
-    assert_eq!(rt; page_of(&rt, &plan, 0)?.get(41), 8_589_934_632);
+    expect_count(&rt, page_of(&rt, &plan, 0)?.get(41), 8_589_934_632);
     Ok(())
 }
 
@@ -157,7 +157,7 @@ fn slides_many_small_objects(rt: HostRuntime) -> Result<(), Fail> {
     let plan = planned(rt.alloc(), every_second(rt.alloc(), 134_400)?)?;
     expect_counts(&rt, &plan, 67_200, 1_050);
     expect_first_object(&rt, &plan, 1_049, Some(134_272));
-    assert_eq!(rt; page_of(&rt, &plan, 1_049)?.get(0), 576_693_848_768_512);
+    expect_count(&rt, page_of(&rt, &plan, 1_049)?.get(0), 576_693_848_768_512);
     expect_places(&rt, plan.heap(), &[(134_398, Some(67_199))])
 }
 
@@ -206,18 +206,22 @@ fn expect_plain_references(rt: &impl Abort, plan: &Plan) {
     }
 }
 
+// The places of the heap's words are those of the plain walk.
+fn expect_plain_places(rt: &(impl Abort + AllocGlobal), heap: &MarkedHeap) -> Result<(), Fail> {
+    let tables = Tables::build(rt.alloc(), heap)?;
+    for i in 0..600u64 {
+        let place = plain_walk::new_place(heap.words(), heap.marks(), i);
+        expect_found(rt, i, tables.new_place(i), place);
+    }
+    Ok(())
+}
+
 // The plan of a heap is that of the plain walk, and so are the places of its words.
 fn expect_plain(rt: &(impl Abort + AllocGlobal), heap: MarkedHeap) -> Result<(), Fail> {
     let plan = planned(rt.alloc(), heap)?;
     expect_plain_pages(rt, &plan)?;
     expect_plain_references(rt, &plan);
-    let tables = Tables::build(rt.alloc(), plan.heap())?;
-    let words = plan.heap().words();
-    let marks = plan.heap().marks();
-    for i in 0..600u64 {
-        assert_eq!(rt; tables.new_place(i), plain_walk::new_place(words, marks, i));
-    }
-    Ok(())
+    expect_plain_places(rt, plan.heap())
 }
 
 #[test]
@@ -226,15 +230,25 @@ fn agrees_with_a_plain_walk(rt: HostRuntime) -> Result<(), Fail> {
     expect_plain(&rt, step(alloc)?)?;
     expect_plain(&rt, three(alloc)?)?;
     expect_plain(&rt, every_second(alloc, 1_000)?)?;
-    expect_plain(&rt, empty(alloc)?)?;
+    expect_plain(&rt, empty(alloc)?)
+}
+
+#[test]
+fn agrees_with_a_plain_walk_on_one_object(rt: HostRuntime) -> Result<(), Fail> {
+    let alloc = rt.alloc();
     for data_words in [62, 63, 64, 127, 128, 150, 1_023] {
         expect_plain(&rt, counting_heap(alloc, data_words)?)?;
         let unmarked = heap(alloc, &counting_object(alloc, data_words)?, &[], &[])?;
         expect_plain(&rt, unmarked)?;
     }
+    Ok(())
+}
+
+#[test]
+fn agrees_with_a_plain_walk_on_scattered_objects(rt: HostRuntime) -> Result<(), Fail> {
     for seed in 0..8u64 {
         for often in [0, 1, 2, 4] {
-            expect_plain(&rt, scattered(alloc, seed, 300, often)?)?;
+            expect_plain(&rt, scattered(rt.alloc(), seed, 300, often)?)?;
         }
     }
     Ok(())
