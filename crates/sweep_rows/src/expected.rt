@@ -4,6 +4,11 @@ use std::alloc::{AllocError, Global};
 use std::process::Abort;
 use std::sync::ledger::Ledger as Named;
 
+/// There are so many.
+pub fn expect_count(rt: &impl Abort, found: u64, wanted: u64) {
+    assert_eq!(rt; found, wanted);
+}
+
 /// The pages that these mutators built, sorted.
 pub fn all_builds<L: Named>(
     alloc: Global,
@@ -19,9 +24,9 @@ pub fn all_builds<L: Named>(
 
 /// The numbers are 0, 1, .. below `count`, each once.
 pub fn expect_counting(rt: &impl Abort, numbers: &[u64], count: u64) {
-    assert_eq!(rt; numbers.len() as u64, count);
+    expect_count(rt, numbers.len() as u64, count);
     for (wanted, number) in numbers.iter().enumerate() {
-        assert_eq!(rt; *number, wanted as u64);
+        expect_count(rt, *number, wanted as u64);
     }
 }
 

@@ -1,7 +1,7 @@
 //! What a gate is told, and two workers at work at once.
 ghost use Rattle.std.specs.Prelude.{◌≡◌};
 
-use crate::expected::{all_builds, expect_counting};
+use crate::expected::{all_builds, expect_count, expect_counting};
 use crate::flipped::{flipped, twenty_pages};
 use comp_sweep::gate::Gate;
 use comp_sweep::sweeping::sweep;
@@ -77,16 +77,22 @@ fn sweep_two_at_once<L: Named + Send + Sync, R: Abort + Threads + Wait + Sync>(
     let Ok(report) = sweep(alloc, rt, &space, mutators, &gate) else {
         panic!(rt; "there is memory");
     };
-    assert_eq!(rt; gate.missed.load(Ordering::SeqCst), 0);
-    assert_eq!(rt; report.regions.len(), 2);
+    expect_count(rt, gate.missed.load(Ordering::SeqCst), 0);
+    expect_one_each(rt, alloc, &report.regions)?;
+    expect_counting(rt, &all_builds(alloc, &report.mutators)?, 16);
+    Ok(())
+}
+
+// Two lists, each of which has one of the regions 0 and 1.
+fn expect_one_each(rt: &impl Abort, alloc: Global, lists: &[Vec<u64>]) -> Result<(), Fail> {
+    expect_count(rt, lists.len() as u64, 2);
     let mut regions = Vec::new(alloc);
-    for list in &report.regions {
-        assert_eq!(rt; list.len(), 1);
+    for list in lists {
+        expect_count(rt, list.len() as u64, 1);
         regions.extend_from_slice(list)?;
     }
     regions.sort()?;
     expect_counting(rt, &regions, 2);
-    expect_counting(rt, &all_builds(alloc, &report.mutators)?, 16);
     Ok(())
 }
 

@@ -1,7 +1,7 @@
 //! Which worker sweeps which region.
 ghost use Rattle.std.specs.Prelude.{◌≡◌};
 
-use crate::expected::{all_builds, expect_counting, expect_regions};
+use crate::expected::{all_builds, expect_count, expect_counting, expect_regions};
 use crate::flipped::{flipped, twenty_pages};
 use comp_sweep::gate::Open;
 use comp_sweep::refusal::SweepFault;
@@ -38,7 +38,7 @@ fn lists_of<L: Named + Send + Sync, R: Abort + Threads + Wait + Sync>(
 #[test]
 fn deals_three_regions_to_two_workers(rt: HostRuntime) -> Result<(), Fail> {
     let lists = lists_of::<Brand, HostRuntime>(&rt, rt.alloc(), Blank::new(2), 2)?;
-    assert_eq!(rt; lists.len(), 2);
+    expect_count(&rt, lists.len() as u64, 2);
     expect_regions(&rt, &lists, 0, &[0, 2]);
     expect_regions(&rt, &lists, 1, &[1]);
     Ok(())
@@ -47,7 +47,7 @@ fn deals_three_regions_to_two_workers(rt: HostRuntime) -> Result<(), Fail> {
 #[test]
 fn deals_three_regions_to_four_workers(rt: HostRuntime) -> Result<(), Fail> {
     let lists = lists_of::<Brand, HostRuntime>(&rt, rt.alloc(), Blank::new(4), 4)?;
-    assert_eq!(rt; lists.len(), 4);
+    expect_count(&rt, lists.len() as u64, 4);
     expect_regions(&rt, &lists, 0, &[0]);
     expect_regions(&rt, &lists, 1, &[1]);
     expect_regions(&rt, &lists, 2, &[2]);
@@ -70,14 +70,14 @@ fn sweep_nothing<L: Named + Send + Sync, R: Abort + Threads + Wait + Sync>(
     let Ok(report) = sweep(alloc, rt, &space, mutators, &Open) else {
         panic!(rt; "there is memory");
     };
-    assert_eq!(rt; report.regions.len(), 2);
+    expect_count(rt, report.regions.len() as u64, 2);
     expect_regions(rt, &report.regions, 0, &[]);
     expect_regions(rt, &report.regions, 1, &[]);
     let Err(refused) = sweep(alloc, rt, &space, Vec::new(alloc), &Open) else {
         panic!(rt; "there is no worker");
     };
     assert_eq!(rt; refused.fault, SweepFault::NoWorkers);
-    assert_eq!(rt; refused.mutators.len(), 0);
+    expect_count(rt, refused.mutators.len() as u64, 0);
     Ok(())
 }
 

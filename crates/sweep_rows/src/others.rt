@@ -2,8 +2,9 @@
 ghost use Rattle.std.specs.Prelude.{◌≡◌};
 ghost use Rattle.comp_mutator.specs.Mutators.{AreMutatorsOf, IsMutatorOf};
 
-use crate::expected::{all_builds, expect_counting};
+use crate::expected::{all_builds, expect_count, expect_counting};
 use crate::flipped::{flipped, twenty_pages, without_last};
+use comp_mutator::finishing::Finished;
 use comp_sweep::gate::Open;
 use comp_sweep::sweeping::sweep;
 use std::alloc::Global;
@@ -70,12 +71,17 @@ fn finish_swept<L: Named + Send + Sync, R: Abort + Threads + Wait + Sync>(
     let Ok(finished) = space.finish(alloc, report.mutators) else {
         panic!(rt; "no mutator is missing");
     };
-    assert_eq!(rt; finished.pages().len(), 20);
+    expect_whole(rt, &finished);
+    Ok(())
+}
+
+// All of the twenty pages are there, and all words.
+fn expect_whole(rt: &impl Abort, finished: &Finished) {
+    expect_count(rt, finished.pages().len() as u64, 20);
     for (p, page) in finished.pages().iter().enumerate() {
         assert!(rt; page.is_some(), "page {p}");
     }
-    assert_eq!(rt; finished.live_words(), 1_280);
-    Ok(())
+    expect_count(rt, finished.live_words(), 1_280);
 }
 
 #[test]

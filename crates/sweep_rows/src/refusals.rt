@@ -1,7 +1,7 @@
 //! A build that finds no memory, the sweep after it, and the refusals as they are printed.
 ghost use Rattle.std.specs.Prelude.{◌≡◌};
 
-use crate::expected::{all_builds, expect_counting};
+use crate::expected::{all_builds, expect_count, expect_counting};
 use crate::flipped::{flipped, twenty_pages};
 use comp_sweep::gate::Open;
 use comp_sweep::refusal::SweepFault;
@@ -62,7 +62,7 @@ fn sweep_twice<L: Named + Send + Sync, R: Abort + Threads + Wait + Sync>(
         panic!(rt; "page 9 wants memory");
     };
     assert_eq!(rt; refused.fault, SweepFault::OutOfMemory(9));
-    assert_eq!(rt; refused.mutators.len(), 2);
+    expect_count(rt, refused.mutators.len() as u64, 2);
     assert!(rt; !all_builds(alloc, &refused.mutators)?.contains(&9));
     let Ok(report) = sweep(alloc, rt, &space, refused.mutators, &Open) else {
         panic!(rt; "there is memory");
