@@ -130,7 +130,7 @@ pub record Passed (heap : Heap) : Type 0 where
   pub roots : root_faults heap.marks heap.roots ≡ []
   pub targets : target_faults heap.words heap.marks heap.marks ≡ []
 
-passed : (heap : Heap) → IsAccepted heap → Passed heap
+pub passed : (heap : Heap) → IsAccepted heap → Passed heap
 passed heap accepted =
     let sizes = size_faults (length heap.words) (length heap.marks) (length heap.roots) in
     let row = flat_map (object_faults heap.words) (starts heap.words) in
