@@ -28,7 +28,10 @@ pub fn expect_count(rt: &impl Abort, at: At, found: u64, wanted: u64) {
 
 /// These are the numbers, in this order.
 pub fn expect_numbers(rt: &impl Abort, at: At, found: &[u64], wanted: &[u64]) {
-    assert_eq!(rt; found, wanted, "{}, row {}", at.case, at.row);
+    expect_count(rt, at, found.len() as u64, wanted.len() as u64);
+    for (found, wanted) in found.iter().zip(wanted) {
+        expect_count(rt, at, *found, *wanted);
+    }
 }
 
 /// The touch of this row is answered so.

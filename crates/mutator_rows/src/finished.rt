@@ -2,6 +2,7 @@
 ghost use Rattle.std.specs.Prelude.{◌≡◌};
 
 use crate::endings::Ending;
+use crate::expected::{At, expect_count};
 use crate::flipped::{Heap, finish, plan_of, shared, two};
 use crate::pairs::{Pair, Step, play_each_pair};
 use crate::rows::Row;
@@ -15,7 +16,7 @@ use std::test::Fail;
 
 // The heap was not finished, since mutator 1 is missing.
 fn expect_missing(rt: &impl Abort, found: FinishFault) {
-    assert_eq!(rt; found, FinishFault::MutatorMissing(1));
+    assert!(rt; found == FinishFault::MutatorMissing(1), "{found}");
 }
 
 // No object at all: one of two mutators is handed in alone, and then both are.
@@ -32,11 +33,15 @@ fn hand_in_one<L: Named>(rt: &impl Abort, alloc: Global, blank: Blank, plan: Pla
         panic!(rt; "mutator 1 is missing");
     };
     expect_missing(rt, left.fault);
+    let at = At {
+        case: "hands back where one is missing",
+        row: 0,
+    };
     let mut both = left.mutators;
-    assert!(rt; both.len() == 1);
+    expect_count(rt, at, both.len() as u64, 1);
     assert!(rt; both.push(m1).is_ok());
     let finished = finish(rt, alloc, left.space, both);
-    assert!(rt; finished.live_words() == 0);
+    expect_count(rt, at, finished.live_words(), 0);
 }
 
 #[test]

@@ -32,9 +32,9 @@ fn expect_bad_counts<L: Named>(
     requires count { blank.parts ≡ mutators }
 {
     let Err(fault) = flip::<L, _>(alloc, blank, builder, mutators, fresh_pages) else {
-        panic!(rt; "{mutators} mutators, {fresh_pages} fresh pages");
+        panic!(rt; "a flip with {mutators} mutators");
     };
-    assert_eq!(rt; fault, FlipFault::BadCounts);
+    assert!(rt; fault == FlipFault::BadCounts);
 }
 
 // Mutators that count from 0, none of which has done anything.
@@ -59,9 +59,13 @@ fn flip_most<L: Named>(rt: &impl Abort, alloc: Global, blank: Blank, builder: Ar
     let Ok((space, mutators)) = flip::<L, _>(alloc, blank, builder, 64, 4096) else {
         panic!(rt; "a flipped heap");
     };
-    assert!(rt; mutators.len() == 64);
-    assert!(rt; space.compacted_pages() == 1);
-    assert!(rt; space.pages() == 4097);
+    let at = At {
+        case: "as many as there may be",
+        row: 0,
+    };
+    expect_count(rt, at, mutators.len() as u64, 64);
+    expect_count(rt, at, space.compacted_pages(), 1);
+    expect_count(rt, at, space.pages(), 4097);
     expect_new(rt, &mutators);
 }
 
@@ -155,9 +159,13 @@ fn count_builds<L: Named, R: Abort + Wait>(
     requires count { blank.parts ≡ 1 }
 {
     let (space, mut m) = one::<L, _>(rt, alloc, blank, builder, 4);
-    assert!(rt; counts.count() == 0);
-    expect_rows(rt, alloc, &space, &mut m, "counts builds", &TOUCHES);
-    assert!(rt; counts.count() == 1);
+    let at = At {
+        case: "builds at the first touch",
+        row: 0,
+    };
+    expect_count(rt, at, counts.count(), 0);
+    expect_rows(rt, alloc, &space, &mut m, at.case, &TOUCHES);
+    expect_count(rt, at, counts.count(), 1);
 }
 
 #[test]
