@@ -75,26 +75,15 @@ fn names_the_first_fault(rt: HostRuntime) -> Result<(), Fail> {
     Ok(())
 }
 
-// As many null words.
-fn nulls(rt: &(impl Abort + AllocGlobal), count: usize) -> Vec<u64> {
-    let Ok(nulls) = vec![in rt.alloc(); 0u64; count] else {
-        panic!(rt; "memory for {count} words");
-    };
-    nulls
-}
-
 // The first fault of a heap of as many empty objects, none of which is marked, and as many null roots.
 fn fault_of_many(
-    rt: &(impl Abort + AllocGlobal),
+    rt: &impl AllocGlobal,
     words: usize,
     roots: usize,
-) -> Option<LayoutFault> {
-    let words = nulls(rt, words);
-    let roots = nulls(rt, roots);
-    let Ok(judged) = judged(rt.alloc(), &words, &[], &roots) else {
-        panic!(rt; "memory for a heap");
-    };
-    judged.err()
+) -> Result<Option<LayoutFault>, Fail> {
+    let words = vec![in rt.alloc(); 0u64; words]?;
+    let roots = vec![in rt.alloc(); 0u64; roots]?;
+    Ok(judged(rt.alloc(), &words, &[], &roots)?.err())
 }
 
 // As many words and roots as there may be, and one more of each.
@@ -105,14 +94,15 @@ const MANY: [(usize, usize, Option<LayoutFault>); 3] = [
 ];
 
 #[test]
-fn refuses_what_is_too_large(rt: HostRuntime) {
+fn refuses_what_is_too_large(rt: HostRuntime) -> Result<(), Fail> {
     for (row, (words, roots, wanted)) in MANY.iter().enumerate() {
         let at = At {
             case: "too large",
             row: row as u64,
         };
-        expect_fault(&rt, at, fault_of_many(&rt, *words, *roots), *wanted);
+        expect_fault(&rt, at, fault_of_many(&rt, *words, *roots)?, *wanted);
     }
+    Ok(())
 }
 
 const TEXTS: [(LayoutFault, &str); 12] = [

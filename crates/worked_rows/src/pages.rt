@@ -15,29 +15,27 @@ const SLID_THREE: [u64; 4] = [4_295_032_832, 11, 12_884_901_889, 8_589_934_592];
 // The address of the last of the three objects.
 const LAST: u64 = F + 5;
 
-// The three objects, with references that name no marked one.
-const GAP: [Case; 1] = [Case {
-    name: "slides a gap shut",
-    heap: Heap::Three,
-    rows: &[
-        Row::Counts(4, 1),
-        Row::Forward(LAST, Some(8_589_934_594)),
-        Row::Forward(F, Some(T)),
-        Row::Forward(0, Some(0)),
-        Row::Forward(F + 1, None),
-        Row::Forward(F + 2, None),
-        Row::Forward(F + 6, None),
-        Row::Forward(F + 7, None),
-        Row::Forward(1, None),
-        Row::Forward(T, None),
-        Row::Forward(u64::MAX, None),
-        Row::Roots(&[8_589_934_594]),
-        Row::Page(0, &SLID_THREE),
-    ],
-}];
-
-// Pages of one object, of an object behind a gap, and of many.
-const PAGES: [Case; 6] = [
+// Objects that slide a gap shut, with references that name no marked one; pages of one object, of an object behind a gap, and of many.
+const PAGES: [Case; 7] = [
+    Case {
+        name: "slides a gap shut",
+        heap: Heap::Three,
+        rows: &[
+            Row::Counts(4, 1),
+            Row::Forward(LAST, Some(8_589_934_594)),
+            Row::Forward(F, Some(T)),
+            Row::Forward(0, Some(0)),
+            Row::Forward(F + 1, None),
+            Row::Forward(F + 2, None),
+            Row::Forward(F + 6, None),
+            Row::Forward(F + 7, None),
+            Row::Forward(1, None),
+            Row::Forward(T, None),
+            Row::Forward(u64::MAX, None),
+            Row::Roots(&[8_589_934_594]),
+            Row::Page(0, &SLID_THREE),
+        ],
+    },
     Case {
         name: "the smallest heap",
         heap: Heap::Smallest,
@@ -75,12 +73,7 @@ const PAGES: [Case; 6] = [
 ];
 
 #[test]
-fn slides_a_gap_shut(rt: HostRuntime) -> Result<(), Fail> {
-    expect_cases(&rt, &GAP)
-}
-
-#[test]
-fn builds_pages(rt: HostRuntime) -> Result<(), Fail> {
+fn slides_and_builds_pages(rt: HostRuntime) -> Result<(), Fail> {
     expect_cases(&rt, &PAGES)
 }
 
