@@ -1,12 +1,10 @@
-//! Flipped heaps, the calls of their mutators, and their finish. Of a call a test's proof knows only that the mutator stays the space's.
-ghost use Rattle.std.specs.Prelude.{◌≡◌, IfOk};
+//! Heaps that are flipped with one, two or three mutators, and finished.
+ghost use Rattle.std.specs.Prelude.{◌≡◌};
 ghost use Rattle.comp_mutator.specs.Mutators.{setup_of, AreMutatorsOf, IsMutatorOf};
 
 use comp_mutator::finishing::{FinishFault, Finished};
 use comp_mutator::flipping::flip;
 use comp_mutator::mutator::Mutator;
-use comp_mutator::pages::{PageCopy, Touched};
-use comp_mutator::refusal::Refusal;
 use comp_mutator::space::Space;
 use page_plan::builder::Builder;
 use page_plan::plan::Plan;
@@ -15,42 +13,109 @@ use std::process::Abort;
 use std::sync::Arc;
 use std::sync::ledger::{Blank, Ledger as Named};
 use std::test::Fail;
-use worked_heaps::heaps::{planned, three};
+use worked_heaps::heaps::{counting_heap, empty, planned, seventeen_pages, smallest, three};
+
+/// The heap of a case.
+#[derive(Clone, Copy)]
+pub enum Heap {
+    /// No object at all.
+    Empty,
+    /// One object of one word, which is a root.
+    Smallest,
+    /// Three objects, of which the first and the last are marked, with the last as root.
+    Three,
+    /// An object of one word and one of 1,024.
+    Seventeen,
+    /// An object without references and with as many data words, which count from 1.
+    Counting(u16),
+}
+
+/// The plan of this heap.
+pub fn plan_of(alloc: Global, heap: Heap) -> Result<Plan, Fail> {
+    let heap = match heap {
+        Heap::Empty => empty(alloc)?,
+        Heap::Smallest => smallest(alloc)?,
+        Heap::Three => three(alloc)?,
+        Heap::Seventeen => seventeen_pages(alloc)?,
+        Heap::Counting(data_words) => counting_heap(alloc, data_words)?,
+    };
+    planned(alloc, heap)
+}
+
+/// The builder, to be shared.
+pub fn shared<B: Builder>(rt: &impl Abort, alloc: Global, builder: B) -> Arc<B> {
+    let Ok(builder) = Arc::new(alloc, builder) else {
+        panic!(rt; "memory for the builder");
+    };
+    builder
+}
+
+// A flipped heap and its mutators.
+fn flipped<L: Named, B: Builder>(
+    rt: &impl Abort,
+    alloc: Global,
+    blank: Blank,
+    builder: Arc<B>,
+    mutators: u32,
+    fresh_pages: u32,
+) -> (Space<L, B>, Vec<Mutator<L>>)
+    requires name { blank.name ≡ L.name }
+    requires parts { blank.parts ≡ L.parts }
+    requires count { blank.parts ≡ mutators }
+    ensures of { AreMutatorsOf result.0 result.1.items }
+    ensures whole { (setup_of result.0).mutators ≡ L.parts }
+{
+    let Ok(flipped) = flip(alloc, blank, builder, mutators, fresh_pages) else {
+        panic!(rt; "a flipped heap");
+    };
+    flipped
+}
+
+// The last of these mutators, and the others.
+fn without_last<L: Named, B: Builder>(
+    rt: &impl Abort,
+    _space: &Space<L, B>,
+    mut mutators: Vec<Mutator<L>>,
+) -> (Vec<Mutator<L>>, Mutator<L>)
+    requires of { AreMutatorsOf _space.now mutators.items }
+    ensures others { AreMutatorsOf _space.now result.0.items }
+    ensures last { IsMutatorOf _space.now result.1 }
+{
+    let last = mutators.pop().expect(rt, "a mutator");
+    (mutators, last)
+}
+
+// The one mutator that is left.
+fn only<L: Named, B: Builder>(
+    rt: &impl Abort,
+    space: &Space<L, B>,
+    mutators: Vec<Mutator<L>>,
+) -> Mutator<L>
+    requires of { AreMutatorsOf space.now mutators.items }
+    ensures of { IsMutatorOf space.now result }
+{
+    let (none, m) = without_last(rt, space, mutators);
+    assert!(rt; none.is_empty());
+    m
+}
 
 /// A flipped heap with one mutator.
 pub fn one<L: Named, B: Builder>(
     rt: &impl Abort,
     alloc: Global,
     blank: Blank,
-    builder: B,
-    fresh_pages: u32,
-) -> Result<(Space<L, B>, Mutator<L>), Fail>
-    requires name { blank.name ≡ L.name }
-    requires parts { blank.parts ≡ L.parts }
-    requires count { blank.parts ≡ 1 }
-    ensures of { IfOk result (λ made. IsMutatorOf made.0 made.1) }
-    ensures whole { IfOk result (λ made. (setup_of made.0).mutators ≡ L.parts) }
-{
-    one_shared(rt, alloc, blank, Arc::new(alloc, builder)?, fresh_pages)
-}
-
-/// A flipped heap with one mutator, whose builder the test holds too.
-pub fn one_shared<L: Named, B: Builder>(
-    rt: &impl Abort,
-    alloc: Global,
-    blank: Blank,
     builder: Arc<B>,
     fresh_pages: u32,
-) -> Result<(Space<L, B>, Mutator<L>), Fail>
+) -> (Space<L, B>, Mutator<L>)
     requires name { blank.name ≡ L.name }
     requires parts { blank.parts ≡ L.parts }
     requires count { blank.parts ≡ 1 }
-    ensures of { IfOk result (λ made. IsMutatorOf made.0 made.1) }
-    ensures whole { IfOk result (λ made. (setup_of made.0).mutators ≡ L.parts) }
+    ensures of { IsMutatorOf result.0 result.1 }
+    ensures whole { (setup_of result.0).mutators ≡ L.parts }
 {
-    let (space, mut mutators) = flip(alloc, blank, builder, 1, fresh_pages)?;
-    let first = mutators.pop().expect(rt, "the mutator");
-    Ok((space, first))
+    let (space, mutators) = flipped(rt, alloc, blank, builder, 1, fresh_pages);
+    let m = only(rt, &space, mutators);
+    (space, m)
 }
 
 /// A flipped heap with two mutators.
@@ -58,21 +123,20 @@ pub fn two<L: Named, B: Builder>(
     rt: &impl Abort,
     alloc: Global,
     blank: Blank,
-    builder: B,
+    builder: Arc<B>,
     fresh_pages: u32,
-) -> Result<(Space<L, B>, Mutator<L>, Mutator<L>), Fail>
+) -> (Space<L, B>, Mutator<L>, Mutator<L>)
     requires name { blank.name ≡ L.name }
     requires parts { blank.parts ≡ L.parts }
     requires count { blank.parts ≡ 2 }
-    ensures first { IfOk result (λ made. IsMutatorOf made.0 made.1) }
-    ensures second { IfOk result (λ made. IsMutatorOf made.0 made.2) }
-    ensures whole { IfOk result (λ made. (setup_of made.0).mutators ≡ L.parts) }
+    ensures first { IsMutatorOf result.0 result.1 }
+    ensures second { IsMutatorOf result.0 result.2 }
+    ensures whole { (setup_of result.0).mutators ≡ L.parts }
 {
-    let builder = Arc::new(alloc, builder)?;
-    let (space, mut mutators) = flip(alloc, blank, builder, 2, fresh_pages)?;
-    let second = mutators.pop().expect(rt, "the second mutator");
-    let first = mutators.pop().expect(rt, "the first mutator");
-    Ok((space, first, second))
+    let (space, mutators) = flipped(rt, alloc, blank, builder, 2, fresh_pages);
+    let (mutators, second) = without_last(rt, &space, mutators);
+    let first = only(rt, &space, mutators);
+    (space, first, second)
 }
 
 /// A flipped heap with three mutators.
@@ -80,171 +144,22 @@ pub fn trio<L: Named, B: Builder>(
     rt: &impl Abort,
     alloc: Global,
     blank: Blank,
-    builder: B,
+    builder: Arc<B>,
     fresh_pages: u32,
-) -> Result<(Space<L, B>, Mutator<L>, Mutator<L>, Mutator<L>), Fail>
+) -> (Space<L, B>, Mutator<L>, Mutator<L>, Mutator<L>)
     requires name { blank.name ≡ L.name }
     requires parts { blank.parts ≡ L.parts }
     requires count { blank.parts ≡ 3 }
-    ensures first { IfOk result (λ made. IsMutatorOf made.0 made.1) }
-    ensures second { IfOk result (λ made. IsMutatorOf made.0 made.2) }
-    ensures third { IfOk result (λ made. IsMutatorOf made.0 made.3) }
-    ensures whole { IfOk result (λ made. (setup_of made.0).mutators ≡ L.parts) }
+    ensures first { IsMutatorOf result.0 result.1 }
+    ensures second { IsMutatorOf result.0 result.2 }
+    ensures third { IsMutatorOf result.0 result.3 }
+    ensures whole { (setup_of result.0).mutators ≡ L.parts }
 {
-    let builder = Arc::new(alloc, builder)?;
-    let (space, mut mutators) = flip(alloc, blank, builder, 3, fresh_pages)?;
-    let third = mutators.pop().expect(rt, "the third mutator");
-    let second = mutators.pop().expect(rt, "the second mutator");
-    let first = mutators.pop().expect(rt, "the first mutator");
-    Ok((space, first, second, third))
-}
-
-/// The three objects, flipped with one mutator.
-pub fn one_of_three<L: Named>(
-    rt: &impl Abort,
-    alloc: Global,
-    blank: Blank,
-    fresh_pages: u32,
-) -> Result<(Space<L, Plan>, Mutator<L>), Fail>
-    requires name { blank.name ≡ L.name }
-    requires parts { blank.parts ≡ L.parts }
-    requires count { blank.parts ≡ 1 }
-    ensures of { IfOk result (λ made. IsMutatorOf made.0 made.1) }
-    ensures whole { IfOk result (λ made. (setup_of made.0).mutators ≡ L.parts) }
-{
-    one(
-        rt,
-        alloc,
-        blank,
-        planned(alloc, three(alloc)?)?,
-        fresh_pages,
-    )
-}
-
-/// The three objects, flipped with two mutators.
-pub fn two_of_three<L: Named>(
-    rt: &impl Abort,
-    alloc: Global,
-    blank: Blank,
-    fresh_pages: u32,
-) -> Result<(Space<L, Plan>, Mutator<L>, Mutator<L>), Fail>
-    requires name { blank.name ≡ L.name }
-    requires parts { blank.parts ≡ L.parts }
-    requires count { blank.parts ≡ 2 }
-    ensures first { IfOk result (λ made. IsMutatorOf made.0 made.1) }
-    ensures second { IfOk result (λ made. IsMutatorOf made.0 made.2) }
-    ensures whole { IfOk result (λ made. (setup_of made.0).mutators ≡ L.parts) }
-{
-    two(
-        rt,
-        alloc,
-        blank,
-        planned(alloc, three(alloc)?)?,
-        fresh_pages,
-    )
-}
-
-/// Reads a reference field.
-pub fn read_ref<L: Named, B: Builder>(
-    alloc: Global,
-    space: &Space<L, B>,
-    m: &mut Mutator<L>,
-    object: u64,
-    field: u16,
-) -> Result<u64, Refusal>
-    requires of { IsMutatorOf space.now m.old }
-    ensures of { IsMutatorOf space.now m.new }
-{
-    space.try_read_ref(alloc, m, object, field)
-}
-
-/// Reads a data field.
-pub fn read_data<L: Named, B: Builder>(
-    alloc: Global,
-    space: &Space<L, B>,
-    m: &mut Mutator<L>,
-    object: u64,
-    field: u16,
-) -> Result<u64, Refusal>
-    requires of { IsMutatorOf space.now m.old }
-    ensures of { IsMutatorOf space.now m.new }
-{
-    space.try_read_data(alloc, m, object, field)
-}
-
-/// Writes a reference field, and answers the entry's stamp.
-pub fn write_ref<L: Named, B: Builder>(
-    alloc: Global,
-    space: &Space<L, B>,
-    m: &mut Mutator<L>,
-    object: u64,
-    field: u16,
-    value: u64,
-) -> Result<u64, Refusal>
-    requires of { IsMutatorOf space.now m.old }
-    ensures of { IsMutatorOf space.now m.new }
-{
-    space.try_write_ref(alloc, m, object, field, value)
-}
-
-/// Writes a data field, and answers the entry's stamp.
-pub fn write_data<L: Named, B: Builder>(
-    alloc: Global,
-    space: &Space<L, B>,
-    m: &mut Mutator<L>,
-    object: u64,
-    field: u16,
-    value: u64,
-) -> Result<u64, Refusal>
-    requires of { IsMutatorOf space.now m.old }
-    ensures of { IsMutatorOf space.now m.new }
-{
-    space.try_write_data(alloc, m, object, field, value)
-}
-
-/// Makes an object, and answers its address.
-pub fn allocate<L: Named, B: Builder>(
-    alloc: Global,
-    space: &Space<L, B>,
-    m: &mut Mutator<L>,
-    refs: u16,
-    data_words: u16,
-    tag: u32,
-) -> Result<u64, Refusal>
-    requires of { IsMutatorOf space.now m.old }
-    ensures of { IsMutatorOf space.now m.new }
-{
-    space.try_alloc(alloc, m, refs, data_words, tag)
-}
-
-/// Touches page `p`, which is there.
-pub fn touch<L: Named, B: Builder>(
-    rt: &impl Abort,
-    alloc: Global,
-    space: &Space<L, B>,
-    m: &mut Mutator<L>,
-    p: u64,
-) -> Result<Touched, Refusal>
-    requires of { IsMutatorOf space.now m.old }
-    ensures of { IsMutatorOf space.now m.new }
-{
-    assert!(rt; p < space.pages());
-    space.try_touch(alloc, m, p)
-}
-
-/// Copies page `p`, which is there.
-pub fn copy<L: Named, B: Builder>(
-    rt: &impl Abort,
-    alloc: Global,
-    space: &Space<L, B>,
-    m: &mut Mutator<L>,
-    p: u64,
-) -> Result<PageCopy, Refusal>
-    requires of { IsMutatorOf space.now m.old }
-    ensures of { IsMutatorOf space.now m.new }
-{
-    assert!(rt; p < space.pages());
-    space.page_copy(alloc, m, p)
+    let (space, mutators) = flipped(rt, alloc, blank, builder, 3, fresh_pages);
+    let (mutators, third) = without_last(rt, &space, mutators);
+    let (mutators, second) = without_last(rt, &space, mutators);
+    let first = only(rt, &space, mutators);
+    (space, first, second, third)
 }
 
 /// Finishes with these mutators, none of which is missing. Where memory is refused once, what was handed back is finished.
@@ -274,11 +189,14 @@ pub fn finish_one<L: Named, B: Builder>(
     alloc: Global,
     space: Space<L, B>,
     m: Mutator<L>,
-) -> Result<Finished, Fail>
+) -> Finished
     requires of { IsMutatorOf space m }
     requires whole { (setup_of space).mutators ≡ L.parts }
 {
-    Ok(finish(rt, alloc, space, vec![in alloc; m]?))
+    let Ok(all) = vec![in alloc; m] else {
+        panic!(rt; "memory for a list");
+    };
+    finish(rt, alloc, space, all)
 }
 
 /// Finishes with both mutators, the second handed in first.
@@ -288,10 +206,33 @@ pub fn finish_two<L: Named, B: Builder>(
     space: Space<L, B>,
     m0: Mutator<L>,
     m1: Mutator<L>,
-) -> Result<Finished, Fail>
+) -> Finished
     requires first { IsMutatorOf space m0 }
     requires second { IsMutatorOf space m1 }
     requires whole { (setup_of space).mutators ≡ L.parts }
 {
-    Ok(finish(rt, alloc, space, vec![in alloc; m1, m0]?))
+    let Ok(all) = vec![in alloc; m1, m0] else {
+        panic!(rt; "memory for a list");
+    };
+    finish(rt, alloc, space, all)
+}
+
+/// Finishes with all three mutators, the first handed in last.
+pub fn finish_three<L: Named, B: Builder>(
+    rt: &impl Abort,
+    alloc: Global,
+    space: Space<L, B>,
+    m0: Mutator<L>,
+    m1: Mutator<L>,
+    m2: Mutator<L>,
+) -> Finished
+    requires first { IsMutatorOf space m0 }
+    requires second { IsMutatorOf space m1 }
+    requires third { IsMutatorOf space m2 }
+    requires whole { (setup_of space).mutators ≡ L.parts }
+{
+    let Ok(all) = vec![in alloc; m1, m2, m0] else {
+        panic!(rt; "memory for a list");
+    };
+    finish(rt, alloc, space, all)
 }

@@ -1,6 +1,13 @@
 //! Mutators at work on worked heaps, alone, at random and in threads, to the end: what no contract says, with values from outside.
+//! Cases with one mutator (`Alone`) and with two (`Pair`) are tables; a failing row tells the name of its case.
 #![tactic(auto)]
 
+#[cfg(test)]
+mod alone;
+#[cfg(test)]
+mod calls;
+#[cfg(test)]
+mod endings;
 #[cfg(test)]
 mod expected;
 #[cfg(test)]
@@ -14,6 +21,8 @@ mod meetings;
 #[cfg(test)]
 mod objects;
 #[cfg(test)]
+mod pairs;
+#[cfg(test)]
 mod random_calls;
 #[cfg(test)]
 mod refusals;
@@ -23,5 +32,7 @@ mod rows;
 mod threads;
 #[cfg(test)]
 mod touches;
+#[cfg(test)]
+mod turns;
 #[cfg(test)]
 mod waiting;

@@ -1,18 +1,20 @@
 //! Mutators in threads of their own.
-ghost use Rattle.std.specs.Prelude.{◌≡◌, IfOk};
 ghost use Rattle.comp_mutator.specs.Mutators.{IsMutatorOf};
 
-use crate::expected::{expect_all_stamps, expect_built, expect_count, expect_touch};
-use crate::flipped::{copy, finish_two, touch, two, two_of_three, write_data};
-use crate::rows::{Row, expect_rows};
+use crate::calls::{answer, touch};
+use crate::endings::Ending;
+use crate::flipped::{Heap, plan_of};
+use crate::pairs::{Pair, Step, play_each_pair, play_pair};
+use crate::rows::{Row, expect_rows, settle};
+use crate::turns::ENTRIES;
 use comp_journal::entry::Entry;
-use comp_mutator::finishing::Finished;
 use comp_mutator::mutator::Mutator;
-use comp_mutator::pages::{PageCopy, Touched};
+use comp_mutator::pages::Touched;
 use comp_mutator::refusal::Refusal;
 use comp_mutator::space::Space;
 use heap_layout::kind::Kind;
 use page_plan::builder::Builder;
+use plain_objects::call::Call;
 use std::alloc::Global;
 use std::marker::Brand;
 use std::process::Abort;
@@ -21,46 +23,65 @@ use std::sync::ledger::{Blank, Ledger as Named};
 use std::test::Fail;
 use std::thread::{self, Threads};
 use worked_heaps::builders::Meeting;
-use worked_heaps::heaps::{T, counting_heap, planned};
+use worked_heaps::heaps::T;
 
-// What a thread does with its mutator.
+/// What a thread does with its mutator.
 #[derive(Clone, Copy)]
-enum Work {
-    // Its rows.
+pub enum Work {
+    /// Its rows.
     Rows(&'static [Row]),
-    // A write of this value into this data word of the first object.
+    /// A write of this value into this data word of the first object.
     Word(u16, u64),
-    // Writes of this value and the ones behind it.
+    /// Writes of this value and the ones behind it.
     Rising(u64),
-    // New objects, writes and settlements, by turns.
+    /// New objects, writes and settlements, by turns.
     Objects,
+    /// A touch of page 0, at the same time as the other thread's.
+    Race,
 }
 
-// Does a thread's work, and gives the mutator back: true where no call was refused.
+// Does a thread's work. Of a race it tells what the touch did.
 fn do_work<L: Named, B: Builder, R: Abort + Wait>(
+    rt: &R,
+    alloc: Global,
+    space: &Space<L, B>,
+    m: &mut Mutator<L>,
+    task: Work,
+    case: &'static str,
+) -> Result<Option<Touched>, Refusal>
+    requires of { IsMutatorOf space.now m.old }
+    ensures of { IsMutatorOf space.now m.new }
+{
+    match task {
+        Work::Rows(rows) => {
+            expect_rows(rt, alloc, space, m, case, rows);
+            Ok(None)
+        }
+        Work::Word(field, value) => write_word(alloc, space, m, field, value),
+        Work::Rising(first) => write_rising(rt, alloc, space, m, first),
+        Work::Objects => make_and_settle(rt, alloc, space, m),
+        Work::Race => Ok(Some(touch(rt, alloc, space, m, 0)?)),
+    }
+}
+
+// Does a thread's work, and gives the mutator back.
+fn work_and_return<L: Named, B: Builder, R: Abort + Wait>(
     rt: &R,
     alloc: Global,
     space: &Space<L, B>,
     mut m: Mutator<L>,
     task: Work,
-) -> (bool, Mutator<L>)
+    case: &'static str,
+) -> (Result<Option<Touched>, Refusal>, Mutator<L>)
     requires of { IsMutatorOf space.now m }
     ensures of { IsMutatorOf space.now result.1 }
 {
-    let well = match task {
-        Work::Rows(rows) => {
-            expect_rows(rt, alloc, space, &mut m, rows);
-            true
-        }
-        Work::Word(field, value) => write_data(alloc, space, &mut m, T, field, value).is_ok(),
-        Work::Rising(first) => write_rising(rt, alloc, space, &mut m, first).is_ok(),
-        Work::Objects => make_and_settle(rt, alloc, space, &mut m),
-    };
-    (well, m)
+    let done = do_work(rt, alloc, space, &mut m, task, case);
+    (done, m)
 }
 
-// Two threads at once, each at its work with its mutator: no call is refused.
-fn both_at_once<L: Named + Send + Sync, B: Builder, R: Abort + Threads + Wait + Sync>(
+/// Two threads at once, each at its work with its mutator. No call is refused, but for one of two that race.
+pub fn both_at_once<L: Named + Send + Sync, B: Builder, R: Abort + Threads + Wait + Sync>(
     rt: &R,
     alloc: Global,
     space: &Space<L, B>,
@@ -68,6 +89,7 @@ fn both_at_once<L: Named + Send + Sync, B: Builder, R: Abort + Threads + Wait + 
     first: Work,
     m1: Mutator<L>,
     second: Work,
+    case: &'static str,
 ) -> (Mutator<L>, Mutator<L>)
     requires first { IsMutatorOf space.now m0 }
     requires second { IsMutatorOf space.now m1 }
@@ -78,160 +100,53 @@ fn both_at_once<L: Named + Send + Sync, B: Builder, R: Abort + Threads + Wait + 
         rt,
         ||
             requires { IsMutatorOf space.now m0 }
-        { do_work(rt, alloc, space, m0, first) },
+        { work_and_return(rt, alloc, space, m0, first, case) },
         ||
             requires { IsMutatorOf space.now m1 }
-        { do_work(rt, alloc, space, m1, second) },
+        { work_and_return(rt, alloc, space, m1, second, case) },
     );
-    assert!(rt; one && other);
+    expect_done(rt, one, other, case);
     (m0, m1)
 }
 
-// A thread writes 7 into the first data word of the first object, and reads it.
-const SEVEN: [Row; 2] = [Row::WriteData(T, 0, 7, Ok(0)), Row::ReadData(T, 0, Ok(7))];
-
-const READ_SEVEN: [Row; 1] = [Row::ReadData(T, 0, Ok(7))];
-
-// One thread writes; then the other mutator reads.
-fn read_across_threads<L: Named + Send + Sync, R: Abort + Threads + Wait + Sync>(
-    rt: &R,
-    alloc: Global,
-    blank: Blank,
-) -> Result<(), Fail>
-    requires name { blank.name ≡ L.name }
-    requires parts { blank.parts ≡ L.parts }
-    requires count { blank.parts ≡ 2 }
-{
-    let (space, m0, m1) = two_of_three::<L>(rt, alloc, blank, 2)?;
-    let (_m0, mut m1) = both_at_once(
-        rt,
-        alloc,
-        &space,
-        m0,
-        Work::Rows(&SEVEN),
-        m1,
-        Work::Rows(&[]),
-    );
-    expect_rows(rt, alloc, &space, &mut m1, &READ_SEVEN);
-    expect_seven(rt, &copy(rt, alloc, &space, &mut m1, 0)?);
-    Ok(())
+// The touch came after the other one, or while the page was busy.
+fn is_lost(touched: Result<Option<Touched>, Refusal>) -> bool {
+    touched == Ok(Some(Touched::AlreadyBuilt)) || touched == Err(Refusal::Busy(0))
 }
 
-#[test]
-fn reads_what_another_thread_wrote(rt: HostRuntime) -> Result<(), Fail> {
-    read_across_threads::<Brand, HostRuntime>(&rt, rt.alloc(), Blank::new(2))
-}
-
-// The page has one entry: 7 in the first data word of the first object.
-fn expect_seven(rt: &impl Abort, page: &PageCopy) {
-    let wanted = Entry {
-        stamp: 0,
-        writer: 0,
-        kind: Kind::Data,
-        offset: 1,
-        value: 7,
-    };
-    assert_eq!(rt; page.journal.as_slice(), [wanted].as_slice());
-}
-
-// Two threads that touch one page at once.
-fn race_to_build<L: Named + Send + Sync, R: Abort + Threads + Sync>(
-    rt: &R,
-    alloc: Global,
-    blank: Blank,
-) -> Result<(), Fail>
-    requires name { blank.name ≡ L.name }
-    requires parts { blank.parts ≡ L.parts }
-    requires count { blank.parts ≡ 2 }
-{
-    let (space, mut m0, mut m1) = two_of_three::<L>(rt, alloc, blank, 0)?;
-    let (one, other) = thread::join(
-        rt,
-        ||
-            requires { IsMutatorOf space m0 }
-        { touch(rt, alloc, &space, &mut m0, 0) },
-        ||
-            requires { IsMutatorOf space m1 }
-        { touch(rt, alloc, &space, &mut m1, 0) },
-    );
-    expect_one_built(rt, one, other);
-    expect_one_list(rt, alloc, m0.builds(), m1.builds())
-}
-
-// One touch built the page; the other one came later, or while it was busy.
-fn expect_one_built(
+// Both did their work, or one touch built the page and the other one was lost.
+fn expect_done(
     rt: &impl Abort,
-    one: Result<Touched, Refusal>,
-    other: Result<Touched, Refusal>,
+    one: Result<Option<Touched>, Refusal>,
+    other: Result<Option<Touched>, Refusal>,
+    case: &'static str,
 ) {
-    let lost = if one == Ok(Touched::Built) {
-        other
-    } else {
-        expect_built_page(rt, other);
-        one
-    };
-    assert!(rt;
-        lost == Ok(Touched::AlreadyBuilt) || lost == Err(Refusal::Busy(0)),
-        "{lost:?}"
-    );
+    let won = Ok(Some(Touched::Built));
+    let well = one == Ok(None) && other == Ok(None)
+        || one == won && is_lost(other)
+        || is_lost(one) && other == won;
+    assert!(rt; well, "{case}: {one:?}, {other:?}");
 }
 
-// The touch built the page.
-fn expect_built_page(rt: &impl Abort, touched: Result<Touched, Refusal>) {
-    assert_eq!(rt; touched, Ok(Touched::Built));
-}
-
-// The two lists together have page 0 once, and no other.
-fn expect_one_list(rt: &impl Abort, alloc: Global, one: &[u64], other: &[u64]) -> Result<(), Fail> {
-    let mut builds = one.to_vec(alloc)?;
-    builds.extend_from_slice(other)?;
-    assert_eq!(rt; builds.as_slice(), [0].as_slice());
-    Ok(())
-}
-
-#[test]
-fn builds_once_in_a_race(rt: HostRuntime) -> Result<(), Fail> {
-    race_to_build::<Brand, HostRuntime>(&rt, rt.alloc(), Blank::new(2))
-}
-
-// What the other thread has written.
-const FIVE: [Row; 1] = [Row::ReadData(T, 0, Ok(5))];
-
-const SIX: [Row; 1] = [Row::ReadData(T, 100, Ok(6))];
-
-// Two threads that write to different pages, whose builds wait for one another.
-fn write_two_pages<L: Named + Send + Sync, R: Abort + Threads + Wait + Sync>(
-    rt: &R,
+// Writes a data word of the first object.
+fn write_word<L: Named, B: Builder>(
     alloc: Global,
-    blank: Blank,
-) -> Result<(), Fail>
-    requires name { blank.name ≡ L.name }
-    requires parts { blank.parts ≡ L.parts }
-    requires count { blank.parts ≡ 2 }
+    space: &Space<L, B>,
+    m: &mut Mutator<L>,
+    field: u16,
+    value: u64,
+) -> Result<Option<Touched>, Refusal>
+    requires of { IsMutatorOf space.now m.old }
+    ensures of { IsMutatorOf space.now m.new }
 {
-    let builder = Meeting::new(planned(alloc, counting_heap(alloc, 255)?)?);
-    let (space, m0, m1) = two::<L, _>(rt, alloc, blank, builder, 0)?;
-    let (mut m0, mut m1) = both_at_once(
-        rt,
-        alloc,
-        &space,
-        m0,
-        Work::Word(0, 5),
-        m1,
-        Work::Word(100, 6),
-    );
-    expect_rows(rt, alloc, &space, &mut m1, &FIVE);
-    expect_rows(rt, alloc, &space, &mut m0, &SIX);
-    Ok(())
+    let call = Call::WriteData {
+        object: T,
+        field,
+        value,
+    };
+    answer(alloc, space, m, call)?;
+    Ok(None)
 }
-
-#[test]
-fn writes_two_pages_at_once(rt: HostRuntime) -> Result<(), Fail> {
-    write_two_pages::<Brand, HostRuntime>(&rt, rt.alloc(), Blank::new(2))
-}
-
-// How many entries each thread writes into one page.
-const ENTRIES: u64 = 100;
 
 // Writes `first`, `first + 1`, .. into the first data word of the first object.
 fn write_rising<L: Named, B: Builder, R: Wait>(
@@ -240,126 +155,174 @@ fn write_rising<L: Named, B: Builder, R: Wait>(
     space: &Space<L, B>,
     m: &mut Mutator<L>,
     first: u64,
-) -> Result<(), Refusal>
+) -> Result<Option<Touched>, Refusal>
     requires of { IsMutatorOf space.now m.old }
     ensures of { IsMutatorOf space.now m.new }
 {
     for step in 0..ENTRIES {
         space.write_data(alloc, rt, m, T, 0, first.wrapping_add(step))?;
     }
-    Ok(())
-}
-
-// The stamps count from 0.
-fn expect_stamps(rt: &impl Abort, journal: &[Entry]) {
-    for (stamp, entry) in journal.iter().enumerate() {
-        expect_count(rt, entry.stamp, stamp as u64);
-    }
-}
-
-// The writer's values count from `first`, and are as many as it wrote.
-fn expect_rising(rt: &impl Abort, journal: &[Entry], writer: u8, first: u64) {
-    let mut count = 0u64;
-    for entry in journal {
-        if entry.writer == writer {
-            expect_count(rt, entry.value, first.wrapping_add(count));
-            count = count.wrapping_add(1);
-        }
-    }
-    expect_count(rt, count, ENTRIES);
-}
-
-// Two threads that write to one page, each waiting while the other holds it.
-fn write_by_turns<L: Named + Send + Sync, R: Abort + Threads + Wait + Sync>(
-    rt: &R,
-    alloc: Global,
-    blank: Blank,
-) -> Result<(), Fail>
-    requires name { blank.name ≡ L.name }
-    requires parts { blank.parts ≡ L.parts }
-    requires count { blank.parts ≡ 2 }
-{
-    let (space, m0, m1) = two_of_three::<L>(rt, alloc, blank, 0)?;
-    let (mut m0, _m1) = both_at_once(
-        rt,
-        alloc,
-        &space,
-        m0,
-        Work::Rising(0),
-        m1,
-        Work::Rising(1000),
-    );
-    let page = copy(rt, alloc, &space, &mut m0, 0)?;
-    expect_turns(rt, &page);
-    Ok(())
-}
-
-#[test]
-fn writes_one_page_by_turns(rt: HostRuntime) -> Result<(), Fail> {
-    write_by_turns::<Brand, HostRuntime>(&rt, rt.alloc(), Blank::new(2))
-}
-
-// What the two threads have written: 200 entries, the last of which gives the word.
-fn expect_turns(rt: &impl Abort, page: &PageCopy) {
-    expect_count(rt, page.journal.len() as u64, 200);
-    expect_stamps(rt, &page.journal);
-    expect_rising(rt, &page.journal, 0, 0);
-    expect_rising(rt, &page.journal, 1, 1000);
-    let last = page.journal.last().map(|entry| entry.value);
-    assert_eq!(rt; last, Some(page.words.get(1)));
+    Ok(None)
 }
 
 // How many objects each thread makes.
 const OBJECTS: u64 = 16;
 
-// Makes objects of 4 words, writes into the slid page and settles, by turns: true where nothing was refused.
-fn make_and_settle<L: Named, B: Builder, R: Wait>(
+// Makes objects of 4 words, writes into the slid page and settles, by turns.
+fn make_and_settle<L: Named, B: Builder, R: Abort + Wait>(
     rt: &R,
     alloc: Global,
     space: &Space<L, B>,
     m: &mut Mutator<L>,
-) -> bool
+) -> Result<Option<Touched>, Refusal>
     requires of { IsMutatorOf space.now m.old }
     ensures of { IsMutatorOf space.now m.new }
 {
-    let mut all = true;
     for value in 0..OBJECTS {
-        all &= space.alloc(alloc, rt, m, 1, 2, 0).is_ok();
-        all &= space.write_data(alloc, rt, m, T, 0, value).is_ok();
-        all &= space.settle(rt, m).is_ok();
+        space.alloc(alloc, rt, m, 1, 2, 0)?;
+        space.write_data(alloc, rt, m, T, 0, value)?;
+        settle(rt, space, m);
     }
-    all
+    Ok(None)
 }
 
-// 4 words slid, and two threads made 16 objects of 4 words each. Each entry, of a header or of a word, has its stamp.
-fn expect_objects(rt: &impl Abort, alloc: Global, finished: &Finished) -> Result<(), Fail> {
-    expect_count(rt, finished.live_words(), 4 + 2 * 16 * 4);
-    expect_all_stamps(rt, alloc, finished, 4 * OBJECTS)?;
-    expect_built(rt, finished, 0, &[0, 1]);
-    expect_built(rt, finished, 1, &[2]);
-    Ok(())
-}
+// The heap of the three objects has a root, which leads there.
+const ROOTS: &[u64] = &[8_589_934_594];
 
-// Two threads that make objects, write one page and settle; then the finished heap. The slid page is built before them.
-fn finish_two_threads<L: Named + Send + Sync, R: Abort + Threads + Wait + Sync>(
-    rt: &R,
-    alloc: Global,
-    blank: Blank,
-) -> Result<(), Fail>
-    requires name { blank.name ≡ L.name }
-    requires parts { blank.parts ≡ L.parts }
-    requires count { blank.parts ≡ 2 }
-{
-    let (space, mut m0, m1) = two_of_three::<L>(rt, alloc, blank, 4)?;
-    expect_touch(rt, alloc, &space, &mut m0, 0, Ok(Touched::Built));
-    let (m0, m1) = both_at_once(rt, alloc, &space, m0, Work::Objects, m1, Work::Objects);
-    expect_count(rt, m0.unposted(), 0);
-    expect_count(rt, m1.unposted(), 0);
-    let finished = finish_two(rt, alloc, space, m0, m1)?;
-    expect_objects(rt, alloc, &finished)
-}
+// A thread writes 7 into the first data word of the first object, and reads it.
+const SEVEN: [Row; 2] = [Row::WriteData(T, 0, 7, Ok(0)), Row::ReadData(T, 0, Ok(7))];
+
+// The page of the three objects with that word, and its one entry.
+const SEVEN_READ: [Row; 2] = [
+    Row::ReadData(T, 0, Ok(7)),
+    Row::Page(
+        0,
+        &[4_295_032_832, 7, 12_884_901_889, 8_589_934_592],
+        &[Entry {
+            stamp: 0,
+            writer: 0,
+            kind: Kind::Data,
+            offset: 1,
+            value: 7,
+        }],
+    ),
+];
+
+// One thread writes; then the other mutator reads.
+const ONE_THEN_OTHER: Pair = Pair {
+    name: "reads what another thread wrote",
+    heap: Heap::Three,
+    fresh_pages: 2,
+    steps: &[],
+    at_once: Some((
+        Work::Rows(&SEVEN),
+        Work::Rows(&[]),
+        &[Step::Second(&SEVEN_READ)],
+    )),
+    ending: Ending {
+        live_words: 4,
+        roots: ROOTS,
+        pages: &[true, false, false],
+        entries: 1,
+        builds: &[&[0], &[]],
+    },
+};
+
+// Two threads that touch one page at once.
+const RACE: Pair = Pair {
+    name: "builds once in a race",
+    heap: Heap::Three,
+    fresh_pages: 0,
+    steps: &[],
+    at_once: Some((Work::Race, Work::Race, &[])),
+    ending: Ending {
+        live_words: 4,
+        roots: ROOTS,
+        pages: &[true],
+        entries: 0,
+        builds: &[],
+    },
+};
+
+// Two threads that write to one page, each waiting while the other holds it.
+const TURNS: Pair = Pair {
+    name: "writes one page by turns",
+    heap: Heap::Three,
+    fresh_pages: 0,
+    steps: &[],
+    at_once: Some((
+        Work::Rising(0),
+        Work::Rising(1000),
+        &[Step::First(&[Row::Turns(0)])],
+    )),
+    ending: Ending {
+        live_words: 4,
+        roots: ROOTS,
+        pages: &[true],
+        entries: 200,
+        builds: &[],
+    },
+};
+
+// Two threads that make 16 objects of 4 words each, write one page and settle; then the finished heap. The slid page is built before them.
+const OBJECTS_AT_ONCE: Pair = Pair {
+    name: "finishes after two threads",
+    heap: Heap::Three,
+    fresh_pages: 4,
+    steps: &[Step::First(&[Row::Touch(0, Ok(Touched::Built))])],
+    at_once: Some((
+        Work::Objects,
+        Work::Objects,
+        &[
+            Step::First(&[Row::Unposted(0)]),
+            Step::Second(&[Row::Unposted(0)]),
+        ],
+    )),
+    ending: Ending {
+        live_words: 4 + 2 * 16 * 4,
+        roots: ROOTS,
+        pages: &[true, true, true, false, false],
+        entries: 64,
+        builds: &[&[0, 1], &[2]],
+    },
+};
+
+// Those cases.
+const CASES: [Pair; 4] = [ONE_THEN_OTHER, RACE, TURNS, OBJECTS_AT_ONCE];
 
 #[test]
-fn finishes_after_two_threads(rt: HostRuntime) -> Result<(), Fail> {
-    finish_two_threads::<Brand, HostRuntime>(&rt, rt.alloc(), Blank::new(2))
+fn works_in_threads(rt: HostRuntime) -> Result<(), Fail> {
+    play_each_pair(&rt, rt.alloc(), &CASES)
+}
+
+// What the other thread has written.
+const FIVE: [Row; 1] = [Row::ReadData(T, 0, Ok(5))];
+
+const SIX: [Row; 1] = [Row::ReadData(T, 100, Ok(6))];
+
+// Two threads that write to different pages, whose builds wait for one another.
+const TWO_PAGES: Pair = Pair {
+    name: "writes two pages at once",
+    heap: Heap::Counting(255),
+    fresh_pages: 0,
+    steps: &[],
+    at_once: Some((
+        Work::Word(0, 5),
+        Work::Word(100, 6),
+        &[Step::Second(&FIVE), Step::First(&SIX)],
+    )),
+    ending: Ending {
+        live_words: 256,
+        roots: &[],
+        pages: &[true, true, false, false],
+        entries: 2,
+        builds: &[&[0], &[1]],
+    },
+};
+
+#[test]
+fn writes_two_pages_at_once(rt: HostRuntime) -> Result<(), Fail> {
+    let builder = Meeting::new(plan_of(rt.alloc(), Heap::Counting(255))?);
+    play_pair::<Brand, _, HostRuntime>(&rt, rt.alloc(), Blank::new(2), builder, &TWO_PAGES);
+    Ok(())
 }

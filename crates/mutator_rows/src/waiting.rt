@@ -1,94 +1,34 @@
 //! The calls that wait, of a mutator that is alone: each answers at once.
-ghost use Rattle.std.specs.Prelude.{◌≡◌};
-ghost use Rattle.comp_mutator.specs.Mutators.{IsMutatorOf};
-
-use crate::expected::expect_answer;
-use crate::flipped::one_of_three;
-use comp_mutator::mutator::Mutator;
+use crate::alone::{Alone, play_each_alone};
+use crate::flipped::Heap;
+use crate::rows::Row;
 use comp_mutator::pages::Touched;
 use comp_mutator::refusal::Refusal;
-use comp_mutator::space::Space;
-use page_plan::builder::Builder;
-use std::alloc::Global;
-use std::marker::Brand;
-use std::process::Abort;
-use std::sync::Wait;
-use std::sync::ledger::{Blank, Ledger as Named};
 use std::test::Fail;
 use worked_heaps::heaps::T;
 
-// A touch of page `p`, which is there, waits while it is busy, and is answered so.
-fn touch_at_last<L: Named, B: Builder, R: Abort + Wait>(
-    rt: &R,
-    alloc: Global,
-    space: &Space<L, B>,
-    m: &mut Mutator<L>,
-    p: u64,
-    wanted: Touched,
-)
-    requires of { IsMutatorOf space.now m.old }
-    ensures of { IsMutatorOf space.now m.new }
-{
-    assert!(rt; p < space.pages());
-    let touched = space.touch(alloc, rt, m, p);
-    assert_eq!(rt; touched, Ok(wanted));
-}
+// Each call, with an object that is made on a fresh page.
+const AT_ONCE: Alone = Alone {
+    name: "answers at once when no page is busy",
+    heap: Heap::Three,
+    fresh_pages: 1,
+    rows: &[
+        Row::AtLast(&Row::Touch(0, Ok(Touched::Built))),
+        Row::AtLast(&Row::Touch(0, Ok(Touched::AlreadyBuilt))),
+        Row::AtLast(&Row::Alloc(1, 0, 4, Ok(T + 64))),
+        Row::AtLast(&Row::WriteRef(T + 64, 0, T + 2, Ok(1))),
+        Row::AtLast(&Row::ReadRef(T + 64, 0, Ok(T + 2))),
+        Row::AtLast(&Row::WriteData(T, 0, 9, Ok(2))),
+        Row::AtLast(&Row::ReadData(T, 0, Ok(9))),
+        Row::AtLast(&Row::ReadData(0, 0, Err(Refusal::Null))),
+    ],
+    ending: None,
+};
 
-// An object is made, and its reference written and read, each at once.
-fn link_at_last<L: Named, B: Builder, R: Abort + Wait>(
-    rt: &R,
-    alloc: Global,
-    space: &Space<L, B>,
-    m: &mut Mutator<L>,
-)
-    requires of { IsMutatorOf space.now m.old }
-    ensures of { IsMutatorOf space.now m.new }
-{
-    let made = space.alloc(alloc, rt, m, 1, 0, 4);
-    expect_answer(rt, 0, made, Ok(T + 64));
-    let stamp = space.write_ref(alloc, rt, m, T + 64, 0, T + 2);
-    expect_answer(rt, 1, stamp, Ok(1));
-    let reference = space.read_ref(alloc, rt, m, T + 64, 0);
-    expect_answer(rt, 2, reference, Ok(T + 2));
-}
-
-// A data word is written and read, and none of null, each at once.
-fn fill_at_last<L: Named, B: Builder, R: Abort + Wait>(
-    rt: &R,
-    alloc: Global,
-    space: &Space<L, B>,
-    m: &mut Mutator<L>,
-)
-    requires of { IsMutatorOf space.now m.old }
-    ensures of { IsMutatorOf space.now m.new }
-{
-    let stamp = space.write_data(alloc, rt, m, T, 0, 9);
-    expect_answer(rt, 0, stamp, Ok(2));
-    let word = space.read_data(alloc, rt, m, T, 0);
-    expect_answer(rt, 1, word, Ok(9));
-    let refused = space.read_data(alloc, rt, m, 0, 0);
-    expect_answer(rt, 2, refused, Err(Refusal::Null));
-}
-
-// The waiting calls of a mutator that is alone.
-fn answer_at_once<L: Named, R: Abort + Wait>(
-    rt: &R,
-    alloc: Global,
-    blank: Blank,
-) -> Result<(), Fail>
-    requires name { blank.name ≡ L.name }
-    requires parts { blank.parts ≡ L.parts }
-    requires count { blank.parts ≡ 1 }
-{
-    let (space, mut m) = one_of_three::<L>(rt, alloc, blank, 1)?;
-    touch_at_last(rt, alloc, &space, &mut m, 0, Touched::Built);
-    touch_at_last(rt, alloc, &space, &mut m, 0, Touched::AlreadyBuilt);
-    link_at_last(rt, alloc, &space, &mut m);
-    fill_at_last(rt, alloc, &space, &mut m);
-    Ok(())
-}
+// Those cases.
+const CASES: [Alone; 1] = [AT_ONCE];
 
 #[test]
 fn answers_at_once_when_no_page_is_busy(rt: HostRuntime) -> Result<(), Fail> {
-    answer_at_once::<Brand, HostRuntime>(&rt, rt.alloc(), Blank::new(1))
+    play_each_alone(&rt, rt.alloc(), &CASES)
 }

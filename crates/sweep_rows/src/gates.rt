@@ -1,19 +1,11 @@
 //! What a gate is told, and two workers at work at once.
-ghost use Rattle.std.specs.Prelude.{◌≡◌};
-
-use crate::expected::{all_builds, expect_counting};
-use crate::flipped::{flipped, twenty_pages};
+use crate::cases::{Case, play_case};
+use crate::expected::expect_count;
+use crate::flipped::Heap;
 use comp_sweep::gate::Gate;
-use comp_sweep::sweeping::sweep;
-use std::alloc::Global;
-use std::marker::Brand;
 use std::process::Abort;
-use std::sync::Wait;
 use std::sync::atomic::{AtomicU64, Ordering};
-use std::sync::ledger::{Blank, Ledger as Named};
 use std::test::Fail;
-use std::thread::Threads;
-use worked_heaps::heaps::{counting_heap, planned};
 
 // How often a region waits at most for the other one.
 const TURNS: u64 = 10_000_000;
@@ -62,37 +54,26 @@ impl Gate for Meeting {
 }
 
 // Sixteen pages, two regions: each of the two workers has one.
-fn sweep_two_at_once<L: Named + Send + Sync, R: Abort + Threads + Wait + Sync>(
-    rt: &R,
-    alloc: Global,
-    blank: Blank,
-) -> Result<(), Fail>
-    requires name { blank.name ≡ L.name }
-    requires parts { blank.parts ≡ L.parts }
-    requires count { blank.parts ≡ 2 }
-{
-    let builder = planned(alloc, counting_heap(alloc, 1_023)?)?;
-    let (space, mutators) = flipped::<L, _>(alloc, blank, builder, 2)?;
-    let gate = Meeting::new();
-    let Ok(report) = sweep(alloc, rt, &space, mutators, &gate) else {
-        panic!(rt; "there is memory");
-    };
-    assert_eq!(rt; gate.missed.load(Ordering::SeqCst), 0);
-    assert_eq!(rt; report.regions.len(), 2);
-    let mut regions = Vec::new(alloc);
-    for list in &report.regions {
-        assert_eq!(rt; list.len(), 1);
-        regions.extend_from_slice(list)?;
-    }
-    regions.sort()?;
-    expect_counting(rt, &regions, 2);
-    expect_counting(rt, &all_builds(alloc, &report.mutators)?, 16);
-    Ok(())
-}
+const AT_ONCE: Case = Case {
+    name: "two regions at once",
+    heap: Heap::Counting(1_023),
+    workers: 2,
+    regions: &[&[0], &[1]],
+    pages: 16,
+    live_words: 1_024,
+};
 
 #[test]
 fn sweeps_two_regions_at_once(rt: HostRuntime) -> Result<(), Fail> {
-    sweep_two_at_once::<Brand, HostRuntime>(&rt, rt.alloc(), Blank::new(2))
+    let gate = Meeting::new();
+    play_case(&rt, rt.alloc(), &gate, &AT_ONCE)?;
+    expect_count(
+        &rt,
+        "regions that missed one another",
+        gate.missed.load(Ordering::SeqCst),
+        0,
+    );
+    Ok(())
 }
 
 // A gate that counts how often each of three regions was begun and ended.
@@ -137,27 +118,20 @@ fn expect_once(rt: &impl Abort, calls: &[AtomicU64]) {
 }
 
 // Three regions, swept by two workers.
-fn sweep_told<L: Named + Send + Sync, R: Abort + Threads + Wait + Sync>(
-    rt: &R,
-    alloc: Global,
-    blank: Blank,
-) -> Result<(), Fail>
-    requires name { blank.name ≡ L.name }
-    requires parts { blank.parts ≡ L.parts }
-    requires count { blank.parts ≡ 2 }
-{
-    let builder = planned(alloc, twenty_pages(alloc)?)?;
-    let (space, mutators) = flipped::<L, _>(alloc, blank, builder, 2)?;
-    let gate = Counting::new();
-    if sweep(alloc, rt, &space, mutators, &gate).is_err() {
-        panic!(rt; "there is memory");
-    }
-    expect_once(rt, &gate.begun);
-    expect_once(rt, &gate.ended);
-    Ok(())
-}
+const TOLD: Case = Case {
+    name: "a gate that counts",
+    heap: Heap::TwentyPages,
+    workers: 2,
+    regions: &[&[0, 2], &[1]],
+    pages: 20,
+    live_words: 1_280,
+};
 
 #[test]
 fn tells_the_gate_of_each_region(rt: HostRuntime) -> Result<(), Fail> {
-    sweep_told::<Brand, HostRuntime>(&rt, rt.alloc(), Blank::new(2))
+    let gate = Counting::new();
+    play_case(&rt, rt.alloc(), &gate, &TOLD)?;
+    expect_once(&rt, &gate.begun);
+    expect_once(&rt, &gate.ended);
+    Ok(())
 }

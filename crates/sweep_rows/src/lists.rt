@@ -1,87 +1,40 @@
 //! Which worker sweeps which region.
-ghost use Rattle.std.specs.Prelude.{◌≡◌};
-
-use crate::expected::{all_builds, expect_counting, expect_regions};
-use crate::flipped::{flipped, twenty_pages};
+use crate::cases::{Case, play_case};
+use crate::flipped::Heap;
 use comp_sweep::gate::Open;
-use comp_sweep::refusal::SweepFault;
-use comp_sweep::sweeping::sweep;
-use std::alloc::Global;
-use std::marker::Brand;
-use std::process::Abort;
-use std::sync::Wait;
-use std::sync::ledger::{Blank, Ledger as Named};
 use std::test::Fail;
-use std::thread::Threads;
-use worked_heaps::heaps::{empty, planned};
 
-// Twenty pages, swept by so many workers: the regions of each.
-fn lists_of<L: Named + Send + Sync, R: Abort + Threads + Wait + Sync>(
-    rt: &R,
-    alloc: Global,
-    blank: Blank,
-    workers: u32,
-) -> Result<Vec<Vec<u64>>, Fail>
-    requires name { blank.name ≡ L.name }
-    requires parts { blank.parts ≡ L.parts }
-    requires count { blank.parts ≡ workers }
-{
-    let builder = planned(alloc, twenty_pages(alloc)?)?;
-    let (space, mutators) = flipped::<L, _>(alloc, blank, builder, workers)?;
-    let Ok(report) = sweep(alloc, rt, &space, mutators, &Open) else {
-        panic!(rt; "there is memory");
-    };
-    expect_counting(rt, &all_builds(alloc, &report.mutators)?, 20);
-    Ok(report.regions)
-}
-
-#[test]
-fn deals_three_regions_to_two_workers(rt: HostRuntime) -> Result<(), Fail> {
-    let lists = lists_of::<Brand, HostRuntime>(&rt, rt.alloc(), Blank::new(2), 2)?;
-    assert_eq!(rt; lists.len(), 2);
-    expect_regions(&rt, &lists, 0, &[0, 2]);
-    expect_regions(&rt, &lists, 1, &[1]);
-    Ok(())
-}
+const CASES: [Case; 3] = [
+    Case {
+        name: "three regions, two workers",
+        heap: Heap::TwentyPages,
+        workers: 2,
+        regions: &[&[0, 2], &[1]],
+        pages: 20,
+        live_words: 1_280,
+    },
+    Case {
+        name: "three regions, four workers",
+        heap: Heap::TwentyPages,
+        workers: 4,
+        regions: &[&[0], &[1], &[2], &[]],
+        pages: 20,
+        live_words: 1_280,
+    },
+    Case {
+        name: "no object at all, two workers",
+        heap: Heap::Empty,
+        workers: 2,
+        regions: &[&[], &[]],
+        pages: 0,
+        live_words: 0,
+    },
+];
 
 #[test]
-fn deals_three_regions_to_four_workers(rt: HostRuntime) -> Result<(), Fail> {
-    let lists = lists_of::<Brand, HostRuntime>(&rt, rt.alloc(), Blank::new(4), 4)?;
-    assert_eq!(rt; lists.len(), 4);
-    expect_regions(&rt, &lists, 0, &[0]);
-    expect_regions(&rt, &lists, 1, &[1]);
-    expect_regions(&rt, &lists, 2, &[2]);
-    expect_regions(&rt, &lists, 3, &[]);
+fn deals_regions_to_workers(rt: HostRuntime) -> Result<(), Fail> {
+    for case in &CASES {
+        play_case(&rt, rt.alloc(), &Open, case)?;
+    }
     Ok(())
-}
-
-// No object at all, swept by two workers; and then by none.
-fn sweep_nothing<L: Named + Send + Sync, R: Abort + Threads + Wait + Sync>(
-    rt: &R,
-    alloc: Global,
-    blank: Blank,
-) -> Result<(), Fail>
-    requires name { blank.name ≡ L.name }
-    requires parts { blank.parts ≡ L.parts }
-    requires count { blank.parts ≡ 2 }
-{
-    let builder = planned(alloc, empty(alloc)?)?;
-    let (space, mutators) = flipped::<L, _>(alloc, blank, builder, 2)?;
-    let Ok(report) = sweep(alloc, rt, &space, mutators, &Open) else {
-        panic!(rt; "there is memory");
-    };
-    assert_eq!(rt; report.regions.len(), 2);
-    expect_regions(rt, &report.regions, 0, &[]);
-    expect_regions(rt, &report.regions, 1, &[]);
-    let Err(refused) = sweep(alloc, rt, &space, Vec::new(alloc), &Open) else {
-        panic!(rt; "there is no worker");
-    };
-    assert_eq!(rt; refused.fault, SweepFault::NoWorkers);
-    assert_eq!(rt; refused.mutators.len(), 0);
-    Ok(())
-}
-
-#[test]
-fn sweeps_an_empty_heap(rt: HostRuntime) -> Result<(), Fail> {
-    sweep_nothing::<Brand, HostRuntime>(&rt, rt.alloc(), Blank::new(2))
 }

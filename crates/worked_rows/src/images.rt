@@ -1,46 +1,68 @@
 //! Images: read whole, cut, changed, and from readers that fail.
-use crate::faults::expect_same;
-use crate::pages::expect_count;
+use crate::expected::{At, expect_count, expect_fault, expect_so};
 use crate::readers::Pieces;
 use heap_layout::counted::Counted;
 use heap_layout::fault::LayoutFault;
 use heap_layout::heap::MarkedHeap;
 use heap_layout::image::read_image;
-use std::alloc::{AllocError, Global};
+use std::alloc::AllocError;
 use std::io::ErrorKind;
 use std::process::Abort;
-use std::test::Fail;
 use worked_heaps::heaps::{F, THREE};
 
-// An image, field by field.
-fn image(
-    alloc: Global,
+// How many there are.
+fn count_of<T>(parts: &[T]) -> u32 {
+    u32::try_from(parts.len()).unwrap_or(u32::MAX)
+}
+
+// Adds numbers of 4 bytes.
+fn push_numbers(bytes: &mut Vec<u8>, numbers: &[u32]) -> Result<(), AllocError> {
+    for number in numbers {
+        bytes.extend_from_slice(&number.to_le_bytes())?;
+    }
+    Ok(())
+}
+
+// Adds words of 8 bytes.
+fn push_words(bytes: &mut Vec<u8>, words: &[u64]) -> Result<(), AllocError> {
+    for word in words {
+        bytes.extend_from_slice(&word.to_le_bytes())?;
+    }
+    Ok(())
+}
+
+// Adds an image, field by field.
+fn push_image(
+    bytes: &mut Vec<u8>,
     version: u32,
     words: &[u64],
     marks: &[u32],
     roots: &[u64],
-) -> Result<Vec<u8>, AllocError> {
-    let mut bytes = b"COMPHEAP".to_vec(alloc)?;
-    bytes.extend_from_slice(&version.to_le_bytes())?;
-    for count in [words.len(), marks.len(), roots.len()] {
-        let count = u32::try_from(count).unwrap_or(u32::MAX);
-        bytes.extend_from_slice(&count.to_le_bytes())?;
-    }
-    for word in words {
-        bytes.extend_from_slice(&word.to_le_bytes())?;
-    }
-    for mark in marks {
-        bytes.extend_from_slice(&mark.to_le_bytes())?;
-    }
-    for root in roots {
-        bytes.extend_from_slice(&root.to_le_bytes())?;
-    }
-    Ok(bytes)
+) -> Result<(), AllocError> {
+    let numbers = [version, count_of(words), count_of(marks), count_of(roots)];
+    bytes.extend_from_slice(b"COMPHEAP")?;
+    push_numbers(bytes, &numbers)?;
+    push_words(bytes, words)?;
+    push_numbers(bytes, marks)?;
+    push_words(bytes, roots)
+}
+
+// An image.
+fn image(
+    rt: &(impl Abort + AllocGlobal),
+    version: u32,
+    words: &[u64],
+    marks: &[u32],
+    roots: &[u64],
+) -> Vec<u8> {
+    let mut bytes = Vec::new(rt.alloc());
+    assert!(rt; push_image(&mut bytes, version, words, marks, roots).is_ok());
+    bytes
 }
 
 // The image of the three objects: 96 bytes.
-fn three_image(alloc: Global) -> Result<Vec<u8>, AllocError> {
-    image(alloc, 1, &THREE, &[0, 5], &[F + 5])
+fn three_image(rt: &(impl Abort + AllocGlobal)) -> Vec<u8> {
+    image(rt, 1, &THREE, &[0, 5], &[F + 5])
 }
 
 // What an image is read as.
@@ -54,54 +76,81 @@ fn is_three(heap: &MarkedHeap) -> bool {
         && heap.roots() == [F + 5].as_slice()
 }
 
+// The image is read whole, in pieces of this size.
+fn expect_three(rt: &(impl Abort + AllocGlobal), bytes: &[u8], piece: usize) {
+    let mut reader = Counted::new(Pieces::new(bytes, piece, None));
+    let at = At {
+        case: "an image in pieces",
+        row: piece as u64,
+    };
+    let Ok(heap) = read_image(rt.alloc(), &mut reader) else {
+        panic!(rt; "an image in pieces of {piece}");
+    };
+    expect_so(rt, at, is_three(&heap));
+}
+
 #[test]
-fn reads_an_image(rt: HostRuntime) -> Result<(), Fail> {
-    let bytes = three_image(rt.alloc())?;
-    expect_count(&rt, bytes.len() as u64, 96);
-    assert!(rt; is_three(&read(&rt, &bytes)?));
+fn reads_an_image(rt: HostRuntime) {
+    let bytes = three_image(&rt);
+    let at = At {
+        case: "an image",
+        row: 0,
+    };
+    expect_count(&rt, at, bytes.len() as u64, 96);
+    expect_so(&rt, at, read(&rt, &bytes).is_ok_and(|heap| is_three(&heap)));
     for piece in [1, 2, 7, 95] {
-        let heap = read_image(
-            rt.alloc(),
-            &mut Counted::new(Pieces::new(&bytes, piece, None)),
-        )?;
-        assert!(rt; is_three(&heap), "in pieces of {piece}");
+        expect_three(&rt, &bytes, piece);
     }
-    Ok(())
+}
+
+// These bytes are refused for this cause.
+fn expect_refused(
+    rt: &(impl Abort + AllocGlobal),
+    case: &'static str,
+    bytes: &[u8],
+    wanted: LayoutFault,
+) {
+    let at = At {
+        case,
+        row: bytes.len() as u64,
+    };
+    expect_fault(rt, at, read(rt, bytes).err(), Some(wanted));
 }
 
 // Whatever comes before the image's end is cut short.
 fn expect_truncated(rt: &(impl Abort + AllocGlobal), bytes: &[u8]) {
     for n in 0..bytes.len() {
-        let found = read(rt, &bytes[..n]).err();
-        assert!(rt; found == Some(LayoutFault::Truncated), "first {n}");
+        expect_refused(rt, "the first bytes", &bytes[..n], LayoutFault::Truncated);
     }
 }
 
-// These bytes are refused for this cause.
-fn expect_refused(rt: &(impl Abort + AllocGlobal), bytes: &[u8], wanted: LayoutFault) {
-    expect_same(rt, read(rt, bytes).err(), Some(wanted));
-}
-
 // The beginning of an image that has more words than any heap.
-fn huge(alloc: Global) -> Result<Vec<u8>, AllocError> {
-    let counts = [1, 0, 0, 0, 255, 255, 255, 255, 0, 0, 0, 0, 0, 0, 0, 0];
-    let mut bytes = b"COMPHEAP".to_vec(alloc)?;
-    bytes.extend_from_slice(&counts)?;
-    Ok(bytes)
-}
+const HUGE: [u8; 24] = [
+    b'C', b'O', b'M', b'P', b'H', b'E', b'A', b'P', 1, 0, 0, 0, 255, 255, 255, 255, 0, 0, 0, 0, 0,
+    0, 0, 0,
+];
 
 #[test]
-fn refuses_what_is_no_image(rt: HostRuntime) -> Result<(), Fail> {
-    let alloc = rt.alloc();
-    let bytes = three_image(alloc)?;
+fn refuses_what_is_no_image(rt: HostRuntime) {
+    let mut bytes = three_image(&rt);
     expect_truncated(&rt, &bytes);
-    let mut longer = bytes.clone()?;
-    longer.push(0)?;
-    expect_refused(&rt, &longer, LayoutFault::TrailingBytes);
-    let newer = image(alloc, 2, &THREE, &[0, 5], &[F + 5])?;
-    expect_refused(&rt, &newer, LayoutFault::BadMagic);
-    expect_refused(&rt, &huge(alloc)?, LayoutFault::TooLarge);
-    Ok(())
+    assert!(rt; bytes.push(0).is_ok());
+    expect_refused(&rt, "a byte more", &bytes, LayoutFault::TrailingBytes);
+    let newer = image(&rt, 2, &THREE, &[0, 5], &[F + 5]);
+    expect_refused(&rt, "another version", &newer, LayoutFault::BadMagic);
+    expect_refused(&rt, "too many words", &HUGE, LayoutFault::TooLarge);
+}
+
+// These bytes are the image of the heap.
+fn is_image_of(rt: &(impl Abort + AllocGlobal), bytes: &Vec<u8>, heap: &MarkedHeap) -> bool {
+    image(rt, 1, heap.words(), heap.marks(), heap.roots()) == *bytes
+}
+
+// Why an image may be refused where this byte was changed.
+fn is_cause(fault: LayoutFault, at: usize) -> bool {
+    fault != LayoutFault::OutOfMemory
+        && fault != LayoutFault::Device
+        && (at >= 12 || fault == LayoutFault::BadMagic)
 }
 
 // An image of the three objects with this value at a byte, where `right` stood, is refused, or is the image of the heap that is read.
@@ -111,33 +160,25 @@ fn expect_judged(
     at: usize,
     value: u8,
     right: u8,
-) -> Result<(), Fail> {
-    match read(rt, bytes) {
-        Ok(heap) => {
-            let again = image(rt.alloc(), 1, heap.words(), heap.marks(), heap.roots())?;
-            assert!(rt; again == *bytes, "byte {at} as {value}");
-        }
-        Err(fault) => {
-            assert!(rt; value != right, "byte {at} as {value}");
-            assert!(rt; fault != LayoutFault::OutOfMemory && fault != LayoutFault::Device);
-            assert!(rt; at >= 12 || fault == LayoutFault::BadMagic);
-        }
-    }
-    Ok(())
+) {
+    let well = match read(rt, bytes) {
+        Ok(heap) => is_image_of(rt, bytes, &heap),
+        Err(fault) => value != right && is_cause(fault, at),
+    };
+    assert!(rt; well, "byte {at} as {value}");
 }
 
 #[test]
-fn takes_no_other_bytes_for_a_heap(rt: HostRuntime) -> Result<(), Fail> {
-    let mut bytes = three_image(rt.alloc())?;
+fn takes_no_other_bytes_for_a_heap(rt: HostRuntime) {
+    let mut bytes = three_image(&rt);
     for at in 0..bytes.len() {
         let right = bytes[at];
         for value in 0..=255u8 {
             bytes[at] = value;
-            expect_judged(&rt, &bytes, at, value, right)?;
+            expect_judged(&rt, &bytes, at, value, right);
         }
         bytes[at] = right;
     }
-    Ok(())
 }
 
 // The image of the three objects is read whole, or a call of the reader fails, and that is what is told.
@@ -147,22 +188,26 @@ fn expect_three_or_device(
     piece: usize,
     failing: (u64, ErrorKind),
 ) {
+    let at = At {
+        case: "a failing call",
+        row: failing.0,
+    };
     let mut reader = Counted::new(Pieces::new(bytes, piece, Some(failing)));
     match read_image(rt.alloc(), &mut reader) {
         Ok(heap) => {
-            assert!(rt; is_three(&heap));
-            expect_count(rt, reader.failures(), 0);
+            expect_so(rt, at, is_three(&heap));
+            expect_count(rt, at, reader.failures(), 0);
         }
         Err(fault) => {
-            expect_same(rt, Some(fault), Some(LayoutFault::Device));
-            expect_count(rt, reader.failures(), 1);
+            expect_fault(rt, at, Some(fault), Some(LayoutFault::Device));
+            expect_count(rt, at, reader.failures(), 1);
         }
     }
 }
 
 #[test]
-fn tells_of_each_failing_call(rt: HostRuntime) -> Result<(), Fail> {
-    let bytes = three_image(rt.alloc())?;
+fn tells_of_each_failing_call(rt: HostRuntime) {
+    let bytes = three_image(&rt);
     for piece in [1usize, 8, 96] {
         for kind in [ErrorKind::Other, ErrorKind::Interrupted] {
             for call in 0..200 {
@@ -170,5 +215,4 @@ fn tells_of_each_failing_call(rt: HostRuntime) -> Result<(), Fail> {
             }
         }
     }
-    Ok(())
 }

@@ -5,31 +5,16 @@ use std::alloc::{AllocError, Global};
 use std::test::Fail;
 use worked_heaps::heaps::{F, heap};
 
-// Adds an object without references, whose data words are zeros.
-fn push_object(words: &mut Vec<u64>, header: Header, data_words: u32) -> Result<(), AllocError> {
-    words.push(header.word())?;
-    for _ in 0..data_words {
-        words.push(0)?;
-    }
-    Ok(())
-}
-
-// Adds an object of 41 words that refers to word 50, and whose data counts from 1.
-fn push_last_step(words: &mut Vec<u64>) -> Result<(), AllocError> {
-    words.push(Header::new(1, 39, 0).word())?;
-    words.push(F + 50)?;
-    for k in 1..40u64 {
-        words.push(k)?;
-    }
-    Ok(())
-}
-
 /// Three objects of 40, 10 and 41 words, of which the first and the last are marked; the last refers to itself, and its data counts from 1.
 pub fn step(alloc: Global) -> Result<MarkedHeap, Fail> {
-    let mut words = Vec::new(alloc);
-    push_object(&mut words, Header::new(0, 39, 0), 39)?;
-    push_object(&mut words, Header::new(0, 9, 0), 9)?;
-    push_last_step(&mut words)?;
+    let mut words = [0u64; 91];
+    words[0] = Header::new(0, 39, 0).word();
+    words[40] = Header::new(0, 9, 0).word();
+    words[50] = Header::new(1, 39, 0).word();
+    words[51] = F + 50;
+    for k in 1..40usize {
+        words[51 + k] = k as u64;
+    }
     heap(alloc, &words, &[0, 50], &[])
 }
 
@@ -48,9 +33,11 @@ pub fn every_second(alloc: Global, count: u32) -> Result<MarkedHeap, Fail> {
 
 /// An object of 63 words that is not marked, and a marked one behind it, whose data is in the next block.
 pub fn across_blocks(alloc: Global) -> Result<MarkedHeap, Fail> {
-    let mut words = Vec::new(alloc);
-    push_object(&mut words, Header::new(0, 62, 0), 62)?;
-    words.extend_from_slice(&[Header::new(0, 2, 0).word(), 5, 6])?;
+    let mut words = [0u64; 66];
+    words[0] = Header::new(0, 62, 0).word();
+    words[63] = Header::new(0, 2, 0).word();
+    words[64] = 5;
+    words[65] = 6;
     heap(alloc, &words, &[63], &[])
 }
 
