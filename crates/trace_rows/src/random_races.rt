@@ -26,7 +26,7 @@ use std::test::Fail;
 use std::thread::Threads;
 
 // How many mutators race, and how many traces are drawn for them.
-const RACES: [(u8, u64); 3] = [(1, 1_000), (2, 100), (4, 100)];
+const RACES: &[(u8, u64)] = &[(1, 1_000), (2, 100), (4, 100)];
 
 // Why a line can be refused that waits and has memory.
 const STOPS: [Refusal; 4] = [
@@ -120,8 +120,12 @@ fn are_writes(
 
 // The value was there at the beginning, or was written.
 fn is_known(objects: &Objects, value: u64) -> bool {
-    FIRST_VALUES.contains(&value)
-        || objects.written.iter().any(|it| it.entry.kind == Kind::Data && it.entry.value == value)
+    let mut known = FIRST_VALUES.contains(&value);
+    for written in &objects.written {
+        let entry = written.entry;
+        known = known || (entry.kind == Kind::Data && entry.value == value);
+    }
+    known
 }
 
 // The numbers of the lines that read a data field.
@@ -244,9 +248,9 @@ fn race_drawn<L: Ledger + Send + Sync, R: Abort + Threads + Wait + Sync>(
 fn races_to_one_history(rt: HostRuntime) -> Result<(), Fail> {
     let plan = two_live(rt.alloc())?;
     for (n, seeds) in RACES {
-        for seed in 0..seeds {
-            let blank = Blank::new(u64::from(n));
-            race_drawn::<Brand, HostRuntime>(&rt, rt.alloc(), blank, &plan, n, seed)?;
+        for seed in 0..*seeds {
+            let blank = Blank::new(u64::from(*n));
+            race_drawn::<Brand, HostRuntime>(&rt, rt.alloc(), blank, &plan, *n, seed)?;
         }
     }
     Ok(())

@@ -14,7 +14,7 @@ struct Row {
 }
 
 // Lines that are none.
-const BAD_LINES: [Row; 14] = [
+const BAD_LINES: &[Row] = &[
     Row {
         name: "two spaces",
         text: b"0  nil 0\n",
@@ -88,7 +88,7 @@ const BAD_LINES: [Row; 14] = [
 ];
 
 // Numbers past their bounds.
-const PAST_BOUNDS: [Row; 13] = [
+const PAST_BOUNDS: &[Row] = &[
     Row {
         name: "mutator 2",
         text: b"2 nil 0\n",
@@ -161,7 +161,7 @@ const EACH_KIND: &[u8] =
     b"1 root 15 0\n0 load 1 2 65535\n0 get 3 0\n1 store 4 5 6\n0 put 7 8 18446744073709551615\n0 new 9 1 2 4294967295\n1 nil 10\n";
 
 // What those lines say.
-const LINES: [Line; 7] = [
+const LINES: &[Line] = &[
     Line {
         mutator: 1,
         action: Action::Root { to: 15, root: 0 },
@@ -213,7 +213,7 @@ const LINES: [Line; 7] = [
 ];
 
 // Faults, and how they are printed.
-const PRINTED: [(TraceFault, &str); 8] = [
+const PRINTED: &[(TraceFault, &str)] = &[
     (TraceFault::BadLine(1), "T1 BadLine(1)"),
     (TraceFault::NoSuchMutator(2), "T2 NoSuchMutator(2)"),
     (TraceFault::NoSuchRegister(1), "T3 NoSuchRegister(1)"),
@@ -254,8 +254,8 @@ fn expect_faults(alloc: Global, rows: &[Row]) -> Result<(), Fail> {
 
 #[test]
 fn tells_texts_that_are_none(rt: HostRuntime) -> Result<(), Fail> {
-    expect_faults(rt.alloc(), &BAD_LINES)?;
-    expect_faults(rt.alloc(), &PAST_BOUNDS)?;
+    expect_faults(rt.alloc(), BAD_LINES)?;
+    expect_faults(rt.alloc(), PAST_BOUNDS)?;
     expect_long_number(rt.alloc())
 }
 
@@ -283,7 +283,7 @@ fn expect_lines(alloc: Global, text: &[u8], lines: &[Line]) -> Result<(), Fail> 
 #[test]
 fn reads_no_lines_and_each_kind(rt: HostRuntime) -> Result<(), Fail> {
     expect_lines(rt.alloc(), b"", &[])?;
-    expect_lines(rt.alloc(), EACH_KIND, &LINES)
+    expect_lines(rt.alloc(), EACH_KIND, LINES)
 }
 
 // The fault is printed so.
@@ -299,7 +299,7 @@ fn expect_printed(alloc: Global, fault: TraceFault, text: &str) -> Result<(), Fa
 #[test]
 fn prints_faults(rt: HostRuntime) -> Result<(), Fail> {
     for (fault, text) in PRINTED {
-        expect_printed(rt.alloc(), fault, text)?;
+        expect_printed(rt.alloc(), *fault, text)?;
     }
     let stop = Stop {
         line: 7,
