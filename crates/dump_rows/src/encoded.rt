@@ -41,7 +41,8 @@ pub const LINKED: [Part; 9] = [
     Part::Page(&[], 1),
     Part::Entry(0, [0, 0, 0], 0),
     Part::Bytes(&[0]),
-    Part::Fours(&[2, 1, 0]),
+    // The list of builds: 2 of them, of page 1 and of page 0.
+    Part::Bytes(&[2, 0, 0, 0, 1, 0, 0, 0, 0, 0, 0, 0]),
     Part::Eights(&[5]),
 ];
 

@@ -36,7 +36,7 @@ fn expect(rt: &impl Abort, found: Told, wanted: Told, name: &str) {
     assert_eq!(rt; found, wanted, "{name}");
 }
 
-/// That becomes of these bytes.
+/// This is what becomes of these bytes.
 pub fn expect_told(
     rt: &impl Abort,
     alloc: Global,
