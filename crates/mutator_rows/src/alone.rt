@@ -8,8 +8,8 @@ use page_plan::builder::Builder;
 use std::alloc::Global;
 use std::marker::Brand;
 use std::process::Abort;
-use std::sync::Wait;
 use std::sync::ledger::{Blank, Ledger as Named};
+use std::sync::{Arc, Wait};
 use std::test::Fail;
 
 /// A case with one mutator.
@@ -28,14 +28,13 @@ pub fn play_alone<L: Named, B: Builder, R: Abort + Wait>(
     rt: &R,
     alloc: Global,
     blank: Blank,
-    builder: B,
+    builder: Arc<B>,
     case: &Alone,
 )
     requires name { blank.name ≡ L.name }
     requires parts { blank.parts ≡ L.parts }
     requires count { blank.parts ≡ 1 }
 {
-    let builder = shared(rt, alloc, builder);
     let (space, mut m) = one::<L, B>(rt, alloc, blank, builder, case.fresh_pages);
     expect_rows(rt, alloc, &space, &mut m, case.name, case.rows);
     let finished = finish_one(rt, alloc, space, m);
@@ -51,7 +50,7 @@ pub fn play_each_alone<R: Abort + Wait>(
     cases: &[Alone],
 ) -> Result<(), Fail> {
     for case in cases {
-        let plan = plan_of(alloc, case.heap)?;
+        let plan = shared(rt, alloc, plan_of(alloc, case.heap)?);
         play_alone::<Brand, _, R>(rt, alloc, Blank::new(1), plan, case);
     }
     Ok(())

@@ -1,5 +1,5 @@
 //! What finished heaps have.
-use crate::expected::{At, expect_count, expect_numbers};
+use crate::expected::{At, expect_count, expect_numbers, expect_so};
 use comp_journal::entry::Entry;
 use comp_journal::journaled_page::JournaledPage;
 use comp_mutator::finishing::Finished;
@@ -46,7 +46,7 @@ pub fn expect_ending(
 fn expect_pages(rt: &impl Abort, at: At, pages: &[Option<JournaledPage>], wanted: &[bool]) {
     expect_count(rt, at, pages.len() as u64, wanted.len() as u64);
     for (page, wanted) in pages.iter().zip(wanted) {
-        assert!(rt; page.is_some() == *wanted, "pages of {}", at.case);
+        expect_so(rt, at, page.is_some() == *wanted);
     }
 }
 
@@ -66,10 +66,11 @@ fn no_marks(rt: &impl Abort, alloc: Global, count: usize) -> Vec<bool> {
     marks
 }
 
-// Sets the mark of this number, which is there and not set.
+// Sets the mark of this number, which is there and not set. A failing test tells the number as the row.
 fn mark(rt: &impl Abort, at: At, marks: &mut [bool], number: u64) {
     let free = marks.get(number as usize) == Some(&false);
-    assert!(rt; free, "{}: number {number}, twice or too large", at.case);
+    let row = number as usize;
+    expect_so(rt, At { case: at.case, row }, free);
     if let Some(mark) = marks.get_mut(number as usize) {
         *mark = true;
     }
@@ -96,7 +97,7 @@ pub fn expect_all_stamps(
             mark_stamps(rt, at, &mut marks, page.journal());
         }
     }
-    assert!(rt; !marks.contains(&false), "stamps of {}", at.case);
+    expect_so(rt, at, !marks.contains(&false));
 }
 
 // Sets the mark of each page that was built.

@@ -26,6 +26,11 @@ pub fn expect_count(rt: &impl Abort, at: At, found: u64, wanted: u64) {
     expect_answer(rt, at, Ok(found), Ok(wanted));
 }
 
+/// It is so.
+pub fn expect_so(rt: &impl Abort, at: At, so: bool) {
+    assert!(rt; so, "{}, row {}", at.case, at.row);
+}
+
 /// These are the numbers, in this order.
 pub fn expect_numbers(rt: &impl Abort, at: At, found: &[u64], wanted: &[u64]) {
     expect_count(rt, at, found.len() as u64, wanted.len() as u64);

@@ -5,7 +5,7 @@ ghost use Rattle.comp_mutator.specs.Mutators.{IsMutatorOf};
 use crate::calls::answer;
 use crate::endings::expect_all_stamps;
 use crate::expected::{At, expect_answer, expect_count};
-use crate::flipped::{finish_three, shared, trio, two};
+use crate::flipped::{finish_three, finish_two, shared, trio, two};
 use comp_mutator::finishing::Finished;
 use comp_mutator::mutator::Mutator;
 use comp_mutator::space::Space;
@@ -111,6 +111,8 @@ fn play_rounds_of_two<L: Named, B: Builder>(
 )
     requires first { IsMutatorOf space.now m0.old }
     requires second { IsMutatorOf space.now m1.old }
+    ensures first { IsMutatorOf space.now m0.new }
+    ensures second { IsMutatorOf space.now m1.new }
 {
     let mut random = Random { state: 2006 };
     for _ in 0..600 {
@@ -119,7 +121,7 @@ fn play_rounds_of_two<L: Named, B: Builder>(
     }
 }
 
-// Two mutators, six hundred calls each.
+// Two mutators, six hundred calls each, and then the finished heap.
 fn play_two<L: Named>(
     rt: &impl Abort,
     alloc: Global,
@@ -133,6 +135,8 @@ fn play_two<L: Named>(
 {
     let (space, mut m0, mut m1) = two::<L, _>(rt, alloc, blank, shared(rt, alloc, plan), 6);
     play_rounds_of_two(rt, alloc, &space, &mut m0, &mut m1, objects);
+    let finished = finish_two(rt, alloc, space, m0, m1);
+    expect_objects(rt, alloc, &finished, objects);
 }
 
 #[test]

@@ -3,8 +3,8 @@ ghost use Rattle.std.specs.Prelude.{◌≡◌};
 
 use crate::alone::{Alone, play_alone, play_each_alone};
 use crate::expected::{At, expect_count};
-use crate::flipped::{Heap, one, plan_of, shared};
-use crate::rows::{Row, expect_rows};
+use crate::flipped::{Heap, plan_of, shared};
+use crate::rows::Row;
 use comp_mutator::flipping::flip;
 use comp_mutator::mutator::Mutator;
 use comp_mutator::pages::Touched;
@@ -135,43 +135,53 @@ const AGAIN: Alone = Alone {
 
 #[test]
 fn touches_after_a_refusal(rt: HostRuntime) -> Result<(), Fail> {
-    let builder = Refusing::new(plan_of(rt.alloc(), Heap::Counting(255))?);
-    play_alone::<Brand, _, HostRuntime>(&rt, rt.alloc(), Blank::new(1), builder, &AGAIN);
+    let alloc = rt.alloc();
+    let builder = Refusing::new(plan_of(alloc, Heap::Counting(255))?);
+    let builder = shared(&rt, alloc, builder);
+    play_alone::<Brand, _, HostRuntime>(&rt, alloc, Blank::new(1), builder, &AGAIN);
     Ok(())
 }
 
-// A page that is touched twice.
-const TOUCHES: [Row; 2] = [
-    Row::Touch(0, Ok(Touched::Built)),
-    Row::Touch(0, Ok(Touched::AlreadyBuilt)),
-];
+// A flip with fresh pages.
+const UNTOUCHED: Alone = Alone {
+    name: "builds nothing at a flip",
+    heap: Heap::Three,
+    fresh_pages: 4,
+    rows: &[],
+    ending: None,
+};
 
-// A page that is touched twice, with a builder that counts.
-fn count_builds<L: Named, R: Abort + Wait>(
+// A page that is touched twice.
+const TOUCHED: Alone = Alone {
+    name: "builds at the first touch",
+    heap: Heap::Three,
+    fresh_pages: 4,
+    rows: &[
+        Row::Touch(0, Ok(Touched::Built)),
+        Row::Touch(0, Ok(Touched::AlreadyBuilt)),
+    ],
+    ending: None,
+};
+
+// The case, with a builder that counts: it has built so many pages.
+fn count_builds<R: Abort + Wait>(
     rt: &R,
     alloc: Global,
-    blank: Blank,
-    builder: Arc<Counting>,
-    counts: &Arc<Counting>,
-)
-    requires name { blank.name ≡ L.name }
-    requires parts { blank.parts ≡ L.parts }
-    requires count { blank.parts ≡ 1 }
-{
-    let (space, mut m) = one::<L, _>(rt, alloc, blank, builder, 4);
+    case: &Alone,
+    builds: u64,
+) -> Result<(), Fail> {
+    let counts = Arc::new(alloc, Counting::new(plan_of(alloc, case.heap)?))?;
+    play_alone::<Brand, _, R>(rt, alloc, Blank::new(1), counts.clone()?, case);
     let at = At {
-        case: "builds at the first touch",
-        row: 0,
+        case: case.name,
+        row: case.rows.len(),
     };
-    expect_count(rt, at, counts.count(), 0);
-    expect_rows(rt, alloc, &space, &mut m, at.case, &TOUCHES);
-    expect_count(rt, at, counts.count(), 1);
+    expect_count(rt, at, counts.count(), builds);
+    Ok(())
 }
 
 #[test]
 fn builds_at_the_first_touch(rt: HostRuntime) -> Result<(), Fail> {
-    let alloc = rt.alloc();
-    let counts = Arc::new(alloc, Counting::new(plan_of(alloc, Heap::Three)?))?;
-    count_builds::<Brand, HostRuntime>(&rt, alloc, Blank::new(1), counts.clone()?, &counts);
-    Ok(())
+    count_builds(&rt, rt.alloc(), &UNTOUCHED, 0)?;
+    count_builds(&rt, rt.alloc(), &TOUCHED, 1)
 }
