@@ -176,7 +176,7 @@ pub fn finish<L: Named, B: Builder>(
         Ok(finished) => return finished,
         Err(left) => left,
     };
-    assert_eq!(rt; left.fault, FinishFault::OutOfMemory);
+    assert!(rt; left.fault == FinishFault::OutOfMemory);
     let Ok(finished) = left.space.finish(alloc, left.mutators) else {
         panic!(rt; "no mutator is missing");
     };

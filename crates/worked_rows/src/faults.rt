@@ -1,7 +1,6 @@
 //! Why heaps are refused.
 use crate::expected::{At, expect_fault};
 use heap_layout::fault::LayoutFault;
-use std::process::Abort;
 use std::test::Fail;
 use worked_heaps::heaps::{F, THREE, judged};
 
