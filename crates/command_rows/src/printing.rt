@@ -9,7 +9,7 @@ use worked_files::runs::{Run, Text, expect_ran};
 use worked_files::steps::Step;
 use worked_files::writers::{Failure, Narrow};
 
-// A run, with an output that has so much room.
+// A run, with an output that has so much room. What it prints there is not looked at.
 fn expect_narrow<R: Files + AllocGlobal + Threads + Wait + Sync>(
     rt: &R,
     wanted: &Run,

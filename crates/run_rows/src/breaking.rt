@@ -1,6 +1,5 @@
 //! Replays whose dump is cut off, and traces that are not read whole.
 use command_line::words::TraceRun;
-use commands::dumps::FileDumps;
 use commands::images::FileImages;
 use commands::refusal::{Input, Refusal};
 use commands::replay::print_replay;
