@@ -8,15 +8,18 @@ use std::process::Abort;
 use std::sync::Wait;
 use std::test::Fail;
 use std::thread::Threads;
-use worked_commands::places::{Failure, Image, Memory, Narrow, Place};
+use worked_commands::places::{Image, Memory, Place};
 use worked_files::images::{ALL, TWENTY_IMAGE};
 use worked_files::parts::{Part, bytes_of};
+use worked_files::writers::{Failure, Narrow};
 
 // A compaction in memory, and what has to come of it.
 #[derive(Clone, Copy)]
 struct Row {
+    name: &'static str,
     /// The path of the image, and that of the dump, which is to be `out`.
-    paths: (&'static str, &'static str),
+    image: &'static str,
+    path: &'static str,
     workers: u8,
     /// How many bytes the writer of the dump takes, and how it fails then.
     room: usize,
@@ -25,8 +28,8 @@ struct Row {
     printable: usize,
     answer: Result<(), Refusal>,
     printed: &'static str,
-    /// The whole dump, where one was created.
-    dump: Option<&'static [Part]>,
+    /// The whole dump, where one was created; or nothing.
+    dump: &'static [Part],
     /// How many bytes of it are left. A dump is cut off only where it is refused.
     left: usize,
 }
@@ -37,7 +40,7 @@ fn expect_row<R: Abort + AllocGlobal + Threads + Wait + Sync>(
     row: &Row,
 ) -> Result<(), Fail> {
     let bytes = bytes_of(rt.alloc(), &TWENTY_IMAGE)?;
-    let whole = bytes_of(rt.alloc(), row.dump.unwrap_or(&[]))?;
+    let whole = bytes_of(rt.alloc(), row.dump)?;
     let images = [
         Image {
             path: "twenty.img",
@@ -49,6 +52,17 @@ fn expect_row<R: Abort + AllocGlobal + Threads + Wait + Sync>(
         },
     ];
     expect_compacted(rt, &images, row, &whole);
+    Ok(())
+}
+
+// Compacts as each of these rows says.
+fn expect_rows<R: Abort + AllocGlobal + Threads + Wait + Sync>(
+    rt: &R,
+    rows: &[Row],
+) -> Result<(), Fail> {
+    for row in rows {
+        expect_row(rt, row)?;
+    }
     Ok(())
 }
 
@@ -82,46 +96,33 @@ fn expect_compacted<R: Abort + AllocGlobal + Threads + Wait + Sync>(
         &Memory { images },
         &mut place,
         Compaction {
-            image: row.paths.0,
-            dump: row.paths.1,
+            image: row.image,
+            dump: row.path,
             workers: row.workers,
         },
         &mut Counted::new(&mut out),
     );
     let created = place.writer.is_none();
-    assert_eq!(rt; created, row.dump.is_some());
     expect_outcome(rt, row, answer, &printed);
-    expect_dump(rt, row, &dumped, whole);
+    expect_dump(rt, row, created, &dumped, whole);
 }
 
 // This was answered, and printed.
 fn expect_outcome(rt: &impl Abort, row: &Row, answer: Result<(), Refusal>, printed: &[u8]) {
-    let (image, _) = row.paths;
-    assert!(rt;
-        answer == row.answer,
-        "{image}: {answer:?} with room for {}",
-        row.room
-    );
-    assert!(rt;
-        printed == row.printed.as_bytes(),
-        "{image} with room for {}",
-        row.room
-    );
+    let told = answer == row.answer && printed == row.printed.as_bytes();
+    assert!(rt; told, "{}: {answer:?}", row.name);
 }
 
-// These bytes of the dump are left.
-fn expect_dump(rt: &impl Abort, row: &Row, dumped: &[u8], whole: &[u8]) {
+// A dump was created or was not, and these bytes of it are left.
+fn expect_dump(rt: &impl Abort, row: &Row, created: bool, dumped: &[u8], whole: &[u8]) {
     let cut_off = row.answer == Err(Refusal::Dump(DumpFault::Device));
+    assert!(rt; created == !row.dump.is_empty(), "{}", row.name);
     assert!(rt;
         dumped.len() == row.left && whole.starts_with(dumped),
-        "room for {}",
-        row.room
+        "{}",
+        row.name
     );
-    assert!(rt;
-        cut_off || dumped.len() == whole.len(),
-        "room for {}",
-        row.room
-    );
+    assert!(rt; cut_off || dumped.len() == whole.len(), "{}", row.name);
 }
 
 // The dump of the twenty pages begins so, where one worker swept, or 2, 4 or 64; then come the lists of what they built.
@@ -169,96 +170,157 @@ const BY_SIXTY_FOUR: [Part; 9] = [
     Part::Words(&[1_280]),
 ];
 
-// The twenty pages, by some workers: the length of the dump, and the dump.
-const WORKERS: [(u8, usize, &[Part]); 4] = [
-    (1, 10_460, &BY_ONE),
-    (2, 10_464, &BY_TWO),
-    (4, 10_472, &BY_FOUR),
-    (64, 10_712, &BY_SIXTY_FOUR),
+// One worker compacts the twenty pages.
+const ALONE: Row = Row {
+    name: "one worker",
+    image: "twenty.img",
+    path: "out",
+    workers: 1,
+    room: 10_460,
+    failure: Failure::Error,
+    printable: 10,
+    answer: Ok(()),
+    printed: "live 1280\n",
+    dump: &BY_ONE,
+    left: 10_460,
+};
+
+// By some workers, with just enough room for the dump.
+const COMPACTED: [Row; 4] = [
+    ALONE,
+    Row {
+        name: "two workers",
+        workers: 2,
+        room: 10_464,
+        dump: &BY_TWO,
+        left: 10_464,
+        ..ALONE
+    },
+    Row {
+        name: "four workers",
+        workers: 4,
+        room: 10_472,
+        dump: &BY_FOUR,
+        left: 10_472,
+        ..ALONE
+    },
+    Row {
+        name: "sixty-four workers",
+        workers: 64,
+        room: 10_712,
+        dump: &BY_SIXTY_FOUR,
+        left: 10_712,
+        ..ALONE
+    },
 ];
 
 #[test]
 fn compacts_by_some_workers(rt: HostRuntime) -> Result<(), Fail> {
-    for (workers, length, dump) in WORKERS {
-        let row = Row {
-            paths: ("twenty.img", "out"),
-            workers,
-            room: length,
-            failure: Failure::Error,
-            printable: 10,
-            answer: Ok(()),
-            printed: "live 1280\n",
-            dump: Some(dump),
-            left: length,
-        };
-        expect_row(&rt, &row)?;
-    }
-    Ok(())
+    expect_rows(&rt, &COMPACTED)
 }
+
+// The dump cannot be flushed.
+const UNFLUSHED: Row = Row {
+    name: "no flush",
+    failure: Failure::Flush,
+    answer: Err(Refusal::Dump(DumpFault::Device)),
+    printed: "",
+    ..ALONE
+};
+
+// The dump is cut off behind so many bytes.
+const CUT_OFF: [Row; 6] = [
+    Row {
+        name: "room for 0 bytes",
+        room: 0,
+        failure: Failure::Error,
+        left: 0,
+        ..UNFLUSHED
+    },
+    Row {
+        name: "room for 7 bytes",
+        room: 7,
+        failure: Failure::Error,
+        left: 7,
+        ..UNFLUSHED
+    },
+    Row {
+        name: "room for 28 bytes",
+        room: 28,
+        failure: Failure::TakesNone,
+        left: 28,
+        ..UNFLUSHED
+    },
+    Row {
+        name: "room for 5000 bytes",
+        room: 5_000,
+        failure: Failure::TakesNone,
+        left: 5_000,
+        ..UNFLUSHED
+    },
+    Row {
+        name: "room for 10459 bytes",
+        room: 10_459,
+        failure: Failure::Error,
+        left: 10_459,
+        ..UNFLUSHED
+    },
+    UNFLUSHED,
+];
 
 #[test]
 fn tells_that_a_dump_is_cut_off(rt: HostRuntime) -> Result<(), Fail> {
-    for (room, failure) in [
-        (0, Failure::Error),
-        (7, Failure::Error),
-        (28, Failure::TakesNone),
-        (5_000, Failure::TakesNone),
-        (10_459, Failure::Error),
-        (10_460, Failure::Flush),
-    ] {
-        let row = Row {
-            paths: ("twenty.img", "out"),
-            workers: 1,
-            room,
-            failure,
-            printable: 10,
-            answer: Err(Refusal::Dump(DumpFault::Device)),
-            printed: "",
-            dump: Some(&BY_ONE),
-            left: room,
-        };
-        expect_row(&rt, &row)?;
-    }
-    Ok(())
+    expect_rows(&rt, &CUT_OFF)
 }
+
+// An image that is cut off, by two workers.
+const CUT_IMAGE: Row = Row {
+    name: "an image that is cut off",
+    image: "cut.img",
+    path: "out",
+    workers: 2,
+    room: 4_096,
+    failure: Failure::Error,
+    printable: 10,
+    answer: Err(Refusal::Layout(LayoutFault::Truncated)),
+    printed: "",
+    dump: &[],
+    left: 0,
+};
+
+const UNCREATED: [Row; 3] = [
+    CUT_IMAGE,
+    Row {
+        name: "an image that is absent",
+        image: "absent.img",
+        path: "out",
+        answer: Err(Refusal::CannotOpen(Input::Image)),
+        ..CUT_IMAGE
+    },
+    Row {
+        name: "an image that is absent, and no place for the dump",
+        image: "absent.img",
+        path: "absent",
+        answer: Err(Refusal::CannotOpen(Input::Image)),
+        ..CUT_IMAGE
+    },
+];
 
 #[test]
 fn creates_no_dump_of_a_refused_image(rt: HostRuntime) -> Result<(), Fail> {
-    for (image, dump, refusal) in [
-        ("cut.img", "out", Refusal::Layout(LayoutFault::Truncated)),
-        ("absent.img", "out", Refusal::CannotOpen(Input::Image)),
-        ("absent.img", "absent", Refusal::CannotOpen(Input::Image)),
-    ] {
-        let row = Row {
-            paths: (image, dump),
-            workers: 2,
-            room: 4_096,
-            failure: Failure::Error,
-            printable: 10,
-            answer: Err(refusal),
-            printed: "",
-            dump: None,
-            left: 0,
-        };
-        expect_row(&rt, &row)?;
-    }
-    Ok(())
+    expect_rows(&rt, &UNCREATED)
 }
 
 // Three bytes of the line can be printed.
-const UNPRINTED: Row = Row {
-    paths: ("twenty.img", "out"),
-    workers: 1,
-    room: 10_460,
-    failure: Failure::Error,
+const UNPRINTED: [Row; 1] = [Row {
+    name: "room for 3 bytes of the line",
     printable: 3,
     answer: Err(Refusal::CannotPrint),
     printed: "liv",
-    dump: Some(&BY_ONE),
-    left: 10_460,
-};
+    ..ALONE
+}];
 
 #[test]
 fn keeps_the_dump_where_it_cannot_print(rt: HostRuntime) -> Result<(), Fail> {
-    expect_row(&rt, &UNPRINTED)
+    expect_rows(&rt, &UNPRINTED)
 }

@@ -46,38 +46,56 @@ fn expect_performed<R: Abort + AllocGlobal + Files + Threads + Wait + Sync>(
     );
 }
 
-// Words of images, by their indices; and the plan of one.
-fn expect_all<R: Abort + AllocGlobal + Files + Threads + Wait + Sync>(rt: &R, images: &[Image]) {
-    for (name, image, index, answer, text) in [
-        ("a header", "three.img", 2, Ok(()), "12884901889\n"),
-        ("a reference", "three.img", 3, Ok(()), "8589934592\n"),
-        ("the last word", "three.img", 63, Ok(()), "0\n"),
-        ("no word", "three.img", 64, Err(Refusal::NoSuchWord(64)), ""),
-        (
-            "an empty image",
-            "empty.img",
-            2,
-            Err(Refusal::Layout(LayoutFault::Truncated)),
-            "",
-        ),
-        (
-            "no image",
-            "",
-            2,
-            Err(Refusal::CannotOpen(Input::Image)),
-            "",
-        ),
-    ] {
-        expect_performed(rt, images, name, Task::Word { image, index }, answer, text);
+// A word that is asked for: its name, its image and its index, what is answered and printed.
+type Row = (
+    &'static str,
+    &'static str,
+    u64,
+    Result<(), Refusal>,
+    &'static str,
+);
+
+const WORDS: [Row; 6] = [
+    ("a header", "three.img", 2, Ok(()), "12884901889\n"),
+    ("a reference", "three.img", 3, Ok(()), "8589934592\n"),
+    ("the last word", "three.img", 63, Ok(()), "0\n"),
+    ("no word", "three.img", 64, Err(Refusal::NoSuchWord(64)), ""),
+    (
+        "an empty image",
+        "empty.img",
+        2,
+        Err(Refusal::Layout(LayoutFault::Truncated)),
+        "",
+    ),
+    (
+        "no image",
+        "",
+        2,
+        Err(Refusal::CannotOpen(Input::Image)),
+        "",
+    ),
+];
+
+// These words of images.
+fn expect_words<R: Abort + AllocGlobal + Files + Threads + Wait + Sync>(
+    rt: &R,
+    images: &[Image],
+    words: &[Row],
+) {
+    for (name, image, index, answer, text) in words {
+        let task = Task::Word {
+            image,
+            index: *index,
+        };
+        expect_performed(rt, images, name, task, *answer, text);
     }
-    expect_performed(
-        rt,
-        images,
-        "a plan",
-        Task::Plan { image: "three.img" },
-        Ok(()),
-        "live 4\npages 1\npage 0 first 0\nroot 0 8589934594\n",
-    );
+}
+
+// The plan of the three objects.
+fn expect_plan<R: Abort + AllocGlobal + Files + Threads + Wait + Sync>(rt: &R, images: &[Image]) {
+    let task = Task::Plan { image: "three.img" };
+    let text = "live 4\npages 1\npage 0 first 0\nroot 0 8589934594\n";
+    expect_performed(rt, images, "a plan", task, Ok(()), text);
 }
 
 #[test]
@@ -93,6 +111,7 @@ fn performs_tasks_on_images_in_memory(rt: HostRuntime) -> Result<(), Fail> {
             bytes: bytes.as_slice(),
         },
     ];
-    expect_all(&rt, &images);
+    expect_words(&rt, &images, &WORDS);
+    expect_plan(&rt, &images);
     Ok(())
 }

@@ -3,19 +3,18 @@ use std::rt::Files;
 use std::sync::Wait;
 use std::test::Fail;
 use std::thread::Threads;
-use worked_commands::places::{Failure, Narrow};
-use worked_commands::runs::{Text, expect_ran, run_into};
-use worked_commands::steps::{Step, take_steps};
+use worked_commands::runs::{run_into, take_steps};
 use worked_files::images::THREE_IMAGE;
+use worked_files::runs::{Run, Text, expect_ran};
+use worked_files::steps::Step;
+use worked_files::writers::{Failure, Narrow};
 
-// Runs the program on the words of a line, with an output that has so much room: it has to end with this status, and to tell this.
+// A run, with an output that has so much room. What it prints there is not looked at.
 fn expect_narrow<R: Files + AllocGlobal + Threads + Wait + Sync>(
     rt: &R,
-    line: &str,
+    wanted: &Run,
     room: usize,
     failure: Failure,
-    status: u8,
-    told: &Text,
 ) -> Result<(), Fail> {
     let mut taken = Vec::new(rt.alloc());
     let mut err = Vec::new(rt.alloc());
@@ -25,37 +24,62 @@ fn expect_narrow<R: Files + AllocGlobal + Threads + Wait + Sync>(
         at_once: 3,
         failure,
     };
-    let ended = run_into(rt, line, &mut out, &mut err)?;
-    expect_ran(line, (ended, &[], &err), status, &Text::Is(""), told)
+    let status = run_into(rt, wanted.line, &mut out, &mut err)?;
+    expect_ran(wanted, status, &[], &err)
 }
-
-// What is told then.
-const UNPRINTED: Text = Text::Refusal("P4 CannotPrint");
 
 // With less room than this line prints a run is refused; with more it is not, unless the output cannot be flushed.
 fn expect_cut_off<R: Files + AllocGlobal + Threads + Wait + Sync>(
     rt: &R,
-    line: &str,
+    line: &'static str,
     length: usize,
 ) -> Result<(), Fail> {
+    let refused = Run {
+        line,
+        status: 1,
+        out: Text::Is(""),
+        err: Text::Refusal("P4 CannotPrint"),
+    };
+    let done = Run {
+        line,
+        status: 0,
+        out: Text::Is(""),
+        err: Text::Is(""),
+    };
     for room in 0..length {
-        expect_narrow(rt, line, room, Failure::Error, 1, &UNPRINTED)?;
-        expect_narrow(rt, line, room, Failure::TakesNone, 1, &UNPRINTED)?;
+        expect_narrow(rt, &refused, room, Failure::Error)?;
+        expect_narrow(rt, &refused, room, Failure::TakesNone)?;
     }
-    expect_narrow(rt, line, 4_096, Failure::Error, 0, &Text::Is(""))?;
-    expect_narrow(rt, line, 4_096, Failure::Flush, 1, &UNPRINTED)
+    expect_narrow(rt, &done, 4_096, Failure::Error)?;
+    expect_narrow(rt, &refused, 4_096, Failure::Flush)
 }
+
+// Lines, and how many bytes they print at least.
+const LINES: [(&str, usize); 4] = [
+    ("word print.tests.img 2", 12),
+    ("plan print.tests.img", 48),
+    ("--help", 1),
+    ("--version", 17),
+];
+
+// Each of these lines cannot print.
+fn expect_lines<R: Files + AllocGlobal + Threads + Wait + Sync>(
+    rt: &R,
+    lines: &[(&'static str, usize)],
+) -> Result<(), Fail> {
+    for (line, length) in lines {
+        expect_cut_off(rt, line, *length)?;
+    }
+    Ok(())
+}
+
+const WRITTEN: [Step; 1] = [Step::Write("print.tests.img", &THREE_IMAGE)];
+
+const REMOVED: [Step; 1] = [Step::Remove("print.tests.img")];
 
 #[test]
 fn tells_that_it_cannot_print(rt: HostRuntime) -> Result<(), Fail> {
-    take_steps(&rt, &[Step::Write("print.tests.img", &THREE_IMAGE)])?;
-    for (line, length) in [
-        ("word print.tests.img 2", 12),
-        ("plan print.tests.img", 48),
-        ("--help", 1),
-        ("--version", 17),
-    ] {
-        expect_cut_off(&rt, line, length)?;
-    }
-    take_steps(&rt, &[Step::Remove("print.tests.img")])
+    take_steps(&rt, &WRITTEN)?;
+    expect_lines(&rt, &LINES)?;
+    take_steps(&rt, &REMOVED)
 }

@@ -1,8 +1,9 @@
 //! Runs of the program: what it prints, and its status.
 use std::test::Fail;
-use worked_commands::steps::{Step, take_steps};
+use worked_commands::runs::take_steps;
 use worked_files::images::{EMPTY_IMAGE, THREE_IMAGE, THREE_OBJECTS, TWENTY_IMAGE};
 use worked_files::parts::Part;
+use worked_files::steps::Step;
 
 // Words and plans of the heap of three objects.
 const PRINTED: [Step; 8] = [

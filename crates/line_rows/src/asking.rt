@@ -27,7 +27,7 @@ enum Asked {
 }
 
 // A line, and what it asks.
-struct Row(&'static str, Asked);
+type Row = (&'static str, &'static Asked);
 
 // The words of a line.
 fn words_of(alloc: Global, line: &str) -> Result<Vec<String>, AllocError> {
@@ -89,7 +89,7 @@ fn is_nothing(wanted: &Asked) -> bool {
 
 // Each of these lines asks its own.
 fn expect_rows<R: Abort + AllocGlobal>(rt: &R, rows: &[Row]) -> Result<(), Fail> {
-    for Row(line, wanted) in rows {
+    for (line, wanted) in rows {
         expect_asked(rt, line, wanted)?;
     }
     Ok(())
@@ -109,56 +109,56 @@ fn expect_lines<R: Abort + AllocGlobal>(
 
 // Lines, and what they ask.
 const TASKS: [Row; 20] = [
-    Row("plan three.img", Asked::Plan("three.img")),
-    Row("plan -- --help", Asked::Plan("--help")),
-    Row("word three.img 2", Asked::Word("three.img", 2)),
-    Row("word three.img +02 --", Asked::Word("three.img", 2)),
-    Row(
+    ("plan three.img", &Asked::Plan("three.img")),
+    ("plan -- --help", &Asked::Plan("--help")),
+    ("word three.img 2", &Asked::Word("three.img", 2)),
+    ("word three.img +02 --", &Asked::Word("three.img", 2)),
+    (
         "word -- -x.img 18446744073709551615",
-        Asked::Word("-x.img", 18_446_744_073_709_551_615),
+        &Asked::Word("-x.img", 18_446_744_073_709_551_615),
     ),
-    Row(
+    (
         "replay three.img t19 out",
-        Asked::Replay("three.img", "t19", "out", 2, 64),
+        &Asked::Replay("three.img", "t19", "out", 2, 64),
     ),
-    Row(
+    (
         "replay a t --fresh=4096 d --mutators 64",
-        Asked::Replay("a", "t", "d", 64, 4_096),
+        &Asked::Replay("a", "t", "d", 64, 4_096),
     ),
-    Row(
+    (
         "replay -- --fresh 0 1",
-        Asked::Replay("--fresh", "0", "1", 2, 64),
+        &Asked::Replay("--fresh", "0", "1", 2, 64),
     ),
-    Row(
+    (
         "race --mutators 1 --fresh 2 three.img t18 out",
-        Asked::Race("three.img", "t18", "out", 1, 2),
+        &Asked::Race("three.img", "t18", "out", 1, 2),
     ),
-    Row(
+    (
         "race --fresh 0 three.img t18 out",
-        Asked::Race("three.img", "t18", "out", 2, 0),
+        &Asked::Race("three.img", "t18", "out", 2, 0),
     ),
-    Row(
+    (
         "race a --mutators=7 -- -t -d",
-        Asked::Race("a", "-t", "-d", 7, 64),
+        &Asked::Race("a", "-t", "-d", 7, 64),
     ),
-    Row(
+    (
         "compact a.img out.dump",
-        Asked::Compact("a.img", "out.dump", 2),
+        &Asked::Compact("a.img", "out.dump", 2),
     ),
-    Row("compact --workers 64 a b", Asked::Compact("a", "b", 64)),
-    Row("compact a --workers=3 b", Asked::Compact("a", "b", 3)),
-    Row("compact a b --workers +01", Asked::Compact("a", "b", 1)),
-    Row(
+    ("compact --workers 64 a b", &Asked::Compact("a", "b", 64)),
+    ("compact a --workers=3 b", &Asked::Compact("a", "b", 3)),
+    ("compact a b --workers +01", &Asked::Compact("a", "b", 1)),
+    (
         "compact -- --workers 3",
-        Asked::Compact("--workers", "3", 2),
+        &Asked::Compact("--workers", "3", 2),
     ),
-    Row("compact --workers 5 -- a -b", Asked::Compact("a", "-b", 5)),
-    Row(
+    ("compact --workers 5 -- a -b", &Asked::Compact("a", "-b", 5)),
+    (
         "audit three.img forged.dump",
-        Asked::Audit("three.img", "forged.dump"),
+        &Asked::Audit("three.img", "forged.dump"),
     ),
-    Row("audit a -- -b", Asked::Audit("a", "-b")),
-    Row("audit -- --help --", Asked::Audit("--help", "--")),
+    ("audit a -- -b", &Asked::Audit("a", "-b")),
+    ("audit -- --help --", &Asked::Audit("--help", "--")),
 ];
 
 #[test]

@@ -9,9 +9,10 @@ use std::fs;
 use std::process::Abort;
 use std::test::Fail;
 use worked_commands::places::{Image, Memory};
-use worked_commands::steps::{Step, take_steps};
+use worked_commands::runs::take_steps;
 use worked_files::images::{ALL, FRESH_DUMP, THREE_IMAGE, TWENTY_IMAGE};
 use worked_files::parts::{Part, bytes_of, push_parts};
+use worked_files::steps::Step;
 
 // The audit of a dump, where the images lie in memory: it has to be answered so, and to print just this.
 fn expect_audit<R: Abort + AllocGlobal>(
@@ -296,6 +297,23 @@ fn refuses_bytes_that_are_no_dump(rt: HostRuntime) -> Result<(), Fail> {
     expect_refused(&rt, &NO_DUMPS)
 }
 
+// The paths of an image and of a dump, and what is refused.
+type Unread = (&'static str, &'static str, Refusal);
+
+const UNREAD: [Unread; 4] = [
+    ("absent", "absent", Refusal::CannotOpen(Input::Image)),
+    ("cut.img", "absent", Refusal::Layout(LayoutFault::Truncated)),
+    ("three.img", "absent", Refusal::CannotOpen(Input::Dump)),
+    ("three.img", "three.img", Refusal::Dump(DumpFault::BadMagic)),
+];
+
+// These files are refused so, and nothing is printed.
+fn expect_unread<R: Abort + AllocGlobal>(rt: &R, images: &[Image], rows: &[Unread]) {
+    for (image, dump, refusal) in rows {
+        expect_audit(rt, images, (image, dump), image, Err(*refusal), "");
+    }
+}
+
 #[test]
 fn reads_the_image_before_the_dump(rt: HostRuntime) -> Result<(), Fail> {
     let whole = bytes_of(rt.alloc(), &THREE_IMAGE)?;
@@ -309,14 +327,7 @@ fn reads_the_image_before_the_dump(rt: HostRuntime) -> Result<(), Fail> {
             bytes: &whole,
         },
     ];
-    for (image, dump, refusal) in [
-        ("absent", "absent", Refusal::CannotOpen(Input::Image)),
-        ("cut.img", "absent", Refusal::Layout(LayoutFault::Truncated)),
-        ("three.img", "absent", Refusal::CannotOpen(Input::Dump)),
-        ("three.img", "three.img", Refusal::Dump(DumpFault::BadMagic)),
-    ] {
-        expect_audit(&rt, &images, (image, dump), image, Err(refusal), "");
-    }
+    expect_unread(&rt, &images, &UNREAD);
     Ok(())
 }
 

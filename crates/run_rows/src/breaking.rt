@@ -1,6 +1,5 @@
 //! Replays whose dump is cut off, and traces that are not read whole.
 use command_line::words::TraceRun;
-use commands::dumps::FileDumps;
 use commands::images::FileImages;
 use commands::refusal::{Input, Refusal};
 use commands::replay::print_replay;
@@ -12,10 +11,12 @@ use std::io::{Error, ErrorKind, Read, Result as IoResult};
 use std::process::Abort;
 use std::rt::Files;
 use std::test::Fail;
-use worked_commands::places::{Failure, Narrow, Place};
-use worked_commands::steps::{Step, take_steps};
+use worked_commands::places::Place;
+use worked_commands::runs::take_steps;
 use worked_files::images::{FRESH_DUMP, THREE_IMAGE};
 use worked_files::parts::{Part, bytes_of};
+use worked_files::steps::Step;
+use worked_files::writers::{Failure, Narrow};
 
 // Replays the trace that makes a new object: a writer of the dump that has so much room fails so, and nothing is printed.
 fn expect_cut_off<R: Abort + AllocGlobal + Files>(
@@ -72,18 +73,30 @@ const REMOVED: [Step; 2] = [
     Step::Remove("cut.tests.trace"),
 ];
 
+// How much room the writers of the dump have, and how they fail then.
+const CUT_OFF: [(usize, Failure); 4] = [
+    (0, Failure::Error),
+    (600, Failure::TakesNone),
+    (1_128, Failure::Error),
+    (1_129, Failure::Flush),
+];
+
+// Replays with each of these writers.
+fn expect_all_cut_off<R: Abort + AllocGlobal + Files>(
+    rt: &R,
+    writers: &[(usize, Failure)],
+) -> Result<(), Fail> {
+    let whole = bytes_of(rt.alloc(), &FRESH_DUMP)?;
+    for (room, failure) in writers {
+        expect_cut_off(rt, *room, *failure, &whole);
+    }
+    Ok(())
+}
+
 #[test]
 fn prints_nothing_where_the_dump_is_cut_off(rt: HostRuntime) -> Result<(), Fail> {
     take_steps(&rt, &FRESH)?;
-    let whole = bytes_of(rt.alloc(), &FRESH_DUMP)?;
-    for (room, failure) in [
-        (0, Failure::Error),
-        (600, Failure::TakesNone),
-        (1_128, Failure::Error),
-        (1_129, Failure::Flush),
-    ] {
-        expect_cut_off(&rt, room, failure, &whole);
-    }
+    expect_all_cut_off(&rt, &CUT_OFF)?;
     take_steps(&rt, &REMOVED)
 }
 

@@ -1,8 +1,9 @@
 //! Traces whose mutators race over heaps: the lines, the dump, and what refusals leave.
 use std::test::Fail;
-use worked_commands::steps::{Step, take_steps};
+use worked_commands::runs::take_steps;
 use worked_files::images::THREE_IMAGE;
 use worked_files::parts::Part;
+use worked_files::steps::Step;
 
 // A data field is written by mutator 0, and read by mutator 1: before that, or after it.
 const SEEN: [Part; 1] = [Part::Bytes(

@@ -1,8 +1,9 @@
 //! Traces that are run over heaps: the dump, the lines, and what a refusal leaves.
 use std::test::Fail;
-use worked_commands::steps::{Step, take_steps};
+use worked_commands::runs::take_steps;
 use worked_files::images::{FRESH_DUMP, THREE_IMAGE};
 use worked_files::parts::Part;
+use worked_files::steps::Step;
 
 // A data field is written by mutator 0, and read by mutator 1.
 const SEEN: [Part; 1] = [Part::Bytes(

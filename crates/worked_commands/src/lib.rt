@@ -1,6 +1,5 @@
-//! What the tests of the commands share: places in memory that fail, runs of the program, and the steps of a test. They promise nothing: a test asserts what it needs of them.
+//! What the tests of the commands share: places in memory that fail, and runs of the program. They promise nothing: a test asserts what it needs of them.
 #![tactic(auto)]
 
 pub mod places;
 pub mod runs;
-pub mod steps;

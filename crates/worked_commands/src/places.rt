@@ -1,10 +1,10 @@
-//! Images in memory, and places for dumps, whose writers fail.
+//! Images in memory, and places for dumps whose writers fail.
 ghost use Rattle.std.specs.Prelude.{◌≡◌, ◌≢◌, All, Any};
 
 use commands::dumps::Dumps;
 use commands::images::Images;
 use commands::refusal::{Input, Output, Refusal};
-use std::io::{Error, ErrorKind, Result as IoResult, Write};
+use worked_files::writers::Narrow;
 
 /// An image in memory.
 #[derive(Drop)]
@@ -31,44 +31,6 @@ impl<'a> Images for Memory<'a> {
             Some(image) => Ok(image.bytes),
             None => Err(Refusal::CannotOpen(Input::Image)),
         }
-    }
-}
-
-/// How a writer of a dump fails.
-#[derive(Clone, Copy, PartialEq, Eq)]
-pub enum Failure {
-    Error,
-    TakesNone,
-    Flush,
-}
-
-/// Takes as many bytes as it has room for, so many at once at most, and then fails.
-#[derive(Drop)]
-pub struct Narrow<'a> {
-    pub taken: &'a mut Vec<u8>,
-    pub room: usize,
-    pub at_once: usize,
-    pub failure: Failure,
-}
-
-impl<'a> Write for Narrow<'a> {
-    fn write(&mut self, buf: &[u8]) -> IoResult<usize> {
-        let (taken, _) = buf.split_at(buf.len().min(self.room).min(self.at_once));
-        if taken.is_empty() && self.failure == Failure::Error {
-            return Err(Error::from(ErrorKind::StorageFull));
-        }
-        if self.taken.extend_from_slice(taken).is_err() {
-            return Err(Error::from(ErrorKind::OutOfMemory));
-        }
-        self.room -= taken.len();
-        Ok(taken.len())
-    }
-
-    fn flush(&mut self) -> IoResult<()> {
-        if self.failure == Failure::Flush {
-            return Err(Error::from(ErrorKind::StorageFull));
-        }
-        Ok(())
     }
 }
 

@@ -1,5 +1,9 @@
-//! What the tests of the commands write into files: images of worked heaps and dumps of them, by their bytes. It promises nothing: a test asserts what it needs of them.
+//! What the tests of the commands share of files, and of what runs print: bytes by their parts, images of worked heaps and dumps of them, writers that fail, and the steps of a test. It promises
+//! nothing: a test asserts what it needs of them.
 #![tactic(auto)]
 
 pub mod images;
 pub mod parts;
+pub mod runs;
+pub mod steps;
+pub mod writers;

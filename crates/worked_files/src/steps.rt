@@ -1,11 +1,9 @@
 //! Tests of the program as lists of steps: files that are written, runs, and what they leave.
-use crate::runs::{Text, expect_run};
+use crate::parts::{Part, bytes_of};
+use crate::runs::{Run, Text};
 use std::fs;
 use std::rt::Files;
-use std::sync::Wait;
 use std::test::Fail;
-use std::thread::Threads;
-use worked_files::parts::{Part, bytes_of};
 
 /// A step of a test. Of a run it has the line first.
 pub enum Step {
@@ -33,40 +31,31 @@ pub enum Step {
     RemoveFolder(&'static str),
 }
 
-/// Takes the steps of a test, one after another.
-pub fn take_steps<R: Files + AllocGlobal + Threads + Wait + Sync>(
-    rt: &R,
-    steps: &[Step],
-) -> Result<(), Fail> {
-    for step in steps {
-        take_step(rt, step)?;
-    }
-    Ok(())
+/// The run that a step is, if it is one.
+pub fn run_of(step: &Step) -> Option<Run> {
+    let (line, status, out, err) = match step {
+        Step::Prints(line, out) => (*line, 0, Text::Is(*out), Text::Is("")),
+        Step::PrintsEither(line, one, other) => (
+            *line,
+            0,
+            Text::Either(*one, *other),
+            Text::Is(""),
+        ),
+        Step::Helps(line) => (*line, 0, Text::Has("Usage: compressor"), Text::Is("")),
+        Step::Refuses(line, out, refusal) => (*line, 1, Text::Is(*out), Text::Refusal(*refusal)),
+        Step::Misuses(line) => (*line, 2, Text::Is(""), Text::Some),
+        _ => return None,
+    };
+    Some(Run {
+        line,
+        status,
+        out,
+        err,
+    })
 }
 
-// Takes a step.
-fn take_step<R: Files + AllocGlobal + Threads + Wait + Sync>(
-    rt: &R,
-    step: &Step,
-) -> Result<(), Fail> {
-    match step {
-        Step::Prints(line, out) => expect_run(rt, line, 0, &Text::Is(out), &Text::Is("")),
-        Step::PrintsEither(line, one, other) => {
-            expect_run(rt, line, 0, &Text::Either(one, other), &Text::Is(""))
-        }
-        Step::Helps(line) => {
-            expect_run(rt, line, 0, &Text::Has("Usage: compressor"), &Text::Is(""))
-        }
-        Step::Refuses(line, out, refusal) => {
-            expect_run(rt, line, 1, &Text::Is(out), &Text::Refusal(refusal))
-        }
-        Step::Misuses(line) => expect_run(rt, line, 2, &Text::Is(""), &Text::Some),
-        _ => take_file_step(rt, step),
-    }
-}
-
-// Takes a step that is no run.
-fn take_file_step<R: Files + AllocGlobal>(rt: &R, step: &Step) -> Result<(), Fail> {
+/// Takes a step that is no run.
+pub fn take_file_step<R: Files + AllocGlobal>(rt: &R, step: &Step) -> Result<(), Fail> {
     match step {
         Step::Write(path, parts) => write_file(rt, path, parts),
         Step::MakeFolder(path) => Ok(fs::create_dir(rt, path)?),

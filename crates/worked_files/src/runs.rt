@@ -1,0 +1,71 @@
+//! Runs of the program, and what has to come of them.
+use std::alloc::{AllocError, Global};
+use std::str::from_utf8;
+use std::test::Fail;
+
+/// What a text has to be.
+#[derive(Clone, Copy)]
+pub enum Text {
+    /// Just this text.
+    Is(&'static str),
+    /// The one text or the other.
+    Either(&'static str, &'static str),
+    /// A text that has this in it.
+    Has(&'static str),
+    /// Some text.
+    Some,
+    /// The line that tells this refusal.
+    Refusal(&'static str),
+}
+
+/// A run on the words of a line: the status that it has to end with, what it has to print, and to tell on standard error.
+#[derive(Clone, Copy)]
+pub struct Run {
+    pub line: &'static str,
+    pub status: u8,
+    pub out: Text,
+    pub err: Text,
+}
+
+/// The words of a line.
+pub fn words_of(alloc: Global, line: &str) -> Result<Vec<String>, AllocError> {
+    let mut words = Vec::new(alloc);
+    for word in line.split_whitespace() {
+        words.push(String::from_str(alloc, word)?)?;
+    }
+    Ok(words)
+}
+
+/// A run ended with this status, and left these bytes on its output and on standard error: it has to be so.
+pub fn expect_ran(run: &Run, status: u8, out: &[u8], err: &[u8]) -> Result<(), Fail> {
+    let (printed, told) = (text_of(out), text_of(err));
+    if status == run.status && fits(printed, run.out) && fits(told, run.err) {
+        return Ok(());
+    }
+    Err(Fail::new(format_args!(
+        "{}: status {status}, printed {printed:?}, told {told:?}",
+        run.line
+    )))
+}
+
+// The text of these bytes.
+fn text_of(bytes: &[u8]) -> &str {
+    match from_utf8(bytes) {
+        Ok(text) => text,
+        Err(_) => "(bytes that are no text)",
+    }
+}
+
+// A text is as it has to be.
+fn fits(text: &str, wanted: Text) -> bool {
+    match wanted {
+        Text::Is(whole) => text == whole,
+        Text::Either(one, other) => text == one || text == other,
+        Text::Has(piece) => text.contains(piece),
+        Text::Some => !text.is_empty(),
+        Text::Refusal(refusal) => match text.strip_prefix("compressor: ") {
+            Some(rest) => rest.strip_suffix('\n') == Some(refusal),
+            None => false,
+        },
+    }
+}

@@ -1,0 +1,40 @@
+//! Writers that take only so much.
+use std::io::{Error, ErrorKind, Result as IoResult, Write};
+
+/// How a writer fails.
+#[derive(Clone, Copy, PartialEq, Eq)]
+pub enum Failure {
+    Error,
+    TakesNone,
+    Flush,
+}
+
+/// Takes as many bytes as it has room for, so many at once at most, and then fails.
+#[derive(Drop)]
+pub struct Narrow<'a> {
+    pub taken: &'a mut Vec<u8>,
+    pub room: usize,
+    pub at_once: usize,
+    pub failure: Failure,
+}
+
+impl<'a> Write for Narrow<'a> {
+    fn write(&mut self, buf: &[u8]) -> IoResult<usize> {
+        let (taken, _) = buf.split_at(buf.len().min(self.room).min(self.at_once));
+        if taken.is_empty() && self.failure == Failure::Error {
+            return Err(Error::from(ErrorKind::StorageFull));
+        }
+        if self.taken.extend_from_slice(taken).is_err() {
+            return Err(Error::from(ErrorKind::OutOfMemory));
+        }
+        self.room -= taken.len();
+        Ok(taken.len())
+    }
+
+    fn flush(&mut self) -> IoResult<()> {
+        if self.failure == Failure::Flush {
+            return Err(Error::from(ErrorKind::StorageFull));
+        }
+        Ok(())
+    }
+}
