@@ -6,9 +6,7 @@ use comp_sweep::gate::Gate;
 use std::process::Abort;
 use std::sync::atomic::{AtomicU64, Ordering};
 use std::test::Fail;
-
-// How often a region waits at most for the other one.
-const TURNS: u64 = 10_000_000;
+use worked_heaps::builders::met;
 
 // A gate that holds each of the regions 0 and 1 until the other one has begun, and counts those for which it was in vain.
 #[derive(Drop)]
@@ -25,17 +23,6 @@ impl Meeting {
             missed: AtomicU64::new(0),
         }
     }
-}
-
-// Says that one region has begun, and waits some turns until the other has.
-fn met(own: &AtomicU64, other: &AtomicU64) -> bool {
-    own.store(1, Ordering::SeqCst);
-    for _ in 0..TURNS {
-        if other.load(Ordering::SeqCst) == 1 {
-            return true;
-        }
-    }
-    false
 }
 
 impl Gate for Meeting {

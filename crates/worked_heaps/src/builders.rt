@@ -6,8 +6,8 @@ use page_plan::plan::Plan;
 use std::alloc::Global;
 use std::sync::atomic::{AtomicU64, Ordering};
 
-// How often a build waits at most for the other one.
-const TURNS: u64 = 10_000_000;
+// How often one thread waits at most for the other: for some seconds, so that a thread which is not run for a while is still waited for.
+const TURNS: u64 = 4_000_000_000;
 
 /// A plan whose builds are counted.
 #[derive(Drop)]
@@ -79,8 +79,8 @@ impl Builder for Meeting {
     }
 }
 
-// Says that one build has begun, and waits some turns until the other has.
-fn met(own: &AtomicU64, other: &AtomicU64) -> bool {
+/// Says that one of two has begun, and waits until the other has: not for ever, so that the answer is whether it has.
+pub fn met(own: &AtomicU64, other: &AtomicU64) -> bool {
     own.store(1, Ordering::SeqCst);
     for _ in 0..TURNS {
         if other.load(Ordering::SeqCst) == 1 {
