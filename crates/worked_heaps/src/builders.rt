@@ -4,10 +4,11 @@ use heap_layout::page_words::PageWords;
 use page_plan::builder::Builder;
 use page_plan::plan::Plan;
 use std::alloc::Global;
+use std::hint;
 use std::sync::atomic::{AtomicU64, Ordering};
 
-// How often one thread waits at most for the other: for some seconds, so that a thread which is not run for a while is still waited for.
-const TURNS: u64 = 4_000_000_000;
+// How often one thread looks at most for the other. It rests between two looks, so that another thread which is not run for a while is still waited for.
+const TURNS: u64 = 10_000_000;
 
 /// A plan whose builds are counted.
 #[derive(Drop)]
@@ -86,6 +87,7 @@ pub fn met(own: &AtomicU64, other: &AtomicU64) -> bool {
         if other.load(Ordering::SeqCst) == 1 {
             return true;
         }
+        hint::spin_loop();
     }
     false
 }
