@@ -113,7 +113,7 @@ fn prints_its_version(rt: HostRuntime) -> Result<(), Fail> {
 }
 
 // Small heaps that are compacted, the first one over a longer file; and a dump that cannot be created.
-const COMPACTED: [Step; 11] = [
+const COMPACTED: [Step; 13] = [
     Step::Write("none.tests.img", &EMPTY_IMAGE),
     Step::Write("one.tests.img", &THREE_IMAGE),
     Step::Write(
@@ -122,8 +122,10 @@ const COMPACTED: [Step; 11] = [
     ),
     Step::Prints("compact none.tests.img all.tests.out", "live 0\n"),
     Step::Length("all.tests.out", 44),
+    Step::Prints("audit none.tests.img all.tests.out", "ok 0\n"),
     Step::Prints("compact one.tests.img all.tests.out", "live 4\n"),
     Step::Length("all.tests.out", 573),
+    Step::Prints("audit one.tests.img all.tests.out", "ok 4\n"),
     Step::Refuses(
         "compact one.tests.img absent.tests/three.out",
         "",
@@ -140,20 +142,29 @@ fn compacts_files(rt: HostRuntime) -> Result<(), Fail> {
 }
 
 // The twenty pages, compacted by some workers; and what is refused then.
-const SWEPT: [Step; 11] = [
+const SWEPT: [Step; 17] = [
     Step::Write("run.tests.img", &TWENTY_IMAGE),
     Step::Prints("compact run.tests.img run.tests.out", "live 1280\n"),
     Step::Length("run.tests.out", 10_464),
+    Step::Prints("audit run.tests.img run.tests.out", "ok 1280\n"),
     Step::Prints(
         "compact --workers 1 run.tests.img run.tests.out",
         "live 1280\n",
     ),
     Step::Length("run.tests.out", 10_460),
+    Step::Prints("audit run.tests.img run.tests.out", "ok 1280\n"),
+    Step::Prints(
+        "compact --workers 4 run.tests.img run.tests.out",
+        "live 1280\n",
+    ),
+    Step::Length("run.tests.out", 10_472),
+    Step::Prints("audit run.tests.img run.tests.out", "ok 1280\n"),
     Step::Prints(
         "compact run.tests.img --workers=64 run.tests.out",
         "live 1280\n",
     ),
     Step::Length("run.tests.out", 10_712),
+    Step::Prints("audit run.tests.img run.tests.out", "ok 1280\n"),
     Step::Refuses(
         "compact run.tests.img absent.tests/run.out",
         "",

@@ -26,6 +26,11 @@ mapped f (Some x) y e = (x, refl, cc)
 words_read : (words : List (List ℕ)) (first name : List ℕ) (more : List (List ℕ)) (m : ℕ) (ns : List ℕ) → words ≡ first ∷ name ∷ more → number_of first ≡ Some m → numbers_of more ≡ Some ns → line_of words ≡ line_with m name ns
 words_read words first name more m ns p q r = rw (p, q, r) refl
 
+-- where each word was a number, these are the numbers
+pub all_read : (all : Bool) (numbers : List ℕ) (o : Option (List ℕ)) → cond all (Some numbers) None ≡ o → all ≡ true → o ≡ Some numbers
+all_read true numbers o e h = sym e
+all_read false numbers o e h = absurd cc
+
 -- a line is judged by its words
 pub line_read : (ms rs n : ℕ) (text first middle name rest : List ℕ) (mutator : ℕ) (numbers : List ℕ) → ms < 2 ^ 8 → rs < 2 ^ 16
     → parts 32 text ≡ first ∷ parts 32 middle → parts 32 middle ≡ name ∷ parts 32 rest

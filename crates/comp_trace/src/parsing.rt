@@ -27,10 +27,11 @@ pub fn parse(alloc: Global, text: &[u8], mutators: u8, roots: u16) -> Result<Tra
     ensures bounds { IfOk result (λ trace. (mutators_of trace ≡ mutators) × (roots_of trace ≡ roots)) }
 {
     let mut lines = Vec::new(alloc);
+    let mut room = Vec::new(alloc);
     let mut n = 1;
     let mut rest = text;
     while let Some((line, more)) = cut(rest, b'\n') {
-        lines.push(read_line(alloc, line, mutators, roots, n)?)?;
+        lines.push(read_line(line, &mut room, mutators, roots, n)?)?;
         n += 1;
         rest = more;
     }

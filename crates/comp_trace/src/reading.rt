@@ -7,7 +7,6 @@ use crate::fault::TraceFault;
 use crate::line::{Action, Line};
 use crate::numbers::{read_number, read_numbers};
 use crate::words::cut;
-use std::alloc::Global;
 
 /// How many registers a mutator has.
 const REGISTERS: u8 = 16;
@@ -127,10 +126,10 @@ fn judge(
     }
 }
 
-/// The line of a text without its line feed, or the first thing that is wrong with it.
+/// The line of a text without its line feed, or the first thing that is wrong with it. Its numbers are read into `room`, which serves one line after another.
 pub(crate) fn read_line(
-    alloc: Global,
     text: &[u8],
+    room: &mut Vec<u128>,
     mutators: u8,
     roots: u16,
     n: u64,
@@ -147,8 +146,8 @@ pub(crate) fn read_line(
     let Some(mutator) = read_number(first) else {
         return bad;
     };
-    let Some(numbers) = read_numbers(alloc, rest)? else {
+    if !read_numbers(rest, room)? {
         return bad;
-    };
-    judge(mutator, name, &numbers, mutators, roots, n)
+    }
+    judge(mutator, name, room, mutators, roots, n)
 }

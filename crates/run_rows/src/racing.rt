@@ -18,7 +18,7 @@ const STOPPED: [Part; 1] = [Part::Bytes(
     b"0 root 0 0\n0 load 1 0 0\n1 root 0 0\n1 load 1 0 0\n0 get 1 0\n1 get 1 0\n1 get 2 0\n0 get 1 0\n0 get 2 0\n1 get 1 0\n",
 )];
 
-const RACED: [Step; 10] = [
+const RACED: [Step; 12] = [
     Step::Write("race.tests.img", &THREE_IMAGE),
     Step::Write("race.tests.trace", &SEEN),
     Step::PrintsEither(
@@ -27,12 +27,14 @@ const RACED: [Step; 10] = [
         "6 11\nlive 4\n",
     ),
     Step::Length("race.tests.out", 656),
+    Step::Prints("audit race.tests.img race.tests.out", "ok 4\n"),
     Step::Write("race.tests.trace", &FRESH),
     Step::Prints(
         "race --mutators 1 --fresh 2 race.tests.img race.tests.trace race.tests.out",
         "live 5\n",
     ),
     Step::Length("race.tests.out", 1_129),
+    Step::Prints("audit race.tests.img race.tests.out", "ok 5\n"),
     Step::Remove("race.tests.img"),
     Step::Remove("race.tests.trace"),
     Step::Remove("race.tests.out"),

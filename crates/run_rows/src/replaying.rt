@@ -13,7 +13,7 @@ const SEEN: [Part; 1] = [Part::Bytes(
 // A new object becomes the field of the root.
 const FRESH: [Part; 1] = [Part::Bytes(b"0 root 0 0\n0 new 1 0 0 0\n0 store 0 0 1\n")];
 
-const REPLAYED: [Step; 14] = [
+const REPLAYED: [Step; 17] = [
     Step::Write("rows.tests.img", &THREE_IMAGE),
     Step::Write("rows.tests.trace", &SEEN),
     Step::Prints(
@@ -21,6 +21,7 @@ const REPLAYED: [Step; 14] = [
         "6 7\nlive 4\n",
     ),
     Step::Length("rows.tests.out", 656),
+    Step::Prints("audit rows.tests.img rows.tests.out", "ok 4\n"),
     Step::Write("rows.tests.trace", &FRESH),
     Step::Prints(
         "replay --mutators 1 --fresh 2 rows.tests.img rows.tests.trace rows.tests.out",
@@ -28,12 +29,14 @@ const REPLAYED: [Step; 14] = [
     ),
     Step::Length("rows.tests.out", 1_129),
     Step::Holds("rows.tests.out", &FRESH_DUMP),
+    Step::Prints("audit rows.tests.img rows.tests.out", "ok 5\n"),
     Step::Write("rows.tests.trace", &[]),
     Step::Prints(
         "replay --mutators=64 --fresh 0 rows.tests.img rows.tests.trace rows.tests.out",
         "live 4\n",
     ),
     Step::Length("rows.tests.out", 301),
+    Step::Prints("audit rows.tests.img rows.tests.out", "ok 4\n"),
     Step::Remove("rows.tests.img"),
     Step::Remove("rows.tests.trace"),
     Step::Remove("rows.tests.out"),
