@@ -1,8 +1,8 @@
 //! Which words ask what.
 use command_line::words::{Task, TraceRun, VERSION_LINE, read_task};
-use std::alloc::{AllocError, Global};
 use std::process::Abort;
 use std::test::Fail;
+use worked_files::runs::words_of;
 
 // What is asked.
 enum Asked {
@@ -28,15 +28,6 @@ enum Asked {
 
 // A line, and what it asks.
 type Row = (&'static str, &'static Asked);
-
-// The words of a line.
-fn words_of(alloc: Global, line: &str) -> Result<Vec<String>, AllocError> {
-    let mut words = Vec::new(alloc);
-    for word in line.split_whitespace() {
-        words.push(String::from_str(alloc, word)?)?;
-    }
-    Ok(words)
-}
 
 // A task is what is wanted.
 fn is_asked(task: &Task, wanted: &Asked) -> bool {
