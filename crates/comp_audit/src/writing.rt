@@ -63,29 +63,36 @@ fn write_eight<W: Write>(w: &mut Counted<W>, n: u64) -> Result<(), DumpFault>
     write_part(w, &n.to_le_bytes())
 }
 
-/// What a word is.
-fn write_kind<W: Write>(w: &mut Counted<W>, kind: Kind) -> Result<(), DumpFault>
-    ensures writes { Writes (W.contents (inner_of w.old)) (W.contents (inner_of w.new)) (one_byte (kind_code kind)) result }
-    ensures counts { CountsOne (failures_of w.old) (failures_of w.new) result }
+/// What a word is, as a byte.
+fn kind_byte(kind: Kind) -> u8
+    ensures { result ≡ kind_code kind }
 {
     match kind {
-        Kind::Header => write_one(w, 0),
-        Kind::Reference => write_one(w, 1),
-        Kind::Data => write_one(w, 2),
+        Kind::Header => 0,
+        Kind::Reference => 1,
+        Kind::Data => 2,
     }
 }
 
-/// An entry.
+/// The bytes of an entry.
+fn entry_part(entry: Entry) -> [u8; 19]
+    ensures { result ≡ entry_bytes entry }
+{
+    let mut part = [0; 19];
+    LittleEndian::write_u64(&mut part, entry.stamp);
+    part[8] = entry.writer;
+    part[9] = kind_byte(entry.kind);
+    part[10] = entry.offset;
+    LittleEndian::write_u64(&mut part[11..], entry.value);
+    part
+}
+
+/// An entry, as one part.
 fn write_entry<W: Write>(w: &mut Counted<W>, entry: Entry) -> Result<(), DumpFault>
     ensures writes { Writes (W.contents (inner_of w.old)) (W.contents (inner_of w.new)) (entry_bytes entry) result }
     ensures counts { CountsOne (failures_of w.old) (failures_of w.new) result }
 {
-    write_eight(w, entry.stamp)?;
-    write_one(w, entry.writer)?;
-    write_kind(w, entry.kind)?;
-    write_one(w, entry.offset)?;
-    write_eight(w, entry.value)?;
-    Ok(())
+    write_part(w, &entry_part(entry))
 }
 
 /// The entries of a page.
