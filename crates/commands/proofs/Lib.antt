@@ -7,6 +7,7 @@ pub mod Compacted
 pub mod Outcomes
 pub mod Pieces
 pub mod Histories
+pub mod Building
 pub mod Runnings
 pub mod ReplayRuns
 pub mod Performed

@@ -1,22 +1,26 @@
 -- A replay is one function of its files.
-use Rattle.std.proofs.Common.{◌≡◌, ℕ, ◌∙◌, List, [], ◌∷◌, ◌++◌, Some, length, map, refl, sym, ap, subst, arith}
+use Rattle.std.proofs.Common.{◌≡◌, ℕ, ◌∙◌, ◌<◌, List, [], ◌∷◌, Option, None, Some, length, map, refl, sym, ap, subst, arith}
 use Rattle.std.specs.List.{range_with_len}
+use Rattle.std.proofs.lemmas.List.{get_or_default, same_lists}
 use Rattle.heap_layout.specs.Encoding.{AreCounted, ImagesDiffer}
 use Rattle.heap_layout.specs.Faults.{IsAccepted}
 use Rattle.heap_layout.specs.Heap.{Heap}
 use Rattle.heap_layout.proofs.Marked.{passed, sizes-few}
 use Rattle.comp_journal.specs.declared.entry.Entry.{Entry}
-use Rattle.cell_steps.specs.Setup.{Setup}
+use Rattle.cell_steps.specs.Setup.{pages, Setup}
 use Rattle.comp_history.specs.Merged.{stamp_of}
 use Rattle.comp_trace.specs.Bytes.{flipped, no_entries}
 use Rattle.comp_trace.specs.Grammar.{parts}
 use Rattle.comp_trace.specs.Runs.{beginning, unstamped_on, AreAlike, MayBegin, Moment, Runs}
 use Rattle.comp_trace.specs.declared.line.Line.{Line}
+use Rattle.comp_trace.specs.declared.shown.Shown.{Shown}
 use Rattle.comp_trace.proofs.Determined.{determined}
 use Rattle.comp_trace.proofs.Inside.{ok_is, read_inside}
 use Rattle.comp_audit.specs.Dumped.{BuiltPage, Dumped}
-use Rattle.commands.specs.Replays.{AreOne, IsDumpAfter, IsPageAfter, ReplaysAreOne}
+use Rattle.comp_mutator.specs.Finishes.{named}
+use Rattle.commands.specs.Replays.{page_in, times_built, AreOne, IsDumpOfRun, IsPageAfter, ReplaysAreOne}
 use Rattle.commands.specs.Texts.{HasLines}
+use Rattle.commands.proofs.Outcomes.{same_parts}
 
 -- ---- entries with the same stamps
 
@@ -59,29 +63,50 @@ same_page u added p page found x y =
     let journal : page.journal ≡ found.journal = x.0 ∙ sym y.0 in
     ap (λ (w : List ℕ). record page { words = w }) words ∙ ap (λ (j : List Entry). record found { journal = j }) journal
 
-dumps_agree : (u : Setup) (end other : Moment) (dump second : Dumped) → AreAlike end other → IsDumpAfter u end.added dump → IsDumpAfter u other.added second → AreOne end other dump second
+-- a page is there in both dumps, or in none
+same_slot : (u : Setup) (added : List (ℕ × Entry)) (p : ℕ) (a b : Option BuiltPage) → times_built a ≡ times_built b → IsPageAfter u added p a → IsPageAfter u added p b → a ≡ b
+same_slot u added p None None once x y = refl
+same_slot u added p None (Some found) once x y = absurd (omega (arith, once))
+same_slot u added p (Some page) None once x y = absurd (omega (arith, once))
+same_slot u added p (Some page) (Some found) once x y = ap (λ (z : BuiltPage). Some z) (same_page u added p page found x y)
+
+abbrev moment_with : List Shown → List (ℕ × Entry) → List (ℕ × ℕ) → (ℕ → List ℕ) → Moment
+moment_with shown added built registers = record { registers = registers; added = added; shown = shown; built = built }
+
+same_moment : (end other : Moment) → end.added ≡ other.added → AreAlike end other → end ≡ other
+same_moment end other added alike =
+    ap (moment_with end.shown end.added end.built) alike.registers
+    ∙ ap (λ (l : List (ℕ × Entry)). moment_with end.shown l end.built other.registers) added
+    ∙ ap (λ (l : List Shown). moment_with l other.added end.built other.registers) alike.shown
+    ∙ ap (λ (l : List (ℕ × ℕ)). moment_with other.shown other.added l other.registers) alike.built
+
+-- dumps behind the same moment are the same
+same_dump : (u : Setup) (end : Moment) (dump second : Dumped) → IsDumpOfRun u end dump → IsDumpOfRun u end second → dump ≡ second
+same_dump u end dump second left right =
+    let x = left.after in
+    let y = right.after in
+    let builds : dump.builds ≡ second.builds = left.builds ∙ sym right.builds in
+    let many : length dump.pages ≡ length second.pages = x.places ∙ sym y.places in
+    let page : (p : ℕ) → p < pages u → page_in dump p ≡ page_in second p =
+    (λ p lt. same_slot u end.added p (page_in dump p) (page_in second p) (sym (x.once p lt) ∙ ap (named p) builds ∙ y.once p lt) (x.page_by_page p lt) (y.page_by_page p lt)) in
+    let slots : dump.pages ≡ second.pages = same_lists dump.pages second.pages many
+    (λ p d lt. get_or_default dump.pages p d None lt ∙ page p (omega (arith, lt, x.places)) ∙ get_or_default second.pages p None d (omega (arith, lt, many))) in
+    same_parts dump.mutators second.mutators dump.fresh second.fresh dump.total second.total dump.roots second.roots dump.pages second.pages dump.builds second.builds
+    (x.mutators ∙ sym y.mutators) (x.fresh ∙ sym y.fresh) (x.roots ∙ sym y.roots) slots builds (x.total ∙ sym y.total)
+
+dumps_agree : (u : Setup) (end other : Moment) (dump second : Dumped) → AreAlike end other → IsDumpOfRun u end dump → IsDumpOfRun u other second → AreOne end other dump second
 dumps_agree u end other dump second alike x y =
     let many : length end.added ≡ length other.added = counted end.added other.added alike.added in
-    let added : end.added ≡ other.added = same_entries end.added other.added alike.added (x.stamps ∙ ap (λ (n : ℕ). range_with_len 0 n) many ∙ sym y.stamps) in
-    let second_left : IsDumpAfter u end.added second = subst (λ (l : List (ℕ × Entry)). IsDumpAfter u l second) (sym added) y in
-    record {
-      shown = alike.shown;
-      added = added;
-      roots = x.roots ∙ sym y.roots;
-      total = x.total ∙ sym second_left.total;
-      places = x.places ∙ sym y.places;
-      pages = λ p page found inside there here.
-          let is_page : IsPageAfter u end.added p (Some page) = subst (IsPageAfter u end.added p) there (x.page_by_page p (omega (arith, inside, x.places))) in
-          let is_found : IsPageAfter u end.added p (Some found) = subst (IsPageAfter u end.added p) here (second_left.page_by_page p (omega (arith, inside, x.places))) in
-          same_page u end.added p page found is_page is_found;
-    }
+    let added : end.added ≡ other.added = same_entries end.added other.added alike.added (x.after.stamps ∙ ap (λ (n : ℕ). range_with_len 0 n) many ∙ sym y.after.stamps) in
+    let same = same_moment end other added alike in
+    record { moments = same; dumps = same_dump u end dump second x (subst (λ (m : Moment). IsDumpOfRun u m second) (sym same) y) }
 
 -- ---- the same bytes
 
 of_heap : (heap : Heap) (mutators fresh : ℕ) (text : List ℕ) (lines more : List Line) (end other : Moment) (dump second : Dumped)
     → HasLines mutators (length heap.roots) lines text → HasLines mutators (length heap.roots) more text
     → Runs (flipped heap mutators fresh) no_entries 1 lines beginning end → Runs (flipped heap mutators fresh) no_entries 1 more beginning other
-    → IsDumpAfter (flipped heap mutators fresh) end.added dump → IsDumpAfter (flipped heap mutators fresh) other.added second → AreOne end other dump second
+    → IsDumpOfRun (flipped heap mutators fresh) end dump → IsDumpOfRun (flipped heap mutators fresh) other second → AreOne end other dump second
 of_heap heap mutators fresh text lines more end other dump second text_is more_is runs ran left right =
     let u = flipped heap mutators fresh in
     let same : lines ≡ more = ok_is lines more (sym text_is ∙ more_is) in
@@ -100,7 +125,7 @@ record Over (mutators fresh : ℕ) (text : List ℕ) (end : Moment) (dump : Dump
   lines : List Line
   text_is : HasLines mutators (length heap.roots) lines text
   runs : Runs (flipped heap mutators fresh) no_entries 1 lines beginning end
-  left : IsDumpAfter (flipped heap mutators fresh) end.added dump
+  left : IsDumpOfRun (flipped heap mutators fresh) end dump
 
 pub are_one : ImagesDiffer → ReplaysAreOne
 are_one differ mutators fresh image text end other dump second x y =

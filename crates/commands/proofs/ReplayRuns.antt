@@ -45,7 +45,7 @@ replays gives contents mutators fresh before after lines shown f heap h written 
   run = has_run mutators fresh lines shown f heap h;
   written = written;
   printed = subst (λ (values : List Shown). PrintsRun before after values (live_words (live heap) + allocated h.end.added)) h.shown_is
-      (subst (PrintsRun before after shown) h.left.total printed);
+      (subst (PrintsRun before after shown) h.left.after.total printed);
 }
 
 -- the lines of a text for so many roots, which are those of the heap

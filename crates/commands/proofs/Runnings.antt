@@ -1,5 +1,6 @@
 -- What a replay over new mutators leaves.
 use Rattle.std.proofs.Common.{◌≡◌, ℕ, zero, suc, ◌<◌, ◌++◌, List, [], ◌∷◌, All, Ok, length, map, refl, sym, ap, subst, ◌∙◌, arith}
+use Rattle.std.specs.List.{range_with_len}
 use Rattle.std.proofs.lemmas.List.{length-map}
 use mathlib.Core.Option.{some, some-injective, some-ne-none}
 use lib.ListN.{get_elem?}
@@ -7,7 +8,6 @@ use Rattle.heap_layout.specs.Heap.{live, Heap}
 use Rattle.page_plan.specs.Sliding as sliding
 use Rattle.page_plan.specs.declared.builder.Builder.{Ghosts}
 use Rattle.comp_journal.specs.declared.entry.Entry.{Entry}
-use Rattle.cell_steps.specs.Lists.{on}
 use Rattle.cell_steps.specs.Passes.{did}
 use Rattle.cell_steps.specs.Setup.{Setup}
 use Rattle.cell_steps.specs.declared.pass.Pass.{Pass}
@@ -21,7 +21,8 @@ use Rattle.comp_mutator.specs.declared.finishing.Finished.{Finished}
 use Rattle.comp_mutator.specs.declared.mutator.Mutator.{Mutator}
 use Rattle.comp_mutator.specs.declared.space.Space.{Space}
 use Rattle.comp_trace.specs.Bytes.{flipped, no_entries, DidNothingYet, Interrupts}
-use Rattle.comp_trace.specs.Deeds.{deeds_of, HaveAll}
+use Rattle.comp_trace.specs.Builds.{built_by, HaveBuilt}
+use Rattle.comp_trace.specs.Deeds.{deeds_of}
 use Rattle.comp_trace.specs.Grammar.{parts, trace_of}
 use Rattle.comp_trace.specs.Races.{AreAll}
 use Rattle.comp_trace.specs.Replays.{HaveReplayed, HaveStopped}
@@ -31,8 +32,9 @@ use Rattle.comp_trace.specs.declared.line.Line.{Line}
 use Rattle.comp_trace.specs.declared.shown.Shown.{Shown}
 use Rattle.comp_trace.proofs.Bytes.{deeds_none, have_none, interrupts_of}
 use Rattle.comp_trace.proofs.Inside.{read_inside}
-use Rattle.commands.specs.Replays.{dumped_of, IsDumpAfter, IsHalted, IsReplayedHeap}
+use Rattle.commands.specs.Replays.{dumped_of, IsDumpOfRun, IsHalted, IsReplayedHeap}
 use Rattle.commands.specs.declared.refusal.Refusal.TheVariants.{Trace}
+use Rattle.commands.proofs.Building.{lists_built}
 use Rattle.commands.proofs.Histories.{all_added, dump_after, same_history}
 
 -- all mutators stand in the order of their numbers, and none is missing
@@ -59,10 +61,10 @@ pub setup_is : (u : Setup) → u.compacted ≡ sliding.pages (live u.heap) → u
 setup_is u e = ap (setup_with u.heap u.fresh u.mutators) e
 
 pub replayed_heap : {L : Type 0} (u : Setup) (before after : List (Mutator L)) (text : List ℕ) (lines : List Line) (shown : List Shown) (f : Finished)
-    → u.compacted ≡ sliding.pages (live u.heap) → DidNothingYet before → length before ≡ u.mutators → length after ≡ u.mutators
+    → u.compacted ≡ sliding.pages (live u.heap) → DidNothingYet before → HaveBuilt before [] → 0 < u.mutators → length before ≡ u.mutators → length after ≡ u.mutators
     → trace_of u.mutators (length u.heap.roots) text ≡ Ok lines → HaveReplayed u before after lines shown → IsFinished u (map pass_of after) f
     → IsReplayedHeap u.mutators u.fresh lines shown f u.heap
-replayed_heap {L} u before after text lines shown f compacted none many still text_is replayed end =
+replayed_heap {L} u before after text lines shown f compacted none unbuilt some_mutators many still text_is replayed end =
     let ran = replayed no_entries (have_none before none) in
     let added = ran.0.added in
     let crew : length (map pass_of after) ≡ u.mutators = length-map after pass_of ∙ still in
@@ -74,12 +76,13 @@ replayed_heap {L} u before after text lines shown f compacted none many still te
     let below : k < length before = omega (arith, many, still, is_inside after k m.0 m.1) in
     ap did (sym m.2) ∙ sym (deeds_at after k m.0 m.1) ∙ ran.1.did k below ∙ ap (λ (l : List (ℕ × Entry)). l ++ written_by k added) (deeds_none before none k)) in
     let same = same_history u (map pass_of after) f end added (all_added u (length (map pass_of after)) lines beginning ran.0 refl inside ran.1.runs) did_is in
+    let lists = lists_built u after f ran.0.built (omega (arith, some_mutators, still)) end.pages (ran.2 unbuilt) ∙ ap (λ (n : ℕ). map (λ (k : ℕ). built_by k ran.0.built) (range_with_len 0 n)) still in
     let v : u ≡ flipped u.heap u.mutators u.fresh = setup_is u compacted in
     record {
       end = ran.0;
       runs = subst (λ (w : Setup). Runs w no_entries 1 lines beginning ran.0) v ran.1.runs;
       shown_is = ran.1.shows;
-      left = subst (λ (w : Setup). IsDumpAfter w added (dumped_of u.mutators u.fresh f)) v (dump_after u (map pass_of after) f end crew added same);
+      left = subst (λ (w : Setup). IsDumpOfRun w ran.0 (dumped_of u.mutators u.fresh f)) v (record { after = dump_after u (map pass_of after) f end crew added same; builds = lists });
     }
 
 -- a replay that stopped is a run that was halted

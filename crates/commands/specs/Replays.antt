@@ -17,6 +17,7 @@ use Rattle.comp_mutator.specs.Finishes.{builds_in, live_of, pages_of, roots_of}
 use Rattle.comp_mutator.specs.Finishes as finishes
 use Rattle.comp_mutator.specs.declared.finishing.Finished.{Finished}
 use Rattle.comp_mutator.specs.declared.refusal.Refusal.TheVariants as refusals
+use Rattle.comp_trace.specs.Builds.{built_by}
 use Rattle.comp_trace.specs.Bytes.{flipped, no_entries, Interrupts}
 use Rattle.comp_trace.specs.Runs.{beginning, Moment, Runs}
 use Rattle.comp_trace.specs.declared.fault.TraceFault.{TraceFault}
@@ -69,6 +70,11 @@ pub record IsDumpAfter (u : Setup) (added : List (ℕ × Entry)) (dump : Dumped)
   -- the words that slid, and those of the objects that the run made
   pub total : dump.total ≡ live_words (live u.heap) + allocated added
 
+-- The dump of a flipped heap, behind a run by one thread that led here: each mutator built what the run says, in order.
+pub record IsDumpOfRun (u : Setup) (end : Moment) (dump : Dumped) : Type 0 where
+  pub after : IsDumpAfter u end.added dump
+  pub builds : dump.builds ≡ map (λ (k : ℕ). built_by k end.built) (range_with_len 0 u.mutators)
+
 -- the dump of a finished heap that was flipped with so many mutators and fresh pages
 abbrev pub dumped_of : ℕ → ℕ → Finished → Dumped
 dumped_of mutators fresh f = record {
@@ -85,7 +91,7 @@ pub record IsReplayedHeap (mutators fresh : ℕ) (lines : List Line) (shown : Li
   pub end : Moment
   pub runs : Runs (flipped heap mutators fresh) no_entries 1 lines beginning end
   pub shown_is : shown ≡ end.shown
-  pub left : IsDumpAfter (flipped heap mutators fresh) end.added (dumped_of mutators fresh f)
+  pub left : IsDumpOfRun (flipped heap mutators fresh) end (dumped_of mutators fresh f)
 
 -- why the lines were not run to their end, or the heap was not finished, and what was shown until then: a line was refused, or memory was wanted
 abbrev pub IsHalted : ℕ → ℕ → List Line → List Shown → Heap → Refusal → Type 0
@@ -115,7 +121,7 @@ pub record HasRun (mutators fresh : ℕ) (lines : List Line) (heap : Heap) : Typ
   pub end : Moment
   pub runs : Runs (flipped heap mutators fresh) no_entries 1 lines beginning end
   pub dump : Dumped
-  pub left : IsDumpAfter (flipped heap mutators fresh) end.added dump
+  pub left : IsDumpOfRun (flipped heap mutators fresh) end dump
 
 -- the bytes of its dump
 abbrev pub dump_of_run : {mutators fresh : ℕ} {lines : List Line} {heap : Heap} → HasRun mutators fresh lines heap → List ℕ
@@ -197,16 +203,13 @@ pub record IsReplay (mutators fresh : ℕ) (image text : List ℕ) (end : Moment
   pub lines : List Line
   pub text_is : HasLines mutators (length heap.roots) lines text
   pub runs : Runs (flipped heap mutators fresh) no_entries 1 lines beginning end
-  pub left : IsDumpAfter (flipped heap mutators fresh) end.added dump
+  pub left : IsDumpOfRun (flipped heap mutators fresh) end dump
 
--- Two replays show the same values and add the same entries; their dumps have the same roots and live words, and each page that both have built is the same.
+-- Two replays lead to the same moment, where the same values were shown, the same entries added with the same stamps, and the same pages built; and their dumps are
+-- the same.
 pub record AreOne (end other : Moment) (dump second : Dumped) : Type 0 where
-  pub shown : end.shown ≡ other.shown
-  pub added : end.added ≡ other.added
-  pub roots : dump.roots ≡ second.roots
-  pub total : dump.total ≡ second.total
-  pub places : length dump.pages ≡ length second.pages
-  pub pages : (p : ℕ) (page found : BuiltPage) → p < length dump.pages → page_in dump p ≡ Some page → page_in second p ≡ Some found → page ≡ found
+  pub moments : end ≡ other
+  pub dumps : dump ≡ second
 
 -- the same bytes, with the same numbers of mutators and of fresh pages, have one replay
 abbrev pub ReplaysAreOne : Type 0

@@ -1,5 +1,5 @@
 -- What callers know of a flipped heap: its mutators are all of its space's, and its roots are as many as the heap's.
-use Rattle.std.proofs.Common.{◌≡◌, ℕ, List, length, map, Some, sym, ap, ◌∙◌}
+use Rattle.std.proofs.Common.{◌≡◌, ℕ, List, [], length, map, Some, inl, sym, ap, ◌∙◌}
 use Rattle.std.proofs.lemmas.List.{length-map}
 use Rattle.heap_layout.specs.Heap.{Heap, live}
 use Rattle.page_plan.specs.Sliding.{forward}
@@ -11,6 +11,7 @@ use Rattle.comp_mutator.specs.Forwarded.{AreForwarded}
 use Rattle.comp_mutator.specs.Mutators.{cells_of, pass_of, setup_of, AreMutatorsOf}
 use Rattle.comp_mutator.specs.declared.mutator.Mutator.{Mutator}
 use Rattle.comp_mutator.specs.declared.space.Space.{Space}
+use Rattle.comp_trace.specs.Builds.{HaveBuilt}
 use Rattle.comp_trace.specs.Bytes.{DidNothingYet}
 use Rattle.comp_trace.specs.Races.{AreAll}
 
@@ -28,3 +29,7 @@ all_of space n mutators of new whole = record {
 -- new mutators have written nothing
 pub none_done : {L : Type 0} (table : Steps) (n : ℕ) (mutators : List (Mutator L)) → AreNew table n (map pass_of mutators) → DidNothingYet mutators
 none_done table n mutators new k m at = (new.new k (pass_of m) (at_map pass_of mutators k m at)).did
+
+-- nor have they built anything
+pub none_built : {L : Type 0} (table : Steps) (n : ℕ) (mutators : List (Mutator L)) → AreNew table n (map pass_of mutators) → HaveBuilt mutators []
+none_built table n mutators new = inl (record { own = λ k m at. (new.new k (pass_of m) (at_map pass_of mutators k m at)).builds; known = λ p there. cc })

@@ -28,6 +28,7 @@ use Rattle.comp_mutator.specs.Fields.{place_of, IsFieldOf}
 use Rattle.comp_mutator.specs.Reads.{Reads}
 use Rattle.comp_mutator.proofs.OwnPages.{filled_append, on_append, own_fresh}
 use Rattle.comp_trace.specs.Acting.{registers_after, shown_at}
+use Rattle.comp_trace.specs.Builds.{built_after, touched}
 use Rattle.comp_trace.specs.Runs.{beginning, unstamped, unstamped_on, used_by, with_entries, Acts, AreAlike, Does, IsDetermined, IsOneEntry, MakesObject, Moment, Runs, WritesField}
 use Rattle.comp_trace.specs.declared.line.Action.{Action}
 use Rattle.comp_trace.specs.declared.line.Action.TheVariants.{Root, Load, Get, Store, Put, New, Nil}
@@ -209,10 +210,11 @@ module _ (u : Setup) (js ls : Journals) (slid : u.compacted ≡ sliding.pages (l
   record OneOutcome (action : Action) (registers : List ℕ) (xs ys : List (ℕ × Entry)) (a b : ℕ) : Type 0 where
     after : registers_after action registers a ≡ registers_after action registers b
     shown : (n : ℕ) → shown_at n action a ≡ shown_at n action b
+    touches : touched u action registers a ≡ touched u action registers b
     added : map unstamped_on xs ≡ map unstamped_on ys
 
   by_answer : (action : Action) (registers : List ℕ) (xs ys : List (ℕ × Entry)) (a b : ℕ) → a ≡ b → map unstamped_on xs ≡ map unstamped_on ys → OneOutcome action registers xs ys a b
-  by_answer action registers xs ys a b e added = record { after = ap (registers_after action registers) e; shown = λ n. ap (shown_at n action) e; added = added }
+  by_answer action registers xs ys a b e added = record { after = ap (registers_after action registers) e; shown = λ n. ap (shown_at n action) e; touches = ap (touched u action registers) e; added = added }
 
   acts_once : (m : ℕ) (action : Action) (registers : List ℕ) (xs ys : List (ℕ × Entry)) (a b : ℕ) → Acts u js m action registers xs a → Acts u ls m action registers ys b → OneOutcome action registers xs ys a b
   acts_once m (Root to root) registers xs ys a b x y = by_answer (Root to root) registers xs ys a b (let e : Some a ≡ Some b = sym x.1 ∙ y.1 in cc) (ap (map unstamped_on) (x.0 ∙ sym y.0))
@@ -221,9 +223,9 @@ module _ (u : Setup) (js ls : Journals) (slid : u.compacted ≡ sliding.pages (l
   acts_once m (Get object field) registers xs ys a b x y =
       by_answer (Get object field) registers xs ys a b (reads_once Data (slice_index registers object) field a b x.1 y.1) (ap (map unstamped_on) (x.0 ∙ sym y.0))
   acts_once m (Store object field value) registers xs ys a b x y =
-      record { after = refl; shown = λ n. refl; added = writes_once m Reference (slice_index registers object) field (slice_index registers value) xs ys a b x y }
+      record { after = refl; shown = λ n. refl; touches = refl; added = writes_once m Reference (slice_index registers object) field (slice_index registers value) xs ys a b x y }
   acts_once m (Put object field value) registers xs ys a b x y =
-      record { after = refl; shown = λ n. refl; added = writes_once m Data (slice_index registers object) field value xs ys a b x y }
+      record { after = refl; shown = λ n. refl; touches = refl; added = writes_once m Data (slice_index registers object) field value xs ys a b x y }
   acts_once m (New to refs data_words tag) registers xs ys a b x y =
       let once = makes_once m (header_word refs data_words tag) xs ys a b x y in by_answer (New to refs data_words tag) registers xs ys a b once.0 once.1
   acts_once m (Nil to) registers xs ys a b x y = by_answer (Nil to) registers xs ys a b (x.1 ∙ sym y.1) (ap (map unstamped_on) (x.0 ∙ sym y.0))
@@ -308,6 +310,8 @@ module _ (u : Setup) (start other : Journals) (slid : u.compacted ≡ sliding.pa
           added = ap (map unstamped_on) x.added ∙ map_append unstamped_on a.added x.new ∙ ap (λ (l : List (ℕ × Entry)). l ++ map unstamped_on x.new) alike.added
               ∙ ap (λ (l : List (ℕ × Entry)). map unstamped_on b.added ++ l) one.added ∙ sym (map_append unstamped_on b.added y.new) ∙ sym (ap (map unstamped_on) y.added);
           shown = x.shown ∙ ap (λ (l : List Shown). a.shown ++ l) (one.shown n) ∙ ap (λ (l : List Shown). l ++ shown_at n line.action y.answer) alike.shown ∙ sym y.shown;
+          built = x.built ∙ ap (built_after a.built m) one.touches ∙ ap (λ (r : List ℕ). built_after a.built m (touched u line.action r y.answer)) (sym held)
+              ∙ ap (λ (l : List (ℕ × ℕ)). built_after l m (touched u line.action (b.registers m) y.answer)) alike.built ∙ sym y.built;
         },
         subst (λ (l : List (ℕ × Entry)). Headed u (with_entries start l)) (sym x.added)
             (subst (Headed u) (with_more start a.added x.new) (acts_heads u (with_entries start a.added) m lt heads line.action registers x.new x.answer x.acts)),
@@ -325,4 +329,4 @@ pub determined : (u : Setup) (lines : List Line) → IsDetermined u lines
 determined u lines start other begins same a b x y =
     runs_alike u start other begins.slid same 1 lines beginning beginning a b begins.mutators
     (none_more u start [] (λ p. heads_lawful u p [] (start p) (begins.lawful p)) refl)
-    (record { registers = refl; added = refl; shown = refl }) x y
+    (record { registers = refl; added = refl; shown = refl; built = refl }) x y

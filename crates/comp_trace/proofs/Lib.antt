@@ -15,6 +15,7 @@ pub mod MadeObjects
 pub mod LineRuns
 pub mod MeetingRounds
 pub mod MetPairs
+pub mod Building
 pub mod RowLists
 pub mod StepLists
 pub mod Standing

@@ -1,11 +1,13 @@
 -- Mutators as a list, and their passes by places.
-use Rattle.std.proofs.Common.{◌≡◌, ℕ, zero, suc, ◌<◌, ◌++◌, List, [], ◌∷◌, length, get_or, refl, sym, ap, subst, ◌∙◌, arith}
+use Rattle.std.proofs.Common.{◌≡◌, ℕ, zero, suc, ◌<◌, ◌++◌, List, [], ◌∷◌, length, get_or, inl, inr, refl, sym, ap, subst, ◌∙◌, arith}
+use Rattle.std.specs.Prelude.{◌⊎◌}
 use mathlib.Core.Option.{some}
 use lib.ListN.{get_elem?}
 use Rattle.page_plan.specs.declared.builder.Builder.{Ghosts}
 use Rattle.comp_journal.specs.declared.entry.Entry.{Entry}
 use Rattle.cell_steps.specs.Locks.{Journals}
-use Rattle.cell_steps.specs.Passes.{did, number_of}
+use Rattle.cell_steps.specs.Lists.{times}
+use Rattle.cell_steps.specs.Passes.{builds_of, did, number_of, HasSeenBuilt}
 use Rattle.cell_steps.specs.Setup.{Setup}
 use Rattle.cell_steps.specs.declared.pass.Pass.{Pass}
 use Rattle.cell_steps.proofs.Sums.{is_inside, read_at}
@@ -14,12 +16,14 @@ use Rattle.comp_history.specs.Merged.{written_by}
 use Rattle.comp_mutator.specs.Mutators.{cells_of, pass_of, setup_of, AreMutatorsOf}
 use Rattle.comp_mutator.specs.declared.mutator.Mutator.{Mutator}
 use Rattle.comp_mutator.specs.declared.space.Space.{Space}
+use Rattle.comp_trace.specs.Builds.{built_by, HaveBuilt}
 use Rattle.comp_trace.specs.Deeds.{deeds_of, AreMerged, Deeds, HaveAll}
 use Rattle.comp_trace.specs.Runs.{with_entries}
 use Rattle.comp_trace.specs.Races.{AreAll}
 use Rattle.comp_trace.specs.Rounds.{row, Advances, AreLater, DidNothing, Learns}
 use Rattle.comp_trace.specs.declared.line.Action.{Action}
 use Rattle.comp_trace.proofs.BetweenRounds.{dids, IsCrew}
+use Rattle.comp_trace.proofs.Building.{BuiltTheirs, HaveStrange}
 use Rattle.comp_trace.proofs.Merging.{merged_by}
 use Rattle.comp_trace.proofs.OwnLines.{at_or}
 
@@ -84,3 +88,21 @@ later_by old new d long h = record {
 
 pub nothing_by : {L : Type 0} (old new : List (Mutator L)) (d : Mutator L) → length new ≡ length old → ((k : ℕ) → k < length old → did (row d new k) ≡ did (row d old k)) → DidNothing old new
 nothing_by old new d long h k lt = deeds_at new d k (omega (arith, lt, long)) ∙ h k lt ∙ sym (deeds_at old d k lt)
+
+-- what was built, by places
+pub rows_built : {L : Type 0} (mutators : List (Mutator L)) (d : Mutator L) (built : List (ℕ × ℕ)) → HaveBuilt mutators built
+    → BuiltTheirs (length mutators) (row d mutators) built ⊎ HaveStrange (length mutators) (row d mutators)
+rows_built mutators d built (inl h) = inl (record {
+  own = λ k lt. h.own k (get_or mutators k d) (at_or mutators k d lt);
+  known = λ p k there lt. h.known p there k (get_or mutators k d) (at_or mutators k d lt);
+})
+rows_built mutators d built (inr (p, h)) = inr (p, λ k lt. h k (get_or mutators k d) (at_or mutators k d lt))
+
+pub have_built : {L : Type 0} (mutators : List (Mutator L)) (d : Mutator L) (built : List (ℕ × ℕ)) → BuiltTheirs (length mutators) (row d mutators) built ⊎ HaveStrange (length mutators) (row d mutators)
+    → HaveBuilt mutators built
+have_built mutators d built (inl h) = inl (record {
+  own = λ k m at. subst (λ (x : Pass). builds_of x ≡ built_by k built) (row_at mutators d m k at) (h.own k (is_inside mutators k m at));
+  known = λ p there k m at. subst (λ (x : Pass). HasSeenBuilt x p) (row_at mutators d m k at) (h.known p k there (is_inside mutators k m at));
+})
+have_built mutators d built (inr (p, h)) =
+    inr (p, λ k m at. subst (λ (x : Pass). HasSeenBuilt x p × (times p (builds_of x) ≡ 0)) (row_at mutators d m k at) (h k (is_inside mutators k m at)))

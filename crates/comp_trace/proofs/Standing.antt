@@ -18,6 +18,7 @@ use Rattle.comp_mutator.specs.Mutators.{pass_of}
 use Rattle.comp_mutator.specs.declared.mutator.Mutator.{Mutator}
 use Rattle.comp_mutator.specs.declared.refusal.Refusal.{Refusal}
 use Rattle.comp_trace.specs.Acting.{null_registers, registers_after, shown_at}
+use Rattle.comp_trace.specs.Builds.{built_after, touched, BuildOn, HaveBuilt}
 use Rattle.comp_trace.specs.Deeds.{deeds_of, AreMerged, Deeds, HaveStart, IsMerged, KnowTheirs}
 use Rattle.comp_trace.specs.Replays.{CannotGoOn, GoesOn, RanTo, StandsAt}
 use Rattle.comp_trace.specs.Rounds.{Advances, AreLater, DidNothing, IsTurnedDown, Learns, RanLine, WasTurnedDown}
@@ -67,6 +68,7 @@ module _ (u : Setup) (n : ℕ) (start : Journals) (first deeds : Deeds) (now : M
         → ((journals : Journals) → AreMerged n deeds journals → Advances u n line.mutator deeds later journals line.action own answer)
         → registers ≡ registers_after line.action own answer → showing ≡ shown ++ shown_at number line.action answer
         → (after : Moment) × StandsAt u n start first later (lines ++ line ∷ []) (set items line.mutator registers) showing after
+        × (after.built ≡ built_after now.built line.mutator (touched u line.action own answer))
     line_stands later number answer registers showing counted advances set_is shows =
         let m = line.mutator in
         let did = advances (with_entries start now.added) stands.merged in
@@ -74,13 +76,14 @@ module _ (u : Setup) (n : ℕ) (start : Journals) (first deeds : Deeds) (now : M
           registers = but now.registers m (registers_after line.action (now.registers m) answer);
           added = now.added ++ did.added;
           shown = now.shown ++ shown_at number line.action answer;
+          built = built_after now.built m (touched u line.action (now.registers m) answer);
         } in (
           after,
           record {
             ran = record {
               runs = runs_more u start 1 lines line beginning now after stands.ran.runs
                   (subst (λ (k : ℕ). Does u start k line now after) counted
-                  (record { answer = answer; new = did.added; acts = subst (λ (r : List ℕ). Acts u (with_entries start now.added) m line.action r did.added answer) held did.acts; registers = refl; added = refl; shown = refl }));
+                  (record { answer = answer; new = did.added; acts = subst (λ (r : List ℕ). Acts u (with_entries start now.added) m line.action r did.added answer) held did.acts; registers = refl; added = refl; shown = refl; built = refl }));
               did = λ k lt. did.did k lt ∙ ap (λ (l : List (ℕ × Entry)). l ++ written_by k did.added) (stands.ran.did k lt) ∙ append_assoc (first k) (written_by k now.added) (written_by k did.added)
                   ∙ ap (λ (l : List (ℕ × Entry)). first k ++ l) (sym (written_append k now.added did.added));
               shows = shows ∙ ap (λ (l : List Shown). l ++ shown_at number line.action answer) stands.ran.shows;
@@ -91,6 +94,7 @@ module _ (u : Setup) (n : ℕ) (start : Journals) (first deeds : Deeds) (now : M
                 ∙ sym (ap (λ t. cond t (registers_after line.action (now.registers m) answer) (now.registers k)) (eq-eqb k m same)))
                 (λ other. get_or-set_other items m k registers [] other ∙ stands.hold k lt ∙ sym (ap (λ t. cond t (registers_after line.action (now.registers m) answer) (now.registers k)) (ne_eqb k m other)));
           },
+          ap (λ (r : List ℕ). built_after now.built m (touched u line.action r answer)) (sym held),
         )
 
 -- the same, where the place of the mutator was made of the line's number
@@ -101,12 +105,16 @@ module _ {L : Type 0} (u : Setup) (before after : List (Mutator L)) (line : Line
     is_there = is ∙ ap (λ (k : ℕ). get_or items k []) at
 
     pub goes_on : (number answer : ℕ) (registers : List ℕ) (shown showing : List Shown) → RanLine u i before after line.action own answer → registers ≡ registers_after line.action own answer
-        → showing ≡ shown ++ shown_at number line.action answer → GoesOn u line number before after items (set items i registers) shown showing
-    goes_on number answer registers shown showing ran set_is shows start first lines now counted stands =
+        → showing ≡ shown ++ shown_at number line.action answer → BuildOn i (touched u line.action own answer) before after
+        → GoesOn u line number before after items (set items i registers) shown showing
+    goes_on number answer registers shown showing ran set_is shows builds start first lines now counted stands =
         let n = length before in
         let one = line_stands u n start first (deeds_of before) now lines line items shown own inside wide is_there stands (deeds_of after) number answer registers showing counted
-        (λ journals merged. subst (λ (k : ℕ). Advances u n k (deeds_of before) (deeds_of after) journals line.action own answer) at (ran journals merged)) set_is shows in
-        (one.0, subst (λ (k : ℕ). StandsAt u n start first (deeds_of after) (lines ++ line ∷ []) (set items k registers) showing one.0) (sym at) one.1)
+        (λ journals merged. subst (λ (k : ℕ). Advances u n k (deeds_of before) (deeds_of after) journals line.action own answer) at (ran journals merged)) set_is shows in (
+          one.0,
+          subst (λ (k : ℕ). StandsAt u n start first (deeds_of after) (lines ++ line ∷ []) (set items k registers) showing one.0) (sym at) one.1,
+          λ built. subst (HaveBuilt after) (ap (λ (k : ℕ). built_after now.built k (touched u line.action own answer)) at ∙ sym one.2) (builds now.built built),
+        )
 
     pub cannot_go_on : (shown : List Shown) (refusal : Refusal) → WasTurnedDown u i before after line.action own refusal → CannotGoOn u line before after items shown refusal
     cannot_go_on shown refusal cause start first lines now stands =

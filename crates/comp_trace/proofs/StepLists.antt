@@ -1,6 +1,6 @@
 -- A line between two rounds of meetings, of the mutators as lists: before it, after the first round, and after the second one. The call was of the mutator at place i.
 use Rattle.std.proofs.Common.{◌≡◌, ℕ, ◌<◌, List, length, get_or, set, sym, ap, subst, ◌∙◌, arith, get_or-set_same, get_or-set_other, length-set}
-use Rattle.std.specs.Prelude.{IfErr, OnErr, Result, Ok, Err}
+use Rattle.std.specs.Prelude.{◌⊎◌, IfErr, OnErr, Option, Result, Ok, Err}
 use native.Mathlib.Decide.{ℕ_discrete}
 use mathlib.Core.Logic.{dite}
 use Rattle.page_plan.specs.declared.builder.Builder.{Ghosts}
@@ -15,14 +15,16 @@ use Rattle.comp_mutator.specs.declared.mutator.Mutator.{Mutator}
 use Rattle.comp_mutator.specs.declared.refusal.Refusal.{Refusal}
 use Rattle.comp_mutator.specs.declared.space.Space.{Space}
 use Rattle.comp_trace.specs.Acting.{Answers, Refuses}
+use Rattle.comp_trace.specs.Builds.{built_after, BuildOn, BuildsTouched}
 use Rattle.comp_trace.specs.Deeds.{deeds_of, HaveAll, HaveStart}
 use Rattle.comp_trace.specs.Races.{AreAll}
 use Rattle.comp_trace.specs.Rounds.{row, AreLater, DidNothing, HasMetAll, IsTurnedDown, Learns, Met, RanLine}
 use Rattle.comp_trace.specs.declared.line.Action.{Action}
 use Rattle.comp_trace.proofs.BetweenRounds.{dids, IsCrew}
+use Rattle.comp_trace.proofs.Building.{builds_on, BuiltTheirs, HaveStrange}
 use Rattle.comp_trace.proofs.LineRuns.{advances, known, knows, knows_starts, learnt, same_deeds, IsBetween}
 use Rattle.comp_trace.proofs.OwnLines.{at_or}
-use Rattle.comp_trace.proofs.RowLists.{advances_by, all_later, crew_later, crew_of, deeds_at, have_all, later_by, nothing_by, row_at, rows_have}
+use Rattle.comp_trace.proofs.RowLists.{advances_by, all_later, crew_later, crew_of, deeds_at, have_all, have_built, later_by, nothing_by, row_at, rows_built, rows_have}
 
 module _ {L : Type 0} {B : Type 0} {g : Ghosts B} (space : Space L B g) (i : ℕ) (first met last : List (Mutator L)) (m new : Mutator L)
     (all : AreAll space first) (inside : i < length first) (is : m ≡ get_or met i m)
@@ -104,6 +106,12 @@ module _ {L : Type 0} {B : Type 0} {g : Ghosts B} (space : Space L B g) (i : ℕ
         (λ k lt. sym (deeds_at first m k lt)) (λ k lt. sym (deeds_at last m k (omega (arith, lt, long))))
         (advances _ n i _ _ _ _ line u journals (rows_have first m journals have) action registers answer
         (subst (λ (x : Pass). Answers u action registers (row m met i) x answer) (sym acted_is) h))
+
+    pub builds_last : (page : Option ℕ) → BuildsTouched page (pass_of (get_or met i m)) (pass_of new) → BuildOn i page first last
+    builds_last page touched built have =
+        let then = builds_on n i inside (row m first) (row m met) (row m acted) (row m last) line.before line.after call.0 others page
+        (subst (λ (x : Pass). BuildsTouched page (row m met i) x) (sym acted_is) touched) built (rows_built first m built have) in
+        have_built last m (built_after built i page) (subst (λ (k : ℕ). BuiltTheirs k (row m last) (built_after built i page) ⊎ HaveStrange k (row m last)) (sym long) then)
 
     pub was_turned_down : (action : Action) (registers : List ℕ) (refusal : Refusal) → did (pass_of new) ≡ did (pass_of (get_or met i m))
         → Refuses u action registers (pass_of (get_or met i m)) (pass_of new) refusal → (journals : Journals) → HaveAll first journals → IsTurnedDown u i first last journals action registers refusal

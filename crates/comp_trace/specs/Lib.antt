@@ -3,6 +3,7 @@ pub mod Acting
 pub mod Traces
 pub mod Races
 pub mod Runners
+pub mod Builds
 pub mod Runs
 pub mod Deeds
 pub mod Rounds

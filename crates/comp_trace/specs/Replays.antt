@@ -7,6 +7,7 @@ use Rattle.cell_steps.specs.Locks.{Journals}
 use Rattle.comp_history.specs.Merged.{written_by}
 use Rattle.comp_mutator.specs.declared.mutator.Mutator.{Mutator}
 use Rattle.comp_mutator.specs.declared.refusal.Refusal.{Refusal}
+use Rattle.comp_trace.specs.Builds.{HaveBuilt}
 use Rattle.comp_trace.specs.Deeds.{deeds_of, AreMerged, Deeds, HaveAll}
 use Rattle.comp_trace.specs.Rounds.{IsTurnedDown}
 use Rattle.comp_trace.specs.Runs.{beginning, with_entries, Moment, Runs}
@@ -21,13 +22,14 @@ pub record RanTo (u : Setup) (n : ℕ) (start : Journals) (first deeds : Deeds) 
   pub did : (k : ℕ) → k < n → deeds k ≡ first k ++ written_by k end.added
   pub shows : shown ≡ end.shown
 
--- the same, to some moment
-abbrev pub Ran : Setup → ℕ → Journals → Deeds → Deeds → List Line → List Shown → Type 0
-Ran u n start first deeds lines shown = (end : Moment) × RanTo u n start first deeds lines shown end
+-- where the mutators had built nothing before, they have built what was built by this moment
+abbrev pub BuiltTo : {L : Type 0} → List (Mutator L) → List (Mutator L) → Moment → Type 0
+BuiltTo before after end = HaveBuilt before [] → HaveBuilt after end.built
 
--- the mutators ran the lines, which showed this, by all journals that have just what they had done before
+-- the mutators ran the lines, which showed this, by all journals that have just what they had done before, to some moment
 abbrev pub HaveReplayed : {L : Type 0} → Setup → List (Mutator L) → List (Mutator L) → List Line → List Shown → Type 0
-HaveReplayed u before after lines shown = (start : Journals) → HaveAll before start → Ran u (length before) start (deeds_of before) (deeds_of after) lines shown
+HaveReplayed u before after lines shown =
+    (start : Journals) → HaveAll before start → (end : Moment) × RanTo u (length before) start (deeds_of before) (deeds_of after) lines shown end × BuiltTo before after end
 
 -- The line after the first `count` was refused, and those before it were run. At its call its mutator knew all that the mutators did, and there was a cause.
 pub record IsRefused {L : Type 0} (u : Setup) (start : Journals) (before after : List (Mutator L)) (lines : List Line) (shown : List Shown) (number : ℕ) (refusal : Refusal) : Type 0 where
@@ -78,6 +80,7 @@ GoesOn u line number before after items holding shown showing =
     (start : Journals) (first : Deeds) (lines : List Line) (now : Moment) → number ≡ 1 + length lines
     → StandsAt u (length before) start first (deeds_of before) lines items shown now
     → (later : Moment) × StandsAt u (length before) start first (deeds_of after) (lines ++ line ∷ []) holding showing later
+    × (HaveBuilt before now.built → HaveBuilt after later.built)
 
 -- the line's call was refused, wherever the replay stood
 abbrev pub CannotGoOn : {L : Type 0} → Setup → Line → List (Mutator L) → List (Mutator L) → List (List ℕ) → List Shown → Refusal → Type 0

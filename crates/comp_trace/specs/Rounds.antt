@@ -6,7 +6,7 @@ use Rattle.comp_journal.specs.declared.entry.Entry.{Entry}
 use Rattle.cell_steps.specs.Setup.{Setup}
 use Rattle.cell_steps.specs.Locks.{Journals}
 use Rattle.cell_steps.specs.Lists.{StartsWith}
-use Rattle.cell_steps.specs.Passes.{did, seen, KnowsFresh}
+use Rattle.cell_steps.specs.Passes.{builds_of, did, seen, HasSeenBuilt, KnowsFresh}
 use Rattle.cell_steps.specs.declared.pass.Pass.{Pass}
 use Rattle.page_cells.specs.Calls.{Grows, Meets}
 use Rattle.page_cells.specs.Objects.{HasHeader}
@@ -30,15 +30,18 @@ pub record HaveMet {L : Type 0} (k i : ℕ) (old new : List (Mutator L)) : Type 
   pub same : (d : Mutator L) (p : ℕ) → seen (row d new k) p ≡ seen (row d new i) p
   pub others : (d : Mutator L) (j : ℕ) → j ≢ i → j ≢ k → row d new j ≡ row d old j
 
--- Of n passes, that of number i met each other one, which was told.
+-- Of n passes, that of number i met each other one, which was told: they did and built nothing.
 pub record Met (n i : ℕ) (old new : ℕ → Pass) : Type 0 where
   pub did : (k : ℕ) → k < n → did (new k) ≡ did (old k)
+  pub builds : (k : ℕ) → k < n → builds_of (new k) ≡ builds_of (old k)
   pub grows : (k : ℕ) → k < n → Grows (old k) (new k)
   -- it has then seen what each had seen, and knows the starts that each knew
   pub more : (k p : ℕ) → k < n → StartsWith (seen (new i) p) (seen (old k) p)
   pub starts : (k p offset : ℕ) → k < n → KnowsFresh (old k) p offset → KnowsFresh (new i) p offset
+  pub built : (k p : ℕ) → k < n → HasSeenBuilt (old k) p → HasSeenBuilt (new i) p
   -- each has seen what it had seen, and nothing that it has not
   pub told : (k p : ℕ) → k < n → StartsWith (seen (new k) p) (seen (old i) p)
+  pub told_built : (k p : ℕ) → k < n → HasSeenBuilt (old i) p → HasSeenBuilt (new k) p
   pub within : (k p : ℕ) → k < n → StartsWith (seen (new i) p) (seen (new k) p)
   -- of each page it has seen what one of them had seen
   pub longest : (p : ℕ) → (k : ℕ) × (k < n) × (seen (new i) p ≡ seen (old k) p)

@@ -15,6 +15,7 @@ use Rattle.comp_mutator.specs.Fields.{IsFieldOf}
 use Rattle.comp_mutator.specs.Reads.{Reads}
 use Rattle.comp_mutator.specs.Allocations.{own_page}
 use Rattle.comp_trace.specs.Acting.{null_registers, registers_after, shown_at}
+use Rattle.comp_trace.specs.Builds.{built_after, touched}
 use Rattle.comp_trace.specs.declared.line.Action.{Action}
 use Rattle.comp_trace.specs.declared.line.Action.TheVariants.{Root, Load, Get, Store, Put, New, Nil}
 use Rattle.comp_trace.specs.declared.line.Line.{Line}
@@ -24,15 +25,17 @@ use Rattle.comp_trace.specs.declared.shown.Shown.{Shown}
 abbrev pub with_entries : Journals → List (ℕ × Entry) → Journals
 with_entries journals added p = journals p ++ on p added
 
--- Where a run stands: what the registers of each mutator hold, the entries that were added since it began, and the values that were shown, each with its line.
+-- Where a run stands: what the registers of each mutator hold, the entries that were added since it began, the values that were shown, each with its line, and the
+-- pages that were built, each behind the mutator that built it.
 pub record Moment : Type 0 where
   pub registers : ℕ → List ℕ
   pub added : List (ℕ × Entry)
   pub shown : List Shown
+  pub built : List (ℕ × ℕ)
 
--- no register has been set, nothing was added, and nothing shown
+-- no register has been set, and nothing was added, shown or built
 abbrev pub beginning : Moment
-beginning = record { registers = λ m. null_registers; added = []; shown = [] }
+beginning = record { registers = λ m. null_registers; added = []; shown = []; built = [] }
 
 -- the stamp is above those of all entries in the journals
 abbrev pub IsAboveAll : Journals → ℕ → Type 0
@@ -82,6 +85,7 @@ pub record Does (u : Setup) (start : Journals) (n : ℕ) (line : Line) (before a
   pub registers : after.registers ≡ but before.registers line.mutator (registers_after line.action (before.registers line.mutator) answer)
   pub added : after.added ≡ before.added ++ new
   pub shown : after.shown ≡ before.shown ++ shown_at n line.action answer
+  pub built : after.built ≡ built_after before.built line.mutator (touched u line.action (before.registers line.mutator) answer)
 
 -- the lines from line n on are run, from one moment to another
 abbrev pub Runs : Setup → Journals → ℕ → List Line → Moment → Moment → Type 0
@@ -102,6 +106,7 @@ pub record AreAlike (a b : Moment) : Type 0 where
   pub registers : a.registers ≡ b.registers
   pub added : map unstamped_on a.added ≡ map unstamped_on b.added
   pub shown : a.shown ≡ b.shown
+  pub built : a.built ≡ b.built
 
 -- journals with which a run may begin
 pub record MayBegin (u : Setup) (lines : List Line) (start : Journals) : Type 0 where
@@ -109,8 +114,8 @@ pub record MayBegin (u : Setup) (lines : List Line) (start : Journals) : Type 0 
   pub lawful : (p : ℕ) → IsLawful u p (start p)
   pub mutators : All (λ (line : Line). line.mutator < u.mutators) lines
 
--- Two runs of the same lines, from journals that are the same but for stamps, show the same values, leave the same in the registers, and add the same entries but
--- for stamps.
+-- Two runs of the same lines, from journals that are the same but for stamps, show the same values, leave the same in the registers, build the same pages by the same
+-- mutators, and add the same entries but for stamps.
 abbrev pub IsDetermined : Setup → List Line → Type 0
 IsDetermined u lines = (start other : Journals) → MayBegin u lines start → ((p : ℕ) → map unstamped (start p) ≡ map unstamped (other p))
     → (a b : Moment) → Runs u start 1 lines beginning a → Runs u other 1 lines beginning b → AreAlike a b

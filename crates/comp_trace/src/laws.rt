@@ -8,7 +8,7 @@ ghost use Rattle.comp_trace.specs.declared.line.Line.{Line};
 use heap_layout::laws::images_differ;
 
 /// The run of a trace by one thread is determined by the heap, the numbers of mutators and of fresh pages, the entries at the start, and the lines: what is shown, what
-/// registers hold, and the entries that are added, but for their stamps.
+/// registers hold, which mutator builds which page, and the entries that are added, but for their stamps.
 pub fn runs_are_determined()
     ensures { (u : Setup) (lines : List Line) → IsDetermined u lines }
 {}

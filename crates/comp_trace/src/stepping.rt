@@ -2,6 +2,7 @@
 ghost use Rattle.std.specs.Prelude.{◌≡◌, ◌≢◌, ◌<◌, length, IfErr, IfOk, OnErr};
 ghost use Rattle.comp_mutator.specs.Mutators.{setup_of, AreMutatorsOf};
 ghost use Rattle.comp_trace.specs.Acting.{registers_after, Fits};
+ghost use Rattle.comp_trace.specs.Builds.{touched, BuildOn};
 ghost use Rattle.comp_trace.specs.Deeds.{HaveStart};
 ghost use Rattle.comp_trace.specs.Races.{AreAll};
 ghost use Rattle.comp_trace.specs.Rounds.{AreLater, DidNothing, HasMetAll, HaveMet, RanLine, WasTurnedDown};
@@ -69,6 +70,7 @@ pub(crate) fn step<L: Ledger, B: Builder>(
     ensures did { OnErr result (DidNothing mutators.old mutators.new) }
     ensures kept { OnErr result (registers.new ≡ registers.old) }
     ensures registers { IfOk result (λ answer. registers.new ≡ registers_after action registers.old answer) }
+    ensures builds { IfOk result (λ answer. BuildOn i (touched (setup_of space.now) action registers.old answer) mutators.old mutators.new) }
     ensures ran { IfOk result (RanLine (setup_of space.now) i mutators.old mutators.new action registers.old) }
     ensures refused { IfErr result (WasTurnedDown (setup_of space.now) i mutators.old mutators.new action registers.old) }
 {

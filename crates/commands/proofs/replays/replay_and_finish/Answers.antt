@@ -1,10 +1,10 @@
-use Rattle.std.proofs.Common.{refl, subst}
+use Rattle.std.proofs.Common.{refl, subst, arith}
 use Rattle.page_cells.specs.Cells.{steps_of}
 use Rattle.comp_mutator.specs.Finishes.{IsUnfinishedFor}
 use Rattle.comp_mutator.specs.Mutators.{cells_of, setup_of}
 use Rattle.comp_mutator.specs.declared.finishing.FinishFault.{FinishFault}
 use Rattle.comp_trace.specs.Traces.{lines_of}
-use Rattle.comp_trace.proofs.Callers.{all_of, none_done}
+use Rattle.comp_trace.proofs.Callers.{all_of, none_built, none_done}
 use Rattle.commands.proofs.Runnings.{all_row, all_there, halted_run, replayed_heap}
 use Rattle.commands.proofs.replays.replay_and_finish.Goals as goal
 
@@ -18,7 +18,8 @@ returns-in-Ok-finish-clause-replayed g c =
     let after = c.replay.new.mutators.items in
     let all = c.replay.ensures.all in
     replayed_heap (setup_of space) before after c.requires.read.0 (lines_of c.args.trace.now) c.in-Ok.shown.items c.in-Ok-finish.finished
-    c.requires.compacted (none_done (steps_of (cells_of space)) (setup_of space).mutators before c.requires.new)
+    c.requires.compacted (none_done (steps_of (cells_of space)) (setup_of space).mutators before c.requires.new) (none_built (steps_of (cells_of space)) (setup_of space).mutators before c.requires.new)
+    (let some = c.in-Ok-finish.ensures.flipped.some_mutators in omega (arith, some))
     (all_of space (setup_of space).mutators before c.requires.of c.requires.new refl).count all.count c.requires.read.1 c.in-Ok.ensures.ran
     (c.in-Ok-finish.ensures.ordered (all_row space after all))
 

@@ -33,7 +33,7 @@ loop-j-init g c =
       first = λ z k lt. refl;
       start = λ some. absurd (omega (arith, some));
       room = (omega (arith, ap length v.items), v.capacity);
-      stands = λ start have. (beginning, subst (λ (l : List Shown). StandsAt u n start first first [] items l beginning) (sym v.items) (stands_first u n start first items have c.in-Ok-all_null.ensures));
+      stands = λ start have. (beginning, subst (λ (l : List Shown). StandsAt u n start first first [] items l beginning) (sym v.items) (stands_first u n start first items have c.in-Ok-all_null.ensures), λ built. built);
     }
 
 pub run_line-ran-requires-clause-line : goal.run_line-ran-requires-clause-line
@@ -105,8 +105,11 @@ loop-j-preserved g c =
           (sym c.deref_mut.ensures.value) h.1 in
           let counted : j + 1 ≡ 1 + length (take j lines) = omega (arith, length-take-le j lines (omega (arith, lt))) in
           let next = e.ran start (deeds_of olds) (take j lines) h.0 counted given in
-          let there = restand u (length c.loop-j.mutators) n start (deeds_of olds) (deeds_of new.mutators) (take j lines ++ one ∷ []) new.registers written new.shown.items next.0 i.later.count (sym back) next.1 in
-          (next.0, subst (λ (ls : List Line). StandsAt u n start (deeds_of olds) (deeds_of new.mutators) ls written new.shown.items next.0) (sym (take_more lines j no_line lt)) there);
+          let there = restand u (length c.loop-j.mutators) n start (deeds_of olds) (deeds_of new.mutators) (take j lines ++ one ∷ []) new.registers written new.shown.items next.0 i.later.count (sym back) next.1 in (
+            next.0,
+            subst (λ (ls : List Line). StandsAt u n start (deeds_of olds) (deeds_of new.mutators) ls written new.shown.items next.0) (sym (take_more lines j no_line lt)) there,
+            λ none. next.2 (h.2 none),
+          );
     }
 
 pub returns-clause-ran : goal.returns-clause-ran
@@ -115,4 +118,4 @@ returns-clause-ran g c = λ start have.
     let olds = c.args.mutators.now in
     let h = c.loop-j.invariant.stands start have in
     let all : take c.loop-j.j c.args.lines.now ≡ c.args.lines.now = take_all c.loop-j.j c.args.lines.now c.loop-j-test.false in
-    (h.0, subst (λ (ls : List Line). RanTo u (length olds) start (deeds_of olds) (deeds_of c.loop-j.mutators) ls c.loop-j.shown.items h.0) all h.1.ran)
+    (h.0, subst (λ (ls : List Line). RanTo u (length olds) start (deeds_of olds) (deeds_of c.loop-j.mutators) ls c.loop-j.shown.items h.0) all h.1.ran, h.2)

@@ -3,7 +3,7 @@ use Rattle.cell_steps.specs.Locks.{Journals}
 use Rattle.comp_mutator.specs.Mutators.{setup_of}
 use Rattle.comp_trace.specs.Deeds.{deeds_of, HaveAll, HaveStart}
 use Rattle.comp_trace.specs.Races.{AreAll}
-use Rattle.comp_trace.specs.Replays.{StandsAt}
+use Rattle.comp_trace.specs.Replays.{BuiltTo, StandsAt}
 use Rattle.comp_trace.specs.Rounds.{AreLater, DidNothing}
 use Rattle.comp_trace.specs.Runs.{Moment}
 use Rattle.comp_trace.proofs.replay.run_lines.Given as goal
@@ -17,5 +17,6 @@ invariant-loop-j g l = record {
   start : 0 < l.j → HaveStart (setup_of l.space) l.fn.mutators;
   room : (length l.shown.items ≤ l.j) × (length l.lines ≤ vec_capacity l.shown);
   stands : (start : Journals) → HaveAll l.fn.mutators start
-      → (now : Moment) × StandsAt (setup_of l.space) (length l.fn.mutators) start (deeds_of l.fn.mutators) (deeds_of l.mutators) (take l.j l.lines) l.registers.items l.shown.items now;
+      → (now : Moment) × StandsAt (setup_of l.space) (length l.fn.mutators) start (deeds_of l.fn.mutators) (deeds_of l.mutators) (take l.j l.lines) l.registers.items l.shown.items now
+      × BuiltTo l.fn.mutators l.mutators now;
 }

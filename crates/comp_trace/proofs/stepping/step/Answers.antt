@@ -4,7 +4,7 @@ use Rattle.comp_mutator.specs.Mutators.{pass_of, setup_of, IsMutatorOf}
 use Rattle.comp_trace.specs.Rounds.{Learns}
 use Rattle.comp_trace.proofs.MadeObjects.{learns_by}
 use Rattle.comp_trace.proofs.MetPairs.{each_set}
-use Rattle.comp_trace.proofs.StepLists.{all_last, err_with, has_start, later_last, nothing_done, ran_line, was_turned_down}
+use Rattle.comp_trace.proofs.StepLists.{all_last, builds_last, err_with, has_start, later_last, nothing_done, ran_line, was_turned_down}
 use Rattle.comp_trace.proofs.stepping.step.Given as given
 use Rattle.comp_trace.proofs.stepping.step.Goals as goal
 
@@ -47,6 +47,14 @@ returns-clause-ran g c =
     c.requires.all c.requires.inside c.index-mutators-i.is c.meet_others.ensures.of c.meet_others.auto.mutators c.meet_others.ensures.met (learns g c) c.meet_others-2.ensures.of c.meet_others-2.auto.mutators c.meet_others-2.ensures.met
     c.args.action c.args.registers.now answer went.answers)
     c.act-answer.ensures.went
+
+pub returns-clause-builds : goal.returns-clause-builds
+returns-clause-builds g c =
+    IfOk-weaker c.act-answer.result _ _
+    (λ answer touches. builds_last c.args.space.now c.args.i c.args.mutators.now c.meet_others.new.mutators c.meet_others-2.new.mutators c.index-mutators-i.result c.act-answer.new.m
+    c.requires.all c.requires.inside c.index-mutators-i.is c.meet_others.ensures.of c.meet_others.auto.mutators c.meet_others.ensures.met (learns g c) c.meet_others-2.ensures.of c.meet_others-2.auto.mutators c.meet_others-2.ensures.met
+    _ touches)
+    c.act-answer.ensures.builds
 
 pub returns-clause-refused : goal.returns-clause-refused
 returns-clause-refused g c =

@@ -1,0 +1,69 @@
+-- Which pages the lines of a trace build: each page is built by the mutator whose line is the first to touch it.
+use Rattle.std.specs.Prelude.{◌≡◌, ◌⊎◌, ℕ, ◌==◌, Bool, true, cond, List, [], ◌∷◌, ◌++◌, Option, None, Some, filter, map, option_map, slice_index}
+use Rattle.std.specs.List.{list_any}
+use mathlib.Core.Option.{some}
+use lib.ListN.{get_elem?}
+use Rattle.heap_layout.specs.Heap.{live}
+use Rattle.heap_layout.specs.declared.kind.Kind.{Kind}
+use Rattle.heap_layout.specs.declared.kind.Kind.TheVariants.{Reference, Data}
+use Rattle.page_plan.specs.Sliding.{shape_at}
+use Rattle.cell_steps.specs.Lists.{times, Each}
+use Rattle.cell_steps.specs.Passes.{builds_of, HasSeenBuilt}
+use Rattle.cell_steps.specs.Setup.{Setup}
+use Rattle.cell_steps.specs.declared.pass.Pass.{Pass}
+use Rattle.page_cells.specs.Objects.{page_at}
+use Rattle.comp_mutator.specs.Fields.{place_of}
+use Rattle.comp_mutator.specs.Mutators.{pass_of}
+use Rattle.comp_mutator.specs.Reads.{BuildsNothing, MayBuild}
+use Rattle.comp_mutator.specs.declared.mutator.Mutator.{Mutator}
+use Rattle.comp_trace.specs.declared.line.Action.{Action}
+use Rattle.comp_trace.specs.declared.line.Action.TheVariants.{Root, Load, Get, Store, Put, New, Nil}
+
+-- the page of a slid object's field; an object that a line made lies on a page that was built then
+abbrev pub slid_page : Setup → Kind → ℕ → ℕ → Option ℕ
+slid_page u kind object field = option_map (λ (header : ℕ). page_at (place_of kind object header field)) (shape_at (live u.heap) object)
+
+-- the page that a line may have to build whose call answered this, where there is one: that of a slid object's field, or that of the object which it makes
+abbrev pub touched : Setup → Action → List ℕ → ℕ → Option ℕ
+touched u (Root to root) registers answer = None
+touched u (Load to object field) registers answer = slid_page u Reference (slice_index registers object) field
+touched u (Get object field) registers answer = slid_page u Data (slice_index registers object) field
+touched u (Store object field value) registers answer = slid_page u Reference (slice_index registers object) field
+touched u (Put object field value) registers answer = slid_page u Data (slice_index registers object) field
+touched u (New to refs data_words tag) registers answer = Some (page_at answer)
+touched u (Nil to) registers answer = None
+
+-- the page is among those that were built, each of which stands with the mutator that built it
+abbrev pub is_built : List (ℕ × ℕ) → ℕ → Bool
+is_built built p = list_any (λ (x : ℕ × ℕ). x.1 == p) built
+
+-- what was built, once a line of mutator m touched this page: it builds the page where nobody had
+abbrev pub built_after : List (ℕ × ℕ) → ℕ → Option ℕ → List (ℕ × ℕ)
+built_after built m None = built
+built_after built m (Some p) = cond (is_built built p) built (built ++ (m, p) ∷ [])
+
+-- the pages that mutator k built, in order
+abbrev pub built_by : ℕ → List (ℕ × ℕ) → List ℕ
+built_by k built = map (λ (x : ℕ × ℕ). x.1) (filter (λ (x : ℕ × ℕ). x.0 == k) built)
+
+-- a call that touched this page built no other, and has then seen it built
+abbrev pub BuildsTouched : Option ℕ → Pass → Pass → Type 0
+BuildsTouched None old new = BuildsNothing old new
+BuildsTouched (Some p) old new = MayBuild p old new × HasSeenBuilt new p
+
+-- The mutators built just these pages, each its own in this order, and all of them know it.
+pub record BuiltJust {L : Type 0} (mutators : List (Mutator L)) (built : List (ℕ × ℕ)) : Type 0 where
+  pub own : (k : ℕ) (m : Mutator L) → get_elem? mutators k ≡ some m → builds_of (pass_of m) ≡ built_by k built
+  pub known : (p : ℕ) → is_built built p ≡ true → Each mutators (λ (m : Mutator L). HasSeenBuilt (pass_of m) p)
+
+-- there is a page that all of them have seen built, and that none of them built: where the mutators are all of a space's, it has none such in the end
+abbrev pub HaveStrangePage : {L : Type 0} → List (Mutator L) → Type 0
+HaveStrangePage {L} mutators = (p : ℕ) × Each mutators (λ (m : Mutator L). HasSeenBuilt (pass_of m) p × (times p (builds_of (pass_of m)) ≡ 0))
+
+-- the mutators built just these pages, unless there is one that none of them built
+abbrev pub HaveBuilt : {L : Type 0} → List (Mutator L) → List (ℕ × ℕ) → Type 0
+HaveBuilt mutators built = BuiltJust mutators built ⊎ HaveStrangePage mutators
+
+-- the mutator at place i touched this page
+abbrev pub BuildOn : {L : Type 0} → ℕ → Option ℕ → List (Mutator L) → List (Mutator L) → Type 0
+BuildOn i page before after = (built : List (ℕ × ℕ)) → HaveBuilt before built → HaveBuilt after (built_after built i page)
