@@ -10,6 +10,17 @@ use heap_layout::counted::Counted;
 use itoa::Buffer;
 use std::io::Write;
 
+/// Prints bytes.
+pub fn print_bytes<O: Write>(bytes: &[u8], out: &mut Counted<&mut O>) -> Result<(), Refusal>
+    requires { failures_of out.old < 2 ^ 64 - 1 }
+    ensures printed { OnOk result (Appends (O.contents (inner_of out.old).now) (O.contents (inner_of out.new).now) bytes.now) }
+    ensures cause { OnErr result (result ≡ Err Refusal.CannotPrint) }
+    ensures counts { CountsPrint (failures_of out.old) (failures_of out.new) result }
+    ensures same_writer { writer_of out.new ≡ writer_of out.old }
+{
+    out.write_part(bytes).map_err(|_| Refusal::CannotPrint)
+}
+
 /// Prints a text.
 pub fn print_text<O: Write>(text: &str, out: &mut Counted<&mut O>) -> Result<(), Refusal>
     requires { failures_of out.old < 2 ^ 64 - 1 }
@@ -18,8 +29,7 @@ pub fn print_text<O: Write>(text: &str, out: &mut Counted<&mut O>) -> Result<(),
     ensures counts { CountsPrint (failures_of out.old) (failures_of out.new) result }
     ensures same_writer { writer_of out.new ≡ writer_of out.old }
 {
-    out.write_part(text.as_bytes())
-        .map_err(|_| Refusal::CannotPrint)
+    print_bytes(text.as_bytes(), out)
 }
 
 /// Prints the decimal digits of a number.

@@ -16,7 +16,7 @@ use std::io::{BufReader, Read};
 use std::rt::Files;
 
 /// How many bytes of a text are fetched at once, at most.
-const PIECE: usize = 4_096;
+const PIECE: usize = 65_536;
 
 /// Where the traces lie that the program is given by their paths.
 pub trait Traces {
