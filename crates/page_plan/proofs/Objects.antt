@@ -138,6 +138,19 @@ moved-other objects words i (suc f) placed above lt =
     let behind = above (omega arith) in
     at-data words (forwarded objects) i (refs_of h) (data_of h) f placed.within (omega (arith, behind)) (omega arith) ∙ ap (λ (n : ℕ). get_or words n 0) same
 
+-- a reference of the k-th live object leads to the new place, among the slid words
+pub slid-reference : (heap : Heap) → IsClosed heap → (k f : ℕ) → k < length heap.marks → 1 ≤ f → f ≤ refs_of (get_or heap.words (get_or heap.marks k 0) 0)
+    → get_or (slid_words (live heap)) (live_words (take k (live heap)) + f) 0 ≡ forwarded (live heap) (get_or heap.words (get_or heap.marks k 0 + f) 0)
+slid-reference heap closed k f lt positive le =
+    slid-place heap closed k f lt (omega arith) ∙ moved-reference (live heap) heap.words (get_or heap.marks k 0) f (closed.placed k 0 lt) positive le
+
+-- its header and its data are there as they were
+pub slid-other : (heap : Heap) → IsClosed heap → (k f : ℕ) → k < length heap.marks → (1 ≤ f → refs_of (get_or heap.words (get_or heap.marks k 0) 0) < f)
+    → f < size_of (get_or heap.words (get_or heap.marks k 0) 0)
+    → get_or (slid_words (live heap)) (live_words (take k (live heap)) + f) 0 ≡ get_or heap.words (get_or heap.marks k 0 + f) 0
+slid-other heap closed k f lt above inside =
+    slid-place heap closed k f lt inside ∙ moved-other (live heap) heap.words (get_or heap.marks k 0) f (closed.placed k 0 lt) above inside
+
 -- each reference of a live object is a target
 pub reference-target : (heap : Heap) → IsClosed heap → (k f : ℕ) → k < length heap.marks → 1 ≤ f → f ≤ refs_of (get_or heap.words (get_or heap.marks k 0) 0)
     → IsTarget heap.marks (get_or heap.words (get_or heap.marks k 0 + f) 0)

@@ -146,11 +146,10 @@ impl Plan {
     {
         let mut page = PageWords::zeros(alloc)?;
         let mut cursor = page_builder::cursor_at(self, p);
-        for offset in 0..64 {
-            let word = page_builder::word_at(self, cursor);
-            // Found before the write, so that what was read of the object need not be read anew.
-            cursor = page_builder::next(self, cursor);
-            page.set(offset, word);
+        let begin = cursor.place;
+        let end = self.live_words().min(begin + 64);
+        while cursor.place < end {
+            cursor = page_builder::write_object(self, &mut page, begin, cursor, end);
         }
         Ok(page)
     }
