@@ -1,6 +1,7 @@
 //! Lines of a trace.
 ghost use Rattle.std.specs.Prelude.{◌≡◌, Some, Ok, Err, option_map, nat_le, if◌then◌else◌};
 ghost use Rattle.comp_trace.specs.declared.fault.TraceFault.TheVariants as faults;
+ghost use Rattle.comp_trace.specs.declared.line.Action.TheVariants as actions;
 ghost use Rattle.comp_trace.specs.Grammar.{judged, line_of, line_with, parts, IsReadAs};
 
 use crate::fault::TraceFault;
@@ -56,73 +57,135 @@ fn mutator_number(number: u128, mutators: u8, n: u64) -> Result<u8, TraceFault>
     }
 }
 
-/// The line of these numbers and this name, or the first thing that is wrong with it.
-fn judge(
-    mutator: u128,
-    name: &[u8],
-    numbers: &[u128],
+/// What the numbers of a line are held against, and which line it is.
+#[derive(Clone, Copy)]
+struct Limits {
     mutators: u8,
     roots: u16,
     n: u64,
-) -> Result<Line, TraceFault>
-    ensures { result ≡ judged mutators roots n (line_with mutator name.now numbers.now) }
+}
+
+fn root_line(mutator: u128, to: u128, root: u128, by: Limits) -> Result<Line, TraceFault>
+    ensures { result ≡ judged by.mutators by.roots by.n (Some (record { mutator = mutator; action = actions.Root to root })) }
 {
-    let mutator = mutator_number(mutator, mutators, n);
+    let mutator = mutator_number(mutator, by.mutators, by.n)?;
+    let action = Action::Root {
+        to: register(to, by.n)?,
+        root: root_number(root, by.roots, by.n)?,
+    };
+    Ok(Line { mutator, action })
+}
+
+fn load_line(
+    mutator: u128,
+    to: u128,
+    object: u128,
+    field: u128,
+    by: Limits,
+) -> Result<Line, TraceFault>
+    ensures { result ≡ judged by.mutators by.roots by.n (Some (record { mutator = mutator; action = actions.Load to object field })) }
+{
+    let mutator = mutator_number(mutator, by.mutators, by.n)?;
+    let action = Action::Load {
+        to: register(to, by.n)?,
+        object: register(object, by.n)?,
+        field: read_field(field, by.n)?,
+    };
+    Ok(Line { mutator, action })
+}
+
+fn get_line(mutator: u128, object: u128, field: u128, by: Limits) -> Result<Line, TraceFault>
+    ensures { result ≡ judged by.mutators by.roots by.n (Some (record { mutator = mutator; action = actions.Get object field })) }
+{
+    let mutator = mutator_number(mutator, by.mutators, by.n)?;
+    let action = Action::Get {
+        object: register(object, by.n)?,
+        field: read_field(field, by.n)?,
+    };
+    Ok(Line { mutator, action })
+}
+
+fn store_line(
+    mutator: u128,
+    object: u128,
+    field: u128,
+    value: u128,
+    by: Limits,
+) -> Result<Line, TraceFault>
+    ensures { result ≡ judged by.mutators by.roots by.n (Some (record { mutator = mutator; action = actions.Store object field value })) }
+{
+    let mutator = mutator_number(mutator, by.mutators, by.n)?;
+    let action = Action::Store {
+        object: register(object, by.n)?,
+        value: register(value, by.n)?,
+        field: read_field(field, by.n)?,
+    };
+    Ok(Line { mutator, action })
+}
+
+fn put_line(
+    mutator: u128,
+    object: u128,
+    field: u128,
+    value: u128,
+    by: Limits,
+) -> Result<Line, TraceFault>
+    ensures { result ≡ judged by.mutators by.roots by.n (Some (record { mutator = mutator; action = actions.Put object field value })) }
+{
+    let mutator = mutator_number(mutator, by.mutators, by.n)?;
+    let action = Action::Put {
+        object: register(object, by.n)?,
+        field: read_field(field, by.n)?,
+        value: read_value(value, by.n)?,
+    };
+    Ok(Line { mutator, action })
+}
+
+fn new_line(
+    mutator: u128,
+    to: u128,
+    refs: u128,
+    data_words: u128,
+    tag: u128,
+    by: Limits,
+) -> Result<Line, TraceFault>
+    ensures { result ≡ judged by.mutators by.roots by.n (Some (record { mutator = mutator; action = actions.New to refs data_words tag })) }
+{
+    let mutator = mutator_number(mutator, by.mutators, by.n)?;
+    let action = Action::New {
+        to: register(to, by.n)?,
+        refs: read_field(refs, by.n)?,
+        data_words: read_field(data_words, by.n)?,
+        tag: read_tag(tag, by.n)?,
+    };
+    Ok(Line { mutator, action })
+}
+
+fn nil_line(mutator: u128, to: u128, by: Limits) -> Result<Line, TraceFault>
+    ensures { result ≡ judged by.mutators by.roots by.n (Some (record { mutator = mutator; action = actions.Nil to })) }
+{
+    let mutator = mutator_number(mutator, by.mutators, by.n)?;
+    let action = Action::Nil {
+        to: register(to, by.n)?,
+    };
+    Ok(Line { mutator, action })
+}
+
+/// The line of these numbers and this name, or the first thing that is wrong with it.
+fn judge(mutator: u128, name: &[u8], numbers: &[u128], by: Limits) -> Result<Line, TraceFault>
+    ensures { result ≡ judged by.mutators by.roots by.n (line_with mutator name.now numbers.now) }
+{
     match (name, numbers) {
-        (b"root", [to, root]) => Ok(Line {
-            mutator: mutator?,
-            action: Action::Root {
-                to: register(*to, n)?,
-                root: root_number(*root, roots, n)?,
-            },
-        }),
-        (b"load", [to, object, field]) => Ok(Line {
-            mutator: mutator?,
-            action: Action::Load {
-                to: register(*to, n)?,
-                object: register(*object, n)?,
-                field: read_field(*field, n)?,
-            },
-        }),
-        (b"get", [object, field]) => Ok(Line {
-            mutator: mutator?,
-            action: Action::Get {
-                object: register(*object, n)?,
-                field: read_field(*field, n)?,
-            },
-        }),
-        (b"store", [object, field, value]) => Ok(Line {
-            mutator: mutator?,
-            action: Action::Store {
-                object: register(*object, n)?,
-                value: register(*value, n)?,
-                field: read_field(*field, n)?,
-            },
-        }),
-        (b"put", [object, field, value]) => Ok(Line {
-            mutator: mutator?,
-            action: Action::Put {
-                object: register(*object, n)?,
-                field: read_field(*field, n)?,
-                value: read_value(*value, n)?,
-            },
-        }),
-        (b"new", [to, refs, data_words, tag]) => Ok(Line {
-            mutator: mutator?,
-            action: Action::New {
-                to: register(*to, n)?,
-                refs: read_field(*refs, n)?,
-                data_words: read_field(*data_words, n)?,
-                tag: read_tag(*tag, n)?,
-            },
-        }),
-        (b"nil", [to]) => Ok(Line {
-            mutator: mutator?,
-            action: Action::Nil {
-                to: register(*to, n)?,
-            },
-        }),
-        _ => Err(TraceFault::BadLine(n)),
+        (b"root", [to, root]) => root_line(mutator, *to, *root, by),
+        (b"load", [to, object, field]) => load_line(mutator, *to, *object, *field, by),
+        (b"get", [object, field]) => get_line(mutator, *object, *field, by),
+        (b"store", [object, field, value]) => store_line(mutator, *object, *field, *value, by),
+        (b"put", [object, field, value]) => put_line(mutator, *object, *field, *value, by),
+        (b"new", [to, refs, data_words, tag]) => {
+            new_line(mutator, *to, *refs, *data_words, *tag, by)
+        }
+        (b"nil", [to]) => nil_line(mutator, *to, by),
+        _ => Err(TraceFault::BadLine(by.n)),
     }
 }
 
@@ -149,5 +212,6 @@ pub(crate) fn read_line(
     if !read_numbers(rest, room)? {
         return bad;
     }
-    judge(mutator, name, room, mutators, roots, n)
+    let by = Limits { mutators, roots, n };
+    judge(mutator, name, room, by)
 }
