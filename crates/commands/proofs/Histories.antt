@@ -24,8 +24,8 @@ use Rattle.comp_history.specs.Shares.{allocated}
 use Rattle.comp_history.proofs.Merging.{rises_all}
 use Rattle.comp_history.proofs.Pages.{on_in}
 use Rattle.comp_history.proofs.Sorted.{filter_has, in_filter, in_parts, same_rising, In, Rise}
-use Rattle.comp_mutator.specs.Finishes.{history_of, journals_of, pages_of, roots_of, there, IsFinished}
-use Rattle.comp_mutator.specs.declared.finishing.Finished.{Finished}
+use Rattle.comp_history.specs.Finishes.{history_of, journals_of, pages_of, roots_of, there, IsFinished}
+use Rattle.comp_history.specs.declared.finished.Finished.{Finished}
 use Rattle.comp_trace.specs.Bytes.{no_entries}
 use Rattle.comp_trace.specs.Runs.{with_entries, Acts, IsAboveAll, IsOneEntry, Moment, Runs}
 use Rattle.comp_trace.specs.declared.line.Action.{Action}

@@ -3,8 +3,8 @@ use Rattle.std.proofs.Common.{◌≡◌, ℕ, List, Option, Result, Ok, Err, IfE
 use Rattle.std.proofs.KnownBytes.{Appends-kept}
 use Rattle.std.specs.Io.KnownBytes.{Appends, Keeps}
 use Rattle.heap_layout.specs.Heap.{Heap}
-use Rattle.comp_mutator.specs.Finishes.{live_of}
-use Rattle.comp_mutator.specs.declared.finishing.Finished.{Finished}
+use Rattle.comp_history.specs.Finishes.{live_of}
+use Rattle.comp_history.specs.declared.finished.Finished.{Finished}
 use Rattle.comp_trace.specs.declared.fault.TraceFault.{TraceFault}
 use Rattle.comp_trace.specs.declared.fault.TraceFault.TheVariants.{BadLine, NoSuchMutator, NoSuchRegister, NumberTooLarge, NoSuchRoot, Refused}
 use Rattle.comp_trace.specs.declared.fault.TraceFault.TheVariants as traces

@@ -10,9 +10,9 @@ use Rattle.cell_steps.specs.declared.pass.Pass.{Pass}
 use Rattle.cell_steps.proofs.Sums.{is_inside, there_at}
 use Rattle.page_cells.specs.Cells.{steps_of, AreNew}
 use Rattle.page_cells.proofs.Rows.{at_map_back}
-use Rattle.comp_mutator.specs.Finishes.{history_of, IsFinished}
+use Rattle.comp_history.specs.Finishes.{history_of, IsFinished}
 use Rattle.comp_mutator.specs.Mutators.{cells_of, pass_of, setup_of}
-use Rattle.comp_mutator.specs.declared.finishing.Finished.{Finished}
+use Rattle.comp_history.specs.declared.finished.Finished.{Finished}
 use Rattle.comp_mutator.specs.declared.mutator.Mutator.{Mutator}
 use Rattle.comp_mutator.specs.declared.space.Space.{Space}
 use Rattle.comp_trace.specs.Grammar.{parts}

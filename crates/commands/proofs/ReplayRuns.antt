@@ -7,8 +7,8 @@ use Rattle.heap_layout.specs.Heap.{live, Heap}
 use Rattle.page_plan.specs.Sliding.{live_words}
 use Rattle.cell_steps.specs.Setup.{Setup}
 use Rattle.comp_history.specs.Shares.{allocated}
-use Rattle.comp_mutator.specs.Finishes.{builds_in, live_of, pages_of, roots_of}
-use Rattle.comp_mutator.specs.declared.finishing.Finished.{Finished}
+use Rattle.comp_history.specs.Finishes.{builds_in, live_of, pages_of, roots_of}
+use Rattle.comp_history.specs.declared.finished.Finished.{Finished}
 use Rattle.comp_trace.specs.Bytes.{flipped, Interrupts}
 use Rattle.comp_trace.specs.declared.fault.TraceFault.{TraceFault}
 use Rattle.comp_trace.specs.declared.fault.TraceFault.TheVariants.{BadLine, NoSuchMutator, NoSuchRegister, NumberTooLarge, NoSuchRoot, Refused}

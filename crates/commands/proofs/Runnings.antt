@@ -14,10 +14,10 @@ use Rattle.cell_steps.specs.declared.pass.Pass.{Pass}
 use Rattle.cell_steps.proofs.Sums.{is_inside, there_at}
 use Rattle.page_cells.proofs.Rows.{at_map_back}
 use Rattle.comp_history.specs.Merged.{written_by}
-use Rattle.comp_mutator.specs.Finishes.{IsFinished}
+use Rattle.comp_history.specs.Finishes.{IsFinished}
 use Rattle.comp_mutator.specs.Mutators.{pass_of, setup_of}
 use Rattle.comp_mutator.specs.Orders.{HasNumber, IsRow}
-use Rattle.comp_mutator.specs.declared.finishing.Finished.{Finished}
+use Rattle.comp_history.specs.declared.finished.Finished.{Finished}
 use Rattle.comp_mutator.specs.declared.mutator.Mutator.{Mutator}
 use Rattle.comp_mutator.specs.declared.space.Space.{Space}
 use Rattle.comp_trace.specs.Bytes.{flipped, no_entries, DidNothingYet, Interrupts}

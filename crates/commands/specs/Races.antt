@@ -10,8 +10,8 @@ use Rattle.cell_steps.specs.Setup.{Setup}
 use Rattle.cell_steps.specs.declared.pass.Pass.{Pass}
 use Rattle.cell_steps.specs.declared.steps.Steps.{Steps}
 use Rattle.page_cells.specs.Cells.{AreNew}
-use Rattle.comp_mutator.specs.Finishes.{history_of, live_of, IsFinished}
-use Rattle.comp_mutator.specs.declared.finishing.Finished.{Finished}
+use Rattle.comp_history.specs.Finishes.{history_of, live_of, IsFinished}
+use Rattle.comp_history.specs.declared.finished.Finished.{Finished}
 use Rattle.comp_mutator.specs.declared.refusal.Refusal.{Refusal as CallRefusal}
 use Rattle.comp_mutator.specs.declared.refusal.Refusal.TheVariants as refusals
 use Rattle.comp_trace.specs.Bytes.{flipped}

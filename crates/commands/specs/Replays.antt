@@ -13,9 +13,9 @@ use Rattle.cell_steps.specs.Lists.{on}
 use Rattle.cell_steps.specs.Setup.{Setup, base_of, pages}
 use Rattle.comp_history.specs.Merged.{stamp_of}
 use Rattle.comp_history.specs.Shares.{allocated}
-use Rattle.comp_mutator.specs.Finishes.{builds_in, live_of, pages_of, roots_of}
-use Rattle.comp_mutator.specs.Finishes as finishes
-use Rattle.comp_mutator.specs.declared.finishing.Finished.{Finished}
+use Rattle.comp_history.specs.Finishes.{builds_in, live_of, pages_of, roots_of}
+use Rattle.comp_history.specs.Finishes as finishes
+use Rattle.comp_history.specs.declared.finished.Finished.{Finished}
 use Rattle.comp_mutator.specs.declared.refusal.Refusal.TheVariants as refusals
 use Rattle.comp_trace.specs.Builds.{built_by}
 use Rattle.comp_trace.specs.Bytes.{flipped, no_entries, Interrupts}

@@ -1,7 +1,7 @@
 //! The command `replay`.
 ghost use Rattle.std.specs.Prelude.{◌≡◌, ◌-◌, ◌^◌, ◌<◌, ◌≤◌, IfErr, OnOk};
 ghost use Rattle.heap_layout.specs.Counted.{inner_of, failures_of, writer_of};
-ghost use Rattle.comp_mutator.specs.Finishes.{live_of, IsOfFlip};
+ghost use Rattle.comp_history.specs.Finishes.{live_of, IsOfFlip};
 ghost use Rattle.comp_audit.specs.DumpEncoding.{dump_bytes};
 ghost use Rattle.commands.specs.Dumps.{RefusedUncreated, WritesWhole};
 ghost use Rattle.commands.specs.Printing.{CountsPrint};

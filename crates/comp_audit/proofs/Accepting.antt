@@ -28,7 +28,7 @@ use Rattle.comp_history.specs.OneThread.{address_of}
 use Rattle.comp_history.specs.Shares.{allocated}
 use Rattle.comp_history.proofs.Sorted.{In, at_in}
 use Rattle.comp_history.proofs.Pages.{below_in}
-use Rattle.comp_mutator.specs.Finishes.{named}
+use Rattle.comp_history.specs.Finishes.{named}
 use Rattle.comp_audit.specs.Dumped.{BuiltPage, Dumped}
 use Rattle.comp_audit.specs.declared.verdict.AuditFault.{AuditFault}
 use Rattle.comp_audit.specs.declared.verdict.AuditFault.TheVariants.{WrongHead, WrongWord, WrongTotal, BuildUnclaimed, BadEntry, LooseReference, StampRepeated, StampMissing}

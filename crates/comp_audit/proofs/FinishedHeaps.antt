@@ -21,8 +21,8 @@ use Rattle.cell_steps.proofs.Sums.{below-at, below-zero}
 use Rattle.comp_history.specs.Merged.{written_by}
 use Rattle.comp_history.proofs.Sorted.{In, filter_has}
 use Rattle.comp_history.proofs.Pages.{in_on}
-use Rattle.comp_mutator.specs.Finishes.{pages_of, roots_of, builds_in, journals_of, history_of, there, IsOfFlip}
-use Rattle.comp_mutator.specs.declared.finishing.Finished.{Finished}
+use Rattle.comp_history.specs.Finishes.{pages_of, roots_of, builds_in, journals_of, history_of, there, IsOfFlip}
+use Rattle.comp_history.specs.declared.finished.Finished.{Finished}
 use Rattle.comp_audit.specs.Dumped.{Dumped, AreCounts, IsStored, IsStoredEntry, IsStoredRecord, IsStoredList}
 use Rattle.comp_audit.specs.Lent.{record_of, IsTypedEntry, IsTypedRecord}
 

@@ -12,9 +12,9 @@ use Rattle.cell_steps.specs.View.{Slot}
 use Rattle.cell_steps.specs.Closing.{journal_in, page_at, HasBase}
 use Rattle.comp_history.specs.Merged.{history, CanMerge}
 use Rattle.comp_history.specs.Shares.{allocated}
-use Rattle.comp_mutator.specs.Finishes as finished
-use Rattle.comp_mutator.specs.Finishes.{pages_of, named, there, IsOfFlip}
-use Rattle.comp_mutator.specs.declared.finishing.Finished.{Finished}
+use Rattle.comp_history.specs.Finishes as finished
+use Rattle.comp_history.specs.Finishes.{pages_of, named, there, IsOfFlip}
+use Rattle.comp_history.specs.declared.finished.Finished.{Finished}
 use Rattle.comp_audit.specs.Dumped.{BuiltPage, Dumped}
 use Rattle.comp_audit.specs.Lent.{record_of, built_of}
 use Rattle.comp_audit.specs.Checks.{setup_for, journal_of}

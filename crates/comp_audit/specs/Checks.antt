@@ -17,7 +17,7 @@ use Rattle.cell_steps.specs.Lawful.{kind_at, filled}
 use Rattle.comp_history.specs.Merged.{entries_below, stamp_of}
 use Rattle.comp_history.specs.OneThread.{address_of}
 use Rattle.comp_history.specs.Shares.{allocated}
-use Rattle.comp_mutator.specs.Finishes.{named}
+use Rattle.comp_history.specs.Finishes.{named}
 use Rattle.comp_audit.specs.Dumped.{BuiltPage}
 use Rattle.comp_audit.specs.declared.verdict.AuditFault.{AuditFault}
 use Rattle.comp_audit.specs.declared.verdict.AuditFault.TheVariants.{WrongWord, LooseReference, BadEntry, StampRepeated, StampMissing, WrongTotal, BuildUnclaimed, WrongHead}

@@ -10,8 +10,8 @@ use Rattle.cell_steps.specs.Lawful.{IsLawful}
 use Rattle.page_cells.specs.Objects.{ReferencesAreStarts}
 use Rattle.comp_history.specs.Merged.{history, CanMerge, IsOneHistory}
 use Rattle.comp_history.specs.Shares.{allocated}
-use Rattle.comp_mutator.specs.Finishes.{builds_in, live_of, named, pages_of, roots_of, IsOfFlip}
-use Rattle.comp_mutator.specs.declared.finishing.Finished.{Finished}
+use Rattle.comp_history.specs.Finishes.{builds_in, live_of, named, pages_of, roots_of, IsOfFlip}
+use Rattle.comp_history.specs.declared.finished.Finished.{Finished}
 use Rattle.comp_audit.specs.Dumped.{BuiltPage, Dumped, IsStored}
 use Rattle.comp_audit.specs.Lent.{record_of}
 use Rattle.comp_audit.specs.Checks.{setup_for, journals_in, entry_faults}

@@ -8,7 +8,7 @@ use Rattle.cell_steps.specs.Lists.{only, times, Each}
 use Rattle.cell_steps.proofs.Sums.{each-set, total-append}
 use Rattle.page_cells.specs.Ends.{lists}
 use Rattle.page_cells.proofs.Rows.{at_value}
-use Rattle.comp_mutator.specs.Finishes.{named}
+use Rattle.comp_history.specs.Finishes.{named}
 use Rattle.comp_sweep.specs.Regions.{AreAllOnce}
 use Rattle.comp_sweep.specs.Workers.{EachBelow}
 

@@ -14,7 +14,7 @@ use Rattle.cell_steps.specs.declared.pass.Pass.{Pass}
 use Rattle.cell_steps.proofs.Sums.{some_term}
 use Rattle.page_cells.specs.Ends.{lists}
 use Rattle.page_cells.proofs.Rows.{at_map, at_map_back}
-use Rattle.comp_mutator.specs.Finishes.{named}
+use Rattle.comp_history.specs.Finishes.{named}
 use Rattle.comp_mutator.specs.Mutators.{pass_of, setup_of, AreMutatorsOf, IsMutatorOf}
 use Rattle.comp_mutator.specs.declared.space.Space.{Space}
 use Rattle.comp_mutator.specs.declared.mutator.Mutator.{Mutator}

@@ -3,7 +3,7 @@ use Rattle.std.specs.Prelude.{◌≡◌, ℕ, ◌+◌, ◌*◌, ◌/◌, ◌<◌
 use Rattle.cell_steps.specs.Setup.{Setup}
 use Rattle.cell_steps.specs.Passes.{HasSeenBuilt}
 use Rattle.cell_steps.specs.declared.pass.Pass.{Pass}
-use Rattle.comp_mutator.specs.Finishes.{named}
+use Rattle.comp_history.specs.Finishes.{named}
 
 -- how many regions there are
 abbrev pub regions_of : Setup → ℕ

@@ -1,6 +1,6 @@
 //! Worked heaps, flipped, worked on and finished, and the bytes of their dumps.
 ghost use Rattle.std.specs.Prelude.{◌≡◌, IfOk};
-ghost use Rattle.comp_mutator.specs.Finishes.{IsOfFlip};
+ghost use Rattle.comp_history.specs.Finishes.{IsOfFlip};
 ghost use Rattle.comp_mutator.specs.Mutators.{setup_of, AreMutatorsOf, IsMutatorOf};
 
 use crate::dumped::dumped;

@@ -1,6 +1,6 @@
 //! Finished heaps that are judged.
 ghost use Rattle.std.specs.Prelude.{◌≡◌};
-ghost use Rattle.comp_mutator.specs.Finishes.{IsOfFlip};
+ghost use Rattle.comp_history.specs.Finishes.{IsOfFlip};
 ghost use Rattle.comp_mutator.specs.Mutators.{setup_of, AreMutatorsOf};
 
 use crate::flipped::Case;

@@ -1,5 +1,5 @@
 use Rattle.std.proofs.Common.{subst}
-use Rattle.comp_mutator.specs.Finishes.{IsUnfinishedFor}
+use Rattle.comp_mutator.specs.Unfinished.{IsUnfinishedFor}
 use Rattle.comp_mutator.specs.Mutators.{setup_of}
 use Rattle.comp_mutator.specs.declared.finishing.FinishFault.{FinishFault}
 use Rattle.commands.proofs.Swept.{none_missing, swept_heap}

@@ -1,5 +1,5 @@
 use Rattle.std.proofs.Common.{◌<◌, List, All, length, refl, sym, subst, ap, ◌∙◌}
-use Rattle.comp_mutator.specs.Finishes.{IsUnfinishedFor}
+use Rattle.comp_mutator.specs.Unfinished.{IsUnfinishedFor}
 use Rattle.comp_mutator.specs.Mutators.{setup_of}
 use Rattle.comp_mutator.specs.declared.finishing.FinishFault.{FinishFault}
 use Rattle.cell_steps.specs.Lists.{Each}
