@@ -8,6 +8,7 @@ use comp_journal::refusal::JournalRefusal;
 use heap_layout::kind::Kind;
 use page_cells::Pass;
 use page_cells::cells::Cells;
+use page_cells::closing::Closed;
 use page_cells::refusal::CellRefusal;
 use page_cells::taking::Taken;
 use page_plan::builder::Builder;
@@ -72,19 +73,6 @@ fn write_seven<B: Builder>(
     Ok(stamp)
 }
 
-// Builds page 0, and gives the pass back.
-fn build_first<B: Builder>(
-    alloc: Global,
-    cells: &Cells<B>,
-    mut pass: Pass,
-) -> (Result<bool, CellRefusal>, Pass)
-    requires of { IsPassOf cells.now pass }
-    requires rests { Rests pass }
-{
-    let built = cells.try_build(alloc, &mut pass, 0);
-    (built, pass)
-}
-
 // Takes page `p` and puts it back.
 fn visit<B: Builder>(
     alloc: Global,
@@ -102,12 +90,15 @@ fn visit<B: Builder>(
     Ok(())
 }
 
-// Takes page 0: its second word, how many entries its journal has, and the first of them.
+// The second word of a page, how many entries its journal has, and the first of them.
+type FirstField = (u64, usize, Option<Entry>);
+
+// Takes page 0, and reads that of it.
 fn first_field<B: Builder>(
     alloc: Global,
     cells: &Cells<B>,
     pass: &mut Pass,
-) -> Result<(u64, usize, Option<Entry>), CellRefusal>
+) -> Result<FirstField, CellRefusal>
     requires of { IsPassOf cells.now pass.old }
     requires rests { Rests pass.old }
 {
@@ -119,16 +110,8 @@ fn first_field<B: Builder>(
     Ok((word, count, entry))
 }
 
-#[test]
-fn reads_a_write_of_another_pass(rt: HostRuntime) -> Result<(), Fail> {
-    let alloc = rt.alloc();
-    let (cells, mut first, mut second) = two(&rt, alloc, planned(alloc, three(alloc)?)?)?;
-    let (written, _) = thread::join(&rt, || write_seven(alloc, &cells, &mut first), || ());
-    assert_eq!(rt; written, Ok(Ok(0)));
-
-    let (word, count, entry) = first_field(alloc, &cells, &mut second)?;
-    assert_eq!(rt; word, 7);
-    assert_eq!(rt; count, 1);
+// The page that 7 was written to, once, by the first pass.
+fn expect_seven(rt: &impl Abort, found: Result<FirstField, CellRefusal>) {
     let wanted = Entry {
         stamp: 0,
         writer: 0,
@@ -136,66 +119,139 @@ fn reads_a_write_of_another_pass(rt: HostRuntime) -> Result<(), Fail> {
         offset: 1,
         value: 7,
     };
-    assert_eq!(rt; entry, Some(wanted));
+    assert_eq!(rt; found, Ok((7, 1, Some(wanted))));
+}
+
+fn expect_written(rt: &impl Abort, found: Result<Result<u64, JournalRefusal>, CellRefusal>) {
+    assert_eq!(rt; found, Ok(Ok(0)));
+}
+
+#[test]
+fn reads_a_write_of_another_pass(rt: HostRuntime) -> Result<(), Fail> {
+    let alloc = rt.alloc();
+    let (cells, mut first, mut second) = two(&rt, alloc, planned(alloc, three(alloc)?)?)?;
+    let (written, _) = thread::join(&rt, || write_seven(alloc, &cells, &mut first), || ());
+    expect_written(&rt, written);
+    expect_seven(&rt, first_field(alloc, &cells, &mut second));
     Ok(())
+}
+
+// One of two passes built page 0, and the other heard of it, or came too late.
+fn expect_one_built(
+    rt: &impl Abort,
+    one: (Result<bool, CellRefusal>, &[u64]),
+    other: (Result<bool, CellRefusal>, &[u64]),
+) {
+    let (won, lost) = if one.0 == Ok(true) {
+        (one, other)
+    } else {
+        (other, one)
+    };
+    assert_eq!(rt; won, (Ok(true), [0].as_slice()));
+    assert_eq!(rt; lost.1, [].as_slice());
+    assert!(rt;
+        lost.0 == Ok(false) || lost.0 == Err(CellRefusal::Busy(0)),
+        "{lost:?}"
+    );
 }
 
 #[test]
 fn builds_a_page_once(rt: HostRuntime) -> Result<(), Fail> {
     let alloc = rt.alloc();
-    let (cells, first, second) = two(&rt, alloc, planned(alloc, three(alloc)?)?)?;
-    let ((one, first), (other, second)) = thread::join(
+    let (cells, mut first, mut second) = two(&rt, alloc, planned(alloc, three(alloc)?)?)?;
+    let (one, other) = thread::join(
         &rt,
-        || build_first(alloc, &cells, first),
-        || build_first(alloc, &cells, second),
+        || cells.try_build(alloc, &mut first, 0),
+        || cells.try_build(alloc, &mut second, 0),
     );
-    assert_eq!(rt; first.builds().len() + second.builds().len(), 1);
-    let (lost, builds) = if one == Ok(true) {
-        (other, first.builds())
-    } else {
-        assert_eq!(rt; other, Ok(true));
-        (one, second.builds())
-    };
-    assert_eq!(rt; builds, [0].as_slice());
-    assert!(rt;
-        lost == Ok(false) || lost == Err(CellRefusal::Busy(0)),
-        "{lost:?}"
-    );
+    expect_one_built(&rt, (one, first.builds()), (other, second.builds()));
     Ok(())
+}
+
+fn expect_visit(rt: &impl Abort, found: Result<(), CellRefusal>, wanted: Result<(), CellRefusal>) {
+    assert_eq!(rt; found, wanted);
+}
+
+fn expect_built(
+    rt: &impl Abort,
+    found: Result<bool, CellRefusal>,
+    wanted: Result<bool, CellRefusal>,
+) {
+    assert_eq!(rt; found, wanted);
+}
+
+fn expect_count(rt: &impl Abort, found: &[u64], wanted: usize) {
+    assert_eq!(rt; found.len(), wanted);
+}
+
+// What another pass is told while page 0 is held, and then.
+fn visit_held<B: Builder>(
+    rt: &impl Abort,
+    alloc: Global,
+    cells: &Cells<B>,
+    first: &mut Pass,
+    second: &mut Pass,
+) -> Result<(), CellRefusal>
+    requires of { IsPassOf cells.now first.old × IsPassOf cells.now second.old }
+    requires rests { Rests first.old × Rests second.old }
+{
+    let held = cells.try_take(alloc, first, 0)?;
+    expect_visit(
+        rt,
+        visit(alloc, cells, second, 0),
+        Err(CellRefusal::Busy(0)),
+    );
+    expect_built(rt, cells.try_build(alloc, second, 0), Ok(false));
+    expect_visit(
+        rt,
+        visit(alloc, cells, second, 1),
+        Err(CellRefusal::NoSuchPage),
+    );
+    cells.put_back(first, held);
+    visit(alloc, cells, second, 0)
 }
 
 #[test]
 fn refuses_a_page_that_is_held(rt: HostRuntime) -> Result<(), Fail> {
     let alloc = rt.alloc();
     let (cells, mut first, mut second) = two(&rt, alloc, planned(alloc, three(alloc)?)?)?;
-    let held = cells.try_take(alloc, &mut first, 0)?;
-    let taken = visit(alloc, &cells, &mut second, 0);
-    let built = cells.try_build(alloc, &mut second, 0);
-    let outside = visit(alloc, &cells, &mut second, 1);
-    cells.put_back(&mut first, held);
-    assert_eq!(rt; taken, Err(CellRefusal::Busy(0)));
-    assert_eq!(rt; built, Ok(false));
-    assert_eq!(rt; outside, Err(CellRefusal::NoSuchPage));
-    assert_eq!(rt; visit(alloc, &cells, &mut second, 0), Ok(()));
+    let last = visit_held(&rt, alloc, &cells, &mut first, &mut second);
+    expect_visit(&rt, last, Ok(()));
     Ok(())
+}
+
+// A heap of one object of 255 data words, whose pages meet as they are built.
+fn four_pages(alloc: Global) -> Result<Meeting, Fail> {
+    let mut words = vec![in alloc; 0u64; 255]?;
+    words.insert(0, 16_711_680)?;
+    Ok(Meeting::new(planned(alloc, heap(alloc, &words, &[0], &[])?)?))
 }
 
 #[test]
 fn builds_two_pages_at_once(rt: HostRuntime) -> Result<(), Fail> {
     let alloc = rt.alloc();
-    let mut words = vec![in alloc; 0u64; 255]?;
-    words.insert(0, 16_711_680)?;
-    let builder = Meeting::new(planned(alloc, heap(alloc, &words, &[0], &[])?)?);
-    let (cells, mut first, mut second) = two(&rt, alloc, builder)?;
+    let (cells, mut first, mut second) = two(&rt, alloc, four_pages(alloc)?)?;
     assert_eq!(rt; cells.pages(), 4);
     let (one, other) = thread::join(
         &rt,
         || visit(alloc, &cells, &mut first, 0),
         || visit(alloc, &cells, &mut second, 1),
     );
-    assert_eq!(rt; one, Ok(()));
-    assert_eq!(rt; other, Ok(()));
+    expect_visit(&rt, one, Ok(()));
+    expect_visit(&rt, other, Ok(()));
     Ok(())
+}
+
+// Visits page 0, whose first build is refused, and then again.
+fn visit_twice<B: Builder>(rt: &impl Abort, alloc: Global, cells: &Cells<B>, pass: &mut Pass)
+    requires of { IsPassOf cells.now pass.old }
+    requires rests { Rests pass.old }
+{
+    let refused = visit(alloc, cells, pass, 0);
+    expect_visit(rt, refused, Err(CellRefusal::OutOfMemory));
+    expect_count(rt, pass.builds(), 0);
+    expect_visit(rt, visit(alloc, cells, pass, 0), Ok(()));
+    expect_count(rt, pass.builds(), 1);
 }
 
 #[test]
@@ -203,30 +259,33 @@ fn builds_after_a_refusal(rt: HostRuntime) -> Result<(), Fail> {
     let alloc = rt.alloc();
     let builder = Refusing::new(planned(alloc, three(alloc)?)?);
     let (cells, mut first, _second) = two(&rt, alloc, builder)?;
-    assert_eq!(rt;
-        visit(alloc, &cells, &mut first, 0),
-        Err(CellRefusal::OutOfMemory)
-    );
-    assert_eq!(rt; first.builds().len(), 0);
-    assert_eq!(rt; visit(alloc, &cells, &mut first, 0), Ok(()));
-    assert_eq!(rt; first.builds().len(), 1);
+    visit_twice(&rt, alloc, &cells, &mut first);
     Ok(())
 }
 
-#[test]
-fn closes_when_no_pass_is_missing(rt: HostRuntime) -> Result<(), Fail> {
-    let alloc = rt.alloc();
-    let (cells, mut first, second) = two(&rt, alloc, planned(alloc, three(alloc)?)?)?;
-    assert_eq!(rt; visit(alloc, &cells, &mut first, 0), Ok(()));
+// Closes the cells, at first without the first pass.
+fn close_late<B: Builder>(
+    alloc: Global,
+    cells: Cells<B>,
+    first: Pass,
+    second: Pass,
+) -> Result<(CellRefusal, Closed), Fail>
+    requires first { IsPassOf cells first × Rests first }
+    requires second { IsPassOf cells second × Rests second }
+{
     let Err(left) = cells.close(alloc, vec![in alloc; second]?) else {
         return Err(Fail::from(CellRefusal::NoSuchPage));
     };
-    assert_eq!(rt; left.fault, CellRefusal::PassMissing(0));
     let mut passes = left.passes;
     passes.push(first)?;
-    let Ok(closed) = left.cells.close(alloc, passes) else {
-        return Err(Fail::from(CellRefusal::OutOfMemory));
-    };
+    match left.cells.close(alloc, passes) {
+        Ok(closed) => Ok((left.fault, closed)),
+        Err(_) => Err(Fail::from(CellRefusal::OutOfMemory)),
+    }
+}
+
+// One page was built, by the first of two passes.
+fn expect_closed(rt: &impl Abort, closed: &Closed) {
     assert_eq!(rt; closed.pages.len(), 1);
     assert_eq!(rt; closed.builds.len(), 2);
     assert_eq!(rt;
@@ -236,6 +295,16 @@ fn closes_when_no_pass_is_missing(rt: HostRuntime) -> Result<(), Fail> {
             .and_then(|builds| builds.first().copied()),
         Some(0)
     );
+}
+
+#[test]
+fn closes_when_no_pass_is_missing(rt: HostRuntime) -> Result<(), Fail> {
+    let alloc = rt.alloc();
+    let (cells, mut first, second) = two(&rt, alloc, planned(alloc, three(alloc)?)?)?;
+    expect_visit(&rt, visit(alloc, &cells, &mut first, 0), Ok(()));
+    let (fault, closed) = close_late(alloc, cells, first, second)?;
+    expect_visit(&rt, Err(fault), Err(CellRefusal::PassMissing(0)));
+    expect_closed(&rt, &closed);
     Ok(())
 }
 
@@ -257,17 +326,28 @@ fn write_and_meet<B: Builder>(
     Ok(stamp)
 }
 
+// What the other pass then finds.
+fn look_behind<B: Builder>(
+    rt: &impl Abort,
+    alloc: Global,
+    cells: &Cells<B>,
+    first: &mut Pass,
+    second: &mut Pass,
+)
+    requires of { IsPassOf cells.now first.old × IsPassOf cells.now second.old }
+    requires rests { Rests first.old × Rests second.old }
+{
+    expect_written(rt, write_and_meet(alloc, cells, first, second));
+    expect_built(rt, cells.try_build(alloc, second, 0), Ok(false));
+    expect_seven(rt, first_field(alloc, cells, second));
+    expect_count(rt, first.builds(), 1);
+    expect_count(rt, second.builds(), 0);
+}
+
 #[test]
 fn keeps_a_held_page_through_a_meeting(rt: HostRuntime) -> Result<(), Fail> {
     let alloc = rt.alloc();
     let (cells, mut first, mut second) = two(&rt, alloc, planned(alloc, three(alloc)?)?)?;
-    let written = write_and_meet(alloc, &cells, &mut first, &mut second)?;
-    assert_eq!(rt; written, Ok(0));
-    assert_eq!(rt; cells.try_build(alloc, &mut second, 0), Ok(false));
-    let (word, count, _) = first_field(alloc, &cells, &mut second)?;
-    assert_eq!(rt; word, 7);
-    assert_eq!(rt; count, 1);
-    assert_eq!(rt; first.builds().len(), 1);
-    assert_eq!(rt; second.builds().len(), 0);
+    look_behind(&rt, alloc, &cells, &mut first, &mut second);
     Ok(())
 }
