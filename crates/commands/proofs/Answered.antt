@@ -7,7 +7,7 @@ use Rattle.clap.specs.declared.error.kind.ErrorKind.TheVariants.{OutOfMemory}
 use Rattle.heap_layout.specs.Heap.{Heap}
 use Rattle.command_line.specs.Asked.{Asks, AsksNoCommand}
 use Rattle.command_line.specs.Runs.{run_of}
-use Rattle.comp_audit.specs.Dumped.{Dumped}
+use Rattle.comp_dump.specs.Dumped.{Dumped}
 use Rattle.commands.specs.Audits.{Passes, SomeAudit}
 use Rattle.commands.specs.Compact.{Compacts}
 use Rattle.commands.specs.Images.{IsImageOf, SomeGiven, SomeHeap}

@@ -3,7 +3,7 @@ use Rattle.std.proofs.Common.{◌≡◌, ℕ, List, Option, sym, subst}
 use Rattle.std.proofs.KnownBytes.{Appends-kept}
 use Rattle.std.specs.Io.KnownBytes.{Keeps}
 use Rattle.heap_layout.specs.Heap.{Heap}
-use Rattle.comp_audit.specs.Dumped.{Dumped}
+use Rattle.comp_dump.specs.Dumped.{Dumped}
 use Rattle.comp_audit.specs.Judged.{faults, Judges}
 use Rattle.comp_audit.specs.declared.verdict.Verdict.TheVariants.{Yes}
 use Rattle.commands.specs.Audits.{IsDumpIn, Passes, SomeAudit}

@@ -5,11 +5,11 @@ use Rattle.heap_layout.specs.Heap.{Heap, live}
 use Rattle.page_plan.specs.Sliding.{forwarded, live_words}
 use Rattle.comp_history.specs.Finishes.{builds_in, live_of, pages_of, roots_of}
 use Rattle.comp_history.specs.declared.finished.Finished.{Finished}
-use Rattle.comp_audit.specs.Dumped.{Dumped}
-use Rattle.comp_audit.specs.DumpEncoding.{dump_bytes}
-use Rattle.comp_audit.specs.Lent.{record_of}
-use Rattle.comp_audit.specs.declared.fault.DumpFault.TheVariants.{Truncated, TrailingBytes, BadMagic, BadField, Device}
-use Rattle.comp_audit.specs.declared.fault.DumpFault.TheVariants as faults
+use Rattle.comp_dump.specs.Dumped.{Dumped}
+use Rattle.comp_dump.specs.DumpEncoding.{dump_bytes}
+use Rattle.comp_dump.specs.Lent.{record_of}
+use Rattle.comp_dump.specs.declared.fault.DumpFault.TheVariants.{Truncated, TrailingBytes, BadMagic, BadField, Device}
+use Rattle.comp_dump.specs.declared.fault.DumpFault.TheVariants as faults
 use Rattle.commands.specs.Compact.{slid_records, swept_dump, BeginsDump, Compacts, DumpsHeap, IsSweptHeap, RefusesCompact, RefusesSweep, WasSwept}
 use Rattle.commands.specs.Dumps.{IsOfDumping, WritesBeginning, WritesWhole}
 use Rattle.commands.specs.Images.{IsImageOf, RefusesAt, SomeGiven}

@@ -31,7 +31,7 @@ use Rattle.comp_trace.specs.Runs.{with_entries, Acts, IsAboveAll, IsOneEntry, Mo
 use Rattle.comp_trace.specs.declared.line.Action.{Action}
 use Rattle.comp_trace.specs.declared.line.Action.TheVariants.{Root, Load, Get, Store, Put, New, Nil}
 use Rattle.comp_trace.specs.declared.line.Line.{Line}
-use Rattle.comp_audit.specs.Lent.{record_of}
+use Rattle.comp_dump.specs.Lent.{record_of}
 use Rattle.commands.specs.Replays.{dumped_of, page_in, times_built, IsDumpAfter, IsPageAfter}
 use Rattle.commands.proofs.Lines.{each-given}
 

@@ -16,7 +16,7 @@ use Rattle.comp_trace.specs.declared.line.Line.{Line}
 use Rattle.comp_trace.specs.declared.shown.Shown.{Shown}
 use Rattle.comp_trace.proofs.Determined.{determined}
 use Rattle.comp_trace.proofs.Inside.{ok_is, read_inside}
-use Rattle.comp_audit.specs.Dumped.{BuiltPage, Dumped}
+use Rattle.comp_dump.specs.Dumped.{BuiltPage, Dumped}
 use Rattle.comp_history.specs.Finishes.{named}
 use Rattle.commands.specs.Replays.{page_in, times_built, AreOne, IsDumpOfRun, IsPageAfter, ReplaysAreOne}
 use Rattle.commands.specs.Texts.{HasLines}

@@ -1,7 +1,7 @@
 -- What refusals leave of the output and of the dump; and dumps that have the same parts.
 use Rattle.std.proofs.Common.{◌≡◌, ℕ, List, Option, Result, Ok, Err, OnErr, refl, sym, subst}
 use Rattle.std.proofs.KnownBytes.{Keeps-refl}
-use Rattle.comp_audit.specs.Dumped.{BuiltPage, Dumped}
+use Rattle.comp_dump.specs.Dumped.{BuiltPage, Dumped}
 use Rattle.commands.specs.Dumps.{IsOfDumping, RefusedUncreated}
 use Rattle.commands.specs.Printing.{CountsPrint, RefusedUnprinted}
 use Rattle.commands.specs.declared.refusal.Refusal.{Refusal}

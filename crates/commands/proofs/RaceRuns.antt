@@ -10,9 +10,9 @@ use Rattle.comp_trace.specs.declared.fault.TraceFault.TheVariants.{BadLine, NoSu
 use Rattle.comp_trace.specs.declared.fault.TraceFault.TheVariants as traces
 use Rattle.comp_trace.specs.declared.line.Line.{Line}
 use Rattle.comp_trace.specs.declared.shown.Shown.{Shown}
-use Rattle.comp_audit.specs.DumpEncoding.{dump_bytes}
-use Rattle.comp_audit.specs.declared.fault.DumpFault.TheVariants.{Truncated, TrailingBytes, BadMagic, BadField, Device}
-use Rattle.comp_audit.specs.declared.fault.DumpFault.TheVariants as faults
+use Rattle.comp_dump.specs.DumpEncoding.{dump_bytes}
+use Rattle.comp_dump.specs.declared.fault.DumpFault.TheVariants.{Truncated, TrailingBytes, BadMagic, BadField, Device}
+use Rattle.comp_dump.specs.declared.fault.DumpFault.TheVariants as faults
 use Rattle.commands.specs.Dumps.{WritesWhole}
 use Rattle.commands.specs.Images.{IsImageOf, RefusesAt, RefusesImage, SomeGiven}
 use Rattle.commands.specs.Printing.{CountsPrint}

@@ -15,11 +15,11 @@ use Rattle.comp_trace.specs.declared.fault.TraceFault.TheVariants.{BadLine, NoSu
 use Rattle.comp_trace.specs.declared.fault.TraceFault.TheVariants as traces
 use Rattle.comp_trace.specs.declared.line.Line.{Line}
 use Rattle.comp_trace.specs.declared.shown.Shown.{Shown}
-use Rattle.comp_audit.specs.Dumped.{Dumped}
-use Rattle.comp_audit.specs.DumpEncoding.{dump_bytes}
-use Rattle.comp_audit.specs.Lent.{record_of}
-use Rattle.comp_audit.specs.declared.fault.DumpFault.TheVariants.{Truncated, TrailingBytes, BadMagic, BadField, Device}
-use Rattle.comp_audit.specs.declared.fault.DumpFault.TheVariants as faults
+use Rattle.comp_dump.specs.Dumped.{Dumped}
+use Rattle.comp_dump.specs.DumpEncoding.{dump_bytes}
+use Rattle.comp_dump.specs.Lent.{record_of}
+use Rattle.comp_dump.specs.declared.fault.DumpFault.TheVariants.{Truncated, TrailingBytes, BadMagic, BadField, Device}
+use Rattle.comp_dump.specs.declared.fault.DumpFault.TheVariants as faults
 use Rattle.commands.specs.Dumps.{IsOfDumping, WritesWhole}
 use Rattle.commands.specs.Images.{IsImageOf, RefusesAt, RefusesImage, SomeGiven}
 use Rattle.commands.specs.Printing.{CountsPrint}

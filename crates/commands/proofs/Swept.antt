@@ -32,8 +32,8 @@ use Rattle.comp_mutator.specs.declared.mutator.Mutator.{Mutator}
 use Rattle.comp_mutator.specs.declared.space.Space.{Space}
 use Rattle.comp_sweep.specs.Sweeps.{HandsBack, SomeSeesBuilt, Sweeps}
 use Rattle.comp_sweep.proofs.Told.{beside}
-use Rattle.comp_audit.specs.Dumped.{BuiltPage}
-use Rattle.comp_audit.specs.Lent.{record_of}
+use Rattle.comp_dump.specs.Dumped.{BuiltPage}
+use Rattle.comp_dump.specs.Lent.{record_of}
 use Rattle.commands.specs.Compact.{slid_record, slid_records, AreBuilds, IsSweptHeap}
 use Rattle.commands.proofs.Lines.{each-given}
 

@@ -5,10 +5,10 @@ use Rattle.std.proofs.lemmas.List.{take_all}
 use Rattle.std.specs.Io.KnownBytes.{Appends, Keeps}
 use Rattle.heap_layout.specs.Counted.{failures_of, inner_of, is_flushed_of}
 use Rattle.heap_layout.specs.declared.counted.Counted.{Counted}
-use Rattle.comp_audit.specs.DumpReading.{CountsFailure}
-use Rattle.comp_audit.specs.DumpWriting.{AppendsSome}
-use Rattle.comp_audit.specs.declared.fault.DumpFault.{DumpFault}
-use Rattle.comp_audit.specs.declared.fault.DumpFault.TheVariants.{Truncated, TrailingBytes, BadMagic, BadField, OutOfMemory, Device}
+use Rattle.comp_dump.specs.DumpReading.{CountsFailure}
+use Rattle.comp_dump.specs.DumpWriting.{AppendsSome}
+use Rattle.comp_dump.specs.declared.fault.DumpFault.{DumpFault}
+use Rattle.comp_dump.specs.declared.fault.DumpFault.TheVariants.{Truncated, TrailingBytes, BadMagic, BadField, OutOfMemory, Device}
 use Rattle.commands.specs.Dumps.{IsOfDumping, WritesBeginning, WritesWhole}
 use Rattle.commands.specs.declared.refusal.Refusal.TheVariants.{Dump}
 

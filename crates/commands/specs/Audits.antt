@@ -3,8 +3,8 @@ use Rattle.std.specs.Prelude.{◌≡◌, ℕ, List, Option, IfSome, Result, Ok, 
 use Rattle.std.specs.Io.KnownBytes.{Appends}
 use Rattle.heap_layout.specs.Heap.{Heap}
 use Rattle.heap_layout.specs.Encoding.{Refuses}
-use Rattle.comp_audit.specs.Dumped.{Dumped, IsStored}
-use Rattle.comp_audit.specs.DumpReading.{read_whole, CountsFailure, Fails}
+use Rattle.comp_dump.specs.Dumped.{Dumped, IsStored}
+use Rattle.comp_dump.specs.DumpReading.{read_whole, CountsFailure, Fails}
 use Rattle.comp_audit.specs.Judged.{faults, Judges}
 use Rattle.comp_audit.specs.declared.verdict.Verdict.TheVariants.{No, Yes}
 use Rattle.commands.specs.Images.{IsImageOf, SomeGiven}

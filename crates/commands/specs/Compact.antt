@@ -11,10 +11,10 @@ use Rattle.comp_mutator.specs.declared.refusal.Refusal.TheVariants as mutators
 use Rattle.comp_sweep.specs.Regions.{AreAllOnce}
 use Rattle.comp_sweep.specs.declared.refusal.SweepFault.TheVariants.{Resources}
 use Rattle.comp_sweep.specs.declared.refusal.SweepFault.TheVariants as sweeps
-use Rattle.comp_audit.specs.Dumped.{BuiltPage, Dumped}
-use Rattle.comp_audit.specs.Lent.{record_of}
-use Rattle.comp_audit.specs.DumpEncoding.{dump_bytes}
-use Rattle.comp_audit.specs.declared.fault.DumpFault.TheVariants.{Device}
+use Rattle.comp_dump.specs.Dumped.{BuiltPage, Dumped}
+use Rattle.comp_dump.specs.Lent.{record_of}
+use Rattle.comp_dump.specs.DumpEncoding.{dump_bytes}
+use Rattle.comp_dump.specs.declared.fault.DumpFault.TheVariants.{Device}
 use Rattle.commands.specs.Dumps.{WritesBeginning, WritesWhole}
 use Rattle.commands.specs.Images.{IsImageOf}
 use Rattle.commands.specs.Printing.{named}

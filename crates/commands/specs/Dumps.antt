@@ -3,8 +3,8 @@ use Rattle.std.specs.Prelude.{◌≡◌, ℕ, List, Option, Result, Ok, Err, tru
 use Rattle.std.specs.Io.KnownBytes.{Appends}
 use Rattle.heap_layout.specs.Counted.{failures_of, inner_of, is_flushed_of}
 use Rattle.heap_layout.specs.declared.counted.Counted.{Counted}
-use Rattle.comp_audit.specs.DumpWriting.{AppendsSome}
-use Rattle.comp_audit.specs.declared.fault.DumpFault.TheVariants.{Device}
+use Rattle.comp_dump.specs.DumpWriting.{AppendsSome}
+use Rattle.comp_dump.specs.declared.fault.DumpFault.TheVariants.{Device}
 use Rattle.commands.specs.declared.refusal.Refusal.{Refusal}
 use Rattle.commands.specs.declared.refusal.Refusal.TheVariants.{CannotCreate, CannotPrint, Dump, OutOfMemory}
 

@@ -21,8 +21,8 @@ use Rattle.comp_trace.specs.declared.fault.TraceFault.TheVariants as faults
 use Rattle.comp_trace.specs.declared.line.Line.{Line}
 use Rattle.comp_trace.specs.declared.race.Run.{Run}
 use Rattle.comp_trace.specs.declared.shown.Shown.{Shown}
-use Rattle.comp_audit.specs.DumpEncoding.{dump_bytes}
-use Rattle.comp_audit.specs.declared.fault.DumpFault.TheVariants.{Device}
+use Rattle.comp_dump.specs.DumpEncoding.{dump_bytes}
+use Rattle.comp_dump.specs.declared.fault.DumpFault.TheVariants.{Device}
 use Rattle.commands.specs.ByLine.{AreByLine, HasEnded, IsLeastStop}
 use Rattle.commands.specs.Dumps.{WritesBeginning, WritesWhole}
 use Rattle.commands.specs.Images.{IsImageOf, SomeGiven}

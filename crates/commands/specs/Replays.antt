@@ -24,10 +24,10 @@ use Rattle.comp_trace.specs.declared.fault.TraceFault.{TraceFault}
 use Rattle.comp_trace.specs.declared.fault.TraceFault.TheVariants.{Refused}
 use Rattle.comp_trace.specs.declared.line.Line.{Line}
 use Rattle.comp_trace.specs.declared.shown.Shown.{Shown}
-use Rattle.comp_audit.specs.Dumped.{BuiltPage, Dumped}
-use Rattle.comp_audit.specs.DumpEncoding.{dump_bytes}
-use Rattle.comp_audit.specs.Lent.{record_of}
-use Rattle.comp_audit.specs.declared.fault.DumpFault.TheVariants.{Device}
+use Rattle.comp_dump.specs.Dumped.{BuiltPage, Dumped}
+use Rattle.comp_dump.specs.DumpEncoding.{dump_bytes}
+use Rattle.comp_dump.specs.Lent.{record_of}
+use Rattle.comp_dump.specs.declared.fault.DumpFault.TheVariants.{Device}
 use Rattle.commands.specs.Dumps.{IsOfDumping, WritesBeginning, WritesWhole}
 use Rattle.commands.specs.Images.{IsImageOf, SomeGiven}
 use Rattle.commands.specs.Printing.{named, RefusedUnprinted}

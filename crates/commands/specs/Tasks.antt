@@ -7,7 +7,7 @@ use Rattle.clap.specs.declared.error.Error.{Error}
 use Rattle.clap.specs.declared.error.kind.ErrorKind.TheVariants.{OutOfMemory}
 use Rattle.command_line.specs.Asked.{AsksAudit, AsksCompact, AsksHelp, AsksPlan, AsksRace, AsksReplay, AsksVersion, AsksWord}
 use Rattle.command_line.specs.Runs.{Run}
-use Rattle.comp_audit.specs.Dumped.{Dumped}
+use Rattle.comp_dump.specs.Dumped.{Dumped}
 use Rattle.commands.specs.Audits.{Passes, RefusesAudit, SomeAudit}
 use Rattle.commands.specs.Compact.{Compacts, PrintsLive, RefusesCompact}
 use Rattle.commands.specs.Images.{IsImageOf, SomeGiven, SomeHeap, RefusesAt}

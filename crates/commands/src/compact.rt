@@ -15,7 +15,7 @@ use crate::dumps::{Dumps, write_to};
 use crate::images::Images;
 use crate::print::print_line;
 use crate::refusal::Refusal;
-use comp_audit::dump::Dump;
+use comp_dump::dump::Dump;
 use comp_mutator::finishing::{FinishFault, Finished};
 use comp_mutator::flipping::flip;
 use comp_mutator::mutator::Mutator;

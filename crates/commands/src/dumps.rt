@@ -1,15 +1,15 @@
 //! Where the dumps are written.
 ghost use Rattle.std.specs.Prelude.{◌≡◌, ℕ, ◌-◌, ◌^◌, ◌<◌, List, true, IfOk, IfErr, OnOk};
 ghost use Rattle.heap_layout.specs.Counted.{inner_of, failures_of, is_flushed_of};
-ghost use Rattle.comp_audit.specs.DumpEncoding.{dump_bytes};
-ghost use Rattle.comp_audit.specs.DumpReading.{CountsFailure};
-ghost use Rattle.comp_audit.specs.DumpWriting.{Writes};
+ghost use Rattle.comp_dump.specs.DumpEncoding.{dump_bytes};
+ghost use Rattle.comp_dump.specs.DumpReading.{CountsFailure};
+ghost use Rattle.comp_dump.specs.DumpWriting.{Writes};
 ghost use Rattle.commands.specs.Dumps.{IsOfCreating, IsOfDumping, WritesWhole};
 
 use crate::refusal::{Output, Refusal};
-use comp_audit::dump::Dump;
-use comp_audit::fault::DumpFault;
-use comp_audit::writing::write_dump;
+use comp_dump::dump::Dump;
+use comp_dump::fault::DumpFault;
+use comp_dump::writing::write_dump;
 use heap_layout::counted::Counted;
 use std::alloc::Global;
 use std::fs;

@@ -2,7 +2,7 @@
 ghost use Rattle.std.specs.Prelude.{◌≡◌, ◌-◌, ◌^◌, ◌<◌, ◌≤◌, IfErr, OnOk};
 ghost use Rattle.heap_layout.specs.Counted.{inner_of, failures_of, writer_of};
 ghost use Rattle.comp_history.specs.Finishes.{live_of, IsOfFlip};
-ghost use Rattle.comp_audit.specs.DumpEncoding.{dump_bytes};
+ghost use Rattle.comp_dump.specs.DumpEncoding.{dump_bytes};
 ghost use Rattle.commands.specs.Dumps.{RefusedUncreated, WritesWhole};
 ghost use Rattle.commands.specs.Printing.{CountsPrint};
 ghost use Rattle.commands.specs.Replays.{dumped_of, IsOfWritingRun, PrintsRun, RefusesReplay, Replays, SomeRun, StopsUnprinted};
@@ -15,7 +15,7 @@ use crate::replays::{Replayed, replay_heap};
 use crate::shown::print_shown;
 use crate::traces::{Traces, trace_at};
 use command_line::words::TraceRun;
-use comp_audit::dump::Dump;
+use comp_dump::dump::Dump;
 use heap_layout::counted::Counted;
 use std::alloc::Global;
 use std::io::Write;

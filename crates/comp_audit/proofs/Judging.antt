@@ -2,7 +2,7 @@
 use Rattle.std.proofs.Common.{◌≡◌, ℕ, Bool, ◌||◌, List, [], ◌++◌, Option, Result, Err, sym, ap, subst, ◌∙◌, append_assoc}
 use Rattle.std.proofs.Math.Path.{fun_ext}
 use Rattle.cell_steps.specs.Setup.{Setup}
-use Rattle.comp_audit.specs.Dumped.{BuiltPage}
+use Rattle.comp_dump.specs.Dumped.{BuiltPage}
 use Rattle.comp_audit.specs.declared.verdict.AuditFault.{AuditFault}
 use Rattle.comp_audit.specs.declared.verdict.Stop.{Stop}
 use Rattle.comp_audit.specs.Checks.{all_entries, all_stamps, each_built, is_led, is_made_before, is_place, is_start, late_faults, missing_faults, reference_faults, repeat_faults}

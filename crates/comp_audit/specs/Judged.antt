@@ -2,7 +2,7 @@
 use Rattle.std.specs.Prelude.{◌≡◌, ℕ, List, [], ◌∷◌, ◌++◌, Option, Result, Ok, Err}
 use Rattle.heap_layout.specs.Heap.{Heap}
 use Rattle.cell_steps.specs.Setup.{Setup}
-use Rattle.comp_audit.specs.Dumped.{BuiltPage, Dumped}
+use Rattle.comp_dump.specs.Dumped.{BuiltPage, Dumped}
 use Rattle.comp_audit.specs.Checks.{setup_for, all_entries, all_stamps, each_built, head_faults, build_faults, journal_faults, word_faults, is_start, reference_faults, repeat_faults, missing_faults, is_made_before, is_led, late_faults, total_faults}
 use Rattle.comp_audit.specs.declared.verdict.AuditFault.{AuditFault}
 use Rattle.comp_audit.specs.declared.verdict.Verdict.{Verdict}

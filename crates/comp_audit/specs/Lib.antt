@@ -1,8 +1,3 @@
-pub mod Dumped
-pub mod DumpEncoding
-pub mod DumpReading
-pub mod DumpWriting
-pub mod Lent
 pub mod Checks
 pub mod Judged
 pub mod Noted

@@ -12,8 +12,8 @@ use Rattle.comp_history.specs.Merged.{history, CanMerge, IsOneHistory}
 use Rattle.comp_history.specs.Shares.{allocated}
 use Rattle.comp_history.specs.Finishes.{builds_in, live_of, named, pages_of, roots_of, IsOfFlip}
 use Rattle.comp_history.specs.declared.finished.Finished.{Finished}
-use Rattle.comp_audit.specs.Dumped.{BuiltPage, Dumped, IsStored}
-use Rattle.comp_audit.specs.Lent.{record_of}
+use Rattle.comp_dump.specs.Dumped.{BuiltPage, Dumped, IsStored}
+use Rattle.comp_dump.specs.Lent.{record_of}
 use Rattle.comp_audit.specs.Checks.{setup_for, journals_in, entry_faults}
 use Rattle.comp_audit.specs.Judged.{faults}
 

@@ -2,7 +2,7 @@
 use crate::dumped::read;
 use crate::encoded::{Change, LINKED, Part, SMALLEST, encoded};
 use crate::judged::{Row, Told, expect_rows};
-use comp_audit::fault::DumpFault;
+use comp_dump::fault::DumpFault;
 use std::alloc::Global;
 use std::process::Abort;
 use std::test::Fail;

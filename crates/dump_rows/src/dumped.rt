@@ -1,10 +1,10 @@
 //! Dumps written into memory, read from there, and compared.
 use crate::judged::expect_yes;
-use comp_audit::dump::Dump;
-use comp_audit::fault::DumpFault;
-use comp_audit::page::DumpedPage;
-use comp_audit::reading::read_dump;
-use comp_audit::writing::write_dump;
+use comp_dump::dump::Dump;
+use comp_dump::fault::DumpFault;
+use comp_dump::page::DumpedPage;
+use comp_dump::reading::read_dump;
+use comp_dump::writing::write_dump;
 use heap_layout::counted::Counted;
 use page_plan::plan::Plan;
 use std::alloc::Global;

@@ -3,8 +3,8 @@
 //! has the one value that its base and its journal give it, and each other field is told by the plan or by the other fields.
 use crate::encoded::{LINKED, encoded};
 use crate::judged::{Told, expect_told, plan_of_three, told};
-use comp_audit::fault::DumpFault;
 use comp_audit::verdict::{AuditFault, Verdict};
+use comp_dump::fault::DumpFault;
 use page_plan::plan::Plan;
 use std::alloc::Global;
 use std::process::Abort;

@@ -2,10 +2,10 @@
 use crate::devices::{Narrow, Pieces, WhenFull};
 use crate::dumped::{expect_same, read};
 use crate::encoded::{LINKED, SMALLEST, encoded};
-use comp_audit::dump::Dump;
-use comp_audit::fault::DumpFault;
-use comp_audit::reading::read_dump;
-use comp_audit::writing::write_dump;
+use comp_dump::dump::Dump;
+use comp_dump::fault::DumpFault;
+use comp_dump::reading::read_dump;
+use comp_dump::writing::write_dump;
 use heap_layout::counted::Counted;
 use std::alloc::Global;
 use std::io::ErrorKind;

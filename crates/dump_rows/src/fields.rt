@@ -2,7 +2,7 @@
 use crate::dumped::read;
 use crate::encoded::{Change, LINKED, PUT, Part, changed};
 use crate::judged::{Row, Told, expect_told, plan_of_three};
-use comp_audit::fault::DumpFault;
+use comp_dump::fault::DumpFault;
 use page_plan::plan::Plan;
 use std::alloc::Global;
 use std::process::Abort;

@@ -5,7 +5,7 @@ ghost use Rattle.comp_mutator.specs.Mutators.{setup_of, AreMutatorsOf, IsMutator
 
 use crate::dumped::dumped;
 use crate::encoded::Part;
-use comp_audit::dump::Dump;
+use comp_dump::dump::Dump;
 use comp_mutator::finishing::Finished;
 use comp_mutator::flipping::flip;
 use comp_mutator::mutator::Mutator;

@@ -1,8 +1,8 @@
 //! The dump of a new object with some fields changed, and the fault that is told of it: one of each kind.
 use crate::encoded::{Change, LINKED, Part};
 use crate::judged::{Row, Told, expect_rows};
-use comp_audit::fault::DumpFault;
 use comp_audit::verdict::{AuditFault, Verdict};
+use comp_dump::fault::DumpFault;
 use std::test::Fail;
 
 // Where its fields lie.

@@ -2,8 +2,8 @@
 use crate::dumped::{expect_all, read};
 use crate::encoded::{Part, encoded};
 use crate::judged::{Row, Told, expect_rows};
-use comp_audit::dump::Dump;
-use comp_audit::fault::DumpFault;
+use comp_dump::dump::Dump;
+use comp_dump::fault::DumpFault;
 use std::process::Abort;
 use std::test::Fail;
 

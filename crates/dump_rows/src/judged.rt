@@ -2,9 +2,9 @@
 use crate::dumped::read;
 use crate::encoded::{Change, Part, changed};
 use comp_audit::auditing::audit;
-use comp_audit::dump::Dump;
-use comp_audit::fault::DumpFault;
 use comp_audit::verdict::Verdict;
+use comp_dump::dump::Dump;
+use comp_dump::fault::DumpFault;
 use page_plan::plan::Plan;
 use std::alloc::Global;
 use std::process::Abort;

@@ -2,8 +2,8 @@
 use crate::dumped::{expect_all, read};
 use crate::encoded::{LINKED, PUT, Part, TWENTY, encoded};
 use crate::finished::{Call, Row, Run, Worked, run_dumped};
-use comp_audit::dump::Dump;
-use comp_audit::page::DumpedPage;
+use comp_dump::dump::Dump;
+use comp_dump::page::DumpedPage;
 use comp_journal::entry::Entry;
 use heap_layout::kind::Kind;
 use std::alloc::Global;

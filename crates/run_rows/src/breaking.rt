@@ -4,7 +4,7 @@ use commands::images::FileImages;
 use commands::refusal::{Input, Refusal};
 use commands::replay::print_replay;
 use commands::traces::{FileTraces, trace_in};
-use comp_audit::fault::DumpFault;
+use comp_dump::fault::DumpFault;
 use heap_layout::counted::Counted;
 use std::alloc::Global;
 use std::io::{Error, ErrorKind, Read, Result as IoResult};

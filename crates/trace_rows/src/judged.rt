@@ -5,8 +5,8 @@ ghost use Rattle.comp_mutator.specs.Mutators.{setup_of, AreMutatorsOf};
 
 use crate::flipped::Case;
 use comp_audit::auditing::audit;
-use comp_audit::dump::Dump;
 use comp_audit::verdict::Verdict;
+use comp_dump::dump::Dump;
 use comp_mutator::finishing::Finished;
 use comp_mutator::mutator::Mutator;
 use comp_mutator::space::Space;

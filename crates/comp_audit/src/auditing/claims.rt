@@ -4,11 +4,11 @@ ghost use Rattle.cell_steps.specs.Lists.{times};
 ghost use Rattle.page_cells.specs.Ends.{lists as items_of};
 ghost use Rattle.comp_history.specs.Finishes.{named};
 ghost use Rattle.comp_audit.specs.Checks.{build_faults, is_claimed};
-ghost use Rattle.comp_audit.specs.Dumped.{IsStoredList};
+ghost use Rattle.comp_dump.specs.Dumped.{IsStoredList};
 ghost use Rattle.comp_audit.specs.Judged.{Tells};
 
-use crate::page::DumpedPage;
 use crate::verdict::{AuditFault, Stop};
+use comp_dump::page::DumpedPage;
 use std::alloc::{AllocError, Global};
 
 /// A page that was built stands in the lists of builds once, and no other page does.

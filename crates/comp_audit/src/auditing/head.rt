@@ -6,8 +6,8 @@ ghost use Rattle.comp_audit.specs.Judged.{Tells};
 ghost use Rattle.comp_audit.specs.Noted.{setup_at};
 
 use crate::auditing::setting::Setting;
-use crate::page::DumpedPage;
 use crate::verdict::{AuditFault, Stop};
+use comp_dump::page::DumpedPage;
 use std::alloc::Global;
 
 /// There is a place for each compacted page and each fresh one, and the roots lead where the plan forwards them.

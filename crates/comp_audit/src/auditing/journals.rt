@@ -6,14 +6,14 @@ ghost use Rattle.comp_journal.specs.declared.entry.Entry.{Entry};
 ghost use Rattle.cell_steps.specs.Setup.{fresh_page, pages, Setup};
 ghost use Rattle.cell_steps.specs.Lawful.{kinds_by, kinds_in};
 ghost use Rattle.comp_audit.specs.Checks.{each_built, entry_faults, fits, journal_faults, setup_for};
-ghost use Rattle.comp_audit.specs.Dumped.{IsStoredEntry, IsStoredRecord};
+ghost use Rattle.comp_dump.specs.Dumped.{IsStoredEntry, IsStoredRecord};
 ghost use Rattle.comp_audit.specs.Judged.{Tells};
 ghost use Rattle.comp_audit.specs.Noted.{setup_at};
 
 use crate::auditing::kinds::{add_kinds, is_of, is_word_of};
 use crate::auditing::setting::Setting;
-use crate::page::DumpedPage;
 use crate::verdict::{AuditFault, Stop};
+use comp_dump::page::DumpedPage;
 use comp_journal::entry::Entry;
 use heap_layout::header::Header;
 use heap_layout::kind::Kind;

@@ -7,8 +7,8 @@ ghost use Rattle.comp_audit.specs.declared.verdict.AuditFault.{AuditFault};
 ghost use Rattle.comp_audit.specs.declared.verdict.AuditFault.TheVariants.{BadEntry};
 
 use crate::auditing::starts::Starts;
-use crate::page::{DumpedPage, journal_of};
 use crate::verdict::{AuditFault, Stop};
+use comp_dump::page::{DumpedPage, journal_of};
 use comp_journal::entry::Entry;
 use heap_layout::kind::Kind;
 use page_plan::plan::Plan;

@@ -3,13 +3,13 @@ ghost use Rattle.std.specs.Prelude.{◌≡◌, ℕ, ◌<◌, ◌≤◌, All, IfO
 ghost use Rattle.comp_journal.specs.Journal.{replayed};
 ghost use Rattle.cell_steps.specs.Setup.{base_of};
 ghost use Rattle.comp_audit.specs.Checks.{each_built, same_words, word_faults};
-ghost use Rattle.comp_audit.specs.Dumped.{IsStoredPage, IsStoredRecord};
+ghost use Rattle.comp_dump.specs.Dumped.{IsStoredPage, IsStoredRecord};
 ghost use Rattle.comp_audit.specs.Judged.{Tells};
 ghost use Rattle.comp_audit.specs.Noted.{setup_at};
 
 use crate::auditing::setting::Setting;
-use crate::page::DumpedPage;
 use crate::verdict::{AuditFault, Stop};
+use comp_dump::page::DumpedPage;
 use comp_journal::entry::Entry;
 use heap_layout::fault::OutOfMemory;
 use heap_layout::page_words::PageWords;

@@ -5,15 +5,15 @@ ghost use Rattle.cell_steps.specs.Lawful.{IsLawful};
 ghost use Rattle.cell_steps.specs.Setup.{pages};
 ghost use Rattle.page_cells.specs.Objects.{AreLawful};
 ghost use Rattle.comp_audit.specs.Checks.{each_built, is_kind, journals_in, loose_faults, reference_faults};
-ghost use Rattle.comp_audit.specs.Dumped.{IsStoredPage, IsStoredRecord};
+ghost use Rattle.comp_dump.specs.Dumped.{IsStoredPage, IsStoredRecord};
 ghost use Rattle.comp_audit.specs.Judged.{Tells};
 ghost use Rattle.comp_audit.specs.Noted.{leads, setup_at};
 
 use crate::auditing::kinds::{is_word_of, kinds_on};
 use crate::auditing::setting::Setting;
 use crate::auditing::starts::Starts;
-use crate::page::DumpedPage;
 use crate::verdict::{AuditFault, Stop};
+use comp_dump::page::DumpedPage;
 use heap_layout::kind::Kind;
 use page_plan::TO_SPACE;
 use page_plan::plan::Plan;

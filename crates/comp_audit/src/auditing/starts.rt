@@ -6,11 +6,11 @@ ghost use Rattle.cell_steps.specs.Setup.{address, pages};
 ghost use Rattle.page_cells.specs.Objects.{AreLawful};
 ghost use Rattle.comp_history.specs.Merged.{with_page};
 ghost use Rattle.comp_audit.specs.Checks.{all_entries, journals_in};
-ghost use Rattle.comp_audit.specs.Dumped.{IsStoredRecord};
+ghost use Rattle.comp_dump.specs.Dumped.{IsStoredRecord};
 ghost use Rattle.comp_audit.specs.Noted.{is_below, is_noted_before, leads, setup_at, stamp_at, Covers, Notes};
 
 use crate::auditing::setting::Setting;
-use crate::page::{DumpedPage, journal_of};
+use comp_dump::page::{DumpedPage, journal_of};
 use comp_journal::entry::Entry;
 use heap_layout::kind::Kind;
 use page_plan::TO_SPACE;

@@ -4,11 +4,11 @@ ghost use Rattle.comp_journal.specs.declared.entry.Entry.{Entry};
 ghost use Rattle.cell_steps.specs.Lists.{total as added};
 ghost use Rattle.comp_history.specs.Shares.{allocated, words_by};
 ghost use Rattle.comp_audit.specs.Checks.{all_entries, total_faults};
-ghost use Rattle.comp_audit.specs.Dumped.{HasFewEntries};
+ghost use Rattle.comp_dump.specs.Dumped.{HasFewEntries};
 ghost use Rattle.comp_audit.specs.Judged.{Tells};
 
-use crate::page::{DumpedPage, journal_of};
 use crate::verdict::{AuditFault, Stop};
+use comp_dump::page::{DumpedPage, journal_of};
 use comp_journal::entry::Entry;
 use heap_layout::header::Header;
 use heap_layout::kind::Kind;

@@ -1,5 +1,5 @@
 use Rattle.std.proofs.lemmas.Result.{err_from_is_err_and}
-use Rattle.comp_audit.specs.DumpEncoding.{dump_bytes}
+use Rattle.comp_dump.specs.DumpEncoding.{dump_bytes}
 use Rattle.commands.proofs.Written.{cut_off, whole}
 use Rattle.commands.proofs.dumps.write_to.Goals as goal
 

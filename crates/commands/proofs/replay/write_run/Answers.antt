@@ -1,8 +1,8 @@
 use Rattle.std.proofs.Common.{arith, subst}
 use Rattle.std.proofs.lemmas.Result.{err_from_is_err_and}
 use Rattle.heap_layout.specs.Counted.{inner_of, failures_of}
-use Rattle.comp_audit.specs.Dumped.{Dumped}
-use Rattle.comp_audit.specs.DumpEncoding.{dump_bytes}
+use Rattle.comp_dump.specs.Dumped.{Dumped}
+use Rattle.comp_dump.specs.DumpEncoding.{dump_bytes}
 use Rattle.commands.specs.Dumps.{IsOfDumping}
 use Rattle.commands.proofs.Outcomes.{created, uncounted_dump}
 use Rattle.commands.proofs.ReplayRuns.{dumped_same, unprinted_halt, writing_of}

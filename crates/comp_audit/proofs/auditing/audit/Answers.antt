@@ -2,7 +2,7 @@ use Rattle.std.proofs.Common.{◌≡◌, ◌∙◌, ℕ, List, Option, Result, E
 use Rattle.heap_layout.specs.Heap.{Heap}
 use Rattle.page_cells.specs.Ends.{lists as items_of}
 use Rattle.comp_audit.specs.Checks.{setup_for}
-use Rattle.comp_audit.specs.Dumped.{BuiltPage, Dumped}
+use Rattle.comp_dump.specs.Dumped.{BuiltPage, Dumped}
 use Rattle.comp_audit.specs.Judged.{faults, faults_for, IsFirst, Tells}
 use Rattle.comp_audit.specs.declared.verdict.AuditFault.{AuditFault}
 use Rattle.comp_audit.specs.declared.verdict.Stop.{Stop}

@@ -2,7 +2,7 @@ use Rattle.std.proofs.Common.{◌≡◌, ◌∙◌, ℕ, Bool, Option, true, fal
 use Rattle.std.proofs.lemmas.List.{get_or_default}
 use Rattle.page_cells.specs.Ends.{lists as items_of}
 use Rattle.comp_history.specs.Finishes.{named}
-use Rattle.comp_audit.specs.Dumped.{BuiltPage}
+use Rattle.comp_dump.specs.Dumped.{BuiltPage}
 use Rattle.comp_audit.specs.Checks.{unless, is_claimed}
 use Rattle.comp_audit.specs.declared.verdict.AuditFault.TheVariants.{BuildUnclaimed}
 use Rattle.comp_audit.proofs.Telling.{first_here, none_here}

@@ -1,8 +1,8 @@
 use Rattle.std.proofs.Common.{ℕ, List, ◌∙◌, ◌<◌, All, length, subst, sym, arith}
 use Rattle.std.proofs.lemmas.List.{length-map}
 use Rattle.page_cells.specs.Ends.{lists as items_of}
-use Rattle.comp_audit.specs.Dumped.{IsStoredList}
-use Rattle.comp_audit.proofs.Writings.{list_at, item_at}
+use Rattle.comp_dump.specs.Dumped.{IsStoredList}
+use Rattle.comp_dump.proofs.Writings.{list_at, item_at}
 use Rattle.comp_audit.proofs.Claims.{list_counted}
 use Rattle.comp_audit.proofs.auditing.claims.count_lists.Goals as goal
 

@@ -1,5 +1,5 @@
 use Rattle.std.proofs.Common.{ℕ, ◌+◌, length, sym, ap, subst, arith}
-use Rattle.comp_audit.specs.Dumped.{HasFewEntries}
+use Rattle.comp_dump.specs.Dumped.{HasFewEntries}
 use Rattle.comp_audit.proofs.Entries.{few_at, words_next}
 use Rattle.comp_audit.proofs.auditing.totals.all_words.Goals as goal
 

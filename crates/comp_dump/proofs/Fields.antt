@@ -1,0 +1,140 @@
+-- Lemmas on the numbers of a dump: how they are read, and why they are not.
+use Rattle.std.proofs.Common.{◌≡◌, ℕ, ◌-◌, ◌^◌, ◌<◌, ◌≤◌, ◌⊎◌, inl, inr, Bool, true, false, ltb, ◌||◌, List, [], ◌∷◌, ◌++◌, length, slice_index, drop, Option, Some, None, IfSome, Err, refl, ap, subst, ◌∙◌, arith, length-append, All}
+use Rattle.std.specs.Io.KnownBytes.{Consumes}
+use Rattle.std.proofs.lemmas.Bool.{le-ltb, lt-ltb}
+use Rattle.std.proofs.lemmas.List.{drop_at}
+use Rattle.std.proofs.lemmas.Nat.{le_bytes_4, le_bytes_8}
+use Rattle.byteorder.specs.Endian.{little_number, little_bytes}
+use Rattle.byteorder.specs.Numbers.{little_number-reads_back, length-bytes_low_first, little_from-append}
+use Rattle.heap_layout.specs.declared.kind.Kind.{Kind}
+use Rattle.heap_layout.specs.declared.kind.Kind.TheVariants.{Header, Reference, Data}
+use Rattle.comp_journal.specs.declared.entry.Entry.{Entry}
+use Rattle.comp_dump.specs.Dumped.{BuiltPage, IsStoredEntry, IsStoredPage, IsStoredRecord, IsStoredList}
+use Rattle.comp_dump.specs.DumpEncoding.{kind_code, one_byte, four_bytes, eight_bytes, entry_bytes, built_bytes, page_bytes, builds_bytes}
+use Rattle.comp_dump.specs.declared.fault.DumpFault.{DumpFault}
+use Rattle.comp_dump.specs.declared.fault.DumpFault.TheVariants.{Truncated, BadField, Device}
+use Rattle.comp_dump.specs.DumpReading.{done, number, word, kind, kind_of, entry, built, page, page_behind, builds, EndsBefore, Fails, Stops}
+use Rattle.comp_dump.proofs.Readings.{Spells, AllSpell, all_spell, spells_then, spells_last, spells_done, spells_times}
+
+-- the bytes end in the number
+ends_short : (width low high : ℕ) (bytes : List ℕ) (fault : DumpFault) → EndsBefore width fault bytes → Fails fault (number width low high bytes)
+unfolding number
+ends_short width low high bytes Truncated h = rw (lt-ltb _ _ h) refl
+ends_short width low high bytes Device h = tt
+ends_short width low high bytes _ h = absurd h
+
+pub stops_short : (width low high : ℕ) (a : Option (List ℕ)) (fault : DumpFault) → IfSome a (EndsBefore width fault) → Stops (number width low high) a fault
+stops_short width low high None fault h = tt
+stops_short width low high (Some bytes) fault h = ends_short width low high bytes fault h
+
+either_true : (p q : Bool) → (p ≡ true) ⊎ (q ≡ true) → (p || q) ≡ true
+either_true true q h = refl
+either_true false q (inl h) = absurd cc
+either_true false q (inr h) = h
+
+-- the bytes begin with a number that is outside the range
+outside : (width low high : ℕ) (front rest : List ℕ) → length front ≡ width → (little_number width front < low) ⊎ (high < little_number width front)
+    → number width low high (front ++ rest) ≡ Err BadField
+unfolding number
+outside width low high front rest long off =
+    let whole : ltb (length (front ++ rest)) width ≡ false = le-ltb _ _ (omega (arith, length-append front rest)) in
+    let same : little_number width (front ++ rest) ≡ little_number width front = little_from-append width front rest (omega arith) in
+    let test : (ltb (little_number width front) low || ltb high (little_number width front)) ≡ true =
+    either_true _ _ (elim off [ inl h ↦ inl (lt-ltb _ _ h) | inr h ↦ inr (lt-ltb _ _ h) ]) in
+    rw (whole, same, test) refl
+
+pub stops_outside : (width low high n : ℕ) (a b : Option (List ℕ)) (front : List ℕ) → Consumes a b front → length front ≡ width
+    → n ≡ little_number width front → (n < low) ⊎ (high < n) → Stops (number width low high) a BadField
+stops_outside width low high n None b front read long is off = tt
+stops_outside width low high n (Some xs) None front read long is off = absurd read
+stops_outside width low high n (Some xs) (Some ys) front read long is off =
+    ap (number width low high) read ∙ outside width low high front ys long (subst (λ (k : ℕ). (k < low) ⊎ (high < k)) is off)
+
+-- a number within the range is read again
+pub spells_number : (width low high n : ℕ) → n < 256 ^ width → low ≤ n → n ≤ high → Spells (number width low high) (little_bytes width n) n
+unfolding number
+spells_number width low high n fits above below = record {
+  again = λ rest.
+      let front = little_bytes width n in
+      let long : length front ≡ width = length-bytes_low_first 0 width n in
+      let whole : ltb (length (front ++ rest)) width ≡ false = le-ltb _ _ (omega (arith, length-append front rest)) in
+      let same : little_number width (front ++ rest) ≡ n = little_number-reads_back width n rest fits in
+      let p : ltb n low ≡ false = le-ltb _ _ above in
+      let q : ltb high n ≡ false = le-ltb _ _ below in
+      let behind : drop width (front ++ rest) ≡ rest = drop_at front rest width long in
+      rw (whole, same, p, q, behind) refl;
+}
+
+pub spells_word : (n : ℕ) → n < 2 ^ 64 → Spells word (little_bytes 8 n) n
+spells_word n h = spells_number 8 0 (2 ^ 64 - 1) n h (omega arith) (omega arith)
+
+-- the bytes that were read are those of the number that they make
+pub four_read : (bytes : List ℕ) (n : ℕ) → ((i : ℕ) → slice_index bytes i < 256) → length bytes ≡ 4 → n ≡ little_number 4 bytes → little_bytes 4 n ≡ bytes
+four_read bytes n small long is = le_bytes_4 bytes n long small (omega (arith, is))
+
+pub eight_read : (bytes : List ℕ) (n : ℕ) → ((i : ℕ) → slice_index bytes i < 256) → length bytes ≡ 8 → n ≡ little_number 8 bytes → little_bytes 8 n ≡ bytes
+eight_read bytes n small long is = le_bytes_8 bytes n long small (omega (arith, is))
+
+pub one_read : (bytes : List ℕ) (n : ℕ) → ((i : ℕ) → slice_index bytes i < 256) → length bytes ≡ 1 → n ≡ slice_index bytes 0 → little_bytes 1 n ≡ bytes
+one_read [] n small long is = absurd (omega arith)
+one_read (b ∷ []) n small long is = ap (λ (k : ℕ). k ∷ []) (omega (arith, is, small 0))
+one_read (b ∷ c ∷ bytes) n small long is = absurd (omega arith)
+
+pub spells_kind : (k : Kind) → Spells kind (one_byte (kind_code k)) k
+unfolding kind
+spells_kind Header = spells_then (number 1 0 2) (λ code. done (kind_of code)) (one_byte 0) [] 0 Header (spells_number 1 0 2 0 (omega arith) (omega arith) (omega arith)) (spells_done Header)
+spells_kind Reference = spells_then (number 1 0 2) (λ code. done (kind_of code)) (one_byte 1) [] 1 Reference (spells_number 1 0 2 1 (omega arith) (omega arith) (omega arith)) (spells_done Reference)
+spells_kind Data = spells_then (number 1 0 2) (λ code. done (kind_of code)) (one_byte 2) [] 2 Data (spells_number 1 0 2 2 (omega arith) (omega arith) (omega arith)) (spells_done Data)
+
+pub spells_small : (high n : ℕ) → n < 256 → n ≤ high → Spells (number 1 0 high) (one_byte n) n
+spells_small high n small below = spells_number 1 0 high n small (omega arith) below
+
+pub spells_entry : (mutators : ℕ) (e : Entry) → mutators ≤ 256 → IsStoredEntry mutators e → Spells (entry mutators) (entry_bytes e) e
+unfolding entry entry_bytes
+spells_entry mutators e few stored =
+    spells_then _ _ _ _ _ _ (spells_word e.stamp stored.stamp)
+    (spells_then _ _ _ _ _ _ (spells_small (mutators - 1) e.writer (omega (arith, stored.writer)) (omega (arith, stored.writer)))
+    (spells_then _ _ _ _ _ _ (spells_kind e.kind)
+    (spells_then _ _ _ _ _ _ (spells_small 63 e.offset (omega (arith, stored.offset)) (omega (arith, stored.offset)))
+    (spells_last _ _ _ _ _ (spells_word e.value stored.value) refl))))
+
+pub entries_spell : (mutators : ℕ) (es : List Entry) → mutators ≤ 256 → All (IsStoredEntry mutators) es → AllSpell (entry mutators) entry_bytes es
+entries_spell mutators es few = all_spell (entry mutators) entry_bytes (IsStoredEntry mutators) (λ e. spells_entry mutators e few) es
+
+pub spells_four : (low high n : ℕ) → n < 2 ^ 32 → low ≤ n → n ≤ high → Spells (number 4 low high) (four_bytes n) n
+spells_four low high n fits above below = spells_number 4 low high n fits above below
+
+pub words_spell : (words : List ℕ) → All (λ n. n < 2 ^ 64) words → AllSpell word eight_bytes words
+words_spell words = all_spell word eight_bytes (λ n. n < 2 ^ 64) spells_word words
+
+spells_page_number : (pages p : ℕ) → pages < 2 ^ 32 → p < pages → Spells (number 4 0 (pages - 1)) (four_bytes p) p
+spells_page_number pages p few below = spells_four 0 (pages - 1) p (omega arith) (omega arith) (omega arith)
+
+pub numbers_spell : (pages : ℕ) (list : List ℕ) → pages < 2 ^ 32 → All (λ p. p < pages) list → AllSpell (number 4 0 (pages - 1)) four_bytes list
+numbers_spell pages list few = all_spell (number 4 0 (pages - 1)) four_bytes (λ p. p < pages) (λ p. spells_page_number pages p few) list
+
+pub spells_builds : (pages : ℕ) (list : List ℕ) → pages < 2 ^ 32 → IsStoredList pages list → Spells (builds pages) (builds_bytes list) list
+unfolding builds
+spells_builds pages list few stored =
+    spells_then _ _ _ _ _ _ (spells_four 0 pages (length list) (omega (arith, stored.few)) (omega arith) stored.few)
+    (spells_times (number 4 0 (pages - 1)) four_bytes (length list) list refl (numbers_spell pages list few stored.below))
+
+pub spells_built : (mutators : ℕ) (page : BuiltPage) → mutators ≤ 256 → IsStoredPage mutators page → Spells (built mutators) (built_bytes page) page
+unfolding built built_bytes
+spells_built mutators page few stored =
+    spells_then _ _ _ _ _ _ (spells_times word eight_bytes 64 page.words stored.long (words_spell page.words stored.words))
+    (spells_then _ _ _ _ _ _ (spells_four 0 1024 (length page.journal) (omega (arith, stored.few_entries)) (omega arith) stored.few_entries)
+    (spells_last _ _ _ _ _ (spells_times (entry mutators) entry_bytes (length page.journal) page.journal refl (entries_spell mutators page.journal few stored.entries)) refl))
+
+pub spells_page : (mutators : ℕ) (its_page : Option BuiltPage) → mutators ≤ 256 → IsStoredRecord mutators its_page → Spells (page mutators) (page_bytes its_page) its_page
+unfolding page
+spells_page mutators None few stored = spells_then (number 1 0 1) (page_behind mutators) (one_byte 0) [] 0 None (spells_small 1 0 (omega arith) (omega arith)) (spells_done None)
+spells_page mutators (Some its_page) few stored =
+    spells_then (number 1 0 1) (page_behind mutators) (one_byte 1) (built_bytes its_page) 1 (Some its_page) (spells_small 1 1 (omega arith) (omega arith))
+    (spells_last _ _ _ _ _ (spells_built mutators its_page few stored) refl)
+
+pub pages_spell : (mutators : ℕ) (list : List (Option BuiltPage)) → mutators ≤ 256 → All (IsStoredRecord mutators) list → AllSpell (page mutators) page_bytes list
+pages_spell mutators list few = all_spell (page mutators) page_bytes (IsStoredRecord mutators) (λ p. spells_page mutators p few) list
+
+pub lists_spell : (pages : ℕ) (lists : List (List ℕ)) → pages < 2 ^ 32 → All (IsStoredList pages) lists → AllSpell (builds pages) builds_bytes lists
+lists_spell pages lists few = all_spell (builds pages) builds_bytes (IsStoredList pages) (λ list. spells_builds pages list few) lists

@@ -1,0 +1,15 @@
+use Rattle.std.proofs.Common.{◌≡◌, All, length}
+use Rattle.std.specs.List.{flat_map}
+use Rattle.std.specs.Io.KnownBytes.{Consumes}
+use Rattle.heap_layout.specs.Counted.{inner_of, failures_of}
+use Rattle.comp_dump.specs.Dumped.{IsStoredRecord}
+use Rattle.comp_dump.specs.DumpEncoding.{page_bytes}
+use Rattle.comp_dump.proofs.reading.pages.read_pages.Given as goal
+
+abbrev pub invariant-loop : goal.invariant-loop
+invariant-loop g l = record {
+  read : Consumes (g.R.Read.remaining (inner_of l.fn.r)) (g.R.Read.remaining (inner_of l.r)) (flat_map page_bytes l.pages.items);
+  long : length l.pages.items ≡ l.counter;
+  stored : All (IsStoredRecord l.mutators) l.pages.items;
+  none_failed : failures_of l.r ≡ failures_of l.fn.r;
+}

@@ -1,0 +1,65 @@
+-- The bytes of a dump, version 1. All numbers are little-endian; nothing is padded.
+--     magic        8 bytes, `COMPDUMP`
+--     version      4 bytes, 1
+--     counts       4 bytes each: mutators, fresh pages, all pages, roots
+--     roots        8 bytes each
+--     pages        each a byte 0, or a byte 1, its 64 words of 8 bytes, 4 bytes that count its entries, and the entries
+--     builds       for each mutator 4 bytes that count its pages, and 4 bytes for each
+--     total        8 bytes
+-- An entry has 19 bytes: stamp (8), writer (1), kind (1), offset (1), value (8).
+use Rattle.std.specs.Prelude.{ℕ, List, ◌++◌, length, codes, Option, Some, None}
+use Rattle.std.specs.List.{flat_map}
+use Rattle.byteorder.specs.Endian.{little_bytes}
+use Rattle.heap_layout.specs.declared.kind.Kind.{Kind}
+use Rattle.heap_layout.specs.declared.kind.Kind.TheVariants.{Header, Reference, Data}
+use Rattle.comp_journal.specs.declared.entry.Entry.{Entry}
+use Rattle.comp_dump.specs.Dumped.{Dumped, BuiltPage}
+
+abbrev pub four_bytes : ℕ → List ℕ
+four_bytes n = little_bytes 4 n
+
+abbrev pub eight_bytes : ℕ → List ℕ
+eight_bytes n = little_bytes 8 n
+
+abbrev pub one_byte : ℕ → List ℕ
+one_byte n = little_bytes 1 n
+
+abbrev pub magic : List ℕ
+magic = codes "COMPDUMP"
+
+-- what stands before the roots
+unfoldable pub head : ℕ → ℕ → ℕ → ℕ → List ℕ
+head mutators fresh pages roots = magic ++ (four_bytes 1 ++ (four_bytes mutators ++ (four_bytes fresh ++ (four_bytes pages ++ four_bytes roots))))
+
+abbrev pub kind_code : Kind → ℕ
+kind_code Header = 0
+kind_code Reference = 1
+kind_code Data = 2
+
+unfoldable pub entry_bytes : Entry → List ℕ
+entry_bytes e = eight_bytes e.stamp ++ (one_byte e.writer ++ (one_byte (kind_code e.kind) ++ (one_byte e.offset ++ eight_bytes e.value)))
+
+-- how many there are, in 4 bytes, and each of them
+abbrev pub counted : {T : Type 0} → (T → List ℕ) → List T → List ℕ
+counted bytes list = four_bytes (length list) ++ flat_map bytes list
+
+-- a page that was built
+unfoldable pub built_bytes : BuiltPage → List ℕ
+built_bytes page = flat_map eight_bytes page.words ++ counted entry_bytes page.journal
+
+-- a byte that says whether the page was built, and the page
+abbrev pub page_bytes : Option BuiltPage → List ℕ
+page_bytes None = one_byte 0
+page_bytes (Some page) = one_byte 1 ++ built_bytes page
+
+-- the pages that one mutator built
+abbrev pub builds_bytes : List ℕ → List ℕ
+builds_bytes list = counted four_bytes list
+
+-- what stands before the build lists
+unfoldable pub front_bytes : ℕ → ℕ → List ℕ → List (Option BuiltPage) → List ℕ
+front_bytes mutators fresh roots pages = head mutators fresh (length pages) (length roots) ++ (flat_map eight_bytes roots ++ flat_map page_bytes pages)
+
+-- the bytes of a dump
+unfoldable pub dump_bytes : Dumped → List ℕ
+dump_bytes dump = front_bytes dump.mutators dump.fresh dump.roots dump.pages ++ (flat_map builds_bytes dump.builds ++ eight_bytes dump.total)

@@ -1,0 +1,164 @@
+-- How a dump is read: field by field, from left to right. A field that the bytes end in is `Truncated`; a number outside its range is `BadField`, whatever
+-- follows it.
+use Rattle.std.specs.Prelude.{◌≡◌, ℕ, zero, suc, ◌+◌, ◌-◌, ◌^◌, ◌<◌, ◌||◌, nat_lt, bytes_eq, List, [], ◌∷◌, length, take, drop, Option, Some, None, Result, Ok, Err, if◌then◌else◌}
+use Rattle.byteorder.specs.Endian.{little_number}
+use Rattle.heap_layout.specs.declared.kind.Kind.{Kind}
+use Rattle.heap_layout.specs.declared.kind.Kind.TheVariants.{Header, Reference, Data}
+use Rattle.comp_journal.specs.declared.entry.Entry.{Entry}
+use Rattle.comp_dump.specs.Dumped.{Dumped, BuiltPage}
+use Rattle.comp_dump.specs.DumpEncoding.{magic, four_bytes}
+use Rattle.comp_dump.specs.declared.fault.DumpFault.{DumpFault}
+use Rattle.comp_dump.specs.declared.fault.DumpFault.TheVariants.{Truncated, TrailingBytes, BadMagic, BadField, OutOfMemory, Device}
+
+-- what is read from the front of some bytes, with the bytes behind it; or the first fault
+abbrev pub Reading : Type 0 → Type 0
+Reading A = List ℕ → Result (A × List ℕ) DumpFault
+
+abbrev pub done : {A : Type 0} → A → Reading A
+done x bytes = Ok (x, bytes)
+
+abbrev pub go_on : {A B : Type 0} → Result (A × List ℕ) DumpFault → (A → Reading B) → Result (B × List ℕ) DumpFault
+go_on (Ok x) next = next x.0 x.1
+go_on (Err fault) next = Err fault
+
+infixl 10 ◌>>=◌
+abbrev pub ◌>>=◌ : {A B : Type 0} → Reading A → (A → Reading B) → Reading B
+(first >>= next) bytes = go_on (first bytes) next
+
+-- a number of `width` bytes from `low` to `high`
+unfoldable pub number : ℕ → ℕ → ℕ → Reading ℕ
+number width low high bytes =
+    if nat_lt (length bytes) width then Err Truncated
+    else if nat_lt (little_number width bytes) low || nat_lt high (little_number width bytes) then Err BadField
+    else Ok (little_number width bytes, drop width bytes)
+
+-- as many, one after the other
+unfoldable pub times_read : {A : Type 0} → ℕ → Reading A → Reading (List A)
+times_read zero each = done []
+times_read (suc n) each = do
+  first ← each
+  others ← times_read n each
+  done (first ∷ others)
+
+abbrev pub word : Reading ℕ
+word = number 8 0 (2 ^ 64 - 1)
+
+abbrev pub kind_of : ℕ → Kind
+kind_of zero = Header
+kind_of (suc zero) = Reference
+kind_of (suc (suc _)) = Data
+
+unfoldable pub kind : Reading Kind
+kind = do
+  code ← number 1 0 2
+  done (kind_of code)
+
+unfoldable pub entry : ℕ → Reading Entry
+entry mutators = do
+  stamp ← word
+  writer ← number 1 0 (mutators - 1)
+  its_kind ← kind
+  offset ← number 1 0 63
+  value ← word
+  done (record { stamp = stamp; writer = writer; kind = its_kind; offset = offset; value = value })
+
+unfoldable pub built : ℕ → Reading BuiltPage
+built mutators = do
+  words ← times_read 64 word
+  entries ← number 4 0 1024
+  journal ← times_read entries (entry mutators)
+  done (record { words = words; journal = journal })
+
+-- a 0 for a page that was never built, or a 1 and the page
+abbrev pub page_behind : ℕ → ℕ → Reading (Option BuiltPage)
+page_behind mutators zero = done None
+page_behind mutators (suc _) = do
+  its_page ← built mutators
+  done (Some its_page)
+
+unfoldable pub page : ℕ → Reading (Option BuiltPage)
+page mutators = do
+  is_built ← number 1 0 1
+  page_behind mutators is_built
+
+unfoldable pub builds : ℕ → Reading (List ℕ)
+builds pages = do
+  count ← number 4 0 pages
+  times_read count (number 4 0 (pages - 1))
+
+-- these very bytes
+unfoldable pub expected : List ℕ → Reading (List ℕ)
+expected wanted bytes =
+    if nat_lt (length bytes) (length wanted) then Err Truncated
+    else if bytes_eq (take (length wanted) bytes) wanted then Ok (wanted, drop (length wanted) bytes)
+    else Err BadMagic
+
+-- how many mutators, fresh pages, pages and roots
+pub record Counts : Type 0 where
+  pub mutators : ℕ
+  pub fresh : ℕ
+  pub pages : ℕ
+  pub roots : ℕ
+
+-- what stands before the roots
+unfoldable pub head : Reading Counts
+head = do
+  magic_bytes ← expected magic
+  version_bytes ← expected (four_bytes 1)
+  mutators ← number 4 1 64
+  fresh ← number 4 0 4096
+  pages ← number 4 fresh 20480
+  roots ← number 4 0 4096
+  done (record { mutators = mutators; fresh = fresh; pages = pages; roots = roots })
+
+-- a dump, with whatever is behind it
+unfoldable pub dump : Reading Dumped
+dump = do
+  counts ← head
+  roots ← times_read counts.roots word
+  pages ← times_read counts.pages (page counts.mutators)
+  lists ← times_read counts.mutators (builds counts.pages)
+  total ← word
+  done (record { mutators = counts.mutators; fresh = counts.fresh; roots = roots; pages = pages; builds = lists; total = total })
+
+-- nothing may stand behind it
+abbrev pub ended : {A : Type 0} → A → List ℕ → Result A DumpFault
+ended x [] = Ok x
+ended x (_ ∷ _) = Err TrailingBytes
+
+abbrev pub whole : {A : Type 0} → Result (A × List ℕ) DumpFault → Result A DumpFault
+whole (Ok x) = ended x.0 x.1
+whole (Err fault) = Err fault
+
+-- what all the bytes are read as
+abbrev pub read_whole : List ℕ → Result Dumped DumpFault
+read_whole bytes = whole (dump bytes)
+
+-- A fault is the one that reading meets; want of memory and a failing device are not in the bytes.
+abbrev pub Fails : {A : Type 0} → DumpFault → Result A DumpFault → Type 0
+Fails OutOfMemory read = Unit {0}
+Fails Device read = Unit {0}
+Fails fault read = read ≡ Err fault
+
+-- the same of a reader that has these bytes, where they are known
+abbrev pub Stops : {A : Type 0} → Reading A → Option (List ℕ) → DumpFault → Type 0
+Stops reading None fault = Unit {0}
+Stops reading (Some bytes) fault = Fails fault (reading bytes)
+
+-- a call answers `Device` exactly where one more call of the device failed
+abbrev pub CountsFailure : {T : Type 0} → ℕ → ℕ → Result T DumpFault → Type 0
+CountsFailure before after (Ok _) = after ≡ before
+CountsFailure before after (Err Device) = after ≡ before + 1
+CountsFailure before after (Err _) = after ≡ before
+
+-- a part of so many bytes was not filled: there are fewer, or a call of the device failed
+abbrev pub EndsBefore : ℕ → DumpFault → List ℕ → Type 0
+EndsBefore n Truncated bytes = length bytes < n
+EndsBefore n Device bytes = Unit {0}
+EndsBefore n _ bytes = ⊥
+
+-- Reading the end failed: a byte follows, or a call of the device failed.
+abbrev pub RefusesEnd : DumpFault → List ℕ → Type 0
+RefusesEnd TrailingBytes bytes = 0 < length bytes
+RefusesEnd Device bytes = Unit {0}
+RefusesEnd _ bytes = ⊥

@@ -1,0 +1,21 @@
+-- What a call that writes does to the bytes of a writer, where those are known.
+use Rattle.std.specs.Prelude.{◌≡◌, ℕ, List, take, Option, Result, Ok, Err}
+use Rattle.std.specs.Io.KnownBytes.{Appends}
+use Rattle.heap_layout.specs.Counted.{one_more}
+use Rattle.comp_dump.specs.declared.fault.DumpFault.{DumpFault}
+use Rattle.comp_dump.specs.declared.fault.DumpFault.TheVariants.{Device}
+
+-- they grew by a beginning of a part
+pub record AppendsSome (before after : Option (List ℕ)) (part : List ℕ) : Type 0 where
+  pub taken : ℕ
+  pub bytes : Appends before after (take taken part)
+
+-- a call wrote the part; or the device failed, and a beginning of the part was written
+abbrev pub Writes : Option (List ℕ) → Option (List ℕ) → List ℕ → Result (Unit {0}) DumpFault → Type 0
+Writes before after part (Ok _) = Appends before after part
+Writes before after part (Err fault) = (fault ≡ Device) × AppendsSome before after part
+
+-- one call of the device failed where the answer is an error, and else none
+abbrev pub CountsOne : {T : Type 0} → ℕ → ℕ → Result T DumpFault → Type 0
+CountsOne before after (Ok _) = after ≡ before
+CountsOne before after (Err _) = after ≡ one_more before

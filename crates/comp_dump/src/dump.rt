@@ -1,0 +1,110 @@
+ghost use Rattle.std.specs.Prelude.{◌≡◌};
+ghost use Rattle.page_cells.specs.Ends.{lists as items_of};
+ghost use Rattle.comp_dump.specs.Dumped.{IsStored};
+
+use crate::page::DumpedPage;
+use std::marker::Model;
+
+/// What a cycle left: its pages with their journals, the roots, what each mutator built, and the live words. A dump of a finished heap borrows the pages
+/// from it; one that was read owns them.
+#[derive(Drop)]
+pub struct Dump<'a> {
+    mutators: u8,
+    fresh: u32,
+    roots: Vec<u64>,
+    pages: Vec<Option<DumpedPage<'a>>>,
+    builds: Vec<Vec<u32>>,
+    total: u64,
+}
+
+impl<'a> Model for Dump<'a> {
+    ghost use Rattle.page_cells.specs.Ends.{lists as items_of};
+    ghost use Rattle.comp_dump.specs.Dumped.{Dumped, IsStored};
+
+    ghost Value = { Dumped };
+
+    ghost view = { λ dump. record {
+      mutators = dump.mutators;
+      fresh = dump.fresh;
+      roots = dump.roots.items;
+      pages = dump.pages.items;
+      builds = items_of dump.builds.items;
+      total = dump.total;
+    } };
+
+    ghost invariant = { λ dump. IsStored (record {
+      mutators = dump.mutators;
+      fresh = dump.fresh;
+      roots = dump.roots.items;
+      pages = dump.pages.items;
+      builds = items_of dump.builds.items;
+      total = dump.total;
+    }) };
+}
+
+impl<'a> Dump<'a> {
+    /// A dump of these parts.
+    pub(crate) fn from_parts(
+        mutators: u8,
+        fresh: u32,
+        roots: Vec<u64>,
+        pages: Vec<Option<DumpedPage<'a>>>,
+        builds: Vec<Vec<u32>>,
+        total: u64,
+    ) -> Dump<'a>
+        requires { IsStored (record { mutators = mutators; fresh = fresh; roots = roots.items; pages = pages.items; builds = items_of builds.items; total = total }) }
+        ensures { result ≡ record { mutators = mutators; fresh = fresh; roots = roots.items; pages = pages.entry.items; builds = items_of builds.items; total = total } }
+    {
+        Dump {
+            mutators,
+            fresh,
+            roots,
+            pages,
+            builds,
+            total,
+        }
+    }
+
+    /// How many mutators there were, 1 to 64.
+    pub fn mutators(&self) -> u8
+        ensures { result ≡ self.now.mutators }
+    {
+        self.mutators
+    }
+
+    /// How many fresh pages there were, at most 4,096.
+    pub fn fresh_pages(&self) -> u32
+        ensures { result ≡ self.now.fresh }
+    {
+        self.fresh
+    }
+
+    /// Where the roots of the heap led: to-space addresses, or 0.
+    pub fn roots(&self) -> &[u64]
+        ensures { result.now ≡ self.now.roots }
+    {
+        &self.roots
+    }
+
+    /// All pages, compacted ones first. A page that was never built is None.
+    pub fn pages(&self) -> &[Option<DumpedPage<'a>>]
+        ensures { result.now ≡ self.now.pages }
+    {
+        &self.pages
+    }
+
+    /// The numbers of the pages that each mutator built, in order, mutator by mutator.
+    pub fn builds(&self) -> &[Vec<u32>]
+        ensures { items_of result.now ≡ self.now.builds }
+    {
+        &self.builds
+    }
+
+    /// The words of all objects: those that slid, and those that mutators made.
+    pub fn live_words(&self) -> u64
+        ensures total { result ≡ self.now.total }
+        ensures stored { IsStored self.now }
+    {
+        self.total
+    }
+}

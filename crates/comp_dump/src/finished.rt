@@ -1,0 +1,93 @@
+//! Dumps of finished heaps.
+ghost use Rattle.std.specs.Prelude.{◌≡◌, ◌^◌, ◌<◌, All, IfOk, map};
+ghost use Rattle.page_cells.specs.Ends.{lists as items_of};
+ghost use Rattle.comp_history.specs.Finishes.{builds_in, live_of, pages_of, roots_of, IsOfFlip};
+ghost use Rattle.comp_dump.specs.Lent.{record_of, IsTypedRecord};
+
+use crate::dump::Dump;
+use crate::page::{DumpedPage, numbers_are_typed};
+use comp_history::finished::Finished;
+use comp_journal::journaled_page::JournaledPage;
+use heap_layout::fault::OutOfMemory;
+use std::alloc::Global;
+
+impl<'a> Dump<'a> {
+    /// The dump of a finished heap, which lends its pages. The counts are those of its flip.
+    pub fn of(
+        alloc: Global,
+        finished: &'a Finished,
+        mutators: u32,
+        fresh_pages: u32,
+    ) -> Result<Dump<'a>, OutOfMemory>
+        requires { IsOfFlip mutators fresh_pages finished.now }
+        ensures mutators { IfOk result (λ dump. dump.mutators ≡ mutators) }
+        ensures fresh { IfOk result (λ dump. dump.fresh ≡ fresh_pages) }
+        ensures roots { IfOk result (λ dump. dump.roots ≡ roots_of finished.now) }
+        ensures pages { IfOk result (λ dump. dump.pages ≡ map record_of (pages_of finished.now)) }
+        ensures builds { IfOk result (λ dump. dump.builds ≡ builds_in finished.now) }
+        ensures total { IfOk result (λ dump. dump.total ≡ live_of finished.now) }
+    {
+        let roots = copied(alloc, finished.roots())?;
+        let pages = lent(alloc, finished.pages())?;
+        let builds = all_shortened(alloc, finished.builds())?;
+        Ok(Dump::from_parts(
+            mutators as u8,
+            fresh_pages,
+            roots,
+            pages,
+            builds,
+            finished.live_words(),
+        ))
+    }
+}
+
+/// All pages, each lent.
+fn lent<'a>(
+    alloc: Global,
+    pages: &'a [Option<JournaledPage>],
+) -> Result<Vec<Option<DumpedPage<'a>>>, OutOfMemory>
+    ensures lent { IfOk result (λ lent. lent.items ≡ map record_of pages.now) }
+    ensures typed { IfOk result (λ lent. All IsTypedRecord lent.items) }
+{
+    let mut lent = Vec::with_capacity(alloc, pages.len())?;
+    for page in pages {
+        lent.push_reserved(match page {
+            None => None,
+            Some(page) => Some(DumpedPage::lent(page)),
+        });
+    }
+    Ok(lent)
+}
+
+/// The same roots.
+fn copied(alloc: Global, roots: &[u64]) -> Result<Vec<u64>, OutOfMemory>
+    ensures same { IfOk result (λ copy. copy.items ≡ roots.now) }
+    ensures typed { All (λ root. root < 2 ^ 64) roots.now }
+{
+    numbers_are_typed(roots);
+    Ok(roots.to_vec(alloc)?)
+}
+
+/// The same page numbers, in half the room.
+fn shortened(alloc: Global, list: &[u64]) -> Result<Vec<u32>, OutOfMemory>
+    requires { All (λ p. p < 2 ^ 32) list.now }
+    ensures { IfOk result (λ short. short.items ≡ list.now) }
+{
+    let mut short = Vec::with_capacity(alloc, list.len())?;
+    for p in list {
+        short.push_reserved(*p as u32);
+    }
+    Ok(short)
+}
+
+/// The same lists, each in half the room.
+fn all_shortened(alloc: Global, lists: &[Vec<u64>]) -> Result<Vec<Vec<u32>>, OutOfMemory>
+    requires { All (λ list. All (λ p. p < 2 ^ 32) list) (items_of lists.now) }
+    ensures { IfOk result (λ short. items_of short.items ≡ items_of lists.now) }
+{
+    let mut short = Vec::with_capacity(alloc, lists.len())?;
+    for list in lists {
+        short.push_reserved(shortened(alloc, list)?);
+    }
+    Ok(short)
+}

@@ -1,0 +1,164 @@
+//! Reading a dump, field by field, each judged as soon as it is there.
+ghost use Rattle.std.specs.Prelude.{◌≡◌, ◌-◌, ◌^◌, ◌<◌, ◌≤◌, IfOk, IfErr, IfSome, All, length};
+ghost use Rattle.std.specs.Io.KnownBytes.{Consumes};
+ghost use Rattle.std.specs.List.{flat_map};
+ghost use Rattle.heap_layout.specs.Counted.{inner_of, failures_of};
+ghost use Rattle.page_cells.specs.Ends.{lists as items_of};
+ghost use Rattle.comp_dump.specs.Dumped.{AreCounts, IsStored, IsStoredList};
+ghost use Rattle.comp_dump.specs.DumpEncoding.{builds_bytes, dump_bytes, eight_bytes, four_bytes, head};
+ghost use Rattle.comp_dump.specs.DumpReading as reading;
+ghost use Rattle.comp_dump.specs.DumpReading.{number, read_whole, times_read, word, CountsFailure, Fails, Stops};
+
+pub(crate) mod fields;
+mod pages;
+
+use crate::dump::Dump;
+use crate::fault::DumpFault;
+use crate::reading::fields::{expect_end, expect_magic, expect_version, read_eight, read_four};
+use crate::reading::pages::read_pages;
+use heap_layout::counted::Counted;
+use std::alloc::Global;
+use std::io::Read;
+
+/// Reads a dump, all that the reader has left.
+///
+/// Each field is judged as soon as it is there, whatever follows it. A call of the reader that answers an error ends the reading, an interrupted one too.
+/// Lists grow as they are read. After an Err the reader has lost what was read.
+pub fn read_dump<R: Read>(alloc: Global, r: &mut Counted<R>) -> Result<Dump<'static>, DumpFault>
+    requires { failures_of r.old < 2 ^ 64 - 1 }
+    ensures read { IfOk result (λ dump. IfSome (R.remaining (inner_of r.old)) (λ bytes. bytes ≡ dump_bytes dump)) }
+    ensures stored { IfOk result IsStored }
+    ensures cause { IfErr result (λ fault. IfSome (R.remaining (inner_of r.old)) (λ bytes. Fails fault (read_whole bytes))) }
+    ensures counts { CountsFailure (failures_of r.old) (failures_of r.new) result }
+{
+    let dump = read_parts(alloc, r)?;
+    expect_end(r)?;
+    Ok(dump)
+}
+
+/// A dump, with whatever is behind it.
+fn read_parts<R: Read>(alloc: Global, r: &mut Counted<R>) -> Result<Dump<'static>, DumpFault>
+    requires { failures_of r.old < 2 ^ 64 - 1 }
+    ensures read { IfOk result (λ dump. Consumes (R.remaining (inner_of r.old)) (R.remaining (inner_of r.new)) (dump_bytes dump)) }
+    ensures stored { IfOk result IsStored }
+    ensures cause { IfErr result (Stops reading.dump (R.remaining (inner_of r.old))) }
+    ensures counts { CountsFailure (failures_of r.old) (failures_of r.new) result }
+{
+    let head = read_head(r)?;
+    let roots = read_roots(alloc, r, head.roots)?;
+    let pages = read_pages(alloc, r, head.mutators, head.pages)?;
+    let builds = read_all_builds(alloc, r, head.pages, head.mutators)?;
+    let total = read_eight(r)?;
+    Ok(Dump::from_parts(head.mutators, head.fresh, roots, pages, builds, total))
+}
+
+/// The counts of a dump.
+#[derive(Clone, Copy)]
+struct Head {
+    mutators: u8,
+    fresh: u32,
+    pages: u32,
+    roots: u32,
+}
+
+/// All that stands before the roots.
+fn read_head<R: Read>(r: &mut Counted<R>) -> Result<Head, DumpFault>
+    requires { failures_of r.old < 2 ^ 64 - 1 }
+    ensures read { IfOk result (λ found. Consumes (R.remaining (inner_of r.old)) (R.remaining (inner_of r.new))
+        (head found.mutators found.fresh found.pages found.roots)) }
+    ensures within { IfOk result (λ found. AreCounts found.mutators found.fresh found.pages found.roots) }
+    ensures cause { IfErr result (Stops reading.head (R.remaining (inner_of r.old))) }
+    ensures counts { CountsFailure (failures_of r.old) (failures_of r.new) result }
+{
+    expect_magic(r)?;
+    expect_version(r)?;
+    let mutators = read_four(r, 1, 64)?;
+    let fresh = read_four(r, 0, 4_096)?;
+    let pages = read_four(r, fresh, 20_480)?;
+    let roots = read_four(r, 0, 4_096)?;
+    Ok(Head {
+        mutators: mutators as u8,
+        fresh,
+        pages,
+        roots,
+    })
+}
+
+/// So many roots.
+fn read_roots<R: Read>(alloc: Global, r: &mut Counted<R>, count: u32) -> Result<Vec<u64>, DumpFault>
+    requires room { failures_of r.old < 2 ^ 64 - 1 }
+    ensures read { IfOk result (λ roots. Consumes (R.remaining (inner_of r.old)) (R.remaining (inner_of r.new)) (flat_map eight_bytes roots.items)) }
+    ensures long { IfOk result (λ roots. length roots.items ≡ count) }
+    ensures stored { IfOk result (λ roots. All (λ n. n < 2 ^ 64) roots.items) }
+    ensures cause { IfErr result (Stops (times_read count word) (R.remaining (inner_of r.old))) }
+    ensures counts { CountsFailure (failures_of r.old) (failures_of r.new) result }
+{
+    let mut roots = Vec::new(alloc);
+    for _ in 0..count {
+        let root = read_eight(r)?;
+        roots.push(root)?;
+    }
+    Ok(roots)
+}
+
+/// What every mutator built.
+fn read_all_builds<R: Read>(
+    alloc: Global,
+    r: &mut Counted<R>,
+    pages: u32,
+    mutators: u8,
+) -> Result<Vec<Vec<u32>>, DumpFault>
+    requires room { failures_of r.old < 2 ^ 64 - 1 }
+    ensures read { IfOk result (λ lists. Consumes (R.remaining (inner_of r.old)) (R.remaining (inner_of r.new)) (flat_map builds_bytes (items_of lists.items))) }
+    ensures long { IfOk result (λ lists. length lists.items ≡ mutators) }
+    ensures stored { IfOk result (λ lists. All (IsStoredList pages) (items_of lists.items)) }
+    ensures cause { IfErr result (Stops (times_read mutators (reading.builds pages)) (R.remaining (inner_of r.old))) }
+    ensures counts { CountsFailure (failures_of r.old) (failures_of r.new) result }
+{
+    let mut lists = Vec::new(alloc);
+    for _ in 0..mutators {
+        let list = read_builds(alloc, r, pages)?;
+        lists.push(list)?;
+    }
+    Ok(lists)
+}
+
+/// What one mutator built.
+fn read_builds<R: Read>(
+    alloc: Global,
+    r: &mut Counted<R>,
+    pages: u32,
+) -> Result<Vec<u32>, DumpFault>
+    requires room { failures_of r.old < 2 ^ 64 - 1 }
+    ensures read { IfOk result (λ list. Consumes (R.remaining (inner_of r.old)) (R.remaining (inner_of r.new)) (builds_bytes list.items)) }
+    ensures stored { IfOk result (λ list. IsStoredList pages list.items) }
+    ensures cause { IfErr result (Stops (reading.builds pages) (R.remaining (inner_of r.old))) }
+    ensures counts { CountsFailure (failures_of r.old) (failures_of r.new) result }
+{
+    let count = read_four(r, 0, pages)?;
+    let list = read_numbers(alloc, r, pages, count)?;
+    Ok(list)
+}
+
+/// So many numbers of pages, below the count of them.
+fn read_numbers<R: Read>(
+    alloc: Global,
+    r: &mut Counted<R>,
+    pages: u32,
+    count: u32,
+) -> Result<Vec<u32>, DumpFault>
+    requires room { failures_of r.old < 2 ^ 64 - 1 }
+    requires few { count ≤ pages }
+    ensures read { IfOk result (λ list. Consumes (R.remaining (inner_of r.old)) (R.remaining (inner_of r.new)) (flat_map four_bytes list.items)) }
+    ensures long { IfOk result (λ list. length list.items ≡ count) }
+    ensures stored { IfOk result (λ list. All (λ p. p < pages) list.items) }
+    ensures cause { IfErr result (Stops (times_read count (number 4 0 (pages - 1))) (R.remaining (inner_of r.old))) }
+    ensures counts { CountsFailure (failures_of r.old) (failures_of r.new) result }
+{
+    let mut list = Vec::new(alloc);
+    for _ in 0..count {
+        let p = read_four(r, 0, pages - 1)?;
+        list.push(p)?;
+    }
+    Ok(list)
+}

@@ -1,0 +1,125 @@
+//! The numbers and the fixed bytes of a dump.
+ghost use Rattle.std.specs.Prelude.{◌≡◌, ℕ, ◌-◌, ◌^◌, ◌<◌, ◌≤◌, IfOk, IfErr, IfSome, OnOk, length, slice_index};
+ghost use Rattle.std.specs.Io.KnownBytes.{Consumes, IsAtEnd};
+ghost use Rattle.byteorder.specs.Endian.{little_bytes};
+ghost use Rattle.heap_layout.specs.Counted.{inner_of, failures_of};
+ghost use Rattle.comp_dump.specs.DumpEncoding.{four_bytes, magic};
+ghost use Rattle.comp_dump.specs.DumpReading.{expected, number, word, CountsFailure, EndsBefore, RefusesEnd, Stops};
+
+use crate::fault::DumpFault;
+use byteorder::{ByteOrder, LittleEndian};
+use heap_layout::counted::Counted;
+use heap_layout::parts::{Cut, fill};
+use std::io::Read;
+
+/// The first bytes of a dump.
+pub(crate) const MAGIC: [u8; 8] = *b"COMPDUMP";
+
+/// The version of the format, 1, as it stands in a dump.
+pub(crate) const VERSION: [u8; 4] = [1, 0, 0, 0];
+
+// Fills the buffer.
+fn read_part<R: Read>(r: &mut Counted<R>, buf: &mut [u8]) -> Result<(), DumpFault>
+    requires { failures_of r.old < 2 ^ 64 - 1 }
+    ensures read { OnOk result (Consumes (R.remaining (inner_of r.old)) (R.remaining (inner_of r.new)) buf.new) }
+    ensures small { (i : ℕ) → slice_index buf.new i < 2 ^ 8 }
+    ensures cut { IfErr result (λ fault. IfSome (R.remaining (inner_of r.old)) (EndsBefore (length buf.old) fault)) }
+    ensures counts { CountsFailure (failures_of r.old) (failures_of r.new) result }
+{
+    match fill(r, buf) {
+        Ok(()) => Ok(()),
+        Err(Cut::Ended) => Err(DumpFault::Truncated),
+        Err(Cut::Failed) => Err(DumpFault::Device),
+    }
+}
+
+/// A number of one byte, up to `high`.
+pub(crate) fn read_one<R: Read>(r: &mut Counted<R>, high: u8) -> Result<u8, DumpFault>
+    requires { failures_of r.old < 2 ^ 64 - 1 }
+    ensures read { IfOk result (λ n. Consumes (R.remaining (inner_of r.old)) (R.remaining (inner_of r.new)) (little_bytes 1 n)) }
+    ensures within { IfOk result (λ n. n ≤ high) }
+    ensures cause { IfErr result (Stops (number 1 0 high) (R.remaining (inner_of r.old))) }
+    ensures counts { CountsFailure (failures_of r.old) (failures_of r.new) result }
+{
+    let mut bytes = [0; 1];
+    read_part(r, &mut bytes)?;
+    let n = bytes[0];
+    if high < n {
+        return Err(DumpFault::BadField);
+    }
+    Ok(n)
+}
+
+/// A number of 4 bytes, in a range.
+pub(crate) fn read_four<R: Read>(r: &mut Counted<R>, low: u32, high: u32) -> Result<u32, DumpFault>
+    requires { failures_of r.old < 2 ^ 64 - 1 }
+    ensures read { IfOk result (λ n. Consumes (R.remaining (inner_of r.old)) (R.remaining (inner_of r.new)) (little_bytes 4 n)) }
+    ensures within { IfOk result (λ n. (low ≤ n) × (n ≤ high)) }
+    ensures cause { IfErr result (Stops (number 4 low high) (R.remaining (inner_of r.old))) }
+    ensures counts { CountsFailure (failures_of r.old) (failures_of r.new) result }
+{
+    let mut bytes = [0; 4];
+    read_part(r, &mut bytes)?;
+    let n = LittleEndian::read_u32(&bytes);
+    if n < low || high < n {
+        return Err(DumpFault::BadField);
+    }
+    Ok(n)
+}
+
+/// Any number of 8 bytes.
+pub(crate) fn read_eight<R: Read>(r: &mut Counted<R>) -> Result<u64, DumpFault>
+    requires { failures_of r.old < 2 ^ 64 - 1 }
+    ensures read { IfOk result (λ n. Consumes (R.remaining (inner_of r.old)) (R.remaining (inner_of r.new)) (little_bytes 8 n)) }
+    ensures cause { IfErr result (Stops word (R.remaining (inner_of r.old))) }
+    ensures counts { CountsFailure (failures_of r.old) (failures_of r.new) result }
+{
+    let mut bytes = [0; 8];
+    read_part(r, &mut bytes)?;
+    Ok(LittleEndian::read_u64(&bytes))
+}
+
+/// The magic.
+pub(crate) fn expect_magic<R: Read>(r: &mut Counted<R>) -> Result<(), DumpFault>
+    requires { failures_of r.old < 2 ^ 64 - 1 }
+    ensures read { OnOk result (Consumes (R.remaining (inner_of r.old)) (R.remaining (inner_of r.new)) magic) }
+    ensures cause { IfErr result (Stops (expected magic) (R.remaining (inner_of r.old))) }
+    ensures counts { CountsFailure (failures_of r.old) (failures_of r.new) result }
+{
+    let mut bytes = [0; 8];
+    read_part(r, &mut bytes)?;
+    if bytes != MAGIC {
+        return Err(DumpFault::BadMagic);
+    }
+    Ok(())
+}
+
+/// The version.
+pub(crate) fn expect_version<R: Read>(r: &mut Counted<R>) -> Result<(), DumpFault>
+    requires { failures_of r.old < 2 ^ 64 - 1 }
+    ensures read { OnOk result (Consumes (R.remaining (inner_of r.old)) (R.remaining (inner_of r.new)) (four_bytes 1)) }
+    ensures cause { IfErr result (Stops (expected (four_bytes 1)) (R.remaining (inner_of r.old))) }
+    ensures counts { CountsFailure (failures_of r.old) (failures_of r.new) result }
+{
+    let mut bytes = [0; 4];
+    read_part(r, &mut bytes)?;
+    if bytes != VERSION {
+        return Err(DumpFault::BadMagic);
+    }
+    Ok(())
+}
+
+/// The reader has no byte left.
+pub(crate) fn expect_end<R: Read>(r: &mut Counted<R>) -> Result<(), DumpFault>
+    requires { failures_of r.old < 2 ^ 64 - 1 }
+    ensures end { OnOk result (IsAtEnd (R.remaining (inner_of r.old))) }
+    ensures cause { IfErr result (λ fault. IfSome (R.remaining (inner_of r.old)) (RefusesEnd fault)) }
+    ensures counts { CountsFailure (failures_of r.old) (failures_of r.new) result }
+{
+    let mut byte = [0; 1];
+    match r.read(&mut byte) {
+        Ok(0) => Ok(()),
+        Ok(_) => Err(DumpFault::TrailingBytes),
+        Err(_) => Err(DumpFault::Device),
+    }
+}

@@ -1,0 +1,304 @@
+//! Writing a dump, field by field.
+ghost use Rattle.std.specs.Prelude.{◌≡◌, ℕ, ◌-◌, ◌^◌, ◌<◌, ◌≤◌, ◌++◌, [], ◌∷◌, All, OnOk, length, map, true, Some};
+ghost use Rattle.std.specs.Io.KnownBytes.{Appends};
+ghost use Rattle.std.specs.List.{flat_map};
+ghost use Rattle.heap_layout.specs.Counted.{inner_of, failures_of, is_flushed_of};
+ghost use Rattle.page_cells.specs.Ends.{lists as items_of};
+ghost use Rattle.comp_dump.specs.Dumped.{HasFewEntries, IsWritable};
+ghost use Rattle.comp_dump.specs.DumpEncoding.{built_bytes, builds_bytes, dump_bytes, eight_bytes, entry_bytes, four_bytes, front_bytes, head, kind_code, one_byte, page_bytes};
+ghost use Rattle.comp_dump.specs.DumpReading.{CountsFailure};
+ghost use Rattle.comp_dump.specs.DumpWriting.{Writes, CountsOne};
+
+use crate::dump::Dump;
+use crate::fault::DumpFault;
+use crate::page::DumpedPage;
+use crate::reading::fields::{MAGIC, VERSION};
+use byteorder::{ByteOrder, LittleEndian};
+use comp_journal::entry::Entry;
+use heap_layout::counted::Counted;
+use heap_layout::kind::Kind;
+use heap_layout::parts::write_whole;
+use std::io::Write;
+
+/// Writes a whole part.
+fn write_part<W: Write>(w: &mut Counted<W>, part: &[u8]) -> Result<(), DumpFault>
+    ensures writes { Writes (W.contents (inner_of w.old)) (W.contents (inner_of w.new)) part.now result }
+    ensures counts { CountsOne (failures_of w.old) (failures_of w.new) result }
+{
+    match write_whole(w, part) {
+        Ok(()) => Ok(()),
+        Err(_) => Err(DumpFault::Device),
+    }
+}
+
+/// A number of one byte.
+fn write_one<W: Write>(w: &mut Counted<W>, n: u8) -> Result<(), DumpFault>
+    ensures writes { Writes (W.contents (inner_of w.old)) (W.contents (inner_of w.new)) (one_byte n) result }
+    ensures counts { CountsOne (failures_of w.old) (failures_of w.new) result }
+{
+    write_part(w, &[n])
+}
+
+/// A number of 4 bytes.
+fn write_four<W: Write>(w: &mut Counted<W>, n: u32) -> Result<(), DumpFault>
+    ensures writes { Writes (W.contents (inner_of w.old)) (W.contents (inner_of w.new)) (four_bytes n) result }
+    ensures counts { CountsOne (failures_of w.old) (failures_of w.new) result }
+{
+    write_part(w, &n.to_le_bytes())
+}
+
+/// A small number, in 4 bytes.
+fn write_small<W: Write>(w: &mut Counted<W>, n: u8) -> Result<(), DumpFault>
+    ensures writes { Writes (W.contents (inner_of w.old)) (W.contents (inner_of w.new)) (four_bytes n) result }
+    ensures counts { CountsOne (failures_of w.old) (failures_of w.new) result }
+{
+    write_four(w, u32::from(n))
+}
+
+/// A number of 8 bytes.
+fn write_eight<W: Write>(w: &mut Counted<W>, n: u64) -> Result<(), DumpFault>
+    ensures writes { Writes (W.contents (inner_of w.old)) (W.contents (inner_of w.new)) (eight_bytes n) result }
+    ensures counts { CountsOne (failures_of w.old) (failures_of w.new) result }
+{
+    write_part(w, &n.to_le_bytes())
+}
+
+/// What a word is, as a byte.
+fn kind_byte(kind: Kind) -> u8
+    ensures { result ≡ kind_code kind }
+{
+    match kind {
+        Kind::Header => 0,
+        Kind::Reference => 1,
+        Kind::Data => 2,
+    }
+}
+
+/// The bytes of an entry.
+fn entry_part(entry: Entry) -> [u8; 19]
+    ensures { result ≡ entry_bytes entry }
+{
+    let mut part = [0; 19];
+    LittleEndian::write_u64(&mut part, entry.stamp);
+    part[8] = entry.writer;
+    part[9] = kind_byte(entry.kind);
+    part[10] = entry.offset;
+    LittleEndian::write_u64(&mut part[11..], entry.value);
+    part
+}
+
+/// An entry, as one part.
+fn write_entry<W: Write>(w: &mut Counted<W>, entry: Entry) -> Result<(), DumpFault>
+    ensures writes { Writes (W.contents (inner_of w.old)) (W.contents (inner_of w.new)) (entry_bytes entry) result }
+    ensures counts { CountsOne (failures_of w.old) (failures_of w.new) result }
+{
+    write_part(w, &entry_part(entry))
+}
+
+/// The entries of a page.
+fn write_entries<W: Write>(w: &mut Counted<W>, journal: &[Entry]) -> Result<(), DumpFault>
+    ensures writes { Writes (W.contents (inner_of w.old)) (W.contents (inner_of w.new)) (flat_map entry_bytes journal.now) result }
+    ensures counts { CountsOne (failures_of w.old) (failures_of w.new) result }
+{
+    for entry in journal {
+        write_entry(w, *entry)?;
+    }
+    Ok(())
+}
+
+/// At most 64 numbers of 8 bytes each, as one part.
+fn write_some_words<W: Write>(w: &mut Counted<W>, words: &[u64]) -> Result<(), DumpFault>
+    requires { length words.now ≤ 64 }
+    ensures writes { Writes (W.contents (inner_of w.old)) (W.contents (inner_of w.new)) (flat_map eight_bytes words.now) result }
+    ensures counts { CountsOne (failures_of w.old) (failures_of w.new) result }
+{
+    let mut bytes = [0; 512];
+    let part = &mut bytes[..8 * words.len()];
+    LittleEndian::write_u64_into(words, part);
+    write_part(w, part)
+}
+
+/// Numbers of 8 bytes each, a page of them at a time.
+fn write_words<W: Write>(w: &mut Counted<W>, words: &[u64]) -> Result<(), DumpFault>
+    ensures writes { Writes (W.contents (inner_of w.old)) (W.contents (inner_of w.new)) (flat_map eight_bytes words.now) result }
+    ensures counts { CountsOne (failures_of w.old) (failures_of w.new) result }
+{
+    let mut written = 0;
+    while written < words.len() {
+        let some = (words.len() - written).min(64);
+        write_some_words(w, &words[written..written + some])?;
+        written += some;
+    }
+    Ok(())
+}
+
+/// Numbers of 4 bytes each.
+fn write_numbers<W: Write>(w: &mut Counted<W>, numbers: &[u32]) -> Result<(), DumpFault>
+    ensures writes { Writes (W.contents (inner_of w.old)) (W.contents (inner_of w.new)) (flat_map four_bytes numbers.now) result }
+    ensures counts { CountsOne (failures_of w.old) (failures_of w.new) result }
+{
+    for number in numbers {
+        write_four(w, *number)?;
+    }
+    Ok(())
+}
+
+/// A page that was built.
+fn write_built<W: Write>(
+    w: &mut Counted<W>,
+    words: &[u64],
+    journal: &[Entry],
+) -> Result<(), DumpFault>
+    requires { length journal.now ≤ 1024 }
+    ensures writes { Writes (W.contents (inner_of w.old)) (W.contents (inner_of w.new)) (built_bytes (record { words = words.now; journal = journal.now })) result }
+    ensures counts { CountsOne (failures_of w.old) (failures_of w.new) result }
+{
+    write_words(w, words)?;
+    write_four(w, journal.len() as u32)?;
+    write_entries(w, journal)?;
+    Ok(())
+}
+
+/// A page that was built, behind the byte that says so.
+fn write_there<W: Write>(
+    w: &mut Counted<W>,
+    words: &[u64],
+    journal: &[Entry],
+) -> Result<(), DumpFault>
+    requires { length journal.now ≤ 1024 }
+    ensures writes { Writes (W.contents (inner_of w.old)) (W.contents (inner_of w.new)) (page_bytes (Some (record { words = words.now; journal = journal.now }))) result }
+    ensures counts { CountsOne (failures_of w.old) (failures_of w.new) result }
+{
+    write_one(w, 1)?;
+    write_built(w, words, journal)?;
+    Ok(())
+}
+
+/// A page, or none where it was never built.
+fn write_page<W: Write>(w: &mut Counted<W>, page: &Option<DumpedPage<'_>>) -> Result<(), DumpFault>
+    requires { HasFewEntries page.now }
+    ensures writes { Writes (W.contents (inner_of w.old)) (W.contents (inner_of w.new)) (page_bytes page.now) result }
+    ensures counts { CountsOne (failures_of w.old) (failures_of w.new) result }
+{
+    match page {
+        None => write_one(w, 0),
+        Some(page) => write_there(w, page.words(), page.journal()),
+    }
+}
+
+/// The pages.
+fn write_pages<W: Write>(
+    w: &mut Counted<W>,
+    pages: &[Option<DumpedPage<'_>>],
+) -> Result<(), DumpFault>
+    requires { All HasFewEntries pages.now }
+    ensures writes { Writes (W.contents (inner_of w.old)) (W.contents (inner_of w.new)) (flat_map page_bytes pages.now) result }
+    ensures counts { CountsOne (failures_of w.old) (failures_of w.new) result }
+{
+    for page in pages {
+        write_page(w, page)?;
+    }
+    Ok(())
+}
+
+/// What one mutator built.
+fn write_builds<W: Write>(w: &mut Counted<W>, list: &[u32]) -> Result<(), DumpFault>
+    requires { length list.now < 2 ^ 32 }
+    ensures writes { Writes (W.contents (inner_of w.old)) (W.contents (inner_of w.new)) (builds_bytes list.now) result }
+    ensures counts { CountsOne (failures_of w.old) (failures_of w.new) result }
+{
+    write_four(w, list.len() as u32)?;
+    write_numbers(w, list)?;
+    Ok(())
+}
+
+/// What every mutator built.
+fn write_all_builds<W: Write>(w: &mut Counted<W>, lists: &[Vec<u32>]) -> Result<(), DumpFault>
+    requires { All (λ list. length list < 2 ^ 32) (items_of lists.now) }
+    ensures writes { Writes (W.contents (inner_of w.old)) (W.contents (inner_of w.new)) (flat_map builds_bytes (items_of lists.now)) result }
+    ensures counts { CountsOne (failures_of w.old) (failures_of w.new) result }
+{
+    for list in lists {
+        write_builds(w, list)?;
+    }
+    Ok(())
+}
+
+/// All that stands before the roots.
+fn write_head<W: Write>(
+    w: &mut Counted<W>,
+    mutators: u8,
+    fresh: u32,
+    pages: u32,
+    roots: u32,
+) -> Result<(), DumpFault>
+    ensures writes { Writes (W.contents (inner_of w.old)) (W.contents (inner_of w.new)) (head mutators fresh pages roots) result }
+    ensures counts { CountsOne (failures_of w.old) (failures_of w.new) result }
+{
+    write_part(w, &MAGIC)?;
+    write_part(w, &VERSION)?;
+    write_small(w, mutators)?;
+    write_four(w, fresh)?;
+    write_four(w, pages)?;
+    write_four(w, roots)?;
+    Ok(())
+}
+
+/// All that stands before the build lists.
+fn write_front<W: Write>(
+    w: &mut Counted<W>,
+    mutators: u8,
+    fresh: u32,
+    roots: &[u64],
+    pages: &[Option<DumpedPage<'_>>],
+) -> Result<(), DumpFault>
+    requires counts { (length pages.now < 2 ^ 32) × (length roots.now < 2 ^ 32) }
+    requires few { All HasFewEntries pages.now }
+    ensures writes { Writes (W.contents (inner_of w.old)) (W.contents (inner_of w.new)) (front_bytes mutators fresh roots.now pages.now) result }
+    ensures counts { CountsOne (failures_of w.old) (failures_of w.new) result }
+{
+    write_head(w, mutators, fresh, pages.len() as u32, roots.len() as u32)?;
+    write_words(w, roots)?;
+    write_pages(w, pages)?;
+    Ok(())
+}
+
+/// A dump of these parts.
+fn write_parts<W: Write>(
+    w: &mut Counted<W>,
+    mutators: u8,
+    fresh: u32,
+    roots: &[u64],
+    pages: &[Option<DumpedPage<'_>>],
+    builds: &[Vec<u32>],
+    total: u64,
+) -> Result<(), DumpFault>
+    requires { IsWritable (record { mutators = mutators; fresh = fresh; roots = roots.now; pages = pages.now; builds = items_of builds.now; total = total }) }
+    ensures writes { Writes (W.contents (inner_of w.old)) (W.contents (inner_of w.new))
+        (dump_bytes (record { mutators = mutators; fresh = fresh; roots = roots.now; pages = pages.now; builds = items_of builds.now; total = total })) result }
+    ensures counts { CountsOne (failures_of w.old) (failures_of w.new) result }
+{
+    write_front(w, mutators, fresh, roots, pages)?;
+    write_all_builds(w, builds)?;
+    write_eight(w, total)?;
+    Ok(())
+}
+
+/// Writes a dump, and takes no memory. The first call of the writer that fails ends the writing, an interrupted one too; a beginning of the dump stays written.
+///
+/// Nothing is flushed.
+pub fn write_dump<W: Write>(dump: &Dump<'_>, w: &mut Counted<W>) -> Result<(), DumpFault>
+    requires { failures_of w.old < 2 ^ 64 - 1 }
+    ensures writes { Writes (W.contents (inner_of w.old)) (W.contents (inner_of w.new)) (dump_bytes dump.now) result }
+    ensures counts { CountsFailure (failures_of w.old) (failures_of w.new) result }
+{
+    write_parts(
+        w,
+        dump.mutators(),
+        dump.fresh_pages(),
+        dump.roots(),
+        dump.pages(),
+        dump.builds(),
+        dump.live_words(),
+    )
+}
