@@ -2,6 +2,8 @@
 #![tactic(auto)]
 
 #[cfg(test)]
+mod gathered;
+#[cfg(test)]
 mod ledgers;
 #[cfg(test)]
 mod refusals;

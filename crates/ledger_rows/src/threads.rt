@@ -1,6 +1,7 @@
 //! Shares that are posted with in threads of their own.
 ghost use Rattle.std.specs.Prelude.{◌≡◌};
 
+use crate::gathered::{expect_number, gather_all};
 use comp_ledger::ledger::Ledger;
 use comp_ledger::share::Share;
 use std::alloc::Global;
@@ -25,6 +26,10 @@ fn post_often<L: Named, R: Wait>(
     all
 }
 
+fn expect_true(rt: &impl Abort, found: bool) {
+    assert!(rt; found);
+}
+
 // Two threads, which together post just as much as fits; then a word more.
 fn post_in_two<L: Named + Send + Sync, R: Abort + Threads + Wait + Sync>(
     rt: &R,
@@ -43,17 +48,13 @@ fn post_in_two<L: Named + Send + Sync, R: Abort + Threads + Wait + Sync>(
         || post_often(rt, &ledger, &mut first, 3),
         || post_often(rt, &ledger, &mut second, 2),
     );
-    assert!(rt; one && other);
-    assert!(rt; ledger.post(rt, &mut first, 1).is_err());
-    assert_eq!(rt; first.posted(), 300);
-    assert_eq!(rt; second.posted(), 200);
+    expect_true(rt, one && other);
+    expect_true(rt, ledger.post(rt, &mut first, 1).is_err());
+    expect_number(rt, first.posted(), 300);
+    expect_number(rt, second.posted(), 200);
     shares.push(second)?;
     shares.push(first)?;
-    assert!(rt; shares.len() == 2);
-    let Ok(words) = ledger.gather(shares, &[0, 0]) else {
-        panic!(rt; "510 words fit");
-    };
-    assert_eq!(rt; words, 510);
+    gather_all(rt, ledger, shares, &[0, 0], 510);
     Ok(())
 }
 
