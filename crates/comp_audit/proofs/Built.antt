@@ -7,9 +7,9 @@ use Rattle.cell_steps.specs.Lists.{Rises}
 use Rattle.cell_steps.specs.Setup.{Setup}
 use Rattle.cell_steps.specs.Lawful.{IsLawful}
 use Rattle.page_cells.specs.Objects.{AreLawful}
-use Rattle.comp_dump.specs.Dumped.{BuiltPage, journal_of}
+use Rattle.comp_dump.specs.Dumped.{BuiltPage}
 use Rattle.comp_audit.specs.declared.verdict.AuditFault.{AuditFault}
-use Rattle.comp_audit.specs.Checks.{of_built, each_built, journals_in, build_faults, journal_faults, word_faults}
+use Rattle.comp_audit.specs.Checks.{of_built, each_built, journal_of, journals_in, build_faults, journal_faults, word_faults}
 use Rattle.comp_audit.specs.Judged.{page_faults}
 use Rattle.comp_audit.proofs.Telling.{none_both, item_none, none_items}
 use Rattle.comp_audit.proofs.Meanings.{faultless_is_lawful}

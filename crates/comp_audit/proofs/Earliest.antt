@@ -6,11 +6,11 @@ use Rattle.std.proofs.lemmas.Bool.{cases_lt, ne_eqb}
 use Rattle.std.proofs.lemmas.List.{take_all}
 use Rattle.comp_journal.specs.declared.entry.Entry.{Entry}
 use Rattle.comp_history.proofs.Sorted.{In}
-use Rattle.comp_dump.specs.Dumped.{BuiltPage, journal_of}
+use Rattle.comp_dump.specs.Dumped.{BuiltPage}
 use Rattle.comp_audit.specs.declared.verdict.AuditFault.{AuditFault}
 use Rattle.comp_audit.specs.declared.verdict.AuditFault.TheVariants.{BadEntry}
 use Rattle.comp_audit.specs.declared.auditing.late.Late.{Late}
-use Rattle.comp_audit.specs.Checks.{unless, above, all_stamps, of_built, late_on, late_with, late_faults}
+use Rattle.comp_audit.specs.Checks.{unless, above, all_stamps, journal_of, of_built, late_on, late_with, late_faults}
 use Rattle.comp_audit.specs.Judged.{IsFirst}
 use Rattle.comp_audit.specs.Noted.{IsEarliest}
 use Rattle.comp_audit.proofs.Telling.{faults_more}

@@ -7,8 +7,8 @@ use Rattle.comp_history.specs.Merged.{entries_below, stamp_of, with_page}
 use Rattle.comp_history.specs.Shares.{allocated, words_by}
 use Rattle.comp_history.proofs.Sorted.{In}
 use Rattle.comp_history.proofs.Pages.{below_in, total_append}
-use Rattle.comp_dump.specs.Dumped.{BuiltPage, HasFewEntries, journal_of}
-use Rattle.comp_audit.specs.Checks.{above, all_entries, all_stamps, journals_in}
+use Rattle.comp_dump.specs.Dumped.{BuiltPage, HasFewEntries}
+use Rattle.comp_audit.specs.Checks.{above, all_entries, all_stamps, journal_of, journals_in}
 
 -- the journal of a place
 pub journal_here : (records : List (Option BuiltPage)) (p : ℕ) (kept : Option BuiltPage) → p < length records → kept ≡ get_or records p kept

@@ -13,8 +13,8 @@ use Rattle.cell_steps.proofs.Sums.{there_at, read_at}
 use Rattle.page_cells.proofs.Heads.{all_made}
 use Rattle.comp_history.specs.Merged.{entries_below, stamp_of, with_page}
 use Rattle.comp_history.specs.OneThread.{address_of}
-use Rattle.comp_dump.specs.Dumped.{BuiltPage, journal_of}
-use Rattle.comp_audit.specs.Checks.{journals_in, is_kind, makes, is_made_before}
+use Rattle.comp_dump.specs.Dumped.{BuiltPage}
+use Rattle.comp_audit.specs.Checks.{journal_of, journals_in, is_kind, makes, is_made_before}
 use Rattle.comp_audit.specs.Noted.{Stamped, stamp_at, is_below, is_noted_before, Notes}
 use Rattle.comp_audit.proofs.Entries.{page_more, entry_more}
 use Rattle.comp_audit.proofs.Meanings.{true_and, kind_tested}

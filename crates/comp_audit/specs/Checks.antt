@@ -18,13 +18,18 @@ use Rattle.comp_history.specs.Merged.{entries_below, stamp_of}
 use Rattle.comp_history.specs.OneThread.{address_of}
 use Rattle.comp_history.specs.Shares.{allocated}
 use Rattle.comp_history.specs.Finishes.{named}
-use Rattle.comp_dump.specs.Dumped.{BuiltPage, journal_of}
+use Rattle.comp_dump.specs.Dumped.{BuiltPage}
 use Rattle.comp_audit.specs.declared.verdict.AuditFault.{AuditFault}
 use Rattle.comp_audit.specs.declared.verdict.AuditFault.TheVariants.{WrongWord, LooseReference, BadEntry, StampRepeated, StampMissing, WrongTotal, BuildUnclaimed, WrongHead}
 
 -- to-space as the heap defines it, with so many fresh pages and mutators
 abbrev pub setup_for : Heap → ℕ → ℕ → Setup
 setup_for heap fresh mutators = record { heap = heap; compacted = sliding.pages (live heap); fresh = fresh; mutators = mutators }
+
+-- the journal of a page that was built; the others have no entry
+abbrev pub journal_of : Option BuiltPage → List Entry
+journal_of None = []
+journal_of (Some page) = page.journal
 
 -- the journal of each page
 abbrev pub journals_in : List (Option BuiltPage) → Journals

@@ -14,6 +14,7 @@ mod journals;
 mod kinds;
 mod late;
 mod page_words;
+mod record;
 mod references;
 pub(crate) mod setting;
 mod stamps;

@@ -1,16 +1,11 @@
 -- What is left of a compaction when all mutators are finished: each page with its journal, the roots, what each mutator built, and the total.
-use Rattle.std.specs.Prelude.{◌≡◌, ℕ, ◌^◌, ◌<◌, ◌≤◌, List, [], length, All, Option, Some, None}
+use Rattle.std.specs.Prelude.{◌≡◌, ℕ, ◌^◌, ◌<◌, ◌≤◌, List, length, All, Option, Some, None}
 use Rattle.comp_journal.specs.declared.entry.Entry.{Entry}
 
 -- a page that was built: its words, and every write into it, in order
 pub record BuiltPage : Type 0 where
   pub words : List ℕ
   pub journal : List Entry
-
--- the journal of a page that was built; the others have no entry
-abbrev pub journal_of : Option BuiltPage → List Entry
-journal_of None = []
-journal_of (Some page) = page.journal
 
 -- For each page what was built there, or nothing. The lists of builds are by mutator.
 pub record Dumped : Type 0 where

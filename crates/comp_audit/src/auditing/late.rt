@@ -6,9 +6,10 @@ ghost use Rattle.comp_audit.specs.Noted.{is_noted_before, IsEarliest};
 ghost use Rattle.comp_audit.specs.declared.verdict.AuditFault.{AuditFault};
 ghost use Rattle.comp_audit.specs.declared.verdict.AuditFault.TheVariants.{BadEntry};
 
+use crate::auditing::record::journal_of;
 use crate::auditing::starts::Starts;
 use crate::verdict::{AuditFault, Stop};
-use comp_dump::page::{DumpedPage, journal_of};
+use comp_dump::page::DumpedPage;
 use comp_journal::entry::Entry;
 use heap_layout::kind::Kind;
 use page_plan::plan::Plan;

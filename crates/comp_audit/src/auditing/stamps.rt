@@ -4,8 +4,9 @@ ghost use Rattle.comp_journal.specs.declared.entry.Entry.{Entry};
 ghost use Rattle.comp_audit.specs.Checks.{all_stamps, missing_faults, repeat_faults};
 ghost use Rattle.comp_audit.specs.Judged.{Tells};
 
+use crate::auditing::record::journal_of;
 use crate::verdict::{AuditFault, Stop};
-use comp_dump::page::{DumpedPage, journal_of};
+use comp_dump::page::DumpedPage;
 use comp_journal::entry::Entry;
 use std::alloc::{AllocError, Global};
 

@@ -9,8 +9,9 @@ ghost use Rattle.comp_audit.specs.Checks.{all_entries, journals_in};
 ghost use Rattle.comp_dump.specs.Dumped.{IsStoredRecord};
 ghost use Rattle.comp_audit.specs.Noted.{is_below, is_noted_before, leads, setup_at, stamp_at, Covers, Notes};
 
+use crate::auditing::record::journal_of;
 use crate::auditing::setting::Setting;
-use comp_dump::page::{DumpedPage, journal_of};
+use comp_dump::page::DumpedPage;
 use comp_journal::entry::Entry;
 use heap_layout::kind::Kind;
 use page_plan::TO_SPACE;

@@ -7,8 +7,9 @@ ghost use Rattle.comp_audit.specs.Checks.{all_entries, total_faults};
 ghost use Rattle.comp_dump.specs.Dumped.{HasFewEntries};
 ghost use Rattle.comp_audit.specs.Judged.{Tells};
 
+use crate::auditing::record::journal_of;
 use crate::verdict::{AuditFault, Stop};
-use comp_dump::page::{DumpedPage, journal_of};
+use comp_dump::page::DumpedPage;
 use comp_journal::entry::Entry;
 use heap_layout::header::Header;
 use heap_layout::kind::Kind;
