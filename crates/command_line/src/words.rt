@@ -1,7 +1,7 @@
 //! The words of the command line.
-ghost use Rattle.std.specs.Prelude.{◌≡◌, ◌≢◌, ◌⊎◌, ℕ, [], true, false, codes, map, is_some, Some, IsSomeAnd, IfSome, IfOk, IfErr};
+ghost use Rattle.std.specs.Prelude.{◌≡◌, ◌≢◌, ◌⊎◌, ℕ, [], true, false, codes, map, is_some, Some, IsOkAnd, IsSomeAnd, IfSome, IfOk, IfErr};
 ghost use Rattle.std.specs.String.{string_bytes};
-ghost use Rattle.clap.specs.Words.{app_of, fault_of, first_value, found_of, kind_of, one_text, rule_of, subcommand_of, subcommand_rows_of};
+ghost use Rattle.clap.specs.Words.{app_of, fault_of, first_value, found_of, kind_of, one_text, rule_of, subcommand_of, subcommand_rows_of, with_subcommand};
 ghost use Rattle.clap.specs.declared.error.kind.ErrorKind.TheVariants.{DisplayHelp, DisplayVersion, OutOfMemory};
 ghost use Rattle.command_line.specs.Asked.{Asks, AsksNoCommand, HasLawfulCounts, IsAnswerOf};
 ghost use Rattle.command_line.specs.Forms.{audit_form, compact_form, fresh, mutators, number_within, plan_form, race_form, replay_form, run_form, standing, text, word_form, workers};
@@ -191,13 +191,22 @@ fn answer_task<'a>(alloc: Global, error: Error) -> Result<Task<'a>, Error>
 fn command<'a>(alloc: Global) -> Result<Command<'a>, AllocError>
     ensures { IfOk result (λ made. app_of made ≡ program standing) }
 {
-    bare_command(alloc)?
-        .subcommand(plan_command(alloc)?)?
-        .subcommand(word_command(alloc)?)?
-        .subcommand(replay_command(alloc)?)?
-        .subcommand(race_command(alloc)?)?
-        .subcommand(compact_command(alloc)?)?
-        .subcommand(audit_command(alloc)?)
+    let planning = with_command(bare_command(alloc)?, plan_command(alloc))?;
+    let reading = with_command(planning, word_command(alloc))?;
+    let replaying = with_command(reading, replay_command(alloc))?;
+    let racing = with_command(replaying, race_command(alloc))?;
+    let compacting = with_command(racing, compact_command(alloc))?;
+    with_command(compacting, audit_command(alloc))
+}
+
+// The program with one command more.
+fn with_command<'a>(
+    program: Command<'a>,
+    command: Result<Command<'a>, AllocError>,
+) -> Result<Command<'a>, AllocError>
+    ensures { IfOk result (λ made. IsOkAnd command.entry (λ added. (app_of added).top.is_plain ≡ true → app_of made ≡ with_subcommand (app_of program.entry) (app_of added).top)) }
+{
+    program.subcommand(command?)
 }
 
 fn bare_command<'a>(alloc: Global) -> Result<Command<'a>, AllocError>
