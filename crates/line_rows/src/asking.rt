@@ -1,160 +1,136 @@
 //! Which words ask what.
-use command_line::words::{Task, TraceRun, VERSION_LINE, read_task};
+use command_line::words::{VERSION_LINE, read_task};
+use std::alloc::{AllocError, Global};
 use std::process::Abort;
-use std::test::Fail;
 use worked_files::runs::words_of;
 
-// What is asked.
-enum Asked {
-    /// The plan of the heap in an image.
-    Plan(&'static str),
-    /// A word of the heap in an image.
-    Word(&'static str, u64),
-    /// A trace in its order: the image, the trace, the dump, so many mutators and fresh pages.
-    Replay(&'static str, &'static str, &'static str, u8, u32),
-    /// A trace by threads: the image, the trace, the dump, so many mutators and fresh pages.
-    Race(&'static str, &'static str, &'static str, u8, u32),
-    /// A compaction: the image, the dump, and so many workers.
-    Compact(&'static str, &'static str, u8),
-    /// The audit of a dump: the image, and the dump.
-    Audit(&'static str, &'static str),
-    /// A text of help, which tells how the program is used.
-    Help,
-    /// The version.
-    Version,
-    /// Nothing: the words are no command.
-    Nothing,
-}
+// A line, and the task that it asks, as `Debug` writes it.
+type Row = (&'static str, &'static str);
 
-// A line, and what it asks.
-type Row = (&'static str, &'static Asked);
-
-// A task is what is wanted.
-fn is_asked(task: &Task, wanted: &Asked) -> bool {
-    match (task, wanted) {
-        (Task::Plan { image }, Asked::Plan(of)) => image == of,
-        (Task::Word { image, index }, Asked::Word(of, at)) => image == of && index == at,
-        (Task::Replay(run), Asked::Replay(image, trace, dump, mutators, fresh)) => {
-            is_run(run, [image, trace, dump], *mutators, *fresh)
-        }
-        (Task::Race(run), Asked::Race(image, trace, dump, mutators, fresh)) => {
-            is_run(run, [image, trace, dump], *mutators, *fresh)
-        }
-        (
-            Task::Compact {
-                image,
-                dump,
-                workers,
-            },
-            Asked::Compact(of, into, by),
-        ) => { image == of && dump == into && workers == by }
-        (Task::Audit { image, dump }, Asked::Audit(of, judged)) => image == of && dump == judged,
-        (Task::Help { text }, Asked::Help) => text.contains("Usage: compressor"),
-        (Task::Version, Asked::Version) => VERSION_LINE == "compressor 0.1.0\n",
-        _ => false,
+// The task that these words ask, as `Debug` writes it, or what is told of words that are no command.
+fn told(alloc: Global, words: &[String]) -> Result<String, AllocError> {
+    match read_task(alloc, words) {
+        Ok(task) => format!(in alloc; "{task:?}"),
+        Err(error) => format!(in alloc; "{error}"),
     }
 }
 
-// A run of a trace is asked with these paths of the image, the trace and the dump, and these numbers.
-fn is_run(run: &TraceRun, paths: [&str; 3], mutators: u8, fresh: u32) -> bool {
-    [run.image, run.trace, run.dump] == paths && run.mutators == mutators && run.fresh == fresh
+// The same of a line.
+fn told_of(rt: &(impl Abort + AllocGlobal), line: &str) -> String {
+    let Ok(words) = words_of(rt.alloc(), line) else {
+        panic!(rt; "memory for words");
+    };
+    let Ok(text) = told(rt.alloc(), &words) else {
+        panic!(rt; "memory for a text");
+    };
+    text
 }
 
-// The words of a line ask this.
-fn expect_asked<R: Abort + AllocGlobal>(rt: &R, line: &str, wanted: &Asked) -> Result<(), Fail> {
-    let words = words_of(rt.alloc(), line)?;
-    match read_task(rt.alloc(), &words) {
-        Ok(task) => assert!(rt; is_asked(&task, wanted), "{line}"),
-        Err(error) => {
-            let text = format!(in rt.alloc(); "{error}")?;
-            assert!(rt; is_nothing(wanted) && text.starts_with("error: "), "{line}");
-        }
-    }
-    Ok(())
+// Just this is told of a line.
+fn expect_text(rt: &impl Abort, line: &str, found: &str, wanted: &str) {
+    assert_eq!(rt; found, wanted, "{line}");
 }
 
-// Nothing is wanted.
-fn is_nothing(wanted: &Asked) -> bool {
-    matches!(wanted, Asked::Nothing)
+// What is told of a line begins so, and has this piece.
+fn expect_piece(rt: &impl Abort, line: &str, found: &str, begin: &str, piece: &str) {
+    assert!(rt;
+        found.starts_with(begin) && found.contains(piece),
+        "{line}: {found}"
+    );
 }
 
 // Each of these lines asks its own.
-fn expect_rows<R: Abort + AllocGlobal>(rt: &R, rows: &[Row]) -> Result<(), Fail> {
+fn expect_rows(rt: &(impl Abort + AllocGlobal), rows: &[Row]) {
     for (line, wanted) in rows {
-        expect_asked(rt, line, wanted)?;
+        expect_text(rt, line, &told_of(rt, line), wanted);
     }
-    Ok(())
 }
 
-// Each of these lines asks this.
-fn expect_lines<R: Abort + AllocGlobal>(
-    rt: &R,
-    lines: &[&str],
-    wanted: &Asked,
-) -> Result<(), Fail> {
+// What is told of each of these lines begins so, and has this piece.
+fn expect_lines(rt: &(impl Abort + AllocGlobal), lines: &[&str], begin: &str, piece: &str) {
     for line in lines {
-        expect_asked(rt, line, wanted)?;
+        expect_piece(rt, line, &told_of(rt, line), begin, piece);
     }
-    Ok(())
 }
 
-// Lines, and what they ask.
+// Lines, and the tasks that they ask.
 const TASKS: [Row; 20] = [
-    ("plan three.img", &Asked::Plan("three.img")),
-    ("plan -- --help", &Asked::Plan("--help")),
-    ("word three.img 2", &Asked::Word("three.img", 2)),
-    ("word three.img +02 --", &Asked::Word("three.img", 2)),
+    ("plan three.img", "Plan { image: \"three.img\" }"),
+    ("plan -- --help", "Plan { image: \"--help\" }"),
+    (
+        "word three.img 2",
+        "Word { image: \"three.img\", index: 2 }",
+    ),
+    (
+        "word three.img +02 --",
+        "Word { image: \"three.img\", index: 2 }",
+    ),
     (
         "word -- -x.img 18446744073709551615",
-        &Asked::Word("-x.img", 18_446_744_073_709_551_615),
+        "Word { image: \"-x.img\", index: 18446744073709551615 }",
     ),
     (
         "replay three.img t19 out",
-        &Asked::Replay("three.img", "t19", "out", 2, 64),
+        "Replay(TraceRun { image: \"three.img\", trace: \"t19\", dump: \"out\", mutators: 2, fresh: 64 })",
     ),
     (
         "replay a t --fresh=4096 d --mutators 64",
-        &Asked::Replay("a", "t", "d", 64, 4_096),
+        "Replay(TraceRun { image: \"a\", trace: \"t\", dump: \"d\", mutators: 64, fresh: 4096 })",
     ),
     (
         "replay -- --fresh 0 1",
-        &Asked::Replay("--fresh", "0", "1", 2, 64),
+        "Replay(TraceRun { image: \"--fresh\", trace: \"0\", dump: \"1\", mutators: 2, fresh: 64 })",
     ),
     (
         "race --mutators 1 --fresh 2 three.img t18 out",
-        &Asked::Race("three.img", "t18", "out", 1, 2),
+        "Race(TraceRun { image: \"three.img\", trace: \"t18\", dump: \"out\", mutators: 1, fresh: 2 })",
     ),
     (
         "race --fresh 0 three.img t18 out",
-        &Asked::Race("three.img", "t18", "out", 2, 0),
+        "Race(TraceRun { image: \"three.img\", trace: \"t18\", dump: \"out\", mutators: 2, fresh: 0 })",
     ),
     (
         "race a --mutators=7 -- -t -d",
-        &Asked::Race("a", "-t", "-d", 7, 64),
+        "Race(TraceRun { image: \"a\", trace: \"-t\", dump: \"-d\", mutators: 7, fresh: 64 })",
     ),
     (
         "compact a.img out.dump",
-        &Asked::Compact("a.img", "out.dump", 2),
+        "Compact { image: \"a.img\", dump: \"out.dump\", workers: 2 }",
     ),
-    ("compact --workers 64 a b", &Asked::Compact("a", "b", 64)),
-    ("compact a --workers=3 b", &Asked::Compact("a", "b", 3)),
-    ("compact a b --workers +01", &Asked::Compact("a", "b", 1)),
+    (
+        "compact --workers 64 a b",
+        "Compact { image: \"a\", dump: \"b\", workers: 64 }",
+    ),
+    (
+        "compact a --workers=3 b",
+        "Compact { image: \"a\", dump: \"b\", workers: 3 }",
+    ),
+    (
+        "compact a b --workers +01",
+        "Compact { image: \"a\", dump: \"b\", workers: 1 }",
+    ),
     (
         "compact -- --workers 3",
-        &Asked::Compact("--workers", "3", 2),
+        "Compact { image: \"--workers\", dump: \"3\", workers: 2 }",
     ),
-    ("compact --workers 5 -- a -b", &Asked::Compact("a", "-b", 5)),
+    (
+        "compact --workers 5 -- a -b",
+        "Compact { image: \"a\", dump: \"-b\", workers: 5 }",
+    ),
     (
         "audit three.img forged.dump",
-        &Asked::Audit("three.img", "forged.dump"),
+        "Audit { image: \"three.img\", dump: \"forged.dump\" }",
     ),
-    ("audit a -- -b", &Asked::Audit("a", "-b")),
-    ("audit -- --help --", &Asked::Audit("--help", "--")),
+    ("audit a -- -b", "Audit { image: \"a\", dump: \"-b\" }"),
+    (
+        "audit -- --help --",
+        "Audit { image: \"--help\", dump: \"--\" }",
+    ),
 ];
 
 #[test]
-fn reads_what_the_words_ask(rt: HostRuntime) -> Result<(), Fail> {
-    expect_rows(&rt, &TASKS)
+fn reads_what_the_words_ask(rt: HostRuntime) {
+    expect_rows(&rt, &TASKS);
 }
 
 // Lines that ask for help.
@@ -177,16 +153,22 @@ const HELPS: [&str; 15] = [
 ];
 
 #[test]
-fn answers_help_where_it_is_asked(rt: HostRuntime) -> Result<(), Fail> {
-    expect_lines(&rt, &HELPS, &Asked::Help)
+fn answers_help_where_it_is_asked(rt: HostRuntime) {
+    expect_lines(&rt, &HELPS, "Help { text: ", "Usage: compressor");
 }
 
 // Lines that ask for the version.
-const VERSIONS: [&str; 4] = ["--version", "-V", "-Vh", "--version plan"];
+const VERSIONS: [Row; 4] = [
+    ("--version", "Version"),
+    ("-V", "Version"),
+    ("-Vh", "Version"),
+    ("--version plan", "Version"),
+];
 
 #[test]
-fn answers_the_version_where_it_is_asked(rt: HostRuntime) -> Result<(), Fail> {
-    expect_lines(&rt, &VERSIONS, &Asked::Version)
+fn answers_the_version_where_it_is_asked(rt: HostRuntime) {
+    expect_rows(&rt, &VERSIONS);
+    expect_text(&rt, "the version", VERSION_LINE, "compressor 0.1.0\n");
 }
 
 // Lines that are no command.
@@ -248,6 +230,6 @@ const NO_COMMANDS: [&str; 54] = [
 ];
 
 #[test]
-fn refuses_words_that_are_no_command(rt: HostRuntime) -> Result<(), Fail> {
-    expect_lines(&rt, &NO_COMMANDS, &Asked::Nothing)
+fn refuses_words_that_are_no_command(rt: HostRuntime) {
+    expect_lines(&rt, &NO_COMMANDS, "error: ", "");
 }
