@@ -1,37 +1,29 @@
 //! Dumps that end early or late, and dumps of another magic or version.
-use crate::dumped::read;
 use crate::encoded::{Change, LINKED, Part, SMALLEST, encoded};
-use crate::judged::{Row, Told, expect_rows};
+use crate::judged::{Row, Told, expect_rows, expect_told};
+use crate::planned::{Worked, plan_of};
 use comp_dump::fault::DumpFault;
+use page_plan::plan::Plan;
 use std::alloc::Global;
 use std::process::Abort;
-use std::test::Fail;
 
-// Whatever comes before the dump's end is cut short.
-fn expect_truncated(rt: &impl Abort, alloc: Global, bytes: &[u8]) {
-    for n in 0..bytes.len() {
-        let fault = read(alloc, &bytes[..n]).err();
-        assert_eq!(rt; fault, Some(DumpFault::Truncated), "first {n}");
+// Whatever comes before the dump's end, of so many bytes, is cut short.
+fn expect_truncated(rt: &impl Abort, alloc: Global, plan: &Plan, bytes: &[u8], length: usize) {
+    assert!(rt; bytes.len() == length);
+    for n in 0..length {
+        let cut = Err(DumpFault::Truncated);
+        expect_told(rt, alloc, plan, &bytes[..n], cut, "beginning");
     }
 }
 
-// The dump of these parts, which has so many bytes.
-fn expect_each_truncated(
-    rt: &impl Abort,
-    alloc: Global,
-    parts: &[Part],
-    length: usize,
-) -> Result<(), Fail> {
-    let bytes = encoded(alloc, parts)?;
-    assert!(rt; bytes.len() == length);
-    expect_truncated(rt, alloc, &bytes);
-    Ok(())
-}
-
 #[test]
-fn refuses_each_beginning(rt: HostRuntime) -> Result<(), Fail> {
-    expect_each_truncated(&rt, rt.alloc(), &SMALLEST, 569)?;
-    expect_each_truncated(&rt, rt.alloc(), &LINKED, 1_129)
+fn refuses_each_beginning(rt: HostRuntime) {
+    let alloc = rt.alloc();
+    let plan = plan_of(&rt, alloc, &Worked::Three);
+    let smallest = encoded(&rt, alloc, &SMALLEST);
+    expect_truncated(&rt, alloc, &plan, &smallest, 569);
+    let linked = encoded(&rt, alloc, &LINKED);
+    expect_truncated(&rt, alloc, &plan, &linked, 1_129);
 }
 
 const TOO_LONG: Told = Err(DumpFault::TrailingBytes);
@@ -50,11 +42,6 @@ static LONGER: [Row; 2] = [
         TOO_LONG,
     ),
 ];
-
-#[test]
-fn refuses_one_byte_more(rt: HostRuntime) -> Result<(), Fail> {
-    expect_rows(&rt, &LONGER)
-}
 
 const OTHER: Told = Err(DumpFault::BadMagic);
 
@@ -135,6 +122,7 @@ static OTHERS: [Row; 12] = [
 ];
 
 #[test]
-fn refuses_another_magic_or_version(rt: HostRuntime) -> Result<(), Fail> {
-    expect_rows(&rt, &OTHERS)
+fn refuses_one_byte_more_or_another_magic_or_version(rt: HostRuntime) {
+    expect_rows(&rt, &LONGER);
+    expect_rows(&rt, &OTHERS);
 }

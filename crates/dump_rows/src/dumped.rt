@@ -1,21 +1,21 @@
-//! Dumps written into memory, read from there, and compared.
+//! Dumps written into memory, read from there, and compared part by part.
+use crate::expected::expect;
 use crate::judged::expect_yes;
 use comp_dump::dump::Dump;
 use comp_dump::fault::DumpFault;
-use comp_dump::page::DumpedPage;
 use comp_dump::reading::read_dump;
 use comp_dump::writing::write_dump;
+use comp_journal::entry::Entry;
 use heap_layout::counted::Counted;
 use page_plan::plan::Plan;
 use std::alloc::Global;
 use std::process::Abort;
-use std::test::Fail;
 
 // The bytes of a dump.
-fn written(alloc: Global, dump: &Dump<'_>) -> Result<Vec<u8>, Fail> {
+fn written(rt: &impl Abort, alloc: Global, dump: &Dump<'_>) -> Vec<u8> {
     let mut writer = Counted::new(Vec::new(alloc));
-    write_dump(dump, &mut writer)?;
-    Ok(writer.into_inner())
+    write_dump(dump, &mut writer).expect(rt, "writing into memory");
+    writer.into_inner()
 }
 
 /// What these bytes are read as.
@@ -23,70 +23,47 @@ pub fn read(alloc: Global, bytes: &[u8]) -> Result<Dump<'static>, DumpFault> {
     read_dump(alloc, &mut Counted::new(bytes))
 }
 
-/// The bytes of a dump. They are read as the same dump again, which by this plan is judged lawful before and after.
-pub fn dumped(
-    rt: &impl Abort,
-    alloc: Global,
-    plan: &Plan,
-    dump: &Dump<'_>,
-) -> Result<Vec<u8>, Fail> {
-    expect_yes(rt, alloc, plan, dump);
-    let bytes = written(alloc, dump)?;
-    expect_read_back(rt, alloc, plan, dump, &bytes)?;
-    Ok(bytes)
+/// The parts of a dump, of its pages only how many there are: mutators, fresh pages, roots, pages, builds and live words.
+pub type Parts<'a> = (u8, u32, &'a [u64], usize, &'a [Vec<u32>], u64);
+
+/// These parts of a dump.
+pub fn parts<'a>(dump: &'a Dump<'_>) -> Parts<'a> {
+    (
+        dump.mutators(),
+        dump.fresh_pages(),
+        dump.roots(),
+        dump.pages().len(),
+        dump.builds(),
+        dump.live_words(),
+    )
 }
 
-// From these bytes the same dump is read, which by this plan is judged lawful.
-fn expect_read_back(
-    rt: &impl Abort,
-    alloc: Global,
-    plan: &Plan,
-    dump: &Dump<'_>,
-    bytes: &[u8],
-) -> Result<(), Fail> {
-    let again = read(alloc, bytes)?;
-    expect_same(rt, dump, &again);
-    expect_yes(rt, alloc, plan, &again);
-    Ok(())
-}
+/// The words and the journal of a page.
+pub type PageParts<'a> = (&'a [u64], &'a [Entry]);
 
-/// Each of these holds; it has a name.
-pub fn expect_all(rt: &impl Abort, parts: &[(&str, bool)]) {
-    for (name, holds) in parts {
-        assert!(rt; *holds, "{name}");
+/// The words and the journal of the page of this number, where it was built.
+pub fn page_parts<'a>(dump: &'a Dump<'_>, page: usize) -> Option<PageParts<'a>> {
+    match dump.pages().get(page) {
+        Some(Some(page)) => Some((page.words(), page.journal())),
+        _ => None,
     }
 }
 
 /// Two dumps have the same parts.
 pub fn expect_same(rt: &impl Abort, one: &Dump<'_>, other: &Dump<'_>) {
-    let parts = [
-        ("mutators", one.mutators() == other.mutators()),
-        ("fresh pages", one.fresh_pages() == other.fresh_pages()),
-        ("roots", one.roots() == other.roots()),
-        ("pages", have_same_pages(one.pages(), other.pages())),
-        ("builds", one.builds() == other.builds()),
-        ("live words", one.live_words() == other.live_words()),
-    ];
-    expect_all(rt, &parts);
+    expect(rt, &parts(one), &parts(other), "parts", 0);
+    for page in 0..one.pages().len() {
+        let wanted = page_parts(other, page);
+        expect(rt, &page_parts(one, page), &wanted, "page", page);
+    }
 }
 
-// The same pages.
-fn have_same_pages(pages: &[Option<DumpedPage<'_>>], others: &[Option<DumpedPage<'_>>]) -> bool {
-    for (page, other) in pages.iter().zip(others) {
-        if !is_same_page(page.as_ref(), other.as_ref()) {
-            return false;
-        }
-    }
-    pages.len() == others.len()
-}
-
-// Neither was built, or both have the same words and the same entries.
-fn is_same_page(page: Option<&DumpedPage<'_>>, other: Option<&DumpedPage<'_>>) -> bool {
-    match (page, other) {
-        (None, None) => true,
-        (Some(page), Some(other)) => {
-            page.words() == other.words() && page.journal() == other.journal()
-        }
-        _ => false,
-    }
+/// The dump has these bytes. They are read as the same dump again, which by this plan is judged lawful before and after.
+pub fn expect_dump(rt: &impl Abort, alloc: Global, plan: &Plan, dump: &Dump<'_>, wanted: &[u8]) {
+    expect_yes(rt, alloc, plan, dump, wanted.len());
+    let bytes = written(rt, alloc, dump);
+    expect(rt, &bytes.as_slice(), &wanted, "bytes", wanted.len());
+    let again = read(alloc, &bytes).expect(rt, "a dump");
+    expect_same(rt, dump, &again);
+    expect_yes(rt, alloc, plan, &again, wanted.len());
 }

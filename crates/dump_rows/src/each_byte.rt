@@ -2,13 +2,14 @@
 //! and from the order of the checks. No such change leaves a dump that is judged lawful: a number of the format's own is refused where it differs, each word
 //! has the one value that its base and its journal give it, and each other field is told by the plan or by the other fields.
 use crate::encoded::{LINKED, encoded};
-use crate::judged::{Told, expect_told, plan_of_three, told};
+use crate::expected::expect;
+use crate::judged::{Told, expect_told, told};
+use crate::planned::{Worked, plan_of};
 use comp_audit::verdict::{AuditFault, Verdict};
 use comp_dump::fault::DumpFault;
 use page_plan::plan::Plan;
 use std::alloc::Global;
 use std::process::Abort;
-use std::test::Fail;
 use worked_heaps::heaps::T;
 
 // What becomes of the dump.
@@ -178,18 +179,14 @@ fn expect_each(rt: &impl Abort, alloc: Global, plan: &Plan, bytes: &mut [u8]) {
         let right = bytes.get(at).copied().expect(rt, "a byte of the dump");
         expect_others(rt, alloc, plan, bytes, at, right);
     }
-    expect_told(rt, alloc, plan, bytes, Ok(Verdict::Yes), "no change");
-}
-
-fn expect_each_of_linked(rt: &impl Abort, alloc: Global, plan: &Plan) -> Result<(), Fail> {
-    let mut bytes = encoded(alloc, &LINKED)?;
-    assert!(rt; bytes.len() == 1_129);
-    expect_each(rt, alloc, plan, &mut bytes);
-    Ok(())
 }
 
 #[test]
-fn tells_each_changed_byte(rt: HostRuntime) -> Result<(), Fail> {
-    let plan = plan_of_three(rt.alloc())?;
-    expect_each_of_linked(&rt, rt.alloc(), &plan)
+fn tells_each_changed_byte(rt: HostRuntime) {
+    let alloc = rt.alloc();
+    let plan = plan_of(&rt, alloc, &Worked::Three);
+    let mut bytes = encoded(&rt, alloc, &LINKED);
+    expect(&rt, &bytes.len(), &1_129, "bytes", 0);
+    expect_each(&rt, alloc, &plan, &mut bytes);
+    expect_told(&rt, alloc, &plan, &bytes, Ok(Verdict::Yes), "no change");
 }

@@ -1,181 +1,191 @@
 //! The bytes of dumps, put together by a second hand, and changed.
+ghost use Rattle.std.specs.Prelude.{◌≤◌};
+
 use std::alloc::{AllocError, Global};
 use std::process::Abort;
 
 /// A part of a dump.
 pub enum Part {
-    /// All that stands before the roots: magic and version, then how many mutators, fresh pages, pages and roots there are.
-    Head([u32; 4]),
     /// These bytes.
     Bytes(&'static [u8]),
     /// Numbers of 4 bytes each.
-    Fours(&'static [u32]),
+    Fours(&'static [u64]),
     /// Numbers of 8 bytes each.
     Eights(&'static [u64]),
     /// So many bytes 0.
     Zeros(usize),
-    /// A page that was built, up to its entries: the words begin so, and all others are 0; so many entries are to follow.
-    Page(&'static [u64], u32),
-    /// An entry: its stamp; its writer, the code of its kind and its offset; its value.
-    Entry(u64, [u8; 3], u64),
 }
 
 /// In place of so many bytes from this one on there stands this part.
 pub struct Change(pub usize, pub usize, pub Part);
 
+/// So many bytes that none is left behind.
+pub const REST: usize = usize::MAX;
+
+/// The first 8 bytes of a dump. The version, which is 1, and how many mutators, fresh pages, pages and roots there are follow as numbers of 4 bytes each.
+pub const MAGIC: Part = Part::Bytes(b"COMPDUMP");
+
+/// What says that a page was built. Its words follow, and how many entries it has, in 4 bytes. An entry is its stamp, then its writer, the code of its kind
+/// and its offset in a byte each, and its value.
+pub const BUILT: Part = Part::Bytes(&[1]);
+
 /// The dump of the smallest heap, whose page one mutator touched: 569 bytes.
-pub const SMALLEST: [Part; 5] = [
-    Part::Head([1, 0, 1, 1]),
+pub const SMALLEST: [Part; 8] = [
+    MAGIC,
+    Part::Fours(&[1, 1, 0, 1, 1]),
     Part::Eights(&[8_589_934_592]),
-    Part::Page(&[30_064_771_072], 0),
+    BUILT,
+    Part::Eights(&[30_064_771_072]),
+    Part::Zeros(504 + 4),
     Part::Fours(&[1, 0]),
     Part::Eights(&[1]),
 ];
 
 /// The dump of the three objects, of which one mutator made the last refer to a new object on the first of two fresh pages: 1,129 bytes.
-pub const LINKED: [Part; 9] = [
-    Part::Head([1, 2, 3, 1]),
+pub const LINKED: [Part; 19] = [
+    MAGIC,
+    Part::Fours(&[1, 1, 2, 3, 1]),
     Part::Eights(&[8_589_934_594]),
-    Part::Page(&[4_295_032_832, 11, 12_884_901_889, 8_589_934_656], 1),
-    Part::Entry(1, [0, 1, 3], 8_589_934_656),
-    Part::Page(&[], 1),
-    Part::Entry(0, [0, 0, 0], 0),
+    BUILT,
+    Part::Eights(&[4_295_032_832, 11, 12_884_901_889, 8_589_934_656]),
+    Part::Zeros(480),
+    Part::Fours(&[1]),
+    Part::Eights(&[1]),
+    Part::Bytes(&[0, 1, 3]),
+    Part::Eights(&[8_589_934_656]),
+    BUILT,
+    Part::Zeros(512),
+    Part::Fours(&[1]),
+    Part::Eights(&[0]),
+    Part::Bytes(&[0, 0, 0]),
+    Part::Eights(&[0]),
     Part::Bytes(&[0]),
     // The list of builds: 2 of them, of page 1 and of page 0.
-    Part::Bytes(&[2, 0, 0, 0, 1, 0, 0, 0, 0, 0, 0, 0]),
+    Part::Fours(&[2, 1, 0]),
     Part::Eights(&[5]),
 ];
 
 /// The dump of the three objects, into whose first one the first of two mutators wrote 7, beside 64 fresh pages: 656 bytes.
-pub const PUT: [Part; 7] = [
-    Part::Head([2, 64, 65, 1]),
+pub const PUT: [Part; 13] = [
+    MAGIC,
+    Part::Fours(&[1, 2, 64, 65, 1]),
     Part::Eights(&[8_589_934_594]),
-    Part::Page(&[4_295_032_832, 7, 12_884_901_889, 8_589_934_592], 1),
-    Part::Entry(0, [0, 2, 1], 7),
+    BUILT,
+    Part::Eights(&[4_295_032_832, 7, 12_884_901_889, 8_589_934_592]),
+    Part::Zeros(480),
+    Part::Fours(&[1]),
+    Part::Eights(&[0]),
+    Part::Bytes(&[0, 2, 1]),
+    Part::Eights(&[7]),
     Part::Zeros(64),
     Part::Fours(&[1, 0, 0]),
     Part::Eights(&[4]),
 ];
 
-// A page whose first word is the header of an object of 640 words, and one of zeros.
-const BEGUN: Part = Part::Page(&[41_877_504], 0);
+// What follows of a page that has no entry: the header of an object of 640 words and zeros, or zeros alone.
+const BEGUN: Part = Part::Eights(&[41_877_504]);
 
-const EMPTY: Part = Part::Page(&[], 0);
+const NO_MORE: Part = Part::Zeros(504 + 4);
+
+const EMPTY: Part = Part::Zeros(512 + 4);
 
 /// The dump of two objects of 640 words each, all zeros behind their headers: 20 pages in three regions, of which the first of two mutators built the first
 /// and the last, and the second one the second. It has 10,464 bytes.
-pub const TWENTY: [Part; 24] = [
-    Part::Head([2, 0, 20, 0]),
+pub const TWENTY: [Part; 47] = [
+    MAGIC,
+    Part::Fours(&[1, 2, 0, 20, 0]),
+    BUILT,
     BEGUN,
+    NO_MORE,
+    BUILT,
     EMPTY,
+    BUILT,
     EMPTY,
+    BUILT,
     EMPTY,
+    BUILT,
     EMPTY,
+    BUILT,
     EMPTY,
+    BUILT,
     EMPTY,
+    BUILT,
     EMPTY,
+    BUILT,
     EMPTY,
+    BUILT,
     EMPTY,
+    BUILT,
     BEGUN,
+    NO_MORE,
+    BUILT,
     EMPTY,
+    BUILT,
     EMPTY,
+    BUILT,
     EMPTY,
+    BUILT,
     EMPTY,
+    BUILT,
     EMPTY,
+    BUILT,
     EMPTY,
+    BUILT,
     EMPTY,
+    BUILT,
     EMPTY,
+    BUILT,
     EMPTY,
     Part::Fours(&[12, 0, 1, 2, 3, 4, 5, 6, 7, 16, 17, 18, 19]),
     Part::Fours(&[8, 8, 9, 10, 11, 12, 13, 14, 15]),
     Part::Eights(&[1_280]),
 ];
 
-fn put_fours(bytes: &mut Vec<u8>, numbers: &[u32]) -> Result<(), AllocError> {
+// Numbers of so many bytes each, the least one first.
+fn put_numbers(bytes: &mut Vec<u8>, width: usize, numbers: &[u64]) -> Result<(), AllocError>
+    requires { width ≤ 8 }
+{
     for n in numbers {
-        bytes.extend_from_slice(&n.to_le_bytes())?;
+        bytes.extend_from_slice(&n.to_le_bytes()[..width])?;
     }
     Ok(())
-}
-
-fn put_eights(bytes: &mut Vec<u8>, numbers: &[u64]) -> Result<(), AllocError> {
-    for n in numbers {
-        bytes.extend_from_slice(&n.to_le_bytes())?;
-    }
-    Ok(())
-}
-
-fn put_zeros(bytes: &mut Vec<u8>, count: usize) -> Result<(), AllocError> {
-    bytes.resize(bytes.len().saturating_add(count), 0)
-}
-
-fn put_head(bytes: &mut Vec<u8>, counts: &[u32]) -> Result<(), AllocError> {
-    bytes.extend_from_slice(b"COMPDUMP")?;
-    put_fours(bytes, &[1])?;
-    put_fours(bytes, counts)
-}
-
-fn put_page(bytes: &mut Vec<u8>, begin: &[u64], entries: u32) -> Result<(), AllocError> {
-    let begun = begin.len().saturating_mul(8);
-    bytes.push(1)?;
-    put_eights(bytes, begin)?;
-    put_zeros(bytes, 512usize.saturating_sub(begun))?;
-    put_fours(bytes, &[entries])
-}
-
-fn put_entry(bytes: &mut Vec<u8>, stamp: u64, small: &[u8], value: u64) -> Result<(), AllocError> {
-    put_eights(bytes, &[stamp])?;
-    bytes.extend_from_slice(small)?;
-    put_eights(bytes, &[value])
 }
 
 fn put_part(bytes: &mut Vec<u8>, part: &Part) -> Result<(), AllocError> {
     match part {
-        Part::Head(counts) => put_head(bytes, counts),
         Part::Bytes(some) => bytes.extend_from_slice(some),
-        Part::Fours(numbers) => put_fours(bytes, numbers),
-        Part::Eights(numbers) => put_eights(bytes, numbers),
-        Part::Zeros(count) => put_zeros(bytes, *count),
-        Part::Page(begin, entries) => put_page(bytes, begin, *entries),
-        Part::Entry(stamp, small, value) => put_entry(bytes, *stamp, small, *value),
+        Part::Fours(numbers) => put_numbers(bytes, 4, numbers),
+        Part::Eights(numbers) => put_numbers(bytes, 8, numbers),
+        Part::Zeros(count) => bytes.resize(bytes.len().saturating_add(*count), 0),
     }
 }
 
 /// The bytes of these parts.
-pub fn encoded(alloc: Global, parts: &[Part]) -> Result<Vec<u8>, AllocError> {
+pub fn encoded(rt: &impl Abort, alloc: Global, parts: &[Part]) -> Vec<u8> {
     let mut bytes = Vec::new(alloc);
     for part in parts {
-        put_part(&mut bytes, part)?;
+        put_part(&mut bytes, part).expect(rt, "memory");
     }
-    Ok(bytes)
+    bytes
 }
 
 // The bytes with these changes, which come in order.
-fn put_changed(
-    rt: &impl Abort,
-    out: &mut Vec<u8>,
-    bytes: &[u8],
-    changes: &[Change],
-) -> Result<(), AllocError> {
+fn put_changed(rt: &impl Abort, out: &mut Vec<u8>, bytes: &[u8], changes: &[Change]) {
     let mut from = 0;
     for Change(at, width, part) in changes {
         let kept = bytes.get(from..*at).expect(rt, "changes inside, in order");
-        out.extend_from_slice(kept)?;
-        put_part(out, part)?;
+        out.extend_from_slice(kept).expect(rt, "memory");
+        put_part(out, part).expect(rt, "memory");
         from = at.saturating_add(*width);
     }
-    out.extend_from_slice(bytes.get(from..).expect(rt, "changes inside"))
+    let kept = bytes.get(from..).unwrap_or(&[]);
+    out.extend_from_slice(kept).expect(rt, "memory");
 }
 
 /// The bytes of these parts with these changes, which come in order.
-pub fn changed(
-    rt: &impl Abort,
-    alloc: Global,
-    parts: &[Part],
-    changes: &[Change],
-) -> Result<Vec<u8>, AllocError> {
-    let bytes = encoded(alloc, parts)?;
+pub fn changed(rt: &impl Abort, alloc: Global, parts: &[Part], changes: &[Change]) -> Vec<u8> {
+    let bytes = encoded(rt, alloc, parts);
     let mut out = Vec::new(alloc);
-    put_changed(rt, &mut out, &bytes, changes)?;
-    Ok(out)
+    put_changed(rt, &mut out, &bytes, changes);
+    out
 }

@@ -1,10 +1,12 @@
-//! Worked heaps, flipped, worked on and finished, and the bytes of their dumps.
-ghost use Rattle.std.specs.Prelude.{◌≡◌, IfOk};
+//! Worked heaps, flipped, worked on and finished, and their dumps.
+ghost use Rattle.std.specs.Prelude.{◌≡◌};
 ghost use Rattle.comp_history.specs.Finishes.{IsOfFlip};
 ghost use Rattle.comp_mutator.specs.Mutators.{setup_of, AreMutatorsOf, IsMutatorOf};
 
-use crate::dumped::dumped;
-use crate::encoded::Part;
+use crate::dumped::expect_dump;
+use crate::encoded::{Part, encoded};
+use crate::expected::expect;
+use crate::planned::{Worked, plan_of};
 use comp_dump::dump::Dump;
 use comp_mutator::finishing::Finished;
 use comp_mutator::flipping::flip;
@@ -12,27 +14,12 @@ use comp_mutator::mutator::Mutator;
 use comp_mutator::pages::Touched;
 use comp_mutator::refusal::Refusal;
 use comp_mutator::space::Space;
-use heap_layout::heap::MarkedHeap;
 use page_plan::plan::Plan;
 use std::alloc::Global;
 use std::marker::Brand;
 use std::process::Abort;
 use std::sync::Arc;
 use std::sync::ledger::{Blank, Ledger as Named};
-use std::test::Fail;
-use worked_heaps::heaps::{empty, heap, planned, smallest, three};
-
-/// A worked heap.
-pub enum Worked {
-    /// No object at all.
-    Empty,
-    /// The smallest heap.
-    Smallest,
-    /// The three objects.
-    Three,
-    /// Two objects of 640 words each, all zeros behind their headers.
-    Twenty,
-}
 
 /// A call of a mutator.
 pub enum Call {
@@ -57,6 +44,7 @@ pub struct Row(pub usize, pub Call, pub u64);
 
 /// A run: a heap, flipped, and what its mutators do.
 pub struct Run {
+    pub name: &'static str,
     pub heap: Worked,
     pub mutators: u32,
     pub fresh_pages: u32,
@@ -67,43 +55,6 @@ pub struct Run {
     pub length: usize,
     /// That dump.
     pub parts: &'static [Part],
-}
-
-fn twenty(alloc: Global) -> Result<MarkedHeap, Fail> {
-    let mut words = vec![in alloc; 0u64; 1_280]?;
-    words[0] = 41_877_504;
-    words[640] = 41_877_504;
-    heap(alloc, &words, &[0, 640], &[])
-}
-
-fn marked(alloc: Global, worked: &Worked) -> Result<MarkedHeap, Fail> {
-    match worked {
-        Worked::Empty => empty(alloc),
-        Worked::Smallest => smallest(alloc),
-        Worked::Three => three(alloc),
-        Worked::Twenty => twenty(alloc),
-    }
-}
-
-fn plan_of(alloc: Global, worked: &Worked) -> Result<Plan, Fail> {
-    planned(alloc, marked(alloc, worked)?)
-}
-
-// The flipped heap of a run, and all its mutators.
-fn flipped<L: Named>(
-    alloc: Global,
-    blank: Blank,
-    run: &Run,
-) -> Result<(Space<L, Plan>, Vec<Mutator<L>>), Fail>
-    requires name { blank.name ≡ L.name }
-    requires parts { blank.parts ≡ L.parts }
-    requires count { blank.parts ≡ run.now.mutators }
-    ensures of { IfOk result (λ made. AreMutatorsOf made.0 made.1.items) }
-    ensures whole { IfOk result (λ made. (setup_of made.0).mutators ≡ L.parts) }
-    ensures fresh { IfOk result (λ made. (setup_of made.0).fresh ≡ run.now.fresh_pages) }
-{
-    let builder = Arc::new(alloc, plan_of(alloc, &run.heap)?)?;
-    Ok(flip(alloc, blank, builder, run.mutators, run.fresh_pages)?)
 }
 
 // Touches a page that is there.
@@ -148,10 +99,6 @@ fn answer<L: Named>(
     }
 }
 
-fn expect_answer(rt: &impl Abort, at: usize, found: Result<u64, Refusal>, wanted: u64) {
-    assert_eq!(rt; found, Ok(wanted), "row {at}");
-}
-
 // One of the mutators makes its call.
 fn expect_row<L: Named>(
     rt: &impl Abort,
@@ -160,6 +107,7 @@ fn expect_row<L: Named>(
     mutators: &mut [Mutator<L>],
     at: usize,
     row: &Row,
+    name: &str,
 )
     requires of { AreMutatorsOf space.now mutators.old }
     ensures of { AreMutatorsOf space.now mutators.new }
@@ -168,7 +116,7 @@ fn expect_row<L: Named>(
     let by = *by;
     assert!(rt; by < mutators.len());
     let found = answer(rt, alloc, space, &mut mutators[by], call);
-    expect_answer(rt, at, found, *wanted);
+    expect(rt, &found, &Ok(*wanted), name, at);
 }
 
 // The calls of a run, one after another.
@@ -183,7 +131,7 @@ fn expect_rows<L: Named>(
     ensures of { AreMutatorsOf space.now mutators.new }
 {
     for (at, row) in run.rows.iter().enumerate() {
-        expect_row(rt, alloc, space, mutators, at, row);
+        expect_row(rt, alloc, space, mutators, at, row, run.name);
     }
     if run.last_first {
         mutators.reverse();
@@ -201,54 +149,38 @@ fn finish<L: Named>(
     requires whole { (setup_of space).mutators ≡ L.parts }
     ensures { IsOfFlip L.parts (setup_of space).fresh result }
 {
-    let Ok(finished) = space.finish(alloc, mutators) else {
-        panic!(rt; "no mutator is missing");
-    };
-    finished
+    match space.finish(alloc, mutators) {
+        Ok(finished) => finished,
+        Err(_) => panic!(rt; "no mutator is missing"),
+    }
 }
 
-// The bytes of the dump of a run, by the plan of its heap.
-fn dump_planned(
-    rt: &impl Abort,
-    alloc: Global,
-    run: &Run,
-    dump: &Dump<'_>,
-) -> Result<Vec<u8>, Fail> {
-    let plan = plan_of(alloc, &run.heap)?;
-    dumped(rt, alloc, &plan, dump)
-}
-
-// The bytes of the dump of what a run left.
-fn dump_finished(
-    rt: &impl Abort,
-    alloc: Global,
-    run: &Run,
-    finished: &Finished,
-) -> Result<Vec<u8>, Fail>
+// The dump of what a run left is what it has to be.
+fn expect_finished(rt: &impl Abort, alloc: Global, run: &Run, finished: &Finished)
     requires { IsOfFlip run.now.mutators run.now.fresh_pages finished.now }
 {
-    let dump = Dump::of(alloc, finished, run.mutators, run.fresh_pages)?;
-    dump_planned(rt, alloc, run, &dump)
+    let dump = Dump::of(alloc, finished, run.mutators, run.fresh_pages).expect(rt, "memory");
+    let plan = plan_of(rt, alloc, &run.heap);
+    let wanted = encoded(rt, alloc, run.parts);
+    expect_dump(rt, alloc, &plan, &dump, &wanted);
+    expect(rt, &wanted.len(), &run.length, run.name, 0);
 }
 
-fn dump_run<L: Named>(
-    rt: &impl Abort,
-    alloc: Global,
-    blank: Blank,
-    run: &Run,
-) -> Result<Vec<u8>, Fail>
+fn expect_run_of<L: Named>(rt: &impl Abort, alloc: Global, blank: Blank, run: &Run)
     requires name { blank.name ≡ L.name }
     requires parts { blank.parts ≡ L.parts }
     requires count { blank.parts ≡ run.now.mutators }
 {
-    let (space, mut mutators) = flipped::<L>(alloc, blank, run)?;
+    let builder = Arc::new(alloc, plan_of(rt, alloc, &run.heap)).expect(rt, "memory");
+    let flipped = flip::<L, Plan>(alloc, blank, builder, run.mutators, run.fresh_pages);
+    let (space, mut mutators) = flipped.expect(rt, "a flip");
     expect_rows(rt, alloc, &space, &mut mutators, run);
     let finished = finish(rt, alloc, space, mutators);
-    dump_finished(rt, alloc, run, &finished)
+    expect_finished(rt, alloc, run, &finished);
 }
 
-/// The bytes of the dump of a run.
-pub fn run_dumped(rt: &impl Abort, alloc: Global, run: &Run) -> Result<Vec<u8>, Fail> {
+/// The calls of a run are answered as they have to be, and so is the dump of what it left.
+pub fn expect_run(rt: &impl Abort, alloc: Global, run: &Run) {
     let blank = Blank::new(u64::from(run.mutators));
-    dump_run::<Brand>(rt, alloc, blank, run)
+    expect_run_of::<Brand>(rt, alloc, blank, run);
 }

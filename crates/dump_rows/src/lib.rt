@@ -12,6 +12,8 @@ mod each_byte;
 #[cfg(test)]
 mod encoded;
 #[cfg(test)]
+mod expected;
+#[cfg(test)]
 mod failing;
 #[cfg(test)]
 mod fields;
@@ -23,5 +25,7 @@ mod forged;
 mod heads;
 #[cfg(test)]
 mod judged;
+#[cfg(test)]
+mod planned;
 #[cfg(test)]
 mod written;

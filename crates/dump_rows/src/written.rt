@@ -1,37 +1,19 @@
 //! What is written of worked heaps, and what is read of that.
-use crate::dumped::{expect_all, read};
-use crate::encoded::{LINKED, PUT, Part, TWENTY, encoded};
-use crate::finished::{Call, Row, Run, Worked, run_dumped};
+use crate::dumped::{PageParts, Parts, page_parts, parts, read};
+use crate::encoded::{BUILT, LINKED, MAGIC, PUT, Part, TWENTY, encoded};
+use crate::expected::expect;
+use crate::finished::{Call, Row, Run, expect_run};
+use crate::planned::Worked;
 use comp_dump::dump::Dump;
-use comp_dump::page::DumpedPage;
 use comp_journal::entry::Entry;
 use heap_layout::kind::Kind;
 use std::alloc::Global;
 use std::process::Abort;
-use std::test::Fail;
 use worked_heaps::heaps::T;
 
-// The bytes are those of these parts.
-fn expect_encoded(
-    rt: &impl Abort,
-    alloc: Global,
-    bytes: &[u8],
-    parts: &[Part],
-) -> Result<(), Fail> {
-    let wanted = encoded(alloc, parts)?;
-    assert_eq!(rt; bytes, wanted.as_slice());
-    Ok(())
-}
-
-// The dump of a run is what it has to be.
-fn expect_dump(rt: &impl Abort, alloc: Global, run: &Run) -> Result<(), Fail> {
-    let bytes = run_dumped(rt, alloc, run)?;
-    assert!(rt; bytes.len() == run.length);
-    expect_encoded(rt, alloc, &bytes, run.parts)
-}
-
 // No object at all, and two mutators that do nothing.
-static NOTHING: Run = Run {
+const NOTHING: Run = Run {
+    name: "an empty heap",
     heap: Worked::Empty,
     mutators: 2,
     fresh_pages: 0,
@@ -46,13 +28,9 @@ const OF_NOTHING: [Part; 1] = [Part::Bytes(&[
     0, 0, 0, 0, 0, 0, 0, 0, 0, 0, 0, 0, 0, 0, 0, 0, 0, 0, 0, 0,
 ])];
 
-#[test]
-fn dumps_an_empty_heap(rt: HostRuntime) -> Result<(), Fail> {
-    expect_dump(&rt, rt.alloc(), &NOTHING)
-}
-
 // The smallest heap, whose page its one mutator touches.
-static TOUCHED: Run = Run {
+const TOUCHED: Run = Run {
+    name: "the smallest heap",
     heap: Worked::Smallest,
     mutators: 1,
     fresh_pages: 0,
@@ -74,13 +52,9 @@ const OF_TOUCHED: [Part; 8] = [
     Part::Bytes(&[1, 0, 0, 0, 0, 0, 0, 0]),
 ];
 
-#[test]
-fn dumps_the_smallest_heap(rt: HostRuntime) -> Result<(), Fail> {
-    expect_dump(&rt, rt.alloc(), &TOUCHED)
-}
-
 // The three objects, of which the one mutator makes the last refer to a new one of one word. There are two fresh pages.
-static LINKING: Run = Run {
+const LINKING: Run = Run {
+    name: "a reference to a new object",
     heap: Worked::Three,
     mutators: 1,
     fresh_pages: 2,
@@ -93,14 +67,10 @@ static LINKING: Run = Run {
     parts: &LINKED,
 };
 
-#[test]
-fn dumps_a_reference_to_a_new_object(rt: HostRuntime) -> Result<(), Fail> {
-    expect_dump(&rt, rt.alloc(), &LINKING)
-}
-
 // The first of two mutators loads an address from the last of the three objects, and puts 7 into the object there; the second one does the same and gets 7.
 // There are 64 fresh pages.
-static PUTTING: Run = Run {
+const PUTTING: Run = Run {
+    name: "what one of two put",
     heap: Worked::Three,
     mutators: 2,
     fresh_pages: 64,
@@ -115,13 +85,9 @@ static PUTTING: Run = Run {
     parts: &PUT,
 };
 
-#[test]
-fn dumps_what_one_of_two_put(rt: HostRuntime) -> Result<(), Fail> {
-    expect_dump(&rt, rt.alloc(), &PUTTING)
-}
-
 // One mutator alone puts what looks like an address of from-space into the first of the three objects, and gets it.
-static ADDRESS: Run = Run {
+const ADDRESS: Run = Run {
+    name: "what looks like an address",
     heap: Worked::Three,
     mutators: 1,
     fresh_pages: 0,
@@ -135,25 +101,24 @@ static ADDRESS: Run = Run {
 };
 
 // What was put stands from byte 45 on.
-const OF_ADDRESS: [Part; 6] = [
-    Part::Head([1, 0, 1, 1]),
+const OF_ADDRESS: [Part; 12] = [
+    MAGIC,
+    Part::Fours(&[1, 1, 0, 1, 1]),
     Part::Eights(&[8_589_934_594]),
-    Part::Page(
-        &[4_295_032_832, 4_294_967_296, 12_884_901_889, 8_589_934_592],
-        1,
-    ),
-    Part::Entry(0, [0, 2, 1], 4_294_967_296),
+    BUILT,
+    Part::Eights(&[4_295_032_832, 4_294_967_296, 12_884_901_889, 8_589_934_592]),
+    Part::Zeros(480),
+    Part::Fours(&[1]),
+    Part::Eights(&[0]),
+    Part::Bytes(&[0, 2, 1]),
+    Part::Eights(&[4_294_967_296]),
     Part::Fours(&[1, 0]),
     Part::Eights(&[4]),
 ];
 
-#[test]
-fn dumps_what_looks_like_an_address(rt: HostRuntime) -> Result<(), Fail> {
-    expect_dump(&rt, rt.alloc(), &ADDRESS)
-}
-
 // Two objects of 640 words each: twenty pages, each region built by one of two mutators in turn.
-static BUILDING: Run = Run {
+const BUILDING: Run = Run {
+    name: "twenty pages",
     heap: Worked::Twenty,
     mutators: 2,
     fresh_pages: 0,
@@ -184,27 +149,13 @@ static BUILDING: Run = Run {
     parts: &TWENTY,
 };
 
+static RUNS: [Run; 6] = [NOTHING, TOUCHED, LINKING, PUTTING, ADDRESS, BUILDING];
+
 #[test]
-fn dumps_twenty_pages(rt: HostRuntime) -> Result<(), Fail> {
-    expect_dump(&rt, rt.alloc(), &BUILDING)
-}
-
-// The page begins with these words, all others are 0, and this is its one entry.
-fn is_page(page: Option<&Option<DumpedPage<'_>>>, begin: &[u64], wanted: Entry) -> bool {
-    let Some(Some(page)) = page else {
-        return false;
-    };
-    begins_with(page.words(), begin) && page.journal() == [wanted].as_slice()
-}
-
-// These 64 words begin so, and all others are 0.
-fn begins_with(words: &[u64], begin: &[u64]) -> bool {
-    for (offset, word) in words.iter().enumerate() {
-        if *word != begin.get(offset).copied().unwrap_or(0) {
-            return false;
-        }
+fn dumps_worked_heaps(rt: HostRuntime) {
+    for run in &RUNS {
+        expect_run(&rt, rt.alloc(), run);
     }
-    words.len() == 64
 }
 
 const STORED: Entry = Entry {
@@ -215,7 +166,72 @@ const STORED: Entry = Entry {
     value: 8_589_934_656,
 };
 
-const STORED_WORDS: [u64; 4] = [4_295_032_832, 11, 12_884_901_889, 8_589_934_656];
+static STORED_WORDS: [u64; 64] = [
+    4_295_032_832,
+    11,
+    12_884_901_889,
+    8_589_934_656,
+    0,
+    0,
+    0,
+    0,
+    0,
+    0,
+    0,
+    0,
+    0,
+    0,
+    0,
+    0,
+    0,
+    0,
+    0,
+    0,
+    0,
+    0,
+    0,
+    0,
+    0,
+    0,
+    0,
+    0,
+    0,
+    0,
+    0,
+    0,
+    0,
+    0,
+    0,
+    0,
+    0,
+    0,
+    0,
+    0,
+    0,
+    0,
+    0,
+    0,
+    0,
+    0,
+    0,
+    0,
+    0,
+    0,
+    0,
+    0,
+    0,
+    0,
+    0,
+    0,
+    0,
+    0,
+    0,
+    0,
+    0,
+    0,
+    0,
+    0,
+];
 
 const MADE: Entry = Entry {
     stamp: 0,
@@ -225,40 +241,21 @@ const MADE: Entry = Entry {
     value: 0,
 };
 
-// The three objects, of which the last refers to a new one on the first of two fresh pages.
-fn expect_linked_pages(rt: &impl Abort, pages: &[Option<DumpedPage<'_>>]) {
-    let parts = [
-        ("pages", pages.len() == 3),
-        ("page 0", is_page(pages.first(), &STORED_WORDS, STORED)),
-        ("page 1", is_page(pages.get(1), &[], MADE)),
-        ("page 2", matches!(pages.get(2), Some(None))),
-    ];
-    expect_all(rt, &parts);
-}
-
-// There is one list, of page 1 and of page 0.
-fn is_linked_list(builds: &[Vec<u32>]) -> bool {
-    match builds {
-        [builds] => builds.as_slice() == [1, 0].as_slice(),
-        _ => false,
-    }
-}
-
-fn expect_linked(rt: &impl Abort, dump: &Dump<'_>) {
-    let parts = [
-        ("mutators", dump.mutators() == 1),
-        ("fresh pages", dump.fresh_pages() == 2),
-        ("roots", dump.roots() == [8_589_934_594].as_slice()),
-        ("builds", is_linked_list(dump.builds())),
-        ("live words", dump.live_words() == 5),
-    ];
-    expect_all(rt, &parts);
-    expect_linked_pages(rt, dump.pages());
+// The three objects, of which the last refers to a new one on the first of two fresh pages. There is one list of builds, of page 1 and of page 0.
+fn expect_linked(rt: &impl Abort, alloc: Global, dump: &Dump<'_>) {
+    let builds = [[1, 0].to_vec(alloc).expect(rt, "memory")];
+    let wanted: Parts<'_> = (1, 2, &[8_589_934_594], 3, &builds, 5);
+    expect(rt, &parts(dump), &wanted, "parts", 0);
+    let first: PageParts<'_> = (&STORED_WORDS, &[STORED]);
+    expect(rt, &page_parts(dump, 0), &Some(first), "page", 0);
+    let second: PageParts<'_> = (&[0; 64], &[MADE]);
+    expect(rt, &page_parts(dump, 1), &Some(second), "page", 1);
+    expect(rt, &page_parts(dump, 2), &None, "page", 2);
 }
 
 #[test]
-fn reads_all_parts(rt: HostRuntime) -> Result<(), Fail> {
-    let dump = read(rt.alloc(), &encoded(rt.alloc(), &LINKED)?)?;
-    expect_linked(&rt, &dump);
-    Ok(())
+fn reads_all_parts(rt: HostRuntime) {
+    let bytes = encoded(&rt, rt.alloc(), &LINKED);
+    let dump = read(rt.alloc(), &bytes).expect(&rt, "a dump");
+    expect_linked(&rt, rt.alloc(), &dump);
 }
