@@ -4,6 +4,7 @@ use comp_trace::fault::Stop;
 use comp_trace::line::{Action, Line};
 use plain_objects::random::Random;
 use std::alloc::{AllocError, Global};
+use std::process::Abort;
 
 /// How many lines are drawn, of which many would be refused and are left out.
 const DRAWS: u32 = 60;
@@ -77,135 +78,151 @@ fn draw_line(random: &mut Random, run: &PlainRun, mutators: u8) -> Line {
     }
 }
 
-// The word of an action.
-fn word_of(action: Action) -> &'static str {
-    match action {
-        Action::Root { .. } => "root",
-        Action::Load { .. } => "load",
-        Action::Get { .. } => "get",
-        Action::Store { .. } => "store",
-        Action::Put { .. } => "put",
-        Action::New { .. } => "new",
-        Action::Nil { .. } => "nil",
-    }
-}
-
-// The numbers behind the word of an action.
-fn numbers_of(action: Action) -> [Option<u64>; 4] {
-    let (first, second, third) = match action {
-        Action::Root { to, root } => (to, Some(u64::from(root)), None),
-        Action::Load { to, object, field } => (to, Some(u64::from(object)), Some(u64::from(field))),
-        Action::Get { object, field } => (object, Some(u64::from(field)), None),
-        Action::Store {
-            object,
-            field,
-            value,
-        } => (object, Some(u64::from(field)), Some(u64::from(value))),
-        Action::Put {
-            object,
-            field,
-            value,
-        } => (object, Some(u64::from(field)), Some(value)),
-        Action::New {
-            to,
-            refs,
-            data_words,
-            ..
-        } => (to, Some(u64::from(refs)), Some(u64::from(data_words))),
-        Action::Nil { to } => (to, None, None),
-    };
-    let fourth = match action {
-        Action::New { tag, .. } => Some(u64::from(tag)),
-        _ => None,
-    };
-    [Some(u64::from(first)), second, third, fourth]
-}
-
 // A line behind the others of a text.
-fn push_text(alloc: Global, text: &mut String, line: Line) -> Result<(), AllocError> {
-    let word = word_of(line.action);
-    text.push_str(&format!(in alloc; "{} {word}", line.mutator)?)?;
-    for number in numbers_of(line.action) {
-        if let Some(number) = number {
-            text.push_str(&format!(in alloc; " {number}")?)?;
-        }
+fn push_line(
+    text: &mut String,
+    mutator: u8,
+    word: &str,
+    numbers: &[u64],
+) -> Result<(), AllocError> {
+    write!(text, "{mutator} {word}")?;
+    for number in numbers {
+        write!(text, " {number}")?;
     }
     text.push_str("\n")
 }
 
-impl Drawn {
-    fn add(&mut self, alloc: Global, line: Line) -> Result<(), AllocError> {
-        self.lines.push(line)?;
-        push_text(alloc, &mut self.text, line)
-    }
-
-    // The next line: true where the trace goes on behind it. Of lines that would be refused most are left out.
-    fn next(
-        &mut self,
-        alloc: Global,
-        random: &mut Random,
-        mutators: u8,
-    ) -> Result<bool, AllocError> {
-        let line = draw_line(random, &self.run, mutators);
-        let number = (self.lines.len() as u64).wrapping_add(1);
-        match self.run.answer(alloc, line)? {
-            Ok(answer) => {
-                self.run.keep(number, line, answer)?;
-                self.add(alloc, line)?;
-            }
-            Err(refusal) => {
-                if random.below(12) == 0 {
-                    self.add(alloc, line)?;
-                    self.stop = Some(Stop {
-                        line: number,
-                        refusal,
-                    });
-                    return Ok(false);
-                }
-            }
+// The line behind the others of a text, by the form of its action.
+fn push_text(text: &mut String, line: Line) -> Result<(), AllocError> {
+    let m = line.mutator;
+    match line.action {
+        Action::Root { to, root } => push_line(text, m, "root", &[u64::from(to), u64::from(root)]),
+        Action::Load { to, object, field } => push_line(
+            text,
+            m,
+            "load",
+            &[u64::from(to), u64::from(object), u64::from(field)],
+        ),
+        Action::Get { object, field } => {
+            push_line(text, m, "get", &[u64::from(object), u64::from(field)])
         }
-        Ok(true)
-    }
-
-    // Three lines more, whatever they do.
-    fn add_three(
-        &mut self,
-        alloc: Global,
-        random: &mut Random,
-        mutators: u8,
-    ) -> Result<(), AllocError> {
-        for _ in 0..3 {
-            let line = draw_line(random, &self.run, mutators);
-            self.add(alloc, line)?;
-        }
-        Ok(())
-    }
-
-    // All lines.
-    fn add_all(
-        &mut self,
-        alloc: Global,
-        random: &mut Random,
-        mutators: u8,
-    ) -> Result<(), AllocError> {
-        for _ in 0..DRAWS {
-            if !self.next(alloc, random, mutators)? {
-                return self.add_three(alloc, random, mutators);
-            }
-        }
-        Ok(())
+        Action::Store {
+            object,
+            field,
+            value,
+        } => push_line(
+            text,
+            m,
+            "store",
+            &[u64::from(object), u64::from(field), u64::from(value)],
+        ),
+        Action::Put {
+            object,
+            field,
+            value,
+        } => push_line(
+            text,
+            m,
+            "put",
+            &[u64::from(object), u64::from(field), value],
+        ),
+        Action::New {
+            to,
+            refs,
+            data_words,
+            tag,
+        } => push_line(
+            text,
+            m,
+            "new",
+            &[
+                u64::from(to),
+                u64::from(refs),
+                u64::from(data_words),
+                u64::from(tag),
+            ],
+        ),
+        Action::Nil { to } => push_line(text, m, "nil", &[u64::from(to)]),
     }
 }
 
+impl Drawn {
+    fn add(&mut self, rt: &impl Abort, line: Line) {
+        self.lines.push(line).expect(rt, "a line more");
+        push_text(&mut self.text, line).expect(rt, "the line's text");
+    }
+
+    // The last line of the trace, whose call is refused: of most draws that would be refused none is made.
+    fn add_refused(
+        &mut self,
+        rt: &impl Abort,
+        random: &mut Random,
+        line: Line,
+        stop: Stop,
+    ) -> bool {
+        let is_left_out = random.below(12) != 0;
+        if !is_left_out {
+            self.add(rt, line);
+            self.stop = Some(stop);
+        }
+        is_left_out
+    }
+
+    // The next line: true where the trace goes on behind it.
+    fn next(&mut self, rt: &impl Abort, alloc: Global, random: &mut Random, mutators: u8) -> bool {
+        let line = draw_line(random, &self.run, mutators);
+        let number = (self.lines.len() as u64).wrapping_add(1);
+        match self.run.answer(alloc, line).expect(rt, "an answer") {
+            Ok(answer) => {
+                self.run.keep(rt, number, line, answer);
+                self.add(rt, line);
+                true
+            }
+            Err(refusal) => self.add_refused(
+                rt,
+                random,
+                line,
+                Stop {
+                    line: number,
+                    refusal,
+                },
+            ),
+        }
+    }
+
+    // Three lines more, whatever they do.
+    fn add_three(&mut self, rt: &impl Abort, random: &mut Random, mutators: u8) {
+        for _ in 0..3 {
+            let line = draw_line(random, &self.run, mutators);
+            self.add(rt, line);
+        }
+    }
+
+    // All lines.
+    fn add_all(&mut self, rt: &impl Abort, alloc: Global, random: &mut Random, mutators: u8) {
+        for _ in 0..DRAWS {
+            if !self.next(rt, alloc, random, mutators) {
+                return self.add_three(rt, random, mutators);
+            }
+        }
+    }
+}
+
+// What tells a trace from the others.
+fn name_of(rt: &impl Abort, alloc: Global, mutators: u8, seed: u64) -> String {
+    format!(in alloc; "mutators {mutators}, seed {seed}").expect(rt, "a name")
+}
+
 /// The trace of this seed, of up to four mutators. Behind a line that is refused there are three more.
-pub fn draw_trace(alloc: Global, mutators: u8, seed: u64) -> Result<Drawn, AllocError> {
+pub fn draw_trace(rt: &impl Abort, alloc: Global, mutators: u8, seed: u64) -> Drawn {
     let mut drawn = Drawn {
-        name: format!(in alloc; "mutators {mutators}, seed {seed}")?,
+        name: name_of(rt, alloc, mutators, seed),
         lines: Vec::new(alloc),
         text: String::new(alloc),
-        run: PlainRun::new(alloc, mutators)?,
+        run: PlainRun::new(rt, alloc, mutators),
         stop: None,
     };
-    drawn.add_all(alloc, &mut Random { state: seed }, mutators)?;
-    Ok(drawn)
+    let mut random = Random { state: seed };
+    drawn.add_all(rt, alloc, &mut random, mutators);
+    drawn
 }

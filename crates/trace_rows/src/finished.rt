@@ -1,46 +1,48 @@
 //! Finished heaps beside objects kept plainly.
+use crate::expected::expect_so;
 use comp_journal::entry::Entry;
 use comp_journal::journaled_page::JournaledPage;
 use comp_mutator::finishing::Finished;
 use heap_layout::kind::Kind;
 use plain_objects::objects::{Objects, Written};
-use std::alloc::{AllocError, Global};
-use std::test::Fail;
+use std::alloc::Global;
+use std::process::Abort;
 use worked_heaps::heaps::T;
 
 // The page has the words and the entries of the plain objects; one that was never built has no entry.
 fn is_page(
+    rt: &impl Abort,
     alloc: Global,
     page: &Option<JournaledPage>,
     objects: &Objects,
     p: u64,
-) -> Result<bool, AllocError> {
-    let journal = objects.journal_of(alloc, p)?;
-    let Some(page) = page else {
-        return Ok(journal.is_empty());
-    };
-    let words = objects.words_of(alloc, p)?;
-    Ok(page.journal() == journal.as_slice() && page.words().as_slice() == words.as_slice())
+) -> bool {
+    let journal = objects.journal_of(alloc, p).expect(rt, "a journal");
+    let words = objects.words_of(alloc, p).expect(rt, "words");
+    match page {
+        Some(page) => {
+            page.journal() == journal.as_slice() && page.words().as_slice() == words.as_slice()
+        }
+        None => journal.is_empty(),
+    }
 }
 
 /// The seven pages have the words and the entries of the plain objects, and the heap their size.
 pub fn expect_pages(
+    rt: &impl Abort,
     alloc: Global,
     name: &str,
     finished: &Finished,
     objects: &Objects,
-) -> Result<(), Fail> {
+) {
     let pages = finished.pages();
     let live = finished.live_words();
-    if pages.len() != 7 || live != objects.live_words() {
-        return Err(Fail::new(format_args!("{name}: {live} words, {pages:?}")));
-    }
+    let is_size = pages.len() == 7 && live == objects.live_words();
+    expect_so(rt, name, is_size, &(live, pages));
     for (p, page) in pages.iter().enumerate() {
-        if !is_page(alloc, page, objects, p as u64)? {
-            return Err(Fail::new(format_args!("{name}: page {p}: {page:?}")));
-        }
+        let is_page = is_page(rt, alloc, page, objects, p as u64);
+        expect_so(rt, name, is_page, &(p, page));
     }
-    Ok(())
 }
 
 // How many entries there are.
@@ -81,45 +83,46 @@ fn entry_of(finished: &Finished, stamp: u64) -> Option<Written> {
 }
 
 // The plain objects take this entry next: true where it is what a call of its writer does to them.
-fn take_entry(alloc: Global, objects: &mut Objects, written: Written) -> Result<bool, AllocError> {
+fn take_entry(rt: &impl Abort, alloc: Global, objects: &mut Objects, written: Written) -> bool {
     let entry = written.entry;
     let address = T
         .wrapping_add(written.page.wrapping_mul(64))
         .wrapping_add(u64::from(entry.offset));
-    let Some(call) = objects.call_of(entry.kind, address, entry.value) else {
-        return Ok(false);
-    };
     let wanted = match entry.kind {
         Kind::Header => address,
         _ => entry.stamp,
     };
-    Ok(objects.answer(alloc, entry.writer, call)? == Ok(wanted))
+    match objects.call_of(entry.kind, address, entry.value) {
+        Some(call) => objects.answer(alloc, entry.writer, call).expect(rt, "room") == Ok(wanted),
+        None => false,
+    }
 }
 
 // The plain objects take the entry with this stamp next.
 fn take_stamp(
+    rt: &impl Abort,
     alloc: Global,
     objects: &mut Objects,
     finished: &Finished,
     stamp: u64,
-) -> Result<bool, AllocError> {
+) -> bool {
     match entry_of(finished, stamp) {
-        Some(written) => take_entry(alloc, objects, written),
-        None => Ok(false),
+        Some(written) => take_entry(rt, alloc, objects, written),
+        None => false,
     }
 }
 
 /// The plain objects take all entries of a finished heap, by their stamps 0, 1, ..: each is what a call of its writer does, and the heap is what they leave.
 pub fn take_history(
+    rt: &impl Abort,
     alloc: Global,
     name: &str,
     finished: &Finished,
     objects: &mut Objects,
-) -> Result<(), Fail> {
+) {
     for stamp in 0..count_entries(finished) {
-        if !take_stamp(alloc, objects, finished, stamp)? {
-            return Err(Fail::new(format_args!("{name}: the entry with stamp {stamp}")));
-        }
+        let is_next = take_stamp(rt, alloc, objects, finished, stamp);
+        expect_so(rt, name, is_next, &stamp);
     }
-    expect_pages(alloc, name, finished, objects)
+    expect_pages(rt, alloc, name, finished, objects);
 }

@@ -43,10 +43,10 @@ pub fn flipped<L: Ledger, B: Builder>(
 {
     let builder = Arc::new(alloc, builder).expect(rt, case.name);
     let n = u32::from(case.mutators);
-    let Ok((space, mutators)) = flip(alloc, blank, builder, n, case.fresh_pages) else {
-        panic!(rt; "{}: not flipped", case.name);
-    };
-    (space, mutators)
+    match flip(alloc, blank, builder, n, case.fresh_pages) {
+        Ok((space, mutators)) => (space, mutators),
+        Err(_) => panic!(rt; "{}: not flipped", case.name),
+    }
 }
 
 /// How many roots the heap has.

@@ -3,6 +3,7 @@ ghost use Rattle.std.specs.Prelude.{◌≡◌};
 ghost use Rattle.comp_history.specs.Finishes.{IsOfFlip};
 ghost use Rattle.comp_mutator.specs.Mutators.{setup_of, AreMutatorsOf};
 
+use crate::expected::expect_so;
 use crate::flipped::Case;
 use comp_audit::auditing::audit;
 use comp_audit::verdict::Verdict;
@@ -23,7 +24,7 @@ fn expect_lawful(rt: &impl Abort, alloc: Global, plan: &Plan, finished: &Finishe
     let n = u32::from(case.mutators);
     let dump = Dump::of(alloc, finished, n, case.fresh_pages).expect(rt, case.name);
     let verdict = audit(alloc, plan, &dump).expect(rt, case.name);
-    assert_eq!(rt; verdict, Verdict::Yes, "{}", case.name);
+    expect_so(rt, case.name, verdict == Verdict::Yes, &verdict);
 }
 
 /// The heap, now that all mutators are back: it is finished, and lawful where this plan compacted it.
@@ -40,8 +41,9 @@ pub fn finish_lawfully<L: Ledger, B: Builder>(
     requires mutators { (setup_of space).mutators ≡ case.mutators }
     requires fresh { (setup_of space).fresh ≡ case.fresh_pages }
 {
-    let Ok(finished) = space.finish(alloc, mutators) else {
-        panic!(rt; "{}: not finished", case.name);
+    let finished = match space.finish(alloc, mutators) {
+        Ok(finished) => finished,
+        Err(_unfinished) => panic!(rt; "{}: not finished", case.name),
     };
     expect_lawful(rt, alloc, plan, &finished, case);
     finished

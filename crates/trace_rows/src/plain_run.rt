@@ -6,36 +6,42 @@ use plain_objects::call::Call;
 use plain_objects::objects::Objects;
 use plain_objects::two_live::{ROOTS, opening};
 use std::alloc::{AllocError, Global};
+use std::process::Abort;
 
 /// All objects, what the registers of up to four mutators hold, and what lines showed.
 #[derive(Drop)]
 pub struct PlainRun {
     pub objects: Objects,
-    registers: [[u64; 16]; 4],
+    registers: [u64; 64],
     pub shown: Vec<Shown>,
+}
+
+// The place of a register among those of all mutators.
+fn place(mutator: u8, register: u8) -> usize {
+    usize::from(mutator) * 16 + usize::from(register)
 }
 
 impl PlainRun {
     /// The two live objects, and nothing run.
-    pub fn new(alloc: Global, mutators: u8) -> Result<PlainRun, AllocError> {
-        Ok(PlainRun {
-            objects: opening(alloc, usize::from(mutators))?,
-            registers: [[0; 16]; 4],
+    pub fn new(rt: &impl Abort, alloc: Global, mutators: u8) -> PlainRun {
+        PlainRun {
+            objects: opening(alloc, usize::from(mutators)).expect(rt, "the two live objects"),
+            registers: [0; 64],
             shown: Vec::new(alloc),
-        })
+        }
     }
 
     /// What a register of a mutator holds.
     pub fn held(&self, mutator: u8, register: u8) -> u64 {
-        match self.registers.get(usize::from(mutator)) {
-            Some(registers) => registers.get(usize::from(register)).copied().unwrap_or(0),
+        match self.registers.get(place(mutator, register)) {
+            Some(word) => *word,
             None => 0,
         }
     }
 
     fn set(&mut self, mutator: u8, register: u8, value: u64) {
-        if let Some(registers) = self.registers.get_mut(usize::from(mutator)) {
-            set_register(registers, register, value);
+        if let Some(word) = self.registers.get_mut(place(mutator, register)) {
+            *word = value;
         }
     }
 
@@ -92,25 +98,20 @@ impl PlainRun {
     }
 
     /// Sets the register of line `number`, or keeps what it shows.
-    pub fn keep(&mut self, number: u64, line: Line, answer: u64) -> Result<(), AllocError> {
+    pub fn keep(&mut self, rt: &impl Abort, number: u64, line: Line, answer: u64) {
         match line.action {
-            Action::Root { to, .. } => self.set(line.mutator, to, answer),
-            Action::Load { to, .. } => self.set(line.mutator, to, answer),
-            Action::New { to, .. } => self.set(line.mutator, to, answer),
-            Action::Nil { to } => self.set(line.mutator, to, answer),
-            Action::Get { .. } => self.shown.push(Shown {
-                line: number,
-                value: answer,
-            })?,
-            Action::Store { .. } => {}
-            Action::Put { .. } => {}
+            Action::Root { to, .. }
+            | Action::Load { to, .. }
+            | Action::New { to, .. }
+            | Action::Nil { to } => self.set(line.mutator, to, answer),
+            Action::Get { .. } => {
+                let shown = Shown {
+                    line: number,
+                    value: answer,
+                };
+                self.shown.push(shown).expect(rt, "a value more");
+            }
+            _ => {}
         }
-        Ok(())
-    }
-}
-
-fn set_register(registers: &mut [u64; 16], register: u8, value: u64) {
-    if let Some(word) = registers.get_mut(usize::from(register)) {
-        *word = value;
     }
 }

@@ -1,24 +1,20 @@
 //! Races: what lines show and refuse, in threads of their own. Each row is a text that is raced by all its mutators, and the size of the finished heap.
-ghost use Rattle.std.specs.Prelude.{◌≡◌};
-
+use crate::expected::{expect_plan, expect_so};
 use crate::flipped::Case;
 use crate::ran::raced;
+use crate::replays::plan_of_three;
 use comp_mutator::finishing::Finished;
 use comp_mutator::refusal::Refusal;
 use comp_trace::fault::Stop;
 use comp_trace::race::Run;
 use heap_layout::header::Header;
-use page_plan::builder::Builder;
 use page_plan::plan::Plan;
 use std::alloc::Global;
 use std::marker::Brand;
 use std::process::Abort;
-use std::sync::Wait;
-use std::sync::ledger::{Blank, Ledger};
-use std::test::Fail;
-use std::thread::Threads;
+use std::sync::ledger::Blank;
 use worked_heaps::builders::Meeting;
-use worked_heaps::heaps::{F, heap, planned, three};
+use worked_heaps::heaps::{F, heap, planned};
 
 // What a mutator is to show, and its line that is to be refused, if any.
 struct Wanted {
@@ -181,60 +177,48 @@ fn is_run(run: &Run, wanted: &Wanted) -> bool {
 }
 
 // All runs are what the row wants, and so is the size of the heap.
-fn expect_row(row: &Row, runs: &[Run], finished: &Finished) -> Result<(), Fail> {
+fn expect_row(rt: &impl Abort, row: &Row, runs: &[Run], finished: &Finished) {
     let live = finished.live_words();
     let mut same = runs.len() == row.runs.len() && live == row.live_words;
     for (run, wanted) in runs.iter().zip(row.runs) {
         same = same && is_run(run, wanted);
     }
-    if same {
-        Ok(())
-    } else {
-        Err(Fail::new(format_args!("{}: {runs:?}, {live} words", row.case.name)))
-    }
-}
-
-// The text of a row is raced on the heap of this builder, and the heap finished.
-fn race_row<L: Ledger + Send + Sync, B: Builder, R: Abort + Threads + Wait + Sync>(
-    rt: &R,
-    alloc: Global,
-    blank: Blank,
-    row: &Row,
-    builder: B,
-    plan: &Plan,
-) -> Result<(), Fail>
-    requires name { blank.name ≡ L.name }
-    requires parts { blank.parts ≡ L.parts }
-    requires count { blank.parts ≡ row.now.case.mutators }
-{
-    let (runs, finished) = raced::<L, B, R>(rt, alloc, blank, row.case, builder, plan);
-    expect_row(row, &runs, &finished)
+    expect_so(rt, row.case.name, same, &(runs, live));
 }
 
 #[test]
-fn races_on_three(rt: HostRuntime) -> Result<(), Fail> {
+fn races_on_three(rt: HostRuntime) {
     let alloc = rt.alloc();
-    let plan = planned(alloc, three(alloc)?)?;
+    let plan = plan_of_three(&rt, alloc);
     for row in ROWS {
+        let builder = plan_of_three(&rt, alloc);
         let blank = Blank::new(u64::from(row.case.mutators));
-        let builder = planned(alloc, three(alloc)?)?;
-        race_row::<Brand, Plan, HostRuntime>(&rt, alloc, blank, row, builder, &plan)?;
+        let (runs, finished) = raced::<Brand, Plan, HostRuntime>(
+            &rt, alloc, blank, row.case, builder, &plan,
+        );
+        expect_row(&rt, row, &runs, &finished);
     }
-    Ok(())
 }
 
 // The plan of one object of 255 data words, which are 0.
-fn zeros(alloc: Global) -> Result<Plan, Fail> {
-    let mut words = vec![in alloc; 0u64; 255]?;
-    words.insert(0, Header::new(0, 255, 0).word())?;
-    planned(alloc, heap(alloc, &words, &[0], &[F])?)
+fn zeros(rt: &impl Abort, alloc: Global) -> Plan {
+    let mut words = [0u64; 256];
+    words[0] = Header::new(0, 255, 0).word();
+    match heap(alloc, &words, &[0], &[F]) {
+        Ok(heap) => expect_plan(rt, planned(alloc, heap)),
+        Err(_fail) => panic!(rt; "no heap"),
+    }
 }
 
 #[test]
-fn runs_lines_side_by_side(rt: HostRuntime) -> Result<(), Fail> {
+fn runs_lines_side_by_side(rt: HostRuntime) {
     let alloc = rt.alloc();
-    let plan = zeros(alloc)?;
-    let builder = Meeting::new(zeros(alloc)?);
-    let blank = Blank::new(u64::from(SIDE_BY_SIDE.case.mutators));
-    race_row::<Brand, Meeting, HostRuntime>(&rt, alloc, blank, SIDE_BY_SIDE, builder, &plan)
+    let plan = zeros(&rt, alloc);
+    let builder = Meeting::new(zeros(&rt, alloc));
+    let case = SIDE_BY_SIDE.case;
+    let blank = Blank::new(u64::from(case.mutators));
+    let (runs, finished) = raced::<Brand, Meeting, HostRuntime>(
+        &rt, alloc, blank, case, builder, &plan,
+    );
+    expect_row(&rt, SIDE_BY_SIDE, &runs, &finished);
 }

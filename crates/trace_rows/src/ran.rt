@@ -29,9 +29,9 @@ pub fn replayed<L: Ledger>(
     requires parts { blank.parts ≡ L.parts }
     requires count { blank.parts ≡ case.mutators }
 {
-    let (space, mut mutators) = flipped::<L, _>(rt, alloc, blank, builder, case);
-    let roots = root_count(rt, &space);
     let n = case.mutators;
+    let (space, mut mutators) = flipped::<L, Plan>(rt, alloc, blank, builder, case);
+    let roots = root_count(rt, &space);
     let run = replay_text(alloc, case.text, n, roots, &space, &mut mutators);
     let finished = finish_lawfully(rt, alloc, case, plan, space, mutators);
     (run, finished)
@@ -52,10 +52,11 @@ pub fn raced<L: Ledger + Send + Sync, B: Builder, R: Abort + Threads + Wait + Sy
 {
     let (space, mutators) = flipped::<L, B>(rt, alloc, blank, builder, case);
     let trace = read_for(rt, alloc, &space, case);
-    let Ok(raced) = race(alloc, rt, &trace, &space, mutators) else {
-        panic!(rt; "{}: no memory", case.name);
-    };
-    let Raced { mutators, runs } = raced;
-    let finished = finish_lawfully(rt, alloc, case, plan, space, mutators);
-    (runs, finished)
+    match race(alloc, rt, &trace, &space, mutators) {
+        Ok(Raced { mutators, runs }) => {
+            let finished = finish_lawfully(rt, alloc, case, plan, space, mutators);
+            (runs, finished)
+        }
+        Err(_not_raced) => panic!(rt; "{}: no memory", case.name),
+    }
 }

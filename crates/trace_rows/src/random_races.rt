@@ -1,11 +1,10 @@
 //! Traces that look random, raced by one mutator, just as objects kept plainly have it, and by several, and the history that they leave.
-ghost use Rattle.std.specs.Prelude.{◌≡◌};
-
 use crate::drawn::Drawn;
+use crate::expected::{expect_plan, expect_so};
 use crate::finished::{expect_pages, take_history};
-use crate::flipped::Case;
 use crate::ran::raced;
-use crate::random_traces::drawn;
+use crate::random_traces::{case_of, drawn};
+use comp_journal::entry::Entry;
 use comp_mutator::finishing::Finished;
 use comp_mutator::refusal::Refusal;
 use comp_trace::fault::Stop;
@@ -17,12 +16,11 @@ use heap_layout::kind::Kind;
 use page_plan::plan::Plan;
 use plain_objects::objects::Objects;
 use plain_objects::two_live::{opening, two_live};
-use std::alloc::{AllocError, Global};
+use std::alloc::Global;
 use std::marker::Brand;
 use std::process::Abort;
 use std::sync::Wait;
-use std::sync::ledger::{Blank, Ledger};
-use std::test::Fail;
+use std::sync::ledger::Blank;
 use std::thread::Threads;
 
 // How many mutators race, and how many traces are drawn for them.
@@ -39,25 +37,12 @@ const STOPS: [Refusal; 4] = [
 /// The data words of the two live objects, and those of a new object.
 const FIRST_VALUES: [u64; 4] = [10, 30, 31, 0];
 
-// The lines that a mutator ran: its own, before the one that was refused, if any, each with its number.
-fn lines_of(
-    alloc: Global,
-    lines: &[Line],
+// A mutator's number and run, and what all mutators wrote.
+#[derive(Clone, Copy)]
+struct Deeds<'a> {
     mutator: u8,
-    run: &Run,
-) -> Result<Vec<(u64, Action)>, AllocError> {
-    let end = match run.fault {
-        Some(stop) => stop.line,
-        None => u64::MAX,
-    };
-    let mut own = Vec::new(alloc);
-    for (at, line) in lines.iter().enumerate() {
-        let number = (at as u64).wrapping_add(1);
-        if line.mutator == mutator && number < end {
-            own.push((number, line.action))?;
-        }
-    }
-    Ok(own)
+    run: &'a Run,
+    objects: &'a Objects,
 }
 
 // What a line writes: of a reference it is not told which.
@@ -75,47 +60,26 @@ fn write_of(action: Action) -> Option<(Kind, u64)> {
     }
 }
 
-// What a mutator wrote, in its order: of a reference it is not told which.
-fn writes_of(
-    alloc: Global,
-    objects: &Objects,
-    mutator: u8,
-) -> Result<Vec<(Kind, u64)>, AllocError> {
-    let mut writes = Vec::new(alloc);
+// An entry, of which it is not told to which object a reference leads.
+fn told(entry: Entry) -> (Kind, u64) {
+    match entry.kind {
+        Kind::Reference => (Kind::Reference, 0),
+        kind => (kind, entry.value),
+    }
+}
+
+// What a mutator wrote when it had written `count` times.
+fn write_at(objects: &Objects, mutator: u8, count: usize) -> Option<(Kind, u64)> {
+    let mut left = count;
     for written in &objects.written {
-        let entry = written.entry;
-        if entry.writer == mutator {
-            let value = match entry.kind {
-                Kind::Reference => 0,
-                _ => entry.value,
-            };
-            writes.push((entry.kind, value))?;
+        if written.entry.writer == mutator {
+            if left == 0 {
+                return Some(told(written.entry));
+            }
+            left = left.wrapping_sub(1);
         }
     }
-    Ok(writes)
-}
-
-// What lines write, in their order.
-fn all_writes(alloc: Global, own: &[(u64, Action)]) -> Result<Vec<(Kind, u64)>, AllocError> {
-    let mut writes = Vec::new(alloc);
-    for (_, action) in own {
-        if let Some(write) = write_of(*action) {
-            writes.push(write)?;
-        }
-    }
-    Ok(writes)
-}
-
-// The mutator wrote what the lines say that it ran, in their order.
-fn are_writes(
-    alloc: Global,
-    own: &[(u64, Action)],
-    objects: &Objects,
-    mutator: u8,
-) -> Result<bool, AllocError> {
-    let wanted = all_writes(alloc, own)?;
-    let writes = writes_of(alloc, objects, mutator)?;
-    Ok(writes.as_slice() == wanted.as_slice())
+    None
 }
 
 // The value was there at the beginning, or was written.
@@ -128,130 +92,140 @@ fn is_known(objects: &Objects, value: u64) -> bool {
     known
 }
 
-// The numbers of the lines that read a data field.
-fn reads_of(alloc: Global, own: &[(u64, Action)]) -> Result<Vec<u64>, AllocError> {
-    let mut reads = Vec::new(alloc);
-    for (number, action) in own {
-        if let Action::Get { .. } = action {
-            reads.push(*number)?;
-        }
+// The value that a mutator showed when it had shown `count` values is that of line `number`, and was there or was written.
+fn is_shown(deeds: Deeds, count: usize, number: u64) -> bool {
+    match deeds.run.shown.get(count) {
+        Some(shown) => shown.line == number && is_known(deeds.objects, shown.value),
+        None => false,
     }
-    Ok(reads)
 }
 
-// Each of the lines that read a data field showed a value that was there or was written, and no other line showed one.
-fn are_shown(shown: &[Shown], reads: &[u64], objects: &Objects) -> bool {
-    let mut same = shown.len() == reads.len();
-    for (shown, number) in shown.iter().zip(reads) {
-        same = same && shown.line == *number && is_known(objects, shown.value);
+// What line `number` shows or writes is what its mutator did next, behind so many values that it showed and so many writes.
+fn is_next(
+    deeds: Deeds,
+    shown: &mut usize,
+    written: &mut usize,
+    number: u64,
+    action: Action,
+) -> bool {
+    if let Action::Get { .. } = action {
+        let count = *shown;
+        *shown = count.wrapping_add(1);
+        return is_shown(deeds, count, number);
     }
-    same
+    let write = write_of(action);
+    if write.is_none() {
+        return true;
+    }
+    let count = *written;
+    *written = count.wrapping_add(1);
+    write_at(deeds.objects, deeds.mutator, count) == write
+}
+
+// A mutator showed just so many values, and wrote so often.
+fn is_all(deeds: Deeds, shown: usize, written: usize) -> bool {
+    deeds.run.shown.len() == shown && write_at(deeds.objects, deeds.mutator, written).is_none()
+}
+
+// What a mutator showed and wrote is what the lines say that it ran, in their order: its own, before the one that was refused, if any.
+fn is_told(lines: &[Line], deeds: Deeds) -> bool {
+    let end = match deeds.run.fault {
+        Some(stop) => stop.line,
+        None => u64::MAX,
+    };
+    let mut shown = 0;
+    let mut written = 0;
+    let mut same = true;
+    for (at, line) in lines.iter().enumerate() {
+        let number = (at as u64).wrapping_add(1);
+        if line.mutator == deeds.mutator && number < end {
+            same = is_next(deeds, &mut shown, &mut written, number, line.action) && same;
+        }
+    }
+    same && is_all(deeds, shown, written)
 }
 
 // A refused line is the mutator's own, and the refusal is one that a line can have which waits and has memory.
 fn is_own_stop(lines: &[Line], mutator: u8, stop: Stop) -> bool {
     let at = stop.line.wrapping_sub(1) as usize;
-    let is_own = match lines.get(at) {
-        Some(line) => line.mutator == mutator,
+    match lines.get(at) {
+        Some(line) => line.mutator == mutator && STOPS.contains(&stop.refusal),
         None => false,
-    };
-    is_own && STOPS.contains(&stop.refusal)
+    }
 }
 
-// What a mutator wrote and showed is what its lines say.
-fn is_run(
-    alloc: Global,
-    lines: &[Line],
-    mutator: u8,
-    run: &Run,
-    objects: &Objects,
-) -> Result<bool, AllocError> {
-    let own = lines_of(alloc, lines, mutator, run)?;
-    let reads = reads_of(alloc, &own)?;
-    let is_stop = match run.fault {
-        Some(stop) => is_own_stop(lines, mutator, stop),
+// What a mutator did is what its lines say.
+fn is_run(lines: &[Line], deeds: Deeds) -> bool {
+    let is_stop = match deeds.run.fault {
+        Some(stop) => is_own_stop(lines, deeds.mutator, stop),
         None => true,
     };
-    Ok(
-        is_stop
-            && are_shown(&run.shown, &reads, objects)
-            && are_writes(alloc, &own, objects, mutator)?,
-    )
+    is_stop && is_told(lines, deeds)
 }
 
 // What each mutator wrote and showed is what its lines say.
-fn expect_runs(alloc: Global, drawn: &Drawn, runs: &[Run], objects: &Objects) -> Result<(), Fail> {
+fn expect_runs(rt: &impl Abort, drawn: &Drawn, runs: &[Run], objects: &Objects) {
     for (k, run) in runs.iter().enumerate() {
-        if !is_run(alloc, &drawn.lines, (k % 256) as u8, run, objects)? {
-            return Err(Fail::new(format_args!("{}: mutator {k}: {run:?}", drawn.name)));
-        }
+        let mutator = (k % 256) as u8;
+        let deeds = Deeds {
+            mutator,
+            run,
+            objects,
+        };
+        expect_so(rt, &drawn.name, is_run(&drawn.lines, deeds), &(k, run));
     }
-    Ok(())
 }
 
 // A mutator that is alone showed the values of the plain run, and stopped where that did.
-fn expect_alone(drawn: &Drawn, runs: &[Run]) -> Result<(), Fail> {
+fn expect_alone(rt: &impl Abort, drawn: &Drawn, runs: &[Run]) {
     for run in runs {
-        if run.shown.as_slice() != drawn.run.shown.as_slice() || run.fault != drawn.stop {
-            return Err(Fail::new(format_args!("{}: {run:?}", drawn.name)));
-        }
+        let same = run.shown.as_slice() == drawn.run.shown.as_slice() && run.fault == drawn.stop;
+        expect_so(rt, &drawn.name, same, run);
     }
-    Ok(())
 }
 
 // The finished heap has one history, which is what `n` mutators ran; of one that is alone it is the plain run.
 fn expect_raced(
+    rt: &impl Abort,
     alloc: Global,
     drawn: &Drawn,
     n: u8,
     runs: &[Run],
     finished: &Finished,
-) -> Result<(), Fail> {
-    if runs.len() != usize::from(n) {
-        return Err(Fail::new(format_args!("{}: {runs:?}", drawn.name)));
-    }
+) {
+    expect_so(rt, &drawn.name, runs.len() == usize::from(n), &runs);
     if n == 1 {
-        expect_alone(drawn, runs)?;
-        expect_pages(alloc, &drawn.name, finished, &drawn.run.objects)?;
+        expect_alone(rt, drawn, runs);
+        expect_pages(rt, alloc, &drawn.name, finished, &drawn.run.objects);
     }
-    let mut objects = opening(alloc, usize::from(n))?;
-    take_history(alloc, &drawn.name, finished, &mut objects)?;
-    expect_runs(alloc, drawn, runs, &objects)
+    let mut objects = opening(alloc, usize::from(n)).expect(rt, "the two live objects");
+    take_history(rt, alloc, &drawn.name, finished, &mut objects);
+    expect_runs(rt, drawn, runs, &objects);
 }
 
-// The trace of this seed, raced by `n` mutators, and the finished heap.
-fn race_drawn<L: Ledger + Send + Sync, R: Abort + Threads + Wait + Sync>(
+// The trace of this seed, raced by `n` mutators on the heap of this builder, and the finished heap.
+fn race_drawn<R: Abort + Threads + Wait + Sync>(
     rt: &R,
     alloc: Global,
-    blank: Blank,
+    builder: Plan,
     plan: &Plan,
     n: u8,
     seed: u64,
-) -> Result<(), Fail>
-    requires name { blank.name ≡ L.name }
-    requires parts { blank.parts ≡ L.parts }
-    requires count { blank.parts ≡ n }
-{
-    let builder = two_live(alloc)?;
+) {
     let drawn = drawn(rt, alloc, n, seed);
-    let case = Case {
-        name: &drawn.name,
-        mutators: n,
-        fresh_pages: 6,
-        text: drawn.text.as_bytes(),
-    };
-    let (runs, finished) = raced::<L, Plan, R>(rt, alloc, blank, case, builder, plan);
-    expect_raced(alloc, &drawn, n, &runs, &finished)
+    let case = case_of(&drawn, n);
+    let blank = Blank::new(u64::from(case.mutators));
+    let (runs, finished) = raced::<Brand, Plan, R>(rt, alloc, blank, case, builder, plan);
+    expect_raced(rt, alloc, &drawn, n, &runs, &finished);
 }
 
 #[test]
-fn races_to_one_history(rt: HostRuntime) -> Result<(), Fail> {
-    let plan = two_live(rt.alloc())?;
+fn races_to_one_history(rt: HostRuntime) {
+    let plan = expect_plan(&rt, two_live(rt.alloc()));
     for (n, seeds) in RACES {
         for seed in 0..*seeds {
-            let blank = Blank::new(u64::from(*n));
-            race_drawn::<Brand, HostRuntime>(&rt, rt.alloc(), blank, &plan, *n, seed)?;
+            let builder = expect_plan(&rt, two_live(rt.alloc()));
+            race_drawn(&rt, rt.alloc(), builder, &plan, *n, seed);
         }
     }
-    Ok(())
 }

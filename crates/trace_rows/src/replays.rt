@@ -1,6 +1,5 @@
 //! Replays: what lines show, write and refuse, one after the other. Each row is a text that is replayed on the three objects, and the finished heap.
-ghost use Rattle.std.specs.Prelude.{◌≡◌};
-
+use crate::expected::{expect_plan, expect_so};
 use crate::flipped::Case;
 use crate::ran::replayed;
 use comp_journal::entry::Entry;
@@ -14,8 +13,7 @@ use page_plan::plan::Plan;
 use std::alloc::{AllocError, Global};
 use std::marker::Brand;
 use std::process::Abort;
-use std::sync::ledger::{Blank, Ledger};
-use std::test::Fail;
+use std::sync::ledger::Blank;
 use worked_heaps::heaps::{planned, three};
 
 // A text, and what is to come of it.
@@ -195,20 +193,17 @@ const ROWS: &[Row] = &[
 
 /// The replay showed this, and stopped for this cause, if any.
 pub fn expect_replay(
+    rt: &impl Abort,
     name: &str,
     run: &Result<Vec<Shown>, Stopped>,
     shown: &[Shown],
     fault: Option<TraceFault>,
-) -> Result<(), Fail> {
+) {
     let same = match run {
         Ok(all) => all.as_slice() == shown && fault.is_none(),
         Err(stopped) => stopped.shown.as_slice() == shown && fault == Some(stopped.fault),
     };
-    if same {
-        Ok(())
-    } else {
-        Err(Fail::new(format_args!("{name}: {run:?}")))
-    }
+    expect_so(rt, name, same, run);
 }
 
 // This page has just this entry.
@@ -220,66 +215,55 @@ fn has_entry(finished: &Finished, p: usize, wanted: Entry) -> bool {
 }
 
 // The finished heap has so many words, and these entries.
-fn expect_finished(row: &Row, finished: &Finished) -> Result<(), Fail> {
+fn expect_finished(rt: &impl Abort, row: &Row, finished: &Finished) {
     let mut same = finished.live_words() == row.live_words;
     for (p, wanted) in row.entries {
         same = same && has_entry(finished, *p, *wanted);
     }
-    if same {
-        Ok(())
-    } else {
-        Err(Fail::new(format_args!("{}: {:?}", row.case.name, finished.pages())))
-    }
-}
-
-// The text of the row showed, wrote and left what the row says.
-fn expect_row(
-    row: &Row,
-    run: &Result<Vec<Shown>, Stopped>,
-    finished: &Finished,
-) -> Result<(), Fail> {
-    expect_replay(row.case.name, run, row.shown, row.fault)?;
-    expect_finished(row, finished)
+    expect_so(rt, row.case.name, same, &finished.pages());
 }
 
 // The text of a row.
 fn text_of(alloc: Global, row: &Row) -> Result<Vec<u8>, AllocError> {
     let mut text = row.case.text.to_vec(alloc)?;
-    for _ in 0..row.puts {
-        text.extend_from_slice(b"0 put 1 0 7\n")?;
-    }
+    push_puts(&mut text, row.puts)?;
     Ok(text)
 }
 
-// The text of a row is replayed on the three objects, and the heap finished.
-fn replay_row<L: Ledger>(
-    rt: &impl Abort,
-    alloc: Global,
-    blank: Blank,
-    plan: &Plan,
-    row: &Row,
-) -> Result<(), Fail>
-    requires name { blank.name ≡ L.name }
-    requires parts { blank.parts ≡ L.parts }
-    requires count { blank.parts ≡ row.now.case.mutators }
-{
-    let builder = planned(alloc, three(alloc)?)?;
+// So many writes.
+fn push_puts(text: &mut Vec<u8>, count: usize) -> Result<(), AllocError> {
+    for _ in 0..count {
+        text.extend_from_slice(b"0 put 1 0 7\n")?;
+    }
+    Ok(())
+}
+
+// The text of a row is replayed on the heap of this builder, and the heap finished.
+fn replay_row(rt: &impl Abort, alloc: Global, builder: Plan, plan: &Plan, row: &Row) {
     let text = text_of(alloc, row).expect(rt, row.case.name);
     let case = Case {
         text: &text,
         ..row.case
     };
-    let (run, finished) = replayed::<L>(rt, alloc, blank, case, builder, plan);
-    expect_row(row, &run, &finished)
+    let blank = Blank::new(u64::from(row.case.mutators));
+    let (run, finished) = replayed::<Brand>(rt, alloc, blank, case, builder, plan);
+    expect_replay(rt, row.case.name, &run, row.shown, row.fault);
+    expect_finished(rt, row, &finished);
+}
+
+/// The plan of the three objects.
+pub fn plan_of_three(rt: &impl Abort, alloc: Global) -> Plan {
+    match three(alloc) {
+        Ok(heap) => expect_plan(rt, planned(alloc, heap)),
+        Err(_fail) => panic!(rt; "no heap"),
+    }
 }
 
 #[test]
-fn replays_on_three(rt: HostRuntime) -> Result<(), Fail> {
+fn replays_on_three(rt: HostRuntime) {
     let alloc = rt.alloc();
-    let plan = planned(alloc, three(alloc)?)?;
+    let plan = plan_of_three(&rt, alloc);
     for row in ROWS {
-        let blank = Blank::new(u64::from(row.case.mutators));
-        replay_row::<Brand>(&rt, alloc, blank, &plan, row)?;
+        replay_row(&rt, alloc, plan_of_three(&rt, alloc), &plan, row);
     }
-    Ok(())
 }

@@ -1,10 +1,11 @@
 //! Texts of traces: those that are none, what the others say, and how faults are printed.
+use crate::expected::expect_so;
 use comp_mutator::refusal::Refusal;
 use comp_trace::fault::{Stop, TraceFault};
 use comp_trace::line::{Action, Line};
 use comp_trace::parsing::parse;
 use std::alloc::Global;
-use std::test::Fail;
+use std::process::Abort;
 
 // A text that is no trace of two mutators and one root, and the cause.
 struct Row {
@@ -13,8 +14,8 @@ struct Row {
     fault: TraceFault,
 }
 
-// Lines that are none.
-const BAD_LINES: &[Row] = &[
+// Lines that are none, and, behind them, numbers past their bounds.
+const NO_TRACES: &[Row] = &[
     Row {
         name: "two spaces",
         text: b"0  nil 0\n",
@@ -85,10 +86,6 @@ const BAD_LINES: &[Row] = &[
         text: b"0 nil 0\n\n",
         fault: TraceFault::BadLine(2),
     },
-];
-
-// Numbers past their bounds.
-const PAST_BOUNDS: &[Row] = &[
     Row {
         name: "mutator 2",
         text: b"2 nil 0\n",
@@ -231,80 +228,58 @@ const PRINTED: &[(TraceFault, &str)] = &[
 ];
 
 // The text is no trace of two mutators and one root, for this cause.
-fn expect_fault(alloc: Global, name: &str, text: &[u8], fault: TraceFault) -> Result<(), Fail> {
-    match parse(alloc, text, 2, 1) {
-        Err(found) => {
-            if found == fault {
-                Ok(())
-            } else {
-                Err(Fail::new(format_args!("{name}: {found}")))
-            }
-        }
-        Ok(_) => Err(Fail::new(format_args!("{name}: a trace"))),
-    }
-}
-
-// The texts are none, each for its cause.
-fn expect_faults(alloc: Global, rows: &[Row]) -> Result<(), Fail> {
-    for row in rows {
-        expect_fault(alloc, row.name, row.text, row.fault)?;
-    }
-    Ok(())
+fn expect_fault(rt: &impl Abort, alloc: Global, name: &str, text: &[u8], fault: TraceFault) {
+    let found = match parse(alloc, text, 2, 1) {
+        Ok(_) => None,
+        Err(found) => Some(found),
+    };
+    expect_so(rt, name, found == Some(fault), &found);
 }
 
 #[test]
-fn tells_texts_that_are_none(rt: HostRuntime) -> Result<(), Fail> {
-    expect_faults(rt.alloc(), BAD_LINES)?;
-    expect_faults(rt.alloc(), PAST_BOUNDS)?;
-    expect_long_number(rt.alloc())
+fn tells_texts_that_are_none(rt: HostRuntime) {
+    for row in NO_TRACES {
+        expect_fault(&rt, rt.alloc(), row.name, row.text, row.fault);
+    }
+    expect_long_number(&rt, rt.alloc());
 }
 
 // A number of any length is read.
-fn expect_long_number(alloc: Global) -> Result<(), Fail> {
-    let mut text = b"0 get 0 ".to_vec(alloc)?;
-    for _ in 0..100_000 {
-        text.push(b'9')?;
-    }
-    text.push(b'\n')?;
+fn expect_long_number(rt: &impl Abort, alloc: Global) {
+    let mut text = b"0 get 0 ".to_vec(alloc).expect(rt, "a text");
+    text.resize(100_008, b'9').expect(rt, "a long text");
+    text.push(b'\n').expect(rt, "a line");
     let fault = TraceFault::NumberTooLarge(1);
-    expect_fault(alloc, "a number of 100,000 digits", &text, fault)
+    expect_fault(rt, alloc, "a number of 100,000 digits", &text, fault);
 }
 
 // The text is a trace of these lines.
-fn expect_lines(alloc: Global, text: &[u8], lines: &[Line]) -> Result<(), Fail> {
-    let trace = parse(alloc, text, 2, 1)?;
-    if trace.lines() == lines {
-        Ok(())
-    } else {
-        Err(Fail::new(format_args!("{:?}", trace.lines())))
-    }
+fn expect_lines(rt: &impl Abort, alloc: Global, text: &[u8], lines: &[Line]) {
+    let trace = parse(alloc, text, 2, 1).expect(rt, "a trace");
+    expect_so(rt, "lines", trace.lines() == lines, &trace.lines());
 }
 
 #[test]
-fn reads_no_lines_and_each_kind(rt: HostRuntime) -> Result<(), Fail> {
-    expect_lines(rt.alloc(), b"", &[])?;
-    expect_lines(rt.alloc(), EACH_KIND, LINES)
+fn reads_no_lines_and_each_kind(rt: HostRuntime) {
+    expect_lines(&rt, rt.alloc(), b"", &[]);
+    expect_lines(&rt, rt.alloc(), EACH_KIND, LINES);
 }
 
 // The fault is printed so.
-fn expect_printed(alloc: Global, fault: TraceFault, text: &str) -> Result<(), Fail> {
-    let printed = fault.to_string(alloc)?;
-    if printed.as_str() == text {
-        Ok(())
-    } else {
-        Err(Fail::new(format_args!("{printed}, and not {text}")))
-    }
+fn expect_printed(rt: &impl Abort, alloc: Global, fault: TraceFault, text: &str) {
+    let printed = fault.to_string(alloc).expect(rt, text);
+    expect_so(rt, text, printed.as_str() == text, &printed);
 }
 
 #[test]
-fn prints_faults(rt: HostRuntime) -> Result<(), Fail> {
+fn prints_faults(rt: HostRuntime) {
     for (fault, text) in PRINTED {
-        expect_printed(rt.alloc(), *fault, text)?;
+        expect_printed(&rt, rt.alloc(), *fault, text);
     }
     let stop = Stop {
         line: 7,
         refusal: Refusal::NotAStart(8_589_934_593),
     };
     let text = "T6 Refused(7, M2 NotAStart(8589934593))";
-    expect_printed(rt.alloc(), TraceFault::from(stop), text)
+    expect_printed(&rt, rt.alloc(), TraceFault::from(stop), text);
 }
