@@ -12,8 +12,8 @@ use Rattle.cell_steps.specs.declared.steps.Steps.{Steps}
 use Rattle.page_cells.specs.Cells.{AreNew}
 use Rattle.comp_history.specs.Finishes.{history_of, live_of, IsFinished}
 use Rattle.comp_history.specs.declared.finished.Finished.{Finished}
-use Rattle.comp_mutator.specs.declared.refusal.Refusal.{Refusal as CallRefusal}
-use Rattle.comp_mutator.specs.declared.refusal.Refusal.TheVariants as refusals
+use Rattle.comp_access.specs.declared.refusal.Refusal.{Refusal as CallRefusal}
+use Rattle.comp_access.specs.declared.refusal.Refusal.TheVariants as refusals
 use Rattle.comp_trace.specs.Bytes.{flipped}
 use Rattle.comp_trace.specs.Races.{numbered, own_lines, Ran}
 use Rattle.comp_trace.specs.declared.fault.TraceFault.{TraceFault}

@@ -16,7 +16,7 @@ use Rattle.comp_history.specs.Shares.{allocated}
 use Rattle.comp_history.specs.Finishes.{builds_in, live_of, pages_of, roots_of}
 use Rattle.comp_history.specs.Finishes as finishes
 use Rattle.comp_history.specs.declared.finished.Finished.{Finished}
-use Rattle.comp_mutator.specs.declared.refusal.Refusal.TheVariants as refusals
+use Rattle.comp_access.specs.declared.refusal.Refusal.TheVariants as refusals
 use Rattle.comp_trace.specs.Builds.{built_by}
 use Rattle.comp_trace.specs.Bytes.{flipped, no_entries, Interrupts}
 use Rattle.comp_trace.specs.Runs.{beginning, Moment, Runs}

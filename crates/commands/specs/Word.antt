@@ -4,7 +4,7 @@ use Rattle.std.specs.Io.KnownBytes.{Appends}
 use Rattle.heap_layout.specs.Heap.{Heap, live}
 use Rattle.heap_layout.specs.Encoding.{Refuses}
 use Rattle.page_plan.specs.Sliding.{slid_words, pages}
-use Rattle.comp_mutator.specs.declared.refusal.Refusal.TheVariants as mutators
+use Rattle.comp_access.specs.declared.refusal.Refusal.TheVariants as mutators
 use Rattle.commands.specs.Images.{IsImageOf}
 use Rattle.commands.specs.Printing.{line_of}
 use Rattle.commands.specs.declared.refusal.Refusal.{Refusal}

@@ -1,9 +1,9 @@
 ghost use Rattle.std.specs.Prelude.{◌≡◌, Some, codes};
 ghost use Rattle.commands.specs.declared.refusal.Refusal.TheVariants as refusal;
 
+use comp_access::refusal as mutators;
 use comp_audit::verdict::AuditFault;
 use comp_dump::fault::DumpFault;
-use comp_mutator::refusal as mutators;
 use comp_sweep::refusal::SweepFault;
 use comp_trace::fault::TraceFault;
 use heap_layout::fault::{self, LayoutFault};

@@ -10,10 +10,11 @@ ghost use Rattle.commands.specs.Replays.{IsHalted, IsReplayedHeap};
 ghost use Rattle.commands.specs.Texts.{HasLines};
 
 use crate::refusal::Refusal;
+use comp_access::refusal::Refusal as MutatorRefusal;
 use comp_mutator::finishing::{FinishFault, Finished};
 use comp_mutator::flipping::flip;
 use comp_mutator::mutator::Mutator;
-use comp_mutator::refusal::{FlipFault, Refusal as MutatorRefusal};
+use comp_mutator::refusal::FlipFault;
 use comp_mutator::space::Space;
 use comp_trace::replay::replay;
 use comp_trace::shown::Shown;

@@ -6,10 +6,10 @@ use Rattle.page_plan.specs.declared.builder.Builder.{Ghosts}
 use Rattle.cell_steps.specs.Setup.{Setup}
 use Rattle.page_cells.proofs.Growing.{grows_none, grows_then, wrote_then}
 use Rattle.comp_mutator.specs.Mutators.{pass_of, setup_of, IsMutatorOf}
-use Rattle.comp_mutator.specs.Reads.{KnowsBuilt}
+use Rattle.comp_access.specs.Reads.{KnowsBuilt}
 use Rattle.comp_mutator.specs.declared.space.Space.{Space}
 use Rattle.comp_mutator.specs.declared.mutator.Mutator.{Mutator}
-use Rattle.comp_mutator.proofs.Growing.{known_more}
+use Rattle.comp_access.proofs.Growing.{known_more}
 use Rattle.comp_sweep.specs.Regions.{SeesRegion}
 use Rattle.comp_sweep.specs.Sweeps.{Sweeps}
 use Rattle.comp_sweep.specs.Workers.{WhyStopped}

@@ -9,7 +9,7 @@ use Rattle.cell_steps.specs.Lists.{Each}
 use Rattle.cell_steps.specs.declared.pass.Pass.{Pass}
 use Rattle.page_cells.specs.Ends.{lists, IsIn}
 use Rattle.comp_mutator.specs.Mutators.{pass_of, setup_of, AreMutatorsOf, IsMutatorOf}
-use Rattle.comp_mutator.specs.Reads.{KnowsBuilt}
+use Rattle.comp_access.specs.Reads.{KnowsBuilt}
 use Rattle.comp_mutator.specs.declared.space.Space.{Space}
 use Rattle.comp_mutator.specs.declared.mutator.Mutator.{Mutator}
 use Rattle.comp_sweep.specs.Regions.{regions_of, AreAllOnce}

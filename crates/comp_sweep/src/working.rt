@@ -9,8 +9,8 @@ ghost use Rattle.comp_sweep.specs.Workers.{IsReady, WhyStopped, Works};
 
 use crate::gate::Gate;
 use crate::stopping::{Met, Sweeping};
+use comp_access::refusal::Refusal;
 use comp_mutator::mutator::Mutator;
-use comp_mutator::refusal::Refusal;
 use comp_mutator::space::Space;
 use once_cell::race::{Note, OnceBox};
 use page_plan::builder::Builder;

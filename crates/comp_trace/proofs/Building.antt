@@ -16,10 +16,10 @@ use Rattle.cell_steps.specs.declared.pass.Pass.{Pass}
 use Rattle.cell_steps.proofs.Sums.{times-other, total-append}
 use Rattle.page_cells.specs.Calls.{Grows}
 use Rattle.page_cells.specs.Objects.{page_at}
-use Rattle.comp_mutator.specs.Allocations.{own_page, used, Allocates}
-use Rattle.comp_mutator.specs.Fields.{place_of}
-use Rattle.comp_mutator.specs.Reads.{BuildsNothing, BuildsPage, MayBuild, MayBuildTouched}
-use Rattle.comp_mutator.specs.declared.refusal.Refusal.{Refusal}
+use Rattle.comp_access.specs.Allocations.{own_page, used, Allocates}
+use Rattle.comp_access.specs.Fields.{place_of}
+use Rattle.comp_access.specs.Reads.{BuildsNothing, BuildsPage, MayBuild, MayBuildTouched}
+use Rattle.comp_access.specs.declared.refusal.Refusal.{Refusal}
 use Rattle.comp_trace.specs.Builds.{built_after, built_by, is_built, slid_page, BuildsTouched}
 use Rattle.comp_trace.specs.Rounds.{Met}
 

@@ -23,10 +23,10 @@ use Rattle.cell_steps.specs.Lawful.{kinds_by, kinds_in, kinds_of_header, filled,
 use Rattle.cell_steps.specs.Locks.{Journals}
 use Rattle.page_cells.specs.Objects.{page_at, offset_at, word_at, HasHeader, HasShape, HasSlid}
 use Rattle.page_cells.proofs.Rows.{at_map, at_map_back}
-use Rattle.comp_mutator.specs.Allocations.{own_page}
-use Rattle.comp_mutator.specs.Fields.{place_of, IsFieldOf}
-use Rattle.comp_mutator.specs.Reads.{Reads}
-use Rattle.comp_mutator.proofs.OwnPages.{filled_append, on_append, own_fresh}
+use Rattle.comp_access.specs.Allocations.{own_page}
+use Rattle.comp_access.specs.Fields.{place_of, IsFieldOf}
+use Rattle.comp_access.specs.Reads.{Reads}
+use Rattle.comp_access.proofs.OwnPages.{filled_append, on_append, own_fresh}
 use Rattle.comp_trace.specs.Acting.{registers_after, shown_at}
 use Rattle.comp_trace.specs.Builds.{built_after, touched}
 use Rattle.comp_trace.specs.Runs.{beginning, unstamped, unstamped_on, used_by, with_entries, Acts, AreAlike, Does, IsDetermined, IsOneEntry, MakesObject, Moment, Runs, WritesField}

@@ -18,10 +18,10 @@ use Rattle.cell_steps.specs.declared.steps.Steps.{Steps}
 use Rattle.page_cells.specs.Objects.{page_at, offset_at, HasHeader}
 use Rattle.page_cells.proofs.Growing.{grows_none, grows_then}
 use Rattle.comp_history.specs.Merged.{written_by}
-use Rattle.comp_mutator.specs.Fields.{IsFieldOf}
-use Rattle.comp_mutator.specs.Reads.{Reads}
-use Rattle.comp_mutator.specs.Writes.{entry_by, Adds, Writes}
-use Rattle.comp_mutator.specs.Allocations.{own_page, used, Allocates}
+use Rattle.comp_access.specs.Fields.{IsFieldOf}
+use Rattle.comp_access.specs.Reads.{Reads}
+use Rattle.comp_access.specs.Writes.{entry_by, Adds, Writes}
+use Rattle.comp_access.specs.Allocations.{own_page, used, Allocates}
 use Rattle.comp_trace.specs.Acting.{Answers}
 use Rattle.comp_trace.specs.Deeds.{AreMerged, KnowsMade}
 use Rattle.comp_trace.specs.Rounds.{Advances, Learns, Met}

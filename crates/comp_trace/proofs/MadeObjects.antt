@@ -15,8 +15,8 @@ use Rattle.cell_steps.specs.declared.pass.Pass.{Pass}
 use Rattle.cell_steps.specs.Passes.{did, KnowsFresh}
 use Rattle.page_cells.specs.Calls.{Grows}
 use Rattle.page_cells.specs.Objects.{HasHeader}
-use Rattle.comp_mutator.proofs.OwnPages.{on_append}
-use Rattle.comp_mutator.specs.declared.refusal.Refusal.{Refusal}
+use Rattle.comp_access.proofs.OwnPages.{on_append}
+use Rattle.comp_access.specs.declared.refusal.Refusal.{Refusal}
 use Rattle.comp_trace.specs.Acting.{Answers, Steps}
 use Rattle.comp_trace.specs.Deeds.{Deeds, IsMerged, KnowsMade}
 use Rattle.comp_trace.specs.Rounds.{Learns}

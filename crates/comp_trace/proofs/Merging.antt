@@ -10,7 +10,7 @@ use Rattle.comp_journal.specs.declared.entry.Entry.{Entry}
 use Rattle.cell_steps.specs.Lists.{by, on, Rises, StartsWith}
 use Rattle.cell_steps.proofs.Joined.{by-append}
 use Rattle.page_cells.proofs.Meetings.{between}
-use Rattle.comp_mutator.proofs.OwnPages.{on_append}
+use Rattle.comp_access.proofs.OwnPages.{on_append}
 use Rattle.comp_trace.specs.Deeds.{Deeds, IsMerged}
 
 by_begins : (k : ℕ) (a b : List Entry) → StartsWith b a → StartsWith (by k b) (by k a)

@@ -14,9 +14,9 @@ use Rattle.cell_steps.specs.Setup.{Setup}
 use Rattle.cell_steps.specs.Passes.{MayRefer}
 use Rattle.cell_steps.specs.declared.pass.Pass.{Pass}
 use Rattle.page_cells.specs.Calls.{Grows}
-use Rattle.comp_mutator.specs.Writes.{Writes}
-use Rattle.comp_mutator.specs.declared.refusal.Refusal.{Refusal}
-use Rattle.comp_mutator.specs.declared.refusal.Refusal.TheVariants.{Busy}
+use Rattle.comp_access.specs.Writes.{Writes}
+use Rattle.comp_access.specs.declared.refusal.Refusal.{Refusal}
+use Rattle.comp_access.specs.declared.refusal.Refusal.TheVariants.{Busy}
 use Rattle.comp_trace.specs.Acting.{null_registers, registers_after, shown_at, Refuses, Steps}
 use Rattle.comp_trace.specs.Races.{numbered, own_lines, Ends, Ran, Went}
 use Rattle.comp_trace.specs.declared.line.Action.{Action}

@@ -13,10 +13,10 @@ use Rattle.cell_steps.specs.declared.pass.Pass.{Pass}
 use Rattle.cell_steps.proofs.Sums.{is_inside, there_at}
 use Rattle.page_cells.proofs.Growing.{grows_none, grows_then}
 use Rattle.comp_history.specs.Merged.{written_by}
-use Rattle.comp_mutator.proofs.OwnPages.{on_append}
+use Rattle.comp_access.proofs.OwnPages.{on_append}
 use Rattle.comp_mutator.specs.Mutators.{pass_of}
 use Rattle.comp_mutator.specs.declared.mutator.Mutator.{Mutator}
-use Rattle.comp_mutator.specs.declared.refusal.Refusal.{Refusal}
+use Rattle.comp_access.specs.declared.refusal.Refusal.{Refusal}
 use Rattle.comp_trace.specs.Acting.{null_registers, registers_after, shown_at}
 use Rattle.comp_trace.specs.Builds.{built_after, touched, BuildOn, HaveBuilt}
 use Rattle.comp_trace.specs.Deeds.{deeds_of, AreMerged, Deeds, HaveStart, IsMerged, KnowTheirs}

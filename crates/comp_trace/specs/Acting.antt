@@ -8,10 +8,10 @@ use Rattle.cell_steps.specs.Setup.{Setup}
 use Rattle.cell_steps.specs.Passes.{did, seen, MayRefer}
 use Rattle.cell_steps.specs.declared.pass.Pass.{Pass}
 use Rattle.page_cells.specs.Calls.{Grows}
-use Rattle.comp_mutator.specs.Allocations.{AllocationRefused, Allocates}
-use Rattle.comp_mutator.specs.Reads.{FieldRefused, Reads}
-use Rattle.comp_mutator.specs.Writes.{DataRefused, ReferenceRefused, Writes}
-use Rattle.comp_mutator.specs.declared.refusal.Refusal.{Refusal}
+use Rattle.comp_access.specs.Allocations.{AllocationRefused, Allocates}
+use Rattle.comp_access.specs.Reads.{FieldRefused, Reads}
+use Rattle.comp_access.specs.Writes.{DataRefused, ReferenceRefused, Writes}
+use Rattle.comp_access.specs.declared.refusal.Refusal.{Refusal}
 use Rattle.comp_trace.specs.declared.line.Action.{Action}
 use Rattle.comp_trace.specs.declared.line.Action.TheVariants.{Root, Load, Get, Store, Put, New, Nil}
 use Rattle.comp_trace.specs.declared.shown.Shown.{Shown}

@@ -12,9 +12,9 @@ use Rattle.cell_steps.specs.Passes.{builds_of, HasSeenBuilt}
 use Rattle.cell_steps.specs.Setup.{Setup}
 use Rattle.cell_steps.specs.declared.pass.Pass.{Pass}
 use Rattle.page_cells.specs.Objects.{page_at}
-use Rattle.comp_mutator.specs.Fields.{place_of}
+use Rattle.comp_access.specs.Fields.{place_of}
 use Rattle.comp_mutator.specs.Mutators.{pass_of}
-use Rattle.comp_mutator.specs.Reads.{BuildsNothing, MayBuild}
+use Rattle.comp_access.specs.Reads.{BuildsNothing, MayBuild}
 use Rattle.comp_mutator.specs.declared.mutator.Mutator.{Mutator}
 use Rattle.comp_trace.specs.declared.line.Action.{Action}
 use Rattle.comp_trace.specs.declared.line.Action.TheVariants.{Root, Load, Get, Store, Put, New, Nil}

@@ -14,7 +14,7 @@ use Rattle.page_cells.specs.Objects.{HasHeader}
 use Rattle.comp_history.specs.Merged.{written_by}
 use Rattle.comp_mutator.specs.Mutators.{pass_of}
 use Rattle.comp_mutator.specs.declared.mutator.Mutator.{Mutator}
-use Rattle.comp_mutator.specs.declared.refusal.Refusal.{Refusal}
+use Rattle.comp_access.specs.declared.refusal.Refusal.{Refusal}
 use Rattle.comp_trace.specs.Acting.{Refuses}
 use Rattle.comp_trace.specs.Grammar.{trace_of, IsReadAs}
 use Rattle.comp_trace.specs.Runs.{beginning, with_entries, Moment, Runs}

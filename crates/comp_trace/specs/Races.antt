@@ -10,7 +10,7 @@ use Rattle.page_cells.specs.Calls.{Grows}
 use Rattle.comp_mutator.specs.Mutators.{pass_of, setup_of, AreMutatorsOf}
 use Rattle.comp_mutator.specs.Orders.{number_of_mutator}
 use Rattle.comp_mutator.specs.declared.mutator.Mutator.{Mutator}
-use Rattle.comp_mutator.specs.declared.refusal.Refusal.TheVariants.{Busy}
+use Rattle.comp_access.specs.declared.refusal.Refusal.TheVariants.{Busy}
 use Rattle.comp_mutator.specs.declared.space.Space.{Space}
 use Rattle.comp_trace.specs.Acting.{null_registers, registers_after, shown_at, Refuses, Steps}
 use Rattle.comp_trace.specs.declared.fault.Stop.{Stop}

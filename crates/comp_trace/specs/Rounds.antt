@@ -13,7 +13,7 @@ use Rattle.page_cells.specs.Objects.{HasHeader}
 use Rattle.comp_history.specs.Merged.{written_by}
 use Rattle.comp_mutator.specs.Mutators.{pass_of}
 use Rattle.comp_mutator.specs.declared.mutator.Mutator.{Mutator}
-use Rattle.comp_mutator.specs.declared.refusal.Refusal.{Refusal}
+use Rattle.comp_access.specs.declared.refusal.Refusal.{Refusal}
 use Rattle.comp_trace.specs.Acting.{Refuses}
 use Rattle.comp_trace.specs.Deeds.{deeds_of, AreMerged, Deeds, HaveAll, KnowsMade, KnowTheirs}
 use Rattle.comp_trace.specs.Runs.{with_entries, Acts}

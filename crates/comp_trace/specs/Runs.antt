@@ -11,9 +11,9 @@ use Rattle.cell_steps.specs.Lists.{but, by, on}
 use Rattle.cell_steps.specs.Lawful.{filled, IsLawful}
 use Rattle.cell_steps.specs.Locks.{Journals}
 use Rattle.page_cells.specs.Objects.{page_at, offset_at}
-use Rattle.comp_mutator.specs.Fields.{IsFieldOf}
-use Rattle.comp_mutator.specs.Reads.{Reads}
-use Rattle.comp_mutator.specs.Allocations.{own_page}
+use Rattle.comp_access.specs.Fields.{IsFieldOf}
+use Rattle.comp_access.specs.Reads.{Reads}
+use Rattle.comp_access.specs.Allocations.{own_page}
 use Rattle.comp_trace.specs.Acting.{null_registers, registers_after, shown_at}
 use Rattle.comp_trace.specs.Builds.{built_after, touched}
 use Rattle.comp_trace.specs.declared.line.Action.{Action}

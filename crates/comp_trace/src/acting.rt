@@ -8,8 +8,8 @@ ghost use Rattle.comp_trace.specs.Builds.{touched, BuildsTouched};
 
 use crate::line::Action;
 use crate::registers::{held, root_at};
+use comp_access::refusal::Refusal;
 use comp_mutator::mutator::Mutator;
-use comp_mutator::refusal::Refusal;
 use comp_mutator::space::Space;
 use page_plan::builder::Builder;
 use std::alloc::Global;

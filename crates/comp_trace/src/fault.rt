@@ -1,7 +1,7 @@
 ghost use Rattle.std.specs.Prelude.{◌≡◌};
 ghost use Rattle.comp_trace.specs.declared.fault.TraceFault.TheVariants as faults;
 
-use comp_mutator::refusal::Refusal;
+use comp_access::refusal::Refusal;
 use std::alloc::{AllocError, AllocFailed};
 use thiserror::Error;
 

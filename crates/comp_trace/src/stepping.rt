@@ -9,8 +9,8 @@ ghost use Rattle.comp_trace.specs.Rounds.{AreLater, DidNothing, HasMetAll, HaveM
 
 use crate::acting::act;
 use crate::line::Action;
+use comp_access::refusal::Refusal;
 use comp_mutator::mutator::Mutator;
-use comp_mutator::refusal::Refusal;
 use comp_mutator::space::Space;
 use page_plan::builder::Builder;
 use std::alloc::Global;

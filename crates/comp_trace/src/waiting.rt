@@ -3,13 +3,13 @@ ghost use Rattle.std.specs.Prelude.{◌≡◌, ℕ, IfErr, IfOk, IsErrOf, OnErr}
 ghost use Rattle.cell_steps.specs.Passes.{did};
 ghost use Rattle.page_cells.specs.Calls.{Grows};
 ghost use Rattle.comp_mutator.specs.Mutators.{pass_of, setup_of, IsMutatorOf};
-ghost use Rattle.comp_mutator.specs.declared.refusal.Refusal.TheVariants.{Busy};
+ghost use Rattle.comp_access.specs.declared.refusal.Refusal.TheVariants.{Busy};
 ghost use Rattle.comp_trace.specs.Acting.{registers_after, Fits, Refuses, Steps};
 
 use crate::line::Action;
 use crate::registers::{held, root_at};
+use comp_access::refusal::Refusal;
 use comp_mutator::mutator::Mutator;
-use comp_mutator::refusal::Refusal;
 use comp_mutator::space::Space;
 use page_plan::builder::Builder;
 use std::alloc::Global;

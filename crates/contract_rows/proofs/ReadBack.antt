@@ -9,11 +9,11 @@ use Rattle.cell_steps.specs.Setup.{Setup, base_of}
 use Rattle.cell_steps.specs.Passes.{number_of, seen}
 use Rattle.cell_steps.specs.declared.pass.Pass.{Pass}
 use Rattle.page_cells.specs.Objects.{page_at, offset_at, word_at, HasShape}
-use Rattle.comp_mutator.specs.Allocations.{own_page, used, Allocates}
-use Rattle.comp_mutator.specs.Fields.{IsFieldOf}
-use Rattle.comp_mutator.specs.Reads.{Reads}
-use Rattle.comp_mutator.specs.Writes.{entry_by, Writes}
-use Rattle.comp_mutator.specs.declared.refusal.Refusal.{Refusal}
+use Rattle.comp_access.specs.Allocations.{own_page, used, Allocates}
+use Rattle.comp_access.specs.Fields.{IsFieldOf}
+use Rattle.comp_access.specs.Reads.{Reads}
+use Rattle.comp_access.specs.Writes.{entry_by, Writes}
+use Rattle.comp_access.specs.declared.refusal.Refusal.{Refusal}
 
 -- what holds of two answers holds where both are Ok
 pub both_ok : (s w : Result ℕ Refusal) (P Q R : ℕ → Type 0) → IfOk s P → IfOk w Q → ((a b : ℕ) → P a → Q b → R b) → IfOk s (λ a. IfOk w R)

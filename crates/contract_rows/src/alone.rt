@@ -2,9 +2,9 @@
 ghost use Rattle.std.specs.Prelude.{◌≡◌, IfOk};
 ghost use Rattle.comp_mutator.specs.Mutators.{setup_of, IsMutatorOf};
 
+use comp_access::refusal::Refusal;
 use comp_mutator::laws;
 use comp_mutator::mutator::Mutator;
-use comp_mutator::refusal::Refusal;
 use comp_mutator::space::Space;
 use page_cells::laws as pages;
 use page_plan::builder::Builder;

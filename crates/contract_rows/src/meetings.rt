@@ -4,9 +4,9 @@ ghost use Rattle.cell_steps.specs.Lists.{StartsWith};
 ghost use Rattle.cell_steps.specs.Passes.{number_of, seen};
 ghost use Rattle.comp_mutator.specs.Mutators.{pass_of, setup_of, IsMutatorOf};
 
+use comp_access::refusal::Refusal;
 use comp_mutator::laws;
 use comp_mutator::mutator::Mutator;
-use comp_mutator::refusal::Refusal;
 use comp_mutator::space::Space;
 use page_cells::laws as pages;
 use page_plan::builder::Builder;

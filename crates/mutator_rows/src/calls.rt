@@ -1,9 +1,9 @@
 //! Calls of mutators. Of a call a test's proof knows only that the mutator stays the space's.
 ghost use Rattle.comp_mutator.specs.Mutators.{IsMutatorOf};
 
+use comp_access::pages::{PageCopy, Touched};
+use comp_access::refusal::Refusal;
 use comp_mutator::mutator::Mutator;
-use comp_mutator::pages::{PageCopy, Touched};
-use comp_mutator::refusal::Refusal;
 use comp_mutator::space::Space;
 use page_plan::builder::Builder;
 use plain_objects::call::Call;

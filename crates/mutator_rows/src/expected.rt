@@ -1,7 +1,7 @@
 //! What tests expect of answers, of numbers and of pages.
+use comp_access::pages::{PageCopy, Touched};
+use comp_access::refusal::Refusal;
 use comp_journal::entry::Entry;
-use comp_mutator::pages::{PageCopy, Touched};
-use comp_mutator::refusal::Refusal;
 use std::process::Abort;
 
 /// Which row of which case: what a failing test tells.

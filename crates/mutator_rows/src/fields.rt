@@ -2,7 +2,7 @@
 use crate::alone::{Alone, play_each_alone};
 use crate::flipped::Heap;
 use crate::rows::Row;
-use comp_mutator::refusal::Refusal;
+use comp_access::refusal::Refusal;
 use std::test::Fail;
 use worked_heaps::heaps::{F, T};
 

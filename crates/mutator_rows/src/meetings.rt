@@ -3,7 +3,7 @@ use crate::endings::Ending;
 use crate::flipped::Heap;
 use crate::pairs::{Pair, Step, play_each_pair};
 use crate::rows::Row;
-use comp_mutator::pages::Touched;
+use comp_access::pages::Touched;
 use std::test::Fail;
 use worked_heaps::heaps::T;
 

@@ -4,8 +4,8 @@ use crate::endings::Ending;
 use crate::flipped::Heap;
 use crate::pairs::{Pair, Step, play_each_pair};
 use crate::rows::Row;
+use comp_access::refusal::Refusal;
 use comp_journal::entry::Entry;
-use comp_mutator::refusal::Refusal;
 use heap_layout::kind::Kind;
 use std::test::Fail;
 

@@ -1,7 +1,8 @@
 //! The refusals of journals, cells and mutators as they are printed.
+use comp_access::refusal::Refusal;
 use comp_journal::refusal::JournalRefusal;
 use comp_mutator::finishing::FinishFault;
-use comp_mutator::refusal::{FlipFault, Refusal};
+use comp_mutator::refusal::FlipFault;
 use page_cells::refusal::CellRefusal;
 use std::alloc::Global;
 use std::fmt::Display;

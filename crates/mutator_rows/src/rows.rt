@@ -6,10 +6,10 @@ use crate::expected::{
     At, expect_answer, expect_count, expect_entries, expect_numbers, expect_touched, expect_words,
 };
 use crate::turns::expect_turns;
+use comp_access::pages::Touched;
+use comp_access::refusal::Refusal;
 use comp_journal::entry::Entry;
 use comp_mutator::mutator::Mutator;
-use comp_mutator::pages::Touched;
-use comp_mutator::refusal::Refusal;
 use comp_mutator::space::Space;
 use page_plan::builder::Builder;
 use plain_objects::call::Call;

@@ -1,7 +1,7 @@
 //! A page that two threads wrote by turns.
 use crate::expected::{At, expect_count};
+use comp_access::pages::PageCopy;
 use comp_journal::entry::Entry;
-use comp_mutator::pages::PageCopy;
 use std::process::Abort;
 
 /// How many entries each thread writes into the page.

@@ -1,8 +1,8 @@
 //! All objects, and what calls answer by them.
 use crate::call::Call;
 use crate::object::Object;
+use comp_access::refusal::Refusal;
 use comp_journal::entry::Entry;
-use comp_mutator::refusal::Refusal;
 use heap_layout::header::Header;
 use heap_layout::kind::Kind;
 use std::alloc::{AllocError, Global};

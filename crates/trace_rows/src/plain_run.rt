@@ -1,5 +1,5 @@
 //! Lines that are run over objects kept plainly.
-use comp_mutator::refusal::Refusal;
+use comp_access::refusal::Refusal;
 use comp_trace::line::{Action, Line};
 use comp_trace::shown::Shown;
 use plain_objects::call::Call;

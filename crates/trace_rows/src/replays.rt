@@ -2,9 +2,9 @@
 use crate::expected::{expect_plan, expect_so};
 use crate::flipped::Case;
 use crate::ran::replayed;
+use comp_access::refusal::Refusal;
 use comp_journal::entry::Entry;
 use comp_mutator::finishing::Finished;
-use comp_mutator::refusal::Refusal;
 use comp_trace::fault::TraceFault;
 use comp_trace::replay::Stopped;
 use comp_trace::shown::Shown;

@@ -1,6 +1,6 @@
 //! Texts of traces: those that are none, what the others say, and how faults are printed.
 use crate::expected::expect_so;
-use comp_mutator::refusal::Refusal;
+use comp_access::refusal::Refusal;
 use comp_trace::fault::{Stop, TraceFault};
 use comp_trace::line::{Action, Line};
 use comp_trace::parsing::parse;

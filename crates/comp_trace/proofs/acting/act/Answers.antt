@@ -1,8 +1,8 @@
 use Rattle.std.proofs.Common.{IfErr, IfOk, ℕ, get_or, sym, subst}
 use Rattle.heap_layout.specs.Header.{header_word}
 use Rattle.heap_layout.specs.declared.kind.Kind.TheVariants.{Reference, Data}
-use Rattle.comp_mutator.specs.Reads.{FieldRefused}
-use Rattle.comp_mutator.specs.Writes.{DataRefused, ReferenceRefused}
+use Rattle.comp_access.specs.Reads.{FieldRefused}
+use Rattle.comp_access.specs.Writes.{DataRefused, ReferenceRefused}
 use Rattle.comp_trace.specs.Acting.{Refuses, Steps}
 use Rattle.comp_trace.specs.Builds.{slid_page, touched, BuildsTouched}
 use Rattle.comp_trace.specs.declared.line.Action.{Action}

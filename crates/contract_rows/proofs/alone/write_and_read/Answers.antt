@@ -3,8 +3,8 @@ use Rattle.heap_layout.specs.declared.kind.Kind.TheVariants.{Data}
 use Rattle.cell_steps.specs.Lists.{on}
 use Rattle.cell_steps.specs.Passes.{seen}
 use Rattle.comp_mutator.specs.Mutators.{pass_of, setup_of}
-use Rattle.comp_mutator.specs.Reads.{Reads}
-use Rattle.comp_mutator.specs.Writes.{Writes}
+use Rattle.comp_access.specs.Reads.{Reads}
+use Rattle.comp_access.specs.Writes.{Writes}
 use Rattle.contract_rows.proofs.ReadBack.{both_ok, reads_back}
 use Rattle.contract_rows.proofs.alone.write_and_read.Goals as goal
 

@@ -5,8 +5,8 @@ use Rattle.cell_steps.specs.Passes.{seen}
 use Rattle.cell_steps.proofs.Sums.{starts-refl}
 use Rattle.page_cells.proofs.Growing.{begins_then}
 use Rattle.comp_mutator.specs.Mutators.{pass_of, setup_of}
-use Rattle.comp_mutator.specs.Reads.{Reads}
-use Rattle.comp_mutator.specs.Writes.{Writes}
+use Rattle.comp_access.specs.Reads.{Reads}
+use Rattle.comp_access.specs.Writes.{Writes}
 use Rattle.contract_rows.proofs.Between.{sees_what_it_met}
 use Rattle.contract_rows.proofs.ReadBack.{both_ok, reads_back}
 use Rattle.contract_rows.proofs.meetings.read_after_meeting.Goals as goal

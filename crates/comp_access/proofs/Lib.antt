@@ -1,0 +1,11 @@
+pub mod FieldPlaces
+pub mod Growing
+pub mod Building
+pub mod Earlier
+pub mod LowestPages
+pub mod Refusing
+pub mod Judging
+pub mod KnownStarts
+pub mod Answering
+pub mod OwnPages
+pub mod NewObjects

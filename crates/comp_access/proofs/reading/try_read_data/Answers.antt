@@ -1,0 +1,25 @@
+use Rattle.std.proofs.Common.{◌≡◌, ap, subst, ◌∙◌}
+use Rattle.heap_layout.specs.declared.kind.Kind.TheVariants.{Data}
+use Rattle.cell_steps.specs.declared.pass.Pass.{Pass}
+use Rattle.cell_steps.specs.Passes.{builds_of, did}
+use Rattle.page_cells.specs.Cells.{setup_of}
+use Rattle.page_cells.specs.Calls.{Grows}
+use Rattle.comp_access.proofs.Building.{only_before}
+use Rattle.comp_access.proofs.Growing.{still_then}
+use Rattle.comp_access.proofs.reading.try_read_data.Goals as goal
+
+pub returns-clause-grows : goal.returns-clause-grows
+returns-clause-grows g c =
+    let back = c.put_back.ensures.grows in
+    let last = subst (λ (m : Pass). Grows m c.put_back.new.pass × (did c.put_back.new.pass ≡ did m)) c.held_word-word.ensures.same (back.0, back.1.did) in
+    still_then c.args.pass.now c.hold.new.pass c.put_back.new.pass c.hold.ensures.grows last
+
+pub returns-clause-builds : goal.returns-clause-builds
+returns-clause-builds g c =
+    let middle = c.hold.new.pass in
+    let new = c.put_back.new.pass in
+    let held = c.in_ok-held.ensures.field in
+    let same = c.held_word-word.ensures.same in
+    let p = c.in_ok-held.held.taken.number in
+    let grows = subst (λ (m : Pass). Grows m new) same c.put_back.ensures.grows.0 in
+    (p, only_before (setup_of c.args.cells.now) Data c.args.object c.args.field p c.args.pass.now middle new held.touched grows (c.put_back.ensures.builds ∙ ap builds_of same), grows.built p held.built)

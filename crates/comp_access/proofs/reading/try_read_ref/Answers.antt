@@ -1,0 +1,32 @@
+use Rattle.std.proofs.Common.{◌≡◌, ap, subst, ◌∙◌}
+use Rattle.heap_layout.specs.declared.kind.Kind.TheVariants.{Reference}
+use Rattle.cell_steps.specs.declared.pass.Pass.{Pass}
+use Rattle.cell_steps.specs.Passes.{builds_of, did, MayRefer}
+use Rattle.page_cells.specs.Cells.{setup_of}
+use Rattle.page_cells.specs.Calls.{Grows}
+use Rattle.comp_access.proofs.Building.{only_before}
+use Rattle.comp_access.proofs.Growing.{refers_more, still_then}
+use Rattle.comp_access.proofs.reading.try_read_ref.Goals as goal
+
+pub returns-clause-grows : goal.returns-clause-grows
+returns-clause-grows g c =
+    let back = c.put_back.ensures.grows in
+    let last = subst (λ (m : Pass). Grows m c.put_back.new.pass × (did c.put_back.new.pass ≡ did m)) c.held_reference-word.ensures.same (back.0, back.1.did) in
+    still_then c.args.pass.now c.hold.new.pass c.put_back.new.pass c.hold.ensures.grows last
+
+pub returns-clause-known : goal.returns-clause-known
+returns-clause-known g c =
+    let same = c.held_reference-word.ensures.same in
+    let grows = subst (λ (m : Pass). Grows m c.put_back.new.pass) same c.put_back.ensures.grows.0 in
+    refers_more _ _ c.hold.new.pass c.put_back.new.pass c.hold.ensures.of c.put_back.ensures.of.0 grows c.held_reference-word.result
+    (subst (λ (m : Pass). MayRefer m c.held_reference-word.result) same c.held_reference-word.ensures.leads)
+
+pub returns-clause-builds : goal.returns-clause-builds
+returns-clause-builds g c =
+    let middle = c.hold.new.pass in
+    let new = c.put_back.new.pass in
+    let held = c.in_ok-held.ensures.field in
+    let same = c.held_reference-word.ensures.same in
+    let p = c.in_ok-held.held.taken.number in
+    let grows = subst (λ (m : Pass). Grows m new) same c.put_back.ensures.grows.0 in
+    (p, only_before (setup_of c.args.cells.now) Reference c.args.object c.args.field p c.args.pass.now middle new held.touched grows (c.put_back.ensures.builds ∙ ap builds_of same), grows.built p held.built)

@@ -1,0 +1,174 @@
+//! Fields, found by their objects.
+ghost use Rattle.std.specs.Prelude.{◌≡◌, ℕ, ◌+◌, ◌<◌, ◌≤◌, ◌^◌, IfOk, IfErr, IfSome, IfNone, IsErrOf};
+ghost use Rattle.heap_layout.specs.Header.{size_of};
+ghost use Rattle.cell_steps.specs.Passes.{builds_of, did, Rests};
+ghost use Rattle.page_cells.specs.Cells.{mutators_of, page_number, setup_of, Has, IsPassOf};
+ghost use Rattle.page_cells.specs.Calls.{Grows, WroteNothing};
+ghost use Rattle.comp_access.specs.Fields.{count_of, place_of, IsFreshObject};
+ghost use Rattle.comp_access.specs.Finds.{HoldsField, IsEarly, IsFound};
+ghost use Rattle.comp_access.specs.Reads.{FieldRefused};
+ghost use Rattle.comp_access.specs.declared.refusal.Refusal.TheVariants.{Busy};
+
+use crate::places::{offset_at, page_at};
+use crate::refusal::Refusal;
+use crate::taking::take;
+use cell_steps::pass::Pass;
+use heap_layout::header::Header;
+use heap_layout::kind::Kind;
+use page_cells::cells::Cells;
+use page_cells::taking::Taken;
+use page_plan::builder::Builder;
+use std::alloc::Global;
+
+/// The field that a call is about: of this object, the field of this kind and index.
+#[derive(Clone, Copy)]
+pub(crate) struct FieldName {
+    pub(crate) object: u64,
+    pub(crate) field: u16,
+    pub(crate) kind: Kind,
+}
+
+/// Where a field was found.
+#[derive(Clone, Copy)]
+pub(crate) enum Found {
+    /// In an object of the slid heap: the address of the field's word.
+    Slid(u64),
+    /// In an object that an allocation made, if it has such a field: its header stands on its own page.
+    Fresh,
+}
+
+/// The page of a field, taken, and the offset of the field's word there.
+pub(crate) struct Held {
+    pub(crate) taken: Taken,
+    pub(crate) offset: u8,
+}
+
+/// The address of a field's word, where the object has such a field.
+fn field_place(header: Header, name: FieldName) -> Option<u64>
+    requires { name.object + size_of header < 2 ^ 64 }
+    ensures some { IfSome result (λ place. (name.field < count_of name.kind header) × (place ≡ place_of name.kind name.object header name.field)) }
+    ensures none { IfNone result (count_of name.kind header ≤ name.field) }
+{
+    let FieldName {
+        object,
+        field,
+        kind,
+    } = name;
+    match kind {
+        Kind::Reference if field < header.refs() => Some(object + 1 + u64::from(field)),
+        Kind::Data if field < header.data_words() => {
+            Some(object + 1 + u64::from(header.refs()) + u64::from(field))
+        }
+        _ => None,
+    }
+}
+
+/// Finds a field without touching a page.
+pub(crate) fn find<B: Builder>(
+    cells: &Cells<B>,
+    pass: &mut Pass,
+    name: FieldName,
+) -> Result<Found, Refusal>
+    requires { IsPassOf cells.now pass.old × Rests pass.old }
+    ensures of { IsPassOf cells.now pass.new × Rests pass.new }
+    ensures grows { Grows pass.old pass.new × WroteNothing pass.old pass.new }
+    ensures builds { builds_of pass.new ≡ builds_of pass.old }
+    ensures found { IfOk result (IsFound (setup_of cells.now) pass.new name.kind name.object name.field) }
+    ensures refused { IfErr result (FieldRefused (setup_of cells.now) pass.old pass.new name.kind name.object name.field) }
+    ensures early { IfErr result IsEarly }
+{
+    let object = name.object;
+    if object == 0 {
+        return Err(Refusal::Null);
+    }
+    if let Some(header) = cells.compacted_header(object) {
+        return match field_place(header, name) {
+            Some(place) => Ok(Found::Slid(place)),
+            None => Err(Refusal::NoSuchField),
+        };
+    }
+    if cells.start_known(pass, object) {
+        Ok(Found::Fresh)
+    } else {
+        Err(Refusal::NotAStart(object))
+    }
+}
+
+/// Takes the page of a field of an object that an allocation made.
+pub(crate) fn take_fresh<B: Builder>(
+    alloc: Global,
+    cells: &Cells<B>,
+    pass: &mut Pass,
+    name: FieldName,
+) -> Result<Held, Refusal>
+    requires of { IsPassOf cells.now pass.old × Rests pass.old }
+    requires fresh { IsFreshObject (setup_of cells.now) pass.old name.object }
+    ensures of { IsPassOf cells.now pass.new }
+    ensures grows { Grows pass.old pass.new × (did pass.new ≡ did pass.old) }
+    ensures builds { builds_of pass.new ≡ builds_of pass.old }
+    ensures alone { mutators_of cells.now ≡ 1 → (q : ℕ) → IsErrOf result (Busy q) → ⊥ }
+    ensures held { IfOk result (λ held. Has cells.now pass.new held.taken × (held.offset < 64)) }
+    ensures field { IfOk result (λ held. HoldsField (setup_of cells.now) pass.old pass.new name.kind name.object name.field (page_number held.taken) held.offset) }
+    ensures refused { IfErr result (λ refusal. Rests pass.new × FieldRefused (setup_of cells.now) pass.old pass.new name.kind name.object name.field refusal) }
+{
+    let taken = take(alloc, cells, pass, page_at(name.object))?;
+    let header = cells.held_header(pass, &taken, name.object);
+    match field_place(header, name) {
+        Some(place) => Ok(Held {
+            taken,
+            offset: offset_at(place),
+        }),
+        None => {
+            cells.put_back(pass, taken);
+            Err(Refusal::NoSuchField)
+        }
+    }
+}
+
+/// Takes the page of a field that was found.
+pub(crate) fn take_found<B: Builder>(
+    alloc: Global,
+    cells: &Cells<B>,
+    pass: &mut Pass,
+    name: FieldName,
+    found: Found,
+) -> Result<Held, Refusal>
+    requires of { IsPassOf cells.now pass.old × Rests pass.old }
+    requires found { IsFound (setup_of cells.now) pass.old name.kind name.object name.field found }
+    ensures of { IsPassOf cells.now pass.new }
+    ensures grows { Grows pass.old pass.new × (did pass.new ≡ did pass.old) }
+    ensures alone { mutators_of cells.now ≡ 1 → (q : ℕ) → IsErrOf result (Busy q) → ⊥ }
+    ensures held { IfOk result (λ held. Has cells.now pass.new held.taken × (held.offset < 64)) }
+    ensures field { IfOk result (λ held. HoldsField (setup_of cells.now) pass.old pass.new name.kind name.object name.field (page_number held.taken) held.offset) }
+    ensures refused { IfErr result (λ refusal. Rests pass.new × FieldRefused (setup_of cells.now) pass.old pass.new name.kind name.object name.field refusal) }
+{
+    match found {
+        Found::Slid(place) => {
+            let taken = take(alloc, cells, pass, page_at(place))?;
+            Ok(Held {
+                taken,
+                offset: offset_at(place),
+            })
+        }
+        Found::Fresh => take_fresh(alloc, cells, pass, name),
+    }
+}
+
+/// Takes the page of a field.
+pub(crate) fn hold<B: Builder>(
+    alloc: Global,
+    cells: &Cells<B>,
+    pass: &mut Pass,
+    name: FieldName,
+) -> Result<Held, Refusal>
+    requires { IsPassOf cells.now pass.old × Rests pass.old }
+    ensures of { IsPassOf cells.now pass.new }
+    ensures grows { Grows pass.old pass.new × (did pass.new ≡ did pass.old) }
+    ensures alone { mutators_of cells.now ≡ 1 → (q : ℕ) → IsErrOf result (Busy q) → ⊥ }
+    ensures held { IfOk result (λ held. Has cells.now pass.new held.taken × (held.offset < 64)) }
+    ensures field { IfOk result (λ held. HoldsField (setup_of cells.now) pass.old pass.new name.kind name.object name.field (page_number held.taken) held.offset) }
+    ensures refused { IfErr result (λ refusal. Rests pass.new × FieldRefused (setup_of cells.now) pass.old pass.new name.kind name.object name.field refusal) }
+{
+    let found = find(cells, pass, name)?;
+    take_found(alloc, cells, pass, name, found)
+}
