@@ -28,9 +28,9 @@ use Rattle.comp_history.specs.Finishes.{history_of, journals_of, pages_of, roots
 use Rattle.comp_history.specs.declared.finished.Finished.{Finished}
 use Rattle.comp_trace.specs.Bytes.{no_entries}
 use Rattle.comp_trace.specs.Runs.{with_entries, Acts, IsAboveAll, IsOneEntry, Moment, Runs}
-use Rattle.comp_trace.specs.declared.line.Action.{Action}
-use Rattle.comp_trace.specs.declared.line.Action.TheVariants.{Root, Load, Get, Store, Put, New, Nil}
-use Rattle.comp_trace.specs.declared.line.Line.{Line}
+use Rattle.trace_text.specs.declared.line.Action.{Action}
+use Rattle.trace_text.specs.declared.line.Action.TheVariants.{Root, Load, Get, Store, Put, New, Nil}
+use Rattle.trace_text.specs.declared.line.Line.{Line}
 use Rattle.comp_dump.specs.Lent.{record_of}
 use Rattle.commands.specs.Replays.{dumped_of, page_in, times_built, IsDumpAfter, IsPageAfter}
 use Rattle.commands.proofs.Lines.{each-given}

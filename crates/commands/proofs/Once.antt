@@ -10,9 +10,9 @@ use Rattle.comp_journal.specs.declared.entry.Entry.{Entry}
 use Rattle.cell_steps.specs.Setup.{pages, Setup}
 use Rattle.comp_history.specs.Merged.{stamp_of}
 use Rattle.comp_trace.specs.Bytes.{flipped, no_entries}
-use Rattle.comp_trace.specs.Grammar.{parts}
+use Rattle.trace_text.specs.Grammar.{parts}
 use Rattle.comp_trace.specs.Runs.{beginning, unstamped_on, AreAlike, MayBegin, Moment, Runs}
-use Rattle.comp_trace.specs.declared.line.Line.{Line}
+use Rattle.trace_text.specs.declared.line.Line.{Line}
 use Rattle.comp_trace.specs.declared.shown.Shown.{Shown}
 use Rattle.comp_trace.proofs.Determined.{determined}
 use Rattle.comp_trace.proofs.Inside.{ok_is, read_inside}

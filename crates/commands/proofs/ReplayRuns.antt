@@ -10,10 +10,10 @@ use Rattle.comp_history.specs.Shares.{allocated}
 use Rattle.comp_history.specs.Finishes.{builds_in, live_of, pages_of, roots_of}
 use Rattle.comp_history.specs.declared.finished.Finished.{Finished}
 use Rattle.comp_trace.specs.Bytes.{flipped, Interrupts}
-use Rattle.comp_trace.specs.declared.fault.TraceFault.{TraceFault}
-use Rattle.comp_trace.specs.declared.fault.TraceFault.TheVariants.{BadLine, NoSuchMutator, NoSuchRegister, NumberTooLarge, NoSuchRoot, Refused}
-use Rattle.comp_trace.specs.declared.fault.TraceFault.TheVariants as traces
-use Rattle.comp_trace.specs.declared.line.Line.{Line}
+use Rattle.trace_text.specs.declared.fault.TraceFault.{TraceFault}
+use Rattle.trace_text.specs.declared.fault.TraceFault.TheVariants.{BadLine, NoSuchMutator, NoSuchRegister, NumberTooLarge, NoSuchRoot, Refused}
+use Rattle.trace_text.specs.declared.fault.TraceFault.TheVariants as traces
+use Rattle.trace_text.specs.declared.line.Line.{Line}
 use Rattle.comp_trace.specs.declared.shown.Shown.{Shown}
 use Rattle.comp_dump.specs.Dumped.{Dumped}
 use Rattle.comp_dump.specs.DumpEncoding.{dump_bytes}

@@ -23,12 +23,12 @@ use Rattle.comp_mutator.specs.declared.space.Space.{Space}
 use Rattle.comp_trace.specs.Bytes.{flipped, no_entries, DidNothingYet, Interrupts}
 use Rattle.comp_trace.specs.Builds.{built_by, HaveBuilt}
 use Rattle.comp_trace.specs.Deeds.{deeds_of}
-use Rattle.comp_trace.specs.Grammar.{parts, trace_of}
+use Rattle.trace_text.specs.Grammar.{parts, trace_of}
 use Rattle.comp_trace.specs.Races.{AreAll}
 use Rattle.comp_trace.specs.Replays.{HaveReplayed, HaveStopped}
 use Rattle.comp_trace.specs.Runs.{beginning, Runs}
-use Rattle.comp_trace.specs.declared.fault.TraceFault.{TraceFault}
-use Rattle.comp_trace.specs.declared.line.Line.{Line}
+use Rattle.trace_text.specs.declared.fault.TraceFault.{TraceFault}
+use Rattle.trace_text.specs.declared.line.Line.{Line}
 use Rattle.comp_trace.specs.declared.shown.Shown.{Shown}
 use Rattle.comp_trace.proofs.Bytes.{deeds_none, have_none, interrupts_of}
 use Rattle.comp_trace.proofs.Inside.{read_inside}

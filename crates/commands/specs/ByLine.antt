@@ -4,8 +4,8 @@ use mathlib.Core.Option.{some}
 use lib.ListN.{get_elem?}
 use Rattle.cell_steps.specs.Lists.{Each}
 use Rattle.comp_trace.specs.Races.{numbered, own_lines}
-use Rattle.comp_trace.specs.declared.fault.Stop.{Stop}
-use Rattle.comp_trace.specs.declared.line.Line.{Line}
+use Rattle.trace_text.specs.declared.fault.Stop.{Stop}
+use Rattle.trace_text.specs.declared.line.Line.{Line}
 use Rattle.comp_trace.specs.declared.race.Run.{Run}
 use Rattle.comp_trace.specs.declared.shown.Shown.{Shown}
 

@@ -1,8 +1,8 @@
 -- What is promised from the path of a trace on.
 use Rattle.std.specs.Prelude.{◌≡◌, ℕ, ◌+◌, List, Option, IfSome, Result, Ok, Err}
-use Rattle.comp_trace.specs.Grammar.{trace_of, IsReadAs}
-use Rattle.comp_trace.specs.declared.fault.TraceFault.TheVariants as faults
-use Rattle.comp_trace.specs.declared.line.Line.{Line}
+use Rattle.trace_text.specs.Grammar.{trace_of, IsReadAs}
+use Rattle.trace_text.specs.declared.fault.TraceFault.TheVariants as faults
+use Rattle.trace_text.specs.declared.line.Line.{Line}
 use Rattle.commands.specs.Images.{SomeGiven}
 use Rattle.commands.specs.declared.refusal.Input.TheVariants as inputs
 use Rattle.commands.specs.declared.refusal.Refusal.{Refusal}

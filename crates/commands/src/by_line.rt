@@ -2,10 +2,10 @@
 ghost use Rattle.std.specs.Prelude.{◌≡◌, ℕ, ◌+◌, ◌<◌, ◌≤◌, [], All, drop, length, vec_capacity, IfSome};
 ghost use Rattle.commands.specs.ByLine.{earlier_of, told_of, AreByLine, AreOwn, IsFirstStop};
 
-use comp_trace::fault::Stop;
-use comp_trace::line::Line;
 use comp_trace::race::Run;
 use comp_trace::shown::Shown;
+use trace_text::fault::Stop;
+use trace_text::line::Line;
 
 /// The values of all runs, in the order of their lines, of which each has its own. There are 64 runs at most.
 pub fn by_line(lines: &[Line], runs: &[Run], mut shown: Vec<Shown>) -> Vec<Shown>

@@ -5,7 +5,8 @@ ghost use Rattle.page_plan.specs.Sliding.{pages};
 ghost use Rattle.page_cells.specs.Cells.{steps_of, AreNew};
 ghost use Rattle.comp_history.specs.Finishes.{IsOfFlip};
 ghost use Rattle.comp_mutator.specs.Mutators.{cells_of, pass_of, setup_of, AreMutatorsOf};
-ghost use Rattle.comp_trace.specs.Traces.{lines_of, mutators_of, roots_of, IsParsedFor};
+ghost use Rattle.comp_trace.specs.Traces.{IsParsedFor};
+ghost use Rattle.trace_text.specs.Traces.{lines_of, mutators_of, roots_of};
 ghost use Rattle.commands.specs.Races.{IsHaltedRace, IsRacedHeap};
 ghost use Rattle.commands.specs.Texts.{HasLines};
 
@@ -18,9 +19,7 @@ use comp_mutator::flipping::flip;
 use comp_mutator::mutator::Mutator;
 use comp_mutator::refusal::FlipFault;
 use comp_mutator::space::Space;
-use comp_trace::fault::TraceFault;
 use comp_trace::race::{Run, race};
-use comp_trace::trace::Trace;
 use heap_layout::heap::MarkedHeap;
 use page_plan::plan::Plan;
 use std::alloc::Global;
@@ -28,6 +27,8 @@ use std::marker::Brand;
 use std::sync::ledger::{Blank, Ledger};
 use std::sync::{Arc, Wait};
 use std::thread::Threads;
+use trace_text::fault::TraceFault;
+use trace_text::trace::Trace;
 
 /// Flips a heap, lets the mutators of a trace run its lines side by side, each in a thread of its own where one can be had, and finishes the heap. The trace is one
 /// of these mutators and of the heap's roots.

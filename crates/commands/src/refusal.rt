@@ -5,11 +5,11 @@ use comp_access::refusal as mutators;
 use comp_audit::verdict::AuditFault;
 use comp_dump::fault::DumpFault;
 use comp_sweep::refusal::SweepFault;
-use comp_trace::fault::TraceFault;
 use heap_layout::fault::{self, LayoutFault};
 use std::alloc::AllocError;
 use std::fmt;
 use thiserror::Error;
+use trace_text::fault::TraceFault;
 
 /// A file that the program is given.
 #[derive(Clone, Copy, Debug, PartialEq, Eq)]

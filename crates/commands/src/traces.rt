@@ -1,19 +1,19 @@
 //! Where the traces lie, and how their texts are read.
 ghost use Rattle.std.specs.Prelude.{◌≡◌, ℕ, ◌-◌, ◌^◌, ◌<◌, List, IfOk, IfErr, IfSome};
 ghost use Rattle.heap_layout.specs.Counted.{inner_of, failures_of};
-ghost use Rattle.comp_trace.specs.Traces.{lines_of, mutators_of, roots_of};
+ghost use Rattle.trace_text.specs.Traces.{lines_of, mutators_of, roots_of};
 ghost use Rattle.commands.specs.Images.{SomeGiven};
 ghost use Rattle.commands.specs.Texts.{CountsText, IsOfOpeningText, IsOfReading, IsTextOf, RefusesText, RefusesTextAt};
 
 use crate::refusal::{Input, Refusal};
-use comp_trace::fault::TraceFault;
-use comp_trace::parsing::parse;
-use comp_trace::trace::Trace;
 use heap_layout::counted::Counted;
 use std::alloc::Global;
 use std::fs;
 use std::io::{BufReader, Read};
 use std::rt::Files;
+use trace_text::fault::TraceFault;
+use trace_text::parsing::parse;
+use trace_text::trace::Trace;
 
 /// How many bytes of a text are fetched at once, at most.
 const PIECE: usize = 65_536;

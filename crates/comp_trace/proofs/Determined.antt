@@ -30,9 +30,9 @@ use Rattle.comp_access.proofs.OwnPages.{filled_append, on_append, own_fresh}
 use Rattle.comp_trace.specs.Acting.{registers_after, shown_at}
 use Rattle.comp_trace.specs.Builds.{built_after, touched}
 use Rattle.comp_trace.specs.Runs.{beginning, unstamped, unstamped_on, used_by, with_entries, Acts, AreAlike, Does, IsDetermined, IsOneEntry, MakesObject, Moment, Runs, WritesField}
-use Rattle.comp_trace.specs.declared.line.Action.{Action}
-use Rattle.comp_trace.specs.declared.line.Action.TheVariants.{Root, Load, Get, Store, Put, New, Nil}
-use Rattle.comp_trace.specs.declared.line.Line.{Line}
+use Rattle.trace_text.specs.declared.line.Action.{Action}
+use Rattle.trace_text.specs.declared.line.Action.TheVariants.{Root, Load, Get, Store, Put, New, Nil}
+use Rattle.trace_text.specs.declared.line.Line.{Line}
 use Rattle.comp_trace.specs.declared.shown.Shown.{Shown}
 
 -- the first entry is of this writer, or of another

@@ -6,12 +6,12 @@ use Rattle.std.specs.List.{list_all, list_any}
 use Rattle.cell_steps.specs.Setup.{Setup}
 use Rattle.comp_trace.specs.Acting.{Fits}
 use Rattle.comp_trace.specs.Traces.{AllFit}
-use Rattle.comp_trace.specs.Grammar.{is_too_large, is_within, registers_of, roots_of}
-use Rattle.comp_trace.specs.declared.fault.TraceFault.{TraceFault}
-use Rattle.comp_trace.specs.declared.fault.TraceFault.TheVariants.{NoSuchMutator, NoSuchRegister, NumberTooLarge, NoSuchRoot}
-use Rattle.comp_trace.specs.declared.line.Action.{Action}
-use Rattle.comp_trace.specs.declared.line.Action.TheVariants.{Root, Load, Get, Store, Put, New, Nil}
-use Rattle.comp_trace.specs.declared.line.Line.{Line}
+use Rattle.trace_text.specs.Grammar.{is_too_large, is_within, registers_of, roots_of}
+use Rattle.trace_text.specs.declared.fault.TraceFault.{TraceFault}
+use Rattle.trace_text.specs.declared.fault.TraceFault.TheVariants.{NoSuchMutator, NoSuchRegister, NumberTooLarge, NoSuchRoot}
+use Rattle.trace_text.specs.declared.line.Action.{Action}
+use Rattle.trace_text.specs.declared.line.Action.TheVariants.{Root, Load, Get, Store, Put, New, Nil}
+use Rattle.trace_text.specs.declared.line.Line.{Line}
 
 pub ok_not : (b : Bool) (e : TraceFault) (r : Result Line TraceFault) → is_ok (cond b (Err e) r) ≡ true → (b ≡ false) × (is_ok r ≡ true)
 ok_not true e r h = absurd cc

@@ -2,12 +2,12 @@
 use Rattle.std.proofs.Common.{◌≡◌, ℕ, zero, suc, ◌<◌, ◌+◌, ◌==◌, Bool, true, false, cond, List, [], ◌∷◌, All, length, Result, Ok, Err, refl, ap, subst, arith, nat_le}
 use Rattle.std.proofs.lemmas.Bool.{leb-false}
 use Rattle.std.specs.List.{list_any}
-use Rattle.comp_trace.specs.Grammar.{◌>>=◌, judged, is_too_large, is_within, line_of, parts, read_from, registers_of, roots_of}
-use Rattle.comp_trace.specs.declared.fault.TraceFault.{TraceFault}
-use Rattle.comp_trace.specs.declared.fault.TraceFault.TheVariants.{BadLine, NoSuchMutator, NoSuchRegister, NumberTooLarge, NoSuchRoot}
-use Rattle.comp_trace.specs.declared.line.Line.{Line}
+use Rattle.trace_text.specs.Grammar.{◌>>=◌, judged, is_too_large, is_within, line_of, parts, read_from, registers_of, roots_of}
+use Rattle.trace_text.specs.declared.fault.TraceFault.{TraceFault}
+use Rattle.trace_text.specs.declared.fault.TraceFault.TheVariants.{BadLine, NoSuchMutator, NoSuchRegister, NumberTooLarge, NoSuchRoot}
+use Rattle.trace_text.specs.declared.line.Line.{Line}
 use Rattle.comp_trace.proofs.Fitting.{ok_not}
-use Rattle.comp_trace.proofs.Lines.{judged_within}
+use Rattle.trace_text.proofs.Lines.{judged_within}
 
 mutator_inside : (ms rs : ℕ) (line : Line) → is_within ms rs line ≡ true → line.mutator < ms
 mutator_inside ms rs line h =

@@ -1,7 +1,3 @@
-pub mod Cuts
-pub mod Numerals
-pub mod Clipping
-pub mod Lines
 pub mod Fitting
 pub mod Inside
 pub mod OwnLines

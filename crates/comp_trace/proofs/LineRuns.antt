@@ -26,8 +26,8 @@ use Rattle.comp_trace.specs.Acting.{Answers}
 use Rattle.comp_trace.specs.Deeds.{AreMerged, KnowsMade}
 use Rattle.comp_trace.specs.Rounds.{Advances, Learns, Met}
 use Rattle.comp_trace.specs.Runs.{used_by, with_entries, Acts, IsAboveAll, IsOneEntry, MakesObject, WritesField}
-use Rattle.comp_trace.specs.declared.line.Action.{Action}
-use Rattle.comp_trace.specs.declared.line.Action.TheVariants.{Root, Load, Get, Store, Put, New, Nil}
+use Rattle.trace_text.specs.declared.line.Action.{Action}
+use Rattle.trace_text.specs.declared.line.Action.TheVariants.{Root, Load, Get, Store, Put, New, Nil}
 use Rattle.comp_trace.proofs.BetweenRounds.{dids, known_before, reads_all, writes_all, IsCrew}
 use Rattle.comp_trace.proofs.EarlierFields.{field_before}
 use Rattle.comp_trace.proofs.MadeObjects.{made_same, made_whose}

@@ -20,8 +20,8 @@ use Rattle.comp_access.specs.declared.refusal.Refusal.{Refusal}
 use Rattle.comp_trace.specs.Acting.{Answers, Steps}
 use Rattle.comp_trace.specs.Deeds.{Deeds, IsMerged, KnowsMade}
 use Rattle.comp_trace.specs.Rounds.{Learns}
-use Rattle.comp_trace.specs.declared.line.Action.{Action}
-use Rattle.comp_trace.specs.declared.line.Action.TheVariants.{Root, Load, Get, Store, Put, New, Nil}
+use Rattle.trace_text.specs.declared.line.Action.{Action}
+use Rattle.trace_text.specs.declared.line.Action.TheVariants.{Root, Load, Get, Store, Put, New, Nil}
 use Rattle.comp_trace.proofs.Merging.{mine, others}
 
 -- what did the same, and knows no less, knows what it made

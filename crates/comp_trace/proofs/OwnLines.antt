@@ -19,11 +19,11 @@ use Rattle.comp_access.specs.declared.refusal.Refusal.{Refusal}
 use Rattle.comp_access.specs.declared.refusal.Refusal.TheVariants.{Busy}
 use Rattle.comp_trace.specs.Acting.{null_registers, registers_after, shown_at, Refuses, Steps}
 use Rattle.comp_trace.specs.Races.{numbered, own_lines, Ends, Ran, Went}
-use Rattle.comp_trace.specs.declared.line.Action.{Action}
-use Rattle.comp_trace.specs.declared.line.Line.{Line}
+use Rattle.trace_text.specs.declared.line.Action.{Action}
+use Rattle.trace_text.specs.declared.line.Line.{Line}
 use Rattle.comp_trace.specs.declared.shown.Shown.{Shown}
-use Rattle.comp_trace.specs.declared.fault.Stop.{Stop}
-use Rattle.comp_trace.specs.declared.line.Action.TheVariants.{Root, Load, Get, Store, Put, New, Nil}
+use Rattle.trace_text.specs.declared.fault.Stop.{Stop}
+use Rattle.trace_text.specs.declared.line.Action.TheVariants.{Root, Load, Get, Store, Put, New, Nil}
 
 -- a reference was stored
 pub stored : (u : Setup) (object field value : ℕ) (registers : List ℕ) (old new : Pass) (o v : ℕ) (r : Result ℕ Refusal) → o ≡ get_or registers object 0 → v ≡ get_or registers value 0

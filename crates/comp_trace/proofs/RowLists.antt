@@ -21,7 +21,7 @@ use Rattle.comp_trace.specs.Deeds.{deeds_of, AreMerged, Deeds, HaveAll}
 use Rattle.comp_trace.specs.Runs.{with_entries}
 use Rattle.comp_trace.specs.Races.{AreAll}
 use Rattle.comp_trace.specs.Rounds.{row, Advances, AreLater, DidNothing, Learns}
-use Rattle.comp_trace.specs.declared.line.Action.{Action}
+use Rattle.trace_text.specs.declared.line.Action.{Action}
 use Rattle.comp_trace.proofs.BetweenRounds.{dids, IsCrew}
 use Rattle.comp_trace.proofs.Building.{BuiltTheirs, HaveStrange}
 use Rattle.comp_trace.proofs.Merging.{merged_by}

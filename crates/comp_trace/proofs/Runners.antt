@@ -14,7 +14,7 @@ use Rattle.comp_mutator.specs.declared.mutator.Mutator.{Mutator}
 use Rattle.comp_mutator.specs.declared.space.Space.{Space}
 use Rattle.comp_trace.specs.Races.{numbered, own_lines, AreAll, HaveRaced, Ran}
 use Rattle.comp_trace.specs.Runners.{lines_for, mutator_of, room_in, room_of, run_of, HasRun, HaveRooms, IsBlank, IsReady}
-use Rattle.comp_trace.specs.declared.line.Line.{Line}
+use Rattle.trace_text.specs.declared.line.Line.{Line}
 use Rattle.comp_trace.specs.declared.race.Run.{Run}
 use Rattle.comp_trace.specs.declared.runner.Runner.{Runner}
 use Rattle.comp_trace.specs.declared.shown.Shown.{Shown}

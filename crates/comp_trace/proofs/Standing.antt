@@ -23,8 +23,8 @@ use Rattle.comp_trace.specs.Deeds.{deeds_of, AreMerged, Deeds, HaveStart, IsMerg
 use Rattle.comp_trace.specs.Replays.{CannotGoOn, GoesOn, RanTo, StandsAt}
 use Rattle.comp_trace.specs.Rounds.{Advances, AreLater, DidNothing, IsTurnedDown, Learns, RanLine, WasTurnedDown}
 use Rattle.comp_trace.specs.Runs.{beginning, with_entries, Acts, Does, Moment, Runs}
-use Rattle.comp_trace.specs.declared.line.Action.{Action}
-use Rattle.comp_trace.specs.declared.line.Line.{Line}
+use Rattle.trace_text.specs.declared.line.Action.{Action}
+use Rattle.trace_text.specs.declared.line.Line.{Line}
 use Rattle.comp_trace.specs.declared.shown.Shown.{Shown}
 use Rattle.comp_trace.proofs.Merging.{merged_by, merged_still}
 

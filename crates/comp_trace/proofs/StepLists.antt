@@ -19,7 +19,7 @@ use Rattle.comp_trace.specs.Builds.{built_after, BuildOn, BuildsTouched}
 use Rattle.comp_trace.specs.Deeds.{deeds_of, HaveAll, HaveStart}
 use Rattle.comp_trace.specs.Races.{AreAll}
 use Rattle.comp_trace.specs.Rounds.{row, AreLater, DidNothing, HasMetAll, IsTurnedDown, Learns, Met, RanLine}
-use Rattle.comp_trace.specs.declared.line.Action.{Action}
+use Rattle.trace_text.specs.declared.line.Action.{Action}
 use Rattle.comp_trace.proofs.BetweenRounds.{dids, IsCrew}
 use Rattle.comp_trace.proofs.Building.{builds_on, BuiltTheirs, HaveStrange}
 use Rattle.comp_trace.proofs.LineRuns.{advances, known, knows, knows_starts, learnt, same_deeds, IsBetween}

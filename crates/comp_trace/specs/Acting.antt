@@ -12,8 +12,8 @@ use Rattle.comp_access.specs.Allocations.{AllocationRefused, Allocates}
 use Rattle.comp_access.specs.Reads.{FieldRefused, Reads}
 use Rattle.comp_access.specs.Writes.{DataRefused, ReferenceRefused, Writes}
 use Rattle.comp_access.specs.declared.refusal.Refusal.{Refusal}
-use Rattle.comp_trace.specs.declared.line.Action.{Action}
-use Rattle.comp_trace.specs.declared.line.Action.TheVariants.{Root, Load, Get, Store, Put, New, Nil}
+use Rattle.trace_text.specs.declared.line.Action.{Action}
+use Rattle.trace_text.specs.declared.line.Action.TheVariants.{Root, Load, Get, Store, Put, New, Nil}
 use Rattle.comp_trace.specs.declared.shown.Shown.{Shown}
 
 -- the line's registers are there, and its root is

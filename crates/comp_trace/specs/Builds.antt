@@ -16,8 +16,8 @@ use Rattle.comp_access.specs.Fields.{place_of}
 use Rattle.comp_mutator.specs.Mutators.{pass_of}
 use Rattle.comp_access.specs.Reads.{BuildsNothing, MayBuild}
 use Rattle.comp_mutator.specs.declared.mutator.Mutator.{Mutator}
-use Rattle.comp_trace.specs.declared.line.Action.{Action}
-use Rattle.comp_trace.specs.declared.line.Action.TheVariants.{Root, Load, Get, Store, Put, New, Nil}
+use Rattle.trace_text.specs.declared.line.Action.{Action}
+use Rattle.trace_text.specs.declared.line.Action.TheVariants.{Root, Load, Get, Store, Put, New, Nil}
 
 -- the page of a slid object's field; an object that a line made lies on a page that was built then
 abbrev pub slid_page : Setup → Kind → ℕ → ℕ → Option ℕ

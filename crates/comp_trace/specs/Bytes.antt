@@ -16,11 +16,11 @@ use Rattle.comp_mutator.specs.Mutators.{pass_of}
 use Rattle.comp_mutator.specs.declared.mutator.Mutator.{Mutator}
 use Rattle.comp_access.specs.declared.refusal.Refusal.{Refusal}
 use Rattle.comp_trace.specs.Acting.{Refuses}
-use Rattle.comp_trace.specs.Grammar.{trace_of, IsReadAs}
+use Rattle.trace_text.specs.Grammar.{trace_of, IsReadAs}
 use Rattle.comp_trace.specs.Runs.{beginning, with_entries, Moment, Runs}
-use Rattle.comp_trace.specs.declared.fault.TraceFault.{TraceFault}
-use Rattle.comp_trace.specs.declared.fault.TraceFault.TheVariants.{BadLine, NoSuchMutator, NoSuchRegister, NumberTooLarge, NoSuchRoot, Refused, OutOfMemory}
-use Rattle.comp_trace.specs.declared.line.Line.{Line}
+use Rattle.trace_text.specs.declared.fault.TraceFault.{TraceFault}
+use Rattle.trace_text.specs.declared.fault.TraceFault.TheVariants.{BadLine, NoSuchMutator, NoSuchRegister, NumberTooLarge, NoSuchRoot, Refused, OutOfMemory}
+use Rattle.trace_text.specs.declared.line.Line.{Line}
 use Rattle.comp_trace.specs.declared.shown.Shown.{Shown}
 
 -- nothing was written

@@ -1,4 +1,3 @@
-pub mod Grammar
 pub mod Acting
 pub mod Traces
 pub mod Races

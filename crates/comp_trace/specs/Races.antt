@@ -13,8 +13,8 @@ use Rattle.comp_mutator.specs.declared.mutator.Mutator.{Mutator}
 use Rattle.comp_access.specs.declared.refusal.Refusal.TheVariants.{Busy}
 use Rattle.comp_mutator.specs.declared.space.Space.{Space}
 use Rattle.comp_trace.specs.Acting.{null_registers, registers_after, shown_at, Refuses, Steps}
-use Rattle.comp_trace.specs.declared.fault.Stop.{Stop}
-use Rattle.comp_trace.specs.declared.line.Line.{Line}
+use Rattle.trace_text.specs.declared.fault.Stop.{Stop}
+use Rattle.trace_text.specs.declared.line.Line.{Line}
 use Rattle.comp_trace.specs.declared.race.Run.{Run}
 use Rattle.comp_trace.specs.declared.shown.Shown.{Shown}
 

@@ -11,9 +11,9 @@ use Rattle.comp_trace.specs.Builds.{HaveBuilt}
 use Rattle.comp_trace.specs.Deeds.{deeds_of, AreMerged, Deeds, HaveAll}
 use Rattle.comp_trace.specs.Rounds.{IsTurnedDown}
 use Rattle.comp_trace.specs.Runs.{beginning, with_entries, Moment, Runs}
-use Rattle.comp_trace.specs.declared.fault.TraceFault.{TraceFault}
-use Rattle.comp_trace.specs.declared.fault.TraceFault.TheVariants.{BadLine, NoSuchMutator, NoSuchRegister, NumberTooLarge, NoSuchRoot, Refused, OutOfMemory}
-use Rattle.comp_trace.specs.declared.line.Line.{Line}
+use Rattle.trace_text.specs.declared.fault.TraceFault.{TraceFault}
+use Rattle.trace_text.specs.declared.fault.TraceFault.TheVariants.{BadLine, NoSuchMutator, NoSuchRegister, NumberTooLarge, NoSuchRoot, Refused, OutOfMemory}
+use Rattle.trace_text.specs.declared.line.Line.{Line}
 use Rattle.comp_trace.specs.declared.shown.Shown.{Shown}
 
 -- The lines were run, from where no register is set, to this moment. Each of n mutators did what it had done, and then what it added.

@@ -17,7 +17,7 @@ use Rattle.comp_access.specs.declared.refusal.Refusal.{Refusal}
 use Rattle.comp_trace.specs.Acting.{Refuses}
 use Rattle.comp_trace.specs.Deeds.{deeds_of, AreMerged, Deeds, HaveAll, KnowsMade, KnowTheirs}
 use Rattle.comp_trace.specs.Runs.{with_entries, Acts}
-use Rattle.comp_trace.specs.declared.line.Action.{Action}
+use Rattle.trace_text.specs.declared.line.Action.{Action}
 
 -- the passes of mutators, by their places; `d` is any of them
 abbrev pub row : {L : Type 0} → Mutator L → List (Mutator L) → ℕ → Pass

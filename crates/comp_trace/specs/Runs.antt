@@ -16,9 +16,9 @@ use Rattle.comp_access.specs.Reads.{Reads}
 use Rattle.comp_access.specs.Allocations.{own_page}
 use Rattle.comp_trace.specs.Acting.{null_registers, registers_after, shown_at}
 use Rattle.comp_trace.specs.Builds.{built_after, touched}
-use Rattle.comp_trace.specs.declared.line.Action.{Action}
-use Rattle.comp_trace.specs.declared.line.Action.TheVariants.{Root, Load, Get, Store, Put, New, Nil}
-use Rattle.comp_trace.specs.declared.line.Line.{Line}
+use Rattle.trace_text.specs.declared.line.Action.{Action}
+use Rattle.trace_text.specs.declared.line.Action.TheVariants.{Root, Load, Get, Store, Put, New, Nil}
+use Rattle.trace_text.specs.declared.line.Line.{Line}
 use Rattle.comp_trace.specs.declared.shown.Shown.{Shown}
 
 -- the journals, with these entries behind them

@@ -6,7 +6,6 @@ ghost use Rattle.comp_mutator.specs.Mutators.{pass_of, setup_of, IsMutatorOf};
 ghost use Rattle.comp_trace.specs.Acting.{registers_after, Fits, Refuses, Steps};
 ghost use Rattle.comp_trace.specs.Builds.{touched, BuildsTouched};
 
-use crate::line::Action;
 use crate::registers::{held, root_at};
 use comp_access::refusal::Refusal;
 use comp_mutator::mutator::Mutator;
@@ -14,6 +13,7 @@ use comp_mutator::space::Space;
 use page_plan::builder::Builder;
 use std::alloc::Global;
 use std::sync::ledger::Ledger;
+use trace_text::line::Action;
 
 /// Does what a line says, and answers what its call does: 0 for a register that becomes null. A busy page is not waited for.
 pub(crate) fn act<L: Ledger, B: Builder>(

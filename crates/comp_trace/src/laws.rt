@@ -3,7 +3,7 @@ ghost use Rattle.std.specs.Prelude.{List};
 ghost use Rattle.cell_steps.specs.Setup.{Setup};
 ghost use Rattle.comp_trace.specs.Bytes.{ShowOnce};
 ghost use Rattle.comp_trace.specs.Runs.{IsDetermined};
-ghost use Rattle.comp_trace.specs.declared.line.Line.{Line};
+ghost use Rattle.trace_text.specs.declared.line.Line.{Line};
 
 use heap_layout::laws::images_differ;
 

@@ -6,13 +6,11 @@ ghost use Rattle.cell_steps.specs.Lists.{Each};
 ghost use Rattle.comp_mutator.specs.Mutators.{setup_of};
 ghost use Rattle.comp_trace.specs.Races.{numbered, own_lines, AreAll, HaveRaced};
 ghost use Rattle.comp_trace.specs.Runners.{mutator_of, room_in, room_of, run_of, HasRun, HaveRooms, IsBlank, IsReady};
-ghost use Rattle.comp_trace.specs.Traces.{lines_of, AllFit, IsParsedFor};
+ghost use Rattle.comp_trace.specs.Traces.{AllFit, IsParsedFor};
+ghost use Rattle.trace_text.specs.Traces.{lines_of};
 
-use crate::fault::Stop;
-use crate::line::Line;
 use crate::runner::{Runner, run_own};
 use crate::shown::Shown;
-use crate::trace::Trace;
 use comp_mutator::mutator::Mutator;
 use comp_mutator::space::Space;
 use heap_layout::fault::OutOfMemory;
@@ -22,6 +20,9 @@ use std::sync::Wait;
 use std::sync::ledger::Ledger;
 use std::thread;
 use std::thread::Threads;
+use trace_text::fault::Stop;
+use trace_text::line::Line;
+use trace_text::trace::Trace;
 
 /// What a mutator's lines showed, and the one that was refused, if any.
 #[derive(Debug, Drop)]
@@ -159,7 +160,7 @@ pub fn race<L: Ledger + Send + Sync, B: Builder, R: Threads + Wait + Sync>(
     ensures raced { IfOk result (λ raced. HaveRaced space.now (lines_of trace.now) mutators.items raced.mutators.items raced.runs.items) }
     ensures back { IfErr result (λ not. not.mutators ≡ mutators) }
 {
-    let lines: &[Line] = &trace.lines;
+    let lines = trace.lines();
     let Ok(rooms) = rooms(alloc, lines, &mutators) else {
         return Err(NotRaced { mutators });
     };

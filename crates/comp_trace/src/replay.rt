@@ -6,19 +6,20 @@ ghost use Rattle.comp_trace.specs.Deeds.{HaveStart};
 ghost use Rattle.comp_trace.specs.Races.{AreAll};
 ghost use Rattle.comp_trace.specs.Replays.{CannotGoOn, GoesOn, HaveReplayed, HaveStopped, IsRefusal};
 ghost use Rattle.comp_trace.specs.Rounds.{AreLater, DidNothing};
-ghost use Rattle.comp_trace.specs.Traces.{lines_of, AllFit, IsParsedFor};
+ghost use Rattle.comp_trace.specs.Traces.{AllFit, IsParsedFor};
+ghost use Rattle.trace_text.specs.Traces.{lines_of};
 
-use crate::fault::TraceFault;
-use crate::line::Line;
 use crate::shown::{Shown, show};
 use crate::stepping::step;
-use crate::trace::Trace;
 use comp_access::refusal::Refusal;
 use comp_mutator::mutator::Mutator;
 use comp_mutator::space::Space;
 use page_plan::builder::Builder;
 use std::alloc::{AllocError, Global};
 use std::sync::ledger::Ledger;
+use trace_text::fault::TraceFault;
+use trace_text::line::Line;
+use trace_text::trace::Trace;
 
 /// The values that were shown before a replay stopped, and why it did.
 #[derive(Debug, Drop)]
@@ -143,5 +144,5 @@ pub fn replay<L: Ledger, B: Builder>(
     ensures ran { IfOk result (λ shown. HaveReplayed (setup_of space.now) mutators.old.items mutators.new.items (lines_of trace.now) shown.items) }
     ensures stopped { IfErr result (λ stopped. HaveStopped (setup_of space.now) mutators.old.items mutators.new.items (lines_of trace.now) stopped.shown.items stopped.fault) }
 {
-    run_lines(alloc, &trace.lines, space, mutators)
+    run_lines(alloc, trace.lines(), space, mutators)
 }

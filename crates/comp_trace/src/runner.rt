@@ -6,8 +6,6 @@ ghost use Rattle.comp_trace.specs.Acting.{null_registers};
 ghost use Rattle.comp_trace.specs.Races.{numbered, own_lines, Ran};
 ghost use Rattle.comp_trace.specs.Traces.{AllFit};
 
-use crate::fault::Stop;
-use crate::line::Line;
 use crate::shown::{Shown, show};
 use crate::waiting::act_waiting;
 use comp_mutator::mutator::Mutator;
@@ -16,6 +14,8 @@ use page_plan::builder::Builder;
 use std::alloc::Global;
 use std::sync::Wait;
 use std::sync::ledger::Ledger;
+use trace_text::fault::Stop;
+use trace_text::line::Line;
 
 /// A mutator that runs its lines: its registers, what its lines showed, and its refused line.
 #[derive(Drop)]

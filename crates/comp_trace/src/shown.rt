@@ -2,7 +2,7 @@
 ghost use Rattle.std.specs.Prelude.{◌≡◌, ◌+◌, ◌≤◌, ◌++◌, length, vec_capacity};
 ghost use Rattle.comp_trace.specs.Acting.{shown_at};
 
-use crate::line::Action;
+use trace_text::line::Action;
 
 /// A value that a line showed, with the number of the line, counted from 1.
 #[derive(Clone, Copy, Debug, PartialEq, Eq)]

@@ -8,13 +8,13 @@ ghost use Rattle.comp_trace.specs.Races.{AreAll};
 ghost use Rattle.comp_trace.specs.Rounds.{AreLater, DidNothing, HasMetAll, HaveMet, RanLine, WasTurnedDown};
 
 use crate::acting::act;
-use crate::line::Action;
 use comp_access::refusal::Refusal;
 use comp_mutator::mutator::Mutator;
 use comp_mutator::space::Space;
 use page_plan::builder::Builder;
 use std::alloc::Global;
 use std::sync::ledger::Ledger;
+use trace_text::line::Action;
 
 /// The mutators at places `k` and `i` meet.
 fn meet_at<L: Ledger, B: Builder>(

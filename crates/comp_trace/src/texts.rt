@@ -4,7 +4,6 @@ ghost use Rattle.comp_mutator.specs.Mutators.{setup_of};
 ghost use Rattle.comp_trace.specs.Bytes.{DidNothingYet, Shows, StopsShowing};
 ghost use Rattle.comp_trace.specs.Races.{AreAll};
 
-use crate::parsing::parse;
 use crate::replay::{Stopped, replay};
 use crate::shown::Shown;
 use comp_mutator::mutator::Mutator;
@@ -12,6 +11,7 @@ use comp_mutator::space::Space;
 use page_plan::builder::Builder;
 use std::alloc::Global;
 use std::sync::ledger::Ledger;
+use trace_text::parsing::parse;
 
 /// Reads the text of a trace, and runs it over a space whose mutators have written nothing yet. There are `count` mutators and `roots` shared roots.
 ///

@@ -6,7 +6,6 @@ ghost use Rattle.comp_mutator.specs.Mutators.{pass_of, setup_of, IsMutatorOf};
 ghost use Rattle.comp_access.specs.declared.refusal.Refusal.TheVariants.{Busy};
 ghost use Rattle.comp_trace.specs.Acting.{registers_after, Fits, Refuses, Steps};
 
-use crate::line::Action;
 use crate::registers::{held, root_at};
 use comp_access::refusal::Refusal;
 use comp_mutator::mutator::Mutator;
@@ -15,6 +14,7 @@ use page_plan::builder::Builder;
 use std::alloc::Global;
 use std::sync::Wait;
 use std::sync::ledger::Ledger;
+use trace_text::line::Action;
 
 /// Does what a line says, and answers what its call does: 0 for a register that becomes null.
 pub(crate) fn act_waiting<L: Ledger, B: Builder>(

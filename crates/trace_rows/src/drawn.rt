@@ -1,10 +1,10 @@
 //! Traces that look random, and what they do to objects kept plainly.
 use crate::plain_run::PlainRun;
-use comp_trace::fault::Stop;
-use comp_trace::line::{Action, Line};
 use plain_objects::random::Random;
 use std::alloc::{AllocError, Global};
 use std::process::Abort;
+use trace_text::fault::Stop;
+use trace_text::line::{Action, Line};
 
 /// How many lines are drawn, of which many would be refused and are left out.
 const DRAWS: u32 = 60;

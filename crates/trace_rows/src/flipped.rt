@@ -8,13 +8,13 @@ ghost use Rattle.comp_trace.specs.Traces.{IsParsedFor};
 use comp_mutator::flipping::flip;
 use comp_mutator::mutator::Mutator;
 use comp_mutator::space::Space;
-use comp_trace::parsing::parse;
-use comp_trace::trace::Trace;
 use page_plan::builder::Builder;
 use std::alloc::Global;
 use std::process::Abort;
 use std::sync::Arc;
 use std::sync::ledger::{Blank, Ledger};
+use trace_text::parsing::parse;
+use trace_text::trace::Trace;
 
 /// A text that is run on a flipped heap, by so many mutators and with so many fresh pages. Its name tells it where it fails.
 #[derive(Clone, Copy)]

@@ -5,7 +5,6 @@ use crate::ran::raced;
 use crate::replays::plan_of_three;
 use comp_access::refusal::Refusal;
 use comp_mutator::finishing::Finished;
-use comp_trace::fault::Stop;
 use comp_trace::race::Run;
 use heap_layout::header::Header;
 use page_plan::plan::Plan;
@@ -13,6 +12,7 @@ use std::alloc::Global;
 use std::marker::Brand;
 use std::process::Abort;
 use std::sync::ledger::Blank;
+use trace_text::fault::Stop;
 use worked_heaps::builders::Meeting;
 use worked_heaps::heaps::{F, heap, planned};
 

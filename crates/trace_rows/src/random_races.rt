@@ -7,8 +7,6 @@ use crate::random_traces::{case_of, drawn};
 use comp_access::refusal::Refusal;
 use comp_journal::entry::Entry;
 use comp_mutator::finishing::Finished;
-use comp_trace::fault::Stop;
-use comp_trace::line::{Action, Line};
 use comp_trace::race::Run;
 use comp_trace::shown::Shown;
 use heap_layout::header::Header;
@@ -22,6 +20,8 @@ use std::process::Abort;
 use std::sync::Wait;
 use std::sync::ledger::Blank;
 use std::thread::Threads;
+use trace_text::fault::Stop;
+use trace_text::line::{Action, Line};
 
 // How many mutators race, and how many traces are drawn for them.
 const RACES: &[(u8, u64)] = &[(1, 1_000), (2, 100), (4, 100)];

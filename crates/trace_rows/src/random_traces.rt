@@ -6,8 +6,6 @@ use crate::flipped::Case;
 use crate::ran::replayed;
 use crate::replays::expect_replay;
 use comp_mutator::finishing::Finished;
-use comp_trace::fault::TraceFault;
-use comp_trace::parsing::parse;
 use comp_trace::replay::Stopped;
 use comp_trace::shown::Shown;
 use page_plan::plan::Plan;
@@ -16,6 +14,8 @@ use std::alloc::Global;
 use std::marker::Brand;
 use std::process::Abort;
 use std::sync::ledger::Blank;
+use trace_text::fault::TraceFault;
+use trace_text::parsing::parse;
 
 // How many traces are drawn for each number of mutators, of which there are four.
 const SEEDS: u64 = 250;

@@ -5,7 +5,6 @@ use crate::ran::replayed;
 use comp_access::refusal::Refusal;
 use comp_journal::entry::Entry;
 use comp_mutator::finishing::Finished;
-use comp_trace::fault::TraceFault;
 use comp_trace::replay::Stopped;
 use comp_trace::shown::Shown;
 use heap_layout::kind::Kind;
@@ -14,6 +13,7 @@ use std::alloc::{AllocError, Global};
 use std::marker::Brand;
 use std::process::Abort;
 use std::sync::ledger::Blank;
+use trace_text::fault::TraceFault;
 use worked_heaps::heaps::{planned, three};
 
 // A text, and what is to come of it.

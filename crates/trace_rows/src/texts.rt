@@ -1,11 +1,11 @@
 //! Texts of traces: those that are none, what the others say, and how faults are printed.
 use crate::expected::expect_so;
 use comp_access::refusal::Refusal;
-use comp_trace::fault::{Stop, TraceFault};
-use comp_trace::line::{Action, Line};
-use comp_trace::parsing::parse;
 use std::alloc::Global;
 use std::process::Abort;
+use trace_text::fault::{Stop, TraceFault};
+use trace_text::line::{Action, Line};
+use trace_text::parsing::parse;
 
 // A text that is no trace of two mutators and one root, and the cause.
 struct Row {

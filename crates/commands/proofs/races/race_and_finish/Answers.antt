@@ -3,8 +3,8 @@ use Rattle.comp_mutator.specs.Unfinished.{IsUnfinishedFor}
 use Rattle.comp_mutator.specs.Mutators.{setup_of}
 use Rattle.comp_mutator.specs.declared.finishing.FinishFault.{FinishFault}
 use Rattle.cell_steps.specs.Lists.{Each}
-use Rattle.comp_trace.specs.Traces.{lines_of}
-use Rattle.comp_trace.specs.declared.line.Line.{Line}
+use Rattle.trace_text.specs.Traces.{lines_of}
+use Rattle.trace_text.specs.declared.line.Line.{Line}
 use Rattle.comp_trace.proofs.Callers.{all_of}
 use Rattle.comp_trace.specs.declared.race.Run.{Run}
 use Rattle.commands.specs.ByLine.{AreByLine, AreOwn, HasEnded, IsLeastStop}

@@ -3,7 +3,7 @@ use Rattle.page_cells.specs.Cells.{steps_of}
 use Rattle.comp_mutator.specs.Unfinished.{IsUnfinishedFor}
 use Rattle.comp_mutator.specs.Mutators.{cells_of, setup_of}
 use Rattle.comp_mutator.specs.declared.finishing.FinishFault.{FinishFault}
-use Rattle.comp_trace.specs.Traces.{lines_of}
+use Rattle.trace_text.specs.Traces.{lines_of}
 use Rattle.comp_trace.proofs.Callers.{all_of, none_built, none_done}
 use Rattle.commands.proofs.Runnings.{all_row, all_there, halted_run, replayed_heap}
 use Rattle.commands.proofs.replays.replay_and_finish.Goals as goal

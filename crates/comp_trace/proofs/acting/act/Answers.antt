@@ -5,7 +5,7 @@ use Rattle.comp_access.specs.Reads.{FieldRefused}
 use Rattle.comp_access.specs.Writes.{DataRefused, ReferenceRefused}
 use Rattle.comp_trace.specs.Acting.{Refuses, Steps}
 use Rattle.comp_trace.specs.Builds.{slid_page, touched, BuildsTouched}
-use Rattle.comp_trace.specs.declared.line.Action.{Action}
+use Rattle.trace_text.specs.declared.line.Action.{Action}
 use Rattle.comp_mutator.specs.Mutators.{pass_of, setup_of}
 use Rattle.comp_trace.proofs.Building.{call_touched, field_touched, made_touched}
 use Rattle.comp_trace.proofs.OwnLines.{stored}

@@ -1,7 +1,7 @@
 use Rattle.std.proofs.Common.{◌≡◌, ◌≤◌, ◌+◌, ℕ, length, take, get_or, sym, subst, arith}
 use Rattle.comp_trace.specs.Races.{numbered, own_lines}
-use Rattle.comp_trace.specs.declared.line.Line.{Line}
-use Rattle.comp_trace.specs.declared.line.Action.TheVariants.{Root}
+use Rattle.trace_text.specs.declared.line.Line.{Line}
+use Rattle.trace_text.specs.declared.line.Action.TheVariants.{Root}
 use Rattle.comp_trace.proofs.OwnLines.{count_all, count_other, count_own, numbered_at, numbered_length}
 use Rattle.comp_trace.proofs.race.count_of.Goals as goal
 use Rattle.comp_trace.proofs.race.count_of.Goals.{then-line-number, else-line-number}

@@ -3,7 +3,7 @@ use lib.ListN.{get_elem?}
 use Rattle.comp_mutator.specs.declared.mutator.Mutator.{Mutator}
 use Rattle.comp_trace.specs.Races.{HaveRaced}
 use Rattle.comp_trace.specs.Traces.{AllFit}
-use Rattle.comp_trace.specs.declared.line.Line.{Line}
+use Rattle.trace_text.specs.declared.line.Line.{Line}
 use Rattle.comp_trace.specs.declared.race.Run.{Run}
 use Rattle.comp_mutator.specs.Mutators.{setup_of}
 use Rattle.comp_trace.proofs.Fitting.{lines_fit}
@@ -15,12 +15,12 @@ pub run_all-requires-clause-fits : goal.run_all-requires-clause-fits
 run_all-requires-clause-fits g c κs within =
     let u = setup_of c.args.space.now in
     let trace = c.args.trace.now in
-    subst (AllFit u) (sym c.deref-lines.ensures.value) (lines_fit u trace.mutators trace.roots trace.lines.items c.requires.parsed.0 c.requires.parsed.1 trace.within)
+    subst (AllFit u) (sym c.lines-lines.ensures.lines) (lines_fit u trace.mutators trace.roots trace.lines.items c.requires.parsed.0 c.requires.parsed.1 c.lines-lines.ensures.within)
 
 pub run_all-requires-clause-ready : goal.run_all-requires-clause-ready
 run_all-requires-clause-ready g c κs within k runner at =
     let r = c.readied-runners in
-    let lines = c.deref-lines.result.now in
+    let lines = c.lines-lines.result.now in
     let rooms = subst (λ (l : List (Mutator g.row.L.Denot)). HaveRooms lines l c.in-Ok.rooms.items) c.deref.ensures.value c.in-Ok.ensures.rooms in
     ready_of c.args.space.now lines c.args.mutators.items c.in-Ok.rooms.items r.result.items r.ensures.mutators r.ensures.rooms r.ensures.blank rooms c.requires.all k runner
     (ap (λ l. get_elem? l k) (sym c.deref_mut.ensures.value) ∙ at)
@@ -33,8 +33,8 @@ returns-clause-raced g c =
     let new = c.run_all.new.runners in
     let same = c.deref_mut.ensures.value in
     let back = written_back r.result.len new r.result.items (omega (arith, c.run_all.ensures.long, ap length same, r.result.ok.0)) in
-    let raced = raced_of space c.deref-lines.result.now before r.result.items new r.ensures.mutators (c.run_all.ensures.long ∙ ap length same) c.requires.all
+    let raced = raced_of space c.lines-lines.result.now before r.result.items new r.ensures.mutators (c.run_all.ensures.long ∙ ap length same) c.requires.all
     (λ k x y at now. c.run_all.ensures.ran k x y (ap (λ l. get_elem? l k) same ∙ at) now) in
-    subst (λ (ls : List Line). HaveRaced space ls before c.parted.result.mutators.items c.parted.result.runs.items) c.deref-lines.ensures.value
-    (subst (λ (ms : List (Mutator g.row.L.Denot)). HaveRaced space c.deref-lines.result.now before ms c.parted.result.runs.items) (sym (c.parted.ensures.mutators ∙ ap (map mutator_of) back))
-    (subst (λ (rs : List Run). HaveRaced space c.deref-lines.result.now before (map mutator_of new) rs) (sym (c.parted.ensures.runs ∙ ap (map run_of) back)) raced))
+    subst (λ (ls : List Line). HaveRaced space ls before c.parted.result.mutators.items c.parted.result.runs.items) c.lines-lines.ensures.lines
+    (subst (λ (ms : List (Mutator g.row.L.Denot)). HaveRaced space c.lines-lines.result.now before ms c.parted.result.runs.items) (sym (c.parted.ensures.mutators ∙ ap (map mutator_of) back))
+    (subst (λ (rs : List Run). HaveRaced space c.lines-lines.result.now before (map mutator_of new) rs) (sym (c.parted.ensures.runs ∙ ap (map run_of) back)) raced))

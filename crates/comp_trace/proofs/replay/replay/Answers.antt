@@ -6,7 +6,7 @@ use Rattle.comp_trace.specs.Deeds.{HaveStart}
 use Rattle.comp_trace.specs.Races.{AreAll}
 use Rattle.comp_trace.specs.Replays.{HaveReplayed, HaveStopped, IsRefusal}
 use Rattle.comp_trace.specs.Traces.{AllFit}
-use Rattle.comp_trace.specs.declared.line.Line.{Line}
+use Rattle.trace_text.specs.declared.line.Line.{Line}
 use Rattle.comp_trace.proofs.Fitting.{lines_fit}
 use Rattle.comp_trace.proofs.Runners.{written_back}
 use Rattle.comp_trace.proofs.replay.replay.Goals as goal
@@ -18,7 +18,7 @@ pub run_lines-requires-clause-lines : goal.run_lines-requires-clause-lines
 run_lines-requires-clause-lines g c κs within =
     let u = setup_of c.args.space.now in
     let trace = c.args.trace.now in
-    subst (AllFit u) (sym c.deref.ensures.value) (lines_fit u trace.mutators trace.roots trace.lines.items c.requires.parsed.0 c.requires.parsed.1 trace.within)
+    subst (AllFit u) (sym c.lines.ensures.lines) (lines_fit u trace.mutators trace.roots trace.lines.items c.requires.parsed.0 c.requires.parsed.1 c.lines.ensures.within)
 
 pub returns-clause-all : goal.returns-clause-all
 returns-clause-all g c =
@@ -31,8 +31,8 @@ pub returns-clause-start : goal.returns-clause-start
 returns-clause-start g c =
     let u = setup_of c.args.space.now in
     let old = c.args.mutators.now in
-    subst (λ (ls : List Line). 0 < length ls → OnOk c.run_lines.result (HaveStart u old.items)) c.deref.ensures.value
-    (subst (λ (l : List (Mutator g.row.L.Denot)). 0 < length c.deref.result.now → OnOk c.run_lines.result (HaveStart u l)) c.deref_mut.ensures.value c.run_lines.ensures.start)
+    subst (λ (ls : List Line). 0 < length ls → OnOk c.run_lines.result (HaveStart u old.items)) c.lines.ensures.lines
+    (subst (λ (l : List (Mutator g.row.L.Denot)). 0 < length c.lines.result.now → OnOk c.run_lines.result (HaveStart u l)) c.deref_mut.ensures.value c.run_lines.ensures.start)
 
 pub returns-clause-started : goal.returns-clause-started
 returns-clause-started g c =
@@ -47,7 +47,7 @@ returns-clause-ran g c =
     let back = written_back old.len new old.items (omega (arith, c.run_lines.auto.mutators, ap length c.deref_mut.ensures.value, old.ok.0)) in
     let Says : List (Mutator g.row.L.Denot) → List (Mutator g.row.L.Denot) → List Line → Type 0 = λ olds news ls. IfOk c.run_lines.result (λ shown. HaveReplayed u olds news ls shown.items) in
     subst (λ (l : List (Mutator g.row.L.Denot)). Says old.items l c.args.trace.now.lines.items) (sym back)
-    (subst (λ (ls : List Line). Says old.items new ls) c.deref.ensures.value (subst (λ (l : List (Mutator g.row.L.Denot)). Says l new c.deref.result.now) c.deref_mut.ensures.value c.run_lines.ensures.ran))
+    (subst (λ (ls : List Line). Says old.items new ls) c.lines.ensures.lines (subst (λ (l : List (Mutator g.row.L.Denot)). Says l new c.lines.result.now) c.deref_mut.ensures.value c.run_lines.ensures.ran))
 
 pub returns-clause-stopped : goal.returns-clause-stopped
 returns-clause-stopped g c =
@@ -57,4 +57,4 @@ returns-clause-stopped g c =
     let back = written_back old.len new old.items (omega (arith, c.run_lines.auto.mutators, ap length c.deref_mut.ensures.value, old.ok.0)) in
     let Says : List (Mutator g.row.L.Denot) → List (Mutator g.row.L.Denot) → List Line → Type 0 = λ olds news ls. IfErr c.run_lines.result (λ stopped. HaveStopped u olds news ls stopped.shown.items stopped.fault) in
     subst (λ (l : List (Mutator g.row.L.Denot)). Says old.items l c.args.trace.now.lines.items) (sym back)
-    (subst (λ (ls : List Line). Says old.items new ls) c.deref.ensures.value (subst (λ (l : List (Mutator g.row.L.Denot)). Says l new c.deref.result.now) c.deref_mut.ensures.value c.run_lines.ensures.stopped))
+    (subst (λ (ls : List Line). Says old.items new ls) c.lines.ensures.lines (subst (λ (l : List (Mutator g.row.L.Denot)). Says l new c.lines.result.now) c.deref_mut.ensures.value c.run_lines.ensures.stopped))

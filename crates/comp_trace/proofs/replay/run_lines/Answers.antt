@@ -7,8 +7,8 @@ use Rattle.comp_trace.specs.Acting.{null_registers}
 use Rattle.comp_trace.specs.Deeds.{deeds_of}
 use Rattle.comp_trace.specs.Replays.{RanTo, StandsAt}
 use Rattle.comp_trace.specs.Runs.{beginning, with_entries}
-use Rattle.comp_trace.specs.declared.line.Action.TheVariants.{Root}
-use Rattle.comp_trace.specs.declared.line.Line.{Line}
+use Rattle.trace_text.specs.declared.line.Action.TheVariants.{Root}
+use Rattle.trace_text.specs.declared.line.Line.{Line}
 use Rattle.comp_trace.specs.declared.shown.Shown.{Shown}
 use Rattle.comp_trace.proofs.OwnLines.{at_or}
 use Rattle.comp_trace.proofs.Runners.{written_back}

@@ -6,8 +6,8 @@ use Rattle.comp_mutator.specs.Mutators.{pass_of, setup_of}
 use Rattle.comp_trace.specs.Acting.{shown_at, Fits}
 use Rattle.comp_trace.specs.Races.{numbered, own_lines, Ran}
 use Rattle.comp_trace.specs.declared.shown.Shown.{Shown}
-use Rattle.comp_trace.specs.declared.line.Line.{Line}
-use Rattle.comp_trace.specs.declared.line.Action.TheVariants.{Root}
+use Rattle.trace_text.specs.declared.line.Line.{Line}
+use Rattle.trace_text.specs.declared.line.Action.TheVariants.{Root}
 use Rattle.comp_trace.proofs.OwnLines.{HasRunFirst, numbered_at, numbered_length, shows_one, has_run_own, has_run_other, room_for, ran_to, ran_all}
 use Rattle.comp_trace.proofs.Runners.{Running}
 use Rattle.comp_trace.proofs.runner.run_own.Goals as goal

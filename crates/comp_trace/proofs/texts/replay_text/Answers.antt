@@ -1,8 +1,8 @@
 use Rattle.std.proofs.Common.{◌≡◌, ℕ, Ok, Err, List, length, subst, inl, inr}
 use Rattle.std.proofs.lemmas.Result.{IfErr-weaker, IfOk-weaker}
 use Rattle.comp_mutator.specs.Mutators.{setup_of}
-use Rattle.comp_trace.specs.Grammar.{trace_of, IsReadAs}
-use Rattle.comp_trace.specs.declared.line.Line.{Line}
+use Rattle.trace_text.specs.Grammar.{trace_of, IsReadAs}
+use Rattle.trace_text.specs.declared.line.Line.{Line}
 use Rattle.comp_trace.proofs.Bytes.{interrupts_of, shows_of}
 use Rattle.comp_trace.proofs.texts.replay_text.Goals as goal
 

@@ -3,7 +3,7 @@ use Rattle.heap_layout.specs.declared.kind.Kind.TheVariants.{Reference, Data}
 use Rattle.comp_access.specs.Reads.{FieldRefused}
 use Rattle.comp_access.specs.Writes.{DataRefused, ReferenceRefused}
 use Rattle.comp_trace.specs.Acting.{Refuses, Steps}
-use Rattle.comp_trace.specs.declared.line.Action.{Action}
+use Rattle.trace_text.specs.declared.line.Action.{Action}
 use Rattle.comp_mutator.specs.Mutators.{pass_of, setup_of}
 use Rattle.comp_trace.proofs.OwnLines.{stored}
 use Rattle.comp_trace.proofs.waiting.act_waiting.Goals as goal

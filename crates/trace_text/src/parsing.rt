@@ -1,0 +1,48 @@
+//! Texts of traces.
+ghost use Rattle.std.specs.Prelude.{◌≡◌, IfOk, IsTrue};
+ghost use Rattle.std.specs.List.{list_all};
+ghost use Rattle.trace_text.specs.Grammar.{is_within, trace_of, IsReadAs};
+ghost use Rattle.trace_text.specs.Traces.{lines_of, mutators_of, roots_of};
+
+use crate::fault::TraceFault;
+use crate::line::Line;
+use crate::reading::read_line;
+use crate::trace::Trace;
+use crate::words::cut;
+use std::alloc::Global;
+
+impl Trace {
+    /// The lines, in order: the first is line 1. They name only mutators and roots that the trace was parsed for.
+    pub fn lines(&self) -> &[Line]
+        ensures lines { result.now ≡ lines_of self.now }
+        ensures within { IsTrue (list_all (is_within (mutators_of self.now) (roots_of self.now)) (lines_of self.now)) }
+    {
+        &self.lines
+    }
+}
+
+/// Reads the text of a trace: its lines, or the first thing that is wrong with it. There are `mutators` mutators and `roots` shared roots.
+///
+/// A fault names its line, counted from 1. `OutOfMemory` is answered only where a growth was refused.
+pub fn parse(alloc: Global, text: &[u8], mutators: u8, roots: u16) -> Result<Trace, TraceFault>
+    ensures lines { IsReadAs lines_of result (trace_of mutators roots text.now) }
+    ensures bounds { IfOk result (λ trace. (mutators_of trace ≡ mutators) × (roots_of trace ≡ roots)) }
+{
+    let mut lines = Vec::new(alloc);
+    let mut room = Vec::new(alloc);
+    let mut n = 1;
+    let mut rest = text;
+    while let Some((line, more)) = cut(rest, b'\n') {
+        lines.push(read_line(line, &mut room, mutators, roots, n)?)?;
+        n += 1;
+        rest = more;
+    }
+    if !rest.is_empty() {
+        return Err(TraceFault::BadLine(n));
+    }
+    Ok(Trace {
+        lines,
+        mutators,
+        roots,
+    })
+}
