@@ -18,7 +18,7 @@ race-requires-clause-all g c κs within = all_of c.args.space (setup_of c.args.s
 pub by_line-shown-requires-clause-own : goal.by_line-shown-requires-clause-own
 by_line-shown-requires-clause-own g c =
     let raced = c.in-Ok-race.raced in
-    subst (λ (ls : List Line). AreOwn ls c.deref-runs.result.now) (sym c.lines-lines.ensures)
+    subst (λ (ls : List Line). AreOwn ls c.deref-runs.result.now) (sym c.lines-lines.ensures.lines)
     (subst (AreOwn (lines_of c.args.trace.now)) (sym c.deref-runs.ensures.value)
     (each_own c.args.space (lines_of c.args.trace.now) c.args.mutators.items raced.mutators.items raced.runs.items c.requires.new c.in-Ok-race.ensures.raced))
 
@@ -27,7 +27,7 @@ by_line-shown-requires-clause-inside g c =
     let raced = c.in-Ok-race.raced in
     let u = setup_of c.args.space in
     let many = many_runs c.args.space (lines_of c.args.trace.now) c.args.mutators.items raced.mutators.items raced.runs.items c.requires.new c.in-Ok-race.ensures.raced in
-    subst (λ (ls : List Line). All (λ (line : Line). line.mutator < length c.deref-runs.result.now) ls) (sym c.lines-lines.ensures)
+    subst (λ (ls : List Line). All (λ (line : Line). line.mutator < length c.deref-runs.result.now) ls) (sym c.lines-lines.ensures.lines)
     (all_inside u.mutators (length u.heap.roots) (length c.deref-runs.result.now) (lines_of c.args.trace.now) c.requires.read.0 (ap length c.deref-runs.ensures.value ∙ many) c.requires.read.1)
 
 pub unreachable-requires : goal.unreachable-requires
