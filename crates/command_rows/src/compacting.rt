@@ -2,7 +2,7 @@
 use commands::compact::{Compaction, print_compact};
 use commands::refusal::{Input, Refusal};
 use comp_dump::fault::DumpFault;
-use heap_layout::counted::Counted;
+use heap_image::counted::Counted;
 use heap_layout::fault::LayoutFault;
 use std::process::Abort;
 use std::sync::Wait;

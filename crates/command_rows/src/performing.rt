@@ -6,7 +6,7 @@ use commands::dumps::FileDumps;
 use commands::refusal::{Input, Refusal};
 use commands::run::perform;
 use commands::traces::FileTraces;
-use heap_layout::counted::Counted;
+use heap_image::counted::Counted;
 use heap_layout::fault::LayoutFault;
 use std::process::Abort;
 use std::rt::Files;

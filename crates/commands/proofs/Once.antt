@@ -2,7 +2,7 @@
 use Rattle.std.proofs.Common.{◌≡◌, ℕ, ◌∙◌, ◌<◌, List, [], ◌∷◌, Option, None, Some, length, map, refl, sym, ap, subst, arith}
 use Rattle.std.specs.List.{range_with_len}
 use Rattle.std.proofs.lemmas.List.{get_or_default, same_lists}
-use Rattle.heap_layout.specs.Encoding.{AreCounted, ImagesDiffer}
+use Rattle.heap_image.specs.Encoding.{AreCounted, ImagesDiffer}
 use Rattle.heap_layout.specs.Faults.{IsAccepted}
 use Rattle.heap_layout.specs.Heap.{Heap}
 use Rattle.heap_layout.proofs.Marked.{passed, sizes-few}

@@ -3,8 +3,8 @@ use Rattle.std.proofs.Common.{◌≡◌, ◌+◌, ℕ, List, Option, Err, true, 
 use Rattle.std.proofs.KnownBytes.{Appends-kept}
 use Rattle.std.proofs.lemmas.List.{take_all}
 use Rattle.std.specs.Io.KnownBytes.{Appends, Keeps}
-use Rattle.heap_layout.specs.Counted.{failures_of, inner_of, is_flushed_of}
-use Rattle.heap_layout.specs.declared.counted.Counted.{Counted}
+use Rattle.heap_image.specs.Counted.{failures_of, inner_of, is_flushed_of}
+use Rattle.heap_image.specs.declared.counted.Counted.{Counted}
 use Rattle.comp_dump.specs.DumpReading.{CountsFailure}
 use Rattle.comp_dump.specs.DumpWriting.{AppendsSome}
 use Rattle.comp_dump.specs.declared.fault.DumpFault.{DumpFault}

@@ -2,7 +2,7 @@
 use Rattle.std.specs.Prelude.{◌≡◌, ℕ, List, Option, IfSome, Result, Ok, Err, codes, ⊤}
 use Rattle.std.specs.Io.KnownBytes.{Appends}
 use Rattle.heap_layout.specs.Heap.{Heap}
-use Rattle.heap_layout.specs.Encoding.{Refuses}
+use Rattle.heap_image.specs.Encoding.{Refuses}
 use Rattle.comp_dump.specs.Dumped.{Dumped, IsStored}
 use Rattle.comp_dump.specs.DumpReading.{read_whole, CountsFailure, Fails}
 use Rattle.comp_audit.specs.Judged.{faults, Judges}

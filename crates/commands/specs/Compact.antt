@@ -3,7 +3,7 @@ use Rattle.std.specs.Prelude.{◌≡◌, ℕ, ◌<◌, List, [], map, length, Op
 use Rattle.std.specs.Io.KnownBytes.{Appends}
 use Rattle.std.specs.List.{range_with_len}
 use Rattle.heap_layout.specs.Heap.{Heap, Object, live}
-use Rattle.heap_layout.specs.Encoding.{Refuses}
+use Rattle.heap_image.specs.Encoding.{Refuses}
 use Rattle.page_plan.specs.Sliding.{forwarded, live_words, page, pages}
 use Rattle.comp_history.specs.Finishes.{builds_in, live_of, pages_of, roots_of}
 use Rattle.comp_history.specs.declared.finished.Finished.{Finished}

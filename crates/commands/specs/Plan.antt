@@ -3,7 +3,7 @@ use Rattle.std.specs.Prelude.{ℕ, List, Option, ◌++◌, unwrap_or, map, codes
 use Rattle.std.specs.Io.KnownBytes.{Appends}
 use Rattle.std.specs.List.{flat_map, range_with_len, enumerate_from}
 use Rattle.heap_layout.specs.Heap.{Heap, Object, live}
-use Rattle.heap_layout.specs.Encoding.{Refuses}
+use Rattle.heap_image.specs.Encoding.{Refuses}
 use Rattle.page_plan.specs.Sliding.{live_words, pages, first_object, forwarded}
 use Rattle.commands.specs.Images.{IsImageOf}
 use Rattle.commands.specs.Printing.{named, numbered}

@@ -3,7 +3,7 @@ use Rattle.std.specs.Prelude.{◌≡◌, ◌⊎◌, ℕ, List, [], length, Optio
 use mathlib.Core.Option.{some}
 use lib.ListN.{get_elem?}
 use Rattle.std.specs.Io.KnownBytes.{Appends, Keeps}
-use Rattle.heap_layout.specs.Encoding.{Refuses}
+use Rattle.heap_image.specs.Encoding.{Refuses}
 use Rattle.heap_layout.specs.Heap.{Heap}
 use Rattle.cell_steps.specs.Lists.{Each}
 use Rattle.cell_steps.specs.Setup.{Setup}

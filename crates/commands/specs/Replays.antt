@@ -3,7 +3,7 @@ use Rattle.std.specs.Prelude.{◌≡◌, ◌⊎◌, ℕ, ◌+◌, ◌<◌, ◌�
 use Rattle.std.specs.Fmt.{decimal}
 use Rattle.std.specs.Io.KnownBytes.{Appends, Keeps}
 use Rattle.std.specs.List.{flat_map, range_with_len}
-use Rattle.heap_layout.specs.Encoding.{encoding, Refuses}
+use Rattle.heap_image.specs.Encoding.{encoding, Refuses}
 use Rattle.heap_layout.specs.Faults.{IsAccepted}
 use Rattle.heap_layout.specs.Heap.{live, Heap, IsStored}
 use Rattle.page_plan.specs.Sliding.{forwarded, live_words}

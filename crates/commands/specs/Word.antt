@@ -2,7 +2,7 @@
 use Rattle.std.specs.Prelude.{◌≡◌, ℕ, ◌*◌, ◌<◌, ◌≤◌, List, Option, IfSome, slice_index}
 use Rattle.std.specs.Io.KnownBytes.{Appends}
 use Rattle.heap_layout.specs.Heap.{Heap, live}
-use Rattle.heap_layout.specs.Encoding.{Refuses}
+use Rattle.heap_image.specs.Encoding.{Refuses}
 use Rattle.page_plan.specs.Sliding.{slid_words, pages}
 use Rattle.comp_access.specs.declared.refusal.Refusal.TheVariants as mutators
 use Rattle.commands.specs.Images.{IsImageOf}

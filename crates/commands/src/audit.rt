@@ -1,6 +1,6 @@
 //! The command `audit`.
 ghost use Rattle.std.specs.Prelude.{◌≡◌, ◌-◌, ◌^◌, ◌<◌, IfOk, IfErr, OnOk};
-ghost use Rattle.heap_layout.specs.Counted.{inner_of, failures_of, writer_of};
+ghost use Rattle.heap_image.specs.Counted.{inner_of, failures_of, writer_of};
 ghost use Rattle.comp_audit.specs.Judged.{faults, Judges};
 ghost use Rattle.commands.specs.Audits.{CountsDump, FailsAudit, HasPassed, IsDumpIn, IsOfOpeningDump, Passes, RefusesAudit, RefusesDump, RefusesDumpAt, SomeAudit};
 ghost use Rattle.commands.specs.Images.{SomeGiven};
@@ -15,7 +15,7 @@ use comp_audit::verdict::Verdict;
 use comp_dump::dump::Dump;
 use comp_dump::laws::dump_is_read_again;
 use comp_dump::reading::read_dump;
-use heap_layout::counted::Counted;
+use heap_image::counted::Counted;
 use heap_layout::heap::MarkedHeap;
 use page_plan::plan::Plan;
 use std::alloc::Global;

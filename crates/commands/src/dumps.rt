@@ -1,6 +1,6 @@
 //! Where the dumps are written.
 ghost use Rattle.std.specs.Prelude.{◌≡◌, ℕ, ◌-◌, ◌^◌, ◌<◌, List, true, IfOk, IfErr, OnOk};
-ghost use Rattle.heap_layout.specs.Counted.{inner_of, failures_of, is_flushed_of};
+ghost use Rattle.heap_image.specs.Counted.{inner_of, failures_of, is_flushed_of};
 ghost use Rattle.comp_dump.specs.DumpEncoding.{dump_bytes};
 ghost use Rattle.comp_dump.specs.DumpReading.{CountsFailure};
 ghost use Rattle.comp_dump.specs.DumpWriting.{Writes};
@@ -10,7 +10,7 @@ use crate::refusal::{Output, Refusal};
 use comp_dump::dump::Dump;
 use comp_dump::fault::DumpFault;
 use comp_dump::writing::write_dump;
-use heap_layout::counted::Counted;
+use heap_image::counted::Counted;
 use std::alloc::Global;
 use std::fs;
 use std::io::{BufWriter, Write};

@@ -4,9 +4,9 @@ ghost use Rattle.commands.specs.Images.{IsImageOf, RefusesAt, RefusesImage, Some
 ghost use Rattle.commands.specs.Printing.{IsOfOpening};
 
 use crate::refusal::{Input, Refusal};
-use heap_layout::counted::Counted;
+use heap_image::counted::Counted;
+use heap_image::image::read_image;
 use heap_layout::heap::MarkedHeap;
-use heap_layout::image::read_image;
 use std::alloc::Global;
 use std::fs;
 use std::io::{BufReader, Read};

@@ -1,7 +1,7 @@
 //! The command `plan`.
 ghost use Rattle.std.specs.Prelude.{◌≡◌, ◌-◌, ◌^◌, ◌<◌, IfErr, OnOk, OnErr, Err};
 ghost use Rattle.std.specs.Io.KnownBytes.{Appends};
-ghost use Rattle.heap_layout.specs.Counted.{inner_of, failures_of, writer_of};
+ghost use Rattle.heap_image.specs.Counted.{inner_of, failures_of, writer_of};
 ghost use Rattle.heap_layout.specs.Heap.{live};
 ghost use Rattle.commands.specs.Printing.{CountsPrint, CountsRead, RefusedUnprinted};
 ghost use Rattle.commands.specs.Plan.{plan_text, count_lines, page_lines, root_lines, IsOfPrinting, PrintsPlan, RefusesPlan};
@@ -10,8 +10,8 @@ ghost use Rattle.commands.specs.Images.{IsImageOf, SomeGiven, RefusesAt};
 use crate::images::Images;
 use crate::print::{print_line, print_numbered};
 use crate::refusal::Refusal;
-use heap_layout::counted::Counted;
-use heap_layout::image::read_image;
+use heap_image::counted::Counted;
+use heap_image::image::read_image;
 use page_plan::plan::Plan;
 use std::alloc::Global;
 use std::io::{Read, Write};

@@ -1,6 +1,6 @@
 //! The command `race`.
 ghost use Rattle.std.specs.Prelude.{◌≡◌, ◌-◌, ◌^◌, ◌<◌, ◌≤◌, IfErr, OnOk};
-ghost use Rattle.heap_layout.specs.Counted.{inner_of, failures_of, writer_of};
+ghost use Rattle.heap_image.specs.Counted.{inner_of, failures_of, writer_of};
 ghost use Rattle.commands.specs.Dumps.{RefusedUncreated};
 ghost use Rattle.commands.specs.Printing.{CountsPrint};
 ghost use Rattle.commands.specs.Races.{Races, RefusesRace};
@@ -14,7 +14,7 @@ use crate::replay::write_run;
 use crate::shown::print_shown;
 use crate::traces::{Traces, trace_at};
 use command_line::words::TraceRun;
-use heap_layout::counted::Counted;
+use heap_image::counted::Counted;
 use std::alloc::Global;
 use std::io::Write;
 use std::sync::Wait;

@@ -1,6 +1,6 @@
 //! The command `replay`.
 ghost use Rattle.std.specs.Prelude.{◌≡◌, ◌-◌, ◌^◌, ◌<◌, ◌≤◌, IfErr, OnOk};
-ghost use Rattle.heap_layout.specs.Counted.{inner_of, failures_of, writer_of};
+ghost use Rattle.heap_image.specs.Counted.{inner_of, failures_of, writer_of};
 ghost use Rattle.comp_history.specs.Finishes.{live_of, IsOfFlip};
 ghost use Rattle.comp_dump.specs.DumpEncoding.{dump_bytes};
 ghost use Rattle.commands.specs.Dumps.{RefusedUncreated, WritesWhole};
@@ -16,7 +16,7 @@ use crate::shown::print_shown;
 use crate::traces::{Traces, trace_at};
 use command_line::words::TraceRun;
 use comp_dump::dump::Dump;
-use heap_layout::counted::Counted;
+use heap_image::counted::Counted;
 use std::alloc::Global;
 use std::io::Write;
 

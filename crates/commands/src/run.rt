@@ -1,7 +1,7 @@
 ghost use Rattle.std.specs.Prelude.{◌≡◌, ◌-◌, ◌^◌, ◌<◌, ◌≤◌, true, map, IfOk, IfErr, OnOk, OnErr};
 ghost use Rattle.std.specs.String.{string_bytes};
 ghost use Rattle.std.specs.Io.KnownBytes.{Keeps};
-ghost use Rattle.heap_layout.specs.Counted.{inner_of, failures_of, is_flushed_of, writer_of};
+ghost use Rattle.heap_image.specs.Counted.{inner_of, failures_of, is_flushed_of, writer_of};
 ghost use Rattle.command_line.specs.Asked.{AsksNoCommand, HasLawfulCounts};
 ghost use Rattle.commands.specs.Printing.{CountsPrint};
 ghost use Rattle.commands.specs.Replays.{StopsUnprinted};
@@ -20,7 +20,7 @@ use crate::traces::{FileTraces, Traces};
 use crate::word::print_word;
 use clap::error::ErrorKind;
 use command_line::words::{Task, VERSION_LINE, read_task};
-use heap_layout::counted::Counted;
+use heap_image::counted::Counted;
 use std::alloc::Global;
 use std::io::Write;
 use std::rt::Files;

@@ -1,14 +1,14 @@
 //! Printing the values that the lines of a trace showed.
 ghost use Rattle.std.specs.Prelude.{◌≡◌, ◌-◌, ◌^◌, ◌<◌, drop, OnOk, OnErr, Err};
 ghost use Rattle.std.specs.Io.KnownBytes.{Appends};
-ghost use Rattle.heap_layout.specs.Counted.{inner_of, failures_of, writer_of};
+ghost use Rattle.heap_image.specs.Counted.{inner_of, failures_of, writer_of};
 ghost use Rattle.commands.specs.Printing.{CountsPrint};
 ghost use Rattle.commands.specs.Replays.{shown_line, shown_lines};
 
 use crate::print::print_bytes;
 use crate::refusal::Refusal;
 use comp_trace::shown::Shown;
-use heap_layout::counted::Counted;
+use heap_image::counted::Counted;
 use itoa::write_digits;
 use std::io::Write;
 

@@ -1,12 +1,12 @@
 //! Where the traces lie, and how their texts are read.
 ghost use Rattle.std.specs.Prelude.{◌≡◌, ℕ, ◌-◌, ◌^◌, ◌<◌, List, IfOk, IfErr, IfSome};
-ghost use Rattle.heap_layout.specs.Counted.{inner_of, failures_of};
+ghost use Rattle.heap_image.specs.Counted.{inner_of, failures_of};
 ghost use Rattle.trace_text.specs.Traces.{lines_of, mutators_of, roots_of};
 ghost use Rattle.commands.specs.Images.{SomeGiven};
 ghost use Rattle.commands.specs.Texts.{CountsText, IsOfOpeningText, IsOfReading, IsTextOf, RefusesText, RefusesTextAt};
 
 use crate::refusal::{Input, Refusal};
-use heap_layout::counted::Counted;
+use heap_image::counted::Counted;
 use std::alloc::Global;
 use std::fs;
 use std::io::{BufReader, Read};

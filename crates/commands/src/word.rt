@@ -1,6 +1,6 @@
 //! The command `word`.
 ghost use Rattle.std.specs.Prelude.{◌≡◌, ◌*◌, ◌-◌, ◌/◌, ◌^◌, ◌<◌, ◌≤◌, map, slice_index, IfOk, IfErr, OnOk, OnErr, Err};
-ghost use Rattle.heap_layout.specs.Counted.{inner_of, failures_of, writer_of};
+ghost use Rattle.heap_image.specs.Counted.{inner_of, failures_of, writer_of};
 ghost use Rattle.heap_layout.specs.Heap.{live};
 ghost use Rattle.page_plan.specs.Sliding.{pages, slid_words};
 ghost use Rattle.page_cells.specs.Cells.{steps_of, AreNew, IsNew};
@@ -20,8 +20,8 @@ use comp_mutator::laws::alone_sees_its_own;
 use comp_mutator::mutator::Mutator;
 use comp_mutator::refusal::FlipFault;
 use comp_mutator::space::Space;
-use heap_layout::counted::Counted;
-use heap_layout::image::read_image;
+use heap_image::counted::Counted;
+use heap_image::image::read_image;
 use page_plan::laws::pages_are_parts;
 use page_plan::plan::Plan;
 use std::alloc::Global;

@@ -2,7 +2,7 @@
 ghost use Rattle.std.specs.Prelude.{◌≡◌, ℕ, ◌-◌, ◌^◌, ◌<◌, ◌≤◌, ◌++◌, [], ◌∷◌, All, OnOk, length, map, true, Some};
 ghost use Rattle.std.specs.Io.KnownBytes.{Appends};
 ghost use Rattle.std.specs.List.{flat_map};
-ghost use Rattle.heap_layout.specs.Counted.{inner_of, failures_of, is_flushed_of};
+ghost use Rattle.heap_image.specs.Counted.{inner_of, failures_of, is_flushed_of};
 ghost use Rattle.page_cells.specs.Ends.{lists as items_of};
 ghost use Rattle.comp_dump.specs.Dumped.{HasFewEntries, IsWritable};
 ghost use Rattle.comp_dump.specs.DumpEncoding.{built_bytes, builds_bytes, dump_bytes, eight_bytes, entry_bytes, four_bytes, front_bytes, head, kind_code, one_byte, page_bytes};
@@ -15,9 +15,9 @@ use crate::page::DumpedPage;
 use crate::reading::fields::{MAGIC, VERSION};
 use byteorder::{ByteOrder, LittleEndian};
 use comp_journal::entry::Entry;
-use heap_layout::counted::Counted;
+use heap_image::counted::Counted;
+use heap_image::parts::write_whole;
 use heap_layout::kind::Kind;
-use heap_layout::parts::write_whole;
 use std::io::Write;
 
 /// Writes a whole part.

@@ -6,7 +6,7 @@ use comp_dump::fault::DumpFault;
 use comp_dump::reading::read_dump;
 use comp_dump::writing::write_dump;
 use comp_journal::entry::Entry;
-use heap_layout::counted::Counted;
+use heap_image::counted::Counted;
 use page_plan::plan::Plan;
 use std::alloc::Global;
 use std::process::Abort;

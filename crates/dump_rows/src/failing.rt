@@ -7,7 +7,7 @@ use comp_dump::dump::Dump;
 use comp_dump::fault::DumpFault;
 use comp_dump::reading::read_dump;
 use comp_dump::writing::write_dump;
-use heap_layout::counted::Counted;
+use heap_image::counted::Counted;
 use std::alloc::Global;
 use std::io::ErrorKind;
 use std::process::Abort;

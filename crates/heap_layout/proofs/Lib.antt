@@ -1,9 +1,3 @@
 pub mod MarkBits
 pub mod Rows
 pub mod Marked
-pub mod Images
-pub mod Injective
-pub mod Numbers
-pub mod PartFaults
-pub mod Reading
-pub mod Verdicts

@@ -1,15 +1,11 @@
-//! The layout of a marked heap, and its images: headers, heaps that are accepted and why others are not, pages of words, and reading an image.
+//! The layout of a marked heap: headers, heaps that are accepted and why others are not, and pages of words.
 #![tactic(auto)]
 
 pub mod bits;
 pub mod checks;
-pub mod counted;
 pub mod fault;
 pub mod header;
 pub mod heap;
-pub mod image;
 pub mod kind;
-pub mod laws;
 pub mod page_words;
-pub mod parts;
 mod targets;

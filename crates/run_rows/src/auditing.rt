@@ -3,7 +3,7 @@ use commands::audit::print_audit;
 use commands::refusal::{Input, Refusal};
 use comp_audit::verdict::AuditFault;
 use comp_dump::fault::DumpFault;
-use heap_layout::counted::Counted;
+use heap_image::counted::Counted;
 use heap_layout::fault::LayoutFault;
 use std::fs;
 use std::process::Abort;

@@ -5,7 +5,7 @@ use commands::refusal::{Input, Refusal};
 use commands::replay::print_replay;
 use commands::traces::{FileTraces, trace_in};
 use comp_dump::fault::DumpFault;
-use heap_layout::counted::Counted;
+use heap_image::counted::Counted;
 use std::alloc::Global;
 use std::io::{Error, ErrorKind, Read, Result as IoResult};
 use std::process::Abort;

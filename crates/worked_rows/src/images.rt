@@ -1,10 +1,10 @@
 //! Images: read whole, cut, changed, and from readers that fail.
 use crate::expected::{At, expect_count, expect_fault, expect_so};
 use crate::readers::Pieces;
-use heap_layout::counted::Counted;
+use heap_image::counted::Counted;
+use heap_image::image::read_image;
 use heap_layout::fault::LayoutFault;
 use heap_layout::heap::MarkedHeap;
-use heap_layout::image::read_image;
 use std::alloc::AllocError;
 use std::io::ErrorKind;
 use std::process::Abort;

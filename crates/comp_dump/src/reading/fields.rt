@@ -2,14 +2,14 @@
 ghost use Rattle.std.specs.Prelude.{◌≡◌, ℕ, ◌-◌, ◌^◌, ◌<◌, ◌≤◌, IfOk, IfErr, IfSome, OnOk, length, slice_index};
 ghost use Rattle.std.specs.Io.KnownBytes.{Consumes, IsAtEnd};
 ghost use Rattle.byteorder.specs.Endian.{little_bytes};
-ghost use Rattle.heap_layout.specs.Counted.{inner_of, failures_of};
+ghost use Rattle.heap_image.specs.Counted.{inner_of, failures_of};
 ghost use Rattle.comp_dump.specs.DumpEncoding.{four_bytes, magic};
 ghost use Rattle.comp_dump.specs.DumpReading.{expected, number, word, CountsFailure, EndsBefore, RefusesEnd, Stops};
 
 use crate::fault::DumpFault;
 use byteorder::{ByteOrder, LittleEndian};
-use heap_layout::counted::Counted;
-use heap_layout::parts::{Cut, fill};
+use heap_image::counted::Counted;
+use heap_image::parts::{Cut, fill};
 use std::io::Read;
 
 /// The first bytes of a dump.

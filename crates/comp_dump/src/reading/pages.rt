@@ -2,7 +2,7 @@
 ghost use Rattle.std.specs.Prelude.{◌≡◌, ◌-◌, ◌^◌, ◌<◌, ◌≤◌, IfOk, IfErr, All, length};
 ghost use Rattle.std.specs.Io.KnownBytes.{Consumes};
 ghost use Rattle.std.specs.List.{flat_map};
-ghost use Rattle.heap_layout.specs.Counted.{inner_of, failures_of};
+ghost use Rattle.heap_image.specs.Counted.{inner_of, failures_of};
 ghost use Rattle.comp_dump.specs.Dumped.{IsStoredEntry, IsStoredPage, IsStoredRecord};
 ghost use Rattle.comp_dump.specs.DumpEncoding.{built_bytes, eight_bytes, entry_bytes, kind_code, one_byte, page_bytes};
 ghost use Rattle.comp_dump.specs.DumpReading as reading;
@@ -12,7 +12,7 @@ use crate::fault::DumpFault;
 use crate::page::DumpedPage;
 use crate::reading::fields::{read_eight, read_four, read_one};
 use comp_journal::entry::Entry;
-use heap_layout::counted::Counted;
+use heap_image::counted::Counted;
 use heap_layout::kind::Kind;
 use heap_layout::page_words::PageWords;
 use std::alloc::Global;

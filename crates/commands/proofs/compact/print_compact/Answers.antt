@@ -1,6 +1,6 @@
 use Rattle.std.proofs.Common.{arith}
 use Rattle.std.proofs.lemmas.Result.{err_from_is_err_and, on_ok_weaker}
-use Rattle.heap_layout.specs.Counted.{inner_of, failures_of}
+use Rattle.heap_image.specs.Counted.{inner_of, failures_of}
 use Rattle.comp_dump.specs.DumpEncoding.{dump_bytes}
 use Rattle.commands.proofs.Compacted.{of_all, of_dumping, of_line, of_sweep, uncounted, IsDumpOf}
 use Rattle.commands.proofs.Outcomes.{created, created_line, uncounted_dump, uncreated, unprinted}

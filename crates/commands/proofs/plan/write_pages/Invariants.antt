@@ -1,7 +1,7 @@
 use Rattle.std.proofs.Common.{◌≡◌}
 use Rattle.std.specs.Io.KnownBytes.{Appends}
 use Rattle.std.specs.List.{flat_map, range_with_len}
-use Rattle.heap_layout.specs.Counted.{inner_of, failures_of, writer_of}
+use Rattle.heap_image.specs.Counted.{inner_of, failures_of, writer_of}
 use Rattle.heap_layout.specs.Heap.{live}
 use Rattle.commands.specs.Plan.{page_line}
 use Rattle.commands.proofs.plan.write_pages.Given as goal

@@ -2,7 +2,7 @@ use Rattle.std.proofs.Common.{◌≡◌, List, ℕ, ◌++◌, map, ◌∙◌, su
 use Rattle.std.proofs.KnownBytes.{Appends-trans}
 use Rattle.std.proofs.lemmas.Result.{on_ok_weaker}
 use Rattle.std.specs.Io.KnownBytes.{Appends}
-use Rattle.heap_layout.specs.Counted.{inner_of}
+use Rattle.heap_image.specs.Counted.{inner_of}
 use Rattle.heap_layout.specs.Heap.{live}
 use Rattle.page_plan.specs.Sliding.{forward, forwarded}
 use Rattle.commands.specs.Plan.{count_lines, page_lines, root_lines}

@@ -2,7 +2,7 @@ use Rattle.std.proofs.Common.{◌≡◌, List, ap, length, subst}
 use Rattle.std.proofs.KnownBytes.{Keeps-refl}
 use Rattle.std.proofs.lemmas.Result.{err_from_is_err_and}
 use Rattle.std.specs.Io.KnownBytes.{Appends}
-use Rattle.heap_layout.specs.Counted.{inner_of, failures_of}
+use Rattle.heap_image.specs.Counted.{inner_of, failures_of}
 use Rattle.trace_text.specs.Traces.{lines_of}
 use Rattle.comp_trace.specs.declared.shown.Shown.{Shown}
 use Rattle.commands.specs.Replays.{shown_lines}

@@ -1,6 +1,6 @@
 use Rattle.std.proofs.Common.{arith, subst}
 use Rattle.std.proofs.lemmas.Result.{err_from_is_err_and}
-use Rattle.heap_layout.specs.Counted.{inner_of, failures_of}
+use Rattle.heap_image.specs.Counted.{inner_of, failures_of}
 use Rattle.comp_dump.specs.Dumped.{Dumped}
 use Rattle.comp_dump.specs.DumpEncoding.{dump_bytes}
 use Rattle.commands.specs.Dumps.{IsOfDumping}

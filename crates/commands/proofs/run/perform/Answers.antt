@@ -1,5 +1,5 @@
 use Rattle.std.proofs.Common.{rules}
-use Rattle.heap_layout.specs.Counted.{inner_of}
+use Rattle.heap_image.specs.Counted.{inner_of}
 use Rattle.commands.specs.Tasks.{DoesTask, RefusesTask}
 use Rattle.commands.proofs.Performed.{err_by, flushed_task, ok_by, unflushed_task}
 use Rattle.commands.proofs.run.perform.Goals.{in-Plan+in_ok-print_plan-in-Plan, in-Word+in_ok-print_word-in-Word, in-Replay+in_ok-print_replay-in-Replay, in-Race+in_ok-print_race-in-Race, in-Compact+in_ok-print_compact-in-Compact, in-Audit+in_ok-print_audit-in-Audit, in-Help+in_ok-print_help-in-Help, in-Version+in_ok-print_text-in-Version}

@@ -1,7 +1,7 @@
 use Rattle.std.proofs.Common.{◌≡◌, take}
 use Rattle.std.specs.Io.KnownBytes.{Appends}
 use Rattle.std.specs.List.{flat_map}
-use Rattle.heap_layout.specs.Counted.{inner_of, failures_of, writer_of}
+use Rattle.heap_image.specs.Counted.{inner_of, failures_of, writer_of}
 use Rattle.commands.specs.Replays.{shown_line}
 use Rattle.commands.proofs.shown.print_shown.Given as goal
 

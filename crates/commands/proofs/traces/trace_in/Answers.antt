@@ -1,5 +1,5 @@
 use Rattle.std.proofs.lemmas.Result.{err_from_is_err_and}
-use Rattle.heap_layout.specs.Counted.{inner_of}
+use Rattle.heap_image.specs.Counted.{inner_of}
 use Rattle.commands.proofs.ReplayRuns.{of_reading}
 use Rattle.commands.proofs.traces.trace_in.Goals as goal
 

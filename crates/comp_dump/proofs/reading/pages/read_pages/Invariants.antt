@@ -1,7 +1,7 @@
 use Rattle.std.proofs.Common.{◌≡◌, All, length}
 use Rattle.std.specs.List.{flat_map}
 use Rattle.std.specs.Io.KnownBytes.{Consumes}
-use Rattle.heap_layout.specs.Counted.{inner_of, failures_of}
+use Rattle.heap_image.specs.Counted.{inner_of, failures_of}
 use Rattle.comp_dump.specs.Dumped.{IsStoredRecord}
 use Rattle.comp_dump.specs.DumpEncoding.{page_bytes}
 use Rattle.comp_dump.proofs.reading.pages.read_pages.Given as goal
