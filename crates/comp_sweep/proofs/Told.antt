@@ -18,7 +18,8 @@ use Rattle.comp_history.specs.Finishes.{named}
 use Rattle.comp_mutator.specs.Mutators.{pass_of, setup_of, AreMutatorsOf, IsMutatorOf}
 use Rattle.comp_mutator.specs.declared.space.Space.{Space}
 use Rattle.comp_mutator.specs.declared.mutator.Mutator.{Mutator}
-use Rattle.comp_sweep.specs.Regions.{regions_of, AreAllOnce, SeesRegion}
+use Rattle.comp_regions.specs.Regions.{regions_of, AreAllOnce}
+use Rattle.comp_sweep.specs.Regions.{SeesRegion}
 use Rattle.comp_sweep.specs.Sweeps.{HandsBack, Sweeps, SeesRegions, SomeSeesBuilt}
 use Rattle.comp_sweep.specs.Workers.{kit_regions, worker_mutator, worker_regions, AreKits, AreMade, AreReady, HasSwept}
 use Rattle.comp_sweep.specs.declared.stopping.Sweeping as sweeping
@@ -53,7 +54,7 @@ module _ {L B : Type 0} {g : Ghosts B} (space : Space L B g) where
   module _ {S : Type 0} {s : sweeping.Ghosts S} (cell : ℕ) (given : List (Mutator L)) (kits : List (Kit S s)) (workers : List (Worker L S s)) (made : AreMade cell given kits workers) where
     -- workers that are made can begin
     pub ready_all : (compacted count : ℕ) (told : List Pass) → told ≡ map pass_of given → compacted ≡ (setup_of space).compacted → AreMutatorsOf space given
-        → AreKits (regions_of (setup_of space)) count kits → AreReady space cell compacted told workers
+        → AreKits (regions_of (setup_of space).compacted) count kits → AreReady space cell compacted told workers
     ready_all compacted count told e ec of k j x at =
         let here : get_elem? given j ≡ some x.mutator = subst (λ l. get_elem? l j ≡ some x.mutator) made.mutators (at_map worker_mutator workers j x at) in record {
           of = all_at (λ (m : Mutator L). IsMutatorOf space m) given of j x.mutator here;
@@ -83,7 +84,7 @@ only_at : (q x : ℕ) → 0 < only q x → q ≡ x
 only_at q x lt = elim (ℕ_discrete q x) [ yes e ↦ e | no ne ↦ absurd (omega (arith, lt, ap {B = ℕ} (λ (b : Bool). cond b 1 0) (ne_eqb q x ne))) ]
 
 -- page p lies in a region, which someone swept
-pub someone_sees : {L : Type 0} (u : Setup) (mutators : List (Mutator L)) (regions : List (Vec ℕ)) → AreAllOnce (regions_of u) (lists regions) → AllZip (SeesRegions u) mutators regions
+pub someone_sees : {L : Type 0} (u : Setup) (mutators : List (Mutator L)) (regions : List (Vec ℕ)) → AreAllOnce (regions_of u.compacted) (lists regions) → AllZip (SeesRegions u) mutators regions
     → (p : ℕ) → p < u.compacted → SomeSeesBuilt mutators p
 someone_sees u mutators regions all m p lt =
     let q = p / 8 in

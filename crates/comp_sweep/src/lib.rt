@@ -6,7 +6,6 @@ pub mod refusal;
 pub mod report;
 mod reserving;
 mod running;
-mod splitting;
 mod starting;
 mod stopping;
 pub mod sweeping;

@@ -3,11 +3,11 @@ ghost use Rattle.std.specs.Prelude.{◌≡◌, ◌<◌, ◌≤◌, [], length, m
 ghost use Rattle.once_cell.specs.Once.{cell_name};
 ghost use Rattle.comp_sweep.specs.Workers.{kit_regions, AreKits, AreMade, HasRoom};
 
-use crate::splitting::split;
 use crate::starting::Started;
 use crate::stopping::{Met, Sweeping};
 use crate::working::Worker;
 use comp_mutator::mutator::Mutator;
+use comp_regions::splitting::split;
 use heap_layout::fault::OutOfMemory;
 use once_cell::race::OnceBox;
 use page_plan::builder::Builder;

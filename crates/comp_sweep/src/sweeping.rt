@@ -3,7 +3,7 @@ ghost use Rattle.std.specs.List.{AllZip};
 ghost use Rattle.std.specs.Prelude.{◌≡◌, ℕ, ◌<◌, length, map, IfOk, IfErr, MatchResult};
 ghost use Rattle.page_cells.specs.Ends.{lists as numbers_of};
 ghost use Rattle.comp_mutator.specs.Mutators.{pass_of, setup_of, AreMutatorsOf};
-ghost use Rattle.comp_sweep.specs.Regions.{regions_of, AreAllOnce};
+ghost use Rattle.comp_regions.specs.Regions.{regions_of, AreAllOnce};
 ghost use Rattle.comp_sweep.specs.Sweeps.{HandsBack, SeesRegions, SomeSeesBuilt, SweepRefused};
 ghost use Rattle.comp_sweep.specs.Workers.{IsNotSwept, IsSwept};
 
@@ -13,9 +13,9 @@ use crate::report::{NotSwept, SweepReport};
 use crate::reserving::{make_workers, reserve};
 use crate::running::{Outcome, run};
 use crate::stopping::Sweeping;
-use crate::working::region_count;
 use comp_mutator::mutator::Mutator;
 use comp_mutator::space::Space;
+use comp_regions::regions::region_count;
 use once_cell::race::OnceBox;
 use page_plan::builder::Builder;
 use std::alloc::Global;
@@ -46,7 +46,11 @@ fn sweep_as<
     ensures refused { IfErr result (IsNotSwept space.now mutators.items) }
 {
     let count = mutators.len();
-    let Ok((room, made, kits)) = reserve::<L, B, S>(alloc, region_count(space), count) else {
+    let Ok((room, made, kits)) = reserve::<L, B, S>(
+        alloc,
+        region_count(space.compacted_pages()),
+        count,
+    ) else {
         return Err(NotSwept {
             fault: SweepFault::Resources,
             mutators,
@@ -81,7 +85,7 @@ pub fn sweep<L: Named + Send, B: Builder, G: Gate, R: Threads + Wait + Sync>(
     ensures workers { IfOk result (λ _. 0 < length mutators.items) }
     ensures of { MatchResult result (λ report. AreMutatorsOf space.now report.mutators.items) (λ refused. AreMutatorsOf space.now refused.mutators.items) }
     ensures back { MatchResult result (λ report. HandsBack space.now mutators.items report.mutators.items) (λ refused. HandsBack space.now mutators.items refused.mutators.items) }
-    ensures once { IfOk result (λ report. AreAllOnce (regions_of (setup_of space.now)) (numbers_of report.regions.items)) }
+    ensures once { IfOk result (λ report. AreAllOnce (regions_of (setup_of space.now).compacted) (numbers_of report.regions.items)) }
     ensures seen { IfOk result (λ report. AllZip (SeesRegions (setup_of space.now)) report.mutators.items report.regions.items) }
     ensures built { IfOk result (λ report. (p : ℕ) → p < (setup_of space.now).compacted → SomeSeesBuilt report.mutators.items p) }
     ensures refused { IfErr result (λ refused. SweepRefused (setup_of space.now).compacted (map pass_of mutators.items) refused.fault) }

@@ -3,7 +3,8 @@ ghost use Rattle.std.specs.Prelude.{◌≡◌, ℕ, ◌<◌, All, OnOk, IfErr};
 ghost use Rattle.once_cell.specs.Once.{cell_name};
 ghost use Rattle.cell_steps.specs.Passes.{HasSeenBuilt};
 ghost use Rattle.comp_mutator.specs.Mutators.{pass_of, setup_of, IsMutatorOf};
-ghost use Rattle.comp_sweep.specs.Regions.{regions_of, SeesRegion};
+ghost use Rattle.comp_regions.specs.Regions.{regions_of};
+ghost use Rattle.comp_sweep.specs.Regions.{SeesRegion};
 ghost use Rattle.comp_sweep.specs.Sweeps.{Sweeps};
 ghost use Rattle.comp_sweep.specs.Workers.{IsReady, WhyStopped, Works};
 
@@ -12,21 +13,12 @@ use crate::stopping::{Met, Sweeping};
 use comp_access::refusal::Refusal;
 use comp_mutator::mutator::Mutator;
 use comp_mutator::space::Space;
+use comp_regions::regions::REGION_PAGES;
 use once_cell::race::{Note, OnceBox};
 use page_plan::builder::Builder;
 use std::alloc::Global;
 use std::sync::Wait;
 use std::sync::ledger::Ledger as Named;
-
-/// The compacted pages of a region.
-const REGION_PAGES: u64 = 8;
-
-/// How many regions there are.
-pub(crate) fn region_count<L: Named, B: Builder>(space: &Space<L, B>) -> u64
-    ensures { result ≡ regions_of (setup_of space.now) }
-{
-    space.compacted_pages().div_ceil(REGION_PAGES)
-}
 
 /// Why a worker stops before its last page.
 #[derive(Clone, Copy, Debug)]
@@ -99,7 +91,7 @@ fn touch_region<L: Named, B: Builder, S: Sweeping>(
     region: u64,
 ) -> Result<(), Stop>
     requires of { IsMutatorOf space.now m.old }
-    requires inside { region < regions_of (setup_of space.now) }
+    requires inside { region < regions_of (setup_of space.now).compacted }
     requires cell { note.old.cell ≡ cell_name cell.now }
     ensures sweeps { Sweeps space.now m.old m.new }
     ensures cell { note.new.cell ≡ note.old.cell }
@@ -126,7 +118,7 @@ fn touch_regions<L: Named, B: Builder, G: Gate, S: Sweeping>(
     regions: &[u64],
 ) -> Result<(), Stop>
     requires of { IsMutatorOf space.now m.old }
-    requires inside { All (λ q. q < regions_of (setup_of space.now)) regions.now }
+    requires inside { All (λ q. q < regions_of (setup_of space.now).compacted) regions.now }
     requires cell { note.old.cell ≡ cell_name cell.now }
     ensures sweeps { Sweeps space.now m.old m.new }
     ensures cell { note.new.cell ≡ note.old.cell }

@@ -1,8 +1,8 @@
 //! Which worker sweeps which region.
 ghost use Rattle.std.specs.Prelude.{◌≡◌, ℕ, ◌<◌, length, IfOk};
 ghost use Rattle.page_cells.specs.Ends.{lists as numbers_of};
-ghost use Rattle.comp_sweep.specs.Regions.{AreAllOnce};
-ghost use Rattle.comp_sweep.specs.Workers.{EachBelow};
+ghost use Rattle.comp_regions.specs.Regions.{AreAllOnce};
+ghost use Rattle.comp_regions.specs.Regions.{EachBelow};
 
 use heap_layout::fault::OutOfMemory;
 use std::alloc::Global;
@@ -21,11 +21,7 @@ fn empty_lists(alloc: Global, workers: usize) -> Result<Vec<Vec<u64>>, OutOfMemo
 }
 
 /// The regions below `regions`, in a list for each worker: region q is in the list with number q modulo their number.
-pub(crate) fn split(
-    alloc: Global,
-    regions: u64,
-    workers: usize,
-) -> Result<Vec<Vec<u64>>, OutOfMemory>
+pub fn split(alloc: Global, regions: u64, workers: usize) -> Result<Vec<Vec<u64>>, OutOfMemory>
     requires { 0 < workers }
     ensures count { IfOk result (λ lists. length lists.items ≡ workers) }
     ensures once { IfOk result (λ lists. AreAllOnce regions (numbers_of lists.items)) }

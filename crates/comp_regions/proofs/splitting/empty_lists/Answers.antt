@@ -1,8 +1,8 @@
 use Rattle.std.proofs.Common.{◌≡◌, [], sym, subst, rules, arith}
 use Rattle.cell_steps.specs.Lists.{Each}
 use Rattle.cell_steps.proofs.Sums.{each-snoc}
-use Rattle.comp_sweep.proofs.Splits.{all_once_none, below_none}
-use Rattle.comp_sweep.proofs.splitting.empty_lists.Goals as goal
+use Rattle.comp_regions.proofs.Splits.{all_once_none, below_none}
+use Rattle.comp_regions.proofs.splitting.empty_lists.Goals as goal
 
 pub loop-preserved : goal.loop-preserved
 loop-preserved c = record {

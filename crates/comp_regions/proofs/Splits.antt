@@ -9,8 +9,8 @@ use Rattle.cell_steps.proofs.Sums.{each-set, total-append}
 use Rattle.page_cells.specs.Ends.{lists}
 use Rattle.page_cells.proofs.Rows.{at_value}
 use Rattle.comp_history.specs.Finishes.{named}
-use Rattle.comp_sweep.specs.Regions.{AreAllOnce}
-use Rattle.comp_sweep.specs.Workers.{EachBelow}
+use Rattle.comp_regions.specs.Regions.{AreAllOnce}
+use Rattle.comp_regions.specs.Regions.{EachBelow}
 
 only_same : (q x : ℕ) → q ≡ x → only q x ≡ 1
 only_same q x e = ap (λ (b : Bool). cond b 1 0) (eq-eqb q x e)

@@ -1,8 +1,8 @@
 use Rattle.std.proofs.Common.{◌≡◌, length}
 use Rattle.page_cells.specs.Ends.{lists}
-use Rattle.comp_sweep.specs.Regions.{AreAllOnce}
-use Rattle.comp_sweep.specs.Workers.{EachBelow}
-use Rattle.comp_sweep.proofs.splitting.split.Given as goal
+use Rattle.comp_regions.specs.Regions.{AreAllOnce}
+use Rattle.comp_regions.specs.Regions.{EachBelow}
+use Rattle.comp_regions.proofs.splitting.split.Given as goal
 
 abbrev pub invariant-loop-region : goal.invariant-loop-region
 invariant-loop-region l = record {
