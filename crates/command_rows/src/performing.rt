@@ -1,11 +1,11 @@
 //! Tasks on images in memory.
 ghost use Rattle.command_line.specs.Asked.{HasLawfulCounts};
 
+use command_io::dumps::FileDumps;
+use command_io::refusal::{Input, Refusal};
+use command_io::traces::FileTraces;
 use command_line::words::Task;
-use commands::dumps::FileDumps;
-use commands::refusal::{Input, Refusal};
 use commands::run::perform;
-use commands::traces::FileTraces;
 use heap_image::counted::Counted;
 use heap_layout::fault::LayoutFault;
 use std::process::Abort;

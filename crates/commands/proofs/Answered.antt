@@ -8,11 +8,11 @@ use Rattle.heap_layout.specs.Heap.{Heap}
 use Rattle.command_line.specs.Asked.{Asks, AsksNoCommand}
 use Rattle.command_line.specs.Runs.{run_of}
 use Rattle.comp_dump.specs.Dumped.{Dumped}
-use Rattle.commands.specs.Audits.{Passes, SomeAudit}
-use Rattle.commands.specs.Compact.{Compacts}
-use Rattle.commands.specs.Images.{IsImageOf, SomeGiven, SomeHeap}
-use Rattle.commands.specs.Races.{PrintsRace, Races}
-use Rattle.commands.specs.Replays.{PrintsReplay, Replays, SomeRun}
+use Rattle.heap_commands.specs.Audits.{Passes, SomeAudit}
+use Rattle.heap_commands.specs.Compact.{Compacts}
+use Rattle.command_io.specs.Images.{IsImageOf, SomeGiven, SomeHeap}
+use Rattle.trace_commands.specs.Races.{PrintsRace, Races}
+use Rattle.trace_commands.specs.Replays.{PrintsReplay, Replays, SomeRun}
 use Rattle.commands.specs.Tasks.{Answers, AreWrong, HasAnswered}
 use Rattle.command_line.specs.declared.words.Task.{Task}
 use Rattle.command_line.specs.declared.words.Task.TheVariants.{Plan, Word, Replay, Race, Compact, Audit, Help, Version}

@@ -3,13 +3,13 @@ use Rattle.std.proofs.Common.{◌≡◌, ℕ, List, Option, Result, Ok, Err, IfE
 use Rattle.std.proofs.KnownBytes.{Appends-kept}
 use Rattle.std.specs.Io.KnownBytes.{Keeps}
 use Rattle.commands.specs.Tasks.{DoesTask, RefusesTask}
-use Rattle.commands.specs.declared.refusal.Refusal.{Refusal}
-use Rattle.commands.specs.declared.refusal.Refusal.TheVariants.{CannotPrint}
+use Rattle.command_io.specs.declared.refusal.Refusal.{Refusal}
+use Rattle.command_io.specs.declared.refusal.Refusal.TheVariants.{CannotPrint}
 use Rattle.command_line.specs.declared.words.Task.{Task}
 use Rattle.command_line.specs.declared.words.Task.TheVariants.{Plan, Word, Replay, Race, Compact, Audit, Help, Version}
-use Rattle.commands.proofs.Audited.{flushed_audit, unflushed_audit}
-use Rattle.commands.proofs.RaceRuns.{flushed_race, unflushed_race}
-use Rattle.commands.proofs.ReplayRuns.{flushed_run, unflushed_run}
+use Rattle.heap_commands.proofs.Audited.{flushed_audit, unflushed_audit}
+use Rattle.trace_commands.proofs.RaceRuns.{flushed_race, unflushed_race}
+use Rattle.trace_commands.proofs.ReplayRuns.{flushed_run, unflushed_run}
 
 -- what holds anyway holds of an Ok
 pub ok_by : {P : Type 0} (result : Result (Unit {0}) Refusal) → P → OnOk result P

@@ -8,16 +8,16 @@ use Rattle.clap.specs.declared.error.kind.ErrorKind.TheVariants.{OutOfMemory}
 use Rattle.command_line.specs.Asked.{AsksAudit, AsksCompact, AsksHelp, AsksPlan, AsksRace, AsksReplay, AsksVersion, AsksWord}
 use Rattle.command_line.specs.Runs.{Run}
 use Rattle.comp_dump.specs.Dumped.{Dumped}
-use Rattle.commands.specs.Audits.{Passes, RefusesAudit, SomeAudit}
-use Rattle.commands.specs.Compact.{Compacts, PrintsLive, RefusesCompact}
-use Rattle.commands.specs.Images.{IsImageOf, SomeGiven, SomeHeap, RefusesAt}
-use Rattle.commands.specs.Plan.{PrintsPlan, RefusesPlan}
-use Rattle.commands.specs.Printing.{help_lines, version_line, CountsPrint}
-use Rattle.commands.specs.Races.{PrintsRace, Races, RefusesRace}
-use Rattle.commands.specs.Replays.{PrintsReplay, RefusesReplay, Replays, SomeRun, StopsUnprinted}
-use Rattle.commands.specs.Word.{PrintsWordAt, RefusesPrint}
-use Rattle.commands.specs.declared.refusal.Refusal.{Refusal}
-use Rattle.commands.specs.declared.refusal.Refusal.TheVariants.{CannotPrint}
+use Rattle.heap_commands.specs.Audits.{Passes, RefusesAudit, SomeAudit}
+use Rattle.heap_commands.specs.Compact.{Compacts, PrintsLive, RefusesCompact}
+use Rattle.command_io.specs.Images.{IsImageOf, SomeGiven, SomeHeap, RefusesAt}
+use Rattle.heap_commands.specs.Plan.{PrintsPlan, RefusesPlan}
+use Rattle.command_io.specs.Printing.{help_lines, version_line, CountsPrint}
+use Rattle.trace_commands.specs.Races.{PrintsRace, Races, RefusesRace}
+use Rattle.trace_commands.specs.Replays.{PrintsReplay, RefusesReplay, Replays, SomeRun, StopsUnprinted}
+use Rattle.heap_commands.specs.Word.{PrintsWordAt, RefusesPrint}
+use Rattle.command_io.specs.declared.refusal.Refusal.{Refusal}
+use Rattle.command_io.specs.declared.refusal.Refusal.TheVariants.{CannotPrint}
 use Rattle.command_line.specs.declared.words.Task.{Task}
 use Rattle.command_line.specs.declared.words.Task.TheVariants.{Plan, Word, Replay, Race, Compact, Audit, Help, Version}
 

@@ -2,9 +2,9 @@
 #![tactic(auto)]
 
 ghost use Rattle.std.specs.Prelude.{◌≡◌, ◌≤◌, IfOk, IfErr};
-ghost use Rattle.commands.specs.declared.refusal.Refusal.TheVariants as refusals;
+ghost use Rattle.command_io.specs.declared.refusal.Refusal.TheVariants as refusals;
 
-use commands::refusal::Refusal;
+use command_io::refusal::Refusal;
 use commands::run::{REFUSED, run};
 use std::env;
 use std::io::{self, BufWriter, Write};

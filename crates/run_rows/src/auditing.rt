@@ -1,8 +1,8 @@
 //! Dumps that are judged: true ones, and forged ones.
-use commands::audit::print_audit;
-use commands::refusal::{Input, Refusal};
+use command_io::refusal::{Input, Refusal};
 use comp_audit::verdict::AuditFault;
 use comp_dump::fault::DumpFault;
+use heap_commands::audit::print_audit;
 use heap_image::counted::Counted;
 use heap_layout::fault::LayoutFault;
 use std::fs;

@@ -1,9 +1,8 @@
 //! Replays whose dump is cut off, and traces that are not read whole.
+use command_io::images::FileImages;
+use command_io::refusal::{Input, Refusal};
+use command_io::traces::{FileTraces, trace_in};
 use command_line::words::TraceRun;
-use commands::images::FileImages;
-use commands::refusal::{Input, Refusal};
-use commands::replay::print_replay;
-use commands::traces::{FileTraces, trace_in};
 use comp_dump::fault::DumpFault;
 use heap_image::counted::Counted;
 use std::alloc::Global;
@@ -11,6 +10,7 @@ use std::io::{Error, ErrorKind, Read, Result as IoResult};
 use std::process::Abort;
 use std::rt::Files;
 use std::test::Fail;
+use trace_commands::replay::print_replay;
 use worked_commands::places::Place;
 use worked_commands::runs::take_steps;
 use worked_files::images::{FRESH_DUMP, THREE_IMAGE};

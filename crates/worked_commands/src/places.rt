@@ -1,9 +1,9 @@
 //! Images in memory, and places for dumps whose writers fail.
 ghost use Rattle.std.specs.Prelude.{◌≡◌, ◌≢◌, All, Any};
 
-use commands::dumps::Dumps;
-use commands::images::Images;
-use commands::refusal::{Input, Output, Refusal};
+use command_io::dumps::Dumps;
+use command_io::images::Images;
+use command_io::refusal::{Input, Output, Refusal};
 use worked_files::writers::Narrow;
 
 /// An image in memory.

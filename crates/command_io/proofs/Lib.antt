@@ -1,0 +1,5 @@
+pub mod Lines
+pub mod Written
+pub mod Outcomes
+pub mod Pieces
+pub mod Unread

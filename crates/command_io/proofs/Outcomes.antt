@@ -1,0 +1,85 @@
+-- What refusals leave of the output and of the dump; and dumps that have the same parts.
+use Rattle.std.proofs.Common.{◌≡◌, ℕ, List, Option, Result, Ok, Err, OnErr, refl, sym, subst}
+use Rattle.std.proofs.KnownBytes.{Keeps-refl}
+use Rattle.comp_dump.specs.Dumped.{BuiltPage, Dumped}
+use Rattle.command_io.specs.Dumps.{IsOfDumping, RefusedUncreated}
+use Rattle.command_io.specs.Printing.{CountsPrint, RefusedUnprinted}
+use Rattle.command_io.specs.declared.refusal.Refusal.{Refusal}
+use Rattle.command_io.specs.declared.refusal.Refusal.TheVariants.{Layout, Mutator, Sweep, Trace, Dump, Audit, CannotOpen, CannotCreate, ReadFailed, CannotPrint, NoSuchWord, OutOfMemory}
+
+-- a refusal that is none of the output counts no failed call of it
+pub uncounted_by : (old new : ℕ) (refusal : Refusal) → new ≡ old → (refusal ≡ CannotPrint → ⊥) → CountsPrint {T = Unit {0}} old new (Err refusal)
+uncounted_by old new (Layout fault) same other = same
+uncounted_by old new (Mutator refused) same other = same
+uncounted_by old new (Sweep fault) same other = same
+uncounted_by old new (Trace fault) same other = same
+uncounted_by old new (Dump fault) same other = same
+uncounted_by old new (Audit fault) same other = same
+uncounted_by old new (CannotOpen input) same other = same
+uncounted_by old new (CannotCreate output) same other = same
+uncounted_by old new (ReadFailed input) same other = same
+uncounted_by old new CannotPrint same other = absurd (other refl)
+uncounted_by old new (NoSuchWord index) same other = same
+uncounted_by old new OutOfMemory same other = same
+
+-- none of the dump is one of the output
+pub uncounted_dump : {W : Type 0} (closed : Type 0) (gives : W → Type 0) (contents : W → Option (List ℕ)) (bytes : List ℕ) (n : ℕ) (refusal : Refusal) → IsOfDumping closed gives contents bytes refusal → CountsPrint {T = Unit {0}} n n (Err refusal)
+uncounted_dump closed gives contents bytes n refusal h = uncounted_by n n refusal refl (λ e. subst (IsOfDumping closed gives contents bytes) e h)
+
+-- what was not printed leaves the output as it was
+pub unprinted : (before : Option (List ℕ)) (refusal : Refusal) → RefusedUnprinted {T = Unit {0}} before before (Err refusal)
+unprinted before (Layout fault) = Keeps-refl before
+unprinted before (Mutator refused) = Keeps-refl before
+unprinted before (Sweep fault) = Keeps-refl before
+unprinted before (Trace fault) = Keeps-refl before
+unprinted before (Dump fault) = Keeps-refl before
+unprinted before (Audit fault) = Keeps-refl before
+unprinted before (CannotOpen input) = Keeps-refl before
+unprinted before (CannotCreate output) = Keeps-refl before
+unprinted before (ReadFailed input) = Keeps-refl before
+unprinted before CannotPrint = tt
+unprinted before (NoSuchWord index) = Keeps-refl before
+unprinted before OutOfMemory = Keeps-refl before
+
+-- what was refused before the dump created none
+pub uncreated : {D : Type 0} (dumps : D) (refusal : Refusal) → RefusedUncreated {T = Unit {0}} dumps dumps (Err refusal)
+uncreated dumps (Layout fault) = refl
+uncreated dumps (Mutator refused) = refl
+uncreated dumps (Sweep fault) = refl
+uncreated dumps (Trace fault) = refl
+uncreated dumps (Dump fault) = tt
+uncreated dumps (Audit fault) = refl
+uncreated dumps (CannotOpen input) = refl
+uncreated dumps (CannotCreate output) = tt
+uncreated dumps (ReadFailed input) = refl
+uncreated dumps CannotPrint = tt
+uncreated dumps (NoSuchWord index) = refl
+uncreated dumps OutOfMemory = tt
+
+-- a refusal of the dump is one that may leave one
+pub created : {W D : Type 0} (closed : Type 0) (gives : W → Type 0) (contents : W → Option (List ℕ)) (bytes : List ℕ) (before after : D) (refusal : Refusal) → IsOfDumping closed gives contents bytes refusal → RefusedUncreated {T = Unit {0}} before after (Err refusal)
+created closed gives contents bytes before after (Layout fault) h = absurd h
+created closed gives contents bytes before after (Mutator refused) h = absurd h
+created closed gives contents bytes before after (Sweep fault) h = absurd h
+created closed gives contents bytes before after (Trace fault) h = absurd h
+created closed gives contents bytes before after (Dump fault) h = tt
+created closed gives contents bytes before after (Audit fault) h = absurd h
+created closed gives contents bytes before after (CannotOpen input) h = absurd h
+created closed gives contents bytes before after (CannotCreate output) h = tt
+created closed gives contents bytes before after (ReadFailed input) h = absurd h
+created closed gives contents bytes before after CannotPrint h = tt
+created closed gives contents bytes before after (NoSuchWord index) h = absurd h
+created closed gives contents bytes before after OutOfMemory h = tt
+
+pub created_line : {D : Type 0} (before after : D) (result : Result (Unit {0}) Refusal) → OnErr result (result ≡ Err CannotPrint) → RefusedUncreated before after result
+created_line before after (Ok _) h = tt
+created_line before after (Err refusal) h =
+    let is : refusal ≡ CannotPrint = cc in
+    subst (λ (r : Refusal). RefusedUncreated {T = Unit {0}} before after (Err r)) (sym is) tt
+
+-- dumps that have the same parts are the same
+pub same_parts : (m m' n n' t t' : ℕ) (r r' : List ℕ) (p p' : List (Option BuiltPage)) (b b' : List (List ℕ))
+    → m ≡ m' → n ≡ n' → r ≡ r' → p ≡ p' → b ≡ b' → t ≡ t'
+    → (let one : Dumped = record { mutators = m; fresh = n; roots = r; pages = p; builds = b; total = t } in
+    let other : Dumped = record { mutators = m'; fresh = n'; roots = r'; pages = p'; builds = b'; total = t' } in one ≡ other)
+same_parts m m' n n' t t' r r' p p' b b' em en er ep eb et = cc

@@ -1,0 +1,19 @@
+use Rattle.std.proofs.lemmas.Result.{err_from_is_err_and}
+use Rattle.comp_dump.specs.DumpEncoding.{dump_bytes}
+use Rattle.command_io.proofs.Written.{cut_off, whole}
+use Rattle.command_io.proofs.dumps.write_to.Goals as goal
+
+pub returns-in_err-write_flushed-clause-cause : goal.returns-in_err-write_flushed-clause-cause
+returns-in_err-write_flushed-clause-cause g c =
+    let p = err_from_is_err_and c.from_residual-in_err-write_flushed.result c.from_residual-in_err-write_flushed.ensures.1 in
+    let failed = c.in_err-write_flushed.ensures in
+    rw (p.1, p.2) (cut_off (g.D.Dumps.gives c.args.dumps.now c.args.path.now) g.D.Writer.Write.contents (dump_bytes c.args.dump.now)
+    c.in_ok-create.field-0 c.new-w.result c.write_flushed.new.w c.in_ok-create.ensures.given c.new-w.ensures.inner c.new-w.ensures.none
+    (g.D.Dumps.lacks c.args.dumps.now c.args.path.now) _ failed.writes.0 failed.writes.1 failed.counts)
+
+pub returns-clause-written : goal.returns-clause-written
+returns-clause-written g c =
+    let done = c.in_ok-write_flushed.ensures in
+    whole (g.D.Dumps.gives c.args.dumps.now c.args.path.now) g.D.Writer.Write.contents (dump_bytes c.args.dump.now)
+    c.in_ok-create.field-0 c.new-w.result c.write_flushed.new.w c.in_ok-create.ensures.given c.new-w.ensures.inner c.new-w.ensures.none
+    done.writes done.counts done.flushed

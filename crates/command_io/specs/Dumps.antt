@@ -1,0 +1,48 @@
+-- What is promised from the path of a dump on.
+use Rattle.std.specs.Prelude.{◌≡◌, ℕ, List, Option, Result, Ok, Err, true}
+use Rattle.std.specs.Io.KnownBytes.{Appends}
+use Rattle.heap_image.specs.Counted.{failures_of, inner_of, is_flushed_of}
+use Rattle.heap_image.specs.declared.counted.Counted.{Counted}
+use Rattle.comp_dump.specs.DumpWriting.{AppendsSome}
+use Rattle.comp_dump.specs.declared.fault.DumpFault.TheVariants.{Device}
+use Rattle.command_io.specs.declared.refusal.Refusal.{Refusal}
+use Rattle.command_io.specs.declared.refusal.Refusal.TheVariants.{CannotCreate, CannotPrint, Dump, OutOfMemory}
+
+-- A writer that was given took all these bytes, no call of it failed, and it was flushed in the end.
+pub record WritesWhole {W : Type 0} (gives : W → Type 0) (contents : W → Option (List ℕ)) (bytes : List ℕ) : Type 0 where
+  pub made : W
+  pub given : gives made
+  pub written : Counted W
+  pub appended : Appends (contents made) (contents (inner_of written)) bytes
+  pub flushed : is_flushed_of written ≡ true
+  pub none_failed : failures_of written ≡ 0
+
+-- A writer that was given took a beginning of these bytes, and then one call of it failed.
+pub record WritesBeginning {W : Type 0} (gives : W → Type 0) (contents : W → Option (List ℕ)) (bytes : List ℕ) : Type 0 where
+  pub made : W
+  pub given : gives made
+  pub written : Counted W
+  pub appended : AppendsSome (contents made) (contents (inner_of written)) bytes
+  pub failed : failures_of written ≡ 1
+
+-- why a dump could not be created: there is no place for it, as `lacks` says, or a growth was refused
+abbrev pub IsOfCreating : Type 0 → Refusal → Type 0
+IsOfCreating lacks (CannotCreate output) = lacks
+IsOfCreating lacks OutOfMemory = Unit {0}
+IsOfCreating lacks _ = ⊥
+
+-- why these bytes were not written: there is no place for them; or a call of the writer failed; or a growth was refused
+abbrev pub IsOfDumping : {W : Type 0} → Type 0 → (W → Type 0) → (W → Option (List ℕ)) → List ℕ → Refusal → Type 0
+IsOfDumping lacks gives contents bytes (CannotCreate output) = lacks
+IsOfDumping lacks gives contents bytes (Dump Device) = WritesBeginning gives contents bytes
+IsOfDumping lacks gives contents bytes OutOfMemory = Unit {0}
+IsOfDumping lacks gives contents bytes _ = ⊥
+
+-- no dump was created where a call was refused, but by a refusal that comes from the dump on
+abbrev pub RefusedUncreated : {T D : Type 0} → D → D → Result T Refusal → Type 0
+RefusedUncreated before after (Ok _) = Unit {0}
+RefusedUncreated before after (Err (CannotCreate output)) = Unit {0}
+RefusedUncreated before after (Err (Dump fault)) = Unit {0}
+RefusedUncreated before after (Err CannotPrint) = Unit {0}
+RefusedUncreated before after (Err OutOfMemory) = Unit {0}
+RefusedUncreated before after (Err _) = after ≡ before

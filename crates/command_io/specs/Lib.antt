@@ -1,0 +1,4 @@
+pub mod Printing
+pub mod Images
+pub mod Dumps
+pub mod Texts

@@ -1,0 +1,51 @@
+-- What is promised from the path of a trace on.
+use Rattle.std.specs.Prelude.{◌≡◌, ℕ, ◌+◌, List, Option, IfSome, Result, Ok, Err}
+use Rattle.trace_text.specs.Grammar.{trace_of, IsReadAs}
+use Rattle.trace_text.specs.declared.fault.TraceFault.TheVariants as faults
+use Rattle.trace_text.specs.declared.line.Line.{Line}
+use Rattle.command_io.specs.Images.{SomeGiven}
+use Rattle.command_io.specs.declared.refusal.Input.TheVariants as inputs
+use Rattle.command_io.specs.declared.refusal.Refusal.{Refusal}
+use Rattle.command_io.specs.declared.refusal.Refusal.TheVariants.{CannotOpen, OutOfMemory, ReadFailed, Trace}
+
+-- P holds of some text; where the bytes of the trace are known, they are it
+abbrev pub SomeText : (List ℕ → Type 0) → Option (List ℕ) → Type 0
+SomeText P known = (text : List ℕ) × IfSome known (λ bytes. bytes ≡ text) × P text
+
+-- the text has these lines, by so many mutators and shared roots
+abbrev pub HasLines : ℕ → ℕ → List Line → List ℕ → Type 0
+HasLines mutators roots lines text = trace_of mutators roots text ≡ Ok lines
+
+-- the trace has these lines
+abbrev pub IsTextOf : ℕ → ℕ → List Line → Option (List ℕ) → Type 0
+IsTextOf mutators roots lines known = SomeText (HasLines mutators roots lines) known
+
+-- why a trace could not be opened: there is none, as `lacks` says, or a growth was refused
+abbrev pub IsOfOpeningText : Type 0 → Refusal → Type 0
+IsOfOpeningText lacks (CannotOpen inputs.Trace) = lacks
+IsOfOpeningText lacks OutOfMemory = Unit {0}
+IsOfOpeningText lacks _ = ⊥
+
+-- why a text was not read whole: a call of the reader failed, which `CountsText` tells, or a growth was refused
+abbrev pub IsOfReading : Refusal → Type 0
+IsOfReading (ReadFailed inputs.Trace) = Unit {0}
+IsOfReading (Trace fault) = fault ≡ faults.OutOfMemory
+IsOfReading _ = ⊥
+
+-- the text is no trace, by the first thing that is wrong with it, or reading it wanted memory
+abbrev pub RefusesText : ℕ → ℕ → Refusal → Option (List ℕ) → Type 0
+RefusesText mutators roots (ReadFailed inputs.Trace) known = Unit {0}
+RefusesText mutators roots (Trace fault) known = SomeText (λ text. IsReadAs {A = List Line} (λ lines. lines) (Err fault) (trace_of mutators roots text)) known
+RefusesText mutators roots _ known = ⊥
+
+-- the same from the path on: there is no trace at it, or a growth was refused, or the text of some reader that is given is refused
+abbrev pub RefusesTextAt : {R : Type 0} → Type 0 → (R → Type 0) → (R → Option (List ℕ)) → ℕ → ℕ → Refusal → Type 0
+RefusesTextAt lacks gives remaining mutators roots (CannotOpen inputs.Trace) = lacks
+RefusesTextAt lacks gives remaining mutators roots OutOfMemory = Unit {0}
+RefusesTextAt lacks gives remaining mutators roots refusal = SomeGiven gives remaining (RefusesText mutators roots refusal)
+
+-- a call answers `ReadFailed` exactly where one more call of the reader failed
+abbrev pub CountsText : {T : Type 0} → ℕ → ℕ → Result T Refusal → Type 0
+CountsText before after (Ok _) = after ≡ before
+CountsText before after (Err (ReadFailed input)) = after ≡ before + 1
+CountsText before after (Err _) = after ≡ before

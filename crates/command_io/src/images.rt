@@ -1,0 +1,58 @@
+//! Where the images lie.
+ghost use Rattle.std.specs.Prelude.{◌≡◌, ℕ, List, IfOk, IfErr};
+ghost use Rattle.command_io.specs.Images.{IsImageOf, RefusesAt, RefusesImage, SomeGiven};
+ghost use Rattle.command_io.specs.Printing.{IsOfOpening};
+
+use crate::refusal::{Input, Refusal};
+use heap_image::counted::Counted;
+use heap_image::image::read_image;
+use heap_layout::heap::MarkedHeap;
+use std::alloc::Global;
+use std::fs;
+use std::io::{BufReader, Read};
+use std::rt::Files;
+
+/// Where the images lie that the program is given by their paths.
+pub trait Images {
+    type Reader: Read + Drop;
+
+    // what is known of each reader that a path gives
+    ghost gives: { Self → List ℕ → Self.Reader → Type 0 };
+
+    // what is known where a path gives none
+    ghost lacks: { Self → List ℕ → Type 0 };
+
+    /// Opens the image at a path, to be read from its first byte.
+    fn open(&self, path: &str) -> Result<Self::Reader, Refusal>
+        ensures given { IfOk result (gives self.now path.now) }
+        ensures cause { IfErr result (IsOfOpening (lacks self.now path.now)) };
+}
+
+/// The images that lie in the files of a runtime, which are read through a buffer.
+#[derive(Drop)]
+pub struct FileImages<'a, R> {
+    pub rt: &'a R,
+}
+
+impl<R: Files + AllocGlobal> Images for FileImages<'_, R> {
+    type Reader = BufReader<R::File, Global>;
+
+    // Which file a path leads to, and what a file holds, the kit's contracts do not say: each reader may be given, and each path may give none.
+    ghost gives = { λ _ _ _. Unit {0} };
+
+    ghost lacks = { λ _ _. Unit {0} };
+
+    fn open(&self, path: &str) -> Result<BufReader<R::File, Global>, Refusal> {
+        let file = fs::open(self.rt, path).map_err(|_| Refusal::CannotOpen(Input::Image))?;
+        BufReader::new(self.rt.alloc(), file).map_err(|_| Refusal::OutOfMemory)
+    }
+}
+
+/// The heap whose image lies at a path.
+pub fn heap_at<I: Images>(alloc: Global, images: &I, path: &str) -> Result<MarkedHeap, Refusal>
+    ensures heap { IfOk result (λ heap. SomeGiven (I.gives images.now path.now) I.Reader.remaining (IsImageOf (λ other. other ≡ heap))) }
+    ensures cause { IfErr result (RefusesAt (I.lacks images.now path.now) (I.gives images.now path.now) I.Reader.remaining RefusesImage) }
+{
+    let mut reader = Counted::new(images.open(path)?);
+    Ok(read_image(alloc, &mut reader)?)
+}

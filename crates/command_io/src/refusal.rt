@@ -1,0 +1,139 @@
+ghost use Rattle.std.specs.Prelude.{◌≡◌, Some, codes};
+ghost use Rattle.command_io.specs.declared.refusal.Refusal.TheVariants as refusal;
+
+use comp_access::refusal as mutators;
+use comp_audit::verdict::AuditFault;
+use comp_dump::fault::DumpFault;
+use comp_sweep::refusal::SweepFault;
+use heap_layout::fault::{self, LayoutFault};
+use std::alloc::AllocError;
+use std::fmt;
+use thiserror::Error;
+use trace_text::fault::TraceFault;
+
+/// A file that the program is given.
+#[derive(Clone, Copy, Debug, PartialEq, Eq)]
+pub enum Input {
+    Image,
+    Trace,
+    Dump,
+}
+
+impl fmt::Display for Input {
+    ghost use Rattle.command_io.specs.Printing.{input_name};
+
+    ghost output = { λ input. Some (input_name input) };
+
+    fn fmt<W: fmt::Write>(&self, f: &mut fmt::Formatter<W>) -> fmt::Result {
+        f.write_str(match self {
+            Input::Image => "image",
+            Input::Trace => "trace",
+            Input::Dump => "dump",
+        })
+    }
+}
+
+/// A file that the program makes.
+#[derive(Clone, Copy, Debug, PartialEq, Eq)]
+pub enum Output {
+    Dump,
+}
+
+impl fmt::Display for Output {
+    ghost output = { λ _. Some (codes "dump") };
+
+    fn fmt<W: fmt::Write>(&self, f: &mut fmt::Formatter<W>) -> fmt::Result {
+        f.write_str(match self {
+            Output::Dump => "dump",
+        })
+    }
+}
+
+/// Why the program did not do what it was asked.
+#[derive(Clone, Copy, Debug, PartialEq, Eq, Error)]
+pub enum Refusal {
+    /// The image is refused.
+    #[error("{0}")]
+    Layout(LayoutFault),
+    /// A mutator is refused what it asked.
+    #[error("{0}")]
+    Mutator(mutators::Refusal),
+    /// The heap was not swept.
+    #[error("{0}")]
+    Sweep(SweepFault),
+    /// The text of the trace is refused, or one of its lines.
+    #[error("{0}")]
+    Trace(TraceFault),
+    /// The dump was not written whole, or what is at its path is no dump.
+    #[error("{0}")]
+    Dump(DumpFault),
+    /// The dump is none that a compaction of the heap can have left.
+    #[error("{0}")]
+    Audit(AuditFault),
+    /// The file could not be opened.
+    #[error("P1 CannotOpen({0})")]
+    CannotOpen(Input),
+    /// The file could not be created.
+    #[error("P2 CannotCreate({0})")]
+    CannotCreate(Output),
+    /// A call of the file's reader answered an error.
+    #[error("P3 ReadFailed({0})")]
+    ReadFailed(Input),
+    /// A call of standard output failed: it answered an error, or took nothing of what was to be written.
+    #[error("P4 CannotPrint")]
+    CannotPrint,
+    /// This index is past the last page.
+    #[error("P5 NoSuchWord({0})")]
+    NoSuchWord(u64),
+    /// A growth was refused.
+    #[error("P7 OutOfMemory")]
+    OutOfMemory,
+}
+
+impl From<LayoutFault> for Refusal {
+    ghost from_gives = { λ fault given. given ≡ refusal.Layout fault };
+
+    fn from(fault: LayoutFault) -> Refusal {
+        Refusal::Layout(fault)
+    }
+}
+
+impl From<mutators::Refusal> for Refusal {
+    ghost from_gives = { λ refused given. given ≡ refusal.Mutator refused };
+
+    fn from(refused: mutators::Refusal) -> Refusal {
+        Refusal::Mutator(refused)
+    }
+}
+
+impl From<TraceFault> for Refusal {
+    ghost from_gives = { λ fault given. given ≡ refusal.Trace fault };
+
+    fn from(fault: TraceFault) -> Refusal {
+        Refusal::Trace(fault)
+    }
+}
+
+impl From<DumpFault> for Refusal {
+    ghost from_gives = { λ fault given. given ≡ refusal.Dump fault };
+
+    fn from(fault: DumpFault) -> Refusal {
+        Refusal::Dump(fault)
+    }
+}
+
+impl From<fault::OutOfMemory> for Refusal {
+    ghost from_gives = { λ _ given. given ≡ refusal.OutOfMemory };
+
+    fn from(_fault: fault::OutOfMemory) -> Refusal {
+        Refusal::OutOfMemory
+    }
+}
+
+impl From<AllocError> for Refusal {
+    ghost from_gives = { λ _ given. given ≡ refusal.OutOfMemory };
+
+    fn from(_error: AllocError) -> Refusal {
+        Refusal::OutOfMemory
+    }
+}

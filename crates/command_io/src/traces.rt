@@ -1,0 +1,111 @@
+//! Where the traces lie, and how their texts are read.
+ghost use Rattle.std.specs.Prelude.{◌≡◌, ℕ, ◌-◌, ◌^◌, ◌<◌, List, IfOk, IfErr, IfSome};
+ghost use Rattle.heap_image.specs.Counted.{inner_of, failures_of};
+ghost use Rattle.trace_text.specs.Traces.{lines_of, mutators_of, roots_of};
+ghost use Rattle.command_io.specs.Images.{SomeGiven};
+ghost use Rattle.command_io.specs.Texts.{CountsText, IsOfOpeningText, IsOfReading, IsTextOf, RefusesText, RefusesTextAt};
+
+use crate::refusal::{Input, Refusal};
+use heap_image::counted::Counted;
+use std::alloc::Global;
+use std::fs;
+use std::io::{BufReader, Read};
+use std::rt::Files;
+use trace_text::fault::TraceFault;
+use trace_text::parsing::parse;
+use trace_text::trace::Trace;
+
+/// How many bytes of a text are fetched at once, at most.
+const PIECE: usize = 65_536;
+
+/// Where the traces lie that the program is given by their paths.
+pub trait Traces {
+    type Reader: Read + Drop;
+
+    // what is known of each reader that a path gives
+    ghost gives: { Self → List ℕ → Self.Reader → Type 0 };
+
+    // what is known where a path gives none
+    ghost lacks: { Self → List ℕ → Type 0 };
+
+    /// Opens the trace at a path, to be read from its first byte.
+    fn open(&self, path: &str) -> Result<Self::Reader, Refusal>
+        ensures given { IfOk result (gives self.now path.now) }
+        ensures cause { IfErr result (IsOfOpeningText (lacks self.now path.now)) };
+}
+
+/// The traces that lie in the files of a runtime, which are read through a buffer.
+#[derive(Drop)]
+pub struct FileTraces<'a, R> {
+    pub rt: &'a R,
+}
+
+impl<R: Files + AllocGlobal> Traces for FileTraces<'_, R> {
+    type Reader = BufReader<R::File, Global>;
+
+    // Which file a path leads to, and what a file holds, the kit's contracts do not say: each reader may be given, and each path may give none.
+    ghost gives = { λ _ _ _. Unit {0} };
+
+    ghost lacks = { λ _ _. Unit {0} };
+
+    fn open(&self, path: &str) -> Result<BufReader<R::File, Global>, Refusal> {
+        let file = fs::open(self.rt, path).map_err(|_| Refusal::CannotOpen(Input::Trace))?;
+        BufReader::new(self.rt.alloc(), file).map_err(|_| Refusal::OutOfMemory)
+    }
+}
+
+/// The trace whose text lies at a path, for so many mutators and shared roots.
+pub fn trace_at<T: Traces>(
+    alloc: Global,
+    traces: &T,
+    path: &str,
+    mutators: u8,
+    roots: u16,
+) -> Result<Trace, Refusal>
+    ensures lines { IfOk result (λ trace. SomeGiven (T.gives traces.now path.now) T.Reader.remaining (IsTextOf mutators roots (lines_of trace))) }
+    ensures counts { IfOk result (λ trace. (mutators_of trace ≡ mutators) × (roots_of trace ≡ roots)) }
+    ensures cause { IfErr result (RefusesTextAt (T.lacks traces.now path.now) (T.gives traces.now path.now) T.Reader.remaining mutators roots) }
+{
+    let mut reader = Counted::new(traces.open(path)?);
+    trace_in(alloc, &mut reader, mutators, roots)
+}
+
+/// The trace whose text is all that the reader has left, for so many mutators and shared roots.
+pub fn trace_in<S: Read>(
+    alloc: Global,
+    r: &mut Counted<S>,
+    mutators: u8,
+    roots: u16,
+) -> Result<Trace, Refusal>
+    requires read { failures_of r.old < 2 ^ 64 - 1 }
+    ensures lines { IfOk result (λ trace. IsTextOf mutators roots (lines_of trace) (S.remaining (inner_of r.old))) }
+    ensures counts { IfOk result (λ trace. (mutators_of trace ≡ mutators) × (roots_of trace ≡ roots)) }
+    ensures cause { IfErr result (λ refusal. RefusesText mutators roots refusal (S.remaining (inner_of r.old))) }
+    ensures reads { CountsText (failures_of r.old) (failures_of r.new) result }
+{
+    let text = text_in(alloc, r)?;
+    Ok(parse(alloc, &text, mutators, roots)?)
+}
+
+/// All bytes that the reader has left. The first call of the reader that answers an error ends the reading, an interrupted one too.
+fn text_in<S: Read>(alloc: Global, r: &mut Counted<S>) -> Result<Vec<u8>, Refusal>
+    requires read { failures_of r.old < 2 ^ 64 - 1 }
+    ensures text { IfOk result (λ text. IfSome (S.remaining (inner_of r.old)) (λ bytes. bytes ≡ text.items)) }
+    ensures cause { IfErr result IsOfReading }
+    ensures reads { CountsText (failures_of r.old) (failures_of r.new) result }
+{
+    let mut text = Vec::new(alloc);
+    let mut buf = [0; PIECE];
+    for _turn in 0..u64::MAX {
+        match r.read(&mut buf) {
+            Ok(0) => return Ok(text),
+            Ok(n) => {
+                if text.extend_from_slice(&buf[..n]).is_err() {
+                    return Err(Refusal::Trace(TraceFault::OutOfMemory));
+                }
+            }
+            Err(_) => return Err(Refusal::ReadFailed(Input::Trace)),
+        }
+    }
+    unreachable!()
+}

@@ -1,0 +1,4 @@
+pub mod Copied
+pub mod Swept
+pub mod Compacted
+pub mod Audited

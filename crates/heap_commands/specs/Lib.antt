@@ -1,0 +1,4 @@
+pub mod Word
+pub mod Plan
+pub mod Compact
+pub mod Audits
