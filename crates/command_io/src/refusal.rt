@@ -4,7 +4,7 @@ ghost use Rattle.command_io.specs.declared.refusal.Refusal.TheVariants as refusa
 use comp_access::refusal as mutators;
 use comp_audit::verdict::AuditFault;
 use comp_dump::fault::DumpFault;
-use comp_sweep::refusal::SweepFault;
+use comp_regions::refusal::SweepFault;
 use heap_layout::fault::{self, LayoutFault};
 use std::alloc::AllocError;
 use std::fmt;

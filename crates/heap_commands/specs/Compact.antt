@@ -9,8 +9,8 @@ use Rattle.comp_history.specs.Finishes.{builds_in, live_of, pages_of, roots_of}
 use Rattle.comp_history.specs.declared.finished.Finished.{Finished}
 use Rattle.comp_access.specs.declared.refusal.Refusal.TheVariants as mutators
 use Rattle.comp_regions.specs.Regions.{AreAllOnce}
-use Rattle.comp_sweep.specs.declared.refusal.SweepFault.TheVariants.{Resources}
-use Rattle.comp_sweep.specs.declared.refusal.SweepFault.TheVariants as sweeps
+use Rattle.comp_regions.specs.declared.refusal.SweepFault.TheVariants.{Resources}
+use Rattle.comp_regions.specs.declared.refusal.SweepFault.TheVariants as sweeps
 use Rattle.comp_dump.specs.Dumped.{BuiltPage, Dumped}
 use Rattle.comp_dump.specs.Lent.{record_of}
 use Rattle.comp_dump.specs.DumpEncoding.{dump_bytes}

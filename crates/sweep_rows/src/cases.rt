@@ -6,8 +6,8 @@ use crate::expected::{expect_built_once, expect_count, expect_regions, expect_wh
 use crate::flipped::{Heap, finish, flipped, not_swept, plan_of, swept};
 use comp_mutator::mutator::Mutator;
 use comp_mutator::space::Space;
+use comp_regions::refusal::SweepFault;
 use comp_sweep::gate::{Gate, Open};
-use comp_sweep::refusal::SweepFault;
 use page_plan::builder::Builder;
 use std::alloc::Global;
 use std::marker::Brand;
