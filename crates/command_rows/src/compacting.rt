@@ -8,10 +8,10 @@ use std::process::Abort;
 use std::sync::Wait;
 use std::test::Fail;
 use std::thread::Threads;
-use worked_commands::places::{Image, Memory, Place};
 use worked_files::images::{ALL, TWENTY_IMAGE};
 use worked_files::parts::{Part, bytes_of};
 use worked_files::writers::{Failure, Narrow};
+use worked_places::places::{Image, Memory, Place};
 
 // A compaction in memory, and what has to come of it.
 #[derive(Clone, Copy)]

@@ -1,11 +1,9 @@
-//! Runs of the program: what it prints and tells, and the dumps of compactions, with values from outside.
+//! Commands by themselves: the dumps of compactions and of replays where a writer fails, traces that are not read whole, and audits of true and of forged dumps, with values from outside.
 #![tactic(auto)]
 
 #[cfg(test)]
+mod auditing;
+#[cfg(test)]
+mod breaking;
+#[cfg(test)]
 mod compacting;
-#[cfg(test)]
-mod performing;
-#[cfg(test)]
-mod printing;
-#[cfg(test)]
-mod programs;

@@ -1,10 +1,14 @@
-//! Replays, races and audits by the program: what they print, write and refuse, with values from outside.
+//! Runs of the program: what it prints, tells, writes and refuses, with values from outside.
 #![tactic(auto)]
 
 #[cfg(test)]
-mod auditing;
+mod judging;
 #[cfg(test)]
-mod breaking;
+mod performing;
+#[cfg(test)]
+mod printing;
+#[cfg(test)]
+mod programs;
 #[cfg(test)]
 mod racing;
 #[cfg(test)]

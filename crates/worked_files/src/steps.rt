@@ -67,6 +67,14 @@ pub fn take_file_step<R: Files + AllocGlobal>(rt: &R, step: &Step) -> Result<(),
     }
 }
 
+/// Takes steps that are no runs, one after another.
+pub fn take_file_steps<R: Files + AllocGlobal>(rt: &R, steps: &[Step]) -> Result<(), Fail> {
+    for step in steps {
+        take_file_step(rt, step)?;
+    }
+    Ok(())
+}
+
 // Writes the file at a path, with these bytes.
 fn write_file<R: Files + AllocGlobal>(rt: &R, path: &str, parts: &[Part]) -> Result<(), Fail> {
     let bytes = bytes_of(rt.alloc(), parts)?;

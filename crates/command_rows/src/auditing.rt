@@ -5,14 +5,11 @@ use comp_dump::fault::DumpFault;
 use heap_commands::audit::print_audit;
 use heap_image::counted::Counted;
 use heap_layout::fault::LayoutFault;
-use std::fs;
 use std::process::Abort;
 use std::test::Fail;
-use worked_commands::places::{Image, Memory};
-use worked_commands::runs::take_steps;
 use worked_files::images::{ALL, FRESH_DUMP, THREE_IMAGE, TWENTY_IMAGE};
 use worked_files::parts::{Part, bytes_of, push_parts};
-use worked_files::steps::Step;
+use worked_places::places::{Image, Memory};
 
 // The audit of a dump, where the images lie in memory: it has to be answered so, and to print just this.
 fn expect_audit<R: Abort + AllocGlobal>(
@@ -329,60 +326,4 @@ fn reads_the_image_before_the_dump(rt: HostRuntime) -> Result<(), Fail> {
     ];
     expect_unread(&rt, &images, &UNREAD);
     Ok(())
-}
-
-const PASSED: [Step; 9] = [
-    Step::Write("left.tests.img", &THREE_IMAGE),
-    Step::Write(
-        "left.tests.trace",
-        &[Part::Bytes(b"0 root 0 0\n0 new 1 0 0 0\n0 store 0 0 1\n")],
-    ),
-    Step::Prints("compact left.tests.img left.tests.out", "live 4\n"),
-    Step::Prints("audit left.tests.img left.tests.out", "ok 4\n"),
-    Step::Prints(
-        "replay --fresh 2 left.tests.img left.tests.trace left.tests.out",
-        "live 5\n",
-    ),
-    Step::Prints("audit left.tests.img left.tests.out", "ok 5\n"),
-    Step::Remove("left.tests.img"),
-    Step::Remove("left.tests.trace"),
-    Step::Remove("left.tests.out"),
-];
-
-#[test]
-fn passes_what_the_program_dumps(rt: HostRuntime) -> Result<(), Fail> {
-    take_steps(&rt, &PASSED)
-}
-
-const JUDGED: [Step; 11] = [
-    Step::Write("judge.tests.img", &THREE_IMAGE),
-    Step::MakeFolder("judge.tests"),
-    Step::Refuses(
-        "audit judge.tests.img late.tests.dump",
-        "",
-        "A3 BadEntry(0, 0)",
-    ),
-    Step::Refuses(
-        "audit judge.tests.img absent.tests.dump",
-        "",
-        "P1 CannotOpen(dump)",
-    ),
-    Step::Refuses(
-        "audit absent.tests.img absent.tests.dump",
-        "",
-        "P1 CannotOpen(image)",
-    ),
-    Step::Refuses("audit judge.tests.img judge.tests.img", "", "B3 BadMagic"),
-    Step::Refuses("audit judge.tests.img judge.tests", "", "B6 Device"),
-    Step::Refuses("audit judge.tests judge.tests.img", "", "H12 Device"),
-    Step::Remove("judge.tests.img"),
-    Step::Remove("late.tests.dump"),
-    Step::RemoveFolder("judge.tests"),
-];
-
-#[test]
-fn tells_why_a_dump_does_not_pass(rt: HostRuntime) -> Result<(), Fail> {
-    let late = forged(&rt, &LATE)?;
-    fs::write(&rt, "late.tests.dump", late.as_slice())?;
-    take_steps(&rt, &JUDGED)
 }

@@ -11,12 +11,11 @@ use std::process::Abort;
 use std::rt::Files;
 use std::test::Fail;
 use trace_commands::replay::print_replay;
-use worked_commands::places::Place;
-use worked_commands::runs::take_steps;
 use worked_files::images::{FRESH_DUMP, THREE_IMAGE};
 use worked_files::parts::{Part, bytes_of};
-use worked_files::steps::Step;
+use worked_files::steps::{Step, take_file_steps};
 use worked_files::writers::{Failure, Narrow};
+use worked_places::places::Place;
 
 // Replays the trace that makes a new object: a writer of the dump that has so much room fails so, and nothing is printed.
 fn expect_cut_off<R: Abort + AllocGlobal + Files>(
@@ -95,9 +94,9 @@ fn expect_all_cut_off<R: Abort + AllocGlobal + Files>(
 
 #[test]
 fn prints_nothing_where_the_dump_is_cut_off(rt: HostRuntime) -> Result<(), Fail> {
-    take_steps(&rt, &FRESH)?;
+    take_file_steps(&rt, &FRESH)?;
     expect_all_cut_off(&rt, &CUT_OFF)?;
-    take_steps(&rt, &REMOVED)
+    take_file_steps(&rt, &REMOVED)
 }
 
 // Gives a byte a call, and an error at the call of this number.

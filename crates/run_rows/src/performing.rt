@@ -13,9 +13,9 @@ use std::rt::Files;
 use std::sync::Wait;
 use std::test::Fail;
 use std::thread::Threads;
-use worked_commands::places::{Image, Memory};
 use worked_files::images::THREE_IMAGE;
 use worked_files::parts::bytes_of;
+use worked_places::places::{Image, Memory};
 
 // Does a task on images in memory: it has to be answered so, with nothing left to flush, and to print this.
 fn expect_performed<R: Abort + AllocGlobal + Files + Threads + Wait + Sync>(
