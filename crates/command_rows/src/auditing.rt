@@ -1,6 +1,6 @@
 //! Dumps that are judged: true ones, and forged ones.
+use audit_checks::fault::AuditFault;
 use command_io::refusal::{Input, Refusal};
-use comp_audit::verdict::AuditFault;
 use comp_dump::fault::DumpFault;
 use heap_commands::audit::print_audit;
 use heap_image::counted::Counted;

@@ -9,11 +9,11 @@ use Rattle.cell_steps.specs.Locks.{Journals}
 use Rattle.cell_steps.proofs.Sums.{below-at, below-ext, below-zero, times-cons, times-other}
 use Rattle.comp_history.specs.Merged.{entries_below, stamp_of, with_page}
 use Rattle.comp_history.proofs.Pages.{total_below}
-use Rattle.comp_audit.specs.declared.verdict.AuditFault.{AuditFault}
-use Rattle.comp_audit.specs.declared.verdict.AuditFault.TheVariants.{StampRepeated, StampMissing}
-use Rattle.comp_audit.specs.Checks.{unless, above, repeat_faults, missing_faults}
-use Rattle.comp_audit.proofs.Telling.{none_both, unless_holds}
-use Rattle.comp_audit.proofs.Ranges.{somewhere, all_below}
+use Rattle.audit_checks.specs.declared.fault.AuditFault.{AuditFault}
+use Rattle.audit_checks.specs.declared.fault.AuditFault.TheVariants.{StampRepeated, StampMissing}
+use Rattle.audit_checks.specs.Checks.{unless, above, repeat_faults, missing_faults}
+use Rattle.audit_checks.proofs.Telling.{none_both, unless_holds}
+use Rattle.audit_checks.proofs.Ranges.{somewhere, all_below}
 
 times_stamps : (s : ℕ) (all : List (ℕ × Entry)) → times s (map stamp_of all) ≡ total (λ (x : ℕ × Entry). only s (stamp_of x)) all
 times_stamps s [] = refl

@@ -1,54 +1,18 @@
--- What the audit answers. The faults of a dump stand in one list, in the order of the checks: the verdict is yes where there are none, and else the first.
-use Rattle.std.specs.Prelude.{◌≡◌, ℕ, List, [], ◌∷◌, ◌++◌, Option, Result, Ok, Err}
+-- What the audit answers: the verdict is yes where a dump has no fault, and else the first.
+use Rattle.std.specs.Prelude.{◌≡◌, List, []}
 use Rattle.heap_layout.specs.Heap.{Heap}
-use Rattle.cell_steps.specs.Setup.{Setup}
-use Rattle.comp_dump.specs.Dumped.{BuiltPage, Dumped}
-use Rattle.comp_audit.specs.Checks.{setup_for, all_entries, all_stamps, each_built, head_faults, build_faults, journal_faults, word_faults, is_start, reference_faults, repeat_faults, missing_faults, is_made_before, is_led, late_faults, total_faults}
-use Rattle.comp_audit.specs.declared.verdict.AuditFault.{AuditFault}
+use Rattle.comp_dump.specs.Dumped.{Dumped}
+use Rattle.audit_checks.specs.Checks.{setup_for}
+use Rattle.audit_checks.specs.Told.{faults_for, IsFirst}
+use Rattle.audit_checks.specs.declared.fault.AuditFault.{AuditFault}
 use Rattle.comp_audit.specs.declared.verdict.Verdict.{Verdict}
 use Rattle.comp_audit.specs.declared.verdict.Verdict.TheVariants.{Yes, No}
-use Rattle.comp_audit.specs.declared.verdict.Stop.{Stop}
-use Rattle.comp_audit.specs.declared.verdict.Stop.TheVariants as stop
-
--- checks 2, 3 and 4: what is wrong with single pages
-abbrev pub page_faults : Setup → List (List ℕ) → List (Option BuiltPage) → List AuditFault
-page_faults u builds records =
-    build_faults builds records
-    ++ (each_built (journal_faults u) records
-    ++ each_built (word_faults u) records)
-
--- checks 5 to 8: what is wrong between pages
-abbrev pub history_faults : Setup → List (Option BuiltPage) → List AuditFault
-history_faults u records =
-    each_built (reference_faults (is_start u.heap (all_entries records)) u) records
-    ++ (repeat_faults (all_stamps records)
-    ++ (missing_faults (all_stamps records)
-    ++ late_faults (is_led u.heap (is_made_before (all_entries records))) records))
-
--- of a dump with these roots, lists of builds, pages and total
-abbrev pub faults_for : Setup → List ℕ → List (List ℕ) → List (Option BuiltPage) → ℕ → List AuditFault
-faults_for u roots builds records total =
-    head_faults u roots records
-    ++ (page_faults u builds records
-    ++ (history_faults u records
-    ++ total_faults u.heap total records))
 
 -- all faults of a dump, where this heap was compacted
 abbrev pub faults : Heap → Dumped → List AuditFault
 faults heap dump = faults_for (setup_for heap dump.fresh dump.mutators) dump.roots dump.builds dump.pages dump.total
 
--- the list begins with this fault
-abbrev pub IsFirst : List AuditFault → AuditFault → Type 0
-IsFirst [] fault = ⊥
-IsFirst (first ∷ others) fault = fault ≡ first
-
 -- the verdict is yes where there is no fault, and else it tells the first
 abbrev pub Judges : List AuditFault → Verdict → Type 0
 Judges list Yes = list ≡ []
 Judges list (No fault) = IsFirst list fault
-
--- the same of a check, which ends early where a growth is refused
-abbrev pub Tells : List AuditFault → Result (Unit {0}) Stop → Type 0
-Tells list (Ok _) = list ≡ []
-Tells list (Err stop.Memory) = Unit {0}
-Tells list (Err (stop.Fault fault)) = IsFirst list fault

@@ -1,4 +1,2 @@
-pub mod Checks
 pub mod Judged
-pub mod Noted
 pub mod Meant

@@ -1,12 +1,10 @@
 -- What the audit's answers mean in the words of the cells and of the merged history.
-use Rattle.std.specs.Prelude.{◌≡◌, ◌↔◌, ℕ, ◌+◌, ◌<◌, List, [], length, map, slice_index_or, Option, Some, None}
+use Rattle.std.specs.Prelude.{◌≡◌, ℕ, ◌+◌, ◌<◌, List, [], length, map, slice_index_or, Option, Some, None}
 use Rattle.heap_layout.specs.Heap.{Heap, live, IsClosed}
 use Rattle.page_plan.specs.Sliding.{forwarded, live_words}
 use Rattle.comp_journal.specs.Journal.{replayed}
 use Rattle.comp_journal.specs.declared.entry.Entry.{Entry}
-use Rattle.cell_steps.specs.Lists.{Rises}
 use Rattle.cell_steps.specs.Setup.{Setup, pages, base_of}
-use Rattle.cell_steps.specs.Lawful.{IsLawful}
 use Rattle.page_cells.specs.Objects.{ReferencesAreStarts}
 use Rattle.comp_history.specs.Merged.{history, CanMerge, IsOneHistory}
 use Rattle.comp_history.specs.Shares.{allocated}
@@ -14,12 +12,8 @@ use Rattle.comp_history.specs.Finishes.{builds_in, live_of, named, pages_of, roo
 use Rattle.comp_history.specs.declared.finished.Finished.{Finished}
 use Rattle.comp_dump.specs.Dumped.{BuiltPage, Dumped, IsStored}
 use Rattle.comp_dump.specs.Lent.{record_of}
-use Rattle.comp_audit.specs.Checks.{setup_for, journals_in, entry_faults}
+use Rattle.audit_checks.specs.Checks.{setup_for, journals_in}
 use Rattle.comp_audit.specs.Judged.{faults}
-
--- a journal has no fault where it is lawful and its stamps rise, and only there
-abbrev pub FaultlessIsLawful : Type 0
-FaultlessIsLawful = (u : Setup) (p : ℕ) (journal : List Entry) → (entry_faults u p 0 0 [] journal ≡ []) ↔ (IsLawful u p journal × ((n : ℕ) × Rises 0 journal n))
 
 -- 1 where a page was built, and 0 where it never was
 abbrev pub built_count : Option BuiltPage → ℕ

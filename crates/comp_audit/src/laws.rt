@@ -1,5 +1,6 @@
 //! Laws of the audit, each the contract of a function that does nothing.
-ghost use Rattle.comp_audit.specs.Meant.{FaultlessIsLawful, FinishedIsYes, LawfulIsYes, YesIsSound};
+ghost use Rattle.audit_checks.specs.Faultless.{FaultlessIsLawful};
+ghost use Rattle.comp_audit.specs.Meant.{FinishedIsYes, LawfulIsYes, YesIsSound};
 
 /// A journal has no fault where it is lawful and its stamps rise, and only there.
 pub fn faultless_is_lawful()

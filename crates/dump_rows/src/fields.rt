@@ -2,7 +2,8 @@
 use crate::encoded::{Change, LINKED, PUT, Part, REST};
 use crate::expected::expect;
 use crate::judged::{Row, Told, expect_rows};
-use comp_audit::verdict::{AuditFault, Verdict};
+use audit_checks::fault::AuditFault;
+use comp_audit::verdict::Verdict;
 use comp_dump::fault::DumpFault;
 use std::alloc::Global;
 use std::process::Abort;

@@ -1,7 +1,8 @@
 //! The dump of a new object with some fields changed, and the fault that is told of it: one of each kind.
 use crate::encoded::{Change, LINKED, Part};
 use crate::judged::{Row, Told, expect_rows};
-use comp_audit::verdict::{AuditFault, Verdict};
+use audit_checks::fault::AuditFault;
+use comp_audit::verdict::Verdict;
 use comp_dump::fault::DumpFault;
 
 // Where its fields lie.

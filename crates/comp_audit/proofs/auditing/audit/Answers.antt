@@ -1,12 +1,13 @@
 use Rattle.std.proofs.Common.{◌≡◌, ◌∙◌, ℕ, List, Option, Result, Err, ap, sym, subst}
 use Rattle.heap_layout.specs.Heap.{Heap}
 use Rattle.page_cells.specs.Ends.{lists as items_of}
-use Rattle.comp_audit.specs.Checks.{setup_for}
+use Rattle.audit_checks.specs.Checks.{setup_for}
 use Rattle.comp_dump.specs.Dumped.{BuiltPage, Dumped}
-use Rattle.comp_audit.specs.Judged.{faults, faults_for, IsFirst, Tells}
-use Rattle.comp_audit.specs.declared.verdict.AuditFault.{AuditFault}
-use Rattle.comp_audit.specs.declared.verdict.Stop.{Stop}
-use Rattle.comp_audit.specs.declared.verdict.Stop.TheVariants as stop
+use Rattle.audit_checks.specs.Told.{faults_for, IsFirst, Tells}
+use Rattle.comp_audit.specs.Judged.{faults}
+use Rattle.audit_checks.specs.declared.fault.AuditFault.{AuditFault}
+use Rattle.audit_checks.specs.declared.fault.Stop.{Stop}
+use Rattle.audit_checks.specs.declared.fault.Stop.TheVariants as stop
 use Rattle.comp_audit.proofs.auditing.audit.Goals as goal
 
 -- what is wrong with a dump is wrong with its parts

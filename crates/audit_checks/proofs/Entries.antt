@@ -1,0 +1,88 @@
+-- All entries of a dump, page by page: what one page more and one entry more add.
+use Rattle.std.proofs.Common.{◌≡◌, ℕ, suc, ◌+◌, ◌<◌, ◌≤◌, ⊎_elim, List, [], ◌∷◌, ◌++◌, length, map, take, get_or, Option, Some, None, refl, sym, ap, subst, ◌∙◌, arith}
+use Rattle.std.proofs.lemmas.List.{map-append, take_more, get_or_default}
+use Rattle.comp_journal.specs.declared.entry.Entry.{Entry}
+use Rattle.cell_steps.specs.Lists.{total}
+use Rattle.comp_history.specs.Merged.{entries_below, stamp_of, with_page}
+use Rattle.comp_history.specs.Shares.{allocated, words_by}
+use Rattle.comp_history.proofs.Sorted.{In}
+use Rattle.comp_history.proofs.Pages.{below_in, total_append}
+use Rattle.comp_dump.specs.Dumped.{BuiltPage, HasFewEntries}
+use Rattle.audit_checks.specs.Checks.{above, all_entries, all_stamps, journal_of, journals_in}
+
+-- the journal of a place
+pub journal_here : (records : List (Option BuiltPage)) (p : ℕ) (kept : Option BuiltPage) → p < length records → kept ≡ get_or records p kept
+    → journals_in records p ≡ journal_of kept
+journal_here records p kept inside is = ap journal_of (get_or_default records p None kept inside ∙ sym is)
+
+pub few_at : (kept : Option BuiltPage) → HasFewEntries kept → length (journal_of kept) ≤ 1024
+few_at None h = omega arith
+few_at (Some page) h = h
+
+-- one page more
+pub page_more : (records : List (Option BuiltPage)) (p : ℕ) (kept : Option BuiltPage) → p < length records → kept ≡ get_or records p kept
+    → entries_below (journals_in records) (p + 1) ≡ entries_below (journals_in records) p ++ with_page p (journal_of kept)
+page_more records p kept inside is =
+    let next : p + 1 ≡ suc p = omega arith in
+    ap (entries_below (journals_in records)) next
+    ∙ ap (λ (j : List Entry). entries_below (journals_in records) p ++ with_page p j) (journal_here records p kept inside is)
+
+-- one entry more of a page
+pub entry_more : (p : ℕ) (j : List Entry) (i : ℕ) (e : Entry) → i < length j → e ≡ get_or j i e → with_page p (take (i + 1) j) ≡ with_page p (take i j) ++ (p, e) ∷ []
+entry_more p j i e inside is =
+    ap (with_page p) (take_more j i e inside ∙ ap (λ (x : Entry). take i j ++ x ∷ []) (sym is))
+    ∙ map-append (λ (x : Entry). (p, x)) (take i j) (e ∷ [])
+
+-- the stamps of a page
+stamps_with : (p : ℕ) (j : List Entry) → map stamp_of (with_page p j) ≡ map (λ (e : Entry). e.stamp) j
+stamps_with p [] = refl
+stamps_with p (e ∷ es) = ap (λ (rest : List ℕ). e.stamp ∷ rest) (stamps_with p es)
+
+pub stamps_more : (all : List (ℕ × Entry)) (p : ℕ) (j : List Entry) → map stamp_of (all ++ with_page p j) ≡ map stamp_of all ++ map (λ (e : Entry). e.stamp) j
+stamps_more all p j = map-append stamp_of all (with_page p j) ∙ ap (λ (rest : List ℕ). map stamp_of all ++ rest) (stamps_with p j)
+
+-- the stamps and the words of one page more
+pub stamps_next : (records : List (Option BuiltPage)) (p : ℕ) (kept : Option BuiltPage) (j : List Entry) (old new : List ℕ) → p < length records → kept ≡ get_or records p kept
+    → j ≡ journal_of kept → old ≡ map stamp_of (entries_below (journals_in records) p) → new ≡ old ++ map (λ (e : Entry). e.stamp) j
+    → new ≡ map stamp_of (entries_below (journals_in records) (p + 1))
+stamps_next records p kept j old new inside is same before more =
+    more
+    ∙ ap (λ (l : List ℕ). l ++ map (λ (e : Entry). e.stamp) j) before
+    ∙ sym (stamps_more (entries_below (journals_in records) p) p j)
+    ∙ ap (λ (l : List Entry). map stamp_of (entries_below (journals_in records) p ++ with_page p l)) same
+    ∙ ap (map stamp_of) (sym (page_more records p kept inside is))
+
+-- the words of the objects that a page's entries make
+words_with : (p : ℕ) (j : List Entry) → allocated (with_page p j) ≡ total (λ (e : Entry). words_by e.kind e.value) j
+words_with p [] = refl
+words_with p (e ∷ es) = let rest = words_with p es in omega (arith, rest)
+
+pub words_more : (all : List (ℕ × Entry)) (p : ℕ) (j : List Entry) → allocated (all ++ with_page p j) ≡ allocated all + total (λ (e : Entry). words_by e.kind e.value) j
+words_more all p j =
+    let parts = total_append (λ (x : ℕ × Entry). words_by x.1.kind x.1.value) all (with_page p j) in
+    let here = words_with p j in
+    omega (arith, parts, here)
+
+pub words_next : (records : List (Option BuiltPage)) (p : ℕ) (kept : Option BuiltPage) (j : List Entry) (old new : ℕ) → p < length records → kept ≡ get_or records p kept
+    → j ≡ journal_of kept → old ≡ allocated (entries_below (journals_in records) p) → new ≡ old + total (λ (e : Entry). words_by e.kind e.value) j
+    → new ≡ allocated (entries_below (journals_in records) (p + 1))
+words_next records p kept j old new inside is same before more =
+    more
+    ∙ ap (λ (n : ℕ). n + total (λ (e : Entry). words_by e.kind e.value) j) before
+    ∙ sym (words_more (entries_below (journals_in records) p) p j)
+    ∙ ap (λ (l : List Entry). allocated (entries_below (journals_in records) p ++ with_page p l)) same
+    ∙ ap allocated (sym (page_more records p kept inside is))
+
+-- the stamp of an entry that stands in a list is below what is above all of the list's stamps
+in_below_all : (all : List (ℕ × Entry)) (x : ℕ × Entry) → In x all → stamp_of x < above (map stamp_of all)
+in_below_all [] x i = absurd i
+in_below_all (y ∷ ys) x i = ⊎_elim
+    (λ (same : y ≡ x). let e = ap stamp_of same in omega (arith, e))
+    (λ t. let rest = in_below_all ys x t in omega (arith, rest))
+    i
+
+pub stamp_below : (records : List (Option BuiltPage)) (p : ℕ) (page : BuiltPage) (e : Entry) → p < length records → get_or records p None ≡ Some page
+    → In e page.journal → e.stamp < above (all_stamps records)
+stamp_below records p page e inside at i =
+    let here : In e (journals_in records p) = subst (λ (r : Option BuiltPage). In e (journal_of r)) (sym at) i in
+    in_below_all (all_entries records) (p, e) (below_in (journals_in records) (length records) p e inside here)

@@ -1,0 +1,74 @@
+-- The entries of a page, one after the other.
+use Rattle.std.proofs.Common.{◌≡◌, ℕ, suc, ◌+◌, ◌<◌, ◌≤◌, Bool, true, leb, ◌&&◌, List, [], ◌∷◌, ◌++◌, length, take, drop, get_or, refl, sym, ap, subst, ◌∙◌, arith, append-nil, take-append-drop, length-append}
+use Rattle.std.proofs.Math.Seq.{drop-cons}
+use Rattle.std.proofs.lemmas.List.{take_more}
+use Rattle.std.proofs.lemmas.Bool.{le-leb}
+use Rattle.heap_layout.specs.declared.kind.Kind.{Kind}
+use Rattle.heap_layout.specs.declared.kind.Kind.TheVariants.{Header, Reference, Data}
+use Rattle.comp_journal.specs.declared.entry.Entry.{Entry}
+use Rattle.cell_steps.specs.Setup.{Setup}
+use Rattle.cell_steps.specs.Lawful.{kinds_by, kinds_in, filled, Fits, LawfulAfter}
+use Rattle.page_cells.proofs.Heads.{kinds_append, one_on}
+use Rattle.comp_history.proofs.Words.{kinds_long}
+use Rattle.audit_checks.specs.declared.fault.AuditFault.{AuditFault}
+use Rattle.audit_checks.specs.declared.fault.AuditFault.TheVariants.{BadEntry}
+use Rattle.audit_checks.specs.Checks.{unless, entry_faults, fits}
+
+both_true : (a b : Bool) (fault : AuditFault) → a ≡ true → b ≡ true → unless (a && b) fault ≡ []
+both_true a b fault p q = rw (p, q) refl
+
+-- what the words are once one entry more is there
+pub kinds_more : (j : List Entry) (i : ℕ) (d : Entry) → i < length j
+    → kinds_in (take (i + 1) j) ≡ kinds_in (take i j) ++ kinds_by (get_or j i d).kind (get_or j i d).value
+kinds_more j i d inside =
+    ap kinds_in (take_more j i d inside)
+    ∙ kinds_append (take i j) (get_or j i d ∷ [])
+    ∙ ap (λ (rest : List Kind). kinds_in (take i j) ++ rest) (append-nil (kinds_by (get_or j i d).kind (get_or j i d).value))
+
+-- a journal gives no fewer words to objects than a beginning of it
+pub filled_front : (j : List Entry) (i : ℕ) (d : Entry) → i < length j → filled (take i j) + length (kinds_by (get_or j i d).kind (get_or j i d).value) ≤ filled j
+filled_front j i d inside =
+    let e = get_or j i d in
+    let parts : kinds_in j ≡ kinds_in (take i j) ++ (kinds_by e.kind e.value ++ kinds_in (drop (suc i) j)) =
+    ap kinds_in (sym (take-append-drop i j) ∙ ap (λ (rest : List Entry). take i j ++ rest) (drop-cons j i d inside))
+    ∙ kinds_append (take i j) (e ∷ drop (suc i) j) in
+    omega (
+      arith,
+      ap length parts,
+      length-append (kinds_in (take i j)) (kinds_by e.kind e.value ++ kinds_in (drop (suc i) j)),
+      length-append (kinds_by e.kind e.value) (kinds_in (drop (suc i) j)),
+    )
+
+-- behind an entry that may follow those before it, what is wrong is wrong with the others
+pub entry_next : (u : Setup) (p i low : ℕ) (j : List Entry) (d : Entry) → i < length j → low ≤ (get_or j i d).stamp
+    → fits u p (take i j) (get_or j i d).kind (get_or j i d).writer (get_or j i d).offset (get_or j i d).value ≡ true
+    → entry_faults u p (i + 1) ((get_or j i d).stamp + 1) (take (i + 1) j) (drop (i + 1) j) ≡ entry_faults u p i low (take i j) (drop i j)
+entry_next u p i low j d inside rises may =
+    let e = get_or j i d in
+    let next : i + 1 ≡ suc i = omega arith in
+    let others = entry_faults u p (i + 1) (e.stamp + 1) (take i j ++ e ∷ []) (drop (suc i) j) in
+    let one : unless (leb low e.stamp && fits u p (take i j) e.kind e.writer e.offset e.value) (BadEntry p i) ≡ [] =
+    both_true (leb low e.stamp) _ (BadEntry p i) (le-leb low e.stamp rises) may in
+    let here : entry_faults u p i low (take i j) (drop i j) ≡ others =
+    ap (λ (rest : List Entry). entry_faults u p i low (take i j) rest) (drop-cons j i d inside)
+    ∙ ap (λ (front : List AuditFault). front ++ others) one in
+    ap (λ (front : List Entry). entry_faults u p (i + 1) (e.stamp + 1) front (drop (i + 1) j)) (take_more j i d inside)
+    ∙ ap (λ (k : ℕ). entry_faults u p (i + 1) (e.stamp + 1) (take i j ++ e ∷ []) (drop k j)) next
+    ∙ sym here
+
+-- an entry that may follow others has room on its page
+room_kept : (u : Setup) (p : ℕ) (before : List Entry) (k : Kind) (writer offset value : ℕ) → filled before ≤ 64 → Fits u p before k writer offset value
+    → filled before + length (kinds_by k value) ≤ 64
+room_kept u p before Header writer offset value le h = omega (arith, h.place, h.ends, kinds_long value)
+room_kept u p before Reference writer offset value le h = omega (arith, le)
+room_kept u p before Data writer offset value le h = omega (arith, le)
+
+-- so the objects of a lawful journal have room
+pub room_on : (u : Setup) (p : ℕ) (before es : List Entry) → filled before ≤ 64 → LawfulAfter u p before es → filled (before ++ es) ≤ 64
+room_on u p before [] le h = subst (λ (l : List Entry). filled l ≤ 64) (sym (append-nil before)) le
+room_on u p before (e ∷ es) le h =
+    let more : filled (before ++ e ∷ []) ≡ filled before + length (kinds_by e.kind e.value) =
+    ap length (kinds_append before (e ∷ []) ∙ ap (λ (rest : List Kind). kinds_in before ++ rest) (append-nil (kinds_by e.kind e.value)))
+    ∙ length-append (kinds_in before) (kinds_by e.kind e.value) in
+    let kept = room_kept u p before e.kind e.writer e.offset e.value le h.0 in
+    subst (λ (l : List Entry). filled l ≤ 64) (sym (one_on before es e)) (room_on u p (before ++ e ∷ []) es (omega (arith, more, kept)) h.1)

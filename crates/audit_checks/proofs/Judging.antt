@@ -1,0 +1,52 @@
+-- What the checks between pages tell together.
+use Rattle.std.proofs.Common.{◌≡◌, ℕ, Bool, ◌||◌, List, [], ◌++◌, Option, Result, Err, sym, ap, subst, ◌∙◌, append_assoc}
+use Rattle.std.proofs.Math.Path.{fun_ext}
+use Rattle.cell_steps.specs.Setup.{Setup}
+use Rattle.comp_dump.specs.Dumped.{BuiltPage}
+use Rattle.audit_checks.specs.declared.fault.AuditFault.{AuditFault}
+use Rattle.audit_checks.specs.declared.fault.Stop.{Stop}
+use Rattle.audit_checks.specs.Checks.{all_entries, all_stamps, each_built, is_led, is_made_before, is_place, is_start, late_faults, missing_faults, reference_faults, repeat_faults}
+use Rattle.audit_checks.specs.Told.{history_faults, Tells}
+use Rattle.audit_checks.specs.Noted.{is_noted_before, leads, Notes, Stamped}
+use Rattle.audit_checks.proofs.Telling.{tells_first, tells_then, none_both}
+
+module _ (u : Setup) (records : List (Option BuiltPage)) (starts : Stamped) (notes : Notes starts (all_entries records)) where
+  abbrev loose : (ℕ → Bool) → List AuditFault
+  loose leading = each_built (reference_faults leading u) records
+
+  abbrev stamp_faults : List AuditFault
+  stamp_faults = repeat_faults (all_stamps records) ++ missing_faults (all_stamps records)
+
+  abbrev late : (ℕ → ℕ → Bool) → List AuditFault
+  late is_before = late_faults (is_led u.heap is_before) records
+
+  -- the starts that were noted are those of the entries
+  leads_are : leads u.heap starts ≡ is_start u.heap (all_entries records)
+  leads_are = fun_ext (λ (a : ℕ). ap (λ (b : Bool). is_place u.heap a || b) (notes.some a))
+
+  before_are : is_noted_before starts ≡ is_made_before (all_entries records)
+  before_are = fun_ext (λ (a : ℕ). fun_ext (λ (n : ℕ). notes.older a n))
+
+  none_loose : loose (leads u.heap starts) ≡ [] → loose (is_start u.heap (all_entries records)) ≡ []
+  none_loose none = ap loose (sym leads_are) ∙ none
+
+  -- the check of references ends early, or that of stamps does, or all are passed up to the last
+  pub references_end : (why : Stop) → Tells (loose (leads u.heap starts)) (Err why) → Tells (history_faults u records) (Err why)
+  references_end why told =
+      tells_first (loose (is_start u.heap (all_entries records))) _ why (subst (λ (f : ℕ → Bool). Tells (loose f) (Err why)) leads_are told)
+
+  pub stamps_end : (why : Stop) → loose (leads u.heap starts) ≡ [] → Tells stamp_faults (Err why) → Tells (history_faults u records) (Err why)
+  stamps_end why none told =
+      tells_then (loose (is_start u.heap (all_entries records))) _ (Err why) (none_loose none)
+      (subst (λ (l : List AuditFault). Tells l (Err why))
+      (append_assoc (repeat_faults (all_stamps records)) (missing_faults (all_stamps records)) (late (is_made_before (all_entries records))))
+      (tells_first stamp_faults (late (is_made_before (all_entries records))) why told))
+
+  pub late_end : (result : Result (Unit {0}) Stop) → loose (leads u.heap starts) ≡ [] → stamp_faults ≡ [] → Tells (late (is_noted_before starts)) result
+      → Tells (history_faults u records) result
+  late_end result none stamps told =
+      let both = none_both (repeat_faults (all_stamps records)) (missing_faults (all_stamps records)) stamps in
+      tells_then (loose (is_start u.heap (all_entries records))) _ result (none_loose none)
+      (tells_then (repeat_faults (all_stamps records)) _ result both.0
+      (tells_then (missing_faults (all_stamps records)) _ result both.1
+      (subst (λ (f : ℕ → ℕ → Bool). Tells (late f) result) before_are told)))

@@ -1,0 +1,10 @@
+pub mod Telling
+pub mod Ranges
+pub mod Meanings
+pub mod EntryByEntry
+pub mod BuildCounts
+pub mod Built
+pub mod Entries
+pub mod Noting
+pub mod Earliest
+pub mod Judging

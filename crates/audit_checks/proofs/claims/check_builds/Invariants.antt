@@ -1,0 +1,11 @@
+use Rattle.std.proofs.Common.{◌≡◌, drop}
+use Rattle.std.specs.List.{flat_map, enumerate_from}
+use Rattle.page_cells.specs.Ends.{lists as items_of}
+use Rattle.audit_checks.specs.Checks.{unless, is_claimed, build_faults}
+use Rattle.audit_checks.specs.declared.fault.AuditFault.TheVariants.{BuildUnclaimed}
+use Rattle.audit_checks.proofs.claims.check_builds.Given as goal
+
+-- the pages that are left have the faults of all
+abbrev pub invariant-loop-p : goal.invariant-loop-p
+invariant-loop-p l =
+    flat_map (λ place. unless (is_claimed (items_of l.builds) place) (BuildUnclaimed place.0)) (enumerate_from l.p (drop l.p l.records)) ≡ build_faults (items_of l.builds) l.records

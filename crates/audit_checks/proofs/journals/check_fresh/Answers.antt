@@ -1,0 +1,34 @@
+use Rattle.std.proofs.Common.{◌≡◌, ◌+◌, ◌++◌, ◌∙◌, List, sym, ap, arith, take, drop, get_or, ℕ, length, true, length-append}
+use Rattle.heap_layout.specs.declared.kind.Kind.{Kind}
+use Rattle.heap_layout.specs.declared.kind.Kind.TheVariants.{Header}
+use Rattle.comp_journal.specs.declared.entry.Entry.{Entry}
+use Rattle.cell_steps.specs.Setup.{fresh_page}
+use Rattle.cell_steps.specs.Lawful.{kinds_by, kinds_in}
+use Rattle.audit_checks.specs.Checks.{fits, entry_faults}
+use Rattle.audit_checks.specs.Noted.{setup_at}
+use Rattle.audit_checks.proofs.EntryByEntry.{entry_next, kinds_more}
+use Rattle.audit_checks.proofs.journals.check_fresh.Goals as goal
+
+pub loop-k-preserved : goal.loop-k-preserved
+loop-k-preserved c =
+    let i = c.loop-k.invariant in
+    let j = c.args.journal.now in
+    let k = c.loop-k.k in
+    let u = setup_at c.args.setting in
+    let none : Entry = record { stamp = 0; writer = 0; kind = Header; offset = 0; value = 0 } in
+    let e = get_or j k none in
+    let inside = c.loop-k-test.true in
+    let may : c.may_follow.result ≡ true = c.if-not-may_follow.false in
+    let before : kinds_in (take k j) ≡ c.deref.result.now = i.kinds ∙ sym c.deref.ensures.value in
+    let right : c.may_follow.result ≡ fits u (fresh_page u c.args.number) (take k j) e.kind e.writer e.offset e.value =
+    c.may_follow.ensures.fits c.args.setting.plan.now c.args.setting.fresh (take k j) c.requires.fresh before in
+    let fitting : fits u c.args.p (take k j) e.kind e.writer e.offset e.value ≡ true =
+    ap (λ (p : ℕ). fits u p (take k j) e.kind e.writer e.offset e.value) c.requires.number ∙ sym right ∙ may in
+    let next = entry_next u c.args.p k c.loop-k.low j none inside (omega (arith, c.from.ensures, c.if-from-low.false)) fitting in
+    let room = c.may_follow.ensures.room may in
+    record {
+      left = ap (λ (low : ℕ). entry_faults u c.args.p (k + 1) (low + 1) (take (k + 1) j) (drop (k + 1) j)) c.from-low.ensures ∙ next ∙ i.left;
+      kinds = kinds_more j k none inside ∙ ap (λ (front : List Kind). front ++ kinds_by e.kind e.value) i.kinds ∙ sym c.add_kinds.ensures.items;
+      few = omega (arith, room, ap length c.add_kinds.ensures.items, length-append c.loop-k.kinds.items (kinds_by e.kind e.value), ap length c.deref.ensures.value);
+      room = omega (arith, c.add_kinds.ensures.capacity, i.room);
+    }

@@ -1,0 +1,11 @@
+use Rattle.std.proofs.Common.{◌≡◌, ◌*◌, ◌^◌, ◌≤◌}
+use Rattle.comp_history.specs.Merged.{entries_below}
+use Rattle.comp_history.specs.Shares.{allocated}
+use Rattle.audit_checks.specs.Checks.{journals_in}
+use Rattle.audit_checks.proofs.totals.all_words.Given as goal
+
+abbrev pub invariant-loop-place : goal.invariant-loop-place
+invariant-loop-place l = record {
+  words : l.words ≡ allocated (entries_below (journals_in l.records) l.place-index);
+  few : l.words ≤ 2 ^ 27 * l.place-index;
+}

@@ -1,0 +1,11 @@
+use Rattle.std.proofs.Common.{◌≡◌, ◌+◌, ◌*◌, ◌^◌, ◌≤◌, drop}
+use Rattle.comp_journal.specs.declared.entry.Entry.{Entry}
+use Rattle.cell_steps.specs.Lists.{total}
+use Rattle.comp_history.specs.Shares.{words_by}
+use Rattle.audit_checks.proofs.totals.words_on.Given as goal
+
+abbrev pub invariant-loop-entry : goal.invariant-loop-entry
+invariant-loop-entry l = record {
+  words : l.words + total (λ (e : Entry). words_by e.kind e.value) (drop l.entry-index l.journal) ≡ total (λ (e : Entry). words_by e.kind e.value) l.journal;
+  few : l.words ≤ 2 ^ 17 * l.entry-index;
+}

@@ -1,0 +1,156 @@
+-- The nine checks of the audit, each the list of what is wrong with a dump. A list is in the order of its faults: by page, by entry, by address or by
+-- stamp. Its tests are what can be computed of the cells' words; of an entry `Faultless` says what they mean there.
+use Rattle.std.specs.Prelude.{ℕ, ◌+◌, ◌-◌, ◌%◌, ◌==◌, ◌&&◌, ◌||◌, max, not, is_some, Bool, true, false, nat_lt, nat_le, bytes_eq, List, [], ◌∷◌, ◌++◌, length, map, slice_index, slice_index_or, Option, Some, None, if◌then◌else◌}
+use Rattle.std.specs.List.{flat_map, enumerate_from, list_any, range_with_len}
+use Rattle.heap_layout.specs.Header.{size_of}
+use Rattle.heap_layout.specs.Heap.{Heap, live}
+use Rattle.heap_layout.specs.declared.kind.Kind.{Kind}
+use Rattle.heap_layout.specs.declared.kind.Kind.TheVariants.{Header, Reference, Data}
+use Rattle.page_plan.specs.Sliding as sliding
+use Rattle.page_plan.specs.Sliding.{live_words, forwarded, shape_at}
+use Rattle.comp_journal.specs.Journal.{replayed}
+use Rattle.comp_journal.specs.declared.entry.Entry.{Entry}
+use Rattle.cell_steps.specs.Lists.{times}
+use Rattle.cell_steps.specs.Locks.{Journals}
+use Rattle.cell_steps.specs.Setup.{Setup, pages, address, base_of}
+use Rattle.cell_steps.specs.Lawful.{kind_at, filled}
+use Rattle.comp_history.specs.Merged.{entries_below, stamp_of}
+use Rattle.comp_history.specs.OneThread.{address_of}
+use Rattle.comp_history.specs.Shares.{allocated}
+use Rattle.comp_history.specs.Finishes.{named}
+use Rattle.comp_dump.specs.Dumped.{BuiltPage}
+use Rattle.audit_checks.specs.declared.fault.AuditFault.{AuditFault}
+use Rattle.audit_checks.specs.declared.fault.AuditFault.TheVariants.{WrongWord, LooseReference, BadEntry, StampRepeated, StampMissing, WrongTotal, BuildUnclaimed, WrongHead}
+
+-- to-space as the heap defines it, with so many fresh pages and mutators
+abbrev pub setup_for : Heap → ℕ → ℕ → Setup
+setup_for heap fresh mutators = record { heap = heap; compacted = sliding.pages (live heap); fresh = fresh; mutators = mutators }
+
+-- the journal of a page that was built; the others have no entry
+abbrev pub journal_of : Option BuiltPage → List Entry
+journal_of None = []
+journal_of (Some page) = page.journal
+
+-- the journal of each page
+abbrev pub journals_in : List (Option BuiltPage) → Journals
+journals_in records p = journal_of (slice_index_or records p None)
+
+-- all entries, page by page, each with its page
+abbrev pub all_entries : List (Option BuiltPage) → List (ℕ × Entry)
+all_entries records = entries_below (journals_in records) (length records)
+
+-- the stamps of all entries
+abbrev pub all_stamps : List (Option BuiltPage) → List ℕ
+all_stamps records = map stamp_of (all_entries records)
+
+-- the fault, where the test fails
+abbrev pub unless : Bool → AuditFault → List AuditFault
+unless holds fault = if holds then [] else fault ∷ []
+
+-- of each page that was built, with its number
+abbrev pub of_built : (ℕ → BuiltPage → List AuditFault) → ℕ × Option BuiltPage → List AuditFault
+of_built faults (p, None) = []
+of_built faults (p, Some page) = faults p page
+
+abbrev pub each_built : (ℕ → BuiltPage → List AuditFault) → List (Option BuiltPage) → List AuditFault
+each_built faults records = flat_map (of_built faults) (enumerate_from 0 records)
+
+-- 1. There is a place for each compacted page and each fresh one, and the roots lead where the plan forwards them.
+abbrev pub head_faults : Setup → List ℕ → List (Option BuiltPage) → List AuditFault
+head_faults u roots records = unless ((length records == pages u) && bytes_eq roots (map (forwarded (live u.heap)) u.heap.roots)) WrongHead
+
+-- 2. A page that was built stands in the lists of builds once, and no other page does.
+abbrev pub is_claimed : List (List ℕ) → ℕ × Option BuiltPage → Bool
+is_claimed builds (p, None) = named p builds == 0
+is_claimed builds (p, Some page) = named p builds == 1
+
+abbrev pub build_faults : List (List ℕ) → List (Option BuiltPage) → List AuditFault
+build_faults builds records = flat_map (λ place. unless (is_claimed builds place) (BuildUnclaimed place.0)) (enumerate_from 0 records)
+
+-- 3. Each entry of a page may follow those before it, and its stamp is above theirs.
+abbrev pub is_kind : Kind → Option Kind → Bool
+is_kind Header (Some Header) = true
+is_kind Reference (Some Reference) = true
+is_kind Data (Some Data) = true
+is_kind kind found = false
+
+-- page p is a fresh page on which this writer makes objects
+abbrev pub is_fresh_of : Setup → ℕ → ℕ → Bool
+is_fresh_of u writer p = nat_le u.compacted p && nat_lt p (pages u) && (writer == (p - u.compacted) % u.mutators)
+
+-- an entry of this kind, writer, offset and value may follow these entries of page p
+abbrev pub fits : Setup → ℕ → List Entry → Kind → ℕ → ℕ → ℕ → Bool
+fits u p before Header writer offset value = is_fresh_of u writer p && (offset == filled before) && nat_le (offset + size_of value) 64
+fits u p before Reference writer offset value = nat_lt offset 64 && is_kind Reference (kind_at u p before offset)
+fits u p before Data writer offset value = nat_lt offset 64 && is_kind Data (kind_at u p before offset)
+
+-- of entries of page p, the first of which is number k, stands behind others and needs a stamp of at least `low`
+abbrev pub entry_faults : Setup → ℕ → ℕ → ℕ → List Entry → List Entry → List AuditFault
+entry_faults u p k low before [] = []
+entry_faults u p k low before (e ∷ es) =
+    unless (nat_le low e.stamp && fits u p before e.kind e.writer e.offset e.value) (BadEntry p k)
+    ++ entry_faults u p (k + 1) (e.stamp + 1) (before ++ e ∷ []) es
+
+abbrev pub journal_faults : Setup → ℕ → BuiltPage → List AuditFault
+journal_faults u p page = entry_faults u p 0 0 [] page.journal
+
+-- 4. The words of a page are what its journal makes of its base.
+abbrev pub same_words : List ℕ → ℕ → List ℕ → List AuditFault
+same_words right p words = flat_map (λ word. unless (word.1 == slice_index right word.0) (WrongWord (address p word.0))) (enumerate_from 0 words)
+
+abbrev pub word_faults : Setup → ℕ → BuiltPage → List AuditFault
+word_faults u p page = same_words (replayed (base_of u p) page.journal) p page.words
+
+-- 5. Each reference is null, or leads to a start: of a slid object, or where a header was written.
+abbrev pub is_place : Heap → ℕ → Bool
+is_place heap a = is_some (shape_at (live heap) a)
+
+-- the entry writes a header at the address
+abbrev pub makes : ℕ → ℕ × Entry → Bool
+makes a x = is_kind Header (Some x.1.kind) && (address_of x == a)
+
+abbrev pub is_start : Heap → List (ℕ × Entry) → ℕ → Bool
+is_start heap all a = is_place heap a || list_any (makes a) all
+
+-- of the words of page p that are references, those that are not null and lead nowhere
+abbrev pub loose_faults : (ℕ → Bool) → (ℕ → Bool) → ℕ → List ℕ → List AuditFault
+loose_faults is_reference leads p words =
+    flat_map (λ word. unless (not (is_reference word.0) || (word.1 == 0) || leads word.1) (LooseReference (address p word.0))) (enumerate_from 0 words)
+
+abbrev pub reference_faults : (ℕ → Bool) → Setup → ℕ → BuiltPage → List AuditFault
+reference_faults leads u p page = loose_faults (λ offset. is_kind Reference (kind_at u p page.journal offset)) leads p page.words
+
+-- one more than the greatest of some numbers, or 0
+abbrev pub above : List ℕ → ℕ
+above [] = 0
+above (n ∷ ns) = max (n + 1) (above ns)
+
+-- 6. No stamp stands twice.
+abbrev pub repeat_faults : List ℕ → List AuditFault
+repeat_faults stamps = flat_map (λ s. unless (nat_le (times s stamps) 1) (StampRepeated s)) (range_with_len 0 (above stamps))
+
+-- 7. Each number below the count of stamps is one.
+abbrev pub missing_faults : List ℕ → List AuditFault
+missing_faults stamps = flat_map (λ s. unless (nat_le 1 (times s stamps)) (StampMissing s)) (range_with_len 0 (length stamps))
+
+-- 8. A reference that was written is null, or leads to a slid object, or to where a header was written with a smaller stamp.
+abbrev pub is_made_before : List (ℕ × Entry) → ℕ → ℕ → Bool
+is_made_before all a n = list_any (λ (x : ℕ × Entry). makes a x && nat_lt (stamp_of x) n) all
+
+abbrev pub is_led : Heap → (ℕ → ℕ → Bool) → Entry → Bool
+is_led heap is_before e = not (is_kind Reference (Some e.kind)) || (e.value == 0) || is_place heap e.value || is_before e.value e.stamp
+
+-- of the entries of a page those of stamp s that fail the test
+abbrev pub late_on : (Entry → Bool) → ℕ → ℕ → List Entry → List AuditFault
+late_on test s p journal = flat_map (λ entry. unless (not (entry.1.stamp == s) || test entry.1) (BadEntry p entry.0)) (enumerate_from 0 journal)
+
+abbrev pub late_with : (Entry → Bool) → List (Option BuiltPage) → ℕ → List AuditFault
+late_with test records s = each_built (λ p page. late_on test s p page.journal) records
+
+-- of all entries those that fail the test, by their stamps
+abbrev pub late_faults : (Entry → Bool) → List (Option BuiltPage) → List AuditFault
+late_faults test records = flat_map (late_with test records) (range_with_len 0 (above (all_stamps records)))
+
+-- 9. The total is that of the words that slid and of all objects that were made.
+abbrev pub total_faults : Heap → ℕ → List (Option BuiltPage) → List AuditFault
+total_faults heap total records = unless (total == live_words (live heap) + allocated (all_entries records)) WrongTotal

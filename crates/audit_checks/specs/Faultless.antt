@@ -1,0 +1,11 @@
+-- What a journal without a fault is, in the words of the cells.
+use Rattle.std.specs.Prelude.{◌≡◌, ◌↔◌, ℕ, List, []}
+use Rattle.comp_journal.specs.declared.entry.Entry.{Entry}
+use Rattle.cell_steps.specs.Lists.{Rises}
+use Rattle.cell_steps.specs.Setup.{Setup}
+use Rattle.cell_steps.specs.Lawful.{IsLawful}
+use Rattle.audit_checks.specs.Checks.{entry_faults}
+
+-- a journal has no fault where it is lawful and its stamps rise, and only there
+abbrev pub FaultlessIsLawful : Type 0
+FaultlessIsLawful = (u : Setup) (p : ℕ) (journal : List Entry) → (entry_faults u p 0 0 [] journal ≡ []) ↔ (IsLawful u p journal × ((n : ℕ) × Rises 0 journal n))

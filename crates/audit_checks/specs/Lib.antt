@@ -1,0 +1,4 @@
+pub mod Checks
+pub mod Told
+pub mod Noted
+pub mod Faultless

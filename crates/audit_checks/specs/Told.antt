@@ -1,0 +1,42 @@
+-- What the checks tell. The faults of a dump stand in one list, in the order of the checks.
+use Rattle.std.specs.Prelude.{◌≡◌, ℕ, List, [], ◌∷◌, ◌++◌, Option, Result, Ok, Err}
+use Rattle.cell_steps.specs.Setup.{Setup}
+use Rattle.comp_dump.specs.Dumped.{BuiltPage}
+use Rattle.audit_checks.specs.Checks.{all_entries, all_stamps, each_built, head_faults, build_faults, journal_faults, word_faults, is_start, reference_faults, repeat_faults, missing_faults, is_made_before, is_led, late_faults, total_faults}
+use Rattle.audit_checks.specs.declared.fault.AuditFault.{AuditFault}
+use Rattle.audit_checks.specs.declared.fault.Stop.{Stop}
+use Rattle.audit_checks.specs.declared.fault.Stop.TheVariants as stop
+
+-- checks 2, 3 and 4: what is wrong with single pages
+abbrev pub page_faults : Setup → List (List ℕ) → List (Option BuiltPage) → List AuditFault
+page_faults u builds records =
+    build_faults builds records
+    ++ (each_built (journal_faults u) records
+    ++ each_built (word_faults u) records)
+
+-- checks 5 to 8: what is wrong between pages
+abbrev pub history_faults : Setup → List (Option BuiltPage) → List AuditFault
+history_faults u records =
+    each_built (reference_faults (is_start u.heap (all_entries records)) u) records
+    ++ (repeat_faults (all_stamps records)
+    ++ (missing_faults (all_stamps records)
+    ++ late_faults (is_led u.heap (is_made_before (all_entries records))) records))
+
+-- of a dump with these roots, lists of builds, pages and total
+abbrev pub faults_for : Setup → List ℕ → List (List ℕ) → List (Option BuiltPage) → ℕ → List AuditFault
+faults_for u roots builds records total =
+    head_faults u roots records
+    ++ (page_faults u builds records
+    ++ (history_faults u records
+    ++ total_faults u.heap total records))
+
+-- the list begins with this fault
+abbrev pub IsFirst : List AuditFault → AuditFault → Type 0
+IsFirst [] fault = ⊥
+IsFirst (first ∷ others) fault = fault ≡ first
+
+-- a check passes where there is no fault, and else it tells the first; it ends early where a growth is refused
+abbrev pub Tells : List AuditFault → Result (Unit {0}) Stop → Type 0
+Tells list (Ok _) = list ≡ []
+Tells list (Err stop.Memory) = Unit {0}
+Tells list (Err (stop.Fault fault)) = IsFirst list fault

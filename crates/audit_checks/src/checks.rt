@@ -1,0 +1,81 @@
+//! The checks of a dump: nine of them, each of which tells its first fault, in the order in which their faults count.
+ghost use Rattle.std.specs.Prelude.{◌≡◌, ◌<◌, ◌≤◌, All, length};
+ghost use Rattle.cell_steps.specs.Setup.{pages};
+ghost use Rattle.page_cells.specs.Ends.{lists as items_of};
+ghost use Rattle.page_cells.specs.Objects.{AreLawful};
+ghost use Rattle.comp_dump.specs.Dumped.{IsStoredList, IsStoredRecord};
+ghost use Rattle.audit_checks.specs.Checks.{journals_in};
+ghost use Rattle.audit_checks.specs.Noted.{setup_at};
+ghost use Rattle.audit_checks.specs.Told.{faults_for, history_faults, page_faults, Tells};
+
+use crate::claims::check_builds;
+use crate::fault::Stop;
+use crate::head::check_head;
+use crate::journals::check_journals;
+use crate::late::check_late;
+use crate::page_words::check_words;
+use crate::references::check_references;
+use crate::setting::Setting;
+use crate::stamps::check_stamps;
+use crate::starts::starts_of;
+use crate::totals::check_total;
+use comp_dump::page::DumpedPage;
+use std::alloc::Global;
+
+/// All checks of a dump with these roots, lists of builds, pages and total: each tells its first fault, in the order in which their faults count.
+pub fn check(
+    alloc: Global,
+    setting: Setting<'_>,
+    roots: &[u64],
+    builds: &[Vec<u32>],
+    records: &[Option<DumpedPage<'_>>],
+    total: u64,
+) -> Result<(), Stop>
+    requires some { 0 < setting.mutators }
+    requires few { length records.now ≤ 20480 }
+    requires pages { All (IsStoredRecord setting.mutators) records.now }
+    requires builds { All (IsStoredList (length records.now)) (items_of builds.now) }
+    ensures { Tells (faults_for (setup_at setting.entry) roots.now (items_of builds.now) records.now total) result }
+{
+    check_head(alloc, setting, roots, records)?;
+    check_pages(alloc, setting, builds, records)?;
+    check_history(alloc, setting, records)?;
+    check_total(setting.plan, total, records)
+}
+
+/// The checks of single pages: who built them, their journals and their words.
+fn check_pages(
+    alloc: Global,
+    setting: Setting<'_>,
+    builds: &[Vec<u32>],
+    records: &[Option<DumpedPage<'_>>],
+) -> Result<(), Stop>
+    requires some { 0 < setting.mutators }
+    requires few { length records.now ≤ 20480 }
+    requires places { length records.now ≡ pages (setup_at setting) }
+    requires pages { All (IsStoredRecord setting.mutators) records.now }
+    requires builds { All (IsStoredList (length records.now)) (items_of builds.now) }
+    ensures { Tells (page_faults (setup_at setting.entry) (items_of builds.now) records.now) result }
+{
+    check_builds(alloc, builds, records)?;
+    check_journals(alloc, setting, records)?;
+    check_words(alloc, setting, records)
+}
+
+/// The checks between pages: where references lead, the stamps, and whether what is referred to was there already.
+fn check_history(
+    alloc: Global,
+    setting: Setting<'_>,
+    records: &[Option<DumpedPage<'_>>],
+) -> Result<(), Stop>
+    requires few { length records.now ≤ 20480 }
+    requires places { length records.now ≡ pages (setup_at setting) }
+    requires pages { All (IsStoredRecord setting.mutators) records.now }
+    requires lawful { AreLawful (setup_at setting) (journals_in records.now) }
+    ensures { Tells (history_faults (setup_at setting.entry) records.now) result }
+{
+    let starts = starts_of(alloc, setting, records)?;
+    check_references(alloc, setting, &starts, records)?;
+    check_stamps(alloc, records)?;
+    check_late(setting.plan, &starts, records)
+}

@@ -1,0 +1,78 @@
+//! The second check: each page that was built stands once in the lists of builds.
+ghost use Rattle.std.specs.Prelude.{◌≡◌, ℕ, List, ◌+◌, ◌<◌, ◌≤◌, All, IfOk, length, min, slice_index};
+ghost use Rattle.cell_steps.specs.Lists.{times};
+ghost use Rattle.page_cells.specs.Ends.{lists as items_of};
+ghost use Rattle.comp_history.specs.Finishes.{named};
+ghost use Rattle.audit_checks.specs.Checks.{build_faults, is_claimed};
+ghost use Rattle.comp_dump.specs.Dumped.{IsStoredList};
+ghost use Rattle.audit_checks.specs.Told.{Tells};
+
+use crate::fault::{AuditFault, Stop};
+use comp_dump::page::DumpedPage;
+use std::alloc::{AllocError, Global};
+
+/// A page that was built stands in the lists of builds once, and no other page does.
+pub fn check_builds(
+    alloc: Global,
+    builds: &[Vec<u32>],
+    records: &[Option<DumpedPage<'_>>],
+) -> Result<(), Stop>
+    requires few { length records.now ≤ 20480 }
+    requires builds { All (IsStoredList (length records.now)) (items_of builds.now) }
+    ensures { Tells (build_faults (items_of builds.now) records.now) result }
+{
+    let counts = count_builds(alloc, records.len(), builds)?;
+    for (p, place) in records.iter().enumerate() {
+        if !is_claimed(counts[p], place) {
+            return Err(Stop::Fault(AuditFault::BuildUnclaimed(p as u64)));
+        }
+    }
+    Ok(())
+}
+
+/// Whether a page that stands so often in the lists of builds, up to 2, is built just where it stands there once, and else never.
+fn is_claimed(count: u8, place: &Option<DumpedPage<'_>>) -> bool
+    ensures { (builds : List (List ℕ)) (p : ℕ) → count ≡ min (named p builds) 2 → result ≡ is_claimed builds (p, place.now) }
+{
+    match place {
+        None => count == 0,
+        Some(_) => count == 1,
+    }
+}
+
+/// How often each page stands in the lists of builds, up to 2.
+fn count_builds(alloc: Global, places: usize, builds: &[Vec<u32>]) -> Result<Vec<u8>, AllocError>
+    requires { All (IsStoredList places) (items_of builds.now) }
+    ensures length { IfOk result (λ counts. length counts.items ≡ places) }
+    ensures counts { IfOk result (λ counts. (p : ℕ) → slice_index counts.items p ≡ min (named p (items_of builds.now)) 2) }
+{
+    let mut counts = vec![in alloc; 0u8; places]?;
+    count_lists(&mut counts, builds);
+    Ok(counts)
+}
+
+/// Counts how often each page stands in some lists, up to 2.
+fn count_lists(counts: &mut [u8], lists: &[Vec<u32>])
+    requires below { All (IsStoredList (length counts.old)) (items_of lists.now) }
+    requires few { (p : ℕ) → slice_index counts.old p ≤ 2 }
+    ensures length { length counts.new ≡ length counts.old }
+    ensures counts { (p : ℕ) → slice_index counts.new p ≡ min (slice_index counts.old p + named p (items_of lists.now)) 2 }
+{
+    for list in lists {
+        count_in(counts, list);
+    }
+}
+
+/// Counts how often each page stands in a list, up to 2.
+fn count_in(counts: &mut [u8], list: &[u32])
+    requires below { All (λ p. p < length counts.old) list.now }
+    requires few { (p : ℕ) → slice_index counts.old p ≤ 2 }
+    ensures length { length counts.new ≡ length counts.old }
+    ensures counts { (p : ℕ) → slice_index counts.new p ≡ min (slice_index counts.old p + times p list.now) 2 }
+{
+    for &p in list {
+        if counts[p as usize] < 2 {
+            counts[p as usize] += 1;
+        }
+    }
+}

@@ -1,0 +1,33 @@
+//! The first check: how many pages there are, and where the roots lead.
+ghost use Rattle.std.specs.Prelude.{◌≡◌, ◌≤◌, OnOk, length};
+ghost use Rattle.cell_steps.specs.Setup.{pages};
+ghost use Rattle.audit_checks.specs.Checks.{head_faults};
+ghost use Rattle.audit_checks.specs.Told.{Tells};
+ghost use Rattle.audit_checks.specs.Noted.{setup_at};
+
+use crate::fault::{AuditFault, Stop};
+use crate::setting::Setting;
+use comp_dump::page::DumpedPage;
+use std::alloc::Global;
+
+/// There is a place for each compacted page and each fresh one, and the roots lead where the plan forwards them.
+pub fn check_head(
+    alloc: Global,
+    setting: Setting<'_>,
+    roots: &[u64],
+    records: &[Option<DumpedPage<'_>>],
+) -> Result<(), Stop>
+    requires { length records.now ≤ 20480 }
+    ensures told { Tells (head_faults (setup_at setting.entry) roots.now records.now) result }
+    ensures places { OnOk result (length records.now ≡ pages (setup_at setting.entry)) }
+{
+    let plan = setting.plan;
+    if records.len() as u64 != plan.pages() + u64::from(setting.fresh) {
+        return Err(Stop::Fault(AuditFault::WrongHead));
+    }
+    let forwarded = plan.forward_roots(alloc)?;
+    if roots != forwarded.as_slice() {
+        return Err(Stop::Fault(AuditFault::WrongHead));
+    }
+    Ok(())
+}

@@ -1,0 +1,130 @@
+//! The third check: each entry may follow those before it on its page.
+ghost use Rattle.std.specs.Prelude.{◌≡◌, ℕ, List, ◌+◌, ◌*◌, ◌<◌, ◌≤◌, [], All, None, length, slice_index_or, true};
+ghost use Rattle.heap_layout.specs.Heap.{Heap, live};
+ghost use Rattle.page_plan.specs.Sliding.{kind};
+ghost use Rattle.comp_journal.specs.declared.entry.Entry.{Entry};
+ghost use Rattle.cell_steps.specs.Setup.{fresh_page, pages, Setup};
+ghost use Rattle.cell_steps.specs.Lawful.{kinds_by, kinds_in};
+ghost use Rattle.audit_checks.specs.Checks.{each_built, entry_faults, fits, journal_faults, setup_for};
+ghost use Rattle.comp_dump.specs.Dumped.{IsStoredEntry, IsStoredRecord};
+ghost use Rattle.audit_checks.specs.Told.{Tells};
+ghost use Rattle.audit_checks.specs.Noted.{setup_at};
+
+use crate::fault::{AuditFault, Stop};
+use crate::kinds::{add_kinds, is_of, is_word_of};
+use crate::setting::Setting;
+use comp_dump::page::DumpedPage;
+use comp_journal::entry::Entry;
+use heap_layout::header::Header;
+use heap_layout::kind::Kind;
+use std::alloc::Global;
+
+/// The journal of each page that was built is lawful, and its stamps rise.
+pub fn check_journals(
+    alloc: Global,
+    setting: Setting<'_>,
+    records: &[Option<DumpedPage<'_>>],
+) -> Result<(), Stop>
+    requires some { 0 < setting.mutators }
+    requires few { length records.now ≤ 20480 }
+    requires places { length records.now ≡ pages (setup_at setting) }
+    requires pages { All (IsStoredRecord setting.mutators) records.now }
+    ensures { Tells (each_built (journal_faults (setup_at setting.entry)) records.now) result }
+{
+    for (p, place) in records.iter().enumerate() {
+        if let Some(page) = place {
+            check_journal(alloc, setting, p as u64, page.journal())?;
+        }
+    }
+    Ok(())
+}
+
+/// The journal of page `p` is lawful, and its stamps rise.
+fn check_journal(alloc: Global, setting: Setting<'_>, p: u64, journal: &[Entry]) -> Result<(), Stop>
+    requires some { 0 < setting.mutators }
+    requires inside { p < pages (setup_at setting) }
+    requires stored { All (IsStoredEntry setting.mutators) journal.now }
+    ensures { Tells (entry_faults (setup_at setting.entry) p 0 0 [] journal.now) result }
+{
+    let compacted = setting.plan.pages();
+    if p < compacted {
+        check_compacted(setting, p, journal)
+    } else {
+        check_fresh(alloc, setting, (p - compacted) as u32, p, journal)
+    }
+}
+
+/// The same, of a compacted page.
+fn check_compacted(setting: Setting<'_>, p: u64, journal: &[Entry]) -> Result<(), Stop>
+    requires compacted { p < (setup_at setting).compacted }
+    requires stored { All (IsStoredEntry setting.mutators) journal.now }
+    ensures { Tells (entry_faults (setup_at setting.entry) p 0 0 [] journal.now) result }
+{
+    let kinds = setting.plan.page_kinds(p);
+    let mut low = 0;
+    for (k, &entry) in journal.iter().enumerate() {
+        if u128::from(entry.stamp) < low || !may_change(&kinds, entry) {
+            return Err(Stop::Fault(AuditFault::BadEntry(p, k as u64)));
+        }
+        low = u128::from(entry.stamp) + 1;
+    }
+    Ok(())
+}
+
+/// Whether an entry may stand on a compacted page with these words: it makes no object, and changes a word of its kind.
+fn may_change(kinds: &[Option<Kind>; 64], entry: Entry) -> bool
+    requires inside { entry.offset < 64 }
+    ensures { (u : Setup) (p : ℕ) (before : List Entry) → p < u.compacted
+        → ((offset : ℕ) → offset < 64 → slice_index_or kinds.now offset None ≡ kind (live u.heap) (64 * p + offset))
+        → result ≡ fits u p before entry.kind entry.writer entry.offset entry.value }
+{
+    match entry.kind {
+        Kind::Header => false,
+        Kind::Reference | Kind::Data => is_word_of(kinds[entry.offset as usize], entry.kind),
+    }
+}
+
+/// The same, of page `p`, which is fresh page `number`.
+fn check_fresh(
+    alloc: Global,
+    setting: Setting<'_>,
+    number: u32,
+    p: u64,
+    journal: &[Entry],
+) -> Result<(), Stop>
+    requires some { 0 < setting.mutators }
+    requires number { p ≡ fresh_page (setup_at setting) number }
+    requires fresh { number < setting.fresh }
+    requires stored { All (IsStoredEntry setting.mutators) journal.now }
+    ensures { Tells (entry_faults (setup_at setting.entry) p 0 0 [] journal.now) result }
+{
+    let mut kinds = Vec::with_capacity(alloc, 64)?;
+    let mut low = 0;
+    for (k, &entry) in journal.iter().enumerate() {
+        if u128::from(entry.stamp) < low || !may_follow(&kinds, number, entry, setting.mutators) {
+            return Err(Stop::Fault(AuditFault::BadEntry(p, k as u64)));
+        }
+        add_kinds(&mut kinds, entry);
+        low = u128::from(entry.stamp) + 1;
+    }
+    Ok(())
+}
+
+/// Whether an entry may follow those that have given these words of fresh page `number` to objects.
+fn may_follow(kinds: &[Kind], number: u32, entry: Entry, mutators: u8) -> bool
+    requires some { 0 < mutators }
+    requires few { length kinds.now ≤ 64 }
+    requires inside { entry.offset < 64 }
+    ensures room { result ≡ true → length kinds.now + length (kinds_by entry.kind entry.value) ≤ 64 }
+    ensures fits { (heap : Heap) (fresh : ℕ) (before : List Entry) → number < fresh → kinds_in before ≡ kinds.now
+        → result ≡ fits (setup_for heap fresh mutators) (fresh_page (setup_for heap fresh mutators) number) before entry.kind entry.writer entry.offset entry.value }
+{
+    match entry.kind {
+        Kind::Header => {
+            u32::from(entry.writer) == number % u32::from(mutators)
+                && entry.offset as usize == kinds.len()
+                && kinds.len() + Header::from_word(entry.value).size() as usize <= 64
+        }
+        Kind::Reference | Kind::Data => is_of(kinds, entry.offset, entry.kind),
+    }
+}

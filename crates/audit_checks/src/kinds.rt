@@ -1,0 +1,107 @@
+//! What the words of a page are: of a compacted page the plan tells it, of a fresh page its journal.
+ghost use Rattle.std.specs.Prelude.{◌≡◌, ℕ, ◌+◌, ◌<◌, ◌≤◌, ◌++◌, IfOk, length, replicate, slice_get, slice_index_or, vec_capacity, vec_len, None};
+ghost use Rattle.cell_steps.specs.Lawful.{filled, kind_at, kinds_by, kinds_in, kinds_of_header, IsLawful};
+ghost use Rattle.cell_steps.specs.Setup.{pages};
+ghost use Rattle.audit_checks.specs.Checks.{is_kind};
+ghost use Rattle.audit_checks.specs.Noted.{setup_at};
+
+use crate::setting::Setting;
+use comp_journal::entry::Entry;
+use heap_layout::header::Header;
+use heap_layout::kind::Kind;
+use std::alloc::{AllocError, Global};
+
+/// What each word of page `p` is, where it has this journal.
+pub fn kinds_on(
+    alloc: Global,
+    setting: Setting<'_>,
+    p: u64,
+    journal: &[Entry],
+) -> Result<[Option<Kind>; 64], AllocError>
+    requires inside { p < pages (setup_at setting) }
+    requires lawful { IsLawful (setup_at setting) p journal.now }
+    ensures { IfOk result (λ kinds. (offset : ℕ) → offset < 64 → slice_index_or kinds offset None ≡ kind_at (setup_at setting.entry) p journal.now offset) }
+{
+    if p < setting.plan.pages() {
+        Ok(setting.plan.page_kinds(p))
+    } else {
+        let kinds = kinds_made(alloc, journal)?;
+        Ok(spread(&kinds))
+    }
+}
+
+/// What the words are that a journal has given to objects, which have room on a page.
+fn kinds_made(alloc: Global, journal: &[Entry]) -> Result<Vec<Kind>, AllocError>
+    requires { filled journal.now ≤ 64 }
+    ensures { IfOk result (λ kinds. kinds.items ≡ kinds_in journal.now) }
+{
+    let mut kinds = Vec::with_capacity(alloc, 64)?;
+    for &entry in journal {
+        add_kinds(&mut kinds, entry);
+    }
+    Ok(kinds)
+}
+
+/// The same kinds, one for each word of a page.
+fn spread(kinds: &[Kind]) -> [Option<Kind>; 64]
+    requires { length kinds.now ≤ 64 }
+    ensures { (offset : ℕ) → slice_index_or result offset None ≡ slice_get kinds.now offset }
+{
+    let mut all = [None; 64];
+    for (offset, &kind) in kinds.iter().enumerate() {
+        all[offset] = Some(kind);
+    }
+    all
+}
+
+/// Adds the words that an entry gives to an object; there is room.
+pub fn add_kinds(kinds: &mut Vec<Kind>, entry: Entry)
+    requires { vec_len kinds.old + length (kinds_by entry.kind entry.value) ≤ vec_capacity kinds.old }
+    ensures items { kinds.new.items ≡ kinds.old.items ++ kinds_by entry.kind entry.value }
+    ensures capacity { vec_capacity kinds.new ≡ vec_capacity kinds.old }
+{
+    match entry.kind {
+        Kind::Header => push_object(kinds, Header::from_word(entry.value)),
+        Kind::Reference => (),
+        Kind::Data => (),
+    }
+}
+
+/// Adds the words of an object with this header; there is room.
+fn push_object(kinds: &mut Vec<Kind>, header: Header)
+    requires { vec_len kinds.old + length (kinds_of_header header) ≤ vec_capacity kinds.old }
+    ensures items { kinds.new.items ≡ kinds.old.items ++ kinds_of_header header }
+    ensures capacity { vec_capacity kinds.new ≡ vec_capacity kinds.old }
+{
+    kinds.push_reserved(Kind::Header);
+    push_kinds(kinds, header.refs(), Kind::Reference);
+    push_kinds(kinds, header.data_words(), Kind::Data);
+}
+
+/// Adds so many words of a kind; there is room.
+fn push_kinds(kinds: &mut Vec<Kind>, count: u16, kind: Kind)
+    requires { vec_len kinds.old + count ≤ vec_capacity kinds.old }
+    ensures items { kinds.new.items ≡ kinds.old.items ++ replicate count kind }
+    ensures capacity { vec_capacity kinds.new ≡ vec_capacity kinds.old }
+{
+    for _ in 0..count {
+        kinds.push_reserved(kind);
+    }
+}
+
+/// Whether a word, if there is one, is of this kind.
+pub fn is_word_of(found: Option<Kind>, kind: Kind) -> bool
+    ensures { result ≡ is_kind kind found }
+{
+    found == Some(kind)
+}
+
+/// Whether the word at an offset is of this kind.
+pub fn is_of(kinds: &[Kind], offset: u8, kind: Kind) -> bool
+    ensures { result ≡ is_kind kind (slice_get kinds.now offset) }
+{
+    match kinds.get(offset as usize) {
+        Some(found) => *found == kind,
+        None => false,
+    }
+}

@@ -1,0 +1,97 @@
+//! The eighth check: each reference that was written is null, or leads to an object that was there already.
+ghost use Rattle.std.specs.Prelude.{◌≡◌, ℕ, List, ◌==◌, ◌<◌, ◌≤◌, ◌++◌, not, length, Some};
+ghost use Rattle.audit_checks.specs.Checks.{is_led, late_faults, late_on, late_with, unless};
+ghost use Rattle.audit_checks.specs.Told.{Tells};
+ghost use Rattle.audit_checks.specs.Noted.{is_noted_before, IsEarliest};
+ghost use Rattle.audit_checks.specs.declared.fault.AuditFault.{AuditFault};
+ghost use Rattle.audit_checks.specs.declared.fault.AuditFault.TheVariants.{BadEntry};
+
+use crate::fault::{AuditFault, Stop};
+use crate::record::journal_of;
+use crate::starts::Starts;
+use comp_dump::page::DumpedPage;
+use comp_journal::entry::Entry;
+use heap_layout::kind::Kind;
+use page_plan::plan::Plan;
+
+/// An entry that is a reference to what was not there: its stamp, its page, and its number on that page.
+#[derive(Clone, Copy)]
+pub struct Late {
+    pub stamp: u64,
+    pub page: u64,
+    pub number: u64,
+}
+
+/// Each reference that was written is null, or leads to a slid object, or to a new one whose header has a smaller stamp.
+pub fn check_late(
+    plan: &Plan,
+    starts: &Starts,
+    records: &[Option<DumpedPage<'_>>],
+) -> Result<(), Stop>
+    ensures { Tells (late_faults (is_led plan.now (is_noted_before starts.now)) records.now) result }
+{
+    match earliest(plan, starts, records) {
+        None => Ok(()),
+        Some(late) => Err(Stop::Fault(AuditFault::BadEntry(late.page, late.number))),
+    }
+}
+
+/// Of the entries that fail this test, the one with the least stamp.
+fn earliest(plan: &Plan, starts: &Starts, records: &[Option<DumpedPage<'_>>]) -> Option<Late>
+    ensures { IsEarliest (late_with (is_led plan.now (is_noted_before starts.now)) records.now) result }
+{
+    let mut found = None;
+    for (p, place) in records.iter().enumerate() {
+        found = earliest_on(plan, starts, p as u64, journal_of(place), found);
+    }
+    found
+}
+
+/// The earliest of one that was found and of those on page `p`.
+fn earliest_on(
+    plan: &Plan,
+    starts: &Starts,
+    p: u64,
+    journal: &[Entry],
+    found: Option<Late>,
+) -> Option<Late>
+    ensures { (faults : ℕ → List AuditFault) → IsEarliest faults found
+        → IsEarliest (λ s. faults s ++ late_on (is_led plan.now (is_noted_before starts.now)) s p journal.now) result }
+{
+    let mut found = found;
+    for (k, &entry) in journal.iter().enumerate() {
+        if !is_led(plan, starts, entry) {
+            found = Some(earlier(
+                found,
+                Late {
+                    stamp: entry.stamp,
+                    page: p,
+                    number: k as u64,
+                },
+            ));
+        }
+    }
+    found
+}
+
+/// The earlier of one that was found and of another one behind it.
+fn earlier(found: Option<Late>, late: Late) -> Late
+    ensures { (faults : ℕ → List AuditFault) → IsEarliest faults found
+        → IsEarliest (λ s. faults s ++ unless (not (late.stamp == s)) (BadEntry late.page late.number)) (Some result) }
+{
+    match found {
+        None => late,
+        Some(other) if other.stamp <= late.stamp => other,
+        Some(_) => late,
+    }
+}
+
+/// Whether an entry, if it is a reference, is null or leads to what was there.
+fn is_led(plan: &Plan, starts: &Starts, entry: Entry) -> bool
+    ensures { result ≡ is_led plan.now (is_noted_before starts.now) entry }
+{
+    entry.kind != Kind::Reference
+        || entry.value == 0
+        || plan.shape_at(entry.value).is_some()
+        || starts.is_before(entry.value, entry.stamp)
+}

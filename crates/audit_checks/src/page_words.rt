@@ -1,0 +1,88 @@
+//! The fourth check: the words of each page are what its journal makes of its base.
+ghost use Rattle.std.specs.Prelude.{◌≡◌, ℕ, ◌<◌, ◌≤◌, All, IfOk, length};
+ghost use Rattle.comp_journal.specs.Journal.{replayed};
+ghost use Rattle.cell_steps.specs.Setup.{base_of};
+ghost use Rattle.audit_checks.specs.Checks.{each_built, same_words, word_faults};
+ghost use Rattle.comp_dump.specs.Dumped.{IsStoredPage, IsStoredRecord};
+ghost use Rattle.audit_checks.specs.Told.{Tells};
+ghost use Rattle.audit_checks.specs.Noted.{setup_at};
+
+use crate::fault::{AuditFault, Stop};
+use crate::setting::Setting;
+use comp_dump::page::DumpedPage;
+use comp_journal::entry::Entry;
+use heap_layout::fault::OutOfMemory;
+use heap_layout::page_words::PageWords;
+use page_plan::TO_SPACE;
+use std::alloc::Global;
+
+/// The words of each page that was built are what its journal makes of its base.
+pub fn check_words(
+    alloc: Global,
+    setting: Setting<'_>,
+    records: &[Option<DumpedPage<'_>>],
+) -> Result<(), Stop>
+    requires few { length records.now ≤ 20480 }
+    requires pages { All (IsStoredRecord setting.mutators) records.now }
+    ensures { Tells (each_built (word_faults (setup_at setting.entry)) records.now) result }
+{
+    for (p, place) in records.iter().enumerate() {
+        if let Some(page) = place {
+            check_page(alloc, setting, p as u64, page)?;
+        }
+    }
+    Ok(())
+}
+
+/// The words of page `p` are what its journal makes of its base.
+fn check_page(
+    alloc: Global,
+    setting: Setting<'_>,
+    p: u64,
+    page: &DumpedPage<'_>,
+) -> Result<(), Stop>
+    requires inside { p < 20480 }
+    requires stored { IsStoredPage setting.mutators page.now }
+    ensures { Tells (word_faults (setup_at setting.entry) p page.now) result }
+{
+    let mut right = base(alloc, setting, p)?;
+    replay(&mut right, page.journal());
+    check_same(right.as_array(), p, page.words())
+}
+
+/// The words with which page `p` began.
+fn base(alloc: Global, setting: Setting<'_>, p: u64) -> Result<PageWords, OutOfMemory>
+    ensures { IfOk result (λ words. words ≡ base_of (setup_at setting.entry) p) }
+{
+    if p < setting.plan.pages() {
+        setting.plan.build_page(alloc, p)
+    } else {
+        PageWords::zeros(alloc)
+    }
+}
+
+/// Makes of a page's words what a journal makes of them.
+fn replay(words: &mut PageWords, journal: &[Entry])
+    requires { All (λ entry. entry.offset < 64) journal.now }
+    ensures { words.new ≡ replayed words.old journal.now }
+{
+    for entry in journal {
+        words.set(entry.offset, entry.value);
+    }
+}
+
+/// The words of page `p` are the right ones.
+fn check_same(right: &[u64], p: u64, words: &[u64]) -> Result<(), Stop>
+    requires inside { p < 20480 }
+    requires long { length right.now ≡ 64 }
+    requires as_long { length words.now ≡ 64 }
+    ensures { Tells (same_words right.now p words.now) result }
+{
+    for (offset, &word) in words.iter().enumerate() {
+        if word != right[offset] {
+            let address = TO_SPACE + 64 * p + offset as u64;
+            return Err(Stop::Fault(AuditFault::WrongWord(address)));
+        }
+    }
+    Ok(())
+}

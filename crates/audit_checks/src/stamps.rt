@@ -1,0 +1,85 @@
+//! The sixth check and the seventh: the stamps are the numbers below their count, each once.
+ghost use Rattle.std.specs.Prelude.{◌≡◌, ℕ, ◌<◌, ◌≤◌, ◌+◌, ◌++◌, IfOk, OnOk, length, map, slice_index};
+ghost use Rattle.comp_journal.specs.declared.entry.Entry.{Entry};
+ghost use Rattle.audit_checks.specs.Checks.{all_stamps, missing_faults, repeat_faults};
+ghost use Rattle.audit_checks.specs.Told.{Tells};
+
+use crate::fault::{AuditFault, Stop};
+use crate::record::journal_of;
+use comp_dump::page::DumpedPage;
+use comp_journal::entry::Entry;
+use std::alloc::{AllocError, Global};
+
+/// The stamps of all entries are the numbers below their count, each once.
+pub fn check_stamps(alloc: Global, records: &[Option<DumpedPage<'_>>]) -> Result<(), Stop>
+    ensures { Tells (repeat_faults (all_stamps records.now) ++ missing_faults (all_stamps records.now)) result }
+{
+    let mut stamps = gather_stamps(alloc, records)?;
+    check_numbers(&mut stamps)
+}
+
+/// The stamps of all entries, page by page.
+fn gather_stamps(alloc: Global, records: &[Option<DumpedPage<'_>>]) -> Result<Vec<u64>, AllocError>
+    ensures { IfOk result (λ stamps. stamps.items ≡ all_stamps records.now) }
+{
+    let mut stamps = Vec::new(alloc);
+    for place in records {
+        add_stamps(&mut stamps, journal_of(place))?;
+    }
+    Ok(stamps)
+}
+
+/// Adds the stamps of a page.
+fn add_stamps(stamps: &mut Vec<u64>, journal: &[Entry]) -> Result<(), AllocError>
+    ensures { OnOk result (stamps.new.items ≡ stamps.old.items ++ map (λ (e : Entry). e.stamp) journal.now) }
+{
+    for entry in journal {
+        stamps.push(entry.stamp)?;
+    }
+    Ok(())
+}
+
+/// Numbers are those below their count, each once. They are sorted.
+fn check_numbers(stamps: &mut [u64]) -> Result<(), Stop>
+    ensures { Tells (repeat_faults stamps.old ++ missing_faults stamps.old) result }
+{
+    stamps.sort_unstable();
+    check_sorted(stamps)
+}
+
+/// Numbers that do not fall are those below their count, each once.
+fn check_sorted(stamps: &[u64]) -> Result<(), Stop>
+    requires sorted { (i j : ℕ) → i ≤ j → j < length stamps.now → slice_index stamps.now i ≤ slice_index stamps.now j }
+    ensures { Tells (repeat_faults stamps.now ++ missing_faults stamps.now) result }
+{
+    check_repeats(stamps)?;
+    check_missing(stamps)
+}
+
+/// None of them stands twice.
+fn check_repeats(stamps: &[u64]) -> Result<(), Stop>
+    requires sorted { (i j : ℕ) → i ≤ j → j < length stamps.now → slice_index stamps.now i ≤ slice_index stamps.now j }
+    ensures told { Tells (repeat_faults stamps.now) result }
+    ensures rises { OnOk result ((k : ℕ) → k + 1 < length stamps.now → slice_index stamps.now k < slice_index stamps.now (k + 1)) }
+{
+    for i in 1..stamps.len() {
+        if stamps[i] == stamps[i - 1] {
+            return Err(Stop::Fault(AuditFault::StampRepeated(stamps[i])));
+        }
+    }
+    Ok(())
+}
+
+/// Of those that rise, none below their count is missing.
+fn check_missing(stamps: &[u64]) -> Result<(), Stop>
+    requires sorted { (i j : ℕ) → i ≤ j → j < length stamps.now → slice_index stamps.now i ≤ slice_index stamps.now j }
+    requires rises { (k : ℕ) → k + 1 < length stamps.now → slice_index stamps.now k < slice_index stamps.now (k + 1) }
+    ensures { Tells (missing_faults stamps.now) result }
+{
+    for (i, &stamp) in stamps.iter().enumerate() {
+        if stamp != i as u64 {
+            return Err(Stop::Fault(AuditFault::StampMissing(i as u64)));
+        }
+    }
+    Ok(())
+}

@@ -1,0 +1,67 @@
+//! The ninth check: the total is that of the words that slid and of all objects that were made.
+ghost use Rattle.std.specs.Prelude.{◌≡◌, ◌^◌, ◌<◌, ◌≤◌, All, length};
+ghost use Rattle.comp_journal.specs.declared.entry.Entry.{Entry};
+ghost use Rattle.cell_steps.specs.Lists.{total as added};
+ghost use Rattle.comp_history.specs.Shares.{allocated, words_by};
+ghost use Rattle.audit_checks.specs.Checks.{all_entries, total_faults};
+ghost use Rattle.comp_dump.specs.Dumped.{HasFewEntries};
+ghost use Rattle.audit_checks.specs.Told.{Tells};
+
+use crate::fault::{AuditFault, Stop};
+use crate::record::journal_of;
+use comp_dump::page::DumpedPage;
+use comp_journal::entry::Entry;
+use heap_layout::header::Header;
+use heap_layout::kind::Kind;
+use page_plan::plan::Plan;
+
+/// The total is that of the words that slid and of all objects that were made.
+pub fn check_total(plan: &Plan, total: u64, records: &[Option<DumpedPage<'_>>]) -> Result<(), Stop>
+    requires few { length records.now ≤ 20480 }
+    requires pages { All HasFewEntries records.now }
+    ensures { Tells (total_faults plan.now total records.now) result }
+{
+    if total != plan.live_words() + all_words(records) {
+        return Err(Stop::Fault(AuditFault::WrongTotal));
+    }
+    Ok(())
+}
+
+/// How many words the objects have that all entries make.
+fn all_words(records: &[Option<DumpedPage<'_>>]) -> u64
+    requires few { length records.now ≤ 20480 }
+    requires pages { All HasFewEntries records.now }
+    ensures words { result ≡ allocated (all_entries records.now) }
+    ensures few { result ≤ 2 ^ 42 }
+{
+    let mut words = 0;
+    for place in records {
+        words += words_on(journal_of(place));
+    }
+    words
+}
+
+/// How many words the objects have that a page's entries make.
+fn words_on(journal: &[Entry]) -> u64
+    requires { length journal.now ≤ 1024 }
+    ensures words { result ≡ added (λ (e : Entry). words_by e.kind e.value) journal.now }
+    ensures few { result ≤ 2 ^ 27 }
+{
+    let mut words = 0;
+    for entry in journal {
+        words += words_made(*entry);
+    }
+    words
+}
+
+/// How many words the object has that an entry makes.
+fn words_made(entry: Entry) -> u64
+    ensures words { result ≡ words_by entry.kind entry.value }
+    ensures few { result < 2 ^ 17 }
+{
+    match entry.kind {
+        Kind::Header => u64::from(Header::from_word(entry.value).size()),
+        Kind::Reference => 0,
+        Kind::Data => 0,
+    }
+}

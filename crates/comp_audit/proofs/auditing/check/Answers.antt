@@ -1,7 +1,0 @@
-use Rattle.page_cells.specs.Ends.{lists as items_of}
-use Rattle.comp_audit.specs.Noted.{setup_at}
-use Rattle.comp_audit.proofs.Built.{lawful_pages}
-use Rattle.comp_audit.proofs.auditing.check.Goals as goal
-
-pub check_history-requires-clause-lawful : goal.check_history-requires-clause-lawful
-check_history-requires-clause-lawful c = lawful_pages (setup_at c.args.setting) (items_of c.args.builds.now) c.args.records.now c.in_ok-check_pages.ensures
