@@ -10,15 +10,15 @@ use Rattle.cell_steps.specs.Setup.{Setup}
 use Rattle.cell_steps.proofs.Sums.{is_inside, read_at}
 use Rattle.comp_history.specs.Merged.{written_by}
 use Rattle.comp_mutator.specs.declared.mutator.Mutator.{Mutator}
-use Rattle.comp_trace.specs.Bytes.{flipped, no_entries, DidNothingYet, Interrupts, Shows, ShowOnce}
-use Rattle.comp_trace.specs.Deeds.{deeds_of, HaveAll, KnowTheirs}
+use Rattle.comp_trace.specs.Bytes.{flipped, no_entries, Interrupts, Shows, ShowOnce}
+use Rattle.trace_steps.specs.Deeds.{deeds_of, DidNothingYet, HaveAll, KnowTheirs}
 use Rattle.trace_text.specs.Grammar.{parts, trace_of}
 use Rattle.comp_trace.specs.Replays.{HaveReplayed, HaveStopped}
 use Rattle.comp_trace.specs.Runs.{beginning, MayBegin, Runs}
 use Rattle.trace_text.specs.declared.fault.TraceFault.{TraceFault}
 use Rattle.trace_text.specs.declared.fault.TraceFault.TheVariants.{BadLine, NoSuchMutator, NoSuchRegister, NumberTooLarge, NoSuchRoot, Refused, OutOfMemory}
 use Rattle.trace_text.specs.declared.line.Line.{Line}
-use Rattle.comp_trace.specs.declared.shown.Shown.{Shown}
+use Rattle.trace_steps.specs.declared.shown.Shown.{Shown}
 use Rattle.comp_trace.proofs.Determined.{determined}
 use Rattle.comp_trace.proofs.Inside.{ok_is, read_inside}
 

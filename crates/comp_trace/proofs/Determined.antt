@@ -27,13 +27,14 @@ use Rattle.comp_access.specs.Allocations.{own_page}
 use Rattle.comp_access.specs.Fields.{place_of, IsFieldOf}
 use Rattle.comp_access.specs.Reads.{Reads}
 use Rattle.comp_access.proofs.OwnPages.{filled_append, on_append, own_fresh}
-use Rattle.comp_trace.specs.Acting.{registers_after, shown_at}
-use Rattle.comp_trace.specs.Builds.{built_after, touched}
-use Rattle.comp_trace.specs.Runs.{beginning, unstamped, unstamped_on, used_by, with_entries, Acts, AreAlike, Does, IsDetermined, IsOneEntry, MakesObject, Moment, Runs, WritesField}
+use Rattle.trace_steps.specs.Acting.{registers_after, shown_at}
+use Rattle.trace_steps.specs.Builds.{built_after, touched}
+use Rattle.comp_trace.specs.Runs.{beginning, unstamped, unstamped_on, AreAlike, Does, IsDetermined, Moment, Runs}
+use Rattle.trace_steps.specs.Lines.{used_by, with_entries, Acts, IsOneEntry, MakesObject, WritesField}
 use Rattle.trace_text.specs.declared.line.Action.{Action}
 use Rattle.trace_text.specs.declared.line.Action.TheVariants.{Root, Load, Get, Store, Put, New, Nil}
 use Rattle.trace_text.specs.declared.line.Line.{Line}
-use Rattle.comp_trace.specs.declared.shown.Shown.{Shown}
+use Rattle.trace_steps.specs.declared.shown.Shown.{Shown}
 
 -- the first entry is of this writer, or of another
 mine : (e : Entry) (es : List Entry) (k : ℕ) → e.writer ≡ k → by k (e ∷ es) ≡ e ∷ by k es

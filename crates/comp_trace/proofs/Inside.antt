@@ -6,7 +6,7 @@ use Rattle.trace_text.specs.Grammar.{◌>>=◌, judged, is_too_large, is_within,
 use Rattle.trace_text.specs.declared.fault.TraceFault.{TraceFault}
 use Rattle.trace_text.specs.declared.fault.TraceFault.TheVariants.{BadLine, NoSuchMutator, NoSuchRegister, NumberTooLarge, NoSuchRoot}
 use Rattle.trace_text.specs.declared.line.Line.{Line}
-use Rattle.comp_trace.proofs.Fitting.{ok_not}
+use Rattle.trace_steps.proofs.Fitting.{ok_not}
 use Rattle.trace_text.proofs.Lines.{judged_within}
 
 mutator_inside : (ms rs : ℕ) (line : Line) → is_within ms rs line ≡ true → line.mutator < ms

@@ -17,16 +17,17 @@ use Rattle.comp_access.proofs.OwnPages.{on_append}
 use Rattle.comp_mutator.specs.Mutators.{pass_of}
 use Rattle.comp_mutator.specs.declared.mutator.Mutator.{Mutator}
 use Rattle.comp_access.specs.declared.refusal.Refusal.{Refusal}
-use Rattle.comp_trace.specs.Acting.{null_registers, registers_after, shown_at}
-use Rattle.comp_trace.specs.Builds.{built_after, touched, BuildOn, HaveBuilt}
-use Rattle.comp_trace.specs.Deeds.{deeds_of, AreMerged, Deeds, HaveStart, IsMerged, KnowTheirs}
+use Rattle.trace_steps.specs.Acting.{null_registers, registers_after, shown_at}
+use Rattle.trace_steps.specs.Builds.{built_after, touched, BuildOn, HaveBuilt}
+use Rattle.trace_steps.specs.Deeds.{deeds_of, AreMerged, Deeds, HaveStart, IsMerged, KnowTheirs}
 use Rattle.comp_trace.specs.Replays.{CannotGoOn, GoesOn, RanTo, StandsAt}
-use Rattle.comp_trace.specs.Rounds.{Advances, AreLater, DidNothing, IsTurnedDown, Learns, RanLine, WasTurnedDown}
-use Rattle.comp_trace.specs.Runs.{beginning, with_entries, Acts, Does, Moment, Runs}
+use Rattle.trace_steps.specs.Rounds.{Advances, AreLater, DidNothing, IsTurnedDown, Learns, RanLine, WasTurnedDown}
+use Rattle.comp_trace.specs.Runs.{beginning, Does, Moment, Runs}
+use Rattle.trace_steps.specs.Lines.{with_entries, Acts}
 use Rattle.trace_text.specs.declared.line.Action.{Action}
 use Rattle.trace_text.specs.declared.line.Line.{Line}
-use Rattle.comp_trace.specs.declared.shown.Shown.{Shown}
-use Rattle.comp_trace.proofs.Merging.{merged_by, merged_still}
+use Rattle.trace_steps.specs.declared.shown.Shown.{Shown}
+use Rattle.trace_steps.proofs.Merging.{merged_by, merged_still}
 
 -- a run goes on by one line
 runs_more : (u : Setup) (start : Journals) (n : ℕ) (lines : List Line) (line : Line) (before now after : Moment)

@@ -5,31 +5,25 @@ use lib.ListN.{get_elem?}
 use Rattle.heap_image.specs.Encoding.{encoding, AreCounted}
 use Rattle.heap_layout.specs.Heap.{live, Heap, IsStored}
 use Rattle.page_plan.specs.Sliding.{pages}
-use Rattle.cell_steps.specs.Lists.{Each}
 use Rattle.cell_steps.specs.Locks.{Journals}
 use Rattle.cell_steps.specs.Passes.{did, seen, KnowsFresh}
 use Rattle.cell_steps.specs.Setup.{Setup}
 use Rattle.cell_steps.specs.declared.pass.Pass.{Pass}
 use Rattle.page_cells.specs.Objects.{HasHeader}
 use Rattle.comp_history.specs.Merged.{written_by}
-use Rattle.comp_mutator.specs.Mutators.{pass_of}
-use Rattle.comp_mutator.specs.declared.mutator.Mutator.{Mutator}
 use Rattle.comp_access.specs.declared.refusal.Refusal.{Refusal}
-use Rattle.comp_trace.specs.Acting.{Refuses}
+use Rattle.trace_steps.specs.Acting.{Refuses}
 use Rattle.trace_text.specs.Grammar.{trace_of, IsReadAs}
-use Rattle.comp_trace.specs.Runs.{beginning, with_entries, Moment, Runs}
+use Rattle.comp_trace.specs.Runs.{beginning, Moment, Runs}
+use Rattle.trace_steps.specs.Lines.{with_entries}
 use Rattle.trace_text.specs.declared.fault.TraceFault.{TraceFault}
 use Rattle.trace_text.specs.declared.fault.TraceFault.TheVariants.{BadLine, NoSuchMutator, NoSuchRegister, NumberTooLarge, NoSuchRoot, Refused, OutOfMemory}
 use Rattle.trace_text.specs.declared.line.Line.{Line}
-use Rattle.comp_trace.specs.declared.shown.Shown.{Shown}
+use Rattle.trace_steps.specs.declared.shown.Shown.{Shown}
 
 -- nothing was written
 abbrev pub no_entries : Journals
 no_entries p = []
-
--- none of these mutators has written anything
-abbrev pub DidNothingYet : {L : Type 0} → List (Mutator L) → Type 0
-DidNothingYet {L} mutators = Each mutators (λ (m : Mutator L). did (pass_of m) ≡ [])
 
 -- The text is a trace, whose run from no entries at all shows these values.
 pub record Shows (u : Setup) (text : List ℕ) (shown : List Shown) : Type 0 where

@@ -1,10 +1,3 @@
-pub mod Acting
-pub mod Traces
-pub mod Races
-pub mod Runners
-pub mod Builds
 pub mod Runs
-pub mod Deeds
-pub mod Rounds
 pub mod Replays
 pub mod Bytes

@@ -7,14 +7,15 @@ use Rattle.cell_steps.specs.Locks.{Journals}
 use Rattle.comp_history.specs.Merged.{written_by}
 use Rattle.comp_mutator.specs.declared.mutator.Mutator.{Mutator}
 use Rattle.comp_access.specs.declared.refusal.Refusal.{Refusal}
-use Rattle.comp_trace.specs.Builds.{HaveBuilt}
-use Rattle.comp_trace.specs.Deeds.{deeds_of, AreMerged, Deeds, HaveAll}
-use Rattle.comp_trace.specs.Rounds.{IsTurnedDown}
-use Rattle.comp_trace.specs.Runs.{beginning, with_entries, Moment, Runs}
+use Rattle.trace_steps.specs.Builds.{HaveBuilt}
+use Rattle.trace_steps.specs.Deeds.{deeds_of, AreMerged, Deeds, HaveAll}
+use Rattle.trace_steps.specs.Rounds.{IsTurnedDown}
+use Rattle.comp_trace.specs.Runs.{beginning, Moment, Runs}
+use Rattle.trace_steps.specs.Lines.{with_entries}
 use Rattle.trace_text.specs.declared.fault.TraceFault.{TraceFault}
 use Rattle.trace_text.specs.declared.fault.TraceFault.TheVariants.{BadLine, NoSuchMutator, NoSuchRegister, NumberTooLarge, NoSuchRoot, Refused, OutOfMemory}
 use Rattle.trace_text.specs.declared.line.Line.{Line}
-use Rattle.comp_trace.specs.declared.shown.Shown.{Shown}
+use Rattle.trace_steps.specs.declared.shown.Shown.{Shown}
 
 -- The lines were run, from where no register is set, to this moment. Each of n mutators did what it had done, and then what it added.
 pub record RanTo (u : Setup) (n : ℕ) (start : Journals) (first deeds : Deeds) (lines : List Line) (shown : List Shown) (end : Moment) : Type 0 where

@@ -1,29 +1,17 @@
 -- The run of a trace by one thread.
-use Rattle.std.specs.Prelude.{◌≡◌, ℕ, ◌+◌, ◌*◌, ◌<◌, ◌≤◌, List, [], ◌∷◌, ◌++◌, All, Some, map, slice_index}
-use Rattle.heap_layout.specs.Header.{header_word, size_of}
+use Rattle.std.specs.Prelude.{◌≡◌, ℕ, ◌+◌, ◌<◌, List, [], ◌∷◌, ◌++◌, All, map}
 use Rattle.heap_layout.specs.Heap.{live}
 use Rattle.page_plan.specs.Sliding as sliding
-use Rattle.heap_layout.specs.declared.kind.Kind.{Kind}
-use Rattle.heap_layout.specs.declared.kind.Kind.TheVariants.{Header, Reference, Data}
 use Rattle.comp_journal.specs.declared.entry.Entry.{Entry}
-use Rattle.cell_steps.specs.Setup.{Setup, address}
-use Rattle.cell_steps.specs.Lists.{but, by, on}
-use Rattle.cell_steps.specs.Lawful.{filled, IsLawful}
+use Rattle.cell_steps.specs.Setup.{Setup}
+use Rattle.cell_steps.specs.Lists.{but}
+use Rattle.cell_steps.specs.Lawful.{IsLawful}
 use Rattle.cell_steps.specs.Locks.{Journals}
-use Rattle.page_cells.specs.Objects.{page_at, offset_at}
-use Rattle.comp_access.specs.Fields.{IsFieldOf}
-use Rattle.comp_access.specs.Reads.{Reads}
-use Rattle.comp_access.specs.Allocations.{own_page}
-use Rattle.comp_trace.specs.Acting.{null_registers, registers_after, shown_at}
-use Rattle.comp_trace.specs.Builds.{built_after, touched}
-use Rattle.trace_text.specs.declared.line.Action.{Action}
-use Rattle.trace_text.specs.declared.line.Action.TheVariants.{Root, Load, Get, Store, Put, New, Nil}
+use Rattle.trace_steps.specs.Acting.{null_registers, registers_after, shown_at}
+use Rattle.trace_steps.specs.Builds.{built_after, touched}
 use Rattle.trace_text.specs.declared.line.Line.{Line}
-use Rattle.comp_trace.specs.declared.shown.Shown.{Shown}
-
--- the journals, with these entries behind them
-abbrev pub with_entries : Journals → List (ℕ × Entry) → Journals
-with_entries journals added p = journals p ++ on p added
+use Rattle.trace_steps.specs.declared.shown.Shown.{Shown}
+use Rattle.trace_steps.specs.Lines.{with_entries, Acts}
 
 -- Where a run stands: what the registers of each mutator hold, the entries that were added since it began, the values that were shown, each with its line, and the
 -- pages that were built, each behind the mutator that built it.
@@ -36,46 +24,6 @@ pub record Moment : Type 0 where
 -- no register has been set, and nothing was added, shown or built
 abbrev pub beginning : Moment
 beginning = record { registers = λ m. null_registers; added = []; shown = []; built = [] }
-
--- the stamp is above those of all entries in the journals
-abbrev pub IsAboveAll : Journals → ℕ → Type 0
-IsAboveAll journals stamp = (p : ℕ) → All (λ (e : Entry). e.stamp < stamp) (journals p)
-
--- the one entry of mutator m, to page p: its stamp is above all that there were
-pub record IsOneEntry (journals : Journals) (m p : ℕ) (kind : Kind) (offset value stamp : ℕ) (added : List (ℕ × Entry)) : Type 0 where
-  pub above : IsAboveAll journals stamp
-  pub added_is : added ≡ (p, record { stamp = stamp; writer = m; kind = kind; offset = offset; value = value }) ∷ []
-
--- A value was written into a field of an object.
-pub record WritesField (u : Setup) (journals : Journals) (m : ℕ) (kind : Kind) (object field value : ℕ) (added : List (ℕ × Entry)) (stamp : ℕ) : Type 0 where
-  pub place : ℕ
-  pub field_of : IsFieldOf u journals kind object field place
-  pub entry : IsOneEntry journals m (page_at place) kind (offset_at place) value stamp added
-
--- how many words of a page the objects have that the mutator made there
-abbrev pub used_by : Setup → Journals → ℕ → ℕ → ℕ
-used_by u journals m index = filled (by m (journals (own_page u m index)))
-
--- An object was made behind the objects on the lowest page of the mutator that has room.
-pub record MakesObject (u : Setup) (journals : Journals) (m header : ℕ) (added : List (ℕ × Entry)) (place : ℕ) : Type 0 where
-  pub index : ℕ
-  pub there : m + index * u.mutators < u.fresh
-  pub room : used_by u journals m index + size_of header ≤ 64
-  pub lower : (i : ℕ) → i < index → 64 < used_by u journals m i + size_of header
-  pub place_is : place ≡ address (own_page u m index) (used_by u journals m index)
-  pub stamp : ℕ
-  pub entry : IsOneEntry journals m (own_page u m index) Header (used_by u journals m index) header stamp added
-
--- What a line of mutator m answers, where its registers hold this and the pages have these journals, and the entries that it adds.
-abbrev pub Acts : Setup → Journals → ℕ → Action → List ℕ → List (ℕ × Entry) → ℕ → Type 0
-Acts u journals m (Root to root) registers added answer = (added ≡ []) × (sliding.forward (live u.heap) (slice_index u.heap.roots root) ≡ Some answer)
-Acts u journals m (Load to object field) registers added answer = (added ≡ []) × Reads u journals Reference (slice_index registers object) field answer
-Acts u journals m (Get object field) registers added answer = (added ≡ []) × Reads u journals Data (slice_index registers object) field answer
-Acts u journals m (Store object field value) registers added answer =
-    WritesField u journals m Reference (slice_index registers object) field (slice_index registers value) added answer
-Acts u journals m (Put object field value) registers added answer = WritesField u journals m Data (slice_index registers object) field value added answer
-Acts u journals m (New to refs data_words tag) registers added answer = MakesObject u journals m (header_word refs data_words tag) added answer
-Acts u journals m (Nil to) registers added answer = (added ≡ []) × (answer ≡ 0)
 
 -- What line n does.
 pub record Does (u : Setup) (start : Journals) (n : ℕ) (line : Line) (before after : Moment) : Type 0 where

@@ -1,22 +1,22 @@
 //! Traces that are run by one thread.
 ghost use Rattle.std.specs.Prelude.{◌≡◌, ◌<◌, ◌≤◌, ◌+◌, length, replicate, vec_capacity, IfErr, IfOk, OnErr, OnOk};
 ghost use Rattle.comp_mutator.specs.Mutators.{setup_of};
-ghost use Rattle.comp_trace.specs.Acting.{null_registers, Fits};
-ghost use Rattle.comp_trace.specs.Deeds.{HaveStart};
-ghost use Rattle.comp_trace.specs.Races.{AreAll};
+ghost use Rattle.trace_steps.specs.Acting.{null_registers, Fits};
+ghost use Rattle.trace_steps.specs.Deeds.{HaveStart};
+ghost use Rattle.trace_steps.specs.AllMutators.{AreAll};
 ghost use Rattle.comp_trace.specs.Replays.{CannotGoOn, GoesOn, HaveReplayed, HaveStopped, IsRefusal};
-ghost use Rattle.comp_trace.specs.Rounds.{AreLater, DidNothing};
-ghost use Rattle.comp_trace.specs.Traces.{AllFit, IsParsedFor};
+ghost use Rattle.trace_steps.specs.Rounds.{AreLater, DidNothing};
+ghost use Rattle.trace_steps.specs.Traces.{AllFit, IsParsedFor};
 ghost use Rattle.trace_text.specs.Traces.{lines_of};
 
-use crate::shown::{Shown, show};
-use crate::stepping::step;
 use comp_access::refusal::Refusal;
 use comp_mutator::mutator::Mutator;
 use comp_mutator::space::Space;
 use page_plan::builder::Builder;
 use std::alloc::{AllocError, Global};
 use std::sync::ledger::Ledger;
+use trace_steps::shown::{Shown, show};
+use trace_steps::stepping::step;
 use trace_text::fault::TraceFault;
 use trace_text::line::Line;
 use trace_text::trace::Trace;

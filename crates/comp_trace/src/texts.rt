@@ -1,16 +1,17 @@
 //! Texts of traces that are run.
 ghost use Rattle.std.specs.Prelude.{◌≡◌, length, IfErr, IfOk};
 ghost use Rattle.comp_mutator.specs.Mutators.{setup_of};
-ghost use Rattle.comp_trace.specs.Bytes.{DidNothingYet, Shows, StopsShowing};
-ghost use Rattle.comp_trace.specs.Races.{AreAll};
+ghost use Rattle.trace_steps.specs.Deeds.{DidNothingYet};
+ghost use Rattle.comp_trace.specs.Bytes.{Shows, StopsShowing};
+ghost use Rattle.trace_steps.specs.AllMutators.{AreAll};
 
 use crate::replay::{Stopped, replay};
-use crate::shown::Shown;
 use comp_mutator::mutator::Mutator;
 use comp_mutator::space::Space;
 use page_plan::builder::Builder;
 use std::alloc::Global;
 use std::sync::ledger::Ledger;
+use trace_steps::shown::Shown;
 use trace_text::parsing::parse;
 
 /// Reads the text of a trace, and runs it over a space whose mutators have written nothing yet. There are `count` mutators and `roots` shared roots.

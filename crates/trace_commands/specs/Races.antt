@@ -15,12 +15,12 @@ use Rattle.comp_history.specs.declared.finished.Finished.{Finished}
 use Rattle.comp_access.specs.declared.refusal.Refusal.{Refusal as CallRefusal}
 use Rattle.comp_access.specs.declared.refusal.Refusal.TheVariants as refusals
 use Rattle.comp_trace.specs.Bytes.{flipped}
-use Rattle.comp_trace.specs.Races.{numbered, own_lines, Ran}
+use Rattle.comp_race.specs.Races.{numbered, own_lines, Ran}
 use Rattle.trace_text.specs.declared.fault.TraceFault.{TraceFault}
 use Rattle.trace_text.specs.declared.fault.TraceFault.TheVariants as faults
 use Rattle.trace_text.specs.declared.line.Line.{Line}
-use Rattle.comp_trace.specs.declared.race.Run.{Run}
-use Rattle.comp_trace.specs.declared.shown.Shown.{Shown}
+use Rattle.comp_race.specs.declared.race.Run.{Run}
+use Rattle.trace_steps.specs.declared.shown.Shown.{Shown}
 use Rattle.comp_dump.specs.DumpEncoding.{dump_bytes}
 use Rattle.comp_dump.specs.declared.fault.DumpFault.TheVariants.{Device}
 use Rattle.trace_commands.specs.ByLine.{AreByLine, HasEnded, IsLeastStop}

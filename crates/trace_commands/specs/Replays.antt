@@ -17,13 +17,13 @@ use Rattle.comp_history.specs.Finishes.{builds_in, live_of, pages_of, roots_of}
 use Rattle.comp_history.specs.Finishes as finishes
 use Rattle.comp_history.specs.declared.finished.Finished.{Finished}
 use Rattle.comp_access.specs.declared.refusal.Refusal.TheVariants as refusals
-use Rattle.comp_trace.specs.Builds.{built_by}
+use Rattle.trace_steps.specs.Builds.{built_by}
 use Rattle.comp_trace.specs.Bytes.{flipped, no_entries, Interrupts}
 use Rattle.comp_trace.specs.Runs.{beginning, Moment, Runs}
 use Rattle.trace_text.specs.declared.fault.TraceFault.{TraceFault}
 use Rattle.trace_text.specs.declared.fault.TraceFault.TheVariants.{Refused}
 use Rattle.trace_text.specs.declared.line.Line.{Line}
-use Rattle.comp_trace.specs.declared.shown.Shown.{Shown}
+use Rattle.trace_steps.specs.declared.shown.Shown.{Shown}
 use Rattle.comp_dump.specs.Dumped.{BuiltPage, Dumped}
 use Rattle.comp_dump.specs.DumpEncoding.{dump_bytes}
 use Rattle.comp_dump.specs.Lent.{record_of}

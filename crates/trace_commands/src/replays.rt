@@ -5,7 +5,7 @@ ghost use Rattle.page_plan.specs.Sliding.{pages};
 ghost use Rattle.page_cells.specs.Cells.{steps_of, AreNew};
 ghost use Rattle.comp_history.specs.Finishes.{IsOfFlip};
 ghost use Rattle.comp_mutator.specs.Mutators.{cells_of, pass_of, setup_of, AreMutatorsOf};
-ghost use Rattle.comp_trace.specs.Traces.{IsParsedFor};
+ghost use Rattle.trace_steps.specs.Traces.{IsParsedFor};
 ghost use Rattle.trace_text.specs.Traces.{lines_of, mutators_of, roots_of};
 ghost use Rattle.trace_commands.specs.Replays.{IsHalted, IsReplayedHeap};
 ghost use Rattle.command_io.specs.Texts.{HasLines};
@@ -18,13 +18,13 @@ use comp_mutator::mutator::Mutator;
 use comp_mutator::refusal::FlipFault;
 use comp_mutator::space::Space;
 use comp_trace::replay::replay;
-use comp_trace::shown::Shown;
 use heap_layout::heap::MarkedHeap;
 use page_plan::plan::Plan;
 use std::alloc::Global;
 use std::marker::Brand;
 use std::sync::Arc;
 use std::sync::ledger::{Blank, Ledger};
+use trace_steps::shown::Shown;
 use trace_text::trace::Trace;
 
 /// A heap over which a trace was run, finished, and the values that the trace showed.

@@ -1,9 +1,9 @@
 //! Flipped heaps, and traces that are read for them.
 ghost use Rattle.std.specs.Prelude.{◌≡◌, length};
 ghost use Rattle.comp_mutator.specs.Mutators.{setup_of};
-ghost use Rattle.comp_trace.specs.Bytes.{DidNothingYet};
-ghost use Rattle.comp_trace.specs.Races.{AreAll};
-ghost use Rattle.comp_trace.specs.Traces.{IsParsedFor};
+ghost use Rattle.trace_steps.specs.Deeds.{DidNothingYet};
+ghost use Rattle.trace_steps.specs.AllMutators.{AreAll};
+ghost use Rattle.trace_steps.specs.Traces.{IsParsedFor};
 
 use comp_mutator::flipping::flip;
 use comp_mutator::mutator::Mutator;

@@ -1,11 +1,11 @@
 //! Lines that are run over objects kept plainly.
 use comp_access::refusal::Refusal;
-use comp_trace::shown::Shown;
 use plain_objects::call::Call;
 use plain_objects::objects::Objects;
 use plain_objects::two_live::{ROOTS, opening};
 use std::alloc::{AllocError, Global};
 use std::process::Abort;
+use trace_steps::shown::Shown;
 use trace_text::line::{Action, Line};
 
 /// All objects, what the registers of up to four mutators hold, and what lines showed.

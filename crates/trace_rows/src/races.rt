@@ -5,7 +5,7 @@ use crate::ran::raced;
 use crate::replays::plan_of_three;
 use comp_access::refusal::Refusal;
 use comp_mutator::finishing::Finished;
-use comp_trace::race::Run;
+use comp_race::race::Run;
 use heap_layout::header::Header;
 use page_plan::plan::Plan;
 use std::alloc::Global;

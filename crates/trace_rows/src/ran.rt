@@ -4,9 +4,8 @@ ghost use Rattle.std.specs.Prelude.{◌≡◌};
 use crate::flipped::{Case, flipped, read_for, root_count};
 use crate::judged::finish_lawfully;
 use comp_mutator::finishing::Finished;
-use comp_trace::race::{Raced, Run, race};
+use comp_race::race::{Raced, Run, race};
 use comp_trace::replay::Stopped;
-use comp_trace::shown::Shown;
 use comp_trace::texts::replay_text;
 use page_plan::builder::Builder;
 use page_plan::plan::Plan;
@@ -15,6 +14,7 @@ use std::process::Abort;
 use std::sync::Wait;
 use std::sync::ledger::{Blank, Ledger};
 use std::thread::Threads;
+use trace_steps::shown::Shown;
 
 /// What a text shows by one thread on the heap of this builder, and the finished heap, which is lawful for this plan.
 pub fn replayed<L: Ledger>(

@@ -7,8 +7,7 @@ use crate::random_traces::{case_of, drawn};
 use comp_access::refusal::Refusal;
 use comp_journal::entry::Entry;
 use comp_mutator::finishing::Finished;
-use comp_trace::race::Run;
-use comp_trace::shown::Shown;
+use comp_race::race::Run;
 use heap_layout::header::Header;
 use heap_layout::kind::Kind;
 use page_plan::plan::Plan;
@@ -20,6 +19,7 @@ use std::process::Abort;
 use std::sync::Wait;
 use std::sync::ledger::Blank;
 use std::thread::Threads;
+use trace_steps::shown::Shown;
 use trace_text::fault::Stop;
 use trace_text::line::{Action, Line};
 

@@ -7,13 +7,13 @@ use crate::ran::replayed;
 use crate::replays::expect_replay;
 use comp_mutator::finishing::Finished;
 use comp_trace::replay::Stopped;
-use comp_trace::shown::Shown;
 use page_plan::plan::Plan;
 use plain_objects::two_live::two_live;
 use std::alloc::Global;
 use std::marker::Brand;
 use std::process::Abort;
 use std::sync::ledger::Blank;
+use trace_steps::shown::Shown;
 use trace_text::fault::TraceFault;
 use trace_text::parsing::parse;
 

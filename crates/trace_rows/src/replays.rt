@@ -6,13 +6,13 @@ use comp_access::refusal::Refusal;
 use comp_journal::entry::Entry;
 use comp_mutator::finishing::Finished;
 use comp_trace::replay::Stopped;
-use comp_trace::shown::Shown;
 use heap_layout::kind::Kind;
 use page_plan::plan::Plan;
 use std::alloc::{AllocError, Global};
 use std::marker::Brand;
 use std::process::Abort;
 use std::sync::ledger::Blank;
+use trace_steps::shown::Shown;
 use trace_text::fault::TraceFault;
 use worked_heaps::heaps::{planned, three};
 

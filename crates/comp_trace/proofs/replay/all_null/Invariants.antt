@@ -1,5 +1,5 @@
 use Rattle.std.proofs.Common.{◌≡◌, ◌≤◌, replicate, vec_len, vec_capacity}
-use Rattle.comp_trace.specs.Acting.{null_registers}
+use Rattle.trace_steps.specs.Acting.{null_registers}
 use Rattle.comp_trace.proofs.replay.all_null.Given as goal
 
 abbrev pub invariant-loop-i : goal.invariant-loop-i

@@ -2,13 +2,13 @@ use Rattle.std.proofs.Common.{◌<◌, List, length, sym, ap, subst, arith}
 use Rattle.std.specs.Prelude.{IfErr, IfOk, OnOk}
 use Rattle.comp_mutator.specs.Mutators.{setup_of}
 use Rattle.comp_mutator.specs.declared.mutator.Mutator.{Mutator}
-use Rattle.comp_trace.specs.Deeds.{HaveStart}
-use Rattle.comp_trace.specs.Races.{AreAll}
+use Rattle.trace_steps.specs.Deeds.{HaveStart}
+use Rattle.trace_steps.specs.AllMutators.{AreAll}
 use Rattle.comp_trace.specs.Replays.{HaveReplayed, HaveStopped, IsRefusal}
-use Rattle.comp_trace.specs.Traces.{AllFit}
+use Rattle.trace_steps.specs.Traces.{AllFit}
 use Rattle.trace_text.specs.declared.line.Line.{Line}
-use Rattle.comp_trace.proofs.Fitting.{lines_fit}
-use Rattle.comp_trace.proofs.Runners.{written_back}
+use Rattle.trace_steps.proofs.Fitting.{lines_fit}
+use Rattle.trace_steps.proofs.Elements.{written_back}
 use Rattle.comp_trace.proofs.replay.replay.Goals as goal
 
 pub run_lines-requires-clause-all : goal.run_lines-requires-clause-all

@@ -1,7 +1,7 @@
 use Rattle.std.proofs.Common.{length, ap, refl, arith, length-append}
 use Rattle.comp_mutator.specs.Mutators.{setup_of}
-use Rattle.comp_trace.specs.Acting.{shown_at}
-use Rattle.comp_trace.proofs.OwnLines.{shows_one}
+use Rattle.trace_steps.specs.Acting.{shown_at}
+use Rattle.trace_steps.proofs.OneLine.{shows_one}
 use Rattle.comp_trace.proofs.Standing.{cannot_go_on, goes_on}
 use Rattle.comp_trace.proofs.replay.run_line.Goals as goal
 

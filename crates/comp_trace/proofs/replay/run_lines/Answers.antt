@@ -3,15 +3,15 @@ use Rattle.std.proofs.lemmas.List.{take_more, length-take-le, length-replicate}
 use native.Mathlib.Decide.{ℕ_discrete}
 use mathlib.Core.Logic.{dite}
 use Rattle.comp_mutator.specs.Mutators.{setup_of}
-use Rattle.comp_trace.specs.Acting.{null_registers}
-use Rattle.comp_trace.specs.Deeds.{deeds_of}
+use Rattle.trace_steps.specs.Acting.{null_registers}
+use Rattle.trace_steps.specs.Deeds.{deeds_of}
 use Rattle.comp_trace.specs.Replays.{RanTo, StandsAt}
-use Rattle.comp_trace.specs.Runs.{beginning, with_entries}
+use Rattle.comp_trace.specs.Runs.{beginning}
+use Rattle.trace_steps.specs.Lines.{with_entries}
 use Rattle.trace_text.specs.declared.line.Action.TheVariants.{Root}
 use Rattle.trace_text.specs.declared.line.Line.{Line}
-use Rattle.comp_trace.specs.declared.shown.Shown.{Shown}
-use Rattle.comp_trace.proofs.OwnLines.{at_or}
-use Rattle.comp_trace.proofs.Runners.{written_back}
+use Rattle.trace_steps.specs.declared.shown.Shown.{Shown}
+use Rattle.trace_steps.proofs.Elements.{at_or, written_back}
 use Rattle.comp_trace.proofs.Standing.{later_none, later_then, ran_to, refused_since, restand, stands_first, start_same}
 use Rattle.comp_trace.proofs.replay.run_lines.Goals as goal
 

@@ -1,10 +1,10 @@
 use Rattle.std.proofs.Common.{◌≡◌, ◌<◌, ◌≤◌, length, take, vec_capacity}
 use Rattle.cell_steps.specs.Locks.{Journals}
 use Rattle.comp_mutator.specs.Mutators.{setup_of}
-use Rattle.comp_trace.specs.Deeds.{deeds_of, HaveAll, HaveStart}
-use Rattle.comp_trace.specs.Races.{AreAll}
+use Rattle.trace_steps.specs.Deeds.{deeds_of, HaveAll, HaveStart}
+use Rattle.trace_steps.specs.AllMutators.{AreAll}
 use Rattle.comp_trace.specs.Replays.{BuiltTo, StandsAt}
-use Rattle.comp_trace.specs.Rounds.{AreLater, DidNothing}
+use Rattle.trace_steps.specs.Rounds.{AreLater, DidNothing}
 use Rattle.comp_trace.specs.Runs.{Moment}
 use Rattle.comp_trace.proofs.replay.run_lines.Given as goal
 

@@ -4,7 +4,7 @@ use Rattle.std.proofs.lemmas.Result.{err_from_is_err_and}
 use Rattle.std.specs.Io.KnownBytes.{Appends}
 use Rattle.heap_image.specs.Counted.{inner_of, failures_of}
 use Rattle.trace_text.specs.Traces.{lines_of}
-use Rattle.comp_trace.specs.declared.shown.Shown.{Shown}
+use Rattle.trace_steps.specs.declared.shown.Shown.{Shown}
 use Rattle.trace_commands.specs.Replays.{shown_lines}
 use Rattle.command_io.specs.declared.refusal.Refusal.TheVariants.{CannotPrint}
 use Rattle.command_io.proofs.Outcomes.{uncreated}

@@ -1,0 +1,2 @@
+pub mod OwnLines
+pub mod Runners

@@ -1,0 +1,18 @@
+use Rattle.std.proofs.Common.{ℕ, ◌+◌, length, take, sym, subst, ap, ◌∙◌, arith}
+use mathlib.Core.Option.{some}
+use Rattle.comp_race.specs.Races.{numbered, own_lines}
+use Rattle.comp_race.specs.Runners.{HaveRooms}
+use Rattle.trace_steps.proofs.Elements.{at_or}
+use Rattle.comp_race.proofs.Runners.{rooms_more}
+use Rattle.comp_race.proofs.race.rooms.Goals as goal
+
+pub loop-m-preserved : goal.loop-m-preserved
+loop-m-preserved g c =
+    let i = c.loop-m.invariant in
+    let m = c.m-item.result in
+    record {
+      rooms = subst (HaveRooms c.args.lines.now (take (c.loop-m.m-index + 1) c.args.mutators.now)) (sym c.push_reserved.ensures.items)
+          (rooms_more c.args.lines.now c.args.mutators.now c.loop-m.rooms.items c.loop-m.m-index m c.in_ok-room.room i.rooms (at_or c.args.mutators.now c.loop-m.m-index m (omega arith) ∙ ap some (sym c.m-item.is)) c.in_ok-room.ensures.items
+          (omega (arith, c.in_ok-room.ensures.capacity, c.count_of.ensures, ap (λ (n : ℕ). length (own_lines n (numbered 1 c.args.lines.now))) c.number.ensures)));
+      room = omega (arith, i.room, c.push_reserved.ensures.capacity);
+    }

@@ -1,0 +1,6 @@
+//! Races: mutators that run their own lines of a trace side by side, and wait for busy pages.
+#![tactic(auto)]
+
+pub mod race;
+mod runner;
+mod waiting;

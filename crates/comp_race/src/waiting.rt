@@ -1,0 +1,82 @@
+//! What one mutator does for a line, where it waits for busy pages.
+ghost use Rattle.std.specs.Prelude.{◌≡◌, ℕ, IfErr, IfOk, IsErrOf, OnErr};
+ghost use Rattle.cell_steps.specs.Passes.{did};
+ghost use Rattle.page_cells.specs.Calls.{Grows};
+ghost use Rattle.comp_mutator.specs.Mutators.{pass_of, setup_of, IsMutatorOf};
+ghost use Rattle.comp_access.specs.declared.refusal.Refusal.TheVariants.{Busy};
+ghost use Rattle.trace_steps.specs.Acting.{registers_after, Fits, Refuses, Steps};
+
+use comp_access::refusal::Refusal;
+use comp_mutator::mutator::Mutator;
+use comp_mutator::space::Space;
+use page_plan::builder::Builder;
+use std::alloc::Global;
+use std::sync::Wait;
+use std::sync::ledger::Ledger;
+use trace_steps::registers::{held, root_at};
+use trace_text::line::Action;
+
+/// Does what a line says, and answers what its call does: 0 for a register that becomes null.
+pub(crate) fn act_waiting<L: Ledger, B: Builder>(
+    alloc: Global,
+    rt: &impl Wait,
+    space: &Space<L, B>,
+    m: &mut Mutator<L>,
+    registers: &mut [u64; 16],
+    action: Action,
+) -> Result<u64, Refusal>
+    requires of { IsMutatorOf space.now m.old }
+    requires fits { Fits (setup_of space.now) action }
+    ensures of { IsMutatorOf space.now m.new }
+    ensures went { IfOk result (Steps (setup_of space.now) action registers.old (pass_of m.old) (pass_of m.new)) }
+    ensures registers { IfOk result (λ answer. registers.new ≡ registers_after action registers.old answer) }
+    ensures grows { OnErr result (Grows (pass_of m.old) (pass_of m.new)) }
+    ensures did { OnErr result ((did (pass_of m.new) ≡ did (pass_of m.old)) × (registers.new ≡ registers.old)) }
+    ensures busy { (p : ℕ) → IsErrOf result (Busy p) → ⊥ }
+    ensures refused { IfErr result (Refuses (setup_of space.now) action registers.old (pass_of m.old) (pass_of m.new)) }
+{
+    match action {
+        Action::Root { to, root } => {
+            let place = root_at(space, root);
+            registers[usize::from(to)] = place;
+            Ok(place)
+        }
+        Action::Load { to, object, field } => {
+            let answer = space.read_ref(alloc, rt, m, held(registers, object), field);
+            if let Ok(word) = answer {
+                registers[usize::from(to)] = word;
+            }
+            answer
+        }
+        Action::Get { object, field } => {
+            space.read_data(alloc, rt, m, held(registers, object), field)
+        }
+        Action::Store {
+            object,
+            field,
+            value,
+        } => {
+            let value = held(registers, value);
+            space.write_ref(alloc, rt, m, held(registers, object), field, value)
+        }
+        Action::Put {
+            object,
+            field,
+            value,
+        } => space.write_data(alloc, rt, m, held(registers, object), field, value),
+        Action::New {
+            to,
+            refs,
+            data_words,
+            tag,
+        } => {
+            let place = space.alloc(alloc, rt, m, refs, data_words, tag)?;
+            registers[usize::from(to)] = place;
+            Ok(place)
+        }
+        Action::Nil { to } => {
+            registers[usize::from(to)] = 0;
+            Ok(0)
+        }
+    }
+}

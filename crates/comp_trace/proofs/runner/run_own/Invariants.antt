@@ -1,5 +1,0 @@
-use Rattle.comp_trace.proofs.Runners.{Running}
-use Rattle.comp_trace.proofs.runner.run_own.Given as goal
-
-abbrev pub invariant-loop-line : goal.invariant-loop-line
-invariant-loop-line g l = Running l.space l.lines l.line-index l.number l.fn.runner l.runner

@@ -1,0 +1,14 @@
+pub mod OneLine
+pub mod Elements
+pub mod Fitting
+pub mod Callers
+pub mod Merging
+pub mod BetweenRounds
+pub mod EarlierFields
+pub mod MadeObjects
+pub mod LineRuns
+pub mod MeetingRounds
+pub mod MetPairs
+pub mod Building
+pub mod RowLists
+pub mod StepLists

@@ -1,0 +1,44 @@
+-- A line: what it stores, what it shows, and where its root leads.
+use Rattle.std.proofs.Common.{◌≡◌, ℕ, ◌<◌, ◌≤◌, List, length, map, get_or, IfOk, Result, Ok, Err, Some, sym, ap, ◌∙◌, arith, subst}
+use mathlib.Core.Option.{some}
+use lib.ListN.{get_elem?}
+use Rattle.cell_steps.proofs.Sums.{is_inside, read_at}
+use Rattle.page_cells.proofs.Rows.{at_map, at_map_back}
+use Rattle.std.specs.Prelude.{Option, OnOk}
+use Rattle.heap_layout.specs.declared.kind.Kind.TheVariants.{Reference}
+use Rattle.cell_steps.specs.Setup.{Setup}
+use Rattle.cell_steps.specs.Passes.{MayRefer}
+use Rattle.cell_steps.specs.declared.pass.Pass.{Pass}
+use Rattle.page_cells.specs.Calls.{Grows}
+use Rattle.comp_access.specs.Writes.{Writes}
+use Rattle.comp_access.specs.declared.refusal.Refusal.{Refusal}
+use Rattle.trace_steps.specs.Acting.{shown_at, Steps}
+use Rattle.trace_text.specs.declared.line.Action.{Action}
+use Rattle.trace_text.specs.declared.line.Action.TheVariants.{Root, Load, Get, Store, Put, New, Nil}
+use Rattle.trace_steps.proofs.Elements.{at_or}
+
+-- a reference was stored
+pub stored : (u : Setup) (object field value : ℕ) (registers : List ℕ) (old new : Pass) (o v : ℕ) (r : Result ℕ Refusal) → o ≡ get_or registers object 0 → v ≡ get_or registers value 0
+    → Grows old new → IfOk r (Writes u old new Reference o field v) → OnOk r (MayRefer new v) → IfOk r (Steps u (Store object field value) registers old new)
+stored u object field value registers old new o v (Ok a) eo ev grows wrote target = record {
+  grows = grows;
+  answers = (subst (λ x. Writes u old new Reference x field (get_or registers value 0) a) eo (subst (λ x. Writes u old new Reference o field x a) ev wrote), subst (MayRefer new) ev target);
+}
+stored u object field value registers old new o v (Err e) eo ev grows wrote target = tt
+
+-- a line shows one value at most
+pub shows_one : (number : ℕ) (action : Action) (answer : ℕ) → length (shown_at number action answer) ≤ 1
+shows_one number (Root to root) answer = omega arith
+shows_one number (Load to object field) answer = omega arith
+shows_one number (Get object field) answer = omega arith
+shows_one number (Store object field value) answer = omega arith
+shows_one number (Put object field value) answer = omega arith
+shows_one number (New to refs data_words tag) answer = omega arith
+shows_one number (Nil to) answer = omega arith
+
+-- where a root leads
+pub leads_at : (f : ℕ → Option ℕ) (xs ys : List ℕ) → map (λ (place : ℕ). Some place) xs ≡ map f ys → (i : ℕ) → i < length ys → (i < length xs) × (f (get_or ys i 0) ≡ Some (get_or xs i 0))
+leads_at f xs ys e i lt =
+    let there : get_elem? (map (λ (place : ℕ). Some place) xs) i ≡ some (f (get_or ys i 0)) = ap (λ l. get_elem? l i) e ∙ at_map f ys i (get_or ys i 0) (at_or ys i 0 lt) in
+    let x = at_map_back (λ (place : ℕ). Some place) xs i (f (get_or ys i 0)) there in
+    (is_inside xs i x.0 x.1, sym x.2 ∙ ap (λ (n : ℕ). Some n) (sym (read_at xs i x.0 0 x.1)))

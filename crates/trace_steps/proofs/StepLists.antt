@@ -1,0 +1,135 @@
+-- A line between two rounds of meetings, of the mutators as lists: before it, after the first round, and after the second one. The call was of the mutator at place i.
+use Rattle.std.proofs.Common.{◌≡◌, ℕ, ◌<◌, List, length, get_or, set, sym, ap, subst, ◌∙◌, arith, get_or-set_same, get_or-set_other, length-set}
+use Rattle.std.specs.Prelude.{◌⊎◌, IfErr, OnErr, Option, Result, Ok, Err}
+use native.Mathlib.Decide.{ℕ_discrete}
+use mathlib.Core.Logic.{dite}
+use Rattle.page_plan.specs.declared.builder.Builder.{Ghosts}
+use Rattle.cell_steps.specs.Locks.{Journals}
+use Rattle.cell_steps.specs.Passes.{did, number_of, seen}
+use Rattle.cell_steps.specs.Setup.{Setup}
+use Rattle.cell_steps.specs.declared.pass.Pass.{Pass}
+use Rattle.page_cells.specs.Calls.{Grows}
+use Rattle.page_cells.specs.Cells.{steps_of}
+use Rattle.comp_mutator.specs.Mutators.{cells_of, pass_of, setup_of, AreMutatorsOf}
+use Rattle.comp_mutator.specs.declared.mutator.Mutator.{Mutator}
+use Rattle.comp_access.specs.declared.refusal.Refusal.{Refusal}
+use Rattle.comp_mutator.specs.declared.space.Space.{Space}
+use Rattle.trace_steps.specs.Acting.{Answers, Refuses}
+use Rattle.trace_steps.specs.Builds.{built_after, BuildOn, BuildsTouched}
+use Rattle.trace_steps.specs.Deeds.{deeds_of, HaveAll, HaveStart}
+use Rattle.trace_steps.specs.AllMutators.{AreAll}
+use Rattle.trace_steps.specs.Rounds.{row, AreLater, DidNothing, HasMetAll, IsTurnedDown, Learns, Met, RanLine}
+use Rattle.trace_text.specs.declared.line.Action.{Action}
+use Rattle.trace_steps.proofs.BetweenRounds.{dids, IsCrew}
+use Rattle.trace_steps.proofs.Building.{builds_on, BuiltTheirs, HaveStrange}
+use Rattle.trace_steps.proofs.LineRuns.{advances, known, knows, knows_starts, learnt, same_deeds, IsBetween}
+use Rattle.trace_steps.proofs.Elements.{at_or}
+use Rattle.trace_steps.proofs.RowLists.{advances_by, all_later, crew_later, crew_of, deeds_at, have_all, have_built, later_by, nothing_by, row_at, rows_built, rows_have}
+
+module _ {L : Type 0} {B : Type 0} {g : Ghosts B} (space : Space L B g) (i : ℕ) (first met last : List (Mutator L)) (m new : Mutator L)
+    (all : AreAll space first) (inside : i < length first) (is : m ≡ get_or met i m)
+    (met_of : AreMutatorsOf space met) (met_long : length met ≡ length first) (before : HasMetAll i first met)
+    (learns : Learns (pass_of (get_or met i m)) (pass_of new))
+    (last_of : AreMutatorsOf space last) (last_long : length last ≡ length (set met i new)) (after : HasMetAll i (set met i new) last)
+  where
+    abbrev n : ℕ
+    n = length first
+
+    abbrev u : Setup
+    u = setup_of space
+
+    abbrev acted : List (Mutator L)
+    acted = set met i new
+
+    there : i < length met
+    there = omega (arith, inside, met_long)
+
+    acted_is : row m acted i ≡ pass_of new
+    acted_is = ap pass_of (get_or-set_same met i new m there)
+
+    others : (k : ℕ) → (k ≡ i → ⊥) → row m acted k ≡ row m met k
+    others k not = ap pass_of (get_or-set_other met i k new m not)
+
+    crew : IsCrew (steps_of (cells_of space)) n (row m first)
+    crew = crew_of space first m all
+
+    met_numbers : (k : ℕ) → k < n → number_of (row m met k) ≡ k
+    met_numbers k lt = ((before m).grows k lt).number ∙ crew.numbers k lt
+
+    call : Learns (row m met i) (row m acted i)
+    call = subst (Learns (row m met i)) (sym acted_is) learns
+
+    acted_numbers : (k : ℕ) → k < n → number_of (row m acted k) ≡ k
+    acted_numbers k lt = dite (ℕ_discrete k i)
+        (λ same. subst (λ (x : ℕ). number_of (row m acted x) ≡ x) (sym same) (call.0.number ∙ met_numbers i inside))
+        (λ not. ap number_of (others k not) ∙ met_numbers k lt)
+
+    second : Met n i (row m acted) (row m last)
+    second = subst (λ (x : ℕ). Met x i (row m acted) (row m last)) (length-set met i new ∙ met_long) (after m)
+
+    last_numbers : (k : ℕ) → k < n → number_of (row m last k) ≡ k
+    last_numbers k lt = (second.grows k lt).number ∙ acted_numbers k lt
+
+    long : length last ≡ n
+    long = last_long ∙ length-set met i new ∙ met_long
+
+    line : IsBetween (steps_of (cells_of space)) n i (row m first) (row m met) (row m acted) (row m last)
+    line = record {
+      inside = inside;
+      crew = crew;
+      crew_met = crew_later space n met m all.count met_long met_of met_numbers;
+      crew_last = crew_later space n last m all.count long last_of last_numbers;
+      before = before m;
+      after = second;
+      learns = call;
+      others = others;
+    }
+
+    pub all_last : AreAll space last
+    all_last = all_later space n last m all.count long last_of last_numbers
+
+    pub later_last : AreLater first last
+    later_last = later_by first last m long (learnt _ n i _ _ _ _ line)
+
+    pub has_start : HaveStart u first
+    has_start = (seen (row m met i), have_all first m (seen (row m met i)) (known _ n i _ _ _ _ line), λ p. ((line.crew_met.works i inside).remembers p).lawful)
+
+    did_same : did (pass_of new) ≡ did (pass_of (get_or met i m)) → did (row m acted i) ≡ did (row m met i)
+    did_same same = ap did acted_is ∙ same
+
+    pub nothing_done : did (pass_of new) ≡ did (pass_of (get_or met i m)) → DidNothing first last
+    nothing_done same = nothing_by first last m long (same_deeds _ n i _ _ _ _ line (did_same same))
+
+    pub ran_line : (action : Action) (registers : List ℕ) (answer : ℕ) → Answers u action registers (pass_of (get_or met i m)) (pass_of new) answer → RanLine u i first last action registers answer
+    ran_line action registers answer h journals have =
+        advances_by u n i (dids (row m first)) (dids (row m last)) (deeds_of first) (deeds_of last) journals action registers answer
+        (λ k lt. sym (deeds_at first m k lt)) (λ k lt. sym (deeds_at last m k (omega (arith, lt, long))))
+        (advances _ n i _ _ _ _ line u journals (rows_have first m journals have) action registers answer
+        (subst (λ (x : Pass). Answers u action registers (row m met i) x answer) (sym acted_is) h))
+
+    pub builds_last : (page : Option ℕ) → BuildsTouched page (pass_of (get_or met i m)) (pass_of new) → BuildOn i page first last
+    builds_last page touched built have =
+        let then = builds_on n i inside (row m first) (row m met) (row m acted) (row m last) line.before line.after call.0 others page
+        (subst (λ (x : Pass). BuildsTouched page (row m met i) x) (sym acted_is) touched) built (rows_built first m built have) in
+        have_built last m (built_after built i page) (subst (λ (k : ℕ). BuiltTheirs k (row m last) (built_after built i page) ⊎ HaveStrange k (row m last)) (sym long) then)
+
+    pub was_turned_down : (action : Action) (registers : List ℕ) (refusal : Refusal) → did (pass_of new) ≡ did (pass_of (get_or met i m))
+        → Refuses u action registers (pass_of (get_or met i m)) (pass_of new) refusal → (journals : Journals) → HaveAll first journals → IsTurnedDown u i first last journals action registers refusal
+    was_turned_down action registers refusal same h journals have =
+        let merged = rows_have first m journals have in
+        record {
+          old = row m met i;
+          new = row m acted i;
+          began = λ x at. subst (λ (y : Pass). Grows y (row m met i)) (row_at first m x i at) ((before m).grows i inside);
+          did = sym (did_same same) ∙ sym (second.did i inside) ∙ sym (deeds_at last m i (omega (arith, inside, long)));
+          knows = knows _ n i _ _ _ _ line journals merged;
+          starts = λ made p offset header at. knows_starts _ n i _ _ _ _ line u journals merged (λ k lt. made k (get_or first k m) (at_or first k m lt)) p offset header at;
+          grows = call.0;
+          refuses = subst (λ (x : Pass). Refuses u action registers (row m met i) x refusal) (sym acted_is) h;
+          ends = λ x at. subst (λ (y : Pass). Grows (row m acted i) y) (row_at last m x i at) (second.grows i inside);
+        }
+
+-- what holds of a refusal, with what holds of any
+pub err_with : {T E : Type 0} (r : Result T E) (Q : Type 0) (P P' : E → Type 0) → OnErr r Q → (Q → (e : E) → P e → P' e) → IfErr r P → IfErr r P'
+err_with (Ok x) Q P P' q f h = tt
+err_with (Err e) Q P P' q f h = f q e h

@@ -1,0 +1,65 @@
+use Rattle.std.proofs.Common.{get_or}
+use Rattle.std.proofs.lemmas.Result.{IfOk-weaker, on_err_weaker}
+use Rattle.comp_mutator.specs.Mutators.{pass_of, setup_of, IsMutatorOf}
+use Rattle.trace_steps.specs.Rounds.{Learns}
+use Rattle.trace_steps.proofs.MadeObjects.{learns_by}
+use Rattle.trace_steps.proofs.MetPairs.{each_set}
+use Rattle.trace_steps.proofs.StepLists.{all_last, builds_last, err_with, has_start, later_last, nothing_done, ran_line, was_turned_down}
+use Rattle.trace_steps.proofs.stepping.step.Given as given
+use Rattle.trace_steps.proofs.stepping.step.Goals as goal
+
+-- the call
+learns : (g : given.Over) (c : goal.After-mutators-2-1 g) → Learns (pass_of (get_or c.meet_others.new.mutators c.args.i c.index-mutators-i.result)) (pass_of c.act-answer.new.m)
+learns g c =
+    let call = c.act-answer.ensures in
+    learns_by _ (setup_of c.args.space.now) c.args.action c.args.registers.now _ _ c.act-answer.result call.went call.grows call.did
+
+pub meet_others-requires-2-clause-of : goal.meet_others-requires-2-clause-of
+meet_others-requires-2-clause-of g c κs within =
+    each_set (IsMutatorOf c.args.space.now) c.meet_others.new.mutators c.args.i c.act-answer.new.m c.meet_others.ensures.of c.act-answer.ensures.of
+
+pub returns-clause-all : goal.returns-clause-all
+returns-clause-all g c =
+    all_last c.args.space.now c.args.i c.args.mutators.now c.meet_others.new.mutators c.meet_others-2.new.mutators c.index-mutators-i.result c.act-answer.new.m
+    c.requires.all c.requires.inside c.index-mutators-i.is c.meet_others.ensures.of c.meet_others.auto.mutators c.meet_others.ensures.met (learns g c) c.meet_others-2.ensures.of c.meet_others-2.auto.mutators c.meet_others-2.ensures.met
+
+pub returns-clause-later : goal.returns-clause-later
+returns-clause-later g c =
+    later_last c.args.space.now c.args.i c.args.mutators.now c.meet_others.new.mutators c.meet_others-2.new.mutators c.index-mutators-i.result c.act-answer.new.m
+    c.requires.all c.requires.inside c.index-mutators-i.is c.meet_others.ensures.of c.meet_others.auto.mutators c.meet_others.ensures.met (learns g c) c.meet_others-2.ensures.of c.meet_others-2.auto.mutators c.meet_others-2.ensures.met
+
+pub returns-clause-start : goal.returns-clause-start
+returns-clause-start g c =
+    has_start c.args.space.now c.args.i c.args.mutators.now c.meet_others.new.mutators c.meet_others-2.new.mutators c.index-mutators-i.result c.act-answer.new.m
+    c.requires.all c.requires.inside c.index-mutators-i.is c.meet_others.ensures.of c.meet_others.auto.mutators c.meet_others.ensures.met (learns g c) c.meet_others-2.ensures.of c.meet_others-2.auto.mutators c.meet_others-2.ensures.met
+
+pub returns-clause-did : goal.returns-clause-did
+returns-clause-did g c =
+    on_err_weaker c.act-answer.result
+    (λ same. nothing_done c.args.space.now c.args.i c.args.mutators.now c.meet_others.new.mutators c.meet_others-2.new.mutators c.index-mutators-i.result c.act-answer.new.m
+    c.requires.all c.requires.inside c.index-mutators-i.is c.meet_others.ensures.of c.meet_others.auto.mutators c.meet_others.ensures.met (learns g c) c.meet_others-2.ensures.of c.meet_others-2.auto.mutators c.meet_others-2.ensures.met same.0)
+    c.act-answer.ensures.did
+
+pub returns-clause-ran : goal.returns-clause-ran
+returns-clause-ran g c =
+    IfOk-weaker c.act-answer.result _ _
+    (λ answer went. ran_line c.args.space.now c.args.i c.args.mutators.now c.meet_others.new.mutators c.meet_others-2.new.mutators c.index-mutators-i.result c.act-answer.new.m
+    c.requires.all c.requires.inside c.index-mutators-i.is c.meet_others.ensures.of c.meet_others.auto.mutators c.meet_others.ensures.met (learns g c) c.meet_others-2.ensures.of c.meet_others-2.auto.mutators c.meet_others-2.ensures.met
+    c.args.action c.args.registers.now answer went.answers)
+    c.act-answer.ensures.went
+
+pub returns-clause-builds : goal.returns-clause-builds
+returns-clause-builds g c =
+    IfOk-weaker c.act-answer.result _ _
+    (λ answer touches. builds_last c.args.space.now c.args.i c.args.mutators.now c.meet_others.new.mutators c.meet_others-2.new.mutators c.index-mutators-i.result c.act-answer.new.m
+    c.requires.all c.requires.inside c.index-mutators-i.is c.meet_others.ensures.of c.meet_others.auto.mutators c.meet_others.ensures.met (learns g c) c.meet_others-2.ensures.of c.meet_others-2.auto.mutators c.meet_others-2.ensures.met
+    _ touches)
+    c.act-answer.ensures.builds
+
+pub returns-clause-refused : goal.returns-clause-refused
+returns-clause-refused g c =
+    err_with c.act-answer.result _ _ _ c.act-answer.ensures.did
+    (λ same refusal h. was_turned_down c.args.space.now c.args.i c.args.mutators.now c.meet_others.new.mutators c.meet_others-2.new.mutators c.index-mutators-i.result c.act-answer.new.m
+    c.requires.all c.requires.inside c.index-mutators-i.is c.meet_others.ensures.of c.meet_others.auto.mutators c.meet_others.ensures.met (learns g c) c.meet_others-2.ensures.of c.meet_others-2.auto.mutators c.meet_others-2.ensures.met
+    c.args.action c.args.registers.now refusal same.0 h)
+    c.act-answer.ensures.refused

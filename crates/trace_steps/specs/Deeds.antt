@@ -1,0 +1,51 @@
+-- What the mutators of a space did, and the journals that have just this.
+use Rattle.std.specs.Prelude.{◌≡◌, ℕ, zero, suc, ◌<◌, ◌≤◌, List, [], ◌∷◌, length}
+use Rattle.comp_journal.specs.declared.entry.Entry.{Entry}
+use Rattle.cell_steps.specs.Setup.{Setup}
+use Rattle.cell_steps.specs.Lawful.{IsLawful}
+use Rattle.cell_steps.specs.Lists.{by, on, Each, Rises}
+use Rattle.cell_steps.specs.Locks.{Journals}
+use Rattle.cell_steps.specs.Passes.{did, KnowsFresh}
+use Rattle.cell_steps.specs.declared.pass.Pass.{Pass}
+use Rattle.page_cells.specs.Objects.{HasHeader}
+use Rattle.comp_mutator.specs.Mutators.{pass_of}
+use Rattle.comp_mutator.specs.declared.mutator.Mutator.{Mutator}
+
+-- what each mutator did, in its order, each entry with its page
+abbrev pub Deeds : Type 0
+Deeds = ℕ → List (ℕ × Entry)
+
+-- what the mutator at each place of a list did
+abbrev pub deeds_of : {L : Type 0} → List (Mutator L) → Deeds
+deeds_of [] k = []
+deeds_of (m ∷ mutators) zero = did (pass_of m)
+deeds_of (m ∷ mutators) (suc k) = deeds_of mutators k
+
+-- The journal has, by stamp, all entries on page p that stand in what one of n mutators did, and no others.
+pub record IsMerged (n : ℕ) (deeds : Deeds) (p : ℕ) (journal : List Entry) : Type 0 where
+  pub rises : (high : ℕ) × Rises 0 journal high
+  pub own : (k : ℕ) → k < n → by k journal ≡ on p (deeds k)
+  pub strangers : (k : ℕ) → n ≤ k → by k journal ≡ []
+
+abbrev pub AreMerged : ℕ → Deeds → Journals → Type 0
+AreMerged n deeds journals = (p : ℕ) → IsMerged n deeds p (journals p)
+
+-- the journals have just what these mutators did
+abbrev pub HaveAll : {L : Type 0} → List (Mutator L) → Journals → Type 0
+HaveAll mutators journals = AreMerged (length mutators) (deeds_of mutators) journals
+
+-- there are lawful journals that have just what these mutators did
+abbrev pub HaveStart : {L : Type 0} → Setup → List (Mutator L) → Type 0
+HaveStart u mutators = (start : Journals) × HaveAll mutators start × ((p : ℕ) → IsLawful u p (start p))
+
+-- the pass knows each object that it made
+abbrev pub KnowsMade : Pass → Type 0
+KnowsMade pass = (p offset header : ℕ) → HasHeader (on p (did pass)) offset header → KnowsFresh pass p offset
+
+-- each of these mutators knows what it made
+abbrev pub KnowTheirs : {L : Type 0} → List (Mutator L) → Type 0
+KnowTheirs {L} mutators = Each mutators (λ (m : Mutator L). KnowsMade (pass_of m))
+
+-- none of these mutators has written anything
+abbrev pub DidNothingYet : {L : Type 0} → List (Mutator L) → Type 0
+DidNothingYet {L} mutators = Each mutators (λ (m : Mutator L). did (pass_of m) ≡ [])

@@ -1,0 +1,7 @@
+pub mod Acting
+pub mod Traces
+pub mod Builds
+pub mod Deeds
+pub mod Rounds
+pub mod AllMutators
+pub mod Lines

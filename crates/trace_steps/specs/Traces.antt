@@ -1,0 +1,15 @@
+-- What the lines of a trace need of the heap that they are run over.
+use Rattle.std.specs.Prelude.{◌≡◌, ◌<◌, List, All, length}
+use Rattle.cell_steps.specs.Setup.{Setup}
+use Rattle.trace_text.specs.Traces.{mutators_of, roots_of}
+use Rattle.trace_text.specs.declared.line.Line.{Line}
+use Rattle.trace_text.specs.declared.trace.Trace.{Trace}
+use Rattle.trace_steps.specs.Acting.{Fits}
+
+-- it was parsed for as many mutators and roots as there are
+abbrev pub IsParsedFor : Setup → Trace → Type 0
+IsParsedFor u trace = (mutators_of trace ≡ u.mutators) × (roots_of trace ≡ length u.heap.roots)
+
+-- the mutators, registers and roots of all lines are there
+abbrev pub AllFit : Setup → List Line → Type 0
+AllFit u lines = All (λ (line : Line). (line.mutator < u.mutators) × Fits u line.action) lines

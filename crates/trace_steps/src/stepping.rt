@@ -1,0 +1,82 @@
+//! A line between two rounds of meetings.
+ghost use Rattle.std.specs.Prelude.{◌≡◌, ◌≢◌, ◌<◌, length, IfErr, IfOk, OnErr};
+ghost use Rattle.comp_mutator.specs.Mutators.{setup_of, AreMutatorsOf};
+ghost use Rattle.trace_steps.specs.Acting.{registers_after, Fits};
+ghost use Rattle.trace_steps.specs.Builds.{touched, BuildOn};
+ghost use Rattle.trace_steps.specs.Deeds.{HaveStart};
+ghost use Rattle.trace_steps.specs.AllMutators.{AreAll};
+ghost use Rattle.trace_steps.specs.Rounds.{AreLater, DidNothing, HasMetAll, HaveMet, RanLine, WasTurnedDown};
+
+use crate::acting::act;
+use comp_access::refusal::Refusal;
+use comp_mutator::mutator::Mutator;
+use comp_mutator::space::Space;
+use page_plan::builder::Builder;
+use std::alloc::Global;
+use std::sync::ledger::Ledger;
+use trace_text::line::Action;
+
+/// The mutators at places `k` and `i` meet.
+fn meet_at<L: Ledger, B: Builder>(
+    space: &Space<L, B>,
+    mutators: &mut [Mutator<L>],
+    k: usize,
+    i: usize,
+)
+    requires of { AreMutatorsOf space.now mutators.old }
+    requires inside { (k < length mutators.old) × (i < length mutators.old) × (k ≢ i) }
+    ensures of { AreMutatorsOf space.now mutators.new }
+    ensures met { HaveMet k i mutators.old mutators.new }
+{
+    if k < i {
+        let (front, back) = mutators.split_at_mut(i);
+        space.meet(&mut front[k], &mut back[0]);
+    } else {
+        let (front, back) = mutators.split_at_mut(k);
+        space.meet(&mut back[0], &mut front[i]);
+    }
+}
+
+/// Mutator `i` meets each other one: all have then seen what any of them had.
+fn meet_others<L: Ledger, B: Builder>(space: &Space<L, B>, mutators: &mut [Mutator<L>], i: usize)
+    requires of { AreMutatorsOf space.now mutators.old }
+    requires inside { i < length mutators.old }
+    ensures of { AreMutatorsOf space.now mutators.new }
+    ensures met { HasMetAll i mutators.old mutators.new }
+{
+    for k in 0..i {
+        meet_at(space, mutators, k, i);
+    }
+    for k in i + 1..mutators.len() {
+        meet_at(space, mutators, k, i);
+    }
+}
+
+/// Mutator `i` does what a line says, by all that all mutators did.
+pub fn step<L: Ledger, B: Builder>(
+    alloc: Global,
+    space: &Space<L, B>,
+    mutators: &mut [Mutator<L>],
+    registers: &mut [u64; 16],
+    i: usize,
+    action: Action,
+) -> Result<u64, Refusal>
+    requires all { AreAll space.now mutators.old }
+    requires inside { i < length mutators.old }
+    requires fits { Fits (setup_of space.now) action }
+    ensures all { AreAll space.now mutators.new }
+    ensures later { AreLater mutators.old mutators.new }
+    ensures start { HaveStart (setup_of space.now) mutators.old }
+    ensures did { OnErr result (DidNothing mutators.old mutators.new) }
+    ensures kept { OnErr result (registers.new ≡ registers.old) }
+    ensures registers { IfOk result (λ answer. registers.new ≡ registers_after action registers.old answer) }
+    ensures builds { IfOk result (λ answer. BuildOn i (touched (setup_of space.now) action registers.old answer) mutators.old mutators.new) }
+    ensures ran { IfOk result (RanLine (setup_of space.now) i mutators.old mutators.new action registers.old) }
+    ensures refused { IfErr result (WasTurnedDown (setup_of space.now) i mutators.old mutators.new action registers.old) }
+{
+    meet_others(space, mutators, i);
+    let m = &mut mutators[i];
+    let answer = act(alloc, space, m, registers, action);
+    meet_others(space, mutators, i);
+    answer
+}
