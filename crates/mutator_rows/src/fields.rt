@@ -1,15 +1,15 @@
 //! Reads and writes of fields, one call after another.
-use crate::alone::{Alone, play_each_alone};
+use crate::alone::{Alone, BuiltBy};
 use crate::flipped::Heap;
 use crate::rows::Row;
 use comp_access::refusal::Refusal;
-use std::test::Fail;
 use worked_heaps::heaps::{F, T};
 
 // An object of 65 words, whose last field stands on a page of its own.
 const ACROSS: Alone = Alone {
     name: "reads fields across pages",
     heap: Heap::Counting(64),
+    built_by: BuiltBy::Plan,
     fresh_pages: 0,
     rows: &[
         Row::Pages(2),
@@ -28,6 +28,7 @@ const ACROSS: Alone = Alone {
 const LIKE_AN_ADDRESS: Alone = Alone {
     name: "writes data like an address",
     heap: Heap::Three,
+    built_by: BuiltBy::Plan,
     fresh_pages: 0,
     rows: &[
         Row::WriteData(T, 0, 4_294_967_296, Ok(0)),
@@ -49,6 +50,7 @@ const FRESH: u64 = T + 64;
 const NO_STARTS: Alone = Alone {
     name: "refuses what is no start",
     heap: Heap::Three,
+    built_by: BuiltBy::Plan,
     fresh_pages: 1,
     rows: &[
         Row::WriteRef(SECOND, 0, INNER, Err(Refusal::NotAStart(8_589_934_593))),
@@ -66,6 +68,7 @@ const NO_STARTS: Alone = Alone {
 const FULL_JOURNAL: Alone = Alone {
     name: "fills a journal",
     heap: Heap::Three,
+    built_by: BuiltBy::Plan,
     fresh_pages: 0,
     rows: &[
         Row::Rising(T, 0, 1024),
@@ -75,10 +78,5 @@ const FULL_JOURNAL: Alone = Alone {
     ending: None,
 };
 
-// Those cases.
-const CASES: [Alone; 4] = [ACROSS, LIKE_AN_ADDRESS, NO_STARTS, FULL_JOURNAL];
-
-#[test]
-fn reads_and_writes_fields(rt: HostRuntime) -> Result<(), Fail> {
-    play_each_alone(&rt, rt.alloc(), &CASES)
-}
+/// Those cases.
+pub static CASES: [Alone; 4] = [ACROSS, LIKE_AN_ADDRESS, NO_STARTS, FULL_JOURNAL];

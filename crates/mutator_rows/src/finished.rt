@@ -4,7 +4,7 @@ ghost use Rattle.std.specs.Prelude.{◌≡◌};
 use crate::endings::Ending;
 use crate::expected::{At, expect_count};
 use crate::flipped::{Heap, finish, plan_of, shared, two};
-use crate::pairs::{Pair, Step, play_each_pair};
+use crate::pairs::{Pair, PairBuilder, Step};
 use crate::rows::Row;
 use comp_mutator::finishing::FinishFault;
 use page_plan::plan::Plan;
@@ -69,6 +69,7 @@ const EIGHTEEN: Ending = Ending {
 const SETTLED: Pair = Pair {
     name: "the first one settles",
     heap: Heap::Counting(9),
+    built_by: PairBuilder::Plan,
     fresh_pages: 2,
     steps: &[
         Step::First(&[THREE]),
@@ -83,16 +84,12 @@ const SETTLED: Pair = Pair {
 const UNSETTLED: Pair = Pair {
     name: "none settles",
     heap: Heap::Counting(9),
+    built_by: PairBuilder::Plan,
     fresh_pages: 2,
     steps: &[Step::First(&[THREE]), Step::Second(&[FIVE])],
     at_once: None,
     ending: EIGHTEEN,
 };
 
-// Those cases.
-const CASES: [Pair; 2] = [SETTLED, UNSETTLED];
-
-#[test]
-fn settles_or_does_not(rt: HostRuntime) -> Result<(), Fail> {
-    play_each_pair(&rt, rt.alloc(), &CASES)
-}
+/// Those cases.
+pub static CASES: [Pair; 2] = [SETTLED, UNSETTLED];

@@ -1,16 +1,16 @@
 //! Mutators that meet.
 use crate::endings::Ending;
 use crate::flipped::Heap;
-use crate::pairs::{Pair, Step, play_each_pair};
+use crate::pairs::{Pair, PairBuilder, Step};
 use crate::rows::Row;
 use comp_access::pages::Touched;
-use std::test::Fail;
 use worked_heaps::heaps::T;
 
 // One writes, the two meet, and the other, which has built nothing, reads and writes; then the two meet again, and the first one reads.
 const READ: Pair = Pair {
     name: "reads what one wrote that it met",
     heap: Heap::Three,
+    built_by: PairBuilder::Plan,
     fresh_pages: 0,
     steps: &[
         Step::First(&[Row::WriteData(T, 0, 7, Ok(0))]),
@@ -34,6 +34,7 @@ const READ: Pair = Pair {
 const STORED: Pair = Pair {
     name: "stores what one made that it met",
     heap: Heap::Three,
+    built_by: PairBuilder::Plan,
     fresh_pages: 2,
     steps: &[
         Step::First(&[
@@ -64,6 +65,7 @@ const STORED: Pair = Pair {
 const EMPTY: Pair = Pair {
     name: "meets where there are no pages",
     heap: Heap::Empty,
+    built_by: PairBuilder::Plan,
     fresh_pages: 0,
     steps: &[
         Step::First(&[Row::Pages(0), Row::Roots(&[])]),
@@ -80,10 +82,5 @@ const EMPTY: Pair = Pair {
     },
 };
 
-// Those cases.
-const CASES: [Pair; 3] = [READ, STORED, EMPTY];
-
-#[test]
-fn meets(rt: HostRuntime) -> Result<(), Fail> {
-    play_each_pair(&rt, rt.alloc(), &CASES)
-}
+/// Those cases.
+pub static CASES: [Pair; 3] = [READ, STORED, EMPTY];

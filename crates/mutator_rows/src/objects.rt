@@ -1,18 +1,18 @@
 //! Objects that mutators make, and the heaps that they leave at the end.
-use crate::alone::{Alone, play_each_alone};
+use crate::alone::{Alone, BuiltBy};
 use crate::endings::Ending;
 use crate::flipped::Heap;
-use crate::pairs::{Pair, Step, play_each_pair};
+use crate::pairs::{Pair, PairBuilder, Step};
 use crate::rows::Row;
 use comp_access::refusal::Refusal;
 use comp_journal::entry::Entry;
 use heap_layout::kind::Kind;
-use std::test::Fail;
 
 // Objects of one mutator, until its two fresh pages are full. Finished, 1 word slid, and 64 + 1 + 63 were made.
 const FULL_PAGES: Alone = Alone {
     name: "fills fresh pages",
     heap: Heap::Smallest,
+    built_by: BuiltBy::Plan,
     fresh_pages: 2,
     rows: &[
         Row::Alloc(0, 63, 0, Ok(8_589_934_656)),
@@ -33,12 +33,8 @@ const FULL_PAGES: Alone = Alone {
     }),
 };
 
-const OF_ONE: [Alone; 1] = [FULL_PAGES];
-
-#[test]
-fn fills_fresh_pages(rt: HostRuntime) -> Result<(), Fail> {
-    play_each_alone(&rt, rt.alloc(), &OF_ONE)
-}
+/// The cases with one mutator.
+pub static OF_ONE: [Alone; 1] = [FULL_PAGES];
 
 // A mutator makes an object with a reference to a slid one, whose reference then leads back.
 const LINKED: [Row; 3] = [
@@ -93,6 +89,7 @@ const LEFT: [Row; 3] = [
 const LINKED_AND_CLEARED: Pair = Pair {
     name: "writes and allocates",
     heap: Heap::Three,
+    built_by: PairBuilder::Plan,
     fresh_pages: 2,
     steps: &[
         Step::First(&LINKED),
@@ -109,9 +106,5 @@ const LINKED_AND_CLEARED: Pair = Pair {
     },
 };
 
-const OF_TWO: [Pair; 1] = [LINKED_AND_CLEARED];
-
-#[test]
-fn writes_and_allocates(rt: HostRuntime) -> Result<(), Fail> {
-    play_each_pair(&rt, rt.alloc(), &OF_TWO)
-}
+/// The cases with two mutators.
+pub static OF_TWO: [Pair; 1] = [LINKED_AND_CLEARED];

@@ -16,6 +16,7 @@ use std::sync::Wait;
 use std::sync::ledger::{Blank, Ledger as Named};
 use std::test::Fail;
 use std::thread::Threads;
+use worked_heaps::builders::Meeting;
 
 /// A step of two mutators.
 pub enum Step {
@@ -29,11 +30,21 @@ pub enum Step {
     MeetBack,
 }
 
+/// Who builds the pages of a case with two mutators.
+#[derive(Clone, Copy)]
+pub enum PairBuilder {
+    /// The plan itself.
+    Plan,
+    /// A builder whose builds of pages 0 and 1 wait for one another.
+    Meeting,
+}
+
 /// A case with two mutators.
 pub struct Pair {
     /// What a failing test tells.
     pub name: &'static str,
     pub heap: Heap,
+    pub built_by: PairBuilder,
     pub fresh_pages: u32,
     /// What they do by turns.
     pub steps: &'static [Step],
@@ -118,8 +129,8 @@ fn work_at_once<L: Named + Send + Sync, B: Builder, R: Abort + Threads + Wait + 
     (m0, m1)
 }
 
-/// The steps of the two mutators of a flipped heap, and its end.
-pub fn play_pair<L: Named + Send + Sync, B: Builder, R: Abort + Threads + Wait + Sync>(
+// The steps of the two mutators of a flipped heap, and its end.
+fn play_pair<L: Named + Send + Sync, B: Builder, R: Abort + Threads + Wait + Sync>(
     rt: &R,
     alloc: Global,
     blank: Blank,
@@ -138,6 +149,30 @@ pub fn play_pair<L: Named + Send + Sync, B: Builder, R: Abort + Threads + Wait +
     expect_ending(rt, alloc, case.name, &finished, &case.ending);
 }
 
+// The case, with this builder.
+fn play_built<B: Builder, R: Abort + Threads + Wait + Sync>(
+    rt: &R,
+    alloc: Global,
+    builder: B,
+    case: &Pair,
+) {
+    play_pair::<Brand, B, R>(rt, alloc, Blank::new(2), builder, case);
+}
+
+// The case, with the builder that it names.
+fn play_case<R: Abort + Threads + Wait + Sync>(
+    rt: &R,
+    alloc: Global,
+    case: &Pair,
+) -> Result<(), Fail> {
+    let plan = plan_of(alloc, case.heap)?;
+    match case.built_by {
+        PairBuilder::Plan => play_built(rt, alloc, plan, case),
+        PairBuilder::Meeting => play_built(rt, alloc, Meeting::new(plan), case),
+    }
+    Ok(())
+}
+
 /// Each of these cases.
 pub fn play_each_pair<R: Abort + Threads + Wait + Sync>(
     rt: &R,
@@ -145,8 +180,7 @@ pub fn play_each_pair<R: Abort + Threads + Wait + Sync>(
     cases: &[Pair],
 ) -> Result<(), Fail> {
     for case in cases {
-        let plan = plan_of(alloc, case.heap)?;
-        play_pair::<Brand, _, R>(rt, alloc, Blank::new(2), plan, case);
+        play_case(rt, alloc, case)?;
     }
     Ok(())
 }

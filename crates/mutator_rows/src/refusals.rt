@@ -8,29 +8,34 @@ use std::alloc::Global;
 use std::fmt::Display;
 use std::process::Abort;
 
+// It was printed so.
+fn expect_text(rt: &impl Abort, found: &str, text: &str) {
+    assert_eq!(rt; found, text);
+}
+
 // Each of them is printed so.
 fn expect_texts<D: Display>(rt: &impl Abort, alloc: Global, rows: &[(D, &str)]) {
     for (printed, text) in rows {
         let Ok(found) = printed.to_string(alloc) else {
-            panic!(rt; "memory for {text}");
+            panic!(rt; "memory for a text");
         };
-        assert_eq!(rt; found.as_str(), *text);
+        expect_text(rt, found.as_str(), text);
     }
 }
 
-const OF_JOURNALS: [(JournalRefusal, &str); 2] = [
+static OF_JOURNALS: [(JournalRefusal, &str); 2] = [
     (JournalRefusal::JournalFull, "J1 JournalFull"),
     (JournalRefusal::OutOfMemory, "J2 OutOfMemory"),
 ];
 
-const OF_CELLS: [(CellRefusal, &str); 4] = [
+static OF_CELLS: [(CellRefusal, &str); 4] = [
     (CellRefusal::Busy(3), "C1 Busy(3)"),
     (CellRefusal::NoSuchPage, "C2 NoSuchPage"),
     (CellRefusal::OutOfMemory, "C3 OutOfMemory"),
     (CellRefusal::PassMissing(1), "C4 PassMissing(1)"),
 ];
 
-const OF_MUTATORS: [(Refusal, &str); 8] = [
+static OF_MUTATORS: [(Refusal, &str); 8] = [
     (Refusal::Null, "M1 Null"),
     (
         Refusal::NotAStart(8_589_934_593),
@@ -44,12 +49,12 @@ const OF_MUTATORS: [(Refusal, &str); 8] = [
     (Refusal::OutOfMemory, "M8 OutOfMemory"),
 ];
 
-const OF_FLIPS: [(FlipFault, &str); 2] = [
+static OF_FLIPS: [(FlipFault, &str); 2] = [
     (FlipFault::OutOfMemory, "M8 OutOfMemory"),
     (FlipFault::BadCounts, "M10 BadCounts"),
 ];
 
-const OF_FINISHES: [(FinishFault, &str); 2] = [
+static OF_FINISHES: [(FinishFault, &str); 2] = [
     (FinishFault::OutOfMemory, "M8 OutOfMemory"),
     (FinishFault::MutatorMissing(1), "M9 MutatorMissing(1)"),
 ];

@@ -3,8 +3,8 @@ ghost use Rattle.comp_mutator.specs.Mutators.{IsMutatorOf};
 
 use crate::calls::{answer, touch};
 use crate::endings::Ending;
-use crate::flipped::{Heap, plan_of};
-use crate::pairs::{Pair, Step, play_each_pair, play_pair};
+use crate::flipped::Heap;
+use crate::pairs::{Pair, PairBuilder, Step};
 use crate::rows::{Row, expect_rows, settle};
 use crate::turns::ENTRIES;
 use comp_access::pages::Touched;
@@ -16,13 +16,10 @@ use heap_layout::kind::Kind;
 use page_plan::builder::Builder;
 use plain_objects::call::Call;
 use std::alloc::Global;
-use std::marker::Brand;
 use std::process::Abort;
 use std::sync::Wait;
-use std::sync::ledger::{Blank, Ledger as Named};
-use std::test::Fail;
+use std::sync::ledger::Ledger as Named;
 use std::thread::{self, Threads};
-use worked_heaps::builders::Meeting;
 use worked_heaps::heaps::T;
 
 /// What a thread does with its mutator.
@@ -212,6 +209,7 @@ const SEVEN_READ: [Row; 2] = [
 const ONE_THEN_OTHER: Pair = Pair {
     name: "reads what another thread wrote",
     heap: Heap::Three,
+    built_by: PairBuilder::Plan,
     fresh_pages: 2,
     steps: &[],
     at_once: Some((
@@ -232,6 +230,7 @@ const ONE_THEN_OTHER: Pair = Pair {
 const RACE: Pair = Pair {
     name: "builds once in a race",
     heap: Heap::Three,
+    built_by: PairBuilder::Plan,
     fresh_pages: 0,
     steps: &[],
     at_once: Some((Work::Race, Work::Race, &[])),
@@ -248,6 +247,7 @@ const RACE: Pair = Pair {
 const TURNS: Pair = Pair {
     name: "writes one page by turns",
     heap: Heap::Three,
+    built_by: PairBuilder::Plan,
     fresh_pages: 0,
     steps: &[],
     at_once: Some((
@@ -268,6 +268,7 @@ const TURNS: Pair = Pair {
 const OBJECTS_AT_ONCE: Pair = Pair {
     name: "finishes after two threads",
     heap: Heap::Three,
+    built_by: PairBuilder::Plan,
     fresh_pages: 4,
     steps: &[Step::First(&[Row::Touch(0, Ok(Touched::Built))])],
     at_once: Some((
@@ -287,14 +288,6 @@ const OBJECTS_AT_ONCE: Pair = Pair {
     },
 };
 
-// Those cases.
-const CASES: [Pair; 4] = [ONE_THEN_OTHER, RACE, TURNS, OBJECTS_AT_ONCE];
-
-#[test]
-fn works_in_threads(rt: HostRuntime) -> Result<(), Fail> {
-    play_each_pair(&rt, rt.alloc(), &CASES)
-}
-
 // What the other thread has written.
 const FIVE: [Row; 1] = [Row::ReadData(T, 0, Ok(5))];
 
@@ -304,6 +297,7 @@ const SIX: [Row; 1] = [Row::ReadData(T, 100, Ok(6))];
 const TWO_PAGES: Pair = Pair {
     name: "writes two pages at once",
     heap: Heap::Counting(255),
+    built_by: PairBuilder::Meeting,
     fresh_pages: 0,
     steps: &[],
     at_once: Some((
@@ -320,9 +314,5 @@ const TWO_PAGES: Pair = Pair {
     },
 };
 
-#[test]
-fn writes_two_pages_at_once(rt: HostRuntime) -> Result<(), Fail> {
-    let builder = Meeting::new(plan_of(rt.alloc(), Heap::Counting(255))?);
-    play_pair::<Brand, _, HostRuntime>(&rt, rt.alloc(), Blank::new(2), builder, &TWO_PAGES);
-    Ok(())
-}
+/// Those cases.
+pub static CASES: [Pair; 5] = [ONE_THEN_OTHER, RACE, TURNS, OBJECTS_AT_ONCE, TWO_PAGES];

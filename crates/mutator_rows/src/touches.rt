@@ -1,8 +1,8 @@
 //! Flips, and the first touches of pages.
 ghost use Rattle.std.specs.Prelude.{◌≡◌};
 
-use crate::alone::{Alone, play_alone, play_each_alone};
-use crate::expected::{At, expect_count};
+use crate::alone::{Alone, BuiltBy};
+use crate::expected::{At, expect_count, expect_so};
 use crate::flipped::{Heap, plan_of, shared};
 use crate::rows::Row;
 use comp_access::pages::Touched;
@@ -10,33 +10,14 @@ use comp_access::refusal::Refusal;
 use comp_mutator::flipping::flip;
 use comp_mutator::mutator::Mutator;
 use comp_mutator::refusal::FlipFault;
+use comp_mutator::space::Space;
 use page_plan::plan::Plan;
 use std::alloc::Global;
 use std::marker::Brand;
 use std::process::Abort;
+use std::sync::Arc;
 use std::sync::ledger::{Blank, Ledger as Named};
-use std::sync::{Arc, Wait};
 use std::test::Fail;
-use worked_heaps::builders::{Counting, Refusing};
-
-// A flip by counts outside the limits is refused.
-fn expect_bad_counts<L: Named>(
-    rt: &impl Abort,
-    alloc: Global,
-    blank: Blank,
-    builder: Arc<Plan>,
-    mutators: u32,
-    fresh_pages: u32,
-)
-    requires name { blank.name ≡ L.name }
-    requires parts { blank.parts ≡ L.parts }
-    requires count { blank.parts ≡ mutators }
-{
-    let Err(fault) = flip::<L, _>(alloc, blank, builder, mutators, fresh_pages) else {
-        panic!(rt; "a flip with {mutators} mutators");
-    };
-    assert!(rt; fault == FlipFault::BadCounts);
-}
 
 // Mutators that count from 0, none of which has done anything.
 fn expect_new<L: Named>(rt: &impl Abort, mutators: &[Mutator<L>]) {
@@ -52,14 +33,7 @@ fn expect_new<L: Named>(rt: &impl Abort, mutators: &[Mutator<L>]) {
 }
 
 // As many mutators and fresh pages as there may be, beside one compacted page.
-fn flip_most<L: Named>(rt: &impl Abort, alloc: Global, blank: Blank, builder: Arc<Plan>)
-    requires name { blank.name ≡ L.name }
-    requires parts { blank.parts ≡ L.parts }
-    requires count { blank.parts ≡ 64 }
-{
-    let Ok((space, mutators)) = flip::<L, _>(alloc, blank, builder, 64, 4096) else {
-        panic!(rt; "a flipped heap");
-    };
+fn expect_most<L: Named>(rt: &impl Abort, space: &Space<L, Plan>, mutators: &[Mutator<L>]) {
     let at = At {
         case: "as many as there may be",
         row: 0,
@@ -67,19 +41,62 @@ fn flip_most<L: Named>(rt: &impl Abort, alloc: Global, blank: Blank, builder: Ar
     expect_count(rt, at, mutators.len() as u64, 64);
     expect_count(rt, at, space.compacted_pages(), 1);
     expect_count(rt, at, space.pages(), 4097);
-    expect_new(rt, &mutators);
+    expect_new(rt, mutators);
 }
+
+// Why a flip by these counts is refused, or none: then they are as many as there may be.
+fn fault_of<L: Named>(
+    rt: &impl Abort,
+    alloc: Global,
+    blank: Blank,
+    builder: Arc<Plan>,
+    mutators: u32,
+    fresh_pages: u32,
+) -> Option<FlipFault>
+    requires name { blank.name ≡ L.name }
+    requires parts { blank.parts ≡ L.parts }
+    requires count { blank.parts ≡ mutators }
+{
+    match flip::<L, _>(alloc, blank, builder, mutators, fresh_pages) {
+        Ok((space, all)) => {
+            expect_most(rt, &space, &all);
+            None
+        }
+        Err(fault) => Some(fault),
+    }
+}
+
+// Why a flip of the smallest heap by these counts is refused.
+fn flip_smallest(
+    rt: &impl Abort,
+    alloc: Global,
+    mutators: u32,
+    fresh_pages: u32,
+) -> Result<Option<FlipFault>, Fail> {
+    let builder = shared(rt, alloc, plan_of(alloc, Heap::Smallest)?);
+    let blank = Blank::new(u64::from(mutators));
+    Ok(fault_of::<Brand>(rt, alloc, blank, builder, mutators, fresh_pages))
+}
+
+// Counts of mutators and of fresh pages, and why a flip by them is refused: outside the limits, and the most within them.
+static LIMITS: [(u32, u32, Option<FlipFault>); 5] = [
+    (0, 0, Some(FlipFault::BadCounts)),
+    (65, 0, Some(FlipFault::BadCounts)),
+    (1, 4097, Some(FlipFault::BadCounts)),
+    (u32::MAX, u32::MAX, Some(FlipFault::BadCounts)),
+    (64, 4096, None),
+];
 
 #[test]
 fn flips_within_the_limits(rt: HostRuntime) -> Result<(), Fail> {
-    let alloc = rt.alloc();
-    for (mutators, fresh_pages) in [(0, 0), (65, 0), (1, 4097), (u32::MAX, u32::MAX)] {
-        let blank = Blank::new(u64::from(mutators));
-        let builder = shared(&rt, alloc, plan_of(alloc, Heap::Smallest)?);
-        expect_bad_counts::<Brand>(&rt, alloc, blank, builder, mutators, fresh_pages);
+    for (row, (mutators, fresh_pages, wanted)) in LIMITS.iter().enumerate() {
+        let found = flip_smallest(&rt, rt.alloc(), *mutators, *fresh_pages)?;
+        let at = At {
+            case: "flips within the limits",
+            row,
+        };
+        expect_so(&rt, at, found == *wanted);
     }
-    let builder = shared(&rt, alloc, plan_of(alloc, Heap::Smallest)?);
-    flip_most::<Brand>(&rt, alloc, Blank::new(64), builder);
     Ok(())
 }
 
@@ -87,6 +104,7 @@ fn flips_within_the_limits(rt: HostRuntime) -> Result<(), Fail> {
 const TWICE: Alone = Alone {
     name: "touches a page",
     heap: Heap::Smallest,
+    built_by: BuiltBy::Plan,
     fresh_pages: 0,
     rows: &[
         Row::Roots(&[8_589_934_592]),
@@ -101,6 +119,7 @@ const TWICE: Alone = Alone {
 const LAST_FIRST: Alone = Alone {
     name: "touches the last page first",
     heap: Heap::Seventeen,
+    built_by: BuiltBy::Plan,
     fresh_pages: 0,
     rows: &[
         Row::Pages(17),
@@ -112,18 +131,11 @@ const LAST_FIRST: Alone = Alone {
     ending: None,
 };
 
-// Those cases.
-const CASES: [Alone; 2] = [TWICE, LAST_FIRST];
-
-#[test]
-fn touches_pages(rt: HostRuntime) -> Result<(), Fail> {
-    play_each_alone(&rt, rt.alloc(), &CASES)
-}
-
 // A page whose first build finds no memory, and whose second one does.
 const AGAIN: Alone = Alone {
     name: "touches after a refusal",
     heap: Heap::Counting(255),
+    built_by: BuiltBy::Refusing,
     fresh_pages: 0,
     rows: &[
         Row::Touch(3, Err(Refusal::OutOfMemory)),
@@ -134,19 +146,11 @@ const AGAIN: Alone = Alone {
     ending: None,
 };
 
-#[test]
-fn touches_after_a_refusal(rt: HostRuntime) -> Result<(), Fail> {
-    let alloc = rt.alloc();
-    let builder = Refusing::new(plan_of(alloc, Heap::Counting(255))?);
-    let builder = shared(&rt, alloc, builder);
-    play_alone::<Brand, _, HostRuntime>(&rt, alloc, Blank::new(1), builder, &AGAIN);
-    Ok(())
-}
-
 // A flip with fresh pages.
 const UNTOUCHED: Alone = Alone {
     name: "builds nothing at a flip",
     heap: Heap::Three,
+    built_by: BuiltBy::Counting(0),
     fresh_pages: 4,
     rows: &[],
     ending: None,
@@ -156,6 +160,7 @@ const UNTOUCHED: Alone = Alone {
 const TOUCHED: Alone = Alone {
     name: "builds at the first touch",
     heap: Heap::Three,
+    built_by: BuiltBy::Counting(1),
     fresh_pages: 4,
     rows: &[
         Row::Touch(0, Ok(Touched::Built)),
@@ -164,25 +169,5 @@ const TOUCHED: Alone = Alone {
     ending: None,
 };
 
-// The case, with a builder that counts: it has built so many pages.
-fn count_builds<R: Abort + Wait>(
-    rt: &R,
-    alloc: Global,
-    case: &Alone,
-    builds: u64,
-) -> Result<(), Fail> {
-    let counts = Arc::new(alloc, Counting::new(plan_of(alloc, case.heap)?))?;
-    play_alone::<Brand, _, R>(rt, alloc, Blank::new(1), counts.clone()?, case);
-    let at = At {
-        case: case.name,
-        row: case.rows.len(),
-    };
-    expect_count(rt, at, counts.count(), builds);
-    Ok(())
-}
-
-#[test]
-fn builds_at_the_first_touch(rt: HostRuntime) -> Result<(), Fail> {
-    count_builds(&rt, rt.alloc(), &UNTOUCHED, 0)?;
-    count_builds(&rt, rt.alloc(), &TOUCHED, 1)
-}
+/// Those cases.
+pub static CASES: [Alone; 5] = [TWICE, LAST_FIRST, AGAIN, UNTOUCHED, TOUCHED];

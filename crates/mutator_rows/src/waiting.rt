@@ -1,16 +1,16 @@
 //! The calls that wait, of a mutator that is alone: each answers at once.
-use crate::alone::{Alone, play_each_alone};
+use crate::alone::{Alone, BuiltBy};
 use crate::flipped::Heap;
 use crate::rows::Row;
 use comp_access::pages::Touched;
 use comp_access::refusal::Refusal;
-use std::test::Fail;
 use worked_heaps::heaps::T;
 
 // Each call, with an object that is made on a fresh page.
 const AT_ONCE: Alone = Alone {
     name: "answers at once when no page is busy",
     heap: Heap::Three,
+    built_by: BuiltBy::Plan,
     fresh_pages: 1,
     rows: &[
         Row::AtLast(&Row::Touch(0, Ok(Touched::Built))),
@@ -25,10 +25,5 @@ const AT_ONCE: Alone = Alone {
     ending: None,
 };
 
-// Those cases.
-const CASES: [Alone; 1] = [AT_ONCE];
-
-#[test]
-fn answers_at_once_when_no_page_is_busy(rt: HostRuntime) -> Result<(), Fail> {
-    play_each_alone(&rt, rt.alloc(), &CASES)
-}
+/// Those cases.
+pub static CASES: [Alone; 1] = [AT_ONCE];
