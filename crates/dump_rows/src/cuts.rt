@@ -1,7 +1,6 @@
 //! Dumps that end early or late, and dumps of another magic or version.
-use crate::encoded::{Change, LINKED, Part, SMALLEST, encoded};
-use crate::judged::{Row, Told, expect_rows, expect_told};
-use crate::planned::{Worked, plan_of};
+use crate::encoded::{Change, Part, Whole, encoded};
+use crate::judged::{Row, Told, expect_told};
 use comp_dump::fault::DumpFault;
 use page_plan::plan::Plan;
 use std::alloc::Global;
@@ -16,28 +15,27 @@ fn expect_truncated(rt: &impl Abort, alloc: Global, plan: &Plan, bytes: &[u8], l
     }
 }
 
-#[test]
-fn refuses_each_beginning(rt: HostRuntime) {
-    let alloc = rt.alloc();
-    let plan = plan_of(&rt, alloc, &Worked::Three);
-    let smallest = encoded(&rt, alloc, &SMALLEST);
-    expect_truncated(&rt, alloc, &plan, &smallest, 569);
-    let linked = encoded(&rt, alloc, &LINKED);
-    expect_truncated(&rt, alloc, &plan, &linked, 1_129);
+/// Each beginning of the dump of the smallest heap and of that of the new object.
+pub fn expect_beginnings(rt: &impl Abort, alloc: Global, plan: &Plan) {
+    let smallest = encoded(rt, alloc, &Whole::Smallest);
+    expect_truncated(rt, alloc, plan, &smallest, 569);
+    let linked = encoded(rt, alloc, &Whole::Linked);
+    expect_truncated(rt, alloc, plan, &linked, 1_129);
 }
 
 const TOO_LONG: Told = Err(DumpFault::TrailingBytes);
 
-static LONGER: [Row; 2] = [
+/// Dumps with one byte more.
+pub static LONGER: [Row; 2] = [
     Row(
         "one byte more behind the smallest heap",
-        &SMALLEST,
+        Whole::Smallest,
         &[Change(569, 0, Part::Bytes(&[0]))],
         TOO_LONG,
     ),
     Row(
         "one byte more behind the new object",
-        &LINKED,
+        Whole::Linked,
         &[Change(1_129, 0, Part::Bytes(&[0]))],
         TOO_LONG,
     ),
@@ -45,84 +43,78 @@ static LONGER: [Row; 2] = [
 
 const OTHER: Told = Err(DumpFault::BadMagic);
 
-// Each byte of the magic and of the version, with bit 3 turned.
-static OTHERS: [Row; 12] = [
+/// Each byte of the magic and of the version, with bit 3 turned.
+pub static OTHERS: [Row; 12] = [
     Row(
         "byte 0",
-        &SMALLEST,
+        Whole::Smallest,
         &[Change(0, 1, Part::Bytes(b"K"))],
         OTHER,
     ),
     Row(
         "byte 1",
-        &SMALLEST,
+        Whole::Smallest,
         &[Change(1, 1, Part::Bytes(b"G"))],
         OTHER,
     ),
     Row(
         "byte 2",
-        &SMALLEST,
+        Whole::Smallest,
         &[Change(2, 1, Part::Bytes(b"E"))],
         OTHER,
     ),
     Row(
         "byte 3",
-        &SMALLEST,
+        Whole::Smallest,
         &[Change(3, 1, Part::Bytes(b"X"))],
         OTHER,
     ),
     Row(
         "byte 4",
-        &SMALLEST,
+        Whole::Smallest,
         &[Change(4, 1, Part::Bytes(b"L"))],
         OTHER,
     ),
     Row(
         "byte 5",
-        &SMALLEST,
+        Whole::Smallest,
         &[Change(5, 1, Part::Bytes(b"]"))],
         OTHER,
     ),
     Row(
         "byte 6",
-        &SMALLEST,
+        Whole::Smallest,
         &[Change(6, 1, Part::Bytes(b"E"))],
         OTHER,
     ),
     Row(
         "byte 7",
-        &SMALLEST,
+        Whole::Smallest,
         &[Change(7, 1, Part::Bytes(b"X"))],
         OTHER,
     ),
     Row(
         "byte 8",
-        &SMALLEST,
+        Whole::Smallest,
         &[Change(8, 1, Part::Bytes(&[9]))],
         OTHER,
     ),
     Row(
         "byte 9",
-        &SMALLEST,
+        Whole::Smallest,
         &[Change(9, 1, Part::Bytes(&[8]))],
         OTHER,
     ),
     Row(
         "byte 10",
-        &SMALLEST,
+        Whole::Smallest,
         &[Change(10, 1, Part::Bytes(&[8]))],
         OTHER,
     ),
     Row(
         "byte 11",
-        &SMALLEST,
+        Whole::Smallest,
         &[Change(11, 1, Part::Bytes(&[8]))],
         OTHER,
     ),
 ];
-
-#[test]
-fn refuses_one_byte_more_or_another_magic_or_version(rt: HostRuntime) {
-    expect_rows(&rt, &LONGER);
-    expect_rows(&rt, &OTHERS);
-}

@@ -1,7 +1,7 @@
 //! The dump of a new object with each of its bytes changed to each other value: what becomes of it is reckoned from where the byte lies in the format,
 //! and from the order of the checks. No such change leaves a dump that is judged lawful: a number of the format's own is refused where it differs, each word
 //! has the one value that its base and its journal give it, and each other field is told by the plan or by the other fields.
-use crate::encoded::{LINKED, encoded};
+use crate::encoded::{Whole, encoded};
 use crate::expected::expect;
 use crate::judged::{Told, expect_told, told};
 use crate::planned::{Worked, plan_of};
@@ -111,74 +111,53 @@ static RULES: [Rule; 38] = [
     Rule(1_121, 1_128, 0, 255, WRONG_TOTAL),
 ];
 
-fn is_for(rule: &Rule, at: usize, byte: u8) -> bool {
-    let Rule(first, last, least, most, _) = rule;
-    *first <= at && at <= *last && *least <= byte && byte <= *most
-}
-
-fn wrong_word(page: u64, byte: usize) -> Told {
-    let offset = (byte / 8) as u64;
-    Ok(Verdict::No(AuditFault::WrongWord(page.wrapping_add(offset))))
-}
-
-// What is told is what the rule says of a byte at that place.
-fn is_so(rule: &Rule, at: usize, found: Told) -> bool {
+// What is told of the dump with a byte at a place, by the rule that is for it. Where the rule leaves a choice, and what was found is one of them, that is it.
+fn reckoned(rule: &Rule, at: usize, found: Told) -> Told {
     let Rule(first, _, _, _, becomes) = rule;
     match becomes {
-        Becomes::Is(wanted) => found == *wanted,
-        Becomes::Shifted => matches!(
-            found,
-            Err(DumpFault::Truncated | DumpFault::TrailingBytes | DumpFault::BadField)
-        ),
-        Becomes::WrongWord(page) => found == wrong_word(*page, at.wrapping_sub(*first)),
+        Becomes::Is(wanted) => *wanted,
+        Becomes::WrongWord(page) => {
+            let offset = (at.wrapping_sub(*first) / 8) as u64;
+            Ok(Verdict::No(AuditFault::WrongWord(page.wrapping_add(offset))))
+        }
+        Becomes::Shifted => match found {
+            Err(DumpFault::TrailingBytes | DumpFault::BadField) => found,
+            _ => Err(DumpFault::Truncated),
+        },
     }
 }
 
-// With this byte at that place, what is told is what was reckoned.
-fn is_reckoned(found: Told, at: usize, byte: u8) -> bool {
+// What is told of the dump with this byte at that place is what was reckoned.
+fn expect_reckoned(rt: &impl Abort, found: Told, at: usize, byte: u8) {
     for rule in &RULES {
-        if is_for(rule, at, byte) {
-            return is_so(rule, at, found);
+        let Rule(first, last, least, most, _) = rule;
+        if *first <= at && at <= *last && *least <= byte && byte <= *most {
+            let number = at.wrapping_mul(256).wrapping_add(usize::from(byte));
+            let wanted = reckoned(rule, at, found);
+            return expect(
+                rt,
+                &found,
+                &wanted,
+                "256 times the place, and the byte:",
+                number,
+            );
         }
     }
-    false
+    panic!(rt; "no rule");
 }
 
-fn expect_reckoned(rt: &impl Abort, found: Told, at: usize, byte: u8) {
-    assert!(rt;
-        is_reckoned(found, at, byte),
-        "byte {at}: {byte}: {found:?}"
-    );
-}
-
-fn set(bytes: &mut [u8], at: usize, byte: u8) {
-    if let Some(place) = bytes.get_mut(at) {
-        *place = byte;
-    }
-}
-
-// Each other value at this place, where `right` stands, also at the end.
-fn expect_others(
-    rt: &impl Abort,
-    alloc: Global,
-    plan: &Plan,
-    bytes: &mut [u8],
-    at: usize,
-    right: u8,
-) {
-    for byte in 0..=255u8 {
+// Each other value at each place of the dump, which has these bytes. The last value at a place is the right one, with which it is left.
+fn expect_each(rt: &impl Abort, alloc: Global, plan: &Plan, whole: &[u8], bytes: &mut [u8]) {
+    for n in 0..1_129 * 256 {
+        let at = n / 256;
+        let right = whole.get(at).copied().expect(rt, "a byte of the dump");
+        let byte = right.wrapping_add((n % 256) as u8).wrapping_add(1);
+        if let Some(place) = bytes.get_mut(at) {
+            *place = byte;
+        }
         if byte != right {
-            set(bytes, at, byte);
             expect_reckoned(rt, told(alloc, plan, bytes), at, byte);
         }
-    }
-    set(bytes, at, right);
-}
-
-fn expect_each(rt: &impl Abort, alloc: Global, plan: &Plan, bytes: &mut [u8]) {
-    for at in 0..1_129 {
-        let right = bytes.get(at).copied().expect(rt, "a byte of the dump");
-        expect_others(rt, alloc, plan, bytes, at, right);
     }
 }
 
@@ -186,8 +165,9 @@ fn expect_each(rt: &impl Abort, alloc: Global, plan: &Plan, bytes: &mut [u8]) {
 fn tells_each_changed_byte(rt: HostRuntime) {
     let alloc = rt.alloc();
     let plan = plan_of(&rt, alloc, &Worked::Three);
-    let mut bytes = encoded(&rt, alloc, &LINKED);
-    expect(&rt, &bytes.len(), &1_129, "bytes", 0);
-    expect_each(&rt, alloc, &plan, &mut bytes);
+    let whole = encoded(&rt, alloc, &Whole::Linked);
+    let mut bytes = encoded(&rt, alloc, &Whole::Linked);
+    expect(&rt, &whole.len(), &1_129, "bytes", 0);
+    expect_each(&rt, alloc, &plan, &whole, &mut bytes);
     expect_told(&rt, alloc, &plan, &bytes, Ok(Verdict::Yes), "no change");
 }

@@ -16,6 +16,27 @@ pub enum Part {
     Zeros(usize),
 }
 
+/// A dump that is put together.
+pub enum Whole {
+    /// That of no object at all and two mutators, by its bytes alone: 44 bytes.
+    Nothing,
+    /// That of the smallest heap, whose page one mutator touched: 569 bytes.
+    Smallest,
+    /// The same, by its bytes alone.
+    Touched,
+    /// That of the three objects, of which one mutator made the last refer to a new object on the first of two fresh pages: 1,129 bytes.
+    Linked,
+    /// That of the three objects, into whose first one the first of two mutators wrote 7, beside 64 fresh pages: 656 bytes.
+    Put,
+    /// That of the three objects, into whose first one the one mutator wrote what looks like an address: 588 bytes.
+    Address,
+    /// That of two objects of 640 words each, all zeros behind their headers: 20 pages in three regions, of which the first of two mutators built the first
+    /// and the last, and the second one the second. It has 10,464 bytes.
+    Twenty,
+    /// These parts.
+    Of(&'static [Part]),
+}
+
 /// In place of so many bytes from this one on there stands this part.
 pub struct Change(pub usize, pub usize, pub Part);
 
@@ -29,8 +50,12 @@ pub const MAGIC: Part = Part::Bytes(b"COMPDUMP");
 /// and its offset in a byte each, and its value.
 pub const BUILT: Part = Part::Bytes(&[1]);
 
-/// The dump of the smallest heap, whose page one mutator touched: 569 bytes.
-pub const SMALLEST: [Part; 8] = [
+static NOTHING: [Part; 1] = [Part::Bytes(&[
+    0x43, 0x4f, 0x4d, 0x50, 0x44, 0x55, 0x4d, 0x50, 1, 0, 0, 0, 2, 0, 0, 0, 0, 0, 0, 0, 0, 0, 0, 0,
+    0, 0, 0, 0, 0, 0, 0, 0, 0, 0, 0, 0, 0, 0, 0, 0, 0, 0, 0, 0,
+])];
+
+static SMALLEST: [Part; 8] = [
     MAGIC,
     Part::Fours(&[1, 1, 0, 1, 1]),
     Part::Eights(&[8_589_934_592]),
@@ -41,8 +66,19 @@ pub const SMALLEST: [Part; 8] = [
     Part::Eights(&[1]),
 ];
 
-/// The dump of the three objects, of which one mutator made the last refer to a new object on the first of two fresh pages: 1,129 bytes.
-pub const LINKED: [Part; 19] = [
+static TOUCHED: [Part; 8] = [
+    Part::Bytes(b"COMPDUMP"),
+    Part::Bytes(&[1, 0, 0, 0, 1, 0, 0, 0, 0, 0, 0, 0, 1, 0, 0, 0, 1, 0, 0, 0]),
+    Part::Bytes(&[0, 0, 0, 0, 2, 0, 0, 0]),
+    Part::Bytes(&[1, 0, 0, 0, 0, 7, 0, 0, 0]),
+    // From byte 45 up to byte 549.
+    Part::Zeros(504),
+    Part::Bytes(&[0, 0, 0, 0]),
+    Part::Bytes(&[1, 0, 0, 0, 0, 0, 0, 0]),
+    Part::Bytes(&[1, 0, 0, 0, 0, 0, 0, 0]),
+];
+
+static LINKED: [Part; 19] = [
     MAGIC,
     Part::Fours(&[1, 1, 2, 3, 1]),
     Part::Eights(&[8_589_934_594]),
@@ -65,8 +101,7 @@ pub const LINKED: [Part; 19] = [
     Part::Eights(&[5]),
 ];
 
-/// The dump of the three objects, into whose first one the first of two mutators wrote 7, beside 64 fresh pages: 656 bytes.
-pub const PUT: [Part; 13] = [
+static PUT: [Part; 13] = [
     MAGIC,
     Part::Fours(&[1, 2, 64, 65, 1]),
     Part::Eights(&[8_589_934_594]),
@@ -82,6 +117,22 @@ pub const PUT: [Part; 13] = [
     Part::Eights(&[4]),
 ];
 
+// What was put stands from byte 45 on.
+static ADDRESS: [Part; 12] = [
+    MAGIC,
+    Part::Fours(&[1, 1, 0, 1, 1]),
+    Part::Eights(&[8_589_934_594]),
+    BUILT,
+    Part::Eights(&[4_295_032_832, 4_294_967_296, 12_884_901_889, 8_589_934_592]),
+    Part::Zeros(480),
+    Part::Fours(&[1]),
+    Part::Eights(&[0]),
+    Part::Bytes(&[0, 2, 1]),
+    Part::Eights(&[4_294_967_296]),
+    Part::Fours(&[1, 0]),
+    Part::Eights(&[4]),
+];
+
 // What follows of a page that has no entry: the header of an object of 640 words and zeros, or zeros alone.
 const BEGUN: Part = Part::Eights(&[41_877_504]);
 
@@ -89,9 +140,7 @@ const NO_MORE: Part = Part::Zeros(504 + 4);
 
 const EMPTY: Part = Part::Zeros(512 + 4);
 
-/// The dump of two objects of 640 words each, all zeros behind their headers: 20 pages in three regions, of which the first of two mutators built the first
-/// and the last, and the second one the second. It has 10,464 bytes.
-pub const TWENTY: [Part; 47] = [
+static TWENTY: [Part; 47] = [
     MAGIC,
     Part::Fours(&[1, 2, 0, 20, 0]),
     BUILT,
@@ -160,32 +209,40 @@ fn put_part(bytes: &mut Vec<u8>, part: &Part) -> Result<(), AllocError> {
     }
 }
 
-/// The bytes of these parts.
-pub fn encoded(rt: &impl Abort, alloc: Global, parts: &[Part]) -> Vec<u8> {
+fn parts_of(whole: &Whole) -> &'static [Part] {
+    match whole {
+        Whole::Nothing => &NOTHING,
+        Whole::Smallest => &SMALLEST,
+        Whole::Touched => &TOUCHED,
+        Whole::Linked => &LINKED,
+        Whole::Put => &PUT,
+        Whole::Address => &ADDRESS,
+        Whole::Twenty => &TWENTY,
+        Whole::Of(parts) => parts,
+    }
+}
+
+/// The bytes of this dump.
+pub fn encoded(rt: &impl Abort, alloc: Global, whole: &Whole) -> Vec<u8> {
     let mut bytes = Vec::new(alloc);
-    for part in parts {
+    for part in parts_of(whole) {
         put_part(&mut bytes, part).expect(rt, "memory");
     }
     bytes
 }
 
-// The bytes with these changes, which come in order.
-fn put_changed(rt: &impl Abort, out: &mut Vec<u8>, bytes: &[u8], changes: &[Change]) {
+/// The bytes of this dump with these changes, which come in order.
+pub fn changed(rt: &impl Abort, alloc: Global, whole: &Whole, changes: &[Change]) -> Vec<u8> {
+    let bytes = encoded(rt, alloc, whole);
+    let mut out = Vec::new(alloc);
     let mut from = 0;
     for Change(at, width, part) in changes {
         let kept = bytes.get(from..*at).expect(rt, "changes inside, in order");
         out.extend_from_slice(kept).expect(rt, "memory");
-        put_part(out, part).expect(rt, "memory");
+        put_part(&mut out, part).expect(rt, "memory");
         from = at.saturating_add(*width);
     }
     let kept = bytes.get(from..).unwrap_or(&[]);
     out.extend_from_slice(kept).expect(rt, "memory");
-}
-
-/// The bytes of these parts with these changes, which come in order.
-pub fn changed(rt: &impl Abort, alloc: Global, parts: &[Part], changes: &[Change]) -> Vec<u8> {
-    let bytes = encoded(rt, alloc, parts);
-    let mut out = Vec::new(alloc);
-    put_changed(rt, &mut out, &bytes, changes);
     out
 }

@@ -1,8 +1,10 @@
-//! Dumps from readers and to writers that fail.
+//! Dumps that are read part by part, from readers that give little or fail, and dumps to writers that fail.
 use crate::devices::{Narrow, Pieces, WhenFull};
 use crate::dumped::{expect_same, read};
-use crate::encoded::{LINKED, SMALLEST, encoded};
+use crate::encoded::{Whole, encoded};
 use crate::expected::expect;
+use crate::heads::expect_largest;
+use crate::written::expect_linked;
 use comp_dump::dump::Dump;
 use comp_dump::fault::DumpFault;
 use comp_dump::reading::read_dump;
@@ -24,21 +26,27 @@ fn expect_in_pieces(rt: &impl Abort, alloc: Global, bytes: &[u8], piece: usize, 
     expect_same(rt, &dump, whole);
 }
 
-fn expect_pieces(rt: &impl Abort, alloc: Global, bytes: &[u8], whole: &Dump<'_>) {
-    for piece in [1, 2, 7, 1_128] {
-        expect_in_pieces(rt, alloc, bytes, piece, whole);
-    }
-}
+static PIECES: [usize; 4] = [1, 2, 7, 1_128];
 
-#[test]
-fn reads_in_pieces(rt: HostRuntime) {
-    let bytes = encoded(&rt, rt.alloc(), &LINKED);
-    let whole = read(rt.alloc(), &bytes).expect(&rt, "a dump");
-    expect_pieces(&rt, rt.alloc(), &bytes, &whole);
-}
+// A writer that takes at most so many bytes a call, and what it answers once it is full.
+struct Full(usize, WhenFull);
+
+static FULL: [Full; 3] = [
+    Full(1_129, WhenFull::Fails(ErrorKind::StorageFull)),
+    Full(3, WhenFull::Fails(ErrorKind::Interrupted)),
+    Full(1, WhenFull::TakesNone),
+];
 
 // What reading or writing answers, how many failures were counted, and what a writer has taken.
 type Outcome<'a> = (Option<DumpFault>, u64, &'a [u8]);
+
+// What is to come of it: where all goes well nothing failed, else the device did, once.
+fn outcome(is_well: bool, taken: &[u8]) -> Outcome<'_> {
+    match is_well {
+        true => (None, 0, taken),
+        false => (Some(DumpFault::Device), 1, taken),
+    }
+}
 
 // A reader that gives a byte a call and fails at this one.
 fn read_failing(alloc: Global, bytes: &[u8], call: u64, kind: ErrorKind) -> Outcome<'static> {
@@ -52,75 +60,64 @@ fn read_failing(alloc: Global, bytes: &[u8], call: u64, kind: ErrorKind) -> Outc
     (fault, reader.failures(), &[])
 }
 
-// The smallest heap's 569 bytes are read in 570 calls, each of which may fail.
+// The smallest heap's 569 bytes are read in 570 calls, each of which may fail; no call comes behind them.
 fn expect_failing_reads(rt: &impl Abort, alloc: Global, bytes: &[u8], kind: ErrorKind) {
-    for call in 0..570 {
+    for call in 0..571 {
         let found = read_failing(alloc, bytes, call as u64, kind);
-        let wanted: Outcome<'_> = (Some(DumpFault::Device), 1, &[]);
-        expect(rt, &found, &wanted, "call", call);
+        expect(rt, &found, &outcome(call == 570, &[]), "call", call);
     }
-    let found = read_failing(alloc, bytes, 570, kind);
-    expect(rt, &found, &(None, 0, &[]), "call", 570);
 }
 
-#[test]
-fn tells_of_a_reader_that_fails(rt: HostRuntime) {
-    let bytes = encoded(&rt, rt.alloc(), &SMALLEST);
-    expect_failing_reads(&rt, rt.alloc(), &bytes, ErrorKind::Other);
-    expect_failing_reads(&rt, rt.alloc(), &bytes, ErrorKind::Interrupted);
-}
-
-// A writer with room for just these bytes takes them, and then fails unless they are all.
+// A writer with room for just these bytes takes them, and then fails unless they are all of the dump.
 fn expect_write(
     rt: &impl Abort,
     alloc: Global,
     dump: &Dump<'_>,
     bytes: &[u8],
-    piece: usize,
-    when_full: WhenFull,
-    fault: Option<DumpFault>,
-    failures: u64,
+    is_all: bool,
+    full: &Full,
 ) {
+    let Full(piece, when_full) = full;
     let mut writer = Counted::new(Narrow {
         taken: Vec::new(alloc),
         room: bytes.len(),
-        piece,
-        when_full,
+        piece: *piece,
+        when_full: *when_full,
     });
     let told = write_dump(dump, &mut writer).err();
     let counted = writer.failures();
     let narrow = writer.into_inner();
     let found = (told, counted, narrow.taken.as_slice());
-    expect(rt, &found, &(fault, failures, bytes), "room", bytes.len());
+    expect(rt, &found, &outcome(is_all, bytes), "room", bytes.len());
 }
 
 // Where the writer fails before the dump's end, just what came before was taken.
-fn expect_beginnings(
-    rt: &impl Abort,
-    alloc: Global,
-    dump: &Dump<'_>,
-    bytes: &[u8],
-    piece: usize,
-    when_full: WhenFull,
-) {
+fn expect_beginnings(rt: &impl Abort, alloc: Global, dump: &Dump<'_>, bytes: &[u8], full: &Full) {
     assert!(rt; bytes.len() == 1_129);
-    for room in 0..1_129 {
-        let fault = Some(DumpFault::Device);
-        expect_write(rt, alloc, dump, &bytes[..room], piece, when_full, fault, 1);
+    for room in 0..1_130 {
+        expect_write(rt, alloc, dump, &bytes[..room], room == 1_129, full);
     }
-    expect_write(rt, alloc, dump, bytes, piece, when_full, None, 0);
 }
 
-fn expect_each_full(rt: &impl Abort, alloc: Global, dump: &Dump<'_>, bytes: &[u8]) {
-    let (storage, interrupted) = (ErrorKind::StorageFull, ErrorKind::Interrupted);
-    expect_beginnings(rt, alloc, dump, bytes, 1_129, WhenFull::Fails(storage));
-    expect_beginnings(rt, alloc, dump, bytes, 3, WhenFull::Fails(interrupted));
-    expect_beginnings(rt, alloc, dump, bytes, 1, WhenFull::TakesNone);
+// A dump and its bytes, from readers that give little and to writers that fail.
+fn expect_devices(rt: &impl Abort, alloc: Global, dump: &Dump<'_>, bytes: &[u8]) {
+    for piece in &PIECES {
+        expect_in_pieces(rt, alloc, bytes, *piece, dump);
+    }
+    for full in &FULL {
+        expect_beginnings(rt, alloc, dump, bytes, full);
+    }
 }
 
 #[test]
-fn leaves_a_beginning_where_the_writer_fails(rt: HostRuntime) {
-    let bytes = encoded(&rt, rt.alloc(), &LINKED);
-    let dump = read(rt.alloc(), &bytes).expect(&rt, "a dump");
-    expect_each_full(&rt, rt.alloc(), &dump, &bytes);
+fn reads_and_writes_as_devices_let_it(rt: HostRuntime) {
+    let alloc = rt.alloc();
+    let smallest = encoded(&rt, alloc, &Whole::Smallest);
+    expect_failing_reads(&rt, alloc, &smallest, ErrorKind::Other);
+    expect_failing_reads(&rt, alloc, &smallest, ErrorKind::Interrupted);
+    let bytes = encoded(&rt, alloc, &Whole::Linked);
+    let dump = read(alloc, &bytes).expect(&rt, "a dump");
+    expect_linked(&rt, alloc, &dump);
+    expect_devices(&rt, alloc, &dump, &bytes);
+    expect_largest(&rt, alloc);
 }

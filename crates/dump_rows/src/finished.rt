@@ -4,7 +4,7 @@ ghost use Rattle.comp_history.specs.Finishes.{IsOfFlip};
 ghost use Rattle.comp_mutator.specs.Mutators.{setup_of, AreMutatorsOf, IsMutatorOf};
 
 use crate::dumped::expect_dump;
-use crate::encoded::{Part, encoded};
+use crate::encoded::{Whole, encoded};
 use crate::expected::expect;
 use crate::planned::{Worked, plan_of};
 use comp_access::pages::Touched;
@@ -54,7 +54,7 @@ pub struct Run {
     /// How many bytes the dump of what is left has.
     pub length: usize,
     /// That dump.
-    pub parts: &'static [Part],
+    pub parts: Whole,
 }
 
 // Touches a page that is there.
@@ -161,7 +161,7 @@ fn expect_finished(rt: &impl Abort, alloc: Global, run: &Run, finished: &Finishe
 {
     let dump = Dump::of(alloc, finished, run.mutators, run.fresh_pages).expect(rt, "memory");
     let plan = plan_of(rt, alloc, &run.heap);
-    let wanted = encoded(rt, alloc, run.parts);
+    let wanted = encoded(rt, alloc, &run.parts);
     expect_dump(rt, alloc, &plan, &dump, &wanted);
     expect(rt, &wanted.len(), &run.length, run.name, 0);
 }

@@ -1,6 +1,6 @@
 //! The dump of a new object with some fields changed, and the fault that is told of it: one of each kind.
-use crate::encoded::{Change, LINKED, Part};
-use crate::judged::{Row, Told, expect_rows};
+use crate::encoded::{Change, Part, Whole};
+use crate::judged::{Row, Told};
 use audit_checks::fault::AuditFault;
 use comp_audit::verdict::Verdict;
 use comp_dump::fault::DumpFault;
@@ -94,115 +94,141 @@ const TOTAL_4: Change = Change(TOTAL, 8, Part::Eights(&[4]));
 
 const TOTAL_6: Change = Change(TOTAL, 8, Part::Eights(&[6]));
 
-static FORGED: [Row; 14] = [
-    Row("no change", &LINKED, &[], YES),
-    Row("head: the root is null", &LINKED, &[NULL_ROOT], WRONG_HEAD),
-    Row("head: one fresh page", &LINKED, &[ONE_FRESH], WRONG_HEAD),
-    Row("entry: a gap before it", &LINKED, &[GAP], BAD_HEADER),
-    Row("word: 12 for 11", &LINKED, &[DATA_12], WRONG_DATA),
-    Row("word: 1 behind all objects", &LINKED, &[LAST_1], WRONG_LAST),
+/// One fault of each kind.
+pub static FORGED: [Row; 14] = [
+    Row("no change", Whole::Linked, &[], YES),
+    Row(
+        "head: the root is null",
+        Whole::Linked,
+        &[NULL_ROOT],
+        WRONG_HEAD,
+    ),
+    Row(
+        "head: one fresh page",
+        Whole::Linked,
+        &[ONE_FRESH],
+        WRONG_HEAD,
+    ),
+    Row("entry: a gap before it", Whole::Linked, &[GAP], BAD_HEADER),
+    Row("word: 12 for 11", Whole::Linked, &[DATA_12], WRONG_DATA),
+    Row(
+        "word: 1 behind all objects",
+        Whole::Linked,
+        &[LAST_1],
+        WRONG_LAST,
+    ),
     Row(
         "reference into an object",
-        &LINKED,
+        Whole::Linked,
         &[INNER, INNER_VALUE],
         LOOSE,
     ),
-    Row("stamps 0 and 0", &LINKED, &[LINK_0], REPEATED),
-    Row("stamps 0 and 2", &LINKED, &[LINK_2], MISSING),
-    Row("stamps 2 and 0", &LINKED, &[LINK_0, HEADER_2], MISSING),
-    Row("stamps 0 and the largest", &LINKED, &[LINK_MAX], MISSING),
+    Row("stamps 0 and 0", Whole::Linked, &[LINK_0], REPEATED),
+    Row("stamps 0 and 2", Whole::Linked, &[LINK_2], MISSING),
+    Row(
+        "stamps 2 and 0",
+        Whole::Linked,
+        &[LINK_0, HEADER_2],
+        MISSING,
+    ),
+    Row(
+        "stamps 0 and the largest",
+        Whole::Linked,
+        &[LINK_MAX],
+        MISSING,
+    ),
     Row(
         "reference to what was made later",
-        &LINKED,
+        Whole::Linked,
         &[LINK_0, HEADER_1],
         BAD_LINK,
     ),
-    Row("total: 6 for 5", &LINKED, &[TOTAL_6], WRONG_TOTAL),
+    Row("total: 6 for 5", Whole::Linked, &[TOTAL_6], WRONG_TOTAL),
     Row(
         "total: the words that slid",
-        &LINKED,
+        Whole::Linked,
         &[TOTAL_4],
         WRONG_TOTAL,
     ),
 ];
 
-// Lists of builds in which a page that was built does not stand just once, or one that was never built does.
-static CLAIMED: [Row; 4] = [
+/// Lists of builds in which a page that was built does not stand just once, or one that was never built does.
+pub static CLAIMED: [Row; 4] = [
     Row(
         "a page left out",
-        &LINKED,
+        Whole::Linked,
         &[Change(BUILDS, 12, Part::Fours(&[1, 1]))],
         PAGE_0_UNCLAIMED,
     ),
     Row(
         "a page that was never built",
-        &LINKED,
+        Whole::Linked,
         &[Change(BUILDS, 12, Part::Fours(&[3, 1, 0, 2]))],
         PAGE_2_UNCLAIMED,
     ),
     Row(
         "a page twice",
-        &LINKED,
+        Whole::Linked,
         &[Change(BUILDS, 12, Part::Fours(&[3, 1, 0, 0]))],
         PAGE_0_UNCLAIMED,
     ),
     Row(
         "no page",
-        &LINKED,
+        Whole::Linked,
         &[Change(BUILDS, 12, Part::Fours(&[0]))],
         PAGE_0_UNCLAIMED,
     ),
 ];
 
-#[test]
-fn tells_each_kind_of_fault(rt: HostRuntime) {
-    expect_rows(&rt, &FORGED);
-    expect_rows(&rt, &CLAIMED);
-}
-
-// Of two faults the one is told whose check comes first.
-static FIRST_OF_TWO: [Row; 6] = [
-    Row("head, total", &LINKED, &[NULL_ROOT, TOTAL_6], WRONG_HEAD),
-    Row("build, entry", &LINKED, &[GAP, CLAIM_0], PAGE_0_UNCLAIMED),
-    Row("entry, word", &LINKED, &[LAST_1, GAP], BAD_HEADER),
-    Row("word, stamp", &LINKED, &[LAST_1, LINK_0], WRONG_LAST),
-    Row("repeated, total", &LINKED, &[LINK_0, TOTAL_6], REPEATED),
-    Row("missing, total", &LINKED, &[LINK_2, TOTAL_6], MISSING),
+/// Of two faults the one is told whose check comes first.
+pub static FIRST_OF_TWO: [Row; 6] = [
+    Row(
+        "head, total",
+        Whole::Linked,
+        &[NULL_ROOT, TOTAL_6],
+        WRONG_HEAD,
+    ),
+    Row(
+        "build, entry",
+        Whole::Linked,
+        &[GAP, CLAIM_0],
+        PAGE_0_UNCLAIMED,
+    ),
+    Row("entry, word", Whole::Linked, &[LAST_1, GAP], BAD_HEADER),
+    Row("word, stamp", Whole::Linked, &[LAST_1, LINK_0], WRONG_LAST),
+    Row(
+        "repeated, total",
+        Whole::Linked,
+        &[LINK_0, TOTAL_6],
+        REPEATED,
+    ),
+    Row("missing, total", Whole::Linked, &[LINK_2, TOTAL_6], MISSING),
 ];
 
-#[test]
-fn tells_the_first_fault(rt: HostRuntime) {
-    expect_rows(&rt, &FIRST_OF_TWO);
-}
-
-static NO_DUMPS: [Row; 4] = [
+/// Bytes that are no dump.
+pub static NO_DUMPS: [Row; 4] = [
     Row(
         "the last byte left out",
-        &LINKED,
+        Whole::Linked,
         &[Change(END - 1, 1, Part::Bytes(&[]))],
         Err(DumpFault::Truncated),
     ),
     Row(
         "one byte more",
-        &LINKED,
+        Whole::Linked,
         &[Change(END, 0, Part::Bytes(&[0]))],
         Err(DumpFault::TrailingBytes),
     ),
     Row(
         "version 9",
-        &LINKED,
+        Whole::Linked,
         &[Change(VERSION, 1, Part::Bytes(&[9]))],
         Err(DumpFault::BadMagic),
     ),
     Row(
         "neither built nor not",
-        &LINKED,
+        Whole::Linked,
         &[Change(LAST_PAGE, 1, Part::Bytes(&[2]))],
         Err(DumpFault::BadField),
     ),
 ];
-
-#[test]
-fn refuses_forged_bytes(rt: HostRuntime) {
-    expect_rows(&rt, &NO_DUMPS);
-}

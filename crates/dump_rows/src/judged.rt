@@ -1,8 +1,7 @@
 //! What becomes of bytes that are read as a dump, and tables of that.
 use crate::dumped::read;
-use crate::encoded::{Change, Part, changed};
+use crate::encoded::{Change, Whole, changed};
 use crate::expected::expect;
-use crate::planned::{Worked, plan_of};
 use comp_audit::auditing::audit;
 use comp_audit::verdict::Verdict;
 use comp_dump::dump::Dump;
@@ -15,12 +14,7 @@ use std::process::Abort;
 pub type Told = Result<Verdict, DumpFault>;
 
 /// A row of a table: its name, a dump, what is changed in it, and what becomes of its bytes where the three objects were compacted.
-pub struct Row(
-    pub &'static str,
-    pub &'static [Part],
-    pub &'static [Change],
-    pub Told,
-);
+pub struct Row(pub &'static str, pub Whole, pub &'static [Change], pub Told);
 
 // What the audit tells of a dump.
 fn judged(alloc: Global, plan: &Plan, dump: &Dump<'_>) -> Told {
@@ -59,10 +53,9 @@ pub fn expect_yes(rt: &impl Abort, alloc: Global, plan: &Plan, dump: &Dump<'_>, 
     expect(rt, &found, &Ok(Verdict::Yes), "a dump of bytes", length);
 }
 
-/// All rows of a table.
-pub fn expect_rows(rt: &(impl Abort + AllocGlobal), rows: &[Row]) {
-    let plan = plan_of(rt, rt.alloc(), &Worked::Three);
+/// All rows of a table, where this plan compacted the three objects.
+pub fn expect_rows(rt: &impl Abort, alloc: Global, plan: &Plan, rows: &[Row]) {
     for row in rows {
-        expect_row(rt, rt.alloc(), &plan, row);
+        expect_row(rt, alloc, plan, row);
     }
 }
