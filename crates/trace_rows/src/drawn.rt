@@ -78,72 +78,60 @@ fn draw_line(random: &mut Random, run: &PlainRun, mutators: u8) -> Line {
     }
 }
 
-// A line behind the others of a text.
-fn push_line(
-    text: &mut String,
-    mutator: u8,
-    word: &str,
-    numbers: &[u64],
-) -> Result<(), AllocError> {
-    write!(text, "{mutator} {word}")?;
-    for number in numbers {
-        write!(text, " {number}")?;
-    }
-    text.push_str("\n")
-}
-
-// The line behind the others of a text, by the form of its action.
-fn push_text(text: &mut String, line: Line) -> Result<(), AllocError> {
-    let m = line.mutator;
-    match line.action {
-        Action::Root { to, root } => push_line(text, m, "root", &[u64::from(to), u64::from(root)]),
-        Action::Load { to, object, field } => push_line(
-            text,
-            m,
+// The word of an action's form, its numbers, and how many they are.
+fn form_of(action: Action) -> (&'static str, [u64; 4], usize) {
+    match action {
+        Action::Root { to, root } => ("root", [u64::from(to), u64::from(root), 0, 0], 2),
+        Action::Load { to, object, field } => (
             "load",
-            &[u64::from(to), u64::from(object), u64::from(field)],
+            [u64::from(to), u64::from(object), u64::from(field), 0],
+            3,
         ),
-        Action::Get { object, field } => {
-            push_line(text, m, "get", &[u64::from(object), u64::from(field)])
-        }
+        Action::Get { object, field } => ("get", [u64::from(object), u64::from(field), 0, 0], 2),
         Action::Store {
             object,
             field,
             value,
-        } => push_line(
-            text,
-            m,
+        } => (
             "store",
-            &[u64::from(object), u64::from(field), u64::from(value)],
+            [u64::from(object), u64::from(field), u64::from(value), 0],
+            3,
         ),
         Action::Put {
             object,
             field,
             value,
-        } => push_line(
-            text,
-            m,
-            "put",
-            &[u64::from(object), u64::from(field), value],
-        ),
+        } => ("put", [u64::from(object), u64::from(field), value, 0], 3),
         Action::New {
             to,
             refs,
             data_words,
             tag,
-        } => push_line(
-            text,
-            m,
+        } => (
             "new",
-            &[
+            [
                 u64::from(to),
                 u64::from(refs),
                 u64::from(data_words),
                 u64::from(tag),
             ],
+            4,
         ),
-        Action::Nil { to } => push_line(text, m, "nil", &[u64::from(to)]),
+        Action::Nil { to } => ("nil", [u64::from(to), 0, 0, 0], 1),
     }
+}
+
+// The line behind the others of a text, by the form of its action.
+fn push_text(text: &mut String, line: Line) -> Result<(), AllocError> {
+    let mutator = line.mutator;
+    let (word, numbers, count) = form_of(line.action);
+    write!(text, "{mutator} {word}")?;
+    for (at, number) in numbers.iter().enumerate() {
+        if at < count {
+            write!(text, " {number}")?;
+        }
+    }
+    text.push_str("\n")
 }
 
 impl Drawn {
@@ -152,71 +140,48 @@ impl Drawn {
         push_text(&mut self.text, line).expect(rt, "the line's text");
     }
 
-    // The last line of the trace, whose call is refused: of most draws that would be refused none is made.
-    fn add_refused(
-        &mut self,
-        rt: &impl Abort,
-        random: &mut Random,
-        line: Line,
-        stop: Stop,
-    ) -> bool {
-        let is_left_out = random.below(12) != 0;
-        if !is_left_out {
-            self.add(rt, line);
-            self.stop = Some(stop);
-        }
-        is_left_out
-    }
-
-    // The next line: true where the trace goes on behind it.
-    fn next(&mut self, rt: &impl Abort, alloc: Global, random: &mut Random, mutators: u8) -> bool {
+    // The next line. Most of those whose call would be refused are left out.
+    fn next(&mut self, rt: &impl Abort, alloc: Global, random: &mut Random, mutators: u8) {
         let line = draw_line(random, &self.run, mutators);
         let number = (self.lines.len() as u64).wrapping_add(1);
         match self.run.answer(alloc, line).expect(rt, "an answer") {
             Ok(answer) => {
                 self.run.keep(rt, number, line, answer);
                 self.add(rt, line);
-                true
             }
-            Err(refusal) => self.add_refused(
-                rt,
-                random,
-                line,
-                Stop {
-                    line: number,
-                    refusal,
-                },
-            ),
+            Err(refusal) => {
+                if random.below(12) == 0 {
+                    self.add(rt, line);
+                    self.stop = Some(Stop {
+                        line: number,
+                        refusal,
+                    });
+                }
+            }
         }
     }
 
-    // Three lines more, whatever they do.
-    fn add_three(&mut self, rt: &impl Abort, random: &mut Random, mutators: u8) {
-        for _ in 0..3 {
-            let line = draw_line(random, &self.run, mutators);
-            self.add(rt, line);
-        }
-    }
-
-    // All lines.
+    // All lines. Behind one that is refused there are three more, whatever they do.
     fn add_all(&mut self, rt: &impl Abort, alloc: Global, random: &mut Random, mutators: u8) {
-        for _ in 0..DRAWS {
-            if !self.next(rt, alloc, random, mutators) {
-                return self.add_three(rt, random, mutators);
+        let mut left = 3u8;
+        for draw in 0..DRAWS + 3 {
+            if self.stop.is_none() {
+                if draw < DRAWS {
+                    self.next(rt, alloc, random, mutators);
+                }
+            } else if left > 0 {
+                left -= 1;
+                let line = draw_line(random, &self.run, mutators);
+                self.add(rt, line);
             }
         }
     }
-}
-
-// What tells a trace from the others.
-fn name_of(rt: &impl Abort, alloc: Global, mutators: u8, seed: u64) -> String {
-    format!(in alloc; "mutators {mutators}, seed {seed}").expect(rt, "a name")
 }
 
 /// The trace of this seed, of up to four mutators. Behind a line that is refused there are three more.
 pub fn draw_trace(rt: &impl Abort, alloc: Global, mutators: u8, seed: u64) -> Drawn {
     let mut drawn = Drawn {
-        name: name_of(rt, alloc, mutators, seed),
+        name: format!(in alloc; "mutators {mutators}, seed {seed}").expect(rt, "a name"),
         lines: Vec::new(alloc),
         text: String::new(alloc),
         run: PlainRun::new(rt, alloc, mutators),

@@ -1,12 +1,22 @@
 //! What tests expect.
+use heap_layout::heap::MarkedHeap;
 use page_plan::plan::Plan;
-use std::fmt::Debug;
+use std::alloc::Global;
 use std::process::Abort;
 use std::test::Fail;
+use worked_heaps::heaps::planned;
 
-/// It is so. Where it is not, the test ends, and tells its name and what it found.
-pub fn expect_so(rt: &impl Abort, name: &str, so: bool, found: &impl Debug) {
-    assert!(rt; so, "{name}: {found:?}");
+/// It is so. Where it is not, the test ends, and tells its name and a number: of a page, a mutator, a stamp or words.
+pub fn expect_so(rt: &impl Abort, name: &str, so: bool, number: u64) {
+    assert!(rt; so, "{name}: {number}");
+}
+
+/// The plan of the heap that was made.
+pub fn plan_of(rt: &impl Abort, alloc: Global, made: Result<MarkedHeap, Fail>) -> Plan {
+    match made {
+        Ok(heap) => expect_plan(rt, planned(alloc, heap)),
+        Err(_fail) => panic!(rt; "no heap"),
+    }
 }
 
 /// The plan that was made.

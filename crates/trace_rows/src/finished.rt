@@ -38,10 +38,10 @@ pub fn expect_pages(
     let pages = finished.pages();
     let live = finished.live_words();
     let is_size = pages.len() == 7 && live == objects.live_words();
-    expect_so(rt, name, is_size, &(live, pages));
+    expect_so(rt, name, is_size, live);
     for (p, page) in pages.iter().enumerate() {
-        let is_page = is_page(rt, alloc, page, objects, p as u64);
-        expect_so(rt, name, is_page, &(p, page));
+        let p = p as u64;
+        expect_so(rt, name, is_page(rt, alloc, page, objects, p), p);
     }
 }
 
@@ -82,8 +82,17 @@ fn entry_of(finished: &Finished, stamp: u64) -> Option<Written> {
     None
 }
 
-// The plain objects take this entry next: true where it is what a call of its writer does to them.
-fn take_entry(rt: &impl Abort, alloc: Global, objects: &mut Objects, written: Written) -> bool {
+// The plain objects take the entry with this stamp next: true where it is what a call of its writer does to them.
+fn take_stamp(
+    rt: &impl Abort,
+    alloc: Global,
+    objects: &mut Objects,
+    finished: &Finished,
+    stamp: u64,
+) -> bool {
+    let Some(written) = entry_of(finished, stamp) else {
+        return false;
+    };
     let entry = written.entry;
     let address = T
         .wrapping_add(written.page.wrapping_mul(64))
@@ -98,20 +107,6 @@ fn take_entry(rt: &impl Abort, alloc: Global, objects: &mut Objects, written: Wr
     }
 }
 
-// The plain objects take the entry with this stamp next.
-fn take_stamp(
-    rt: &impl Abort,
-    alloc: Global,
-    objects: &mut Objects,
-    finished: &Finished,
-    stamp: u64,
-) -> bool {
-    match entry_of(finished, stamp) {
-        Some(written) => take_entry(rt, alloc, objects, written),
-        None => false,
-    }
-}
-
 /// The plain objects take all entries of a finished heap, by their stamps 0, 1, ..: each is what a call of its writer does, and the heap is what they leave.
 pub fn take_history(
     rt: &impl Abort,
@@ -122,7 +117,7 @@ pub fn take_history(
 ) {
     for stamp in 0..count_entries(finished) {
         let is_next = take_stamp(rt, alloc, objects, finished, stamp);
-        expect_so(rt, name, is_next, &stamp);
+        expect_so(rt, name, is_next, stamp);
     }
     expect_pages(rt, alloc, name, finished, objects);
 }

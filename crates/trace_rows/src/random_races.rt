@@ -19,12 +19,7 @@ use std::process::Abort;
 use std::sync::Wait;
 use std::sync::ledger::Blank;
 use std::thread::Threads;
-use trace_steps::shown::Shown;
-use trace_text::fault::Stop;
 use trace_text::line::{Action, Line};
-
-// How many mutators race, and how many traces are drawn for them.
-const RACES: &[(u8, u64)] = &[(1, 1_000), (2, 100), (4, 100)];
 
 // Why a line can be refused that waits and has memory.
 const STOPS: [Refusal; 4] = [
@@ -92,15 +87,7 @@ fn is_known(objects: &Objects, value: u64) -> bool {
     known
 }
 
-// The value that a mutator showed when it had shown `count` values is that of line `number`, and was there or was written.
-fn is_shown(deeds: Deeds, count: usize, number: u64) -> bool {
-    match deeds.run.shown.get(count) {
-        Some(shown) => shown.line == number && is_known(deeds.objects, shown.value),
-        None => false,
-    }
-}
-
-// What line `number` shows or writes is what its mutator did next, behind so many values that it showed and so many writes.
+// What line `number` shows or writes is what its mutator did next, behind so many values that it showed and so many writes. A value was there or was written.
 fn is_next(
     deeds: Deeds,
     shown: &mut usize,
@@ -111,7 +98,10 @@ fn is_next(
     if let Action::Get { .. } = action {
         let count = *shown;
         *shown = count.wrapping_add(1);
-        return is_shown(deeds, count, number);
+        return match deeds.run.shown.get(count) {
+            Some(shown) => shown.line == number && is_known(deeds.objects, shown.value),
+            None => false,
+        };
     }
     let write = write_of(action);
     if write.is_none() {
@@ -122,12 +112,7 @@ fn is_next(
     write_at(deeds.objects, deeds.mutator, count) == write
 }
 
-// A mutator showed just so many values, and wrote so often.
-fn is_all(deeds: Deeds, shown: usize, written: usize) -> bool {
-    deeds.run.shown.len() == shown && write_at(deeds.objects, deeds.mutator, written).is_none()
-}
-
-// What a mutator showed and wrote is what the lines say that it ran, in their order: its own, before the one that was refused, if any.
+// What a mutator showed and wrote is just what the lines say that it ran, in their order: its own, before the one that was refused, if any.
 fn is_told(lines: &[Line], deeds: Deeds) -> bool {
     let end = match deeds.run.fault {
         Some(stop) => stop.line,
@@ -142,25 +127,23 @@ fn is_told(lines: &[Line], deeds: Deeds) -> bool {
             same = is_next(deeds, &mut shown, &mut written, number, line.action) && same;
         }
     }
-    same && is_all(deeds, shown, written)
+    same && deeds.run.shown.len() == shown
+        && write_at(deeds.objects, deeds.mutator, written).is_none()
 }
 
-// A refused line is the mutator's own, and the refusal is one that a line can have which waits and has memory.
-fn is_own_stop(lines: &[Line], mutator: u8, stop: Stop) -> bool {
-    let at = stop.line.wrapping_sub(1) as usize;
-    match lines.get(at) {
-        Some(line) => line.mutator == mutator && STOPS.contains(&stop.refusal),
-        None => false,
-    }
-}
-
-// What a mutator did is what its lines say.
+// What a mutator did is what its lines say. A refused line is its own, and the refusal is one that a line can have which waits and has memory.
 fn is_run(lines: &[Line], deeds: Deeds) -> bool {
-    let is_stop = match deeds.run.fault {
-        Some(stop) => is_own_stop(lines, deeds.mutator, stop),
-        None => true,
-    };
-    is_stop && is_told(lines, deeds)
+    if let Some(stop) = deeds.run.fault {
+        let at = stop.line.wrapping_sub(1) as usize;
+        let is_own = match lines.get(at) {
+            Some(line) => line.mutator == deeds.mutator && STOPS.contains(&stop.refusal),
+            None => false,
+        };
+        if !is_own {
+            return false;
+        }
+    }
+    is_told(lines, deeds)
 }
 
 // What each mutator wrote and showed is what its lines say.
@@ -172,7 +155,7 @@ fn expect_runs(rt: &impl Abort, drawn: &Drawn, runs: &[Run], objects: &Objects) 
             run,
             objects,
         };
-        expect_so(rt, &drawn.name, is_run(&drawn.lines, deeds), &(k, run));
+        expect_so(rt, &drawn.name, is_run(&drawn.lines, deeds), k as u64);
     }
 }
 
@@ -180,7 +163,7 @@ fn expect_runs(rt: &impl Abort, drawn: &Drawn, runs: &[Run], objects: &Objects) 
 fn expect_alone(rt: &impl Abort, drawn: &Drawn, runs: &[Run]) {
     for run in runs {
         let same = run.shown.as_slice() == drawn.run.shown.as_slice() && run.fault == drawn.stop;
-        expect_so(rt, &drawn.name, same, run);
+        expect_so(rt, &drawn.name, same, 0);
     }
 }
 
@@ -193,7 +176,8 @@ fn expect_raced(
     runs: &[Run],
     finished: &Finished,
 ) {
-    expect_so(rt, &drawn.name, runs.len() == usize::from(n), &runs);
+    let count = runs.len();
+    expect_so(rt, &drawn.name, count == usize::from(n), count as u64);
     if n == 1 {
         expect_alone(rt, drawn, runs);
         expect_pages(rt, alloc, &drawn.name, finished, &drawn.run.objects);
@@ -203,11 +187,10 @@ fn expect_raced(
     expect_runs(rt, drawn, runs, &objects);
 }
 
-// The trace of this seed, raced by `n` mutators on the heap of this builder, and the finished heap.
-fn race_drawn<R: Abort + Threads + Wait + Sync>(
+/// The trace of this seed, raced by `n` mutators, and the finished heap.
+pub fn race_drawn<R: Abort + Threads + Wait + Sync>(
     rt: &R,
     alloc: Global,
-    builder: Plan,
     plan: &Plan,
     n: u8,
     seed: u64,
@@ -215,17 +198,7 @@ fn race_drawn<R: Abort + Threads + Wait + Sync>(
     let drawn = drawn(rt, alloc, n, seed);
     let case = case_of(&drawn, n);
     let blank = Blank::new(u64::from(case.mutators));
+    let builder = expect_plan(rt, two_live(alloc));
     let (runs, finished) = raced::<Brand, Plan, R>(rt, alloc, blank, case, builder, plan);
     expect_raced(rt, alloc, &drawn, n, &runs, &finished);
-}
-
-#[test]
-fn races_to_one_history(rt: HostRuntime) {
-    let plan = expect_plan(&rt, two_live(rt.alloc()));
-    for (n, seeds) in RACES {
-        for seed in 0..*seeds {
-            let builder = expect_plan(&rt, two_live(rt.alloc()));
-            race_drawn(&rt, rt.alloc(), builder, &plan, *n, seed);
-        }
-    }
 }

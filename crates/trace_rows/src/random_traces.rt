@@ -1,9 +1,10 @@
-//! A thousand traces that look random, replayed by one thread: just as objects kept plainly have it.
+//! A thousand traces that look random, replayed by one thread: just as objects kept plainly have it. Such traces are raced as well.
 use crate::drawn::{Drawn, draw_trace};
 use crate::expected::{expect_plan, expect_so};
 use crate::finished::expect_pages;
 use crate::flipped::Case;
 use crate::ran::replayed;
+use crate::random_races::race_drawn;
 use crate::replays::expect_replay;
 use comp_mutator::finishing::Finished;
 use comp_trace::replay::Stopped;
@@ -17,15 +18,22 @@ use trace_steps::shown::Shown;
 use trace_text::fault::TraceFault;
 use trace_text::parsing::parse;
 
-// How many traces are drawn for each number of mutators, of which there are four.
-const SEEDS: u64 = 250;
+// A number of mutators, how many traces of theirs are replayed, and how many are raced.
+struct Draws(u8, u64, u64);
+
+static DRAWS: [Draws; 4] = [
+    Draws(1, 250, 1_000),
+    Draws(2, 250, 100),
+    Draws(3, 250, 0),
+    Draws(4, 250, 100),
+];
 
 /// The trace of this seed. Its text, which is read for the three roots of the two live objects, has its lines.
 pub fn drawn(rt: &impl Abort, alloc: Global, mutators: u8, seed: u64) -> Drawn {
     let drawn = draw_trace(rt, alloc, mutators, seed);
     let trace = parse(alloc, drawn.text.as_bytes(), mutators, 3).expect(rt, &drawn.name);
     let same = trace.lines() == drawn.lines.as_slice();
-    expect_so(rt, &drawn.name, same, &trace.lines());
+    expect_so(rt, &drawn.name, same, 0);
     drawn
 }
 
@@ -55,22 +63,26 @@ fn expect_drawn(
     expect_pages(rt, alloc, &drawn.name, finished, &drawn.run.objects);
 }
 
-// The trace of this seed, replayed on the heap of this builder, and the finished heap.
-fn replay_drawn(rt: &impl Abort, alloc: Global, builder: Plan, plan: &Plan, n: u8, seed: u64) {
+// The trace of this seed, replayed, and the finished heap.
+fn replay_drawn(rt: &impl Abort, alloc: Global, plan: &Plan, n: u8, seed: u64) {
     let drawn = drawn(rt, alloc, n, seed);
     let case = case_of(&drawn, n);
     let blank = Blank::new(u64::from(case.mutators));
+    let builder = expect_plan(rt, two_live(alloc));
     let (run, finished) = replayed::<Brand>(rt, alloc, blank, case, builder, plan);
     expect_drawn(rt, alloc, &drawn, &run, &finished);
 }
 
 #[test]
-fn replays_as_plain_objects_do(rt: HostRuntime) {
-    let plan = expect_plan(&rt, two_live(rt.alloc()));
-    for seed in 0..SEEDS {
-        for n in 1..5u8 {
-            let builder = expect_plan(&rt, two_live(rt.alloc()));
-            replay_drawn(&rt, rt.alloc(), builder, &plan, n, seed);
+fn replays_as_plain_objects_do_and_races_to_one_history(rt: HostRuntime) {
+    let alloc = rt.alloc();
+    let plan = expect_plan(&rt, two_live(alloc));
+    for Draws(n, replays, races) in &DRAWS {
+        for seed in 0..*replays {
+            replay_drawn(&rt, alloc, &plan, *n, seed);
+        }
+        for seed in 0..*races {
+            race_drawn(&rt, alloc, &plan, *n, seed);
         }
     }
 }

@@ -1,5 +1,5 @@
 //! Replays: what lines show, write and refuse, one after the other. Each row is a text that is replayed on the three objects, and the finished heap.
-use crate::expected::{expect_plan, expect_so};
+use crate::expected::{expect_so, plan_of};
 use crate::flipped::Case;
 use crate::ran::replayed;
 use comp_access::refusal::Refusal;
@@ -8,13 +8,13 @@ use comp_mutator::finishing::Finished;
 use comp_trace::replay::Stopped;
 use heap_layout::kind::Kind;
 use page_plan::plan::Plan;
-use std::alloc::{AllocError, Global};
+use std::alloc::Global;
 use std::marker::Brand;
 use std::process::Abort;
 use std::sync::ledger::Blank;
 use trace_steps::shown::Shown;
 use trace_text::fault::TraceFault;
-use worked_heaps::heaps::{planned, three};
+use worked_heaps::heaps::three;
 
 // A text, and what is to come of it.
 struct Row {
@@ -28,7 +28,7 @@ struct Row {
     entries: &'static [(usize, Entry)],
 }
 
-const ROWS: &[Row] = &[
+static ROWS: [Row; 10] = [
     Row {
         case: Case {
             name: "shows what another mutator wrote, and leaves it to the words that slid",
@@ -203,7 +203,7 @@ pub fn expect_replay(
         Ok(all) => all.as_slice() == shown && fault.is_none(),
         Err(stopped) => stopped.shown.as_slice() == shown && fault == Some(stopped.fault),
     };
-    expect_so(rt, name, same, run);
+    expect_so(rt, name, same, 0);
 }
 
 // This page has just this entry.
@@ -220,27 +220,17 @@ fn expect_finished(rt: &impl Abort, row: &Row, finished: &Finished) {
     for (p, wanted) in row.entries {
         same = same && has_entry(finished, *p, *wanted);
     }
-    expect_so(rt, row.case.name, same, &finished.pages());
+    expect_so(rt, row.case.name, same, finished.live_words());
 }
 
-// The text of a row.
-fn text_of(alloc: Global, row: &Row) -> Result<Vec<u8>, AllocError> {
-    let mut text = row.case.text.to_vec(alloc)?;
-    push_puts(&mut text, row.puts)?;
-    Ok(text)
-}
-
-// So many writes.
-fn push_puts(text: &mut Vec<u8>, count: usize) -> Result<(), AllocError> {
-    for _ in 0..count {
-        text.extend_from_slice(b"0 put 1 0 7\n")?;
+// The text of a row is replayed on the three objects, and the heap finished.
+fn replay_row(rt: &impl Abort, alloc: Global, plan: &Plan, row: &Row) {
+    let mut text = row.case.text.to_vec(alloc).expect(rt, row.case.name);
+    for _ in 0..row.puts {
+        text.extend_from_slice(b"0 put 1 0 7\n")
+            .expect(rt, row.case.name);
     }
-    Ok(())
-}
-
-// The text of a row is replayed on the heap of this builder, and the heap finished.
-fn replay_row(rt: &impl Abort, alloc: Global, builder: Plan, plan: &Plan, row: &Row) {
-    let text = text_of(alloc, row).expect(rt, row.case.name);
+    let builder = plan_of(rt, alloc, three(alloc));
     let case = Case {
         text: &text,
         ..row.case
@@ -251,19 +241,11 @@ fn replay_row(rt: &impl Abort, alloc: Global, builder: Plan, plan: &Plan, row: &
     expect_finished(rt, row, &finished);
 }
 
-/// The plan of the three objects.
-pub fn plan_of_three(rt: &impl Abort, alloc: Global) -> Plan {
-    match three(alloc) {
-        Ok(heap) => expect_plan(rt, planned(alloc, heap)),
-        Err(_fail) => panic!(rt; "no heap"),
-    }
-}
-
 #[test]
 fn replays_on_three(rt: HostRuntime) {
     let alloc = rt.alloc();
-    let plan = plan_of_three(&rt, alloc);
-    for row in ROWS {
-        replay_row(&rt, alloc, plan_of_three(&rt, alloc), &plan, row);
+    let plan = plan_of(&rt, alloc, three(alloc));
+    for row in &ROWS {
+        replay_row(&rt, alloc, &plan, row);
     }
 }
