@@ -1,6 +1,6 @@
 //! Audits by the program.
 use std::test::Fail;
-use worked_commands::runs::take_steps;
+use worked_commands::runs::take_each;
 use worked_files::images::THREE_IMAGE;
 use worked_files::parts::Part;
 use worked_files::steps::Step;
@@ -22,11 +22,6 @@ const PASSED: [Step; 9] = [
     Step::Remove("left.tests.trace"),
     Step::Remove("left.tests.out"),
 ];
-
-#[test]
-fn passes_what_the_program_dumps(rt: HostRuntime) -> Result<(), Fail> {
-    take_steps(&rt, &PASSED)
-}
 
 // The dump behind the run that makes a new object, whose header is stamped after the reference to it.
 const LATE_DUMP: [Part; 19] = [
@@ -83,6 +78,6 @@ const JUDGED: [Step; 12] = [
 ];
 
 #[test]
-fn tells_why_a_dump_does_not_pass(rt: HostRuntime) -> Result<(), Fail> {
-    take_steps(&rt, &JUDGED)
+fn passes_what_it_dumps_and_tells_why_a_dump_does_not_pass(rt: HostRuntime) -> Result<(), Fail> {
+    take_each(&rt, &[&PASSED, &JUDGED])
 }

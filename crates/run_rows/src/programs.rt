@@ -1,6 +1,6 @@
 //! Runs of the program: what it prints, and its status.
 use std::test::Fail;
-use worked_commands::runs::take_steps;
+use worked_commands::runs::take_each;
 use worked_files::images::{EMPTY_IMAGE, THREE_IMAGE, THREE_OBJECTS, TWENTY_IMAGE};
 use worked_files::parts::Part;
 use worked_files::steps::Step;
@@ -19,11 +19,6 @@ const PRINTED: [Step; 8] = [
     ),
     Step::Remove("three.tests.img"),
 ];
-
-#[test]
-fn prints_words_and_plans(rt: HostRuntime) -> Result<(), Fail> {
-    take_steps(&rt, &PRINTED)
-}
 
 // The image of the three objects, with a root that leads to none of them.
 const BAD_ROOT_IMAGE: [Part; 5] = [
@@ -54,11 +49,6 @@ const REFUSED: [Step; 16] = [
     Step::RemoveFolder("folder.tests"),
 ];
 
-#[test]
-fn tells_one_line_of_a_refusal(rt: HostRuntime) -> Result<(), Fail> {
-    take_steps(&rt, &REFUSED)
-}
-
 // Words that are no command.
 const MISUSED: [Step; 15] = [
     Step::Misuses("word three.img x"),
@@ -78,11 +68,6 @@ const MISUSED: [Step; 15] = [
     Step::Misuses(""),
 ];
 
-#[test]
-fn tells_of_wrong_words_on_standard_error(rt: HostRuntime) -> Result<(), Fail> {
-    take_steps(&rt, &MISUSED)
-}
-
 // Words that ask for help.
 const HELPED: [Step; 7] = [
     Step::Helps("--help"),
@@ -94,11 +79,6 @@ const HELPED: [Step; 7] = [
     Step::Helps("plan --help"),
 ];
 
-#[test]
-fn prints_help_on_standard_output(rt: HostRuntime) -> Result<(), Fail> {
-    take_steps(&rt, &HELPED)
-}
-
 // Words that ask for the version.
 const VERSIONS: [Step; 4] = [
     Step::Prints("--version", "compressor 0.1.0\n"),
@@ -106,11 +86,6 @@ const VERSIONS: [Step; 4] = [
     Step::Prints("-Vx", "compressor 0.1.0\n"),
     Step::Prints("--version word", "compressor 0.1.0\n"),
 ];
-
-#[test]
-fn prints_its_version(rt: HostRuntime) -> Result<(), Fail> {
-    take_steps(&rt, &VERSIONS)
-}
 
 // Small heaps that are compacted, the first one over a longer file; and a dump that cannot be created.
 const COMPACTED: [Step; 13] = [
@@ -135,11 +110,6 @@ const COMPACTED: [Step; 13] = [
     Step::Remove("one.tests.img"),
     Step::Remove("all.tests.out"),
 ];
-
-#[test]
-fn compacts_files(rt: HostRuntime) -> Result<(), Fail> {
-    take_steps(&rt, &COMPACTED)
-}
 
 // The twenty pages, compacted by some workers; and what is refused then.
 const SWEPT: [Step; 17] = [
@@ -179,7 +149,12 @@ const SWEPT: [Step; 17] = [
     Step::Remove("run.tests.out"),
 ];
 
+// Those tables: words and plans, one line of a refusal, wrong words, help, the version, files that are compacted, and compactions.
+const TABLES: [&[Step]; 7] = [
+    &PRINTED, &REFUSED, &MISUSED, &HELPED, &VERSIONS, &COMPACTED, &SWEPT,
+];
+
 #[test]
-fn runs_compactions(rt: HostRuntime) -> Result<(), Fail> {
-    take_steps(&rt, &SWEPT)
+fn does_what_its_words_ask(rt: HostRuntime) -> Result<(), Fail> {
+    take_each(&rt, &TABLES)
 }

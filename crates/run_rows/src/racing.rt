@@ -1,6 +1,6 @@
 //! Traces whose mutators race over heaps: the lines, the dump, and what refusals leave.
 use std::test::Fail;
-use worked_commands::runs::take_steps;
+use worked_commands::runs::take_each;
 use worked_files::images::THREE_IMAGE;
 use worked_files::parts::Part;
 use worked_files::steps::Step;
@@ -40,11 +40,6 @@ const RACED: [Step; 12] = [
     Step::Remove("race.tests.out"),
 ];
 
-#[test]
-fn races_traces(rt: HostRuntime) -> Result<(), Fail> {
-    take_steps(&rt, &RACED)
-}
-
 const HALTED: [Step; 6] = [
     Step::Write("stop.tests.img", &THREE_IMAGE),
     Step::Write("stop.tests.trace", &STOPPED),
@@ -63,6 +58,6 @@ const HALTED: [Step; 6] = [
 ];
 
 #[test]
-fn tells_the_least_refused_line_of_a_race(rt: HostRuntime) -> Result<(), Fail> {
-    take_steps(&rt, &HALTED)
+fn races_traces_and_tells_the_least_refused_line(rt: HostRuntime) -> Result<(), Fail> {
+    take_each(&rt, &[&RACED, &HALTED])
 }

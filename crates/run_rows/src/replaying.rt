@@ -1,6 +1,6 @@
 //! Traces that are run over heaps: the dump, the lines, and what a refusal leaves.
 use std::test::Fail;
-use worked_commands::runs::take_steps;
+use worked_commands::runs::take_each;
 use worked_files::images::{FRESH_DUMP, THREE_IMAGE};
 use worked_files::parts::Part;
 use worked_files::steps::Step;
@@ -41,11 +41,6 @@ const REPLAYED: [Step; 17] = [
     Step::Remove("rows.tests.trace"),
     Step::Remove("rows.tests.out"),
 ];
-
-#[test]
-fn replays_traces(rt: HostRuntime) -> Result<(), Fail> {
-    take_steps(&rt, &REPLAYED)
-}
 
 // Line 3 shows a value, and line 4 reads a field that is not there.
 const HALTED: Part = Part::Bytes(b"0 root 0 0\n0 load 1 0 0\n0 get 1 0\n0 get 1 9\n0 get 1 0\n");
@@ -88,11 +83,6 @@ const STOPPED: [Step; 26] = [
     Step::Remove("halt.tests.out"),
 ];
 
-#[test]
-fn tells_what_is_refused_of_a_trace(rt: HostRuntime) -> Result<(), Fail> {
-    take_steps(&rt, &STOPPED)
-}
-
 const WRONG_FILES: [Step; 10] = [
     Step::Write("file.tests.img", &THREE_IMAGE),
     Step::Write("file.tests.trace", &SEEN),
@@ -123,6 +113,6 @@ const WRONG_FILES: [Step; 10] = [
 ];
 
 #[test]
-fn tells_which_file_of_a_replay_is_wrong(rt: HostRuntime) -> Result<(), Fail> {
-    take_steps(&rt, &WRONG_FILES)
+fn replays_traces_and_tells_what_is_refused(rt: HostRuntime) -> Result<(), Fail> {
+    take_each(&rt, &[&REPLAYED, &STOPPED, &WRONG_FILES])
 }

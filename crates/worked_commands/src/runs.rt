@@ -52,3 +52,14 @@ pub fn take_steps<R: Files + AllocGlobal + Threads + Wait + Sync>(
     }
     Ok(())
 }
+
+/// Takes the steps of each of these tables.
+pub fn take_each<R: Files + AllocGlobal + Threads + Wait + Sync>(
+    rt: &R,
+    tables: &[&[Step]],
+) -> Result<(), Fail> {
+    for steps in tables {
+        take_steps(rt, steps)?;
+    }
+    Ok(())
+}
