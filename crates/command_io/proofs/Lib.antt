@@ -3,3 +3,4 @@ pub mod Written
 pub mod Outcomes
 pub mod Pieces
 pub mod Unread
+pub mod Imaged

@@ -1,7 +1,7 @@
 //! Heaps in memory that are compacted: the dump and the line; and those that are not.
 use command_io::refusal::{Input, Refusal};
 use comp_dump::fault::DumpFault;
-use heap_commands::compact::{Compaction, print_compact};
+use compact_command::compact::{Compaction, print_compact};
 use heap_image::counted::Counted;
 use heap_layout::fault::LayoutFault;
 use std::process::Abort;

@@ -8,7 +8,7 @@ use Rattle.comp_audit.specs.Judged.{faults, Judges}
 use Rattle.comp_audit.specs.declared.verdict.Verdict.TheVariants.{Yes}
 use Rattle.heap_commands.specs.Audits.{IsDumpIn, Passes, SomeAudit}
 use Rattle.command_io.specs.Images.{IsImageOf, SomeGiven}
-use Rattle.heap_commands.proofs.Compacted.{of_image}
+use Rattle.command_io.proofs.Imaged.{of_image}
 
 module _ {R : Type 0} (given told : R → Type 0) (remaining : R → Option (List ℕ)) where
   -- what holds of the heap and of the dump that were read holds of those of the files

@@ -6,7 +6,7 @@ ghost use Rattle.page_plan.specs.Sliding.{pages};
 ghost use Rattle.page_cells.specs.Cells.{steps_of, AreNew};
 ghost use Rattle.comp_history.specs.Finishes.{IsOfFlip};
 ghost use Rattle.comp_mutator.specs.Mutators.{cells_of, pass_of, setup_of, AreMutatorsOf};
-ghost use Rattle.heap_commands.specs.Compact.{Compacts, IsOfSweeping, IsSweptHeap, RefusesCompact, RefusesSweep};
+ghost use Rattle.compact_command.specs.Compact.{Compacts, IsOfSweeping, IsSweptHeap, RefusesCompact, RefusesSweep};
 ghost use Rattle.command_io.specs.Dumps.{RefusedUncreated};
 ghost use Rattle.command_io.specs.Images.{IsImageOf, SomeGiven, RefusesAt};
 ghost use Rattle.command_io.specs.Printing.{CountsPrint, CountsRead, RefusedUnprinted};
