@@ -1,6 +1,6 @@
 //! Audits by the program.
+use crate::runs::take_each;
 use std::test::Fail;
-use worked_commands::runs::take_each;
 use worked_files::images::THREE_IMAGE;
 use worked_files::parts::Part;
 use worked_files::steps::Step;

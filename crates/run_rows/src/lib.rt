@@ -13,3 +13,5 @@ mod programs;
 mod racing;
 #[cfg(test)]
 mod replaying;
+#[cfg(test)]
+mod runs;

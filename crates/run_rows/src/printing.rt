@@ -1,9 +1,9 @@
 //! Runs whose output takes only so much, by three bytes at a time.
+use crate::runs::{run_into, take_steps};
 use std::rt::Files;
 use std::sync::Wait;
 use std::test::Fail;
 use std::thread::Threads;
-use worked_commands::runs::{run_into, take_steps};
 use worked_files::images::THREE_IMAGE;
 use worked_files::runs::{Run, Text, expect_ran};
 use worked_files::steps::Step;

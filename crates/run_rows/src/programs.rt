@@ -1,6 +1,6 @@
 //! Runs of the program: what it prints, and its status.
+use crate::runs::take_each;
 use std::test::Fail;
-use worked_commands::runs::take_each;
 use worked_files::images::{EMPTY_IMAGE, THREE_IMAGE, THREE_OBJECTS, TWENTY_IMAGE};
 use worked_files::parts::Part;
 use worked_files::steps::Step;

@@ -1,6 +1,6 @@
 //! Traces whose mutators race over heaps: the lines, the dump, and what refusals leave.
+use crate::runs::take_each;
 use std::test::Fail;
-use worked_commands::runs::take_each;
 use worked_files::images::THREE_IMAGE;
 use worked_files::parts::Part;
 use worked_files::steps::Step;

@@ -1,6 +1,6 @@
 //! Traces that are run over heaps: the dump, the lines, and what a refusal leaves.
+use crate::runs::take_each;
 use std::test::Fail;
-use worked_commands::runs::take_each;
 use worked_files::images::{FRESH_DUMP, THREE_IMAGE};
 use worked_files::parts::Part;
 use worked_files::steps::Step;
