@@ -2,8 +2,7 @@
 use crate::expected::expect;
 use crate::played::play_case;
 use comp_regions::refusal::SweepFault;
-use std::alloc::Global;
-use std::process::Abort;
+use std::test::Fail;
 
 /// What goes on beside the sweep of a case.
 #[derive(Clone, Copy)]
@@ -122,15 +121,11 @@ const TEXTS: [(SweepFault, &str); 3] = [
     (SweepFault::Resources, "W3 Resources"),
 ];
 
-// The refusal is printed so.
-fn expect_text(rt: &impl Abort, alloc: Global, fault: SweepFault, text: &'static str) {
-    let printed = fault.to_string(alloc).expect(rt, "memory for a text");
-    expect(rt, text, "as it is printed", printed.as_str() == text);
-}
-
 #[test]
-fn prints_refusals_of_sweeps(rt: HostRuntime) {
+fn prints_refusals_of_sweeps(rt: HostRuntime) -> Result<(), Fail> {
     for (fault, text) in &TEXTS {
-        expect_text(&rt, rt.alloc(), *fault, text);
+        let printed = fault.to_string(rt.alloc())?;
+        expect(&rt, text, "as it is printed", printed.as_str() == *text);
     }
+    Ok(())
 }

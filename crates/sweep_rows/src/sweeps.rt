@@ -100,10 +100,12 @@ pub fn sweep_case<L: Named + Send, B: Builder, R: Abort + Threads + Wait + Sync>
     requires of { AreMutatorsOf space.now mutators.items }
     ensures of { AreMutatorsOf space.now result.items }
 {
-    if !matches!(case.beside, Beside::Refusal) {
-        return swept(rt, alloc, space, mutators, gate, case);
+    match case.beside {
+        Beside::Refusal => {
+            let cause = SweepFault::OutOfMemory(9);
+            let mutators = refused(rt, alloc, space, mutators, case, cause, 2);
+            swept(rt, alloc, space, mutators, gate, case)
+        }
+        _ => swept(rt, alloc, space, mutators, gate, case),
     }
-    let cause = SweepFault::OutOfMemory(9);
-    let mutators = refused(rt, alloc, space, mutators, case, cause, 2);
-    swept(rt, alloc, space, mutators, gate, case)
 }
