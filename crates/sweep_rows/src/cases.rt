@@ -1,98 +1,131 @@
-//! Sweeps by several workers, and the heaps that are finished then.
-ghost use Rattle.std.specs.Prelude.{◌≡◌};
-ghost use Rattle.comp_mutator.specs.Mutators.{AreMutatorsOf};
-
-use crate::expected::{expect_built_once, expect_count, expect_regions, expect_whole};
-use crate::flipped::{Heap, finish, flipped, not_swept, plan_of, swept};
-use comp_mutator::mutator::Mutator;
-use comp_mutator::space::Space;
+//! The cases, and the refusals as they are printed.
+use crate::expected::expect;
+use crate::played::play_case;
 use comp_regions::refusal::SweepFault;
-use comp_sweep::gate::{Gate, Open};
-use page_plan::builder::Builder;
-use std::alloc::Global;
-use std::marker::Brand;
-use std::process::Abort;
-use std::sync::Wait;
-use std::sync::ledger::{Blank, Ledger as Named};
 use std::test::Fail;
-use std::thread::Threads;
 
-/// A sweep of a heap by all of its mutators.
+/// What goes on beside the sweep of a case.
+#[derive(Clone, Copy)]
+pub enum Beside {
+    /// Nothing.
+    Nothing,
+    /// The gate counts how often each region is begun and ended.
+    Counts,
+    /// The gate lets each of the regions 0 and 1 begin only when the other one has begun.
+    Holds,
+    /// The last mutator is no worker, and reads in a thread of its own.
+    Reader,
+    /// A sweep before it finds no memory for page 9.
+    Refusal,
+}
+
+/// A sweep of a heap of equal objects, which is swept by no worker then, and finished.
 pub struct Case {
     /// What a failing test tells.
     pub name: &'static str,
-    pub heap: Heap,
-    pub workers: u32,
+    /// The data words of each object, which count from 1.
+    pub data_words: u16,
+    /// Where its objects begin, all of which are marked. They have no references.
+    pub marks: &'static [u32],
+    pub mutators: u32,
+    pub beside: Beside,
     /// The regions of each worker.
     pub regions: &'static [&'static [u64]],
-    pub pages: usize,
+    pub pages: u64,
     pub live_words: u64,
 }
 
-/// That is why the heap was not swept.
-pub fn expect_fault(rt: &impl Abort, found: SweepFault, wanted: SweepFault) {
-    assert_eq!(rt; found, wanted);
+static CASES: [Case; 7] = [
+    Case {
+        name: "three regions, two workers",
+        data_words: 639,
+        marks: &[0, 640],
+        mutators: 2,
+        beside: Beside::Nothing,
+        regions: &[&[0, 2], &[1]],
+        pages: 20,
+        live_words: 1_280,
+    },
+    Case {
+        name: "three regions, four workers",
+        data_words: 639,
+        marks: &[0, 640],
+        mutators: 4,
+        beside: Beside::Nothing,
+        regions: &[&[0], &[1], &[2], &[]],
+        pages: 20,
+        live_words: 1_280,
+    },
+    Case {
+        name: "no object at all, two workers",
+        data_words: 0,
+        marks: &[],
+        mutators: 2,
+        beside: Beside::Nothing,
+        regions: &[&[], &[]],
+        pages: 0,
+        live_words: 0,
+    },
+    Case {
+        name: "a gate that counts",
+        data_words: 639,
+        marks: &[0, 640],
+        mutators: 2,
+        beside: Beside::Counts,
+        regions: &[&[0, 2], &[1]],
+        pages: 20,
+        live_words: 1_280,
+    },
+    Case {
+        name: "two regions at once, one for each of two workers",
+        data_words: 1_023,
+        marks: &[0],
+        mutators: 2,
+        beside: Beside::Holds,
+        regions: &[&[0], &[1]],
+        pages: 16,
+        live_words: 1_024,
+    },
+    Case {
+        name: "beside a reader",
+        data_words: 639,
+        marks: &[0, 640],
+        mutators: 3,
+        beside: Beside::Reader,
+        regions: &[&[0, 2], &[1]],
+        pages: 20,
+        live_words: 1_280,
+    },
+    Case {
+        name: "after a refusal",
+        data_words: 639,
+        marks: &[0, 640],
+        mutators: 2,
+        beside: Beside::Refusal,
+        regions: &[&[0, 2], &[1]],
+        pages: 20,
+        live_words: 1_280,
+    },
+];
+
+#[test]
+fn sweeps_heaps(rt: HostRuntime) {
+    for case in &CASES {
+        play_case(&rt, rt.alloc(), case);
+    }
 }
 
-// A sweep without workers is refused.
-fn sweep_by_none<L: Named + Send, B: Builder, R: Abort + Threads + Wait + Sync>(
-    rt: &R,
-    alloc: Global,
-    space: &Space<L, B>,
-) {
-    let refused = not_swept(rt, alloc, space, Vec::new(alloc), &Open);
-    expect_fault(rt, refused.fault, SweepFault::NoWorkers);
-    expect_count(rt, "no workers", refused.mutators.len() as u64, 0);
-}
+const TEXTS: [(SweepFault, &str); 3] = [
+    (SweepFault::OutOfMemory(9), "W1 OutOfMemory(9)"),
+    (SweepFault::NoWorkers, "W2 NoWorkers"),
+    (SweepFault::Resources, "W3 Resources"),
+];
 
-// The workers sweep these regions and build each page, and are handed back.
-fn sweep_by_all<L: Named + Send, B: Builder, G: Gate, R: Abort + Threads + Wait + Sync>(
-    rt: &R,
-    alloc: Global,
-    space: &Space<L, B>,
-    mutators: Vec<Mutator<L>>,
-    gate: &G,
-    case: &Case,
-) -> Vec<Mutator<L>>
-    requires of { AreMutatorsOf space.now mutators.items }
-    ensures of { AreMutatorsOf space.now result.items }
-{
-    let report = swept(rt, alloc, space, mutators, gate);
-    expect_regions(rt, case.name, &report.regions, case.regions);
-    expect_built_once(rt, alloc, case.name, &report.mutators, case.pages);
-    report.mutators
-}
-
-/// A flipped heap is swept by all of its mutators, and by none, and finished.
-pub fn play<L: Named + Send, B: Builder, G: Gate, R: Abort + Threads + Wait + Sync>(
-    rt: &R,
-    alloc: Global,
-    blank: Blank,
-    builder: B,
-    gate: &G,
-    workers: u32,
-    case: &Case,
-)
-    requires name { blank.name ≡ L.name }
-    requires parts { blank.parts ≡ L.parts }
-    requires count { blank.parts ≡ workers }
-{
-    let (space, mutators) = flipped::<L, B>(rt, alloc, blank, builder, workers);
-    let mutators = sweep_by_all(rt, alloc, &space, mutators, gate, case);
-    sweep_by_none(rt, alloc, &space);
-    let finished = finish(rt, alloc, space, mutators);
-    expect_whole(rt, case.name, &finished, case.pages, case.live_words);
-}
-
-/// The case, with this gate.
-pub fn play_case<G: Gate, R: Abort + Threads + Wait + Sync>(
-    rt: &R,
-    alloc: Global,
-    gate: &G,
-    case: &Case,
-) -> Result<(), Fail> {
-    let plan = plan_of(alloc, case.heap)?;
-    let blank = Blank::new(u64::from(case.workers));
-    play::<Brand, _, G, R>(rt, alloc, blank, plan, gate, case.workers, case);
+#[test]
+fn prints_refusals_of_sweeps(rt: HostRuntime) -> Result<(), Fail> {
+    for (fault, text) in &TEXTS {
+        let printed = fault.to_string(rt.alloc())?;
+        expect(&rt, text, "as it is printed", printed.as_str() == *text);
+    }
     Ok(())
 }

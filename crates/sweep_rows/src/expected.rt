@@ -1,62 +1,77 @@
-//! What tests expect of builds, of lists of regions and of finished heaps.
+//! What cases expect of sweeps, of builds and of finished heaps.
+use crate::cases::Case;
 use comp_mutator::finishing::Finished;
 use comp_mutator::mutator::Mutator;
-use std::alloc::Global;
+use comp_regions::refusal::SweepFault;
+use comp_sweep::report::NotSwept;
 use std::process::Abort;
 use std::sync::ledger::Ledger as Named;
 
-/// There are so many.
-pub fn expect_count(rt: &impl Abort, case: &'static str, found: u64, wanted: u64) {
-    assert_eq!(rt; found, wanted, "{case}");
+/// It is so.
+pub fn expect(rt: &impl Abort, case: &'static str, what: &'static str, so: bool) {
+    assert!(rt; so, "{case}: {what}");
 }
 
-// Sets the mark of each of these pages, which is there and not set.
-fn mark_builds(rt: &impl Abort, case: &'static str, marks: &mut [bool], builds: &[u64]) {
-    for p in builds {
-        let free = marks.get(*p as usize) == Some(&false);
-        assert!(rt; free, "{case}: page {p}, twice or too large");
-        if let Some(mark) = marks.get_mut(*p as usize) {
-            *mark = true;
+// One of these mutators built the page.
+fn is_built<L: Named>(mutators: &[Mutator<L>], p: u64) -> bool {
+    for m in mutators {
+        if m.builds().contains(&p) {
+            return true;
         }
     }
+    false
 }
 
-/// These mutators built the pages below `pages`, each once.
-pub fn expect_built_once<L: Named>(
-    rt: &impl Abort,
-    alloc: Global,
-    case: &'static str,
-    mutators: &[Mutator<L>],
-    pages: usize,
-) {
-    let Ok(mut marks) = vec![in alloc; false; pages] else {
-        panic!(rt; "memory for marks");
-    };
+// How many pages these mutators built.
+fn count_builds<L: Named>(mutators: &[Mutator<L>]) -> u64 {
+    let mut builds = 0u64;
     for m in mutators {
-        mark_builds(rt, case, &mut marks, m.builds());
+        builds = builds.wrapping_add(m.builds().len() as u64);
     }
-    assert!(rt; !marks.contains(&false), "{case}: each page is built");
+    builds
 }
 
-/// The workers swept these regions.
-pub fn expect_regions(rt: &impl Abort, case: &'static str, lists: &[Vec<u64>], wanted: &[&[u64]]) {
-    expect_count(rt, case, lists.len() as u64, wanted.len() as u64);
-    for (list, wanted) in lists.iter().zip(wanted) {
-        assert_eq!(rt; list.as_slice(), *wanted, "{case}");
+/// These mutators built the pages of the case, each once: as many as these, and each of these.
+pub fn expect_built_once<L: Named>(rt: &impl Abort, case: &Case, mutators: &[Mutator<L>]) {
+    let as_many = count_builds(mutators) == case.pages;
+    expect(rt, case.name, "as many builds as pages", as_many);
+    for p in 0..case.pages {
+        expect(rt, case.name, "each page is built", is_built(mutators, p));
     }
 }
 
-/// All of so many pages are there, and all words.
-pub fn expect_whole(
+/// The workers swept the regions of the case.
+pub fn expect_regions(rt: &impl Abort, case: &Case, lists: &[Vec<u64>]) {
+    let as_many = lists.len() == case.regions.len();
+    expect(rt, case.name, "a list for each worker", as_many);
+    for (list, wanted) in lists.iter().zip(case.regions) {
+        let equal = list.as_slice() == *wanted;
+        expect(rt, case.name, "the regions of each", equal);
+    }
+}
+
+/// The sweep by so many workers is refused for this cause, they are there, and page 9 is not built.
+pub fn expect_refused<L: Named>(
     rt: &impl Abort,
-    case: &'static str,
-    finished: &Finished,
-    pages: usize,
-    live_words: u64,
+    case: &Case,
+    refused: &NotSwept<L>,
+    cause: SweepFault,
+    workers: usize,
 ) {
-    expect_count(rt, case, finished.pages().len() as u64, pages as u64);
-    for page in finished.pages() {
-        assert!(rt; page.is_some(), "{case}: each page is there");
+    let mutators = refused.mutators.as_slice();
+    let as_many = mutators.len() == workers;
+    expect(rt, case.name, "why it is refused", refused.fault == cause);
+    expect(rt, case.name, "its workers are there", as_many);
+    expect(rt, case.name, "page 9 is not built", !is_built(mutators, 9));
+}
+
+/// All pages of the case are there, and all words.
+pub fn expect_whole(rt: &impl Abort, case: &Case, finished: &Finished) {
+    let pages = finished.pages();
+    expect(rt, case.name, "all pages", pages.len() as u64 == case.pages);
+    let words = finished.live_words();
+    expect(rt, case.name, "all words", words == case.live_words);
+    for page in pages {
+        expect(rt, case.name, "each page is there", page.is_some());
     }
-    expect_count(rt, case, finished.live_words(), live_words);
 }

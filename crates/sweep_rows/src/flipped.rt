@@ -1,51 +1,33 @@
-//! Flipped heaps, their sweeps, and their mutators taken apart.
+//! Flipped heaps, and their mutators taken apart.
 ghost use Rattle.std.specs.Prelude.{◌≡◌};
 ghost use Rattle.comp_mutator.specs.Mutators.{setup_of, AreMutatorsOf, IsMutatorOf};
 
+use crate::cases::Case;
 use comp_mutator::finishing::Finished;
 use comp_mutator::flipping::flip;
 use comp_mutator::mutator::Mutator;
 use comp_mutator::space::Space;
-use comp_sweep::gate::Gate;
-use comp_sweep::report::{NotSwept, SweepReport};
-use comp_sweep::sweeping::sweep;
-use heap_layout::heap::MarkedHeap;
 use page_plan::builder::Builder;
 use page_plan::plan::Plan;
 use std::alloc::Global;
 use std::process::Abort;
+use std::sync::Arc;
 use std::sync::ledger::{Blank, Ledger as Named};
-use std::sync::{Arc, Wait};
-use std::test::Fail;
-use std::thread::Threads;
-use worked_heaps::heaps::{counting_heap, counting_object, empty, heap, planned};
+use worked_heaps::heaps::{counting_object, judged};
 
-/// The heap of a case.
-#[derive(Clone, Copy)]
-pub enum Heap {
-    /// No object at all.
-    Empty,
-    /// An object without references and with as many data words, which count from 1.
-    Counting(u16),
-    /// Two objects of 640 words, both marked, whose data words count from 1: 20 pages, 3 regions.
-    TwentyPages,
+// As many equal objects, one behind the other. They have no references, and so many data words, which count from 1.
+fn equal_objects(rt: &impl Abort, alloc: Global, data_words: u16, objects: usize) -> Vec<u64> {
+    let object = counting_object(alloc, data_words).expect(rt, "memory for an object");
+    object
+        .repeat(alloc, objects)
+        .expect(rt, "memory for a heap")
 }
 
-// Two objects of 640 words.
-fn twenty_pages(alloc: Global) -> Result<MarkedHeap, Fail> {
-    let mut words = counting_object(alloc, 639)?;
-    words.extend_from_slice(&counting_object(alloc, 639)?)?;
-    heap(alloc, &words, &[0, 640], &[])
-}
-
-/// The plan of this heap.
-pub fn plan_of(alloc: Global, heap: Heap) -> Result<Plan, Fail> {
-    let heap = match heap {
-        Heap::Empty => empty(alloc)?,
-        Heap::Counting(data_words) => counting_heap(alloc, data_words)?,
-        Heap::TwentyPages => twenty_pages(alloc)?,
-    };
-    planned(alloc, heap)
+/// The plan of the heap of the case.
+pub fn plan_of(rt: &impl Abort, alloc: Global, case: &Case) -> Plan {
+    let words = equal_objects(rt, alloc, case.data_words, case.marks.len());
+    let judged = judged(alloc, &words, case.marks, &[]).expect(rt, "memory for a heap");
+    Plan::new(alloc, judged.expect(rt, "a heap")).expect(rt, "a plan")
 }
 
 /// A flipped heap and its mutators. There is no fresh page.
@@ -62,13 +44,8 @@ pub fn flipped<L: Named, B: Builder>(
     ensures of { AreMutatorsOf result.0 result.1.items }
     ensures whole { (setup_of result.0).mutators ≡ L.parts }
 {
-    let Ok(builder) = Arc::new(alloc, builder) else {
-        panic!(rt; "memory for the builder");
-    };
-    let Ok(flipped) = flip(alloc, blank, builder, mutators, 0) else {
-        panic!(rt; "a flipped heap");
-    };
-    flipped
+    let builder = Arc::new(alloc, builder).expect(rt, "memory for the builder");
+    flip(alloc, blank, builder, mutators, 0).expect(rt, "a flipped heap")
 }
 
 /// The last of these mutators, and the others.
@@ -85,40 +62,6 @@ pub fn without_last<L: Named, B: Builder>(
     (mutators, last)
 }
 
-/// A sweep that is not refused.
-pub fn swept<L: Named + Send, B: Builder, G: Gate, R: Abort + Threads + Wait + Sync>(
-    rt: &R,
-    alloc: Global,
-    space: &Space<L, B>,
-    mutators: Vec<Mutator<L>>,
-    gate: &G,
-) -> SweepReport<L>
-    requires of { AreMutatorsOf space.now mutators.items }
-    ensures of { AreMutatorsOf space.now result.mutators.items }
-{
-    let Ok(report) = sweep(alloc, rt, space, mutators, gate) else {
-        panic!(rt; "there is memory");
-    };
-    report
-}
-
-/// A sweep that is refused.
-pub fn not_swept<L: Named + Send, B: Builder, G: Gate, R: Abort + Threads + Wait + Sync>(
-    rt: &R,
-    alloc: Global,
-    space: &Space<L, B>,
-    mutators: Vec<Mutator<L>>,
-    gate: &G,
-) -> NotSwept<L>
-    requires of { AreMutatorsOf space.now mutators.items }
-    ensures of { AreMutatorsOf space.now result.mutators.items }
-{
-    let Err(refused) = sweep(alloc, rt, space, mutators, gate) else {
-        panic!(rt; "the sweep is refused");
-    };
-    refused
-}
-
 /// The finished heap, where no mutator is missing.
 pub fn finish<L: Named, B: Builder>(
     rt: &impl Abort,
@@ -129,8 +72,8 @@ pub fn finish<L: Named, B: Builder>(
     requires of { AreMutatorsOf space mutators.items }
     requires whole { (setup_of space).mutators ≡ L.parts }
 {
-    let Ok(finished) = space.finish(alloc, mutators) else {
-        panic!(rt; "no mutator is missing");
-    };
-    finished
+    match space.finish(alloc, mutators) {
+        Ok(finished) => finished,
+        Err(_) => panic!(rt; "no mutator is missing"),
+    }
 }

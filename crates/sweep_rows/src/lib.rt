@@ -9,10 +9,8 @@ mod expected;
 #[cfg(test)]
 mod flipped;
 #[cfg(test)]
-mod gates;
+mod played;
 #[cfg(test)]
-mod lists;
+mod sweeps;
 #[cfg(test)]
-mod others;
-#[cfg(test)]
-mod refusals;
+mod watched;

@@ -1,4 +1,4 @@
-use Rattle.sweep_rows.proofs.cases.play_case.Given as goal
+use Rattle.sweep_rows.proofs.played.play_built.Given as goal
 
 abbrev pub ghosts-play : goal.ghosts-play
 ghosts-play g a = record { name = a.blank.name; parts = a.blank.parts }
