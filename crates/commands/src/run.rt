@@ -118,11 +118,34 @@ pub fn perform<R: Threads + Wait + Sync, I: Images, T: Traces, D: Dumps, O: Writ
     ensures same_writer { writer_of out.new ≡ writer_of out.old }
     ensures unprinted { StopsUnprinted (O.contents (inner_of out.old).now) (O.contents (inner_of out.new).now) result }
 {
+    print_task(alloc, rt, images, traces, dumps, task, out)?;
+    flush(out)
+}
+
+// Does a task, but for a flush of the output behind it.
+fn print_task<R: Threads + Wait + Sync, I: Images, T: Traces, D: Dumps, O: Write>(
+    alloc: Global,
+    rt: &R,
+    images: &I,
+    traces: &T,
+    dumps: &mut D,
+    task: Task,
+    out: &mut Counted<&mut O>,
+) -> Result<(), Refusal>
+    requires written { failures_of out.old < 2 ^ 64 - 1 }
+    requires counts { HasLawfulCounts task }
+    ensures done { OnOk result (DoesTask (I.gives images.now) I.Reader.remaining (T.gives traces.now) T.Reader.remaining (D.gives dumps.old) D.Writer.contents (O.contents (inner_of out.old).now) (O.contents (inner_of out.new).now) task.entry) }
+    ensures cause { IfErr result (RefusesTask (I.lacks images.now) (I.gives images.now) I.Reader.remaining (T.lacks traces.now) (T.gives traces.now) T.Reader.remaining
+        (D.lacks dumps.old) (D.gives dumps.old) D.Writer.contents (O.contents (inner_of out.old).now) (O.contents (inner_of out.new).now) task.entry) }
+    ensures counts { CountsPrint (failures_of out.old) (failures_of out.new) result }
+    ensures same_writer { writer_of out.new ≡ writer_of out.old }
+    ensures unprinted { StopsUnprinted (O.contents (inner_of out.old).now) (O.contents (inner_of out.new).now) result }
+{
     match task {
-        Task::Plan { image } => print_plan(alloc, images, image, out)?,
-        Task::Word { image, index } => print_word(alloc, images, image, index, out)?,
-        Task::Replay(run) => print_replay(alloc, images, traces, dumps, run, out)?,
-        Task::Race(run) => print_race(alloc, rt, images, traces, dumps, run, out)?,
+        Task::Plan { image } => print_plan(alloc, images, image, out),
+        Task::Word { image, index } => print_word(alloc, images, image, index, out),
+        Task::Replay(run) => print_replay(alloc, images, traces, dumps, run, out),
+        Task::Race(run) => print_race(alloc, rt, images, traces, dumps, run, out),
         Task::Compact {
             image,
             dump,
@@ -138,12 +161,11 @@ pub fn perform<R: Threads + Wait + Sync, I: Images, T: Traces, D: Dumps, O: Writ
                 workers,
             },
             out,
-        )?,
-        Task::Audit { image, dump } => print_audit(alloc, images, image, dump, out)?,
-        Task::Help { text } => print_help(&text, out)?,
-        Task::Version => print_text(VERSION_LINE, out)?,
+        ),
+        Task::Audit { image, dump } => print_audit(alloc, images, image, dump, out),
+        Task::Help { text } => print_help(&text, out),
+        Task::Version => print_text(VERSION_LINE, out),
     }
-    flush(out)
 }
 
 // The status of a task; a refusal is told. There is nowhere left to tell that telling failed.
