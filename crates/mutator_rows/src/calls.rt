@@ -12,16 +12,21 @@ use std::process::Abort;
 use std::sync::Wait;
 use std::sync::ledger::Ledger as Named;
 
-/// The answer of a call that does not wait: a word, an entry's stamp, or an address.
-pub fn answer<L: Named, B: Builder>(
+/// The answer of a call: a word, an entry's stamp, or an address. A call that waits does so while its page is busy.
+pub fn answer<L: Named, B: Builder, R: Wait>(
+    rt: &R,
     alloc: Global,
     space: &Space<L, B>,
     m: &mut Mutator<L>,
     call: Call,
+    waits: bool,
 ) -> Result<u64, Refusal>
     requires of { IsMutatorOf space.now m.old }
     ensures of { IsMutatorOf space.now m.new }
 {
+    if waits {
+        return answer_at_last(rt, alloc, space, m, call);
+    }
     match call {
         Call::ReadRef { object, field } => space.try_read_ref(alloc, m, object, field),
         Call::ReadData { object, field } => space.try_read_data(alloc, m, object, field),
@@ -43,8 +48,8 @@ pub fn answer<L: Named, B: Builder>(
     }
 }
 
-/// The answer of a call that waits while its page is busy.
-pub fn answer_at_last<L: Named, B: Builder, R: Wait>(
+// The answer of a call that waits while its page is busy.
+fn answer_at_last<L: Named, B: Builder, R: Wait>(
     rt: &R,
     alloc: Global,
     space: &Space<L, B>,
@@ -75,34 +80,24 @@ pub fn answer_at_last<L: Named, B: Builder, R: Wait>(
     }
 }
 
-/// Touches page `p`, which is there.
-pub fn touch<L: Named, B: Builder>(
-    rt: &impl Abort,
-    alloc: Global,
-    space: &Space<L, B>,
-    m: &mut Mutator<L>,
-    p: u64,
-) -> Result<Touched, Refusal>
-    requires of { IsMutatorOf space.now m.old }
-    ensures of { IsMutatorOf space.now m.new }
-{
-    assert!(rt; p < space.pages());
-    space.try_touch(alloc, m, p)
-}
-
-/// Touches page `p`, which is there, and waits while it is busy.
-pub fn touch_at_last<L: Named, B: Builder, R: Abort + Wait>(
+/// Touches page `p`, which is there. A touch that waits does so while the page is busy.
+pub fn touch<L: Named, B: Builder, R: Abort + Wait>(
     rt: &R,
     alloc: Global,
     space: &Space<L, B>,
     m: &mut Mutator<L>,
     p: u64,
+    waits: bool,
 ) -> Result<Touched, Refusal>
     requires of { IsMutatorOf space.now m.old }
     ensures of { IsMutatorOf space.now m.new }
 {
     assert!(rt; p < space.pages());
-    space.touch(alloc, rt, m, p)
+    if waits {
+        space.touch(alloc, rt, m, p)
+    } else {
+        space.try_touch(alloc, m, p)
+    }
 }
 
 /// A copy of page `p`, which is there.
@@ -118,7 +113,7 @@ pub fn copy<L: Named, B: Builder>(
 {
     assert!(rt; p < space.pages());
     let Ok(page) = space.page_copy(alloc, m, p) else {
-        panic!(rt; "a copy of page {p}");
+        panic!(rt; "a copy of the page");
     };
     page
 }

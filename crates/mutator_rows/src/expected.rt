@@ -1,5 +1,5 @@
 //! What tests expect of answers, of numbers and of pages.
-use comp_access::pages::{PageCopy, Touched};
+use comp_access::pages::PageCopy;
 use comp_access::refusal::Refusal;
 use comp_journal::entry::Entry;
 use std::process::Abort;
@@ -33,20 +33,7 @@ pub fn expect_so(rt: &impl Abort, at: At, so: bool) {
 
 /// These are the numbers, in this order.
 pub fn expect_numbers(rt: &impl Abort, at: At, found: &[u64], wanted: &[u64]) {
-    expect_count(rt, at, found.len() as u64, wanted.len() as u64);
-    for (found, wanted) in found.iter().zip(wanted) {
-        expect_count(rt, at, *found, *wanted);
-    }
-}
-
-/// The touch of this row is answered so.
-pub fn expect_touched(
-    rt: &impl Abort,
-    at: At,
-    found: Result<Touched, Refusal>,
-    wanted: Result<Touched, Refusal>,
-) {
-    assert_eq!(rt; found, wanted, "{}, row {}", at.case, at.row);
+    expect_so(rt, at, found == wanted);
 }
 
 /// The page begins with these words, and all others are 0.
@@ -59,11 +46,5 @@ pub fn expect_words(rt: &impl Abort, at: At, page: &PageCopy, begin: &[u64]) {
 
 /// The page has these entries, in this order.
 pub fn expect_entries(rt: &impl Abort, at: At, page: &PageCopy, entries: &[Entry]) {
-    assert_eq!(rt;
-        page.journal.as_slice(),
-        entries,
-        "{}, row {}",
-        at.case,
-        at.row
-    );
+    expect_so(rt, at, page.journal.as_slice() == entries);
 }

@@ -1,15 +1,16 @@
 //! Reads and writes of fields, one call after another.
-use crate::alone::{Alone, BuiltBy};
+use crate::cases::{BuiltBy, Case};
 use crate::flipped::Heap;
 use crate::rows::Row;
 use comp_access::refusal::Refusal;
 use worked_heaps::heaps::{F, T};
 
 // An object of 65 words, whose last field stands on a page of its own.
-const ACROSS: Alone = Alone {
+const ACROSS: Case = Case {
     name: "reads fields across pages",
     heap: Heap::Counting(64),
     built_by: BuiltBy::Plan,
+    mutators: 1,
     fresh_pages: 0,
     rows: &[
         Row::Pages(2),
@@ -25,10 +26,11 @@ const ACROSS: Alone = Alone {
 };
 
 // A data word that looks like an address of from-space.
-const LIKE_AN_ADDRESS: Alone = Alone {
+const LIKE_AN_ADDRESS: Case = Case {
     name: "writes data like an address",
     heap: Heap::Three,
     built_by: BuiltBy::Plan,
+    mutators: 1,
     fresh_pages: 0,
     rows: &[
         Row::WriteData(T, 0, 4_294_967_296, Ok(0)),
@@ -47,10 +49,11 @@ const INNER: u64 = T + 1;
 const FRESH: u64 = T + 64;
 
 // Addresses at which no object starts, as the object and as the value. The page keeps its words.
-const NO_STARTS: Alone = Alone {
+const NO_STARTS: Case = Case {
     name: "refuses what is no start",
     heap: Heap::Three,
     built_by: BuiltBy::Plan,
+    mutators: 1,
     fresh_pages: 1,
     rows: &[
         Row::WriteRef(SECOND, 0, INNER, Err(Refusal::NotAStart(8_589_934_593))),
@@ -65,10 +68,11 @@ const NO_STARTS: Alone = Alone {
 };
 
 // As many writes as a journal takes, and one more. The last that it took is read.
-const FULL_JOURNAL: Alone = Alone {
+const FULL_JOURNAL: Case = Case {
     name: "fills a journal",
     heap: Heap::Three,
     built_by: BuiltBy::Plan,
+    mutators: 1,
     fresh_pages: 0,
     rows: &[
         Row::Rising(T, 0, 1024),
@@ -79,4 +83,4 @@ const FULL_JOURNAL: Alone = Alone {
 };
 
 /// Those cases.
-pub static CASES: [Alone; 4] = [ACROSS, LIKE_AN_ADDRESS, NO_STARTS, FULL_JOURNAL];
+pub static CASES: [Case; 4] = [ACROSS, LIKE_AN_ADDRESS, NO_STARTS, FULL_JOURNAL];

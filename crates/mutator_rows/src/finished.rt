@@ -1,10 +1,10 @@
 //! Settled and unsettled words, and a mutator that is missing.
 ghost use Rattle.std.specs.Prelude.{◌≡◌};
 
+use crate::cases::{BuiltBy, Case};
 use crate::endings::Ending;
-use crate::expected::{At, expect_count};
-use crate::flipped::{Heap, finish, plan_of, shared, two};
-use crate::pairs::{Pair, PairBuilder, Step};
+use crate::expected::{At, expect_count, expect_so};
+use crate::flipped::{Heap, finish, flipped, plan_of, shared};
 use crate::rows::Row;
 use comp_mutator::finishing::FinishFault;
 use page_plan::plan::Plan;
@@ -14,32 +14,25 @@ use std::process::Abort;
 use std::sync::ledger::{Blank, Ledger as Named};
 use std::test::Fail;
 
-// The heap was not finished, since mutator 1 is missing.
-fn expect_missing(rt: &impl Abort, found: FinishFault) {
-    assert!(rt; found == FinishFault::MutatorMissing(1), "{found}");
-}
-
 // No object at all: one of two mutators is handed in alone, and then both are.
 fn hand_in_one<L: Named>(rt: &impl Abort, alloc: Global, blank: Blank, plan: Plan)
     requires name { blank.name ≡ L.name }
     requires parts { blank.parts ≡ L.parts }
     requires count { blank.parts ≡ 2 }
 {
-    let (space, m0, m1) = two::<L, _>(rt, alloc, blank, shared(rt, alloc, plan), 0);
-    let Ok(one) = vec![in alloc; m0] else {
-        panic!(rt; "memory for a list");
-    };
-    let Err(left) = space.finish(alloc, one) else {
+    let (space, mut mutators) = flipped::<L, _>(rt, alloc, blank, shared(rt, alloc, plan), 2, 0);
+    let last = mutators.pop().expect(rt, "mutator 1");
+    let Err(left) = space.finish(alloc, mutators) else {
         panic!(rt; "mutator 1 is missing");
     };
-    expect_missing(rt, left.fault);
     let at = At {
         case: "hands back where one is missing",
         row: 0,
     };
+    let is_missing = left.fault == FinishFault::MutatorMissing(1);
+    expect_so(rt, at, is_missing && left.mutators.len() == 1);
     let mut both = left.mutators;
-    expect_count(rt, at, both.len() as u64, 1);
-    assert!(rt; both.push(m1).is_ok());
+    assert!(rt; both.push(last).is_ok());
     let finished = finish(rt, alloc, left.space, both);
     expect_count(rt, at, finished.live_words(), 0);
 }
@@ -66,30 +59,34 @@ const EIGHTEEN: Ending = Ending {
 };
 
 // Two mutators make objects of 3 and of 5 words, and the first one settles.
-const SETTLED: Pair = Pair {
+const SETTLED: Case = Case {
     name: "the first one settles",
     heap: Heap::Counting(9),
-    built_by: PairBuilder::Plan,
+    built_by: BuiltBy::Plan,
+    mutators: 2,
     fresh_pages: 2,
-    steps: &[
-        Step::First(&[THREE]),
-        Step::Second(&[FIVE]),
-        Step::First(&[Row::Unposted(3), Row::Settle, Row::Unposted(0)]),
+    rows: &[
+        THREE,
+        Row::By(1),
+        FIVE,
+        Row::By(0),
+        Row::Unposted(3),
+        Row::Settle,
+        Row::Unposted(0),
     ],
-    at_once: None,
-    ending: EIGHTEEN,
+    ending: Some(EIGHTEEN),
 };
 
 // They make the same objects, and none settles.
-const UNSETTLED: Pair = Pair {
+const UNSETTLED: Case = Case {
     name: "none settles",
     heap: Heap::Counting(9),
-    built_by: PairBuilder::Plan,
+    built_by: BuiltBy::Plan,
+    mutators: 2,
     fresh_pages: 2,
-    steps: &[Step::First(&[THREE]), Step::Second(&[FIVE])],
-    at_once: None,
-    ending: EIGHTEEN,
+    rows: &[THREE, Row::By(1), FIVE],
+    ending: Some(EIGHTEEN),
 };
 
 /// Those cases.
-pub static CASES: [Pair; 2] = [SETTLED, UNSETTLED];
+pub static CASES: [Case; 2] = [SETTLED, UNSETTLED];

@@ -1,11 +1,11 @@
 //! Mutators at work on worked heaps, alone, at random and in threads, to the end: what no contract says, with values from outside.
-//! Cases with one mutator (`Alone`) and with two (`Pair`) are tables; a failing row tells the name of its case.
+//! Cases are tables of rows; a failing row tells the name of its case.
 #![tactic(auto)]
 
 #[cfg(test)]
-mod alone;
-#[cfg(test)]
 mod calls;
+#[cfg(test)]
+mod cases;
 #[cfg(test)]
 mod endings;
 #[cfg(test)]
@@ -20,8 +20,6 @@ mod flipped;
 mod meetings;
 #[cfg(test)]
 mod objects;
-#[cfg(test)]
-mod pairs;
 #[cfg(test)]
 mod random_calls;
 #[cfg(test)]

@@ -1,18 +1,18 @@
 //! Objects that mutators make, and the heaps that they leave at the end.
-use crate::alone::{Alone, BuiltBy};
+use crate::cases::{BuiltBy, Case};
 use crate::endings::Ending;
 use crate::flipped::Heap;
-use crate::pairs::{Pair, PairBuilder, Step};
 use crate::rows::Row;
 use comp_access::refusal::Refusal;
 use comp_journal::entry::Entry;
 use heap_layout::kind::Kind;
 
 // Objects of one mutator, until its two fresh pages are full. Finished, 1 word slid, and 64 + 1 + 63 were made.
-const FULL_PAGES: Alone = Alone {
+const FULL_PAGES: Case = Case {
     name: "fills fresh pages",
     heap: Heap::Smallest,
     built_by: BuiltBy::Plan,
+    mutators: 1,
     fresh_pages: 2,
     rows: &[
         Row::Alloc(0, 63, 0, Ok(8_589_934_656)),
@@ -32,26 +32,6 @@ const FULL_PAGES: Alone = Alone {
         builds: &[&[1, 2]],
     }),
 };
-
-/// The cases with one mutator.
-pub static OF_ONE: [Alone; 1] = [FULL_PAGES];
-
-// A mutator makes an object with a reference to a slid one, whose reference then leads back.
-const LINKED: [Row; 3] = [
-    Row::Alloc(1, 0, 4, Ok(8_589_934_656)),
-    Row::WriteRef(8_589_934_656, 0, 8_589_934_594, Ok(1)),
-    Row::WriteRef(8_589_934_594, 0, 8_589_934_656, Ok(2)),
-];
-
-// Another one reads both references, clears the first and makes an object of its own.
-const CLEARED: [Row; 6] = [
-    Row::ReadRef(8_589_934_656, 0, Ok(8_589_934_594)),
-    Row::ReadRef(8_589_934_594, 0, Ok(8_589_934_656)),
-    Row::WriteRef(8_589_934_656, 0, 0, Ok(3)),
-    Row::Alloc(0, 0, 0, Ok(8_589_934_720)),
-    Row::Builds(&[2]),
-    Row::Unposted(1),
-];
 
 // The entries of page 1 after those calls: the header, and two writes of its reference.
 const ENTRIES: [Entry; 3] = [
@@ -78,33 +58,38 @@ const ENTRIES: [Entry; 3] = [
     },
 ];
 
-// That page, and what the first one has built then, and not posted.
-const LEFT: [Row; 3] = [
-    Row::Page(1, &[17_179_869_185], &ENTRIES),
-    Row::Builds(&[1, 0]),
-    Row::Unposted(2),
-];
-
-// The eight calls by which two mutators make two objects and write references. Finished, 4 words slid, and 2 and 1 were made.
-const LINKED_AND_CLEARED: Pair = Pair {
+// The eight calls by which two mutators make two objects and write references. The first one makes an object with a reference to a slid one, whose reference
+// then leads back. The other one reads both references, clears the first and makes an object of its own. Finished, 4 words slid, and 2 and 1 were made.
+const LINKED_AND_CLEARED: Case = Case {
     name: "writes and allocates",
     heap: Heap::Three,
-    built_by: PairBuilder::Plan,
+    built_by: BuiltBy::Plan,
+    mutators: 2,
     fresh_pages: 2,
-    steps: &[
-        Step::First(&LINKED),
-        Step::Second(&CLEARED),
-        Step::First(&LEFT),
+    rows: &[
+        Row::Alloc(1, 0, 4, Ok(8_589_934_656)),
+        Row::WriteRef(8_589_934_656, 0, 8_589_934_594, Ok(1)),
+        Row::WriteRef(8_589_934_594, 0, 8_589_934_656, Ok(2)),
+        Row::By(1),
+        Row::ReadRef(8_589_934_656, 0, Ok(8_589_934_594)),
+        Row::ReadRef(8_589_934_594, 0, Ok(8_589_934_656)),
+        Row::WriteRef(8_589_934_656, 0, 0, Ok(3)),
+        Row::Alloc(0, 0, 0, Ok(8_589_934_720)),
+        Row::Builds(&[2]),
+        Row::Unposted(1),
+        Row::By(0),
+        Row::Page(1, &[17_179_869_185], &ENTRIES),
+        Row::Builds(&[1, 0]),
+        Row::Unposted(2),
     ],
-    at_once: None,
-    ending: Ending {
+    ending: Some(Ending {
         live_words: 7,
         roots: &[8_589_934_594],
         pages: &[true, true, true],
         entries: 5,
         builds: &[&[1, 0], &[2]],
-    },
+    }),
 };
 
-/// The cases with two mutators.
-pub static OF_TWO: [Pair; 1] = [LINKED_AND_CLEARED];
+/// Those cases.
+pub static CASES: [Case; 2] = [FULL_PAGES, LINKED_AND_CLEARED];

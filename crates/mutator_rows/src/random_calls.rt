@@ -1,11 +1,11 @@
 //! Random calls in one thread, against objects kept plainly.
 ghost use Rattle.std.specs.Prelude.{◌≡◌};
-ghost use Rattle.comp_mutator.specs.Mutators.{IsMutatorOf};
+ghost use Rattle.comp_mutator.specs.Mutators.{AreMutatorsOf};
 
 use crate::calls::answer;
 use crate::endings::expect_all_stamps;
 use crate::expected::{At, expect_answer, expect_count};
-use crate::flipped::{finish_three, finish_two, shared, trio, two};
+use crate::flipped::{finish, flipped, shared};
 use comp_mutator::finishing::Finished;
 use comp_mutator::mutator::Mutator;
 use comp_mutator::space::Space;
@@ -18,38 +18,53 @@ use plain_objects::two_live::{opening, two_live};
 use std::alloc::Global;
 use std::marker::Brand;
 use std::process::Abort;
+use std::sync::Wait;
 use std::sync::ledger::{Blank, Ledger as Named};
 use std::test::Fail;
 use worked_heaps::heaps::T;
 
-const CASE: &str = "random calls";
+// Random calls of mutators, by turns.
+struct Calls {
+    name: &'static str,
+    mutators: u32,
+    calls: usize,
+    // The state of the random numbers before the first call.
+    state: u64,
+}
 
-// One random call, by the space and by the plain objects.
-fn play<L: Named, B: Builder>(
-    rt: &impl Abort,
+// One random call of the mutator of this number, by the space and by the plain objects.
+fn play<L: Named, B: Builder, R: Abort + Wait>(
+    rt: &R,
     alloc: Global,
     space: &Space<L, B>,
-    m: &mut Mutator<L>,
+    mutators: &mut Vec<Mutator<L>>,
+    number: usize,
     objects: &mut Objects,
     random: &mut Random,
+    name: &'static str,
 )
-    requires of { IsMutatorOf space.now m.old }
-    ensures of { IsMutatorOf space.now m.new }
+    requires of { AreMutatorsOf space.now mutators.old.items }
+    ensures of { AreMutatorsOf space.now mutators.new.items }
 {
     let call = random.call(objects);
-    let row = objects.written.len();
+    let at = At {
+        case: name,
+        row: objects.written.len(),
+    };
+    assert!(rt; number < mutators.len());
+    let m = &mut mutators[number];
     let Ok(wanted) = objects.answer(alloc, m.number(), call) else {
         panic!(rt; "memory for plain objects");
     };
-    let found = answer(alloc, space, m, call);
-    expect_answer(rt, At { case: CASE, row }, found, wanted);
+    let found = answer(rt, alloc, space, m, call, false);
+    expect_answer(rt, at, found, wanted);
 }
 
 // The word at an address, on a page that is there.
 fn word_at(rt: &impl Abort, finished: &Finished, address: u64) -> u64 {
     let place = address.wrapping_sub(T);
     let Some(Some(page)) = finished.pages().get((place / 64) as usize) else {
-        panic!(rt; "the page of {address} is there");
+        panic!(rt; "the page is there");
     };
     page.words()[(place % 64) as usize]
 }
@@ -100,106 +115,84 @@ fn expect_objects(rt: &impl Abort, alloc: Global, finished: &Finished, objects: 
     expect_all_stamps(rt, alloc, at, finished, objects.written.len());
 }
 
-// Six hundred calls of each of two mutators, by turns.
-fn play_rounds_of_two<L: Named, B: Builder>(
-    rt: &impl Abort,
+// All calls of the mutators, by turns.
+fn play_calls<L: Named, B: Builder, R: Abort + Wait>(
+    rt: &R,
     alloc: Global,
     space: &Space<L, B>,
-    m0: &mut Mutator<L>,
-    m1: &mut Mutator<L>,
+    mutators: &mut Vec<Mutator<L>>,
     objects: &mut Objects,
+    calls: &Calls,
 )
-    requires first { IsMutatorOf space.now m0.old }
-    requires second { IsMutatorOf space.now m1.old }
-    ensures first { IsMutatorOf space.now m0.new }
-    ensures second { IsMutatorOf space.now m1.new }
+    requires of { AreMutatorsOf space.now mutators.old.items }
+    ensures of { AreMutatorsOf space.now mutators.new.items }
 {
-    let mut random = Random { state: 2006 };
-    for _ in 0..600 {
-        play(rt, alloc, space, m0, objects, &mut random);
-        play(rt, alloc, space, m1, objects, &mut random);
+    let mut random = Random { state: calls.state };
+    for call in 0..calls.calls {
+        let number = call.checked_rem(mutators.len()).unwrap_or(0);
+        play(
+            rt,
+            alloc,
+            space,
+            mutators,
+            number,
+            objects,
+            &mut random,
+            calls.name,
+        );
     }
 }
 
-// Two mutators, six hundred calls each, and then the finished heap.
-fn play_two<L: Named>(
-    rt: &impl Abort,
+// The calls, and then the finished heap.
+fn play_and_finish<L: Named, R: Abort + Wait>(
+    rt: &R,
     alloc: Global,
     blank: Blank,
     plan: Plan,
     objects: &mut Objects,
+    calls: &Calls,
 )
     requires name { blank.name ≡ L.name }
     requires parts { blank.parts ≡ L.parts }
-    requires count { blank.parts ≡ 2 }
+    requires count { blank.parts ≡ calls.now.mutators }
 {
-    let (space, mut m0, mut m1) = two::<L, _>(rt, alloc, blank, shared(rt, alloc, plan), 6);
-    play_rounds_of_two(rt, alloc, &space, &mut m0, &mut m1, objects);
-    let finished = finish_two(rt, alloc, space, m0, m1);
+    let builder = shared(rt, alloc, plan);
+    let (space, mut mutators) = flipped::<L, _>(rt, alloc, blank, builder, calls.mutators, 6);
+    play_calls(rt, alloc, &space, &mut mutators, objects, calls);
+    let finished = finish(rt, alloc, space, mutators);
     expect_objects(rt, alloc, &finished, objects);
 }
+
+// Six hundred calls of each of two mutators, and 334 of each of three.
+static CALLS: [Calls; 2] = [
+    Calls {
+        name: "random calls of two",
+        mutators: 2,
+        calls: 2 * 600,
+        state: 2006,
+    },
+    Calls {
+        name: "random calls of three",
+        mutators: 3,
+        calls: 3 * 334,
+        state: 1978,
+    },
+];
 
 #[test]
 fn agrees_with_plain_objects(rt: HostRuntime) -> Result<(), Fail> {
     let alloc = rt.alloc();
-    let mut objects = opening(alloc, 2)?;
-    play_two::<Brand>(&rt, alloc, Blank::new(2), two_live(alloc)?, &mut objects);
-    Ok(())
-}
-
-// 334 calls of each of three mutators, by turns.
-fn play_rounds_of_three<L: Named, B: Builder>(
-    rt: &impl Abort,
-    alloc: Global,
-    space: &Space<L, B>,
-    m0: &mut Mutator<L>,
-    m1: &mut Mutator<L>,
-    m2: &mut Mutator<L>,
-    objects: &mut Objects,
-)
-    requires first { IsMutatorOf space.now m0.old }
-    requires second { IsMutatorOf space.now m1.old }
-    requires third { IsMutatorOf space.now m2.old }
-    ensures first { IsMutatorOf space.now m0.new }
-    ensures second { IsMutatorOf space.now m1.new }
-    ensures third { IsMutatorOf space.now m2.new }
-{
-    let mut random = Random { state: 1978 };
-    for _ in 0..334 {
-        play(rt, alloc, space, m0, objects, &mut random);
-        play(rt, alloc, space, m1, objects, &mut random);
-        play(rt, alloc, space, m2, objects, &mut random);
+    for calls in &CALLS {
+        let mut objects = opening(alloc, calls.mutators as usize)?;
+        let blank = Blank::new(u64::from(calls.mutators));
+        play_and_finish::<Brand, HostRuntime>(
+            &rt,
+            alloc,
+            blank,
+            two_live(alloc)?,
+            &mut objects,
+            calls,
+        );
     }
-}
-
-// Three mutators, 334 calls each, and then the finished heap.
-fn play_three<L: Named>(
-    rt: &impl Abort,
-    alloc: Global,
-    blank: Blank,
-    plan: Plan,
-    objects: &mut Objects,
-)
-    requires name { blank.name ≡ L.name }
-    requires parts { blank.parts ≡ L.parts }
-    requires count { blank.parts ≡ 3 }
-{
-    let (space, mut m0, mut m1, mut m2) = trio::<L, _>(
-        rt,
-        alloc,
-        blank,
-        shared(rt, alloc, plan),
-        6,
-    );
-    play_rounds_of_three(rt, alloc, &space, &mut m0, &mut m1, &mut m2, objects);
-    let finished = finish_three(rt, alloc, space, m0, m1, m2);
-    expect_objects(rt, alloc, &finished, objects);
-}
-
-#[test]
-fn finishes_as_plain_objects_do(rt: HostRuntime) -> Result<(), Fail> {
-    let alloc = rt.alloc();
-    let mut objects = opening(alloc, 3)?;
-    play_three::<Brand>(&rt, alloc, Blank::new(3), two_live(alloc)?, &mut objects);
     Ok(())
 }

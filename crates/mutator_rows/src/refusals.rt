@@ -8,18 +8,13 @@ use std::alloc::Global;
 use std::fmt::Display;
 use std::process::Abort;
 
-// It was printed so.
-fn expect_text(rt: &impl Abort, found: &str, text: &str) {
-    assert_eq!(rt; found, text);
-}
-
 // Each of them is printed so.
 fn expect_texts<D: Display>(rt: &impl Abort, alloc: Global, rows: &[(D, &str)]) {
     for (printed, text) in rows {
         let Ok(found) = printed.to_string(alloc) else {
             panic!(rt; "memory for a text");
         };
-        expect_text(rt, found.as_str(), text);
+        assert!(rt; found.as_str() == *text, "{found}, and not {text}");
     }
 }
 

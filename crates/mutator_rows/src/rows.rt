@@ -1,9 +1,9 @@
 //! Rows of tests: what a mutator is asked for, one call after another, and what it answers.
 ghost use Rattle.comp_mutator.specs.Mutators.{IsMutatorOf};
 
-use crate::calls::{answer, answer_at_last, copy, touch, touch_at_last};
+use crate::calls::{answer, copy, touch};
 use crate::expected::{
-    At, expect_answer, expect_count, expect_entries, expect_numbers, expect_touched, expect_words,
+    At, expect_answer, expect_count, expect_entries, expect_numbers, expect_so, expect_words,
 };
 use crate::turns::expect_turns;
 use comp_access::pages::Touched;
@@ -17,9 +17,18 @@ use std::alloc::Global;
 use std::process::Abort;
 use std::sync::Wait;
 use std::sync::ledger::Ledger as Named;
+use worked_heaps::heaps::T;
 
 /// A row of a test. Of a call it has the arguments, and last the answer.
 pub enum Row {
+    /// The rows behind this one are those of the mutator of this number. The first rows are those of mutator 0.
+    By(usize),
+    /// The first of two mutators meets the second one.
+    Meet,
+    /// The second one meets the first one.
+    MeetBack,
+    /// The rows of two mutators, each in a thread of its own.
+    AtOnce(&'static [Row], &'static [Row]),
     /// A read of a reference field: the object and the field.
     ReadRef(u64, u16, Result<u64, Refusal>),
     /// A read of a data field: the object and the field.
@@ -36,6 +45,14 @@ pub enum Row {
     AtLast(&'static Row),
     /// As many writes into a data field, of 0, 1, .., whose stamps are these numbers too: the object, the field and how many.
     Rising(u64, u16, u64),
+    /// A write that is not refused, of this value into this data word of the first object.
+    Word(u16, u64),
+    /// As many writes into the first data word of the first object, of this value and the ones behind it. They wait, and none is refused.
+    Writes(u64, u64),
+    /// As many new objects of 4 words, each with a write into the first object and a settlement. They wait, and none is refused.
+    Objects(u64),
+    /// A touch of page 0 at the same time as another thread's: it built the page, as the mutator tells, or it came too late.
+    Race,
     /// What the mutator allocated is posted.
     Settle,
     /// The space has so many pages.
@@ -85,8 +102,8 @@ fn call_of(row: &Row) -> Option<(Call, Result<u64, Refusal>)> {
     }
 }
 
-// A row that is a call with a number as answer is answered so; any other tells what the mutator finds.
-fn expect_row<L: Named, B: Builder, R: Abort + Wait>(
+/// A row of one mutator: a call with a number as answer is answered so.
+pub fn expect_row<L: Named, B: Builder, R: Abort + Wait>(
     rt: &R,
     alloc: Global,
     space: &Space<L, B>,
@@ -97,12 +114,16 @@ fn expect_row<L: Named, B: Builder, R: Abort + Wait>(
     requires of { IsMutatorOf space.now m.old }
     ensures of { IsMutatorOf space.now m.new }
 {
+    let (row, waits) = match row {
+        Row::AtLast(row) => (*row, true),
+        _ => (row, false),
+    };
     match call_of(row) {
         Some((call, wanted)) => {
-            let found = answer(alloc, space, m, call);
+            let found = answer(rt, alloc, space, m, call, waits);
             expect_answer(rt, at, found, wanted);
         }
-        None => expect_state(rt, alloc, space, m, at, row),
+        None => expect_state(rt, alloc, space, m, at, row, waits),
     }
 }
 
@@ -114,19 +135,24 @@ fn expect_state<L: Named, B: Builder, R: Abort + Wait>(
     m: &mut Mutator<L>,
     at: At,
     row: &Row,
+    waits: bool,
 )
     requires of { IsMutatorOf space.now m.old }
     ensures of { IsMutatorOf space.now m.new }
 {
     match row {
-        Row::AtLast(row) => expect_at_last(rt, alloc, space, m, at, row),
         Row::Touch(p, wanted) => {
-            let found = touch(rt, alloc, space, m, *p);
-            expect_touched(rt, at, found, *wanted);
+            let found = touch(rt, alloc, space, m, *p, waits);
+            expect_so(rt, at, found == *wanted);
         }
-        Row::Rising(object, field, count) => {
-            expect_rising(rt, alloc, space, m, at, *object, *field, *count)
+        Row::Race => {
+            let found = touch(rt, alloc, space, m, 0, false);
+            expect_so(rt, at, is_of_race(found, m.builds()));
         }
+        Row::Rising(_, _, count) | Row::Writes(_, count) | Row::Objects(count) => {
+            expect_steps(rt, alloc, space, m, at, row, *count)
+        }
+        Row::Word(_, _) => expect_step(rt, alloc, space, m, at, row, 0),
         Row::Settle => settle(rt, space, m),
         Row::Page(p, begin, entries) => expect_page(rt, alloc, space, m, at, *p, begin, entries),
         Row::Turns(p) => expect_turns(rt, at, &copy(rt, alloc, space, m, *p)),
@@ -134,24 +160,12 @@ fn expect_state<L: Named, B: Builder, R: Abort + Wait>(
     }
 }
 
-// The call of the row waits while its page is busy, and is answered so.
-fn expect_at_last<L: Named, B: Builder, R: Abort + Wait>(
-    rt: &R,
-    alloc: Global,
-    space: &Space<L, B>,
-    m: &mut Mutator<L>,
-    at: At,
-    row: &Row,
-)
-    requires of { IsMutatorOf space.now m.old }
-    ensures of { IsMutatorOf space.now m.new }
-{
-    if let Row::Touch(p, wanted) = row {
-        let found = touch_at_last(rt, alloc, space, m, *p);
-        expect_touched(rt, at, found, *wanted);
-    } else if let Some((call, wanted)) = call_of(row) {
-        let found = answer_at_last(rt, alloc, space, m, call);
-        expect_answer(rt, at, found, wanted);
+// The touch built page 0, as the mutator tells, or it came after another one, or while the page was busy.
+fn is_of_race(touched: Result<Touched, Refusal>, builds: &[u64]) -> bool {
+    match touched {
+        Ok(Touched::Built) => matches!(builds, [0]),
+        Ok(Touched::AlreadyBuilt) | Err(Refusal::Busy(0)) => builds.is_empty(),
+        Err(_) => false,
     }
 }
 
@@ -168,41 +182,105 @@ fn expect_told<L: Named, B: Builder>(
         Row::Roots(wanted) => expect_numbers(rt, at, space.roots(), wanted),
         Row::Builds(wanted) => expect_numbers(rt, at, m.builds(), wanted),
         Row::Unposted(wanted) => expect_count(rt, at, m.unposted(), *wanted),
-        _ => panic!(rt; "a call"),
+        _ => panic!(rt; "a row of one mutator"),
     }
 }
 
-// As many writes, of 0, 1, .., are answered by these numbers.
-fn expect_rising<L: Named, B: Builder>(
-    rt: &impl Abort,
+// Each step of a row that has as many.
+fn expect_steps<L: Named, B: Builder, R: Abort + Wait>(
+    rt: &R,
     alloc: Global,
     space: &Space<L, B>,
     m: &mut Mutator<L>,
     at: At,
-    object: u64,
-    field: u16,
+    row: &Row,
     count: u64,
 )
     requires of { IsMutatorOf space.now m.old }
     ensures of { IsMutatorOf space.now m.new }
 {
-    for value in 0..count {
-        let call = Call::WriteData {
-            object,
-            field,
-            value,
-        };
-        let stamp = answer(alloc, space, m, call);
-        expect_answer(rt, at, stamp, Ok(value));
+    for step in 0..count {
+        expect_step(rt, alloc, space, m, at, row, step);
     }
 }
 
-/// Posts what the mutator allocated.
-pub fn settle<L: Named, B: Builder, R: Abort + Wait>(
+// A step of a row.
+fn expect_step<L: Named, B: Builder, R: Abort + Wait>(
     rt: &R,
+    alloc: Global,
     space: &Space<L, B>,
     m: &mut Mutator<L>,
+    at: At,
+    row: &Row,
+    step: u64,
 )
+    requires of { IsMutatorOf space.now m.old }
+    ensures of { IsMutatorOf space.now m.new }
+{
+    match row {
+        Row::Rising(object, field, _) => {
+            let stamp = write(rt, alloc, space, m, *object, *field, step, false);
+            expect_answer(rt, at, stamp, Ok(step));
+        }
+        Row::Word(field, value) => {
+            let stamp = write(rt, alloc, space, m, T, *field, *value, false);
+            expect_so(rt, at, stamp.is_ok());
+        }
+        Row::Writes(first, _) => {
+            let stamp = write(rt, alloc, space, m, T, 0, first.wrapping_add(step), true);
+            expect_so(rt, at, stamp.is_ok());
+        }
+        _ => make_and_settle(rt, alloc, space, m, at, step),
+    }
+}
+
+// Writes a data field.
+fn write<L: Named, B: Builder, R: Wait>(
+    rt: &R,
+    alloc: Global,
+    space: &Space<L, B>,
+    m: &mut Mutator<L>,
+    object: u64,
+    field: u16,
+    value: u64,
+    waits: bool,
+) -> Result<u64, Refusal>
+    requires of { IsMutatorOf space.now m.old }
+    ensures of { IsMutatorOf space.now m.new }
+{
+    let call = Call::WriteData {
+        object,
+        field,
+        value,
+    };
+    answer(rt, alloc, space, m, call, waits)
+}
+
+// Makes an object of 4 words, writes into the first object and settles.
+fn make_and_settle<L: Named, B: Builder, R: Abort + Wait>(
+    rt: &R,
+    alloc: Global,
+    space: &Space<L, B>,
+    m: &mut Mutator<L>,
+    at: At,
+    value: u64,
+)
+    requires of { IsMutatorOf space.now m.old }
+    ensures of { IsMutatorOf space.now m.new }
+{
+    let call = Call::Alloc {
+        references: 1,
+        data_words: 2,
+        tag: 0,
+    };
+    let made = answer(rt, alloc, space, m, call, true);
+    let stamp = write(rt, alloc, space, m, T, 0, value, true);
+    expect_so(rt, at, made.is_ok() && stamp.is_ok());
+    settle(rt, space, m);
+}
+
+// Posts what the mutator allocated.
+fn settle<L: Named, B: Builder, R: Abort + Wait>(rt: &R, space: &Space<L, B>, m: &mut Mutator<L>)
     requires of { IsMutatorOf space.now m.old }
     ensures of { IsMutatorOf space.now m.new }
 {
@@ -226,21 +304,4 @@ fn expect_page<L: Named, B: Builder>(
     let page = copy(rt, alloc, space, m, p);
     expect_words(rt, at, &page, begin);
     expect_entries(rt, at, &page, entries);
-}
-
-/// The rows of a mutator, one after another.
-pub fn expect_rows<L: Named, B: Builder, R: Abort + Wait>(
-    rt: &R,
-    alloc: Global,
-    space: &Space<L, B>,
-    m: &mut Mutator<L>,
-    case: &'static str,
-    rows: &[Row],
-)
-    requires of { IsMutatorOf space.now m.old }
-    ensures of { IsMutatorOf space.now m.new }
-{
-    for (row, call) in rows.iter().enumerate() {
-        expect_row(rt, alloc, space, m, At { case, row }, call);
-    }
 }

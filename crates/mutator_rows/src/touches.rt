@@ -1,7 +1,7 @@
 //! Flips, and the first touches of pages.
 ghost use Rattle.std.specs.Prelude.{◌≡◌};
 
-use crate::alone::{Alone, BuiltBy};
+use crate::cases::{BuiltBy, Case};
 use crate::expected::{At, expect_count, expect_so};
 use crate::flipped::{Heap, plan_of, shared};
 use crate::rows::Row;
@@ -26,9 +26,8 @@ fn expect_new<L: Named>(rt: &impl Abort, mutators: &[Mutator<L>]) {
             case: "new mutators",
             row,
         };
-        expect_count(rt, at, u64::from(m.number()), row as u64);
-        expect_count(rt, at, m.builds().len() as u64, 0);
-        expect_count(rt, at, m.unposted(), 0);
+        let is_new = m.builds().is_empty() && m.unposted() == 0;
+        expect_so(rt, at, usize::from(m.number()) == row && is_new);
     }
 }
 
@@ -101,10 +100,11 @@ fn flips_within_the_limits(rt: HostRuntime) -> Result<(), Fail> {
 }
 
 // The smallest heap, whose page is touched twice and copied.
-const TWICE: Alone = Alone {
+const TWICE: Case = Case {
     name: "touches a page",
     heap: Heap::Smallest,
     built_by: BuiltBy::Plan,
+    mutators: 1,
     fresh_pages: 0,
     rows: &[
         Row::Roots(&[8_589_934_592]),
@@ -116,10 +116,11 @@ const TWICE: Alone = Alone {
 };
 
 // Seventeen pages, the last of which is built alone.
-const LAST_FIRST: Alone = Alone {
+const LAST_FIRST: Case = Case {
     name: "touches the last page first",
     heap: Heap::Seventeen,
     built_by: BuiltBy::Plan,
+    mutators: 1,
     fresh_pages: 0,
     rows: &[
         Row::Pages(17),
@@ -132,10 +133,11 @@ const LAST_FIRST: Alone = Alone {
 };
 
 // A page whose first build finds no memory, and whose second one does.
-const AGAIN: Alone = Alone {
+const AGAIN: Case = Case {
     name: "touches after a refusal",
     heap: Heap::Counting(255),
     built_by: BuiltBy::Refusing,
+    mutators: 1,
     fresh_pages: 0,
     rows: &[
         Row::Touch(3, Err(Refusal::OutOfMemory)),
@@ -147,20 +149,22 @@ const AGAIN: Alone = Alone {
 };
 
 // A flip with fresh pages.
-const UNTOUCHED: Alone = Alone {
+const UNTOUCHED: Case = Case {
     name: "builds nothing at a flip",
     heap: Heap::Three,
     built_by: BuiltBy::Counting(0),
+    mutators: 1,
     fresh_pages: 4,
     rows: &[],
     ending: None,
 };
 
 // A page that is touched twice.
-const TOUCHED: Alone = Alone {
+const TOUCHED: Case = Case {
     name: "builds at the first touch",
     heap: Heap::Three,
     built_by: BuiltBy::Counting(1),
+    mutators: 1,
     fresh_pages: 4,
     rows: &[
         Row::Touch(0, Ok(Touched::Built)),
@@ -170,4 +174,4 @@ const TOUCHED: Alone = Alone {
 };
 
 /// Those cases.
-pub static CASES: [Alone; 5] = [TWICE, LAST_FIRST, AGAIN, UNTOUCHED, TOUCHED];
+pub static CASES: [Case; 5] = [TWICE, LAST_FIRST, AGAIN, UNTOUCHED, TOUCHED];

@@ -1,5 +1,5 @@
 //! The calls that wait, of a mutator that is alone: each answers at once.
-use crate::alone::{Alone, BuiltBy};
+use crate::cases::{BuiltBy, Case};
 use crate::flipped::Heap;
 use crate::rows::Row;
 use comp_access::pages::Touched;
@@ -7,10 +7,11 @@ use comp_access::refusal::Refusal;
 use worked_heaps::heaps::T;
 
 // Each call, with an object that is made on a fresh page.
-const AT_ONCE: Alone = Alone {
+const AT_ONCE: Case = Case {
     name: "answers at once when no page is busy",
     heap: Heap::Three,
     built_by: BuiltBy::Plan,
+    mutators: 1,
     fresh_pages: 1,
     rows: &[
         Row::AtLast(&Row::Touch(0, Ok(Touched::Built))),
@@ -26,4 +27,4 @@ const AT_ONCE: Alone = Alone {
 };
 
 /// Those cases.
-pub static CASES: [Alone; 1] = [AT_ONCE];
+pub static CASES: [Case; 1] = [AT_ONCE];
