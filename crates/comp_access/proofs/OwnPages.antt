@@ -158,6 +158,16 @@ module _ (u : Setup) (old new : Pass) (fills : List ℕ) (i stamp offset value :
     all = λ j there. let inside = h.all j (subst (λ n. n + j * u.mutators < u.fresh) number there) in omega (arith, inside);
   }
 
+-- the counts stay where nothing is written
+pub counts_kept : (u : Setup) (old new : Pass) (fills : List ℕ) → number_of new ≡ number_of old → did new ≡ did old → Counts u old fills → Counts u new fills
+counts_kept u old new fills number same h = record {
+  few = h.few;
+  small = h.small;
+  used = λ i lt. h.used i lt ∙ ap (λ n. filled (on (own_page u n i) (did old))) (sym number) ∙ ap (λ (l : List (ℕ × Entry)). filled (on (own_page u (number_of new) i) l)) (sym same);
+  there = λ i lt. subst (λ n. n + i * u.mutators < u.fresh) (sym number) (h.there i lt);
+  all = λ i there. h.all i (subst (λ n. n + i * u.mutators < u.fresh) number there);
+}
+
 -- the first count that leaves room is that of the lowest own page with room
 pub lowest_own : (u : Setup) (pass : Pass) (fills : List ℕ) (size index : ℕ) → Counts u pass fills → index < length fills → get_or fills index 0 + size ≤ 64
     → ((i : ℕ) → i < index → 64 < get_or fills i 0 + size) → IsLowest u pass size index

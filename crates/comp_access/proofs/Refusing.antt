@@ -7,7 +7,7 @@ use Rattle.cell_steps.specs.declared.pass.Pass.{Pass}
 use Rattle.page_cells.specs.Calls.{Grows, SeesNothingNew}
 use Rattle.page_cells.specs.Objects.{offset_at}
 use Rattle.comp_access.specs.Fields.{KnowsFieldOn}
-use Rattle.comp_access.specs.Copies.{PageRefused, PageTakesNone}
+use Rattle.comp_access.specs.Copies.{CopyRefused, PageRefused, PageTakesNone}
 use Rattle.comp_access.specs.Reads.{FieldRefused, KnowsBuilt, MayBuild, TouchesOnly, WantsMemory}
 use Rattle.comp_access.specs.Writes.{EntryRefused}
 use Rattle.comp_access.specs.Allocations.{AllocationRefused, IsLowestPage}
@@ -38,6 +38,17 @@ allocation_refused u old new size p OutOfPages l b r = absurd r
 allocation_refused u old new size p (Busy q) l b r = absurd r
 allocation_refused u old new size p (JournalFull q) l b r = subst (λ n. AllocationRefused u old new size (JournalFull n)) (sym r.0) (l, r.1, b)
 allocation_refused u old new size p OutOfMemory l b r = (p, l, inr r, b)
+
+-- the page that was to be copied was not to be had
+pub copy_refused : (old new : Pass) (p : ℕ) (refusal : Refusal) → SeesNothingNew old new → PageRefused p old new refusal → CopyRefused p old new refusal
+copy_refused old new p Null s r = r
+copy_refused old new p (NotAStart a) s r = r
+copy_refused old new p NoSuchField s r = r
+copy_refused old new p ObjectTooLarge s r = r
+copy_refused old new p OutOfPages s r = r
+copy_refused old new p (Busy q) s r = (r.0, r.1, s)
+copy_refused old new p (JournalFull q) s r = r
+copy_refused old new p OutOfMemory s r = tt
 
 module _ (u : Setup) (kind : Kind) (object field : ℕ) where
   -- the page of an object that an allocation made, and that the mutator knows, is built: so memory to build a page was wanting for a slid object

@@ -1,4 +1,5 @@
-use Rattle.std.proofs.Common.{◌≡◌, ◌+◌, ◌≤◌, get_or, set, sym, ap, subst, refl, ◌∙◌, arith}
+use Rattle.std.proofs.Common.{◌≡◌, ◌+◌, ◌≤◌, get_or, set, sym, ap, subst, refl, ◌∙◌, arith, Err}
+use Rattle.std.proofs.lemmas.Result.{IfOk-from_err}
 use Rattle.heap_layout.specs.Header.{size_of}
 use Rattle.comp_journal.specs.Journal.{Journaled}
 use Rattle.cell_steps.specs.Setup.{address}
@@ -9,9 +10,11 @@ use Rattle.page_cells.specs.Cells.{setup_of, page_number, journal_of}
 use Rattle.page_cells.proofs.Growing.{grows_then}
 use Rattle.comp_access.specs.Allocations.{own_page, used, AreZero, Counts, IsLowest}
 use Rattle.comp_access.specs.Reads.{MayBuild}
-use Rattle.comp_access.proofs.Answering.{err_anyway}
+use Rattle.comp_access.specs.Copies.{PageTakesNone}
+use Rattle.comp_access.specs.declared.refusal.Refusal.TheVariants.{Busy}
+use Rattle.comp_access.proofs.Answering.{err_anyway, ok_apart, same_refusal}
 use Rattle.comp_access.proofs.Building.{builds_before}
-use Rattle.comp_access.proofs.OwnPages.{counts_more, lowest_own, made_own, next_own}
+use Rattle.comp_access.proofs.OwnPages.{counts_more, lowest_own, made_own, next_own, counts_kept}
 use Rattle.comp_access.proofs.Refusing.{allocation_page_refused, allocation_refused}
 use Rattle.comp_access.proofs.allocating.try_alloc.Goals as goal
 
@@ -37,40 +40,6 @@ write_taken-requires-clause-fits g c κs within =
     let next = next_own u n index c.word.result _ journal _ c.requires.of.0.numbered (c.requires.counts.there index chosen.inside) lawful mine (c.requires.counts.used index chosen.inside) ends in
     subst (λ p. IsNext u p journal (number_of c.take.new.pass) (get_or c.args.fills.now index 0) c.word.result) (sym (taken.taken.0 ∙ own))
     (subst (λ k. IsNext u (own_page u n index) journal k (get_or c.args.fills.now index 0) c.word.result) (sym c.take.ensures.grows.0.number) next)
-
-pub returns-in_err-taken-clause-refused : goal.returns-in_err-taken-clause-refused
-returns-in_err-taken-clause-refused g c =
-    let u = setup_of c.args.cells.now in
-    let old = c.args.pass.now in
-    let new = c.take.new.pass in
-    let index = c.in-Some.index in
-    let chosen = c.in-Some.ensures in
-    let own = c.own_page-page.ensures.page ∙ ap (λ k. own_page u k index) c.number.ensures in
-    let lowest = lowest_own u old c.args.fills.now c.size-size.result index c.requires.counts chosen.inside chosen.room chosen.first in
-    let refused = c.in_err-taken.ensures.refused in
-    err_anyway c.from_residual.result _ c.in_err-taken.field-0.0 c.from_residual.ensures.1
-    (allocation_page_refused u old new (size_of c.args.header) c.own_page-page.result _ (index, subst (λ s. IsLowest u old s index) c.size-size.ensures lowest, own)
-    c.take.ensures.builds refused.1 refused.2)
-
-pub returns-in_err-write_taken-clause-grows : goal.returns-in_err-write_taken-clause-grows
-returns-in_err-write_taken-clause-grows g c = grows_then c.args.pass.now c.take.new.pass c.write_taken.new.pass c.take.ensures.grows.0 c.write_taken.ensures.grows.0
-
-pub returns-in_err-write_taken-clause-refused : goal.returns-in_err-write_taken-clause-refused
-returns-in_err-write_taken-clause-refused g c =
-    let u = setup_of c.args.cells.now in
-    let old = c.args.pass.now in
-    let middle = c.take.new.pass in
-    let new = c.write_taken.new.pass in
-    let index = c.in-Some.index in
-    let chosen = c.in-Some.ensures in
-    let taken = c.in_ok-taken.ensures in
-    let p = page_number c.in_ok-taken.taken in
-    let own = taken.taken.0 ∙ c.own_page-page.ensures.page ∙ ap (λ k. own_page u k index) c.number.ensures in
-    let lowest = lowest_own u old c.args.fills.now c.size-size.result index c.requires.counts chosen.inside chosen.room chosen.first in
-    let built = subst (λ q. MayBuild q old middle) (sym taken.taken.0) c.take.ensures.builds in
-    err_anyway c.from_residual-in_err-write_taken.result _ c.in_err-write_taken.field-0.0 c.from_residual-in_err-write_taken.ensures.1
-    (allocation_refused u old new (size_of c.args.header) p _ (index, subst (λ s. IsLowest u old s index) c.size-size.ensures lowest, own)
-    (builds_before old middle new p built c.write_taken.ensures.grows.0 c.write_taken.ensures.grows.1) c.in_err-write_taken.ensures.refused.1)
 
 pub returns-clause-grows : goal.returns-clause-grows
 returns-clause-grows g c = grows_then c.args.pass.now c.take.new.pass c.write_taken.new.pass c.take.ensures.grows.0 c.write_taken.ensures.grows.0
@@ -119,3 +88,68 @@ returns-clause-allocated g c =
       builds = builds_before old middle new (own_page u (number_of old) index) (subst (λ p. MayBuild p old middle) page c.take.ensures.builds) c.write_taken.ensures.grows.0 c.write_taken.ensures.grows.1;
       built = c.write_taken.ensures.grows.0.built (own_page u (number_of old) index) (subst (HasSeenBuilt middle) page taken.taken.2);
     }
+
+pub returns-in_err-taken : goal.returns-in_err-taken
+returns-in_err-taken g c =
+    let refusal = c.in_err-taken.field-0.0 in
+    let back = c.from_residual.result in
+    let none = c.from_residual.ensures.0 in
+    let same = c.from_residual.ensures.1 in
+    let why = c.in_err-taken.ensures in
+    let u = setup_of c.args.cells.now in
+    let old = c.args.pass.now in
+    let new = c.take.new.pass in
+    let index = c.in-Some.index in
+    let chosen = c.in-Some.ensures in
+    let own = c.own_page-page.ensures.page ∙ ap (λ k. own_page u k index) c.number.ensures in
+    let lowest = lowest_own u old c.args.fills.now c.size-size.result index c.requires.counts chosen.inside chosen.room chosen.first in
+    let still = c.take.ensures.grows in
+    record {
+      of = (c.take.ensures.of, why.refused.0);
+      grows = still.0;
+      counts = counts_kept u old new c.args.fills.now still.0.number still.1 c.requires.counts;
+      alone = λ one q e. why.alone one q (ap (λ z. Err z) (same_refusal back refusal (Busy q) same e));
+      filled = IfOk-from_err back _ none;
+      kept = err_anyway back _ refusal same refl;
+      allocated = IfOk-from_err back _ none;
+      did = err_anyway back _ refusal same still.1;
+      refused = err_anyway back _ refusal same (allocation_page_refused u old new (size_of c.args.header) c.own_page-page.result _ (index, subst (λ s. IsLowest u old s index) c.size-size.ensures lowest, own) c.take.ensures.builds why.refused.1 why.refused.2);
+    }
+
+pub returns-in_err-write_taken : goal.returns-in_err-write_taken
+returns-in_err-write_taken g c =
+    let refusal = c.in_err-write_taken.field-0.0 in
+    let back = c.from_residual-in_err-write_taken.result in
+    let none = c.from_residual-in_err-write_taken.ensures.0 in
+    let same = c.from_residual-in_err-write_taken.ensures.1 in
+    let why = c.in_err-write_taken.ensures in
+    let u = setup_of c.args.cells.now in
+    let old = c.args.pass.now in
+    let middle = c.take.new.pass in
+    let new = c.write_taken.new.pass in
+    let index = c.in-Some.index in
+    let chosen = c.in-Some.ensures in
+    let taken = c.in_ok-taken.ensures in
+    let p = page_number c.in_ok-taken.taken in
+    let own = taken.taken.0 ∙ c.own_page-page.ensures.page ∙ ap (λ k. own_page u k index) c.number.ensures in
+    let lowest = lowest_own u old c.args.fills.now c.size-size.result index c.requires.counts chosen.inside chosen.room chosen.first in
+    let built = subst (λ q. MayBuild q old middle) (sym taken.taken.0) c.take.ensures.builds in
+    let wrote = c.write_taken.ensures.grows.0 in
+    let did_none = why.refused.0 ∙ c.take.ensures.grows.1 in
+    record {
+      of = c.write_taken.ensures.of;
+      grows = grows_then old middle new c.take.ensures.grows.0 wrote;
+      counts = counts_kept u old new c.args.fills.now (wrote.number ∙ c.take.ensures.grows.0.number) did_none c.requires.counts;
+      alone = λ one q e. subst (PageTakesNone p new) (same_refusal back refusal (Busy q) same e) why.refused.1;
+      filled = IfOk-from_err back _ none;
+      kept = err_anyway back _ refusal same refl;
+      allocated = IfOk-from_err back _ none;
+      did = err_anyway back _ refusal same did_none;
+      refused = err_anyway back _ refusal same (allocation_refused u old new (size_of c.args.header) p _ (index, subst (λ s. IsLowest u old s index) c.size-size.ensures lowest, own) (builds_before old middle new p built c.write_taken.ensures.grows.0 c.write_taken.ensures.grows.1) why.refused.1);
+    }
+
+pub returns-clause-of : goal.returns-clause-of
+returns-clause-of g c = c.write_taken.ensures.of
+
+pub returns-clause-alone : goal.returns-clause-alone
+returns-clause-alone g c = λ one q. ok_apart _ (Busy q)

@@ -1,9 +1,12 @@
-use Rattle.std.proofs.Common.{◌≡◌, ap, subst, ◌∙◌}
+use Rattle.std.proofs.Common.{◌≡◌, ap, subst, ◌∙◌, Err}
+use Rattle.std.proofs.lemmas.Result.{IfOk-from_err}
 use Rattle.heap_layout.specs.declared.kind.Kind.TheVariants.{Reference}
 use Rattle.cell_steps.specs.declared.pass.Pass.{Pass}
 use Rattle.cell_steps.specs.Passes.{builds_of, did, MayRefer}
 use Rattle.page_cells.specs.Cells.{setup_of}
 use Rattle.page_cells.specs.Calls.{Grows}
+use Rattle.comp_access.specs.declared.refusal.Refusal.TheVariants.{Busy}
+use Rattle.comp_access.proofs.Answering.{err_anyway, ok_apart, same_refusal}
 use Rattle.comp_access.proofs.Building.{only_before}
 use Rattle.comp_access.proofs.Growing.{refers_more, still_then}
 use Rattle.comp_access.proofs.reading.try_read_ref.Goals as goal
@@ -30,3 +33,26 @@ returns-clause-builds g c =
     let p = c.in_ok-held.held.taken.number in
     let grows = subst (λ (m : Pass). Grows m new) same c.put_back.ensures.grows.0 in
     (p, only_before (setup_of c.args.cells.now) Reference c.args.object c.args.field p c.args.pass.now middle new held.touched grows (c.put_back.ensures.builds ∙ ap builds_of same), grows.built p held.built)
+
+pub returns-in_err-held : goal.returns-in_err-held
+returns-in_err-held g c =
+    let refusal = c.in_err-held.field-0.0 in
+    let back = c.from_residual.result in
+    let none = c.from_residual.ensures.0 in
+    let same = c.from_residual.ensures.1 in
+    let why = c.in_err-held.ensures in
+    record {
+      of = (c.hold.ensures.of, why.refused.0);
+      grows = c.hold.ensures.grows;
+      alone = λ one q e. why.alone one q (ap (λ z. Err z) (same_refusal back refusal (Busy q) same e));
+      read = IfOk-from_err back _ none;
+      known = IfOk-from_err back _ none;
+      builds = IfOk-from_err back _ none;
+      refused = err_anyway back _ refusal same why.refused.1;
+    }
+
+pub returns-clause-of : goal.returns-clause-of
+returns-clause-of g c = c.put_back.ensures.of
+
+pub returns-clause-alone : goal.returns-clause-alone
+returns-clause-alone g c = λ one q. ok_apart _ (Busy q)
