@@ -41,4 +41,4 @@ returns-clause-known g c = λ h.
     let offset = (c.args.address - 8589934592) % 64 in
     let set : bit_at c.load_starts-bits.result offset ≡ 1 = sym (shr_and_one c.load_starts-bits.result offset) ∙ search (rules, h) in
     knows_fresh (about self.steps) (view_of c.load_starts-bits.new.pass) c.args.address _ c.if-address-lt-TO_SPACE.false (omega (arith, self.compacted_pages, c.if-page-self.false)) (omega (arith, self.compacted_pages))
-        (c.load_starts-bits.ensures.found offset (omega arith) set)
+    (c.load_starts-bits.ensures.found offset (omega arith) set)
