@@ -1,17 +1,24 @@
 -- What a worker does, call by call.
-use Rattle.std.proofs.Common.{ℕ, ◌<◌, List, [], ◌++◌, All, Option, refl, sym, ap, ◌∙◌, append_assoc}
+use Rattle.std.proofs.Common.{◌≡◌, ℕ, ◌<◌, List, [], ◌∷◌, ◌++◌, All, Option, Result, Ok, refl, sym, ap, ◌∙◌, arith, append_assoc}
 use Rattle.std.proofs.lemmas.List.{append-nil}
-use Rattle.std.proofs.lemmas.List.Elements.{All-append, All-nil}
+use Rattle.std.proofs.lemmas.List.Elements.{All-append, All-cons, All-nil}
 use Rattle.page_plan.specs.declared.builder.Builder.{Ghosts}
 use Rattle.cell_steps.specs.Setup.{Setup}
+use Rattle.cell_steps.specs.Passes.{builds_of, did}
+use Rattle.page_cells.specs.Calls.{Grows, WroteNothing}
 use Rattle.page_cells.proofs.Growing.{grows_none, grows_then, wrote_then}
-use Rattle.comp_mutator.specs.Mutators.{pass_of, setup_of, IsMutatorOf}
+use Rattle.comp_mutator.specs.Mutators.{pass_of, posted_by, setup_of, unposted_of, IsMutatorOf}
 use Rattle.comp_access.specs.Reads.{KnowsBuilt}
+use Rattle.comp_access.specs.Copies.{builds_after}
+use Rattle.comp_access.specs.declared.pages.Touched.{Touched}
+use Rattle.comp_access.specs.declared.pages.Touched.TheVariants.{Built, AlreadyBuilt}
+use Rattle.comp_access.specs.declared.refusal.Refusal.{Refusal}
+use Rattle.comp_history.specs.Shares.{allocated}
 use Rattle.comp_mutator.specs.declared.space.Space.{Space}
 use Rattle.comp_mutator.specs.declared.mutator.Mutator.{Mutator}
 use Rattle.comp_access.proofs.Growing.{known_more}
 use Rattle.comp_sweep.specs.Regions.{SeesRegion}
-use Rattle.comp_sweep.specs.Sweeps.{Sweeps}
+use Rattle.comp_sweep.specs.Sweeps.{BuildsMore, Sweeps}
 use Rattle.comp_sweep.specs.Workers.{WhyStopped}
 use Rattle.comp_sweep.specs.declared.working.Stop.{Stop}
 use Rattle.comp_sweep.specs.declared.working.Stop.TheVariants.{Told, Wants}
@@ -27,6 +34,29 @@ module _ {L B : Type 0} {g : Ghosts B} (space : Space L B g) where
     posted = refl;
     builds = ([], sym (append-nil _), All-nil _);
   }
+
+  module _ (a b : Mutator L) (of : IsMutatorOf space b) (grows : Grows (pass_of a) (pass_of b) × WroteNothing (pass_of a) (pass_of b)) (unposted : unposted_of b ≡ unposted_of a) where
+    -- a call that wrote nothing
+    sweeps_of : BuildsMore (setup_of space).compacted (pass_of a) (pass_of b) → Sweeps space a b
+    sweeps_of builds = record {
+      of = of;
+      grows = grows.0;
+      wrote = grows.1;
+      unposted = unposted;
+      posted = omega (arith, unposted, a.counted, b.counted, ap allocated grows.1.did);
+      builds = builds;
+    }
+
+    -- a touch that was refused
+    pub sweeps_refused : builds_of (pass_of b) ≡ builds_of (pass_of a) → Sweeps space a b
+    sweeps_refused same = sweeps_of ([], same ∙ sym (append-nil _), All-nil _)
+
+    -- a touch of a page
+    pub sweeps_touch : (p : ℕ) → p < (setup_of space).compacted → (touched : Touched) → builds_of (pass_of b) ≡ builds_after (builds_of (pass_of a)) p touched
+        → (KnowsBuilt (pass_of a) p → ◌≡◌ {A = Result Touched Refusal} (Ok touched) (Ok AlreadyBuilt)) → Sweeps space a b
+    sweeps_touch p lt AlreadyBuilt same known = sweeps_refused same
+    sweeps_touch p lt Built same known =
+        sweeps_of (p ∷ [], same, All-cons (λ q. (q < (setup_of space).compacted) × (KnowsBuilt (pass_of a) q → ⊥)) p [] (lt, λ k. let e = known k in cc) (All-nil _))
 
   module _ (a b c : Mutator L) (h : Sweeps space a b) where
     -- two calls
