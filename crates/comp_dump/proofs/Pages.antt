@@ -1,5 +1,5 @@
 -- Lemmas on the pages, the lists and the fixed bytes of a dump.
-use Rattle.std.proofs.Common.{◌≡◌, ℕ, ◌^◌, [], ◌∷◌, ◌<◌, ◌≤◌, true, false, ltb, List, ◌++◌, length, Option, Some, None, IfSome, Result, Ok, Err, refl, sym, ap, subst, ◌∙◌, arith, append-nil, append_assoc, length-append}
+use Rattle.std.proofs.Common.{◌≡◌, ℕ, ◌^◌, [], ◌∷◌, ◌<◌, ◌≤◌, true, false, ltb, List, ◌++◌, length, Option, Some, None, IfSome, Result, Ok, Err, refl, sym, ap, subst, ◌∙◌, arith, All, append-nil, append_assoc, length-append}
 use Rattle.std.specs.Prelude.{bytes_eq}
 use Rattle.std.proofs.lemmas.Slice.Eq.{bytes_eq-Decides}
 use Rattle.std.specs.List.{flat_map}
@@ -7,7 +7,7 @@ use Rattle.std.specs.Io.KnownBytes.{Consumes}
 use Rattle.std.proofs.KnownBytes.{Consumes-trans}
 use Rattle.std.proofs.lemmas.Bool.{le-ltb, lt-ltb}
 use Rattle.std.proofs.lemmas.List.{take_at, drop_at}
-use Rattle.comp_dump.specs.Dumped.{BuiltPage, Dumped, AreCounts, IsStored}
+use Rattle.comp_dump.specs.Dumped.{BuiltPage, Dumped, AreCounts, IsStored, IsStoredList, IsStoredRecord}
 use Rattle.comp_dump.specs.DumpEncoding.{magic, head, one_byte, four_bytes, eight_bytes, entry_bytes, built_bytes, page_bytes, builds_bytes, front_bytes, dump_bytes}
 use Rattle.comp_dump.specs.declared.fault.DumpFault.{DumpFault}
 use Rattle.comp_dump.specs.declared.fault.DumpFault.TheVariants.{Truncated, TrailingBytes, BadMagic, OutOfMemory, Device}
@@ -66,6 +66,18 @@ stops_other wanted front (Some xs) None read long other = absurd read
 stops_other wanted front (Some xs) (Some ys) read long other = ap (expected wanted) read ∙ expected_other wanted front ys long other
 
 -- the counts are read again
+-- what is read of each part is stored
+pub stored_parts : (made : Dumped) (pages roots : ℕ) → AreCounts made.mutators made.fresh pages roots → length made.roots ≡ roots → All (λ (root : ℕ). root < 2 ^ 64) made.roots
+    → length made.pages ≡ pages → All (IsStoredRecord made.mutators) made.pages → length made.builds ≡ made.mutators → All (IsStoredList pages) made.builds → made.total < 2 ^ 64 → IsStored made
+stored_parts made pages roots counts few stored_roots long stored_pages lists builds total = record {
+  counts = subst (λ (n : ℕ). AreCounts made.mutators made.fresh n (length made.roots)) (sym long) (subst (AreCounts made.mutators made.fresh pages) (sym few) counts);
+  roots = stored_roots;
+  pages = stored_pages;
+  lists = lists;
+  builds = subst (λ (n : ℕ). All (IsStoredList n) made.builds) (sym long) builds;
+  total = total;
+}
+
 pub spells_head : (mutators fresh pages roots : ℕ) → AreCounts mutators fresh pages roots
     → Spells reading.head (head mutators fresh pages roots) (record { mutators = mutators; fresh = fresh; pages = pages; roots = roots })
 unfolding reading.head head

@@ -1,5 +1,5 @@
 -- Lemmas on writing one part behind another.
-use Rattle.std.proofs.Common.{◌≡◌, ℕ, suc, ◌+◌, ◌-◌, ◌<◌, inl, inr, List, [], ◌∷◌, ◌++◌, length, take, drop, get_or, Option, sym, ap, subst, ◌∙◌, arith, append-nil, take-append-drop, All}
+use Rattle.std.proofs.Common.{◌≡◌, ℕ, suc, ◌+◌, ◌-◌, ◌<◌, inl, inr, List, [], ◌∷◌, ◌++◌, length, take, drop, get_or, Option, sym, ap, subst, ◌∙◌, arith, append-nil, take-append-drop, map, All}
 use Rattle.std.specs.List.{flat_map}
 use Rattle.std.specs.Io.KnownBytes.{Appends}
 use Rattle.std.proofs.KnownBytes.{Appends-trans}
@@ -10,7 +10,11 @@ use Rattle.std.proofs.Math.Seq.{take-add, take-append-add, drop-cons}
 use Rattle.std.specs.Global.{Vec}
 use Rattle.std.proofs.Math.ListN.{get_or-map}
 use Rattle.std.proofs.lemmas.List.{length-map, map-append, take_more}
+use Rattle.std.proofs.lemmas.List.Elements.{All-push}
+use Rattle.comp_journal.specs.Journal.{Reserved}
 use Rattle.page_cells.specs.Ends.{lists as items_of}
+use Rattle.comp_dump.specs.Dumped.{BuiltPage}
+use Rattle.comp_dump.specs.Lent.{record_of, IsTypedRecord}
 use Rattle.comp_dump.specs.DumpWriting.{AppendsSome}
 
 -- a beginning of the first part
@@ -97,3 +101,14 @@ lists_push old made lists i d v inside is same before =
     ∙ ap (λ (l : List (List ℕ)). l ++ made.items ∷ []) before
     ∙ ap (λ (x : List ℕ). take i (items_of lists) ++ x ∷ []) here
     ∙ sym more
+
+-- one page more is lent
+pub lent_more : (pages : List (Option Reserved)) (i : ℕ) (d page : Option Reserved) (old new : List (Option BuiltPage)) (made : Option BuiltPage) → i < length pages → page ≡ get_or pages i d
+    → made ≡ record_of page → IsTypedRecord made → new ≡ old ++ made ∷ [] → old ≡ map record_of (take i pages) → All IsTypedRecord old
+    → (new ≡ map record_of (take (i + 1) pages)) × All IsTypedRecord new
+lent_more pages i d page old new made lt at is typed e lent all =
+    let more : take (i + 1) pages ≡ take i pages ++ page ∷ [] = take_more pages i d lt ∙ ap (λ (x : Option Reserved). take i pages ++ x ∷ []) (sym at) in (
+      e ∙ ap (λ (l : List (Option BuiltPage)). l ++ made ∷ []) lent ∙ ap (λ (x : Option BuiltPage). map record_of (take i pages) ++ x ∷ []) is
+          ∙ sym (map-append record_of (take i pages) (page ∷ [])) ∙ sym (ap (map record_of) more),
+      subst (All IsTypedRecord) (sym e) (All-push IsTypedRecord old made all typed),
+    )

@@ -1,8 +1,10 @@
-use Rattle.std.proofs.Common.{arith}
+use Rattle.std.proofs.Common.{refl, ◌∙◌, arith}
 use Rattle.std.proofs.lemmas.Result.{err_from_is_err_and}
+use Rattle.heap_image.specs.Counted.{inner_of, failures_of}
+use Rattle.comp_dump.specs.Dumped.{IsStoredEntry}
 use Rattle.comp_dump.specs.DumpEncoding.{entry_bytes}
 use Rattle.comp_dump.specs.DumpReading.{entry}
-use Rattle.comp_dump.proofs.Readings.{stops_in}
+use Rattle.comp_dump.proofs.Readings.{counts_memory, counts_on, have_read_none, have_read_one, stops_in}
 use Rattle.comp_dump.proofs.Fields.{entries_spell}
 use Rattle.comp_dump.proofs.reading.pages.read_journal.Goals as goal
 
@@ -13,3 +15,25 @@ returns-in_err-read_entry-clause-cause g c =
     rw (p.1, p.2)
     (stops_in (entry c.args.mutators) entry_bytes c.args.count c.loop.journal.items _ _ _ (omega arith) i.read
     (entries_spell c.args.mutators c.loop.journal.items (omega arith) i.stored) c.in_err-read_entry.ensures.cause)
+
+pub loop-init : goal.loop-init
+loop-init g c =
+    let none = have_read_none entry_bytes (IsStoredEntry c.args.mutators) (g.R.Read.remaining (inner_of c.args.r.now)) c.new-journal.result.items c.new-journal.ensures.items in
+    record { read = none.read; long = none.long; stored = none.stored; none_failed = refl }
+
+pub loop-preserved : goal.loop-preserved
+loop-preserved g c =
+    let i = c.loop.invariant in
+    let more = have_read_one entry_bytes (IsStoredEntry c.args.mutators) _ _ _ c.loop.journal.items c.push.new.self.items c.in_ok-read_entry.field-0 c.loop.counter c.in_ok-push.ensures.items
+        i.read i.long i.stored c.in_ok-read_entry.ensures.read c.in_ok-read_entry.ensures.stored in
+    record { read = more.read; long = more.long; stored = more.stored; none_failed = c.in_ok-read_entry.ensures.counts ∙ i.none_failed }
+
+pub returns-in_err-read_entry-clause-counts : goal.returns-in_err-read_entry-clause-counts
+returns-in_err-read_entry-clause-counts g c =
+    counts_on (failures_of c.args.r.now) (failures_of c.loop.r) (failures_of c.read_entry.new.r) c.read_entry.result c.from_residual.result c.in_err-read_entry.field-0.0
+    c.in_err-read_entry.was c.from_residual.ensures.1 c.loop.invariant.none_failed c.read_entry.ensures.counts
+
+pub returns-in_err-push-clause-counts : goal.returns-in_err-push-clause-counts
+returns-in_err-push-clause-counts g c =
+    counts_memory (failures_of c.args.r.now) (failures_of c.read_entry.new.r) c.from_residual-in_err-push.result c.from_residual-in_err-push.ensures.1
+    (c.in_ok-read_entry.ensures.counts ∙ c.loop.invariant.none_failed)
