@@ -4,10 +4,10 @@ use Rattle.std.proofs.lemmas.List.{append-nil}
 use Rattle.std.proofs.lemmas.List.Elements.{All-append, All-cons, All-nil}
 use Rattle.page_plan.specs.declared.builder.Builder.{Ghosts}
 use Rattle.cell_steps.specs.Setup.{Setup}
-use Rattle.cell_steps.specs.Passes.{builds_of, did}
+use Rattle.cell_steps.specs.Passes.{builds_of}
 use Rattle.page_cells.specs.Calls.{Grows, WroteNothing}
 use Rattle.page_cells.proofs.Growing.{grows_none, grows_then, wrote_then}
-use Rattle.comp_mutator.specs.Mutators.{pass_of, posted_by, setup_of, unposted_of, IsMutatorOf}
+use Rattle.comp_mutator.specs.Mutators.{pass_of, setup_of, unposted_of, IsMutatorOf}
 use Rattle.comp_access.specs.Reads.{KnowsBuilt}
 use Rattle.comp_access.specs.Copies.{builds_after}
 use Rattle.comp_access.specs.declared.pages.Touched.{Touched}

@@ -4,10 +4,6 @@
 #[cfg(test)]
 mod judging;
 #[cfg(test)]
-mod performing;
-#[cfg(test)]
-mod printing;
-#[cfg(test)]
 mod programs;
 #[cfg(test)]
 mod racing;

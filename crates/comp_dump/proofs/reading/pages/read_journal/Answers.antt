@@ -25,7 +25,7 @@ pub loop-preserved : goal.loop-preserved
 loop-preserved g c =
     let i = c.loop.invariant in
     let more = have_read_one entry_bytes (IsStoredEntry c.args.mutators) _ _ _ c.loop.journal.items c.push.new.self.items c.in_ok-read_entry.field-0 c.loop.counter c.in_ok-push.ensures.items
-        i.read i.long i.stored c.in_ok-read_entry.ensures.read c.in_ok-read_entry.ensures.stored in
+    i.read i.long i.stored c.in_ok-read_entry.ensures.read c.in_ok-read_entry.ensures.stored in
     record { read = more.read; long = more.long; stored = more.stored; none_failed = c.in_ok-read_entry.ensures.counts ∙ i.none_failed }
 
 pub returns-in_err-read_entry-clause-counts : goal.returns-in_err-read_entry-clause-counts

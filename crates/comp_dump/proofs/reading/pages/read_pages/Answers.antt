@@ -23,7 +23,7 @@ pub loop-preserved : goal.loop-preserved
 loop-preserved g c =
     let i = c.loop.invariant in
     let more = have_read_one page_bytes (IsStoredRecord c.args.mutators) _ _ _ c.loop.pages.items c.push.new.self.items c.in_ok-page.page c.loop.counter c.in_ok-push.ensures.items
-        i.read i.long i.stored c.in_ok-page.ensures.read c.in_ok-page.ensures.stored in
+    i.read i.long i.stored c.in_ok-page.ensures.read c.in_ok-page.ensures.stored in
     record { read = more.read; long = more.long; stored = more.stored; none_failed = c.in_ok-page.ensures.counts ∙ i.none_failed }
 
 pub returns-in_err-page-clause-counts : goal.returns-in_err-page-clause-counts

@@ -1,12 +1,12 @@
 //! Runs whose output takes only so much, by three bytes at a time.
-use crate::runs::{run_into, take_steps};
+use commands::run::run;
 use std::rt::Files;
 use std::sync::Wait;
 use std::test::Fail;
 use std::thread::Threads;
 use worked_files::images::THREE_IMAGE;
-use worked_files::runs::{Run, Text, expect_ran};
-use worked_files::steps::Step;
+use worked_files::runs::{Run, Text, expect_ran, words_of};
+use worked_files::steps::{Step, take_file_step};
 use worked_files::writers::{Failure, Narrow};
 
 // A run, with an output that has so much room. What it prints there is not looked at.
@@ -24,7 +24,8 @@ fn expect_narrow<R: Files + AllocGlobal + Threads + Wait + Sync>(
         at_once: 3,
         failure,
     };
-    let status = run_into(rt, wanted.line, &mut out, &mut err)?;
+    let words = words_of(rt.alloc(), wanted.line)?;
+    let status = run(rt, words, &mut out, &mut err);
     expect_ran(wanted, status, &[], &err)
 }
 
@@ -73,13 +74,13 @@ fn expect_lines<R: Files + AllocGlobal + Threads + Wait + Sync>(
     Ok(())
 }
 
-const WRITTEN: [Step; 1] = [Step::Write("print.tests.img", &THREE_IMAGE)];
+const WRITTEN: Step = Step::Write("print.tests.img", &THREE_IMAGE);
 
-const REMOVED: [Step; 1] = [Step::Remove("print.tests.img")];
+const REMOVED: Step = Step::Remove("print.tests.img");
 
 #[test]
 fn tells_that_it_cannot_print(rt: HostRuntime) -> Result<(), Fail> {
-    take_steps(&rt, &WRITTEN)?;
+    take_file_step(&rt, &WRITTEN)?;
     expect_lines(&rt, &LINES)?;
-    take_steps(&rt, &REMOVED)
+    take_file_step(&rt, &REMOVED)
 }
