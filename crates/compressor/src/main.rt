@@ -23,6 +23,16 @@ fn main(rt: HostRuntime) -> ExitCode {
     })
 }
 
+// The words behind the program's name.
+fn words_of<R: Env + AllocGlobal>(rt: &R) -> Result<Vec<String>, Refusal>
+    ensures cause { IfErr result (λ refusal. refusal ≡ refusals.OutOfMemory) }
+{
+    let Ok(words) = env::args(rt) else {
+        return Err(Refusal::OutOfMemory);
+    };
+    Ok(words.skip(1).collect(rt.alloc())?)
+}
+
 // Fetches the words and sets up standard output, which is written through a buffer.
 fn start<R: Env + Files + Print + AllocGlobal + Threads + Wait + Sync, E: Write>(
     rt: &R,
@@ -31,10 +41,9 @@ fn start<R: Env + Files + Print + AllocGlobal + Threads + Wait + Sync, E: Write>
     ensures status { IfOk result (λ status. status ≤ 2) }
     ensures cause { IfErr result (λ refusal. refusal ≡ refusals.OutOfMemory) }
 {
-    let words: Vec<String> = env::args(rt)
-        .map_err(|_| Refusal::OutOfMemory)?
-        .skip(1)
-        .collect(rt.alloc())?;
-    let mut out = BufWriter::new(rt.alloc(), io::writer(rt)).map_err(|_| Refusal::OutOfMemory)?;
+    let words = words_of(rt)?;
+    let Ok(mut out) = BufWriter::new(rt.alloc(), io::writer(rt)) else {
+        return Err(Refusal::OutOfMemory);
+    };
     Ok(run(rt, words, &mut out, err))
 }
