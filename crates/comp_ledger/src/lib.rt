@@ -6,3 +6,4 @@ pub mod ledger;
 mod posted;
 pub mod refusal;
 pub mod share;
+pub mod unposted;

@@ -19,6 +19,7 @@ use crate::space::Space;
 use comp_access::pages::{self, PageCopy, Touched};
 use comp_access::refusal::Refusal;
 use comp_access::{allocating, reading, writing};
+use comp_ledger::unposted::count_made;
 use heap_layout::header::Header;
 use page_plan::builder::Builder;
 use std::alloc::Global;
@@ -161,9 +162,9 @@ impl<L: Named, B: Builder> Space<L, B> {
             unposted,
         } = hand;
         let header = Header::new(refs, data_words, tag);
-        let address = allocating::try_alloc(alloc, &self.cells, pass, fills, header)?;
-        *unposted += u64::from(header.size());
-        Ok(address)
+        let made = allocating::try_alloc(alloc, &self.cells, pass, fills, header);
+        count_made(unposted, &made, u64::from(header.size()));
+        made
     }
 
     /// Builds page `p` if it is not built yet.
