@@ -1,8 +1,8 @@
 -- The entries of a page, one after the other.
-use Rattle.std.proofs.Common.{◌≡◌, ℕ, suc, ◌+◌, ◌<◌, ◌≤◌, Bool, true, leb, ◌&&◌, List, [], ◌∷◌, ◌++◌, length, take, drop, get_or, refl, sym, ap, subst, ◌∙◌, arith, append-nil, take-append-drop, length-append}
+use Rattle.std.proofs.Common.{◌≡◌, ℕ, suc, ◌+◌, ◌<◌, ◌≤◌, Bool, true, false, ◌⊎◌, inl, inr, leb, ◌&&◌, List, [], ◌∷◌, ◌++◌, length, take, drop, get_or, refl, sym, ap, subst, ◌∙◌, arith, append-nil, take-append-drop, length-append}
 use Rattle.std.proofs.Math.Seq.{drop-cons}
 use Rattle.std.proofs.lemmas.List.{take_more}
-use Rattle.std.proofs.lemmas.Bool.{le-leb}
+use Rattle.std.proofs.lemmas.Bool.{le-leb, lt-leb}
 use Rattle.heap_layout.specs.declared.kind.Kind.{Kind}
 use Rattle.heap_layout.specs.declared.kind.Kind.TheVariants.{Header, Reference, Data}
 use Rattle.comp_journal.specs.declared.entry.Entry.{Entry}
@@ -13,6 +13,7 @@ use Rattle.comp_history.proofs.Words.{kinds_long}
 use Rattle.audit_checks.specs.declared.fault.AuditFault.{AuditFault}
 use Rattle.audit_checks.specs.declared.fault.AuditFault.TheVariants.{BadEntry}
 use Rattle.audit_checks.specs.Checks.{unless, entry_faults, fits}
+use Rattle.audit_checks.specs.Told.{IsFirst}
 
 both_true : (a b : Bool) (fault : AuditFault) → a ≡ true → b ≡ true → unless (a && b) fault ≡ []
 both_true a b fault p q = rw (p, q) refl
@@ -55,6 +56,27 @@ entry_next u p i low j d inside rises may =
     ap (λ (front : List Entry). entry_faults u p (i + 1) (e.stamp + 1) front (drop (i + 1) j)) (take_more j i d inside)
     ∙ ap (λ (k : ℕ). entry_faults u p (i + 1) (e.stamp + 1) (take i j ++ e ∷ []) (drop k j)) next
     ∙ sym here
+
+one_false : (a b : Bool) → (a ≡ false) ⊎ (b ≡ false) → (a && b) ≡ false
+one_false false b h = refl
+one_false true false h = refl
+one_false true true (inl h) = absurd cc
+one_false true true (inr h) = absurd cc
+
+-- an entry that may not follow those before it, or has too low a stamp, is the first fault of those that are left
+pub entry_bad : (u : Setup) (p i low : ℕ) (j : List Entry) (d : Entry) → i < length j
+    → ((get_or j i d).stamp < low) ⊎ (fits u p (take i j) (get_or j i d).kind (get_or j i d).writer (get_or j i d).offset (get_or j i d).value ≡ false)
+    → IsFirst (entry_faults u p i low (take i j) (drop i j)) (BadEntry p i)
+entry_bad u p i low j d inside h =
+    let e = get_or j i d in
+    let test = leb low e.stamp && fits u p (take i j) e.kind e.writer e.offset e.value in
+    let wrong : test ≡ false = one_false (leb low e.stamp) _ (elim h [
+      | inl less ↦ inl (lt-leb low e.stamp less)
+      | inr unfit ↦ inr unfit
+    ]) in
+    let others = entry_faults u p (i + 1) (e.stamp + 1) (take i j ++ e ∷ []) (drop (suc i) j) in
+    subst (λ (rest : List Entry). IsFirst (entry_faults u p i low (take i j) rest) (BadEntry p i)) (sym (drop-cons j i d inside))
+    (subst (λ (t : Bool). IsFirst (unless t (BadEntry p i) ++ others) (BadEntry p i)) (sym wrong) refl)
 
 -- an entry that may follow others has room on its page
 room_kept : (u : Setup) (p : ℕ) (before : List Entry) (k : Kind) (writer offset value : ℕ) → filled before ≤ 64 → Fits u p before k writer offset value

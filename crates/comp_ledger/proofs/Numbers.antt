@@ -1,7 +1,8 @@
 -- The numbers of shares.
-use Rattle.std.proofs.Common.{◌≡◌, ℕ, zero, suc, ◌+◌, ◌<◌, ◌≤◌, List, [], ◌∷◌, ◌++◌, length, Contains, ap, ◌∙◌, ⊎_elim, arith, subst}
+use Rattle.std.proofs.Common.{◌≡◌, ℕ, zero, suc, ◌+◌, ◌<◌, ◌≤◌, List, [], ◌∷◌, ◌++◌, length, take, take_all, get_or, Contains, ap, sym, ◌∙◌, ⊎_elim, arith, subst}
 use Rattle.std.proofs.lemmas.Bool.{cases_lt}
-use Rattle.std.proofs.lemmas.List.{length-map, map-append}
+use Rattle.std.proofs.lemmas.List.{get_or-map, length-map, map-append, take_more}
+use Rattle.std.proofs.lemmas.List.Elements.{Contains-push_cases}
 use Rattle.std.specs.List.{range_with_len}
 use Rattle.comp_ledger.specs.Shares.{number_of, numbers_of, NoneMissing}
 use Rattle.comp_ledger.specs.declared.share.Share.{Share}
@@ -10,6 +11,23 @@ use Rattle.comp_ledger.proofs.Counting.{enough}
 module _ {L : Type 0} where
   pub numbers_of-push : (xs : List (Share L)) (x : Share L) → numbers_of (xs ++ x ∷ []) ≡ numbers_of xs ++ number_of x ∷ []
   numbers_of-push xs x = map-append number_of xs (x ∷ [])
+
+  -- the number of a share of the list
+  pub has_here : (xs : List (Share L)) (i : ℕ) (share : Share L) (n : ℕ) → i < length xs → share ≡ get_or xs i share → number_of share ≡ n → Contains (numbers_of xs) n
+  has_here xs i share n lt is e =
+      let long = length-map xs number_of in
+      (i, omega (arith, lt, long), get_or-map number_of xs i share n lt ∙ ap number_of (sym is) ∙ e)
+
+  -- a number that neither the shares before place i nor the share there have
+  pub not_through : (xs : List (Share L)) (i : ℕ) (share : Share L) (n : ℕ) → i < length xs → share ≡ get_or xs i share → (number_of share ≡ n → ⊥) → (Contains (numbers_of (take i xs)) n → ⊥) → Contains (numbers_of (take (i + 1) xs)) n → ⊥
+  not_through xs i share n lt is other before has =
+      let more : take (i + 1) xs ≡ take i xs ++ share ∷ [] = take_more xs i share lt ∙ ap (λ s. take i xs ++ s ∷ []) (sym is) in
+      let pushed : Contains (numbers_of (take i xs) ++ number_of share ∷ []) n = subst (λ l. Contains l n) (ap numbers_of more ∙ numbers_of-push (take i xs) share) has in
+      ⊎_elim before other (Contains-push_cases (numbers_of (take i xs)) (number_of share) n pushed)
+
+  -- a number that none has before a place behind all
+  pub not_at_all : (xs : List (Share L)) (i n : ℕ) → length xs ≤ i → (Contains (numbers_of (take i xs)) n → ⊥) → Contains (numbers_of xs) n → ⊥
+  not_at_all xs i n le before has = before (subst (λ l. Contains (numbers_of l) n) (sym (take_all i xs le)) has)
 
   -- where no share is missing, there are as many at least
   pub as_many : (n : ℕ) (xs : List (Share L)) → NoneMissing n xs → n ≤ length xs

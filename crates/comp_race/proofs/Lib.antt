@@ -1,2 +1,3 @@
+pub mod FieldCalls
 pub mod OwnLines
 pub mod Runners

@@ -1,5 +1,5 @@
 -- Runners before and after a race.
-use Rattle.std.proofs.Common.{◌≡◌, ℕ, suc, ◌+◌, ◌≤◌, List, [], ◌∷◌, ◌++◌, map, length, take, get_or, All, None, Vec, vec_capacity, sym, ap, ◌∙◌, ⊎_elim, arith, subst, length-append}
+use Rattle.std.proofs.Common.{◌≡◌, ℕ, suc, ◌+◌, ◌≤◌, List, [], ◌∷◌, ◌++◌, map, length, take, drop, get_or, All, None, Vec, vec_capacity, sym, ap, ◌∙◌, ⊎_elim, arith, subst, append_assoc, append-nil, length-append}
 use Rattle.std.proofs.lemmas.List.{length-map}
 use mathlib.Core.Option.{some, some-injective}
 use lib.ListN.{get_elem?}
@@ -19,7 +19,7 @@ use Rattle.trace_text.specs.declared.line.Line.{Line}
 use Rattle.comp_race.specs.declared.race.Run.{Run}
 use Rattle.comp_race.specs.declared.runner.Runner.{Runner}
 use Rattle.trace_steps.specs.declared.shown.Shown.{Shown}
-use Rattle.trace_steps.proofs.Elements.{at_or}
+use Rattle.trace_steps.proofs.Elements.{at_or, written_back}
 use Rattle.comp_race.proofs.OwnLines.{ran_number, HasRunFirst}
 
 -- What holds of a runner while it runs the first k lines.
@@ -97,6 +97,10 @@ raced_of {L} {B} {g} space lines mutators runners after are long all ran =
           moved u k lines x.0 y.0 old new run old_is y.2 (ap run_of (sym same) ∙ z.2) (all.numbers k old at) x.2.ran;
     }
 
+-- no rooms are enough for no mutators
+pub no_rooms : {L : Type 0} {A : Type 0} (lines : List Line) (rooms : List (Vec Shown A)) → rooms ≡ [] → HaveRooms {L = L} lines [] rooms
+no_rooms lines rooms none = record { count = ap length none; each = λ k m room there has. absurd (omega (arith, is_inside [] k m there)) }
+
 -- one room more
 pub rooms_more : {L : Type 0} {A : Type 0} (lines : List Line) (mutators : List (Mutator L)) (rooms : List (Vec Shown A)) (k : ℕ) (m : Mutator L) (room : Vec Shown A) → HaveRooms lines (take k mutators) rooms
     → get_elem? mutators k ≡ some m → room.items ≡ [] → length (lines_for lines m) ≤ vec_capacity room → HaveRooms lines (take (k + 1) mutators) (rooms ++ room ∷ [])
@@ -112,3 +116,17 @@ rooms_more {L} {A} lines mutators rooms k m room h at none fits =
           (last_of (take k mutators) m x i (ap (λ l. get_elem? l i) (sym more) ∙ there)))
           (last_of rooms room r i has);
     }
+
+-- one element more goes from what is left to what is done
+pub one_moved : {A B : Type 0} (f : A → B) (done more : List B) (x : A) (left rest : List A) (all : List B) → more ≡ done ++ f x ∷ [] → rest ≡ x ∷ left → done ++ map f rest ≡ all → more ++ map f left ≡ all
+one_moved f done more x left rest all e r h = ap (λ l. l ++ map f left) e ∙ append_assoc done (f x ∷ []) (map f left) ∙ ap (λ l. done ++ map f l) (sym r) ∙ h
+
+-- how many there are once they are written back
+pub written_count : {A B : Type 0} (f : A → B) (n : ℕ) (after before : List A) (all : List B) → map f before ≡ all → length after ≡ length before → n ≡ length before
+    → length (take n (after ++ drop (length after) before)) ≡ length all
+written_count f n after before all are long len = ap length (written_back n after before (len ∙ sym long)) ∙ long ∙ sym (length-map before f) ∙ ap length are
+
+-- once nothing is left, all is done
+pub nothing_left : {A : Type 0} (done left all : List A) → length left ≡ 0 → done ++ left ≡ all → done ≡ all
+nothing_left done [] all e h = sym (append-nil done) ∙ h
+nothing_left done (x ∷ xs) all e h = absurd (omega (arith, e))

@@ -1,15 +1,28 @@
 -- Lemmas on what was read of an image, and on what is refused behind it.
-use Rattle.std.proofs.Common.{◌≡◌, ℕ, ◌+◌, ◌≤◌, inr, List, ◌++◌, length, Option, IfSome, refl, sym, ap, ◌∙◌, subst, arith, append_assoc, length-append}
+use Rattle.std.proofs.Common.{◌≡◌, ℕ, ◌+◌, ◌*◌, ◌≤◌, inl, inr, List, [], ◌++◌, length, Option, IfSome, refl, sym, ap, ◌∙◌, subst, arith, append_assoc, append-nil, length-append}
 use Rattle.std.specs.Io.KnownBytes.{Consumes}
 use Rattle.std.specs.List.{flat_map}
 use Rattle.std.proofs.KnownBytes.{Consumes-trans}
 use Rattle.heap_layout.specs.Heap.{Heap, IsStored}
 use Rattle.heap_layout.specs.Faults.{faults, IsFirst}
-use Rattle.heap_image.specs.Encoding.{four_bytes, eight_bytes, preamble, counts, head, encoding, body_len, AreWithin, Refuses, RefusesEnd, EndsBefore}
+use Rattle.heap_image.specs.Encoding.{four_bytes, eight_bytes, preamble, counts, head, encoding, body_len, AreWithin, Refuses, RefusesCounts, RefusesEnd, EndsBefore}
 use Rattle.heap_layout.specs.declared.fault.LayoutFault.{LayoutFault}
-use Rattle.heap_layout.specs.declared.fault.LayoutFault.TheVariants.{ObjectPastEnd, ObjectTooLong, MarkNotStart, MarksNotRising, BadRoot, UnmarkedTarget, Truncated, TrailingBytes, OutOfMemory, Device}
+use Rattle.heap_layout.specs.declared.fault.LayoutFault.TheVariants.{TooLarge, ObjectPastEnd, ObjectTooLong, MarkNotStart, MarksNotRising, BadRoot, UnmarkedTarget, Truncated, TrailingBytes, OutOfMemory, Device}
 use Rattle.heap_image.proofs.PartFaults.{IsOfPart, first_of_part}
 use Rattle.heap_image.proofs.Reading.{behind_read}
+
+-- what is refused behind the magic and the version, as a fact of all the bytes
+refused_counts : (rest : List ℕ) (fault : LayoutFault) → RefusesCounts fault rest → Refuses fault (preamble ++ rest)
+refused_counts rest TooLarge (words, marks, roots, over, (more, same, _)) =
+    (words, marks, roots, over, (more, ap (λ (bytes : List ℕ). preamble ++ bytes) same ∙ sym (append_assoc preamble (counts words marks roots) more), tt))
+refused_counts rest Truncated short = inr (inr (inl (rest, refl, short)))
+refused_counts rest OutOfMemory short = tt
+refused_counts rest Device short = tt
+refused_counts rest _ short = absurd short
+
+-- the same of a reader that has read those
+pub ends_in_counts : (a b : Option (List ℕ)) (fault : LayoutFault) → Consumes a b preamble → IfSome b (RefusesCounts fault) → IfSome a (Refuses fault)
+ends_in_counts a b fault read cut = behind_read a b preamble (RefusesCounts fault) (Refuses fault) read cut (λ rest why. refused_counts rest fault why)
 
 -- what ends behind the front of the numbers ends among them, as a fact of the bytes
 refused_in_body : (words marks roots n : ℕ) (front rest : List ℕ) (fault : LayoutFault) → AreWithin words marks roots
@@ -28,6 +41,15 @@ pub ends_in_body : (a b : Option (List ℕ)) (words marks roots n : ℕ) (front 
 ends_in_body a b words marks roots n front all fault same read within room cut =
     behind_read a b (head words marks roots ++ front) (EndsBefore n fault) (Refuses fault) (subst (Consumes a b) same read) cut
     (λ rest short. refused_in_body words marks roots n front rest fault within room short)
+
+-- the same of a reader that has read the head alone and then ends among the words
+pub ends_in_words : (start behind_magic behind_counts : Option (List ℕ)) (words marks roots : ℕ) (fault : LayoutFault) → Consumes start behind_magic preamble
+    → Consumes behind_magic behind_counts (counts words marks roots) → AreWithin words marks roots
+    → IfSome behind_counts (EndsBefore (8 * words) fault) → IfSome start (Refuses fault)
+ends_in_words start behind_magic behind_counts words marks roots fault magic_read counts_read within cut =
+    let read = Consumes-trans start behind_magic behind_counts preamble (counts words marks roots) magic_read counts_read in
+    let front = head words marks roots in
+    ends_in_body start behind_counts words marks roots (8 * words) [] front fault (sym (append-nil front)) read within (omega arith) cut
 
 -- what is refused behind an image, as a fact of all the bytes
 refused_end : (heap : Heap) (rest : List ℕ) (fault : LayoutFault) → IsStored heap

@@ -1,8 +1,9 @@
 -- Lemmas on what was read into a buffer, and on what is refused behind it.
-use Rattle.std.proofs.Common.{◌≡◌, ◌≢◌, ℕ, ◌+◌, ◌^◌, ◌<◌, ◌≤◌, ◌⊎◌, inl, inr, Bool, true, false, leb, List, ◌++◌, length, take, Option, None, Some, IfSome, Err, refl, sym, ap, ◌∙◌, subst, arith, length-append}
+use Rattle.std.proofs.Common.{◌≡◌, ◌≢◌, ℕ, ◌+◌, ◌^◌, ◌<◌, ◌≤◌, ◌⊎◌, inl, inr, Bool, true, false, leb, List, ◌++◌, length, take, Option, None, Some, IfSome, Result, Ok, Err, IfErr, refl, sym, ap, ◌∙◌, subst, arith, length-append}
 use Rattle.std.proofs.lemmas.Bool.{leb-false}
 use Rattle.std.proofs.lemmas.List.{take-append-le, length-take-le, take_at}
 use Rattle.std.proofs.Math.Seq.{take-append-add}
+use Rattle.std.specs.Result.{IsErrAnd}
 use Rattle.std.specs.Io.KnownBytes.{Consumes}
 use Rattle.heap_image.specs.Counted.{CountsFailure}
 use Rattle.heap_layout.specs.Faults.{size_faults, unless, IsFirst}
@@ -32,6 +33,25 @@ pub with_front : (a b : Option (List ℕ)) (front : List ℕ) (Q : List ℕ → 
 with_front None b front Q read f = tt
 with_front (Some xs) None front Q read f = absurd read
 with_front (Some xs) (Some ys) front Q read f = subst Q (sym read) (f ys)
+
+-- what ends before the 8 bytes of the magic
+pub cut_in_magic : (a : Option (List ℕ)) (fault : LayoutFault) → IfSome a (EndsBefore 8 fault) → IfSome a (Refuses fault)
+cut_in_magic None fault cut = tt
+cut_in_magic (Some bytes) Truncated cut = inl cut
+cut_in_magic (Some bytes) OutOfMemory cut = tt
+cut_in_magic (Some bytes) Device cut = tt
+cut_in_magic (Some bytes) _ cut = absurd cut
+
+-- what ends before the 4 bytes of the version, behind the magic
+ends_in_version : (rest : List ℕ) (fault : LayoutFault) → EndsBefore 4 fault rest → Refuses fault (magic ++ rest)
+ends_in_version rest Truncated short = inr (inl (rest, refl, short))
+ends_in_version rest OutOfMemory short = tt
+ends_in_version rest Device short = tt
+ends_in_version rest _ short = absurd short
+
+-- the same of a reader that has read the magic
+pub cut_in_version : (a b : Option (List ℕ)) (fault : LayoutFault) → Consumes a b magic → IfSome b (EndsBefore 4 fault) → IfSome a (Refuses fault)
+cut_in_version a b fault read cut = behind_read a b magic (EndsBefore 4 fault) (Refuses fault) read cut (λ rest short. ends_in_version rest fault short)
 
 -- 8 other bytes than the magic were read
 pub other_magic : (a b : Option (List ℕ)) (front : List ℕ) → Consumes a b front → length front ≡ 8 → front ≢ magic → IfSome a (Refuses BadMagic)
@@ -87,7 +107,24 @@ pub ends_behind : (a b : Option (List ℕ)) (front : List ℕ) (m n : ℕ) (faul
 ends_behind a b front m n fault read h cut =
     behind_read a b front (EndsBefore m fault) (EndsBefore n fault) read cut (λ rest short. ends_later m n front rest fault h short)
 
+-- want of memory is not in the bytes
+pub cut_for_memory : (a : Option (List ℕ)) (n : ℕ) → IfSome a (EndsBefore n OutOfMemory)
+cut_for_memory None n = tt
+cut_for_memory (Some bytes) n = tt
+
 -- a failure is one since the start, where none was before
 pub failed_since : (start before after : ℕ) (fault : LayoutFault) → before ≡ start → CountsFailure {T = Unit {0}} before after (Err fault)
     → CountsFailure {T = Unit {0}} start after (Err fault)
 failed_since start before after fault same = subst (λ (failures : ℕ). CountsFailure {T = Unit {0}} failures after (Err fault)) same
+
+-- what holds of a fault holds where it is handed on
+pub handed_on : {T : Type 0} (r : Result T LayoutFault) (Q : LayoutFault → Type 0) (fault : LayoutFault) → IsErrAnd r (λ told. told ≡ fault) → Q fault → IfErr r Q
+handed_on (Ok x) Q fault told q = absurd told
+handed_on (Err y) Q fault told q = subst Q (sym told) q
+
+-- a failure that is handed on is one since the start, where none was before
+pub failure_handed_on : {T : Type 0} (r : Result T LayoutFault) (start before after : ℕ) (fault : LayoutFault) → IsErrAnd r (λ told. told ≡ fault)
+    → before ≡ start → CountsFailure {T = Unit {0}} before after (Err fault) → CountsFailure start after r
+failure_handed_on (Ok x) start before after fault told same counted = absurd told
+failure_handed_on (Err y) start before after fault told same counted =
+    subst (λ (cause : LayoutFault). CountsFailure {T = Unit {0}} start after (Err cause)) (sym told) (failed_since start before after fault same counted)

@@ -1,7 +1,7 @@
 -- What the command `replay` does and refuses, from what its parts do and refuse.
-use Rattle.std.proofs.Common.{◌≡◌, ℕ, ◌+◌, List, [], Option, Some, None, Result, Ok, Err, IfErr, OnOk, length, map, inl, inr, refl, sym, subst, ◌∙◌, append-nil}
+use Rattle.std.proofs.Common.{◌≡◌, ℕ, ◌+◌, ◌++◌, List, [], Option, Some, None, Result, Ok, Err, IfErr, OnErr, OnOk, length, map, inl, inr, refl, sym, subst, ◌∙◌, append-nil}
 use Rattle.std.specs.Bool.{⊤}
-use Rattle.std.proofs.KnownBytes.{Appends-kept, Keeps-refl}
+use Rattle.std.proofs.KnownBytes.{Appends-kept, Appends-trans, Keeps-refl}
 use Rattle.std.specs.Io.KnownBytes.{Appends, Keeps}
 use Rattle.heap_layout.specs.Heap.{live, Heap}
 use Rattle.page_plan.specs.Sliding.{live_words}
@@ -24,7 +24,7 @@ use Rattle.command_io.specs.Dumps.{IsOfDumping, WritesWhole}
 use Rattle.command_io.specs.Images.{IsImageOf, RefusesAt, RefusesImage, SomeGiven}
 use Rattle.command_io.specs.Printing.{CountsPrint}
 use Rattle.trace_commands.specs.Replays.{dumped_of, shown_lines, HasRun, IsHalted, IsOfWritingRun, IsReplayedHeap, PrintsRun, RefusesReplay, RefusesRun, Replays, SomeRun, StopsReplay, StopsUnprinted}
-use Rattle.command_io.specs.Texts.{HasLines, IsOfReading, IsTextOf, RefusesText, RefusesTextAt, SomeText}
+use Rattle.command_io.specs.Texts.{HasLines, IsTextOf, RefusesText, RefusesTextAt, SomeText}
 use Rattle.command_io.specs.declared.refusal.Input.TheVariants as inputs
 use Rattle.command_io.specs.declared.refusal.Refusal.{Refusal}
 use Rattle.command_io.specs.declared.refusal.Refusal.TheVariants.{Layout, Mutator, Sweep, Trace, Dump, Audit, CannotOpen, CannotCreate, ReadFailed, CannotPrint, NoSuchWord, OutOfMemory}
@@ -278,6 +278,28 @@ pub dumped_same : (mutators fresh : ℕ) (f : Finished) (dump : Dumped) → dump
     → dump.builds ≡ builds_in f → dump.total ≡ live_of f → dump ≡ dumped_of mutators fresh f
 dumped_same mutators fresh f dump em en er ep eb et =
     same_parts dump.mutators mutators dump.fresh fresh dump.total (live_of f) dump.roots (roots_of f) dump.pages (map record_of (pages_of f)) dump.builds (builds_in f) em en er ep eb et
+
+-- The values of a run are printed, and then its live words. Where the last line is not, a call of the output failed, and the dump had been written.
+pub printed_run : (before between after : Option (List ℕ)) (values line : List ℕ) (result : Result (Unit {0}) Refusal) → Appends before between values → OnOk result (Appends between after line)
+    → OnOk result (Appends before after (values ++ line))
+printed_run before between after values line (Ok _) printed last = Appends-trans before between after values line printed last
+printed_run before between after values line (Err refusal) printed last = tt
+
+pub unprinted_run : {W : Type 0} (lacks : Type 0) (gives : W → Type 0) (contents : W → Option (List ℕ)) (bytes : List ℕ) (result : Result (Unit {0}) Refusal) → OnErr result (result ≡ Err CannotPrint)
+    → WritesWhole gives contents bytes → IfErr result (IsOfWritingRun lacks gives contents bytes)
+unprinted_run lacks gives contents bytes (Ok _) cause written = tt
+unprinted_run lacks gives contents bytes (Err refusal) cause written =
+    let is : refusal ≡ CannotPrint = cc in
+    subst (IsOfWritingRun lacks gives contents bytes) (sym is) written
+
+pub unprinted_line : (before after : Option (List ℕ)) (result : Result (Unit {0}) Refusal) → OnErr result (result ≡ Err CannotPrint) → StopsUnprinted before after result
+unprinted_line before after (Ok _) cause = tt
+unprinted_line before after (Err refusal) cause =
+    let is : refusal ≡ CannotPrint = cc in
+    subst (λ (r : Refusal). StopsUnprinted {T = Unit {0}} before after (Err r)) (sym is) tt
+
+pub of_unprinted : (result : Result (Unit {0}) Refusal) (refusal : Refusal) → result ≡ Err refusal → result ≡ Err CannotPrint → refusal ≡ CannotPrint
+of_unprinted result refusal is cause = cc
 
 -- What was done of a run, where the output is flushed behind it, or is not.
 module _ {R S W : Type 0} (given : R → Type 0) (remaining : R → Option (List ℕ)) (told : S → Type 0) (rest : S → Option (List ℕ)) (gives : W → Type 0) (contents : W → Option (List ℕ))

@@ -1,4 +1,5 @@
-use Rattle.std.proofs.Common.{◌≡◌, ◌+◌, ◌++◌, ◌∙◌, List, sym, ap, arith, take, drop, get_or, ℕ, length, true, length-append}
+use Rattle.std.proofs.Common.{◌≡◌, ◌+◌, ◌++◌, ◌∙◌, List, sym, ap, arith, take, drop, get_or, ℕ, length, true, false, ◌⊎◌, inl, inr, ◌<◌, subst, length-append}
+use Rattle.std.proofs.lemmas.List.{drop_all}
 use Rattle.heap_layout.specs.declared.kind.Kind.{Kind}
 use Rattle.heap_layout.specs.declared.kind.Kind.TheVariants.{Header}
 use Rattle.comp_journal.specs.declared.entry.Entry.{Entry}
@@ -6,7 +7,11 @@ use Rattle.cell_steps.specs.Setup.{fresh_page}
 use Rattle.cell_steps.specs.Lawful.{kinds_by, kinds_in}
 use Rattle.audit_checks.specs.Checks.{fits, entry_faults}
 use Rattle.audit_checks.specs.Noted.{setup_at}
-use Rattle.audit_checks.proofs.EntryByEntry.{entry_next, kinds_more}
+use Rattle.audit_checks.specs.Told.{IsFirst}
+use Rattle.audit_checks.specs.declared.fault.AuditFault.{AuditFault}
+use Rattle.audit_checks.specs.declared.fault.AuditFault.TheVariants.{BadEntry}
+use Rattle.audit_checks.proofs.EntryByEntry.{entry_bad, entry_next, kinds_more}
+use Rattle.audit_checks.proofs.journals.check_fresh.Goals.{then-from-low-via-then-from-low, then-from-low-via-else-from-low+then-not-may_follow}
 use Rattle.audit_checks.proofs.journals.check_fresh.Goals as goal
 
 pub loop-k-preserved : goal.loop-k-preserved
@@ -32,3 +37,27 @@ loop-k-preserved c =
       few = omega (arith, room, ap length c.add_kinds.ensures.items, length-append c.loop-k.kinds.items (kinds_by e.kind e.value), ap length c.deref.ensures.value);
       room = omega (arith, c.add_kinds.ensures.capacity, i.room);
     }
+
+pub returns-then-from-low : goal.returns-then-from-low
+returns-then-from-low c =
+    let i = c.loop-k.invariant in
+    let j = c.args.journal.now in
+    let k = c.loop-k.k in
+    let u = setup_at c.args.setting in
+    let none : Entry = record { stamp = 0; writer = 0; kind = Header; offset = 0; value = 0 } in
+    let e = get_or j k none in
+    let bad : (e.stamp < c.loop-k.low) ⊎ (fits u c.args.p (take k j) e.kind e.writer e.offset e.value ≡ false) = elim c.then-from-low.branch [
+      | then-from-low-via-then-from-low w ↦ inl (omega (arith, c.from.ensures, w.if-from-low.true))
+      | then-from-low-via-else-from-low+then-not-may_follow w ↦
+          inr (ap (λ (p : ℕ). fits u p (take k j) e.kind e.writer e.offset e.value) c.requires.number
+          ∙ sym (w.may_follow.ensures.fits c.args.setting.plan.now c.args.setting.fresh (take k j) c.requires.fresh (i.kinds ∙ sym w.deref.ensures.value))
+          ∙ w.if-not-may_follow.true)
+    ] in
+    subst (λ (faults : List AuditFault). IsFirst faults (BadEntry c.args.p k)) i.left (entry_bad u c.args.p k c.loop-k.low j none c.loop-k-test.true bad)
+
+pub returns : goal.returns
+returns c =
+    let j = c.args.journal.now in
+    let k = c.loop-k.k in
+    sym c.loop-k.invariant.left
+    ∙ ap (λ (rest : List Entry). entry_faults (setup_at c.args.setting) c.args.p k c.loop-k.low (take k j) rest) (drop_all k j c.loop-k-test.false)

@@ -8,7 +8,7 @@ use Rattle.comp_race.specs.declared.race.Run.{Run}
 use Rattle.comp_mutator.specs.Mutators.{setup_of}
 use Rattle.trace_steps.proofs.Fitting.{lines_fit}
 use Rattle.comp_race.specs.Runners.{mutator_of, run_of, HaveRooms}
-use Rattle.comp_race.proofs.Runners.{ready_of, raced_of}
+use Rattle.comp_race.proofs.Runners.{ready_of, raced_of, written_count}
 use Rattle.trace_steps.proofs.Elements.{written_back}
 use Rattle.comp_race.proofs.race.race.Goals as goal
 
@@ -39,3 +39,25 @@ returns-clause-raced g c =
     subst (λ (ls : List Line). HaveRaced space ls before c.parted.result.mutators.items c.parted.result.runs.items) c.lines-lines.ensures.lines
     (subst (λ (ms : List (Mutator g.row.L.Denot)). HaveRaced space c.lines-lines.result.now before ms c.parted.result.runs.items) (sym (c.parted.ensures.mutators ∙ ap (map mutator_of) back))
     (subst (λ (rs : List Run). HaveRaced space c.lines-lines.result.now before (map mutator_of new) rs) (sym (c.parted.ensures.runs ∙ ap (map run_of) back)) raced))
+
+pub readied-runners-requires-clause-rooms : goal.readied-runners-requires-clause-rooms
+readied-runners-requires-clause-rooms g c = c.in-Ok.ensures.rooms.count ∙ ap length c.deref.ensures.value
+
+pub readied-runners-requires-clause-empty : goal.readied-runners-requires-clause-empty
+readied-runners-requires-clause-empty g c =
+    let v = c.in-Ok-with_capacity in
+    (v.ensures.items, omega (arith, v.ensures.capacity, c.len.ensures, c.args.mutators.ok.0))
+
+pub parted-requires-clause-mutators : goal.parted-requires-clause-mutators
+parted-requires-clause-mutators g c =
+    let r = c.readied-runners in
+    let v = c.in-Ok-with_capacity-2 in
+    let count = written_count mutator_of r.result.len c.run_all.new.runners r.result.items c.args.mutators.items r.ensures.mutators (c.run_all.ensures.long ∙ ap length c.deref_mut.ensures.value) r.result.ok.0 in
+    (v.ensures.items, omega (arith, count, v.ensures.capacity, c.len-2.ensures, c.args.mutators.ok.0))
+
+pub parted-requires-clause-runs : goal.parted-requires-clause-runs
+parted-requires-clause-runs g c =
+    let r = c.readied-runners in
+    let v = c.in-Ok-with_capacity-3 in
+    let count = written_count mutator_of r.result.len c.run_all.new.runners r.result.items c.args.mutators.items r.ensures.mutators (c.run_all.ensures.long ∙ ap length c.deref_mut.ensures.value) r.result.ok.0 in
+    (v.ensures.items, omega (arith, count, v.ensures.capacity, c.len-3.ensures, c.args.mutators.ok.0))

@@ -5,9 +5,44 @@ use Rattle.std.specs.List.{flat_map}
 use Rattle.heap_layout.specs.Heap.{Heap, IsStored}
 use Rattle.heap_image.specs.Encoding.{four_bytes, eight_bytes, head, encoding, AreWithin, Refuses}
 use Rattle.heap_image.proofs.Numbers.{length-pieces}
-use Rattle.heap_image.proofs.Images.{ends_in_body, more_behind, refused_heap, words_read, image_read}
+use Rattle.heap_image.proofs.Reading.{handed_on, failure_handed_on}
+use Rattle.heap_image.proofs.Images.{ends_in_counts, ends_in_words, ends_in_body, more_behind, refused_heap, words_read, image_read}
 use Rattle.heap_image.proofs.PartFaults.{first_of_part, counts_kept}
 use Rattle.heap_image.proofs.image.read_image.Goals as goal
+
+pub returns-in_err-read_magic-clause-cause : goal.returns-in_err-read_magic-clause-cause
+returns-in_err-read_magic-clause-cause g c =
+    handed_on _ _ _ c.from_residual.ensures.1
+    c.in_err-read_magic.ensures.cause
+
+pub returns-in_err-read_magic-clause-counts : goal.returns-in_err-read_magic-clause-counts
+returns-in_err-read_magic-clause-counts g c =
+    failure_handed_on _ _ _ _ _ c.from_residual.ensures.1
+    refl
+    c.in_err-read_magic.ensures.counts
+
+pub returns-in_err-counts-clause-cause : goal.returns-in_err-counts-clause-cause
+returns-in_err-counts-clause-cause g c =
+    handed_on _ _ _ c.from_residual-in_err-counts.ensures.1
+    (ends_in_counts _ _ _ c.in_ok-read_magic.ensures.read c.in_err-counts.ensures.cause)
+
+pub returns-in_err-counts-clause-counts : goal.returns-in_err-counts-clause-counts
+returns-in_err-counts-clause-counts g c =
+    failure_handed_on _ _ _ _ _ c.from_residual-in_err-counts.ensures.1
+    (c.in_ok-read_magic.ensures.counts)
+    c.in_err-counts.ensures.counts
+
+pub returns-in_err-words-clause-cause : goal.returns-in_err-words-clause-cause
+returns-in_err-words-clause-cause g c =
+    handed_on _ _ _ c.from_residual-in_err-words.ensures.1
+    (ends_in_words _ _ _ c.in_ok-counts.counts.words c.in_ok-counts.counts.marks c.in_ok-counts.counts.roots _
+    c.in_ok-read_magic.ensures.read c.in_ok-counts.ensures.read c.in_ok-counts.ensures.within c.in_err-words.ensures.cut)
+
+pub returns-in_err-words-clause-counts : goal.returns-in_err-words-clause-counts
+returns-in_err-words-clause-counts g c =
+    failure_handed_on _ _ _ _ _ c.from_residual-in_err-words.ensures.1
+    (c.in_ok-counts.ensures.counts ∙ c.in_ok-read_magic.ensures.counts)
+    c.in_err-words.ensures.counts
 
 pub returns-in_err-marks-clause-cause : goal.returns-in_err-marks-clause-cause
 returns-in_err-marks-clause-cause g c =
@@ -22,6 +57,12 @@ returns-in_err-marks-clause-cause g c =
     rw (p.1, p.2)
     (ends_in_body _ _ counts.words counts.marks counts.roots _ of_words _ _ refl read c.in_ok-counts.ensures.within (omega arith)
     c.in_err-marks.ensures.cut)
+
+pub returns-in_err-marks-clause-counts : goal.returns-in_err-marks-clause-counts
+returns-in_err-marks-clause-counts g c =
+    failure_handed_on _ _ _ _ _ c.from_residual-in_err-marks.ensures.1
+    (c.in_ok-words.ensures.counts ∙ c.in_ok-counts.ensures.counts ∙ c.in_ok-read_magic.ensures.counts)
+    c.in_err-marks.ensures.counts
 
 pub returns-in_err-roots-clause-cause : goal.returns-in_err-roots-clause-cause
 returns-in_err-roots-clause-cause g c =
@@ -44,6 +85,12 @@ returns-in_err-roots-clause-cause g c =
     (ends_in_body _ _ counts.words counts.marks counts.roots _ (of_words ++ of_marks) _ _ (append_assoc front of_words of_marks) read
     c.in_ok-counts.ensures.within (omega arith) c.in_err-roots.ensures.cut)
 
+pub returns-in_err-roots-clause-counts : goal.returns-in_err-roots-clause-counts
+returns-in_err-roots-clause-counts g c =
+    failure_handed_on _ _ _ _ _ c.from_residual-in_err-roots.ensures.1
+    (c.in_ok-marks.ensures.counts ∙ c.in_ok-words.ensures.counts ∙ c.in_ok-counts.ensures.counts ∙ c.in_ok-read_magic.ensures.counts)
+    c.in_err-roots.ensures.counts
+
 pub returns-in_err-expect_end-clause-cause : goal.returns-in_err-expect_end-clause-cause
 returns-in_err-expect_end-clause-cause g c =
     let p = err_from_is_err_and c.from_residual-in_err-expect_end.result c.from_residual-in_err-expect_end.ensures.1 in
@@ -57,6 +104,12 @@ returns-in_err-expect_end-clause-cause g c =
     let within : AreWithin (length heap.words) (length heap.marks) (length heap.roots) =
     rw (c.in_ok-words.ensures.long, c.in_ok-marks.ensures.long, c.in_ok-roots.ensures.long) c.in_ok-counts.ensures.within in
     rw (p.1, p.2) (more_behind _ _ heap _ stored within read c.in_err-expect_end.ensures.cause)
+
+pub returns-in_err-expect_end-clause-counts : goal.returns-in_err-expect_end-clause-counts
+returns-in_err-expect_end-clause-counts g c =
+    failure_handed_on _ _ _ _ _ c.from_residual-in_err-expect_end.ensures.1
+    (c.in_ok-roots.ensures.counts ∙ c.in_ok-marks.ensures.counts ∙ c.in_ok-words.ensures.counts ∙ c.in_ok-counts.ensures.counts ∙ c.in_ok-read_magic.ensures.counts)
+    c.in_err-expect_end.ensures.counts
 
 pub returns-clause-image : goal.returns-clause-image
 returns-clause-image g c =

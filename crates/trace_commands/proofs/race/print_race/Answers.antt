@@ -1,4 +1,4 @@
-use Rattle.std.proofs.Common.{◌≡◌, List, ap, length, subst}
+use Rattle.std.proofs.Common.{Err, List, ap, length, refl, subst}
 use Rattle.std.proofs.KnownBytes.{Keeps-refl}
 use Rattle.std.proofs.lemmas.Result.{err_from_is_err_and}
 use Rattle.std.specs.Io.KnownBytes.{Appends}
@@ -6,10 +6,9 @@ use Rattle.heap_image.specs.Counted.{inner_of, failures_of}
 use Rattle.trace_text.specs.Traces.{lines_of}
 use Rattle.trace_steps.specs.declared.shown.Shown.{Shown}
 use Rattle.trace_commands.specs.Replays.{shown_lines}
-use Rattle.command_io.specs.declared.refusal.Refusal.TheVariants.{CannotPrint}
 use Rattle.command_io.proofs.Outcomes.{uncreated}
 use Rattle.trace_commands.proofs.RaceRuns.{halted_uncounted, halted_unprinted, of_all_ok, of_halt, of_halt_unprinted, of_image, of_trace, of_writing_err}
-use Rattle.trace_commands.proofs.ReplayRuns.{image_uncounted, some_text, text_for, trace_uncounted, unprinted_halt}
+use Rattle.trace_commands.proofs.ReplayRuns.{image_uncounted, of_unprinted, some_text, text_for, trace_uncounted, unprinted_halt}
 use Rattle.trace_commands.proofs.race.print_race.Goals as goal
 
 -- There is no heap.
@@ -139,8 +138,8 @@ returns-in_err-print_shown-in-Err-clause-cause g c =
     let told = g.T.Traces.gives c.args.traces.now paths.trace.now in
     let rest = g.T.Reader.Read.remaining in
     let trace = some_text told rest paths.mutators _ (length c.in_ok-heap.heap.roots) (lines_of c.in_ok-trace.trace) (ap length c.roots.ensures.roots) c.in_ok-trace.ensures.lines in
-    let told_err = c.in_err-print_shown-in-Err.ensures.cause in
-    let is : c.in_err-print_shown-in-Err.field-0.0 ≡ CannotPrint = cc in
+    let refusal = c.in_err-print_shown-in-Err.field-0.0 in
+    let is = of_unprinted (Err refusal) refusal refl c.in_err-print_shown-in-Err.ensures.cause in
     rw (p.1, p.2, is) (of_halt_unprinted (g.I.Images.lacks c.args.images.now paths.image.now) (g.I.Images.gives c.args.images.now paths.image.now) g.I.Reader.Read.remaining
     (g.T.Traces.lacks c.args.traces.now paths.trace.now) told rest
     (g.D.Dumps.lacks c.args.dumps.now paths.dump.now) (g.D.Dumps.gives c.args.dumps.now paths.dump.now) g.D.Writer.Write.contents

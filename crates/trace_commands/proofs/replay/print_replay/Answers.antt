@@ -1,4 +1,4 @@
-use Rattle.std.proofs.Common.{◌≡◌, List, ap, length, rules, subst}
+use Rattle.std.proofs.Common.{Err, List, ap, length, refl, subst}
 use Rattle.std.proofs.KnownBytes.{Keeps-refl}
 use Rattle.std.proofs.lemmas.Result.{err_from_is_err_and}
 use Rattle.std.specs.Io.KnownBytes.{Appends}
@@ -6,9 +6,8 @@ use Rattle.heap_image.specs.Counted.{inner_of, failures_of}
 use Rattle.trace_text.specs.Traces.{lines_of}
 use Rattle.trace_steps.specs.declared.shown.Shown.{Shown}
 use Rattle.trace_commands.specs.Replays.{shown_lines}
-use Rattle.command_io.specs.declared.refusal.Refusal.TheVariants.{CannotPrint}
 use Rattle.command_io.proofs.Outcomes.{uncreated}
-use Rattle.trace_commands.proofs.ReplayRuns.{halt_uncounted, halt_unprinted, image_uncounted, of_all_ok, of_halt, of_halt_unprinted, of_image, of_trace, of_writing_err, some_text, text_for, trace_uncounted, unprinted_halt}
+use Rattle.trace_commands.proofs.ReplayRuns.{halt_uncounted, halt_unprinted, image_uncounted, of_all_ok, of_halt, of_halt_unprinted, of_image, of_trace, of_unprinted, of_writing_err, some_text, text_for, trace_uncounted, unprinted_halt}
 use Rattle.trace_commands.proofs.replay.print_replay.Goals as goal
 
 -- There is no heap.
@@ -107,10 +106,9 @@ returns-clause-cause g c =
     let told = g.T.Traces.gives c.args.traces.now paths.trace.now in
     let rest = g.T.Reader.Read.remaining in
     let trace = some_text told rest paths.mutators _ (length c.in_ok-heap.heap.roots) (lines_of c.in_ok-trace.trace) (ap length c.roots.ensures.roots) c.in_ok-trace.ensures.lines in
-    let values : c.deref.result.now ≡ c.in-Err.halted.shown.items = search rules in
     let output = g.O.Write.contents (inner_of c.args.out.now).now in
     let written = g.O.Write.contents (inner_of c.print_shown.new.out).now in
-    let printed = subst (λ (shown : List Shown). Appends output written (shown_lines shown)) values c.in_ok-print_shown-in-Err.ensures.printed in
+    let printed = subst (λ (shown : List Shown). Appends output written (shown_lines shown)) c.deref.ensures.value c.in_ok-print_shown-in-Err.ensures.printed in
     of_halt (g.I.Images.lacks c.args.images.now paths.image.now) (g.I.Images.gives c.args.images.now paths.image.now) g.I.Reader.Read.remaining
     (g.T.Traces.lacks c.args.traces.now paths.trace.now) told rest
     (g.D.Dumps.lacks c.args.dumps.now paths.dump.now) (g.D.Dumps.gives c.args.dumps.now paths.dump.now) g.D.Writer.Write.contents
@@ -126,10 +124,9 @@ pub returns-clause-unprinted : goal.returns-clause-unprinted
 returns-clause-unprinted g c =
     let text = text_for (g.T.Traces.gives c.args.traces.now c.args.asked.trace.now) g.T.Reader.Read.remaining c.args.asked.mutators _ (length c.in_ok-heap.heap.roots)
     (lines_of c.in_ok-trace.trace) (ap length c.roots.ensures.roots) c.in_ok-trace.ensures.lines in
-    let values : c.deref.result.now ≡ c.in-Err.halted.shown.items = search rules in
     let output = g.O.Write.contents (inner_of c.args.out.now).now in
     let written = g.O.Write.contents (inner_of c.print_shown.new.out).now in
-    let printed = subst (λ (shown : List Shown). Appends output written (shown_lines shown)) values c.in_ok-print_shown-in-Err.ensures.printed in
+    let printed = subst (λ (shown : List Shown). Appends output written (shown_lines shown)) c.deref.ensures.value c.in_ok-print_shown-in-Err.ensures.printed in
     halt_unprinted c.args.asked.mutators c.args.asked.fresh (lines_of c.in_ok-trace.trace) c.in-Err.halted.shown.items c.in_ok-heap.heap
     (g.O.Write.contents (inner_of c.args.out.now).now) (g.O.Write.contents (inner_of c.print_shown.new.out).now) c.in-Err.halted.refusal text printed c.in-Err.ensures.halted
 
@@ -144,8 +141,8 @@ returns-in_err-print_shown-in-Err-clause-cause g c =
     let told = g.T.Traces.gives c.args.traces.now paths.trace.now in
     let rest = g.T.Reader.Read.remaining in
     let trace = some_text told rest paths.mutators _ (length c.in_ok-heap.heap.roots) (lines_of c.in_ok-trace.trace) (ap length c.roots.ensures.roots) c.in_ok-trace.ensures.lines in
-    let told_err = c.in_err-print_shown-in-Err.ensures.cause in
-    let is : c.in_err-print_shown-in-Err.field-0.0 ≡ CannotPrint = cc in
+    let refusal = c.in_err-print_shown-in-Err.field-0.0 in
+    let is = of_unprinted (Err refusal) refusal refl c.in_err-print_shown-in-Err.ensures.cause in
     rw (p.1, p.2, is) (of_halt_unprinted (g.I.Images.lacks c.args.images.now paths.image.now) (g.I.Images.gives c.args.images.now paths.image.now) g.I.Reader.Read.remaining
     (g.T.Traces.lacks c.args.traces.now paths.trace.now) told rest
     (g.D.Dumps.lacks c.args.dumps.now paths.dump.now) (g.D.Dumps.gives c.args.dumps.now paths.dump.now) g.D.Writer.Write.contents
