@@ -1,10 +1,10 @@
 //! The words of the command line.
-ghost use Rattle.std.specs.Prelude.{◌≡◌, ◌≢◌, ◌⊎◌, ℕ, [], true, false, codes, map, is_some, Some, IsOkAnd, IsSomeAnd, IfSome, IfOk, IfErr};
+ghost use Rattle.std.specs.Prelude.{◌≡◌, ◌≢◌, ◌⊎◌, ℕ, [], true, false, codes, map, is_some, Some, IsSomeAnd, IfSome, IfOk, IfErr};
 ghost use Rattle.std.specs.String.{string_bytes};
-ghost use Rattle.clap.specs.Words.{app_of, fault_of, first_value, found_of, kind_of, one_text, rule_of, subcommand_of, subcommand_rows_of, with_subcommand};
+ghost use Rattle.clap.specs.Words.{app_of, fault_of, first_value, found_of, kind_of, new_app, one_text, rule_of, subcommand_of, subcommand_rows_of, with_rule, with_subcommand, App, Rule};
 ghost use Rattle.clap.specs.declared.error.kind.ErrorKind.TheVariants.{DisplayHelp, DisplayVersion, OutOfMemory};
 ghost use Rattle.command_line.specs.Asked.{Asks, AsksNoCommand, HasLawfulCounts, IsAnswerOf};
-ghost use Rattle.command_line.specs.Forms.{audit_form, compact_form, fresh, mutators, number_within, plan_form, race_form, replay_form, run_form, standing, text, word_form, workers};
+ghost use Rattle.command_line.specs.Forms.{audit_form, compact_form, fresh, mutators, number, number_within, plan_form, race_form, replay_form, run_form, standing, text, word_form, workers};
 ghost use Rattle.command_line.specs.Given.{IsNumber, IsNumberOr};
 ghost use Rattle.command_line.specs.Finds.{HasRun, IsRunFound};
 ghost use Rattle.command_line.specs.Parser.{bare_program, command as command_of, option_rule, optional_rule, program, rule};
@@ -188,28 +188,37 @@ fn answer_task<'a>(alloc: Global, error: Error) -> Result<Task<'a>, Error>
     }
 }
 
-fn command<'a>(alloc: Global) -> Result<Command<'a>, AllocError>
+// A command, or that memory was wanting for it.
+type Made<'a> = Result<Command<'a>, AllocError>;
+
+fn command<'a>(alloc: Global) -> Made<'a>
     ensures { IfOk result (λ made. app_of made ≡ program standing) }
 {
-    let planning = with_command(bare_command(alloc)?, plan_command(alloc))?;
-    let reading = with_command(planning, word_command(alloc))?;
-    let replaying = with_command(reading, replay_command(alloc))?;
-    let racing = with_command(replaying, race_command(alloc))?;
-    let compacting = with_command(racing, compact_command(alloc))?;
+    let planning = with_command(bare_command(alloc), plan_command(alloc));
+    let reading = with_command(planning, word_command(alloc));
+    let replaying = with_command(reading, replay_command(alloc));
+    let racing = with_command(replaying, race_command(alloc));
+    let compacting = with_command(racing, compact_command(alloc));
     with_command(compacting, audit_command(alloc))
 }
 
 // The program with one command more.
-fn with_command<'a>(
-    program: Command<'a>,
-    command: Result<Command<'a>, AllocError>,
-) -> Result<Command<'a>, AllocError>
-    ensures { IfOk result (λ made. IsOkAnd command.entry (λ added. (app_of added).top.is_plain ≡ true → app_of made ≡ with_subcommand (app_of program.entry) (app_of added).top)) }
+fn with_command<'a>(program: Made<'a>, command: Made<'a>) -> Made<'a>
+    ensures { (app added : App) → IfOk program.entry (λ made. app_of made ≡ app) → IfOk command.entry (λ made. app_of made ≡ added) → added.top.is_plain ≡ true
+        → IfOk result (λ made. app_of made ≡ with_subcommand app added.top) }
 {
-    program.subcommand(command?)
+    program?.subcommand(command?)
 }
 
-fn bare_command<'a>(alloc: Global) -> Result<Command<'a>, AllocError>
+// The command with one argument more.
+fn with_argument<'a>(command: Made<'a>, argument: Arg<'a>) -> Made<'a>
+    ensures { (app : App) (rule : Rule) → IfOk command.entry (λ made. app_of made ≡ app) → rule_of argument.entry ≡ rule → argument.entry.global ≡ false
+        → IfOk result (λ made. app_of made ≡ with_rule app rule) }
+{
+    command?.arg(argument)
+}
+
+fn bare_command<'a>(alloc: Global) -> Made<'a>
     ensures { IfOk result (λ made. app_of made ≡ bare_program) }
 {
     Ok(
@@ -222,29 +231,33 @@ fn bare_command<'a>(alloc: Global) -> Result<Command<'a>, AllocError>
     )
 }
 
-fn plan_command<'a>(alloc: Global) -> Result<Command<'a>, AllocError>
+// A command of this name without arguments, with its line of help.
+fn named_command<'a>(alloc: Global, name: &'a str, about: &'a str) -> Made<'a>
+    ensures { IfOk result (λ made. app_of made ≡ new_app name.entry.now) }
+{
+    Ok(Command::new(alloc, name).about(about))
+}
+
+fn plan_command<'a>(alloc: Global) -> Made<'a>
     ensures { IfOk result (λ made. app_of made ≡ command_of plan_form) }
 {
-    Command::new(alloc, "plan")
-        .about("Prints where the live objects of a heap slide")
-        .arg(image_argument(alloc))
+    let plan = named_command(
+        alloc,
+        "plan",
+        "Prints where the live objects of a heap slide",
+    );
+    with_argument(plan, image_argument(alloc))
 }
 
-fn word_command<'a>(alloc: Global) -> Result<Command<'a>, AllocError>
+fn word_command<'a>(alloc: Global) -> Made<'a>
     ensures { IfOk result (λ made. app_of made ≡ command_of word_form) }
 {
-    Command::new(alloc, "word")
-        .about("Prints the to-space word at an index")
-        .arg(image_argument(alloc))?
-        .arg(
-            Arg::new(alloc, "INDEX")
-                .required(true)
-                .value_parser(value_parser!(u64))
-                .help("The word's index, from 0"),
-        )
+    let word = named_command(alloc, "word", "Prints the to-space word at an index");
+    let of_image = with_argument(word, image_argument(alloc));
+    with_argument(of_image, index_argument(alloc))
 }
 
-fn replay_command<'a>(alloc: Global) -> Result<Command<'a>, AllocError>
+fn replay_command<'a>(alloc: Global) -> Made<'a>
     ensures { IfOk result (λ made. app_of made ≡ command_of replay_form) }
 {
     run_command(
@@ -254,7 +267,7 @@ fn replay_command<'a>(alloc: Global) -> Result<Command<'a>, AllocError>
     )
 }
 
-fn race_command<'a>(alloc: Global) -> Result<Command<'a>, AllocError>
+fn race_command<'a>(alloc: Global) -> Made<'a>
     ensures { IfOk result (λ made. app_of made ≡ command_of race_form) }
 {
     run_command(
@@ -264,35 +277,36 @@ fn race_command<'a>(alloc: Global) -> Result<Command<'a>, AllocError>
     )
 }
 
-fn run_command<'a>(alloc: Global, name: &'a str, about: &'a str) -> Result<Command<'a>, AllocError>
+fn run_command<'a>(alloc: Global, name: &'a str, about: &'a str) -> Made<'a>
     ensures { IfOk result (λ made. app_of made ≡ command_of (run_form name.entry.now)) }
 {
-    Command::new(alloc, name)
-        .about(about)
-        .arg(mutators_option(alloc))?
-        .arg(fresh_option(alloc))?
-        .arg(image_argument(alloc))?
-        .arg(trace_argument(alloc))?
-        .arg(dump_argument(alloc))
+    let run = named_command(alloc, name, about);
+    let of_mutators = with_argument(run, mutators_option(alloc));
+    let of_counts = with_argument(of_mutators, fresh_option(alloc));
+    let of_image = with_argument(of_counts, image_argument(alloc));
+    let of_trace = with_argument(of_image, trace_argument(alloc));
+    with_argument(of_trace, dump_argument(alloc))
 }
 
-fn compact_command<'a>(alloc: Global) -> Result<Command<'a>, AllocError>
+fn compact_command<'a>(alloc: Global) -> Made<'a>
     ensures { IfOk result (λ made. app_of made ≡ command_of compact_form) }
 {
-    Command::new(alloc, "compact")
-        .about("Compacts a heap by several workers, and writes its dump")
-        .arg(workers_option(alloc))?
-        .arg(image_argument(alloc))?
-        .arg(dump_argument(alloc))
+    let compact = named_command(
+        alloc,
+        "compact",
+        "Compacts a heap by several workers, and writes its dump",
+    );
+    let of_workers = with_argument(compact, workers_option(alloc));
+    let of_image = with_argument(of_workers, image_argument(alloc));
+    with_argument(of_image, dump_argument(alloc))
 }
 
-fn audit_command<'a>(alloc: Global) -> Result<Command<'a>, AllocError>
+fn audit_command<'a>(alloc: Global) -> Made<'a>
     ensures { IfOk result (λ made. app_of made ≡ command_of audit_form) }
 {
-    Command::new(alloc, "audit")
-        .about("Judges the dump of a compaction of a heap")
-        .arg(image_argument(alloc))?
-        .arg(path_argument(alloc, "DUMP", "The dump"))
+    let audit = named_command(alloc, "audit", "Judges the dump of a compaction of a heap");
+    let of_image = with_argument(audit, image_argument(alloc));
+    with_argument(of_image, path_argument(alloc, "DUMP", "The dump"))
 }
 
 fn mutators_option<'a>(alloc: Global) -> Arg<'a>
@@ -350,6 +364,16 @@ fn image_argument<'a>(alloc: Global) -> Arg<'a>
     ensures local { result.global ≡ false }
 {
     path_argument(alloc, "IMAGE", "The heap's image")
+}
+
+fn index_argument<'a>(alloc: Global) -> Arg<'a>
+    ensures rule { rule_of result ≡ rule (number (codes "INDEX")) }
+    ensures local { result.global ≡ false }
+{
+    Arg::new(alloc, "INDEX")
+        .required(true)
+        .value_parser(value_parser!(u64))
+        .help("The word's index, from 0")
 }
 
 fn trace_argument<'a>(alloc: Global) -> Arg<'a>

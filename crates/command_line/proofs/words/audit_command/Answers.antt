@@ -1,0 +1,6 @@
+use Rattle.command_line.proofs.words.audit_command.Goals as goal
+
+pub returns : goal.returns
+returns c =
+    let one = c.with_argument-of_image.ensures _ _ c.named_command-audit.ensures c.image_argument.ensures.rule c.image_argument.ensures.local in
+    c.with_argument.ensures _ _ one c.path_argument.ensures.rule c.path_argument.ensures.local
