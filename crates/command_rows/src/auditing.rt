@@ -1,4 +1,5 @@
 //! Dumps that are judged: true ones, and forged ones.
+use crate::places::{Image, Memory};
 use audit_checks::fault::AuditFault;
 use command_io::refusal::{Input, Refusal};
 use comp_dump::fault::DumpFault;
@@ -9,7 +10,6 @@ use std::process::Abort;
 use std::test::Fail;
 use worked_files::images::{ALL, FRESH_DUMP, THREE_IMAGE, TWENTY_IMAGE};
 use worked_files::parts::{Part, bytes_of, push_parts};
-use worked_places::places::{Image, Memory};
 
 // The audit of a dump, where the images lie in memory: it has to be answered so, and to print just this.
 fn expect_audit<R: Abort + AllocGlobal>(

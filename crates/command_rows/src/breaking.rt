@@ -1,4 +1,5 @@
 //! Replays whose dump is cut off, and traces that are not read whole.
+use crate::places::Place;
 use command_io::images::FileImages;
 use command_io::refusal::{Input, Refusal};
 use command_io::traces::{FileTraces, trace_in};
@@ -15,7 +16,6 @@ use worked_files::images::{FRESH_DUMP, THREE_IMAGE};
 use worked_files::parts::{Part, bytes_of};
 use worked_files::steps::{Step, take_file_steps};
 use worked_files::writers::{Failure, Narrow};
-use worked_places::places::Place;
 
 // Replays the trace that makes a new object: a writer of the dump that has so much room fails so, and nothing is printed.
 fn expect_cut_off<R: Abort + AllocGlobal + Files>(

@@ -1,4 +1,5 @@
 //! Heaps in memory that are compacted: the dump and the line; and those that are not.
+use crate::places::{Image, Memory, Place};
 use command_io::refusal::{Input, Refusal};
 use comp_dump::fault::DumpFault;
 use compact_command::compact::{Compaction, print_compact};
@@ -11,7 +12,6 @@ use std::thread::Threads;
 use worked_files::images::{ALL, TWENTY_IMAGE};
 use worked_files::parts::{Part, bytes_of};
 use worked_files::writers::{Failure, Narrow};
-use worked_places::places::{Image, Memory, Place};
 
 // A compaction in memory, and what has to come of it.
 #[derive(Clone, Copy)]

@@ -112,8 +112,8 @@ pub fn copy<L: Named, B: Builder>(
     ensures of { IsMutatorOf space.now m.new }
 {
     assert!(rt; p < space.pages());
-    let Ok(page) = space.page_copy(alloc, m, p) else {
-        panic!(rt; "a copy of the page");
-    };
-    page
+    space
+        .page_copy(alloc, m, p)
+        .ok()
+        .expect(rt, "a copy of the page")
 }

@@ -191,9 +191,7 @@ fn play_counted<R: Abort + Threads + Wait + Sync>(
     builds: u64,
 ) {
     let counts = shared(rt, alloc, Counting::new(plan));
-    let Ok(builder) = counts.clone() else {
-        panic!(rt; "a second reference");
-    };
+    let builder = counts.clone().ok().expect(rt, "a second reference");
     play_built(rt, alloc, builder, case);
     let at = At {
         case: case.name,

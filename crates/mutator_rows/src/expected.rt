@@ -18,12 +18,12 @@ pub fn expect_answer(
     found: Result<u64, Refusal>,
     wanted: Result<u64, Refusal>,
 ) {
-    assert_eq!(rt; found, wanted, "{}, row {}", at.case, at.row);
+    expect_so(rt, at, found == wanted);
 }
 
 /// There are so many.
 pub fn expect_count(rt: &impl Abort, at: At, found: u64, wanted: u64) {
-    expect_answer(rt, at, Ok(found), Ok(wanted));
+    expect_so(rt, at, found == wanted);
 }
 
 /// It is so.

@@ -1,18 +1,26 @@
 //! Settled and unsettled words, and a mutator that is missing.
 ghost use Rattle.std.specs.Prelude.{◌≡◌};
+ghost use Rattle.comp_mutator.specs.Mutators.{setup_of, AreMutatorsOf, IsMutatorOf};
 
 use crate::cases::{BuiltBy, Case};
 use crate::endings::Ending;
 use crate::expected::{At, expect_count, expect_so};
 use crate::flipped::{Heap, finish, flipped, plan_of, shared};
 use crate::rows::Row;
-use comp_mutator::finishing::FinishFault;
+use comp_mutator::finishing::{FinishFault, Unfinished};
+use comp_mutator::mutator::Mutator;
+use page_plan::builder::Builder;
 use page_plan::plan::Plan;
 use std::alloc::Global;
 use std::marker::Brand;
 use std::process::Abort;
 use std::sync::ledger::{Blank, Ledger as Named};
 use std::test::Fail;
+
+const AT: At = At {
+    case: "hands back where one is missing",
+    row: 0,
+};
 
 // No object at all: one of two mutators is handed in alone, and then both are.
 fn hand_in_one<L: Named>(rt: &impl Abort, alloc: Global, blank: Blank, plan: Plan)
@@ -22,19 +30,30 @@ fn hand_in_one<L: Named>(rt: &impl Abort, alloc: Global, blank: Blank, plan: Pla
 {
     let (space, mut mutators) = flipped::<L, _>(rt, alloc, blank, shared(rt, alloc, plan), 2, 0);
     let last = mutators.pop().expect(rt, "mutator 1");
-    let Err(left) = space.finish(alloc, mutators) else {
-        panic!(rt; "mutator 1 is missing");
-    };
-    let at = At {
-        case: "hands back where one is missing",
-        row: 0,
-    };
-    let is_missing = left.fault == FinishFault::MutatorMissing(1);
-    expect_so(rt, at, is_missing && left.mutators.len() == 1);
+    let left = space
+        .finish(alloc, mutators)
+        .err()
+        .expect(rt, "mutator 1 is missing");
+    hand_in_both(rt, alloc, left, last);
+}
+
+// The mutator that was handed back, and the one that was missing, are handed in.
+fn hand_in_both<L: Named, B: Builder>(
+    rt: &impl Abort,
+    alloc: Global,
+    left: Unfinished<L, B>,
+    last: Mutator<L>,
+)
+    requires of { AreMutatorsOf left.space left.mutators.items }
+    requires last { IsMutatorOf left.space last }
+    requires whole { (setup_of left.space).mutators ≡ L.parts }
+{
+    expect_so(rt, AT, left.fault == FinishFault::MutatorMissing(1));
+    expect_count(rt, AT, left.mutators.len() as u64, 1);
     let mut both = left.mutators;
-    assert!(rt; both.push(last).is_ok());
+    both.push(last).ok().expect(rt, "room for both");
     let finished = finish(rt, alloc, left.space, both);
-    expect_count(rt, at, finished.live_words(), 0);
+    expect_count(rt, AT, finished.live_words(), 0);
 }
 
 #[test]

@@ -2,7 +2,7 @@
 ghost use Rattle.std.specs.Prelude.{◌≡◌};
 ghost use Rattle.comp_mutator.specs.Mutators.{setup_of, AreMutatorsOf};
 
-use comp_mutator::finishing::{FinishFault, Finished};
+use comp_mutator::finishing::{FinishFault, Finished, Unfinished};
 use comp_mutator::flipping::flip;
 use comp_mutator::mutator::Mutator;
 use comp_mutator::space::Space;
@@ -83,13 +83,24 @@ pub fn finish<L: Named, B: Builder>(
 {
     assert!(rt; mutators.len() > 0);
     mutators.rotate_left(1);
-    let left = match space.finish(alloc, mutators) {
-        Ok(finished) => return finished,
-        Err(left) => left,
-    };
+    match space.finish(alloc, mutators) {
+        Ok(finished) => finished,
+        Err(left) => finish_again(rt, alloc, left),
+    }
+}
+
+// Finishes what was handed back where memory was refused.
+fn finish_again<L: Named, B: Builder>(
+    rt: &impl Abort,
+    alloc: Global,
+    left: Unfinished<L, B>,
+) -> Finished
+    requires of { AreMutatorsOf left.space left.mutators.items }
+    requires whole { (setup_of left.space).mutators ≡ L.parts }
+{
     assert!(rt; left.fault == FinishFault::OutOfMemory);
-    let Ok(finished) = left.space.finish(alloc, left.mutators) else {
-        panic!(rt; "no mutator is missing");
-    };
-    finished
+    left.space
+        .finish(alloc, left.mutators)
+        .ok()
+        .expect(rt, "no mutator is missing")
 }

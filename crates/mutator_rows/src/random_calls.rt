@@ -53,9 +53,10 @@ fn play<L: Named, B: Builder, R: Abort + Wait>(
     };
     assert!(rt; number < mutators.len());
     let m = &mut mutators[number];
-    let Ok(wanted) = objects.answer(alloc, m.number(), call) else {
-        panic!(rt; "memory for plain objects");
-    };
+    let wanted = objects
+        .answer(alloc, m.number(), call)
+        .ok()
+        .expect(rt, "memory for plain objects");
     let found = answer(rt, alloc, space, m, call, false);
     expect_answer(rt, at, found, wanted);
 }
@@ -183,16 +184,11 @@ static CALLS: [Calls; 2] = [
 fn agrees_with_plain_objects(rt: HostRuntime) -> Result<(), Fail> {
     let alloc = rt.alloc();
     for calls in &CALLS {
-        let mut objects = opening(alloc, calls.mutators as usize)?;
+        let plan = two_live(alloc)?;
+        let opened = opening(alloc, calls.mutators as usize).ok();
+        let mut objects = opened.expect(&rt, "memory for plain objects");
         let blank = Blank::new(u64::from(calls.mutators));
-        play_and_finish::<Brand, HostRuntime>(
-            &rt,
-            alloc,
-            blank,
-            two_live(alloc)?,
-            &mut objects,
-            calls,
-        );
+        play_and_finish::<Brand, HostRuntime>(&rt, alloc, blank, plan, &mut objects, calls);
     }
     Ok(())
 }

@@ -11,10 +11,11 @@ use std::process::Abort;
 // Each of them is printed so.
 fn expect_texts<D: Display>(rt: &impl Abort, alloc: Global, rows: &[(D, &str)]) {
     for (printed, text) in rows {
-        let Ok(found) = printed.to_string(alloc) else {
-            panic!(rt; "memory for a text");
-        };
-        assert!(rt; found.as_str() == *text, "{found}, and not {text}");
+        let found = printed
+            .to_string(alloc)
+            .ok()
+            .expect(rt, "memory for a text");
+        assert!(rt; found.as_str() == *text, "{text}");
     }
 }
 

@@ -1,8 +1,10 @@
-//! Runs of the program: what it prints, tells, writes and refuses, with values from outside.
+//! Runs of the program: what it prints, tells, writes and refuses, also where its output takes only so much, with values from outside.
 #![tactic(auto)]
 
 #[cfg(test)]
 mod judging;
+#[cfg(test)]
+mod printing;
 #[cfg(test)]
 mod programs;
 #[cfg(test)]
