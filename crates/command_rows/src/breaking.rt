@@ -12,8 +12,7 @@ use std::process::Abort;
 use std::rt::Files;
 use std::test::Fail;
 use trace_commands::replay::print_replay;
-use worked_files::images::{FRESH_DUMP, THREE_IMAGE};
-use worked_files::parts::{Part, bytes_of};
+use worked_files::contents::{Content, bytes_in};
 use worked_files::steps::{Step, take_file_steps};
 use worked_files::writers::{Failure, Narrow};
 
@@ -60,10 +59,10 @@ fn expect_cut_off<R: Abort + AllocGlobal + Files>(
 
 // A new object becomes the field of the root.
 const FRESH: [Step; 2] = [
-    Step::Write("cut.tests.img", &THREE_IMAGE),
+    Step::Write("cut.tests.img", Content::ThreeImage),
     Step::Write(
         "cut.tests.trace",
-        &[Part::Bytes(b"0 root 0 0\n0 new 1 0 0 0\n0 store 0 0 1\n")],
+        Content::Text("0 root 0 0\n0 new 1 0 0 0\n0 store 0 0 1\n"),
     ),
 ];
 
@@ -85,7 +84,7 @@ fn expect_all_cut_off<R: Abort + AllocGlobal + Files>(
     rt: &R,
     writers: &[(usize, Failure)],
 ) -> Result<(), Fail> {
-    let whole = bytes_of(rt.alloc(), &FRESH_DUMP)?;
+    let whole = bytes_in(rt.alloc(), Content::FreshDump)?;
     for (room, failure) in writers {
         expect_cut_off(rt, *room, *failure, &whole);
     }

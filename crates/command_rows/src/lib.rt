@@ -1,9 +1,7 @@
-//! What words of the command line ask, and commands by themselves: words and plans of images in memory, the dumps of compactions and of replays where a writer fails, traces that are not read whole,
-//! and audits of true and of forged dumps, with values from outside.
+//! Commands by themselves: words and plans of images in memory, the dumps of compactions and of replays where a writer fails, traces that are not read whole, and audits of true and of forged dumps,
+//! with values from outside.
 #![tactic(auto)]
 
-#[cfg(test)]
-mod asking;
 #[cfg(test)]
 mod auditing;
 #[cfg(test)]

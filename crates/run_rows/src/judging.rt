@@ -1,15 +1,14 @@
 //! Audits by the program.
-use crate::runs::take_each;
+use crate::runs::take_steps;
 use std::test::Fail;
-use worked_files::images::THREE_IMAGE;
-use worked_files::parts::Part;
+use worked_files::contents::Content;
 use worked_files::steps::Step;
 
 const PASSED: [Step; 9] = [
-    Step::Write("left.tests.img", &THREE_IMAGE),
+    Step::Write("left.tests.img", Content::ThreeImage),
     Step::Write(
         "left.tests.trace",
-        &[Part::Bytes(b"0 root 0 0\n0 new 1 0 0 0\n0 store 0 0 1\n")],
+        Content::Text("0 root 0 0\n0 new 1 0 0 0\n0 store 0 0 1\n"),
     ),
     Step::Prints("compact left.tests.img left.tests.out", "live 4\n"),
     Step::Prints("audit left.tests.img left.tests.out", "ok 4\n"),
@@ -23,36 +22,9 @@ const PASSED: [Step; 9] = [
     Step::Remove("left.tests.out"),
 ];
 
-// The dump behind the run that makes a new object, whose header is stamped after the reference to it.
-const LATE_DUMP: [Part; 19] = [
-    Part::Bytes(b"COMPDUMP"),
-    Part::Numbers(&[1, 1, 2, 3, 1]),
-    Part::Words(&[8_589_934_594]),
-    // page 0, and its entry, the reference
-    Part::Bytes(&[1]),
-    Part::Words(&[4_295_032_832, 11, 12_884_901_889, 8_589_934_656]),
-    Part::Zeros(60),
-    Part::Numbers(&[1]),
-    Part::Words(&[0]),
-    Part::Bytes(&[0, 1, 3]),
-    Part::Words(&[8_589_934_656]),
-    // page 1, and its entry, the header
-    Part::Bytes(&[1]),
-    Part::Zeros(64),
-    Part::Numbers(&[1]),
-    Part::Words(&[1]),
-    Part::Bytes(&[0, 0, 0]),
-    Part::Words(&[0]),
-    // page 2
-    Part::Bytes(&[0]),
-    // how many pages the mutator built, and which; the live words
-    Part::Numbers(&[2, 1, 0]),
-    Part::Words(&[5]),
-];
-
 const JUDGED: [Step; 12] = [
-    Step::Write("judge.tests.img", &THREE_IMAGE),
-    Step::Write("late.tests.dump", &LATE_DUMP),
+    Step::Write("judge.tests.img", Content::ThreeImage),
+    Step::Write("late.tests.dump", Content::LateDump),
     Step::MakeFolder("judge.tests"),
     Step::Refuses(
         "audit judge.tests.img late.tests.dump",
@@ -79,5 +51,6 @@ const JUDGED: [Step; 12] = [
 
 #[test]
 fn passes_what_it_dumps_and_tells_why_a_dump_does_not_pass(rt: HostRuntime) -> Result<(), Fail> {
-    take_each(&rt, &[&PASSED, &JUDGED])
+    take_steps(&rt, &PASSED)?;
+    take_steps(&rt, &JUDGED)
 }

@@ -4,7 +4,7 @@ use std::rt::Files;
 use std::sync::Wait;
 use std::test::Fail;
 use std::thread::Threads;
-use worked_files::images::THREE_IMAGE;
+use worked_files::contents::Content;
 use worked_files::runs::{Run, Text, expect_ran, words_of};
 use worked_files::steps::{Step, take_file_step};
 use worked_files::writers::{Failure, Narrow};
@@ -74,7 +74,7 @@ fn expect_lines<R: Files + AllocGlobal + Threads + Wait + Sync>(
     Ok(())
 }
 
-const WRITTEN: Step = Step::Write("print.tests.img", &THREE_IMAGE);
+const WRITTEN: Step = Step::Write("print.tests.img", Content::ThreeImage);
 
 const REMOVED: Step = Step::Remove("print.tests.img");
 

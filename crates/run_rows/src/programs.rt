@@ -1,13 +1,12 @@
 //! Runs of the program: what it prints, and its status.
-use crate::runs::take_each;
+use crate::runs::take_steps;
 use std::test::Fail;
-use worked_files::images::{EMPTY_IMAGE, THREE_IMAGE, THREE_OBJECTS, TWENTY_IMAGE};
-use worked_files::parts::Part;
+use worked_files::contents::Content;
 use worked_files::steps::Step;
 
 // Words and plans of the heap of three objects.
 const PRINTED: [Step; 8] = [
-    Step::Write("three.tests.img", &THREE_IMAGE),
+    Step::Write("three.tests.img", Content::ThreeImage),
     Step::Prints("word three.tests.img 2", "12884901889\n"),
     Step::Prints("word -- three.tests.img 2", "12884901889\n"),
     Step::Prints("word three.tests.img +02 --", "12884901889\n"),
@@ -20,20 +19,11 @@ const PRINTED: [Step; 8] = [
     Step::Remove("three.tests.img"),
 ];
 
-// The image of the three objects, with a root that leads to none of them.
-const BAD_ROOT_IMAGE: [Part; 5] = [
-    Part::Bytes(b"COMPHEAP"),
-    Part::Numbers(&[1, 7, 2, 1]),
-    THREE_OBJECTS,
-    Part::Numbers(&[0, 5]),
-    Part::Words(&[4_294_967_297]),
-];
-
 // Words and plans that there are not.
 const REFUSED: [Step; 16] = [
-    Step::Write("whole.tests.img", &THREE_IMAGE),
-    Step::Write("root.tests.img", &BAD_ROOT_IMAGE),
-    Step::Write("empty.tests.img", &[]),
+    Step::Write("whole.tests.img", Content::ThreeImage),
+    Step::Write("root.tests.img", Content::BadRootImage),
+    Step::Write("empty.tests.img", Content::Text("")),
     Step::MakeFolder("folder.tests"),
     Step::Refuses("word whole.tests.img 64", "", "P5 NoSuchWord(64)"),
     Step::Refuses("word absent.tests.img 0", "", "P1 CannotOpen(image)"),
@@ -89,11 +79,11 @@ const VERSIONS: [Step; 4] = [
 
 // Small heaps that are compacted, the first one over a longer file; and a dump that cannot be created.
 const COMPACTED: [Step; 13] = [
-    Step::Write("none.tests.img", &EMPTY_IMAGE),
-    Step::Write("one.tests.img", &THREE_IMAGE),
+    Step::Write("none.tests.img", Content::EmptyImage),
+    Step::Write("one.tests.img", Content::ThreeImage),
     Step::Write(
         "all.tests.out",
-        &[Part::Bytes(b"what was there before, which is longer than an empty dump")],
+        Content::Text("what was there before, which is longer than an empty dump"),
     ),
     Step::Prints("compact none.tests.img all.tests.out", "live 0\n"),
     Step::Length("all.tests.out", 44),
@@ -113,7 +103,7 @@ const COMPACTED: [Step; 13] = [
 
 // The twenty pages, compacted by some workers; and what is refused then.
 const SWEPT: [Step; 17] = [
-    Step::Write("run.tests.img", &TWENTY_IMAGE),
+    Step::Write("run.tests.img", Content::TwentyImage),
     Step::Prints("compact run.tests.img run.tests.out", "live 1280\n"),
     Step::Length("run.tests.out", 10_464),
     Step::Prints("audit run.tests.img run.tests.out", "ok 1280\n"),
@@ -149,12 +139,13 @@ const SWEPT: [Step; 17] = [
     Step::Remove("run.tests.out"),
 ];
 
-// Those tables: words and plans, one line of a refusal, wrong words, help, the version, files that are compacted, and compactions.
-const TABLES: [&[Step]; 7] = [
-    &PRINTED, &REFUSED, &MISUSED, &HELPED, &VERSIONS, &COMPACTED, &SWEPT,
-];
-
 #[test]
 fn does_what_its_words_ask(rt: HostRuntime) -> Result<(), Fail> {
-    take_each(&rt, &TABLES)
+    take_steps(&rt, &PRINTED)?;
+    take_steps(&rt, &REFUSED)?;
+    take_steps(&rt, &MISUSED)?;
+    take_steps(&rt, &HELPED)?;
+    take_steps(&rt, &VERSIONS)?;
+    take_steps(&rt, &COMPACTED)?;
+    take_steps(&rt, &SWEPT)
 }

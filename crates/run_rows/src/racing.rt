@@ -1,26 +1,25 @@
 //! Traces whose mutators race over heaps: the lines, the dump, and what refusals leave.
-use crate::runs::take_each;
+use crate::runs::take_steps;
 use std::test::Fail;
-use worked_files::images::THREE_IMAGE;
-use worked_files::parts::Part;
+use worked_files::contents::Content;
 use worked_files::steps::Step;
 
 // A data field is written by mutator 0, and read by mutator 1: before that, or after it.
-const SEEN: [Part; 1] = [Part::Bytes(
-    b"0 root 0 0\n0 load 1 0 0\n0 put 1 0 7\n1 root 0 0\n1 load 1 0 0\n1 get 1 0\n",
-)];
+const SEEN: Content = Content::Text(
+    "0 root 0 0\n0 load 1 0 0\n0 put 1 0 7\n1 root 0 0\n1 load 1 0 0\n1 get 1 0\n",
+);
 
 // A new object becomes the field of the root.
-const FRESH: [Part; 1] = [Part::Bytes(b"0 root 0 0\n0 new 1 0 0 0\n0 store 0 0 1\n")];
+const FRESH: Content = Content::Text("0 root 0 0\n0 new 1 0 0 0\n0 store 0 0 1\n");
 
 // Each of both mutators shows a value, and reads a field of null then: mutator 1 in line 7, and mutator 0 in line 9.
-const STOPPED: [Part; 1] = [Part::Bytes(
-    b"0 root 0 0\n0 load 1 0 0\n1 root 0 0\n1 load 1 0 0\n0 get 1 0\n1 get 1 0\n1 get 2 0\n0 get 1 0\n0 get 2 0\n1 get 1 0\n",
-)];
+const STOPPED: Content = Content::Text(
+    "0 root 0 0\n0 load 1 0 0\n1 root 0 0\n1 load 1 0 0\n0 get 1 0\n1 get 1 0\n1 get 2 0\n0 get 1 0\n0 get 2 0\n1 get 1 0\n",
+);
 
 const RACED: [Step; 12] = [
-    Step::Write("race.tests.img", &THREE_IMAGE),
-    Step::Write("race.tests.trace", &SEEN),
+    Step::Write("race.tests.img", Content::ThreeImage),
+    Step::Write("race.tests.trace", SEEN),
     Step::PrintsEither(
         "race --mutators 2 --fresh 64 race.tests.img race.tests.trace race.tests.out",
         "6 7\nlive 4\n",
@@ -28,7 +27,7 @@ const RACED: [Step; 12] = [
     ),
     Step::Length("race.tests.out", 656),
     Step::Prints("audit race.tests.img race.tests.out", "ok 4\n"),
-    Step::Write("race.tests.trace", &FRESH),
+    Step::Write("race.tests.trace", FRESH),
     Step::Prints(
         "race --mutators 1 --fresh 2 race.tests.img race.tests.trace race.tests.out",
         "live 5\n",
@@ -41,8 +40,8 @@ const RACED: [Step; 12] = [
 ];
 
 const HALTED: [Step; 6] = [
-    Step::Write("stop.tests.img", &THREE_IMAGE),
-    Step::Write("stop.tests.trace", &STOPPED),
+    Step::Write("stop.tests.img", Content::ThreeImage),
+    Step::Write("stop.tests.trace", STOPPED),
     Step::Refuses(
         "race --mutators 2 --fresh 0 stop.tests.img stop.tests.trace stop.tests.out",
         "5 11\n6 11\n8 11\n",
@@ -59,5 +58,6 @@ const HALTED: [Step; 6] = [
 
 #[test]
 fn races_traces_and_tells_the_least_refused_line(rt: HostRuntime) -> Result<(), Fail> {
-    take_each(&rt, &[&RACED, &HALTED])
+    take_steps(&rt, &RACED)?;
+    take_steps(&rt, &HALTED)
 }

@@ -1,36 +1,35 @@
 //! Traces that are run over heaps: the dump, the lines, and what a refusal leaves.
-use crate::runs::take_each;
+use crate::runs::take_steps;
 use std::test::Fail;
-use worked_files::images::{FRESH_DUMP, THREE_IMAGE};
-use worked_files::parts::Part;
+use worked_files::contents::Content;
 use worked_files::steps::Step;
 
 // A data field is written by mutator 0, and read by mutator 1.
-const SEEN: [Part; 1] = [Part::Bytes(
-    b"0 root 0 0\n0 load 1 0 0\n0 put 1 0 7\n1 root 0 0\n1 load 1 0 0\n1 get 1 0\n",
-)];
+const SEEN: Content = Content::Text(
+    "0 root 0 0\n0 load 1 0 0\n0 put 1 0 7\n1 root 0 0\n1 load 1 0 0\n1 get 1 0\n",
+);
 
 // A new object becomes the field of the root.
-const FRESH: [Part; 1] = [Part::Bytes(b"0 root 0 0\n0 new 1 0 0 0\n0 store 0 0 1\n")];
+const FRESH: Content = Content::Text("0 root 0 0\n0 new 1 0 0 0\n0 store 0 0 1\n");
 
 const REPLAYED: [Step; 17] = [
-    Step::Write("rows.tests.img", &THREE_IMAGE),
-    Step::Write("rows.tests.trace", &SEEN),
+    Step::Write("rows.tests.img", Content::ThreeImage),
+    Step::Write("rows.tests.trace", SEEN),
     Step::Prints(
         "replay rows.tests.img rows.tests.trace rows.tests.out",
         "6 7\nlive 4\n",
     ),
     Step::Length("rows.tests.out", 656),
     Step::Prints("audit rows.tests.img rows.tests.out", "ok 4\n"),
-    Step::Write("rows.tests.trace", &FRESH),
+    Step::Write("rows.tests.trace", FRESH),
     Step::Prints(
         "replay --mutators 1 --fresh 2 rows.tests.img rows.tests.trace rows.tests.out",
         "live 5\n",
     ),
     Step::Length("rows.tests.out", 1_129),
-    Step::Holds("rows.tests.out", &FRESH_DUMP),
+    Step::Holds("rows.tests.out", Content::FreshDump),
     Step::Prints("audit rows.tests.img rows.tests.out", "ok 5\n"),
-    Step::Write("rows.tests.trace", &[]),
+    Step::Write("rows.tests.trace", Content::Text("")),
     Step::Prints(
         "replay --mutators=64 --fresh 0 rows.tests.img rows.tests.trace rows.tests.out",
         "live 4\n",
@@ -43,49 +42,51 @@ const REPLAYED: [Step; 17] = [
 ];
 
 // Line 3 shows a value, and line 4 reads a field that is not there.
-const HALTED: Part = Part::Bytes(b"0 root 0 0\n0 load 1 0 0\n0 get 1 0\n0 get 1 9\n0 get 1 0\n");
+const HALTED: Content = Content::Text(
+    "0 root 0 0\n0 load 1 0 0\n0 get 1 0\n0 get 1 9\n0 get 1 0\n",
+);
 
 // What the dumps were to take the place of.
-const KEPT: [Part; 1] = [Part::Bytes(b"kept")];
+const KEPT: Content = Content::Text("kept");
 
 // The run of the trace that was written last.
 const HALT: &str = "replay halt.tests.img halt.tests.trace halt.tests.out";
 
 const STOPPED: [Step; 26] = [
-    Step::Write("halt.tests.img", &THREE_IMAGE),
-    Step::Write("halt.tests.out", &KEPT),
-    Step::Write("halt.tests.trace", &[HALTED]),
+    Step::Write("halt.tests.img", Content::ThreeImage),
+    Step::Write("halt.tests.out", KEPT),
+    Step::Write("halt.tests.trace", HALTED),
     Step::Refuses(HALT, "3 11\n", "T6 Refused(4, M3 NoSuchField)"),
-    Step::Holds("halt.tests.out", &KEPT),
+    Step::Holds("halt.tests.out", KEPT),
     Step::Write(
         "halt.tests.trace",
-        &[Part::Bytes(b"0 new 0 65535 65535 4294967295\n")],
+        Content::Text("0 new 0 65535 65535 4294967295\n"),
     ),
     Step::Refuses(HALT, "", "T6 Refused(1, M4 ObjectTooLarge)"),
-    Step::Holds("halt.tests.out", &KEPT),
-    Step::Write("halt.tests.trace", &[Part::Bytes(b"0 nil 0")]),
+    Step::Holds("halt.tests.out", KEPT),
+    Step::Write("halt.tests.trace", Content::Text("0 nil 0")),
     Step::Refuses(HALT, "", "T1 BadLine(1)"),
-    Step::Holds("halt.tests.out", &KEPT),
-    Step::Write("halt.tests.trace", &[Part::Bytes(b"0 nil 0\n2 nil 0\n")]),
+    Step::Holds("halt.tests.out", KEPT),
+    Step::Write("halt.tests.trace", Content::Text("0 nil 0\n2 nil 0\n")),
     Step::Refuses(HALT, "", "T2 NoSuchMutator(2)"),
-    Step::Holds("halt.tests.out", &KEPT),
-    Step::Write("halt.tests.trace", &[Part::Bytes(b"0 nil 16\n")]),
+    Step::Holds("halt.tests.out", KEPT),
+    Step::Write("halt.tests.trace", Content::Text("0 nil 16\n")),
     Step::Refuses(HALT, "", "T3 NoSuchRegister(1)"),
-    Step::Holds("halt.tests.out", &KEPT),
-    Step::Write("halt.tests.trace", &[Part::Bytes(b"0 new 0 65536 0 0\n")]),
+    Step::Holds("halt.tests.out", KEPT),
+    Step::Write("halt.tests.trace", Content::Text("0 new 0 65536 0 0\n")),
     Step::Refuses(HALT, "", "T4 NumberTooLarge(1)"),
-    Step::Holds("halt.tests.out", &KEPT),
-    Step::Write("halt.tests.trace", &[Part::Bytes(b"0 root 0 1\n")]),
+    Step::Holds("halt.tests.out", KEPT),
+    Step::Write("halt.tests.trace", Content::Text("0 root 0 1\n")),
     Step::Refuses(HALT, "", "T5 NoSuchRoot(1)"),
-    Step::Holds("halt.tests.out", &KEPT),
+    Step::Holds("halt.tests.out", KEPT),
     Step::Remove("halt.tests.img"),
     Step::Remove("halt.tests.trace"),
     Step::Remove("halt.tests.out"),
 ];
 
 const WRONG_FILES: [Step; 10] = [
-    Step::Write("file.tests.img", &THREE_IMAGE),
-    Step::Write("file.tests.trace", &SEEN),
+    Step::Write("file.tests.img", Content::ThreeImage),
+    Step::Write("file.tests.trace", SEEN),
     Step::MakeFolder("file.tests"),
     Step::Refuses(
         "replay absent.img absent.trace out",
@@ -114,5 +115,7 @@ const WRONG_FILES: [Step; 10] = [
 
 #[test]
 fn replays_traces_and_tells_what_is_refused(rt: HostRuntime) -> Result<(), Fail> {
-    take_each(&rt, &[&REPLAYED, &STOPPED, &WRONG_FILES])
+    take_steps(&rt, &REPLAYED)?;
+    take_steps(&rt, &STOPPED)?;
+    take_steps(&rt, &WRONG_FILES)
 }

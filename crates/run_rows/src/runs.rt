@@ -30,24 +30,13 @@ fn take_step<R: Files + AllocGlobal + Threads + Wait + Sync>(
     }
 }
 
-// Takes the steps of a table, one after another.
-fn take_steps<R: Files + AllocGlobal + Threads + Wait + Sync>(
+/// Takes the steps of a table, one after another.
+pub fn take_steps<R: Files + AllocGlobal + Threads + Wait + Sync>(
     rt: &R,
     steps: &[Step],
 ) -> Result<(), Fail> {
     for step in steps {
         take_step(rt, step)?;
-    }
-    Ok(())
-}
-
-/// Takes the steps of each of these tables.
-pub fn take_each<R: Files + AllocGlobal + Threads + Wait + Sync>(
-    rt: &R,
-    tables: &[&[Step]],
-) -> Result<(), Fail> {
-    for steps in tables {
-        take_steps(rt, steps)?;
     }
     Ok(())
 }

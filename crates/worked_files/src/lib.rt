@@ -2,6 +2,7 @@
 //! nothing: a test asserts what it needs of them.
 #![tactic(auto)]
 
+pub mod contents;
 pub mod images;
 pub mod parts;
 pub mod runs;

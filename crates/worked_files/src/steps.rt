@@ -1,5 +1,5 @@
 //! Tests of the program as lists of steps: files that are written, runs, and what they leave.
-use crate::parts::{Part, bytes_of};
+use crate::contents::{Content, bytes_in};
 use crate::runs::{Run, Text};
 use std::fs;
 use std::rt::Files;
@@ -7,8 +7,8 @@ use std::test::Fail;
 
 /// A step of a test. Of a run it has the line first.
 pub enum Step {
-    /// A file is written: its path, and its bytes.
-    Write(&'static str, &'static [Part]),
+    /// A file is written: its path, and what it holds.
+    Write(&'static str, Content),
     /// A folder is made.
     MakeFolder(&'static str),
     /// A run does what it was asked, and prints just this.
@@ -21,8 +21,8 @@ pub enum Step {
     Refuses(&'static str, &'static str, &'static str),
     /// The words are wrong: a run prints nothing, and tells something on standard error.
     Misuses(&'static str),
-    /// The file at this path has just these bytes.
-    Holds(&'static str, &'static [Part]),
+    /// The file at this path holds just this.
+    Holds(&'static str, Content),
     /// The file at this path has so many bytes.
     Length(&'static str, usize),
     /// A file is removed.
@@ -57,9 +57,9 @@ pub fn run_of(step: &Step) -> Option<Run> {
 /// Takes a step that is no run.
 pub fn take_file_step<R: Files + AllocGlobal>(rt: &R, step: &Step) -> Result<(), Fail> {
     match step {
-        Step::Write(path, parts) => write_file(rt, path, parts),
+        Step::Write(path, content) => write_file(rt, path, *content),
         Step::MakeFolder(path) => Ok(fs::create_dir(rt, path)?),
-        Step::Holds(path, parts) => expect_file(rt, path, parts),
+        Step::Holds(path, content) => expect_file(rt, path, *content),
         Step::Length(path, length) => expect_length(rt, path, *length),
         Step::Remove(path) => Ok(fs::remove_file(rt, path)?),
         Step::RemoveFolder(path) => Ok(fs::remove_dir(rt, path)?),
@@ -75,15 +75,15 @@ pub fn take_file_steps<R: Files + AllocGlobal>(rt: &R, steps: &[Step]) -> Result
     Ok(())
 }
 
-// Writes the file at a path, with these bytes.
-fn write_file<R: Files + AllocGlobal>(rt: &R, path: &str, parts: &[Part]) -> Result<(), Fail> {
-    let bytes = bytes_of(rt.alloc(), parts)?;
+// Writes the file at a path, which then holds this.
+fn write_file<R: Files + AllocGlobal>(rt: &R, path: &str, content: Content) -> Result<(), Fail> {
+    let bytes = bytes_in(rt.alloc(), content)?;
     Ok(fs::write(rt, path, bytes.as_slice())?)
 }
 
-// The file at a path has just these bytes.
-fn expect_file<R: Files + AllocGlobal>(rt: &R, path: &str, parts: &[Part]) -> Result<(), Fail> {
-    let wanted = bytes_of(rt.alloc(), parts)?;
+// The file at a path holds just this.
+fn expect_file<R: Files + AllocGlobal>(rt: &R, path: &str, content: Content) -> Result<(), Fail> {
+    let wanted = bytes_in(rt.alloc(), content)?;
     let found = fs::read(rt, path)?;
     if found == wanted {
         return Ok(());
