@@ -5,14 +5,16 @@ use Rattle.std.proofs.lemmas.List.Elements.{All-append, All-cons, All-nil}
 use Rattle.page_plan.specs.declared.builder.Builder.{Ghosts}
 use Rattle.cell_steps.specs.Setup.{Setup}
 use Rattle.cell_steps.specs.Passes.{builds_of}
+use Rattle.cell_steps.specs.declared.pass.Pass.{Pass}
 use Rattle.page_cells.specs.Calls.{Grows, WroteNothing}
 use Rattle.page_cells.proofs.Growing.{grows_none, grows_then, wrote_then}
 use Rattle.comp_mutator.specs.Mutators.{pass_of, setup_of, unposted_of, IsMutatorOf}
 use Rattle.comp_access.specs.Reads.{KnowsBuilt}
-use Rattle.comp_access.specs.Copies.{builds_after}
+use Rattle.comp_access.specs.Copies.{builds_after, PageRefused}
 use Rattle.comp_access.specs.declared.pages.Touched.{Touched}
 use Rattle.comp_access.specs.declared.pages.Touched.TheVariants.{Built, AlreadyBuilt}
 use Rattle.comp_access.specs.declared.refusal.Refusal.{Refusal}
+use Rattle.comp_access.specs.declared.refusal.Refusal.TheVariants.{Null, NotAStart, NoSuchField, ObjectTooLarge, OutOfPages, Busy, JournalFull, OutOfMemory}
 use Rattle.comp_history.specs.Shares.{allocated}
 use Rattle.comp_mutator.specs.declared.space.Space.{Space}
 use Rattle.comp_mutator.specs.declared.mutator.Mutator.{Mutator}
@@ -22,6 +24,17 @@ use Rattle.comp_sweep.specs.Sweeps.{BuildsMore, Sweeps}
 use Rattle.comp_sweep.specs.Workers.{WhyStopped}
 use Rattle.comp_sweep.specs.declared.working.Stop.{Stop}
 use Rattle.comp_sweep.specs.declared.working.Stop.TheVariants.{Told, Wants}
+
+-- a page that was waited for is refused for want of memory
+pub memory_wanted : (p : ℕ) (a b : Pass) (refusal : Refusal) → ((q : ℕ) → refusal ≡ Busy q → ⊥) → PageRefused p a b refusal → KnowsBuilt a p → ⊥
+memory_wanted p a b Null waited r = absurd r
+memory_wanted p a b (NotAStart x) waited r = absurd r
+memory_wanted p a b NoSuchField waited r = absurd r
+memory_wanted p a b ObjectTooLarge waited r = absurd r
+memory_wanted p a b OutOfPages waited r = absurd r
+memory_wanted p a b (Busy q) waited r = absurd (waited q refl)
+memory_wanted p a b (JournalFull q) waited r = absurd r
+memory_wanted p a b OutOfMemory waited r = r
 
 module _ {L B : Type 0} {g : Ghosts B} (space : Space L B g) where
   -- no call

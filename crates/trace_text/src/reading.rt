@@ -1,5 +1,5 @@
 //! Lines of a trace.
-ghost use Rattle.std.specs.Prelude.{◌≡◌, Some, Ok, Err, option_map, nat_le, if◌then◌else◌};
+ghost use Rattle.std.specs.Prelude.{◌≡◌, [], ◌∷◌, Some, Ok, Err, option_map, nat_le, if◌then◌else◌};
 ghost use Rattle.trace_text.specs.declared.fault.TraceFault.TheVariants as faults;
 ghost use Rattle.trace_text.specs.declared.line.Action.TheVariants as actions;
 ghost use Rattle.trace_text.specs.Grammar.{judged, line_of, line_with, parts, IsReadAs};
@@ -171,20 +171,88 @@ fn nil_line(mutator: u128, to: u128, by: Limits) -> Result<Line, TraceFault>
     Ok(Line { mutator, action })
 }
 
+/// The line of this name and one number, or the first thing that is wrong with it.
+fn line_of_one(mutator: u128, name: &[u8], to: u128, by: Limits) -> Result<Line, TraceFault>
+    ensures { result ≡ judged by.mutators by.roots by.n (line_with mutator name.now (to ∷ [])) }
+{
+    if name == b"nil".as_slice() {
+        nil_line(mutator, to, by)
+    } else {
+        Err(TraceFault::BadLine(by.n))
+    }
+}
+
+/// The same of two numbers.
+fn line_of_two(
+    mutator: u128,
+    name: &[u8],
+    first: u128,
+    second: u128,
+    by: Limits,
+) -> Result<Line, TraceFault>
+    ensures { result ≡ judged by.mutators by.roots by.n (line_with mutator name.now (first ∷ second ∷ [])) }
+{
+    if name == b"root".as_slice() {
+        root_line(mutator, first, second, by)
+    } else if name == b"get".as_slice() {
+        get_line(mutator, first, second, by)
+    } else {
+        Err(TraceFault::BadLine(by.n))
+    }
+}
+
+/// The same of three numbers.
+fn line_of_three(
+    mutator: u128,
+    name: &[u8],
+    first: u128,
+    second: u128,
+    third: u128,
+    by: Limits,
+) -> Result<Line, TraceFault>
+    ensures { result ≡ judged by.mutators by.roots by.n (line_with mutator name.now (first ∷ second ∷ third ∷ [])) }
+{
+    if name == b"load".as_slice() {
+        load_line(mutator, first, second, third, by)
+    } else if name == b"store".as_slice() {
+        store_line(mutator, first, second, third, by)
+    } else if name == b"put".as_slice() {
+        put_line(mutator, first, second, third, by)
+    } else {
+        Err(TraceFault::BadLine(by.n))
+    }
+}
+
+/// The same of four numbers.
+fn line_of_four(
+    mutator: u128,
+    name: &[u8],
+    to: u128,
+    refs: u128,
+    data_words: u128,
+    tag: u128,
+    by: Limits,
+) -> Result<Line, TraceFault>
+    ensures { result ≡ judged by.mutators by.roots by.n (line_with mutator name.now (to ∷ refs ∷ data_words ∷ tag ∷ [])) }
+{
+    if name == b"new".as_slice() {
+        new_line(mutator, to, refs, data_words, tag, by)
+    } else {
+        Err(TraceFault::BadLine(by.n))
+    }
+}
+
 /// The line of these numbers and this name, or the first thing that is wrong with it.
 fn judge(mutator: u128, name: &[u8], numbers: &[u128], by: Limits) -> Result<Line, TraceFault>
     ensures { result ≡ judged by.mutators by.roots by.n (line_with mutator name.now numbers.now) }
 {
-    match (name, numbers) {
-        (b"root", [to, root]) => root_line(mutator, *to, *root, by),
-        (b"load", [to, object, field]) => load_line(mutator, *to, *object, *field, by),
-        (b"get", [object, field]) => get_line(mutator, *object, *field, by),
-        (b"store", [object, field, value]) => store_line(mutator, *object, *field, *value, by),
-        (b"put", [object, field, value]) => put_line(mutator, *object, *field, *value, by),
-        (b"new", [to, refs, data_words, tag]) => {
-            new_line(mutator, *to, *refs, *data_words, *tag, by)
+    match numbers {
+        [to] => line_of_one(mutator, name, *to, by),
+        [first, second] => line_of_two(mutator, name, *first, *second, by),
+        [first, second, third] => line_of_three(mutator, name, *first, *second, *third, by),
+        [to, refs, data_words, tag] => {
+            line_of_four(mutator, name, *to, *refs, *data_words, *tag, by)
         }
-        (b"nil", [to]) => nil_line(mutator, *to, by),
         _ => Err(TraceFault::BadLine(by.n)),
     }
 }
