@@ -1,6 +1,7 @@
 -- From what the parser found to what the words ask.
 use Rattle.std.proofs.Common.{◌≡◌, ◌≢◌, ◌⊎◌, ◌∙◌, ◌∷◌, ◌≤◌, ℕ, List, Option, Some, IfOk, IfErr, Result, Ok, Err}
 use Rattle.std.proofs.Common.{[], None, arith, sym, ap, ap₂, subst, inl, inr, codes, is_some, map, unwrap_or, refl, true, true≢false}
+use Rattle.std.specs.Prelude.{option_map}
 use Rattle.std.specs.Prelude.{IsUtf8, IfSome}
 use Rattle.std.specs.String.{string_bytes}
 use Rattle.std.specs.declared.string.String.{String}
@@ -8,11 +9,12 @@ use Rattle.std.specs.List.{All, list_all, slice_index_or}
 use Rattle.std.proofs.lemmas.List.Elements.{All-head, All-map, All-tail}
 use Rattle.std.proofs.lemmas.Option.{IfSome_then, same_Some}
 use Rattle.std.proofs.lemmas.Str.{IsUtf8-string_bytes}
-use Rattle.clap.specs.Words.{App, IsAmong, HasKind, HasMatchesOf, Row, fault_of, first_of, first_value, is_simple, is_simple_and_free, kind_of, one_of, one_text, rows_of, subcommand_of, subcommand_rows_of}
+use Rattle.clap.specs.Words.{App, IsAmong, HasKind, HasMatchesOf, Row, fault_of, first_of, first_value, is_simple, is_simple_and_free, kind_of, one_of, one_text, rows_of, subcommand_name_of, subcommand_of, subcommand_rows_of}
 use Rattle.clap.specs.declared.error.Error.{Error}
 use Rattle.clap.specs.declared.error.kind.ErrorKind.{ErrorKind}
 use Rattle.clap.specs.declared.error.kind.ErrorKind.TheVariants.{DisplayHelp, DisplayVersion, OutOfMemory}
 use Rattle.clap.specs.declared.parser.matches.ArgMatches.{ArgMatches}
+use Rattle.clap.specs.declared.parser.matches.ArgMatches.TheViews.{out-ArgMatches}
 use Rattle.clap.specs.declared.parser.matches.Found.{Found}
 use Rattle.clap.proofs.WalkLemmas.{both, first_value-rows, one_text-rows}
 use Rattle.command_line.specs.Asked.{given as given_values}
@@ -48,6 +50,24 @@ same_name o a b x y e f = ap (λ (w : Entered). (unwrap_or w (a, x)).0) (sym e �
 -- and what was found behind it is one
 pub same_rows : (o : Entered) (a b : List ℕ) (x y : List Row) → o ≡ Some (a, x) → o ≡ Some (b, y) → x ≡ y
 same_rows o a b x y e f = ap (λ (w : Entered). (unwrap_or w (a, x)).1) (sym e ∙ f)
+
+-- the name and the rows of what was entered are both of them
+both_parts : {A : Type 0} (o : Option A) (f : A → List ℕ) (g : A → List Row) (name : List ℕ) (rows : List Row) → Some name ≡ option_map f o
+    → Some rows ≡ option_map (λ (p : List ℕ × List Row). p.1) (option_map {U = List ℕ × List Row} (λ (a : A). (f a, g a)) o) → option_map {U = List ℕ × List Row} (λ (a : A). (f a, g a)) o ≡ Some (name, rows)
+both_parts None f g name rows named has = cc
+both_parts (Some a) f g name rows named has = ap₂ (λ (n : List ℕ) (r : List Row). Some (n, r)) (sym (same_Some _ _ named)) (sym (same_Some _ _ has))
+
+pub entered_as : (m : ArgMatches) (o : Entered) (name : List ℕ) (rows : List Row) → subcommand_rows_of m ≡ o → Some name ≡ subcommand_name_of m
+    → Some rows ≡ option_map (λ (p : List ℕ × List Row). p.1) (subcommand_rows_of m) → o ≡ Some (name, rows)
+entered_as m o name rows is named has = sym is ∙ both_parts (out-ArgMatches m).subcommand _ _ name rows named has
+
+-- nothing was entered where there is no name
+no_parts : {A B : Type 0} (o : Option A) (f : A → List ℕ) (g : A → B) → None ≡ option_map f o → option_map g o ≡ None
+no_parts None f g none = refl
+no_parts (Some a) f g none = cc
+
+pub none_entered : (m : ArgMatches) (o : Entered) → subcommand_rows_of m ≡ o → None ≡ subcommand_name_of m → o ≡ None
+none_entered m o is none = sym is ∙ no_parts (out-ArgMatches m).subcommand _ _ none
 
 -- the command was asked with what was given, and its rows were found
 abbrev pub CommandAsked : List (List ℕ) → Found → Form → Type 0

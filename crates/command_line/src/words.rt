@@ -71,13 +71,11 @@ pub const VERSION_LINE: &str = "compressor 0.1.0\n";
 // The version, as clap is told of it.
 const VERSION: &str = "0.1.0";
 
-// The mutators of a command that is told of none.
+// The mutators, the fresh pages and the workers of a command that is told of none.
 const DEFAULT_MUTATORS: u64 = 2;
 
-// Its fresh pages.
 const DEFAULT_FRESH: u64 = 64;
 
-// And its workers.
 const DEFAULT_WORKERS: u64 = 2;
 
 /// Reads the words after the program's name: the task is the one that they ask. An error comes where they ask none, or for want of memory.
@@ -101,22 +99,25 @@ fn task_of<'a>(words: &'a [String], matches: &ArgMatches<'a>) -> Task<'a>
     ensures asked { Asks (map string_bytes words.entry.now) result }
     ensures counts { HasLawfulCounts result }
 {
-    match matches.subcommand() {
-        Some(("plan", found)) => Task::Plan {
+    let Some((name, found)) = matches.subcommand() else {
+        unreachable!();
+    };
+    match name {
+        "plan" => Task::Plan {
             image: text_of(found, "IMAGE"),
         },
-        Some(("word", found)) => Task::Word {
+        "word" => Task::Word {
             image: text_of(found, "IMAGE"),
             index: number_of(found, "INDEX"),
         },
-        Some(("replay", found)) => Task::Replay(trace_run(found)),
-        Some(("race", found)) => Task::Race(trace_run(found)),
-        Some(("compact", found)) => Task::Compact {
+        "replay" => Task::Replay(trace_run(found)),
+        "race" => Task::Race(trace_run(found)),
+        "compact" => Task::Compact {
             image: text_of(found, "IMAGE"),
             dump: text_of(found, "DUMP"),
             workers: count_of(found, "workers", DEFAULT_WORKERS) as u8,
         },
-        Some(("audit", found)) => Task::Audit {
+        "audit" => Task::Audit {
             image: text_of(found, "IMAGE"),
             dump: text_of(found, "DUMP"),
         },

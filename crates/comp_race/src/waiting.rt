@@ -1,6 +1,7 @@
 //! What one mutator does for a line, where it waits for busy pages.
 ghost use Rattle.std.specs.Prelude.{◌≡◌, ℕ, IfErr, IfOk, IsErrOf, OnErr};
 ghost use Rattle.cell_steps.specs.Passes.{did};
+ghost use Rattle.cell_steps.specs.Setup.{Setup};
 ghost use Rattle.page_cells.specs.Calls.{Grows};
 ghost use Rattle.comp_mutator.specs.Mutators.{pass_of, setup_of, IsMutatorOf};
 ghost use Rattle.comp_access.specs.declared.refusal.Refusal.TheVariants.{Busy};
@@ -35,18 +36,35 @@ pub(crate) fn act_waiting<L: Ledger, B: Builder>(
     ensures busy { (p : ℕ) → IsErrOf result (Busy p) → ⊥ }
     ensures refused { IfErr result (Refuses (setup_of space.now) action registers.old (pass_of m.old) (pass_of m.new)) }
 {
+    let answer = call_waiting(alloc, rt, space, m, registers, action);
+    if let Ok(value) = answer {
+        keep_answer(registers, action, value);
+    }
+    answer
+}
+
+// Makes the call that a line says, and answers what it does.
+fn call_waiting<L: Ledger, B: Builder>(
+    alloc: Global,
+    rt: &impl Wait,
+    space: &Space<L, B>,
+    m: &mut Mutator<L>,
+    registers: &[u64; 16],
+    action: Action,
+) -> Result<u64, Refusal>
+    requires of { IsMutatorOf space.now m.old }
+    requires fits { Fits (setup_of space.now) action }
+    ensures of { IsMutatorOf space.now m.new }
+    ensures went { IfOk result (Steps (setup_of space.now) action registers.now (pass_of m.old) (pass_of m.new)) }
+    ensures grows { Grows (pass_of m.old) (pass_of m.new) }
+    ensures did { OnErr result (did (pass_of m.new) ≡ did (pass_of m.old)) }
+    ensures busy { (p : ℕ) → IsErrOf result (Busy p) → ⊥ }
+    ensures refused { IfErr result (Refuses (setup_of space.now) action registers.now (pass_of m.old) (pass_of m.new)) }
+{
     match action {
-        Action::Root { to, root } => {
-            let place = root_at(space, root);
-            registers[usize::from(to)] = place;
-            Ok(place)
-        }
-        Action::Load { to, object, field } => {
-            let answer = space.read_ref(alloc, rt, m, held(registers, object), field);
-            if let Ok(word) = answer {
-                registers[usize::from(to)] = word;
-            }
-            answer
+        Action::Root { root, .. } => Ok(root_at(space, root)),
+        Action::Load { object, field, .. } => {
+            space.read_ref(alloc, rt, m, held(registers, object), field)
         }
         Action::Get { object, field } => {
             space.read_data(alloc, rt, m, held(registers, object), field)
@@ -65,18 +83,25 @@ pub(crate) fn act_waiting<L: Ledger, B: Builder>(
             value,
         } => space.write_data(alloc, rt, m, held(registers, object), field, value),
         Action::New {
-            to,
             refs,
             data_words,
             tag,
-        } => {
-            let place = space.alloc(alloc, rt, m, refs, data_words, tag)?;
-            registers[usize::from(to)] = place;
-            Ok(place)
-        }
-        Action::Nil { to } => {
-            registers[usize::from(to)] = 0;
-            Ok(0)
-        }
+            ..
+        } => space.alloc(alloc, rt, m, refs, data_words, tag),
+        Action::Nil { .. } => Ok(0),
+    }
+}
+
+// Puts what a line's call answered into the register that the line names, if it names one.
+fn keep_answer(registers: &mut [u64; 16], action: Action, answer: u64)
+    requires { (u : Setup) × Fits u action }
+    ensures { registers.new ≡ registers_after action registers.old answer }
+{
+    match action {
+        Action::Root { to, .. } => registers[usize::from(to)] = answer,
+        Action::Load { to, .. } => registers[usize::from(to)] = answer,
+        Action::New { to, .. } => registers[usize::from(to)] = answer,
+        Action::Nil { to } => registers[usize::from(to)] = answer,
+        Action::Get { .. } | Action::Store { .. } | Action::Put { .. } => {}
     }
 }

@@ -1,13 +1,17 @@
 //! The command `replay`.
-ghost use Rattle.std.specs.Prelude.{◌≡◌, ◌-◌, ◌^◌, ◌<◌, ◌≤◌, IfErr, OnOk};
+ghost use Rattle.std.specs.Prelude.{◌≡◌, ◌-◌, ◌^◌, ◌<◌, ◌≤◌, length, IfErr, IfOk, OnOk};
 ghost use Rattle.heap_image.specs.Counted.{inner_of, failures_of, writer_of};
 ghost use Rattle.comp_history.specs.Finishes.{live_of, IsOfFlip};
 ghost use Rattle.comp_dump.specs.DumpEncoding.{dump_bytes};
 ghost use Rattle.command_io.specs.Dumps.{RefusedUncreated, WritesWhole};
+ghost use Rattle.command_io.specs.Images.{IsImageOf, SomeGiven};
 ghost use Rattle.command_io.specs.Printing.{CountsPrint};
+ghost use Rattle.command_io.specs.Texts.{IsTextOf};
+ghost use Rattle.trace_text.specs.Traces.{lines_of, mutators_of, roots_of};
+ghost use Rattle.trace_commands.specs.Outcomes.{IsHaltedBy, IsOfHalt, IsWritten, RefusesInputs, RefusesOutcome};
 ghost use Rattle.trace_commands.specs.Replays.{dumped_of, IsOfWritingRun, PrintsRun, RefusesReplay, Replays, SomeRun, StopsUnprinted};
 
-use crate::replays::{Replayed, replay_heap};
+use crate::replays::{Halted, Replayed, replay_heap};
 use crate::shown::print_shown;
 use command_io::dumps::{Dumps, write_to};
 use command_io::images::{Images, heap_at};
@@ -17,8 +21,10 @@ use command_io::traces::{Traces, trace_at};
 use command_line::words::TraceRun;
 use comp_dump::dump::Dump;
 use heap_image::counted::Counted;
+use heap_layout::heap::MarkedHeap;
 use std::alloc::Global;
 use std::io::Write;
+use trace_text::trace::Trace;
 
 /// Runs the trace at a path over the heap whose image lies at another, by one thread; the dump of what is left is written, and then the values that lines showed are
 /// printed, and the live words. Where a line is refused, the values of those before it are printed, and no dump is created.
@@ -44,16 +50,81 @@ pub fn print_replay<I: Images, T: Traces, D: Dumps, O: Write>(
     ensures same_writer { writer_of out.new ≡ writer_of out.old }
     ensures unprinted { StopsUnprinted (O.contents (inner_of out.old).now) (O.contents (inner_of out.new).now) result }
 {
+    let inputs = inputs_at(alloc, images, traces, &asked)?;
+    let ran = replay_heap(
+        alloc,
+        inputs.heap,
+        &inputs.trace,
+        asked.mutators,
+        asked.fresh,
+    );
+    write_outcome(alloc, dumps, asked, ran, out)
+}
+
+/// The heap that a run is asked for, and its trace.
+#[derive(Drop)]
+pub(crate) struct Inputs {
+    pub(crate) heap: MarkedHeap,
+    pub(crate) trace: Trace,
+}
+
+/// The heap whose image lies at a path, and the trace for it whose text lies at another.
+pub(crate) fn inputs_at<I: Images, T: Traces>(
+    alloc: Global,
+    images: &I,
+    traces: &T,
+    asked: &TraceRun<'_>,
+) -> Result<Inputs, Refusal>
+    ensures heap { IfOk result (λ inputs. SomeGiven (I.gives images.now asked.now.image.now) I.Reader.remaining (IsImageOf (λ other. other ≡ inputs.heap))) }
+    ensures lines { IfOk result (λ inputs. SomeGiven (T.gives traces.now asked.now.trace.now) T.Reader.remaining (IsTextOf asked.now.mutators (length inputs.heap.roots) (lines_of inputs.trace))) }
+    ensures counts { IfOk result (λ inputs. (mutators_of inputs.trace ≡ asked.now.mutators) × (roots_of inputs.trace ≡ length inputs.heap.roots)) }
+    ensures cause { IfErr result (RefusesInputs (I.lacks images.now asked.now.image.now) (I.gives images.now asked.now.image.now) I.Reader.remaining
+        (T.lacks traces.now asked.now.trace.now) (T.gives traces.now asked.now.trace.now) T.Reader.remaining asked.now.mutators) }
+{
     let heap = heap_at(alloc, images, asked.image)?;
     let roots = heap.roots().len() as u16;
     let trace = trace_at(alloc, traces, asked.trace, asked.mutators, roots)?;
-    match replay_heap(alloc, heap, &trace, asked.mutators, asked.fresh) {
+    Ok(Inputs { heap, trace })
+}
+
+/// Writes and prints what a run left. Of one that was halted, what it had shown is printed, and its refusal handed on.
+pub(crate) fn write_outcome<D: Dumps, O: Write>(
+    alloc: Global,
+    dumps: &mut D,
+    asked: TraceRun<'_>,
+    outcome: Result<Replayed, Halted>,
+    out: &mut Counted<&mut O>,
+) -> Result<(), Refusal>
+    requires flipped { IfOk outcome (λ run. IsOfFlip asked.mutators asked.fresh run.finished) }
+    requires halted { IfErr outcome (λ run. IsHaltedBy run.shown.items run.refusal) }
+    requires written { failures_of out.old < 2 ^ 64 - 1 }
+    ensures done { OnOk result (IsWritten (D.gives dumps.old asked.entry.dump.now) D.Writer.contents asked.entry.mutators asked.entry.fresh
+        (O.contents (inner_of out.old).now) (O.contents (inner_of out.new).now) outcome) }
+    ensures cause { IfErr result (RefusesOutcome (D.lacks dumps.old asked.entry.dump.now) (D.gives dumps.old asked.entry.dump.now) D.Writer.contents
+        asked.entry.mutators asked.entry.fresh (O.contents (inner_of out.old).now) (O.contents (inner_of out.new).now) outcome) }
+    ensures uncreated { RefusedUncreated dumps.old dumps.new result }
+    ensures counts { CountsPrint (failures_of out.old) (failures_of out.new) result }
+    ensures same_writer { writer_of out.new ≡ writer_of out.old }
+    ensures unprinted { StopsUnprinted (O.contents (inner_of out.old).now) (O.contents (inner_of out.new).now) result }
+{
+    match outcome {
         Ok(run) => write_run(alloc, dumps, asked, &run, out),
-        Err(halted) => {
-            print_shown(&halted.shown, out)?;
-            Err(halted.refusal)
-        }
+        Err(halted) => print_halted(&halted, out),
     }
+}
+
+// Prints what a halted run had shown, and answers its refusal.
+fn print_halted<O: Write>(halted: &Halted, out: &mut Counted<&mut O>) -> Result<(), Refusal>
+    requires halted { IsHaltedBy halted.now.shown.items halted.now.refusal }
+    requires written { failures_of out.old < 2 ^ 64 - 1 }
+    ensures never { OnOk result ⊥ }
+    ensures cause { IfErr result (IsOfHalt (O.contents (inner_of out.old).now) (O.contents (inner_of out.new).now) halted.now) }
+    ensures counts { CountsPrint (failures_of out.old) (failures_of out.new) result }
+    ensures same_writer { writer_of out.new ≡ writer_of out.old }
+    ensures unprinted { StopsUnprinted (O.contents (inner_of out.old).now) (O.contents (inner_of out.new).now) result }
+{
+    print_shown(&halted.shown, out)?;
+    Err(halted.refusal)
 }
 
 /// Writes the dump of a run, and prints the values that it showed, and the live words.

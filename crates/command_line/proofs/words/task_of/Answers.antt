@@ -1,172 +1,165 @@
-use Rattle.std.proofs.Common.{rules, arith, [], ◌≡◌, ◌∙◌, All, IsUtf8, codes, is_some, ap, Option, List, ℕ, None, Some, refl, IsSomeAnd, IfSome, sym, map, subst}
+use Rattle.std.proofs.Common.{arith, [], ◌≡◌, ◌∙◌, codes, is_some, ap, Global, IfSome, IsSomeAnd, List, map, None, Option, ℕ, refl, Some, String, subst, sym}
+use Rattle.std.specs.Prelude.{option_map}
 use Rattle.std.specs.String.{string_bytes}
 use Rattle.std.proofs.lemmas.Option.{same_Some}
-use Rattle.clap.specs.Words.{fault_of, one_text, rows_of, found_of, subcommand_of}
+use Rattle.clap.specs.Words.{fault_of, found_of, one_text, rows_of, subcommand_name_of, subcommand_of, subcommand_rows_of, Row}
+use Rattle.clap.specs.declared.parser.matches.ArgMatches.{ArgMatches}
 use Rattle.clap.specs.declared.parser.matches.Found.{Found}
 use Rattle.command_line.specs.Asked.{AsksPlan, AsksWord}
 use Rattle.command_line.specs.Given.{IsNumber}
 use Rattle.command_line.specs.Parser.{program}
-use Rattle.command_line.specs.Forms.{audit_form, compact_form, plan_form, race_form, replay_form, standing, text, word_form}
+use Rattle.command_line.specs.Forms.{Form, audit_form, compact_form, plan_form, race_form, replay_form, standing, text, word_form}
 use Rattle.command_line.specs.Runs.{run_of}
-use Rattle.command_line.proofs.TopLevel.{standing_audit, standing_compact, standing_plan, standing_program, standing_race, standing_replay, standing_word}
-use Rattle.command_line.proofs.Found.{CommandAsked, audit_asked, bounded_number, command_asked, compact_asked, none_of_standing, plan_asked, run_asked, run_found, same_name, texts_utf8, two_paths, word_asked, workers_fit, workers_within}
-use Rattle.command_line.proofs.words.task_of.Goals.{in_default-via-in-Some+in_default, in_default-via-in_default}
+use Rattle.command_line.proofs.TopLevel.{IsCommand, standing_audit, standing_compact, standing_plan, standing_program, standing_race, standing_replay, standing_word}
+use Rattle.command_line.proofs.Found.{CommandAsked, audit_asked, bounded_number, command_asked, compact_asked, entered_as, none_entered, none_of_standing, plan_asked, run_asked, run_found, same_name, texts_utf8, two_paths, word_asked, workers_fit, workers_within}
 use Rattle.command_line.proofs.words.task_of.Goals as goal
+
+-- the command that was entered was asked with what was given
+given_to : (form : Form) → IsCommand standing form → (words : List (String Global)) (m : ArgMatches) (name : List ℕ) (f : Found) → name ≡ form.name
+    → fault_of (program standing) (map string_bytes words) ≡ [] → subcommand_rows_of m ≡ subcommand_of (program standing) (map string_bytes words)
+    → Some name ≡ subcommand_name_of m → Some (rows_of f) ≡ option_map (λ (p : List ℕ × List Row). p.1) (subcommand_rows_of m) → CommandAsked (map string_bytes words) f form
+given_to form command words m name f is taken found named has =
+    let entered = entered_as m (subcommand_of (program standing) (map string_bytes words)) name (rows_of f) found named has in
+    command_asked standing standing_program form command (map string_bytes words) f (texts_utf8 words) taken (entered ∙ ap (λ (n : List ℕ). Some (n, rows_of f)) is)
 
 pub text_of-requires : goal.text_of-requires
 text_of-requires c =
-    let found : subcommand_of (program standing) (map string_bytes c.args.words.now) ≡ Some (codes "plan", rows_of (found_of c.in-Some-plan-default.found.now)) = search rules in
-    let got = plan_asked _ (found_of c.in-Some-plan-default.found.now) (command_asked standing standing_program plan_form standing_plan _ (found_of c.in-Some-plan-default.found.now) (texts_utf8 c.args.words.now) c.requires.taken found) in
-    ap (λ (o : Option (List ℕ)). is_some o) got.1
+    let f = found_of c.in-Some.found.now in
+    let given = given_to plan_form standing_plan c.args.words.now c.args.matches.now c.in-Some.name.now f c.in-plan.is c.requires.taken c.requires.found c.in-Some.ensures.name c.in-Some.ensures.rows in
+    ap (λ (o : Option (List ℕ)). is_some o) (plan_asked (map string_bytes c.args.words.now) f given).1
 
-pub text_of-requires-in-Some-word-default : goal.text_of-requires-in-Some-word-default
-text_of-requires-in-Some-word-default c =
-    let found : subcommand_of (program standing) (map string_bytes c.args.words.now) ≡ Some (codes "word", rows_of (found_of c.in-Some-word-default.found.now)) = search rules in
-    let got = word_asked _ (found_of c.in-Some-word-default.found.now) (command_asked standing standing_program word_form standing_word _ (found_of c.in-Some-word-default.found.now) (texts_utf8 c.args.words.now) c.requires.taken found) in
-    ap (λ (o : Option (List ℕ)). is_some o) got.2
+pub returns-in-plan-clause-asked : goal.returns-in-plan-clause-asked
+returns-in-plan-clause-asked c =
+    let words = map string_bytes c.args.words.now in
+    let f = found_of c.in-Some.found.now in
+    let given = given_to plan_form standing_plan c.args.words.now c.args.matches.now c.in-Some.name.now f c.in-plan.is c.requires.taken c.requires.found c.in-Some.ensures.name c.in-Some.ensures.rows in
+    let got = plan_asked words f given in
+    subst (AsksPlan words) (sym (same_Some _ _ (c.text_of.ensures ∙ got.1))) got.2
+
+pub text_of-requires-in-word : goal.text_of-requires-in-word
+text_of-requires-in-word c =
+    let f = found_of c.in-Some.found.now in
+    let given = given_to word_form standing_word c.args.words.now c.args.matches.now c.in-Some.name.now f c.in-word.is c.requires.taken c.requires.found c.in-Some.ensures.name c.in-Some.ensures.rows in
+    ap (λ (o : Option (List ℕ)). is_some o) (word_asked (map string_bytes c.args.words.now) f given).2
 
 pub number_of-requires : goal.number_of-requires
 number_of-requires c =
-    let found : subcommand_of (program standing) (map string_bytes c.args.words.now) ≡ Some (codes "word", rows_of (found_of c.in-Some-word-default.found.now)) = search rules in
-    let got = word_asked _ (found_of c.in-Some-word-default.found.now) (command_asked standing standing_program word_form standing_word _ (found_of c.in-Some-word-default.found.now) (texts_utf8 c.args.words.now) c.requires.taken found) in
+    let f = found_of c.in-Some.found.now in
+    let given = given_to word_form standing_word c.args.words.now c.args.matches.now c.in-Some.name.now f c.in-word.is c.requires.taken c.requires.found c.in-Some.ensures.name c.in-Some.ensures.rows in
+    let got = word_asked (map string_bytes c.args.words.now) f given in
     subst (λ (o : Option (List ℕ)). IsSomeAnd o (λ text. (n : ℕ) × IsNumber text n)) (sym got.3) got.4
 
-pub unreachable-requires : goal.unreachable-requires
-unreachable-requires c = elim c.in_default.branch [
-  | in_default-via-in-Some+in_default w ↦
-      let found : subcommand_of (program standing) (map string_bytes c.args.words.now) ≡ Some (w.in_default.field-0.0.now, rows_of (found_of w.in_default.field-0.1.now)) = search rules in
-      let no_plan : ¬ (w.in_default.field-0.0.now ≡ codes "plan") = search rules in
-      let no_word : ¬ (w.in_default.field-0.0.now ≡ codes "word") = search rules in
-      let no_replay : ¬ (w.in_default.field-0.0.now ≡ codes "replay") = search rules in
-      let no_race : ¬ (w.in_default.field-0.0.now ≡ codes "race") = search rules in
-      let no_compact : ¬ (w.in_default.field-0.0.now ≡ codes "compact") = search rules in
-      let no_audit : ¬ (w.in_default.field-0.0.now ≡ codes "audit") = search rules in
-      none_of_standing _ _ (texts_utf8 c.args.words.now) c.requires.taken found
-      (λ rows e. no_plan (same_name _ _ _ _ rows refl e)) (λ rows e. no_word (same_name _ _ _ _ rows refl e))
-      (λ rows e. no_replay (same_name _ _ _ _ rows refl e)) (λ rows e. no_race (same_name _ _ _ _ rows refl e)) (λ rows e. no_compact (same_name _ _ _ _ rows refl e))
-      (λ rows e. no_audit (same_name _ _ _ _ rows refl e))
-  | in_default-via-in_default w ↦
-      let found : subcommand_of (program standing) (map string_bytes c.args.words.now) ≡ None = search rules in
-      none_of_standing _ _ (texts_utf8 c.args.words.now) c.requires.taken found (λ rows e. cc) (λ rows e. cc) (λ rows e. cc) (λ rows e. cc) (λ rows e. cc) (λ rows e. cc)
-]
-
-pub returns-in-Some-plan-default-clause-asked : goal.returns-in-Some-plan-default-clause-asked
-returns-in-Some-plan-default-clause-asked c =
-    let found : subcommand_of (program standing) (map string_bytes c.args.words.now) ≡ Some (codes "plan", rows_of (found_of c.in-Some-plan-default.found.now)) = search rules in
-    let got = plan_asked _ (found_of c.in-Some-plan-default.found.now) (command_asked standing standing_program plan_form standing_plan _ (found_of c.in-Some-plan-default.found.now) (texts_utf8 c.args.words.now) c.requires.taken found) in
-    let same : c.text_of.result.now ≡ got.0 = same_Some _ _ (c.text_of.ensures ∙ got.1) in
-    subst (AsksPlan (map string_bytes c.args.words.now)) (sym same) got.2
-
-pub returns-in-Some-word-default-clause-asked : goal.returns-in-Some-word-default-clause-asked
-returns-in-Some-word-default-clause-asked c =
-    let found : subcommand_of (program standing) (map string_bytes c.args.words.now) ≡ Some (codes "word", rows_of (found_of c.in-Some-word-default.found.now)) = search rules in
-    let got = word_asked _ (found_of c.in-Some-word-default.found.now) (command_asked standing standing_program word_form standing_word _ (found_of c.in-Some-word-default.found.now) (texts_utf8 c.args.words.now) c.requires.taken found) in
-    let same : c.text_of-in-Some-word-default.result.now ≡ got.0 = same_Some _ _ (c.text_of-in-Some-word-default.ensures ∙ got.2) in
+pub returns-in-word-clause-asked : goal.returns-in-word-clause-asked
+returns-in-word-clause-asked c =
+    let words = map string_bytes c.args.words.now in
+    let f = found_of c.in-Some.found.now in
+    let given = given_to word_form standing_word c.args.words.now c.args.matches.now c.in-Some.name.now f c.in-word.is c.requires.taken c.requires.found c.in-Some.ensures.name c.in-Some.ensures.rows in
+    let got = word_asked words f given in
     let number : IsNumber got.1 c.number_of.result = subst (λ (o : Option (List ℕ)). IfSome o (λ text. IsNumber text c.number_of.result)) got.3 c.number_of.ensures in
-    subst (λ (path : List ℕ). AsksWord (map string_bytes c.args.words.now) path c.number_of.result) (sym same) (got.5 c.number_of.result number)
-
--- what `compact` was given, where it was entered
-compact_given : (words : List (List ℕ)) (f : Found) → All IsUtf8 words → fault_of (program standing) words ≡ []
-    → subcommand_of (program standing) words ≡ Some (codes "compact", rows_of f) → CommandAsked words f compact_form
-compact_given words f utf8 taken found = command_asked standing standing_program compact_form standing_compact words f utf8 taken found
-
-pub text_of-requires-in-Some-compact-default : goal.text_of-requires-in-Some-compact-default
-text_of-requires-in-Some-compact-default c =
-    let found : subcommand_of (program standing) (map string_bytes c.args.words.now) ≡ Some (codes "compact", rows_of (found_of c.in-Some-compact-default.found.now)) = search rules in
-    let given = compact_given _ (found_of c.in-Some-compact-default.found.now) (texts_utf8 c.args.words.now) c.requires.taken found in
-    (two_paths (map string_bytes c.args.words.now) (found_of c.in-Some-compact-default.found.now) compact_form given (text (codes "IMAGE")) (text (codes "DUMP")) refl).0
-
-pub text_of-requires-in-Some-compact-default-2 : goal.text_of-requires-in-Some-compact-default-2
-text_of-requires-in-Some-compact-default-2 c =
-    let found : subcommand_of (program standing) (map string_bytes c.args.words.now) ≡ Some (codes "compact", rows_of (found_of c.in-Some-compact-default.found.now)) = search rules in
-    let given = compact_given _ (found_of c.in-Some-compact-default.found.now) (texts_utf8 c.args.words.now) c.requires.taken found in
-    (two_paths (map string_bytes c.args.words.now) (found_of c.in-Some-compact-default.found.now) compact_form given (text (codes "IMAGE")) (text (codes "DUMP")) refl).1
-
-pub count_of-requires : goal.count_of-requires
-count_of-requires c =
-    let found : subcommand_of (program standing) (map string_bytes c.args.words.now) ≡ Some (codes "compact", rows_of (found_of c.in-Some-compact-default.found.now)) = search rules in
-    let given = compact_given _ (found_of c.in-Some-compact-default.found.now) (texts_utf8 c.args.words.now) c.requires.taken found in
-    bounded_number 1 64 (one_text (found_of c.in-Some-compact-default.found.now) (codes "workers")) (workers_fit (map string_bytes c.args.words.now) (found_of c.in-Some-compact-default.found.now) given)
-
-pub overflow_cast-result : goal.overflow_cast-result
-overflow_cast-result c =
-    let found : subcommand_of (program standing) (map string_bytes c.args.words.now) ≡ Some (codes "compact", rows_of (found_of c.in-Some-compact-default.found.now)) = search rules in
-    let given = compact_given _ (found_of c.in-Some-compact-default.found.now) (texts_utf8 c.args.words.now) c.requires.taken found in
-    omega (arith, (workers_within (map string_bytes c.args.words.now) (found_of c.in-Some-compact-default.found.now) given c.count_of.result c.count_of.ensures).1)
-
-pub returns-in-Some-compact-default-clause-asked : goal.returns-in-Some-compact-default-clause-asked
-returns-in-Some-compact-default-clause-asked c =
-    let found : subcommand_of (program standing) (map string_bytes c.args.words.now) ≡ Some (codes "compact", rows_of (found_of c.in-Some-compact-default.found.now)) = search rules in
-    let given = compact_given _ (found_of c.in-Some-compact-default.found.now) (texts_utf8 c.args.words.now) c.requires.taken found in
-    compact_asked (map string_bytes c.args.words.now) (found_of c.in-Some-compact-default.found.now) given c.text_of-in-Some-compact-default.result.now c.text_of-in-Some-compact-default-2.result.now c.count_of.result
-    c.text_of-in-Some-compact-default.ensures c.text_of-in-Some-compact-default-2.ensures c.count_of.ensures
-
-pub returns-in-Some-compact-default-clause-counts : goal.returns-in-Some-compact-default-clause-counts
-returns-in-Some-compact-default-clause-counts c =
-    let found : subcommand_of (program standing) (map string_bytes c.args.words.now) ≡ Some (codes "compact", rows_of (found_of c.in-Some-compact-default.found.now)) = search rules in
-    let given = compact_given _ (found_of c.in-Some-compact-default.found.now) (texts_utf8 c.args.words.now) c.requires.taken found in
-    workers_within (map string_bytes c.args.words.now) (found_of c.in-Some-compact-default.found.now) given c.count_of.result c.count_of.ensures
-
--- what `replay` was given, where it was entered
-replay_given : (words : List (List ℕ)) (f : Found) → All IsUtf8 words → fault_of (program standing) words ≡ []
-    → subcommand_of (program standing) words ≡ Some (codes "replay", rows_of f) → CommandAsked words f replay_form
-replay_given words f utf8 taken found = command_asked standing standing_program replay_form standing_replay words f utf8 taken found
-
--- what `race` was given, where it was entered
-race_given : (words : List (List ℕ)) (f : Found) → All IsUtf8 words → fault_of (program standing) words ≡ []
-    → subcommand_of (program standing) words ≡ Some (codes "race", rows_of f) → CommandAsked words f race_form
-race_given words f utf8 taken found = command_asked standing standing_program race_form standing_race words f utf8 taken found
+    subst (λ (path : List ℕ). AsksWord words path c.number_of.result) (sym (same_Some _ _ (c.text_of-in-word.ensures ∙ got.2))) (got.5 c.number_of.result number)
 
 pub trace_run-requires : goal.trace_run-requires
 trace_run-requires c =
-    let found : subcommand_of (program standing) (map string_bytes c.args.words.now) ≡ Some (codes "replay", rows_of (found_of c.in-Some-replay-default.found.now)) = search rules in
-    let given = replay_given _ (found_of c.in-Some-replay-default.found.now) (texts_utf8 c.args.words.now) c.requires.taken found in
-    run_found (map string_bytes c.args.words.now) (found_of c.in-Some-replay-default.found.now) (codes "replay") given
+    let f = found_of c.in-Some.found.now in
+    let given = given_to replay_form standing_replay c.args.words.now c.args.matches.now c.in-Some.name.now f c.in-replay.is c.requires.taken c.requires.found c.in-Some.ensures.name c.in-Some.ensures.rows in
+    run_found (map string_bytes c.args.words.now) f (codes "replay") given
 
-pub returns-in-Some-replay-default-clause-asked : goal.returns-in-Some-replay-default-clause-asked
-returns-in-Some-replay-default-clause-asked c =
-    let found : subcommand_of (program standing) (map string_bytes c.args.words.now) ≡ Some (codes "replay", rows_of (found_of c.in-Some-replay-default.found.now)) = search rules in
-    let given = replay_given _ (found_of c.in-Some-replay-default.found.now) (texts_utf8 c.args.words.now) c.requires.taken found in
-    run_asked (map string_bytes c.args.words.now) (found_of c.in-Some-replay-default.found.now) (codes "replay") given (run_of c.trace_run.result) c.trace_run.ensures.run
+pub returns-in-replay-clause-asked : goal.returns-in-replay-clause-asked
+returns-in-replay-clause-asked c =
+    let f = found_of c.in-Some.found.now in
+    let given = given_to replay_form standing_replay c.args.words.now c.args.matches.now c.in-Some.name.now f c.in-replay.is c.requires.taken c.requires.found c.in-Some.ensures.name c.in-Some.ensures.rows in
+    run_asked (map string_bytes c.args.words.now) f (codes "replay") given (run_of c.trace_run.result) c.trace_run.ensures.run
 
-pub trace_run-requires-in-Some-race-default : goal.trace_run-requires-in-Some-race-default
-trace_run-requires-in-Some-race-default c =
-    let found : subcommand_of (program standing) (map string_bytes c.args.words.now) ≡ Some (codes "race", rows_of (found_of c.in-Some-race-default.found.now)) = search rules in
-    let given = race_given _ (found_of c.in-Some-race-default.found.now) (texts_utf8 c.args.words.now) c.requires.taken found in
-    run_found (map string_bytes c.args.words.now) (found_of c.in-Some-race-default.found.now) (codes "race") given
+pub returns-in-replay-clause-counts : goal.returns-in-replay-clause-counts
+returns-in-replay-clause-counts c = c.trace_run.ensures.counts
 
-pub returns-in-Some-race-default-clause-asked : goal.returns-in-Some-race-default-clause-asked
-returns-in-Some-race-default-clause-asked c =
-    let found : subcommand_of (program standing) (map string_bytes c.args.words.now) ≡ Some (codes "race", rows_of (found_of c.in-Some-race-default.found.now)) = search rules in
-    let given = race_given _ (found_of c.in-Some-race-default.found.now) (texts_utf8 c.args.words.now) c.requires.taken found in
-    run_asked (map string_bytes c.args.words.now) (found_of c.in-Some-race-default.found.now) (codes "race") given (run_of c.trace_run-in-Some-race-default.result) c.trace_run-in-Some-race-default.ensures.run
+pub trace_run-requires-in-race : goal.trace_run-requires-in-race
+trace_run-requires-in-race c =
+    let f = found_of c.in-Some.found.now in
+    let given = given_to race_form standing_race c.args.words.now c.args.matches.now c.in-Some.name.now f c.in-race.is c.requires.taken c.requires.found c.in-Some.ensures.name c.in-Some.ensures.rows in
+    run_found (map string_bytes c.args.words.now) f (codes "race") given
 
-pub returns-in-Some-replay-default-clause-counts : goal.returns-in-Some-replay-default-clause-counts
-returns-in-Some-replay-default-clause-counts c = c.trace_run.ensures.counts
+pub returns-in-race-clause-asked : goal.returns-in-race-clause-asked
+returns-in-race-clause-asked c =
+    let f = found_of c.in-Some.found.now in
+    let given = given_to race_form standing_race c.args.words.now c.args.matches.now c.in-Some.name.now f c.in-race.is c.requires.taken c.requires.found c.in-Some.ensures.name c.in-Some.ensures.rows in
+    run_asked (map string_bytes c.args.words.now) f (codes "race") given (run_of c.trace_run-in-race.result) c.trace_run-in-race.ensures.run
 
-pub returns-in-Some-race-default-clause-counts : goal.returns-in-Some-race-default-clause-counts
-returns-in-Some-race-default-clause-counts c = c.trace_run-in-Some-race-default.ensures.counts
+pub returns-in-race-clause-counts : goal.returns-in-race-clause-counts
+returns-in-race-clause-counts c = c.trace_run-in-race.ensures.counts
 
--- what `audit` was given, where it was entered
-audit_given : (words : List (List ℕ)) (f : Found) → All IsUtf8 words → fault_of (program standing) words ≡ []
-    → subcommand_of (program standing) words ≡ Some (codes "audit", rows_of f) → CommandAsked words f audit_form
-audit_given words f utf8 taken found = command_asked standing standing_program audit_form standing_audit words f utf8 taken found
+pub text_of-requires-in-compact : goal.text_of-requires-in-compact
+text_of-requires-in-compact c =
+    let f = found_of c.in-Some.found.now in
+    let given = given_to compact_form standing_compact c.args.words.now c.args.matches.now c.in-Some.name.now f c.in-compact.is c.requires.taken c.requires.found c.in-Some.ensures.name c.in-Some.ensures.rows in
+    (two_paths (map string_bytes c.args.words.now) f compact_form given (text (codes "IMAGE")) (text (codes "DUMP")) refl).0
 
-pub text_of-requires-in-Some-audit-default : goal.text_of-requires-in-Some-audit-default
-text_of-requires-in-Some-audit-default c =
-    let found : subcommand_of (program standing) (map string_bytes c.args.words.now) ≡ Some (codes "audit", rows_of (found_of c.in-Some-audit-default.found.now)) = search rules in
-    let given = audit_given _ (found_of c.in-Some-audit-default.found.now) (texts_utf8 c.args.words.now) c.requires.taken found in
-    (two_paths (map string_bytes c.args.words.now) (found_of c.in-Some-audit-default.found.now) audit_form given (text (codes "IMAGE")) (text (codes "DUMP")) refl).0
+pub text_of-requires-in-compact-2 : goal.text_of-requires-in-compact-2
+text_of-requires-in-compact-2 c =
+    let f = found_of c.in-Some.found.now in
+    let given = given_to compact_form standing_compact c.args.words.now c.args.matches.now c.in-Some.name.now f c.in-compact.is c.requires.taken c.requires.found c.in-Some.ensures.name c.in-Some.ensures.rows in
+    (two_paths (map string_bytes c.args.words.now) f compact_form given (text (codes "IMAGE")) (text (codes "DUMP")) refl).1
 
-pub text_of-requires-in-Some-audit-default-2 : goal.text_of-requires-in-Some-audit-default-2
-text_of-requires-in-Some-audit-default-2 c =
-    let found : subcommand_of (program standing) (map string_bytes c.args.words.now) ≡ Some (codes "audit", rows_of (found_of c.in-Some-audit-default.found.now)) = search rules in
-    let given = audit_given _ (found_of c.in-Some-audit-default.found.now) (texts_utf8 c.args.words.now) c.requires.taken found in
-    (two_paths (map string_bytes c.args.words.now) (found_of c.in-Some-audit-default.found.now) audit_form given (text (codes "IMAGE")) (text (codes "DUMP")) refl).1
+pub text_of-requires-in-audit : goal.text_of-requires-in-audit
+text_of-requires-in-audit c =
+    let f = found_of c.in-Some.found.now in
+    let given = given_to audit_form standing_audit c.args.words.now c.args.matches.now c.in-Some.name.now f c.in-audit.is c.requires.taken c.requires.found c.in-Some.ensures.name c.in-Some.ensures.rows in
+    (two_paths (map string_bytes c.args.words.now) f audit_form given (text (codes "IMAGE")) (text (codes "DUMP")) refl).0
 
-pub returns-in-Some-audit-default-clause-asked : goal.returns-in-Some-audit-default-clause-asked
-returns-in-Some-audit-default-clause-asked c =
-    let found : subcommand_of (program standing) (map string_bytes c.args.words.now) ≡ Some (codes "audit", rows_of (found_of c.in-Some-audit-default.found.now)) = search rules in
-    let given = audit_given _ (found_of c.in-Some-audit-default.found.now) (texts_utf8 c.args.words.now) c.requires.taken found in
-    audit_asked (map string_bytes c.args.words.now) (found_of c.in-Some-audit-default.found.now) given c.text_of-in-Some-audit-default.result.now c.text_of-in-Some-audit-default-2.result.now
-    c.text_of-in-Some-audit-default.ensures c.text_of-in-Some-audit-default-2.ensures
+pub text_of-requires-in-audit-2 : goal.text_of-requires-in-audit-2
+text_of-requires-in-audit-2 c =
+    let f = found_of c.in-Some.found.now in
+    let given = given_to audit_form standing_audit c.args.words.now c.args.matches.now c.in-Some.name.now f c.in-audit.is c.requires.taken c.requires.found c.in-Some.ensures.name c.in-Some.ensures.rows in
+    (two_paths (map string_bytes c.args.words.now) f audit_form given (text (codes "IMAGE")) (text (codes "DUMP")) refl).1
+
+pub count_of-requires : goal.count_of-requires
+count_of-requires c =
+    let f = found_of c.in-Some.found.now in
+    let given = given_to compact_form standing_compact c.args.words.now c.args.matches.now c.in-Some.name.now f c.in-compact.is c.requires.taken c.requires.found c.in-Some.ensures.name c.in-Some.ensures.rows in
+    bounded_number 1 64 (one_text f (codes "workers")) (workers_fit (map string_bytes c.args.words.now) f given)
+
+pub overflow_cast-result : goal.overflow_cast-result
+overflow_cast-result c =
+    let f = found_of c.in-Some.found.now in
+    let given = given_to compact_form standing_compact c.args.words.now c.args.matches.now c.in-Some.name.now f c.in-compact.is c.requires.taken c.requires.found c.in-Some.ensures.name c.in-Some.ensures.rows in
+    omega (arith, (workers_within (map string_bytes c.args.words.now) f given c.count_of.result c.count_of.ensures).1)
+
+pub returns-in-compact-clause-asked : goal.returns-in-compact-clause-asked
+returns-in-compact-clause-asked c =
+    let f = found_of c.in-Some.found.now in
+    let given = given_to compact_form standing_compact c.args.words.now c.args.matches.now c.in-Some.name.now f c.in-compact.is c.requires.taken c.requires.found c.in-Some.ensures.name c.in-Some.ensures.rows in
+    compact_asked (map string_bytes c.args.words.now) f given c.text_of-in-compact.result.now c.text_of-in-compact-2.result.now c.count_of.result
+    c.text_of-in-compact.ensures c.text_of-in-compact-2.ensures c.count_of.ensures
+
+pub returns-in-compact-clause-counts : goal.returns-in-compact-clause-counts
+returns-in-compact-clause-counts c =
+    let f = found_of c.in-Some.found.now in
+    let given = given_to compact_form standing_compact c.args.words.now c.args.matches.now c.in-Some.name.now f c.in-compact.is c.requires.taken c.requires.found c.in-Some.ensures.name c.in-Some.ensures.rows in
+    workers_within (map string_bytes c.args.words.now) f given c.count_of.result c.count_of.ensures
+
+pub returns-in-audit-clause-asked : goal.returns-in-audit-clause-asked
+returns-in-audit-clause-asked c =
+    let f = found_of c.in-Some.found.now in
+    let given = given_to audit_form standing_audit c.args.words.now c.args.matches.now c.in-Some.name.now f c.in-audit.is c.requires.taken c.requires.found c.in-Some.ensures.name c.in-Some.ensures.rows in
+    audit_asked (map string_bytes c.args.words.now) f given c.text_of-in-audit.result.now c.text_of-in-audit-2.result.now
+    c.text_of-in-audit.ensures c.text_of-in-audit-2.ensures
+
+-- no command was entered, which cannot be
+pub unreachable-requires : goal.unreachable-requires
+unreachable-requires c =
+    let words = map string_bytes c.args.words.now in
+    let found = none_entered c.args.matches.now (subcommand_of (program standing) words) c.requires.found c.in_default.ensures.name in
+    none_of_standing words None (texts_utf8 c.args.words.now) c.requires.taken found (λ rows e. cc) (λ rows e. cc) (λ rows e. cc) (λ rows e. cc) (λ rows e. cc) (λ rows e. cc)
+
+-- or one by another name
+pub unreachable-requires-in_default-name : goal.unreachable-requires-in_default-name
+unreachable-requires-in_default-name c =
+    let words = map string_bytes c.args.words.now in
+    let name = c.in-Some.name.now in
+    let mine = rows_of (found_of c.in-Some.found.now) in
+    let found = entered_as c.args.matches.now (subcommand_of (program standing) words) name mine c.requires.found c.in-Some.ensures.name c.in-Some.ensures.rows in
+    let other = c.in_default-name in
+    none_of_standing words (Some (name, mine)) (texts_utf8 c.args.words.now) c.requires.taken found
+    (λ rows e. other.not-plan (same_name _ name _ mine rows refl e)) (λ rows e. other.not-word (same_name _ name _ mine rows refl e))
+    (λ rows e. other.not-replay (same_name _ name _ mine rows refl e)) (λ rows e. other.not-race (same_name _ name _ mine rows refl e))
+    (λ rows e. other.not-compact (same_name _ name _ mine rows refl e)) (λ rows e. other.not-audit (same_name _ name _ mine rows refl e))

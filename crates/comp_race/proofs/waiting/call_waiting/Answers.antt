@@ -1,0 +1,179 @@
+use Rattle.std.proofs.Common.{IfErr, IfOk, ℕ, get_or, sym, refl, subst}
+use Rattle.std.proofs.lemmas.Result.{on_err_weaker}
+use Rattle.heap_layout.specs.declared.kind.Kind.TheVariants.{Reference, Data}
+use Rattle.page_cells.proofs.Growing.{grows_none}
+use Rattle.comp_access.specs.Reads.{FieldRefused}
+use Rattle.comp_access.specs.Writes.{DataRefused, ReferenceRefused}
+use Rattle.trace_steps.specs.Acting.{Fits, Refuses, Steps}
+use Rattle.trace_text.specs.declared.line.Action.{Action}
+use Rattle.comp_mutator.specs.Mutators.{pass_of, setup_of}
+use Rattle.trace_steps.proofs.OneLine.{stored}
+use Rattle.comp_race.proofs.FieldCalls.{got, loaded, made, ok_waits, on_err, put}
+use Rattle.comp_race.proofs.waiting.call_waiting.Goals as goal
+
+pub returns-in-Root-clause-went : goal.returns-in-Root-clause-went
+returns-in-Root-clause-went g c =
+    let old = pass_of c.args.m.now in
+    subst (λ (a : Action). Steps (setup_of c.args.space.now) a c.args.registers.now old old c.root_at.result) (sym c.in-Root.is) (record { grows = grows_none old; answers = (refl, c.root_at.ensures) })
+
+pub returns-in-Nil-clause-went : goal.returns-in-Nil-clause-went
+returns-in-Nil-clause-went g c =
+    let old = pass_of c.args.m.now in
+    subst (λ (a : Action). Steps (setup_of c.args.space.now) a c.args.registers.now old old 0) (sym c.in-Nil.is) (record { grows = grows_none old; answers = (refl, refl) })
+
+pub returns-in-Load-clause-went : goal.returns-in-Load-clause-went
+returns-in-Load-clause-went g c =
+    let u = setup_of c.args.space.now in
+    let old = pass_of c.args.m.now in
+    let new = pass_of c.read_ref.new.m in
+    subst (λ (a : Action). IfOk c.read_ref.result (Steps u a c.args.registers.now old new)) (sym c.in-Load.is)
+    (loaded u _ c.in-Load.object c.in-Load.field c.args.registers.now old new c.held.result c.read_ref.result c.held.ensures c.read_ref.ensures.grows c.read_ref.ensures.read c.read_ref.ensures.known)
+
+pub returns-in-Get-clause-went : goal.returns-in-Get-clause-went
+returns-in-Get-clause-went g c =
+    let u = setup_of c.args.space.now in
+    let old = pass_of c.args.m.now in
+    let new = pass_of c.read_data.new.m in
+    subst (λ (a : Action). IfOk c.read_data.result (Steps u a c.args.registers.now old new)) (sym c.in-Get.is)
+    (got u c.in-Get.object c.in-Get.field c.args.registers.now old new c.held-in-Get.result c.read_data.result c.held-in-Get.ensures c.read_data.ensures.grows c.read_data.ensures.read)
+
+pub returns-in-Store-clause-went : goal.returns-in-Store-clause-went
+returns-in-Store-clause-went g c =
+    let u = setup_of c.args.space.now in
+    let old = pass_of c.args.m.now in
+    let new = pass_of c.write_ref.new.m in
+    subst (λ (a : Action). IfOk c.write_ref.result (Steps u a c.args.registers.now old new)) (sym c.in-Store.is)
+    (stored u c.in-Store.object c.in-Store.field c.in-Store.value c.args.registers.now old new c.held-in-Store.result c.held-value.result c.write_ref.result c.held-in-Store.ensures c.held-value.ensures
+    c.write_ref.ensures.grows c.write_ref.ensures.wrote c.write_ref.ensures.target)
+
+pub returns-in-Put-clause-went : goal.returns-in-Put-clause-went
+returns-in-Put-clause-went g c =
+    let u = setup_of c.args.space.now in
+    let old = pass_of c.args.m.now in
+    let new = pass_of c.write_data.new.m in
+    subst (λ (a : Action). IfOk c.write_data.result (Steps u a c.args.registers.now old new)) (sym c.in-Put.is)
+    (put u c.in-Put.object c.in-Put.field c.in-Put.value c.args.registers.now old new c.held-in-Put.result c.write_data.result c.held-in-Put.ensures c.write_data.ensures.grows c.write_data.ensures.wrote)
+
+pub returns-in-New-clause-went : goal.returns-in-New-clause-went
+returns-in-New-clause-went g c =
+    let u = setup_of c.args.space.now in
+    let old = pass_of c.args.m.now in
+    let new = pass_of c.alloc.new.m in
+    subst (λ (a : Action). IfOk c.alloc.result (Steps u a c.args.registers.now old new)) (sym c.in-New.is)
+    (made u _ c.in-New.refs c.in-New.data_words c.in-New.tag c.args.registers.now old new c.alloc.result c.alloc.ensures.grows c.alloc.ensures.allocated)
+
+pub returns-in-Load-clause-refused : goal.returns-in-Load-clause-refused
+returns-in-Load-clause-refused g c =
+    let u = setup_of c.args.space.now in
+    let old = pass_of c.args.m.now in
+    let new = pass_of c.read_ref.new.m in
+    subst (λ (a : Action). IfErr c.read_ref.result (Refuses u a c.args.registers.now old new)) (sym c.in-Load.is)
+    (subst (λ (o : ℕ). IfErr c.read_ref.result (FieldRefused u old new Reference o c.in-Load.field)) c.held.ensures c.read_ref.ensures.refused)
+
+pub returns-in-Get-clause-refused : goal.returns-in-Get-clause-refused
+returns-in-Get-clause-refused g c =
+    let u = setup_of c.args.space.now in
+    let old = pass_of c.args.m.now in
+    let new = pass_of c.read_data.new.m in
+    subst (λ (a : Action). IfErr c.read_data.result (Refuses u a c.args.registers.now old new)) (sym c.in-Get.is)
+    (subst (λ (o : ℕ). IfErr c.read_data.result (FieldRefused u old new Data o c.in-Get.field)) c.held-in-Get.ensures c.read_data.ensures.refused)
+
+pub returns-in-Store-clause-refused : goal.returns-in-Store-clause-refused
+returns-in-Store-clause-refused g c =
+    let u = setup_of c.args.space.now in
+    let old = pass_of c.args.m.now in
+    let new = pass_of c.write_ref.new.m in
+    subst (λ (a : Action). IfErr c.write_ref.result (Refuses u a c.args.registers.now old new)) (sym c.in-Store.is)
+    (subst (λ (o : ℕ). IfErr c.write_ref.result (ReferenceRefused u old new Reference o c.in-Store.field (get_or c.args.registers.now c.in-Store.value 0))) c.held-in-Store.ensures
+    (subst (λ (x : ℕ). IfErr c.write_ref.result (ReferenceRefused u old new Reference c.held-in-Store.result c.in-Store.field x)) c.held-value.ensures c.write_ref.ensures.refused))
+
+pub returns-in-Put-clause-refused : goal.returns-in-Put-clause-refused
+returns-in-Put-clause-refused g c =
+    let u = setup_of c.args.space.now in
+    let old = pass_of c.args.m.now in
+    let new = pass_of c.write_data.new.m in
+    subst (λ (a : Action). IfErr c.write_data.result (Refuses u a c.args.registers.now old new)) (sym c.in-Put.is)
+    (subst (λ (o : ℕ). IfErr c.write_data.result (DataRefused u old new Data o c.in-Put.field)) c.held-in-Put.ensures c.write_data.ensures.refused)
+
+pub returns-in-New-clause-refused : goal.returns-in-New-clause-refused
+returns-in-New-clause-refused g c =
+    let u = setup_of c.args.space.now in
+    let old = pass_of c.args.m.now in
+    let new = pass_of c.alloc.new.m in
+    subst (λ (a : Action). IfErr c.alloc.result (Refuses u a c.args.registers.now old new)) (sym c.in-New.is)
+    c.alloc.ensures.refused
+
+pub returns-in-Root-clause-grows : goal.returns-in-Root-clause-grows
+returns-in-Root-clause-grows g c = grows_none (pass_of c.args.m.now)
+
+pub returns-in-Root-clause-busy : goal.returns-in-Root-clause-busy
+returns-in-Root-clause-busy g c = ok_waits _
+
+pub returns-in-Nil-clause-grows : goal.returns-in-Nil-clause-grows
+returns-in-Nil-clause-grows g c = grows_none (pass_of c.args.m.now)
+
+pub returns-in-Nil-clause-busy : goal.returns-in-Nil-clause-busy
+returns-in-Nil-clause-busy g c = ok_waits _
+
+pub returns-in-Load-clause-grows : goal.returns-in-Load-clause-grows
+returns-in-Load-clause-grows g c = c.read_ref.ensures.grows.0
+
+pub returns-in-Load-clause-did : goal.returns-in-Load-clause-did
+returns-in-Load-clause-did g c = on_err c.read_ref.result _ c.read_ref.ensures.grows.1
+
+pub returns-in-Load-clause-busy : goal.returns-in-Load-clause-busy
+returns-in-Load-clause-busy g c = c.read_ref.ensures.busy
+
+pub returns-in-Get-clause-grows : goal.returns-in-Get-clause-grows
+returns-in-Get-clause-grows g c = c.read_data.ensures.grows.0
+
+pub returns-in-Get-clause-did : goal.returns-in-Get-clause-did
+returns-in-Get-clause-did g c = on_err c.read_data.result _ c.read_data.ensures.grows.1
+
+pub returns-in-Get-clause-busy : goal.returns-in-Get-clause-busy
+returns-in-Get-clause-busy g c = c.read_data.ensures.busy
+
+pub returns-in-Store-clause-grows : goal.returns-in-Store-clause-grows
+returns-in-Store-clause-grows g c = c.write_ref.ensures.grows
+
+pub returns-in-Store-clause-did : goal.returns-in-Store-clause-did
+returns-in-Store-clause-did g c = c.write_ref.ensures.did
+
+pub returns-in-Store-clause-busy : goal.returns-in-Store-clause-busy
+returns-in-Store-clause-busy g c = c.write_ref.ensures.busy
+
+pub returns-in-Put-clause-grows : goal.returns-in-Put-clause-grows
+returns-in-Put-clause-grows g c = c.write_data.ensures.grows
+
+pub returns-in-Put-clause-did : goal.returns-in-Put-clause-did
+returns-in-Put-clause-did g c = c.write_data.ensures.did
+
+pub returns-in-Put-clause-busy : goal.returns-in-Put-clause-busy
+returns-in-Put-clause-busy g c = c.write_data.ensures.busy
+
+pub returns-in-New-clause-grows : goal.returns-in-New-clause-grows
+returns-in-New-clause-grows g c = c.alloc.ensures.grows
+
+pub returns-in-New-clause-did : goal.returns-in-New-clause-did
+returns-in-New-clause-did g c = on_err_weaker c.alloc.result (λ h. h.0) c.alloc.ensures.did
+
+pub returns-in-New-clause-busy : goal.returns-in-New-clause-busy
+returns-in-New-clause-busy g c = c.alloc.ensures.busy
+
+pub read_ref-requires-after_bounds : goal.read_ref-requires-after_bounds
+read_ref-requires-after_bounds g c κs within = c.requires.of
+
+pub read_data-requires-after_bounds : goal.read_data-requires-after_bounds
+read_data-requires-after_bounds g c κs within = c.requires.of
+
+pub write_ref-requires-after_bounds : goal.write_ref-requires-after_bounds
+write_ref-requires-after_bounds g c κs within = c.requires.of
+
+pub write_data-requires-after_bounds : goal.write_data-requires-after_bounds
+write_data-requires-after_bounds g c κs within = c.requires.of
+
+pub alloc-requires-after_bounds : goal.alloc-requires-after_bounds
+alloc-requires-after_bounds g c κs within = c.requires.of
+
+pub root_at-requires-after_bounds : goal.root_at-requires-after_bounds
+root_at-requires-after_bounds g c κs within = (subst (Fits (setup_of c.args.space.now)) c.in-Root.is c.requires.fits).1
