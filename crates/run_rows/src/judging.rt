@@ -4,7 +4,7 @@ use std::test::Fail;
 use worked_files::contents::Content;
 use worked_files::steps::Step;
 
-const PASSED: [Step; 9] = [
+const PASSED: &[Step] = &[
     Step::Write("left.tests.img", Content::ThreeImage),
     Step::Write(
         "left.tests.trace",
@@ -22,7 +22,7 @@ const PASSED: [Step; 9] = [
     Step::Remove("left.tests.out"),
 ];
 
-const JUDGED: [Step; 12] = [
+const JUDGED: &[Step] = &[
     Step::Write("judge.tests.img", Content::ThreeImage),
     Step::Write("late.tests.dump", Content::LateDump),
     Step::MakeFolder("judge.tests"),
@@ -51,6 +51,6 @@ const JUDGED: [Step; 12] = [
 
 #[test]
 fn passes_what_it_dumps_and_tells_why_a_dump_does_not_pass(rt: HostRuntime) -> Result<(), Fail> {
-    take_steps(&rt, &PASSED)?;
-    take_steps(&rt, &JUDGED)
+    take_steps(&rt, PASSED)?;
+    take_steps(&rt, JUDGED)
 }

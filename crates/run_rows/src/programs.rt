@@ -5,7 +5,7 @@ use worked_files::contents::Content;
 use worked_files::steps::Step;
 
 // Words and plans of the heap of three objects.
-const PRINTED: [Step; 8] = [
+const PRINTED: &[Step] = &[
     Step::Write("three.tests.img", Content::ThreeImage),
     Step::Prints("word three.tests.img 2", "12884901889\n"),
     Step::Prints("word -- three.tests.img 2", "12884901889\n"),
@@ -20,7 +20,7 @@ const PRINTED: [Step; 8] = [
 ];
 
 // Words and plans that there are not.
-const REFUSED: [Step; 16] = [
+const REFUSED: &[Step] = &[
     Step::Write("whole.tests.img", Content::ThreeImage),
     Step::Write("root.tests.img", Content::BadRootImage),
     Step::Write("empty.tests.img", Content::Text("")),
@@ -40,7 +40,7 @@ const REFUSED: [Step; 16] = [
 ];
 
 // Words that are no command.
-const MISUSED: [Step; 15] = [
+const MISUSED: &[Step] = &[
     Step::Misuses("word three.img x"),
     Step::Misuses("word three.img"),
     Step::Misuses("word three.img -1"),
@@ -59,7 +59,7 @@ const MISUSED: [Step; 15] = [
 ];
 
 // Words that ask for help.
-const HELPED: [Step; 7] = [
+const HELPED: &[Step] = &[
     Step::Helps("--help"),
     Step::Helps("-h"),
     Step::Helps("help"),
@@ -70,7 +70,7 @@ const HELPED: [Step; 7] = [
 ];
 
 // Words that ask for the version.
-const VERSIONS: [Step; 4] = [
+const VERSIONS: &[Step] = &[
     Step::Prints("--version", "compressor 0.1.0\n"),
     Step::Prints("-V", "compressor 0.1.0\n"),
     Step::Prints("-Vx", "compressor 0.1.0\n"),
@@ -78,7 +78,7 @@ const VERSIONS: [Step; 4] = [
 ];
 
 // Small heaps that are compacted, the first one over a longer file; and a dump that cannot be created.
-const COMPACTED: [Step; 13] = [
+const COMPACTED: &[Step] = &[
     Step::Write("none.tests.img", Content::EmptyImage),
     Step::Write("one.tests.img", Content::ThreeImage),
     Step::Write(
@@ -102,7 +102,7 @@ const COMPACTED: [Step; 13] = [
 ];
 
 // The twenty pages, compacted by some workers; and what is refused then.
-const SWEPT: [Step; 17] = [
+const SWEPT: &[Step] = &[
     Step::Write("run.tests.img", Content::TwentyImage),
     Step::Prints("compact run.tests.img run.tests.out", "live 1280\n"),
     Step::Length("run.tests.out", 10_464),
@@ -141,11 +141,11 @@ const SWEPT: [Step; 17] = [
 
 #[test]
 fn does_what_its_words_ask(rt: HostRuntime) -> Result<(), Fail> {
-    take_steps(&rt, &PRINTED)?;
-    take_steps(&rt, &REFUSED)?;
-    take_steps(&rt, &MISUSED)?;
-    take_steps(&rt, &HELPED)?;
-    take_steps(&rt, &VERSIONS)?;
-    take_steps(&rt, &COMPACTED)?;
-    take_steps(&rt, &SWEPT)
+    take_steps(&rt, PRINTED)?;
+    take_steps(&rt, REFUSED)?;
+    take_steps(&rt, MISUSED)?;
+    take_steps(&rt, HELPED)?;
+    take_steps(&rt, VERSIONS)?;
+    take_steps(&rt, COMPACTED)?;
+    take_steps(&rt, SWEPT)
 }

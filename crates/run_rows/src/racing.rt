@@ -17,7 +17,7 @@ const STOPPED: Content = Content::Text(
     "0 root 0 0\n0 load 1 0 0\n1 root 0 0\n1 load 1 0 0\n0 get 1 0\n1 get 1 0\n1 get 2 0\n0 get 1 0\n0 get 2 0\n1 get 1 0\n",
 );
 
-const RACED: [Step; 12] = [
+const RACED: &[Step] = &[
     Step::Write("race.tests.img", Content::ThreeImage),
     Step::Write("race.tests.trace", SEEN),
     Step::PrintsEither(
@@ -39,7 +39,7 @@ const RACED: [Step; 12] = [
     Step::Remove("race.tests.out"),
 ];
 
-const HALTED: [Step; 6] = [
+const HALTED: &[Step] = &[
     Step::Write("stop.tests.img", Content::ThreeImage),
     Step::Write("stop.tests.trace", STOPPED),
     Step::Refuses(
@@ -58,6 +58,6 @@ const HALTED: [Step; 6] = [
 
 #[test]
 fn races_traces_and_tells_the_least_refused_line(rt: HostRuntime) -> Result<(), Fail> {
-    take_steps(&rt, &RACED)?;
-    take_steps(&rt, &HALTED)
+    take_steps(&rt, RACED)?;
+    take_steps(&rt, HALTED)
 }

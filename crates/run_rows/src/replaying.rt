@@ -12,7 +12,7 @@ const SEEN: Content = Content::Text(
 // A new object becomes the field of the root.
 const FRESH: Content = Content::Text("0 root 0 0\n0 new 1 0 0 0\n0 store 0 0 1\n");
 
-const REPLAYED: [Step; 17] = [
+const REPLAYED: &[Step] = &[
     Step::Write("rows.tests.img", Content::ThreeImage),
     Step::Write("rows.tests.trace", SEEN),
     Step::Prints(
@@ -52,7 +52,7 @@ const KEPT: Content = Content::Text("kept");
 // The run of the trace that was written last.
 const HALT: &str = "replay halt.tests.img halt.tests.trace halt.tests.out";
 
-const STOPPED: [Step; 26] = [
+const STOPPED: &[Step] = &[
     Step::Write("halt.tests.img", Content::ThreeImage),
     Step::Write("halt.tests.out", KEPT),
     Step::Write("halt.tests.trace", HALTED),
@@ -84,7 +84,7 @@ const STOPPED: [Step; 26] = [
     Step::Remove("halt.tests.out"),
 ];
 
-const WRONG_FILES: [Step; 10] = [
+const WRONG_FILES: &[Step] = &[
     Step::Write("file.tests.img", Content::ThreeImage),
     Step::Write("file.tests.trace", SEEN),
     Step::MakeFolder("file.tests"),
@@ -115,7 +115,7 @@ const WRONG_FILES: [Step; 10] = [
 
 #[test]
 fn replays_traces_and_tells_what_is_refused(rt: HostRuntime) -> Result<(), Fail> {
-    take_steps(&rt, &REPLAYED)?;
-    take_steps(&rt, &STOPPED)?;
-    take_steps(&rt, &WRONG_FILES)
+    take_steps(&rt, REPLAYED)?;
+    take_steps(&rt, STOPPED)?;
+    take_steps(&rt, WRONG_FILES)
 }
