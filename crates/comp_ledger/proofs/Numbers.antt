@@ -1,10 +1,11 @@
 -- The numbers of shares.
-use Rattle.std.proofs.Common.{◌≡◌, ℕ, zero, suc, ◌+◌, ◌<◌, ◌≤◌, List, [], ◌∷◌, ◌++◌, length, take, take_all, get_or, Contains, ap, sym, ◌∙◌, ⊎_elim, arith, subst}
+use Rattle.std.proofs.Common.{◌≡◌, ℕ, zero, suc, ◌+◌, ◌-◌, ◌<◌, ◌≤◌, List, [], ◌∷◌, ◌++◌, length, sum, take, take_all, get_or, Contains, ap, sym, ◌∙◌, ⊎_elim, arith, subst}
 use Rattle.std.proofs.lemmas.Bool.{cases_lt}
 use Rattle.std.proofs.lemmas.List.{get_or-map, length-map, map-append, take_more}
 use Rattle.std.proofs.lemmas.List.Elements.{Contains-push_cases}
+use Rattle.std.proofs.lemmas.List.Sums.{sum_by_more, sum_by_more_le}
 use Rattle.std.specs.List.{range_with_len}
-use Rattle.comp_ledger.specs.Shares.{number_of, numbers_of, NoneMissing}
+use Rattle.comp_ledger.specs.Shares.{number_of, numbers_of, posted_of, total_posted, NoneMissing}
 use Rattle.comp_ledger.specs.declared.share.Share.{Share}
 use Rattle.comp_ledger.proofs.Counting.{enough}
 
@@ -48,6 +49,30 @@ module _ {L : Type 0} where
       (λ (lt : 1 < parts). let z = few lt in let r : parts ≡ whole = omega (arith, z, many, are) in r)
       (λ (le : parts ≤ 1). let r : parts ≡ whole = omega (arith, le, many, some, are) in r)
       (cases_lt 1 parts)
+
+module _ {L : Type 0} (room left : ℕ) (xs : List (Share L)) (i : ℕ) (share : Share L) (inside : i < length xs) (is : share ≡ get_or xs i share) (so_far : left + total_posted (take i xs) ≡ room) where
+  -- more words were posted with a share than are left: with all shares more than there is room for, whatever comes on top
+  pub past_room : (more : ℕ) → left < posted_of share → room < total_posted xs + more
+  past_room more over =
+      let all = sum_by_more_le (λ (s : Share L). posted_of s) xs i share inside in
+      let same = ap (λ (s : Share L). posted_of s) is in
+      omega (arith, all, same, so_far, over)
+
+  -- the room that is left behind a share
+  pub left_behind : posted_of share ≤ left → (left - posted_of share) + total_posted (take (i + 1) xs) ≡ room
+  left_behind fits =
+      let next = sum_by_more (λ (s : Share L). posted_of s) xs i share inside in
+      let same = ap (λ (s : Share L). posted_of s) is in
+      omega (arith, next, same, so_far, fits)
+
+-- words that no longer fit what is left: with those behind them more than there is room for
+pub past_left : (room left posted so_far : ℕ) (last : List ℕ) (i : ℕ) → i < length last → left + posted ≡ room → so_far ≡ sum (take i last) → left - so_far < get_or last i 0
+    → room < posted + sum last
+past_left room left posted so_far last i inside whole is over = let all = sum_by_more_le (λ (n : ℕ). n) last i 0 inside in omega (arith, all, whole, is, over)
+
+-- the sum with the next words
+pub sum_next : (so_far : ℕ) (last : List ℕ) (i : ℕ) → i < length last → so_far ≡ sum (take i last) → so_far + get_or last i 0 ≡ sum (take (i + 1) last)
+sum_next so_far last i inside is = let next = sum_by_more (λ (n : ℕ). n) last i 0 inside in omega (arith, next, is)
 
 range_with_len-push : (a n : ℕ) → range_with_len a (n + 1) ≡ range_with_len a n ++ (a + n) ∷ []
 range_with_len-push a zero = ap (λ (k : ℕ). k ∷ []) (let z : a ≡ a + 0 = omega arith in z)
