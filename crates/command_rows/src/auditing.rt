@@ -1,5 +1,6 @@
 //! Dumps that are judged: true ones, and forged ones.
 use crate::places::{Image, Memory};
+use crate::printing::expect_printed;
 use audit_checks::fault::AuditFault;
 use command_io::refusal::{Input, Refusal};
 use comp_dump::fault::DumpFault;
@@ -29,10 +30,7 @@ fn expect_audit<R: Abort + AllocGlobal>(
         dump,
         &mut Counted::new(&mut printed),
     );
-    assert!(rt;
-        found == answer && printed.as_slice() == text.as_bytes(),
-        "{name}: {found:?}"
-    );
+    expect_printed(rt, name, (found, &printed), (answer, text));
 }
 
 // The audit of a dump, where the heap of an image was compacted.
@@ -151,12 +149,22 @@ const BY_THE_FIRST: [Part; 8] = [
     Part::Words(&[1_280]),
 ];
 
+// A dump passes, where the heap of an image was compacted, and just this is printed.
+fn expect_passed<R: Abort + AllocGlobal>(
+    rt: &R,
+    image: &[Part],
+    dump: &[Part],
+    name: &str,
+    text: &str,
+) -> Result<(), Fail> {
+    let bytes = bytes_of(rt.alloc(), dump)?;
+    expect_judged(rt, image, &bytes, name, Ok(()), text)
+}
+
 #[test]
 fn passes_true_dumps(rt: HostRuntime) -> Result<(), Fail> {
-    let dump = bytes_of(rt.alloc(), &FRESH_DUMP)?;
-    expect_judged(&rt, &THREE_IMAGE, &dump, "fresh", Ok(()), "ok 5\n")?;
-    let dump = bytes_of(rt.alloc(), &BY_THE_FIRST)?;
-    expect_judged(&rt, &TWENTY_IMAGE, &dump, "twenty", Ok(()), "ok 1280\n")
+    expect_passed(&rt, &THREE_IMAGE, &FRESH_DUMP, "fresh", "ok 5\n")?;
+    expect_passed(&rt, &TWENTY_IMAGE, &BY_THE_FIRST, "twenty", "ok 1280\n")
 }
 
 // Each dump has a second fault, which is not told.

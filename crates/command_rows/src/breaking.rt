@@ -16,24 +16,23 @@ use worked_files::contents::{Content, bytes_in};
 use worked_files::steps::{Step, take_file_steps};
 use worked_files::writers::{Failure, Narrow};
 
-// Replays the trace that makes a new object: a writer of the dump that has so much room fails so, and nothing is printed.
-fn expect_cut_off<R: Abort + AllocGlobal + Files>(
+// Replays the trace that makes a new object, with a writer of the dump that has so much room, and then fails so.
+fn replay_into<R: AllocGlobal + Files>(
     rt: &R,
     room: usize,
     failure: Failure,
-    whole: &[u8],
-) {
-    let mut dump = Vec::new(rt.alloc());
-    let mut printed = Vec::new(rt.alloc());
+    dump: &mut Vec<u8>,
+    printed: &mut Vec<u8>,
+) -> Result<(), Refusal> {
     let mut place = Place {
         writer: Some(Narrow {
-            taken: &mut dump,
+            taken: dump,
             room,
             at_once: usize::MAX,
             failure,
         }),
     };
-    let answer = print_replay(
+    print_replay(
         rt.alloc(),
         &FileImages { rt },
         &FileTraces { rt },
@@ -45,20 +44,34 @@ fn expect_cut_off<R: Abort + AllocGlobal + Files>(
             mutators: 1,
             fresh: 2,
         },
-        &mut Counted::new(&mut printed),
-    );
+        &mut Counted::new(printed),
+    )
+}
+
+// A replay was refused, and its dump is cut off behind so many bytes.
+fn expect_left(rt: &impl Abort, room: usize, refused: bool, dump: &[u8], whole: &[u8]) {
     assert!(rt;
-        answer == Err(Refusal::Dump(DumpFault::Device)) && printed.is_empty(),
-        "room for {room}"
-    );
-    assert!(rt;
-        dump.len() == room && whole.starts_with(&dump),
+        refused && dump.len() == room && whole.starts_with(dump),
         "room for {room}"
     );
 }
 
+// Replays the trace that makes a new object: a writer of the dump that has so much room fails so, and nothing is printed.
+fn expect_cut_off<R: Abort + AllocGlobal + Files>(
+    rt: &R,
+    room: usize,
+    failure: Failure,
+    whole: &[u8],
+) {
+    let mut dump = Vec::new(rt.alloc());
+    let mut printed = Vec::new(rt.alloc());
+    let answer = replay_into(rt, room, failure, &mut dump, &mut printed);
+    let refused = answer == Err(Refusal::Dump(DumpFault::Device)) && printed.is_empty();
+    expect_left(rt, room, refused, &dump, whole);
+}
+
 // A new object becomes the field of the root.
-const FRESH: [Step; 2] = [
+const FRESH: &[Step] = &[
     Step::Write("cut.tests.img", Content::ThreeImage),
     Step::Write(
         "cut.tests.trace",
@@ -66,7 +79,7 @@ const FRESH: [Step; 2] = [
     ),
 ];
 
-const REMOVED: [Step; 2] = [
+const REMOVED: &[Step] = &[
     Step::Remove("cut.tests.img"),
     Step::Remove("cut.tests.trace"),
 ];
@@ -93,9 +106,9 @@ fn expect_all_cut_off<R: Abort + AllocGlobal + Files>(
 
 #[test]
 fn prints_nothing_where_the_dump_is_cut_off(rt: HostRuntime) -> Result<(), Fail> {
-    take_file_steps(&rt, &FRESH)?;
+    take_file_steps(&rt, FRESH)?;
     expect_all_cut_off(&rt, &CUT_OFF)?;
-    take_file_steps(&rt, &REMOVED)
+    take_file_steps(&rt, REMOVED)
 }
 
 // Gives a byte a call, and an error at the call of this number.

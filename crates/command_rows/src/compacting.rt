@@ -1,5 +1,6 @@
 //! Heaps in memory that are compacted: the dump and the line; and those that are not.
 use crate::places::{Image, Memory, Place};
+use crate::printing::expect_printed;
 use command_io::refusal::{Input, Refusal};
 use comp_dump::fault::DumpFault;
 use compact_command::compact::{Compaction, print_compact};
@@ -103,26 +104,17 @@ fn expect_compacted<R: Abort + AllocGlobal + Threads + Wait + Sync>(
         &mut Counted::new(&mut out),
     );
     let created = place.writer.is_none();
-    expect_outcome(rt, row, answer, &printed);
+    expect_printed(rt, row.name, (answer, &printed), (row.answer, row.printed));
     expect_dump(rt, row, created, &dumped, whole);
-}
-
-// This was answered, and printed.
-fn expect_outcome(rt: &impl Abort, row: &Row, answer: Result<(), Refusal>, printed: &[u8]) {
-    let told = answer == row.answer && printed == row.printed.as_bytes();
-    assert!(rt; told, "{}: {answer:?}", row.name);
 }
 
 // A dump was created or was not, and these bytes of it are left.
 fn expect_dump(rt: &impl Abort, row: &Row, created: bool, dumped: &[u8], whole: &[u8]) {
     let cut_off = row.answer == Err(Refusal::Dump(DumpFault::Device));
-    assert!(rt; created == !row.dump.is_empty(), "{}", row.name);
-    assert!(rt;
-        dumped.len() == row.left && whole.starts_with(dumped),
-        "{}",
-        row.name
-    );
-    assert!(rt; cut_off || dumped.len() == whole.len(), "{}", row.name);
+    let created_so = created == !row.dump.is_empty();
+    let left_so = dumped.len() == row.left && whole.starts_with(dumped);
+    let whole_so = cut_off || dumped.len() == whole.len();
+    assert!(rt; created_so && left_so && whole_so, "{}", row.name);
 }
 
 // The dump of the twenty pages begins so, where one worker swept, or 2, 4 or 64; then come the lists of what they built.

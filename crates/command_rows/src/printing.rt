@@ -40,8 +40,8 @@ const WORDS: [Row; 6] = [
     ),
 ];
 
-// This was answered, and just this printed.
-fn expect_printed(
+/// This was answered, and just this printed.
+pub fn expect_printed(
     rt: &impl Abort,
     name: &str,
     found: (Result<(), Refusal>, &[u8]),

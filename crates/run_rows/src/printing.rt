@@ -6,7 +6,7 @@ use std::test::Fail;
 use std::thread::Threads;
 use worked_files::contents::Content;
 use worked_files::runs::{Run, Text, expect_ran, words_of};
-use worked_files::steps::{Step, take_file_step};
+use worked_files::steps::{Step, take_file_steps};
 use worked_files::writers::{Failure, Narrow};
 
 // A run, with an output that has so much room. What it prints there is not looked at.
@@ -74,13 +74,13 @@ fn expect_lines<R: Files + AllocGlobal + Threads + Wait + Sync>(
     Ok(())
 }
 
-const WRITTEN: Step = Step::Write("print.tests.img", Content::ThreeImage);
+const WRITTEN: &[Step] = &[Step::Write("print.tests.img", Content::ThreeImage)];
 
-const REMOVED: Step = Step::Remove("print.tests.img");
+const REMOVED: &[Step] = &[Step::Remove("print.tests.img")];
 
 #[test]
 fn tells_that_it_cannot_print(rt: HostRuntime) -> Result<(), Fail> {
-    take_file_step(&rt, &WRITTEN)?;
+    take_file_steps(&rt, WRITTEN)?;
     expect_lines(&rt, &LINES)?;
-    take_file_step(&rt, &REMOVED)
+    take_file_steps(&rt, REMOVED)
 }

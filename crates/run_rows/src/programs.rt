@@ -4,8 +4,9 @@ use std::test::Fail;
 use worked_files::contents::Content;
 use worked_files::steps::Step;
 
-// Words and plans of the heap of three objects.
-const PRINTED: &[Step] = &[
+// All the steps of the test are one table, which costs its proof less than seven.
+const STEPS: &[Step] = &[
+    // Words and plans of the heap of three objects.
     Step::Write("three.tests.img", Content::ThreeImage),
     Step::Prints("word three.tests.img 2", "12884901889\n"),
     Step::Prints("word -- three.tests.img 2", "12884901889\n"),
@@ -17,10 +18,7 @@ const PRINTED: &[Step] = &[
         "live 4\npages 1\npage 0 first 0\nroot 0 8589934594\n",
     ),
     Step::Remove("three.tests.img"),
-];
-
-// Words and plans that there are not.
-const REFUSED: &[Step] = &[
+    // Words and plans that there are not.
     Step::Write("whole.tests.img", Content::ThreeImage),
     Step::Write("root.tests.img", Content::BadRootImage),
     Step::Write("empty.tests.img", Content::Text("")),
@@ -37,10 +35,7 @@ const REFUSED: &[Step] = &[
     Step::Remove("root.tests.img"),
     Step::Remove("empty.tests.img"),
     Step::RemoveFolder("folder.tests"),
-];
-
-// Words that are no command.
-const MISUSED: &[Step] = &[
+    // Words that are no command.
     Step::Misuses("word three.img x"),
     Step::Misuses("word three.img"),
     Step::Misuses("word three.img -1"),
@@ -56,10 +51,7 @@ const MISUSED: &[Step] = &[
     Step::Misuses("version"),
     Step::Misuses("sweep three.img"),
     Step::Misuses(""),
-];
-
-// Words that ask for help.
-const HELPED: &[Step] = &[
+    // Words that ask for help.
     Step::Helps("--help"),
     Step::Helps("-h"),
     Step::Helps("help"),
@@ -67,18 +59,12 @@ const HELPED: &[Step] = &[
     Step::Helps("word --help"),
     Step::Helps("word -h"),
     Step::Helps("plan --help"),
-];
-
-// Words that ask for the version.
-const VERSIONS: &[Step] = &[
+    // Words that ask for the version.
     Step::Prints("--version", "compressor 0.1.0\n"),
     Step::Prints("-V", "compressor 0.1.0\n"),
     Step::Prints("-Vx", "compressor 0.1.0\n"),
     Step::Prints("--version word", "compressor 0.1.0\n"),
-];
-
-// Small heaps that are compacted, the first one over a longer file; and a dump that cannot be created.
-const COMPACTED: &[Step] = &[
+    // Small heaps that are compacted, the first one over a longer file; and a dump that cannot be created.
     Step::Write("none.tests.img", Content::EmptyImage),
     Step::Write("one.tests.img", Content::ThreeImage),
     Step::Write(
@@ -99,10 +85,7 @@ const COMPACTED: &[Step] = &[
     Step::Remove("none.tests.img"),
     Step::Remove("one.tests.img"),
     Step::Remove("all.tests.out"),
-];
-
-// The twenty pages, compacted by some workers; and what is refused then.
-const SWEPT: &[Step] = &[
+    // The twenty pages, compacted by some workers; and what is refused then.
     Step::Write("run.tests.img", Content::TwentyImage),
     Step::Prints("compact run.tests.img run.tests.out", "live 1280\n"),
     Step::Length("run.tests.out", 10_464),
@@ -141,11 +124,5 @@ const SWEPT: &[Step] = &[
 
 #[test]
 fn does_what_its_words_ask(rt: HostRuntime) -> Result<(), Fail> {
-    take_steps(&rt, PRINTED)?;
-    take_steps(&rt, REFUSED)?;
-    take_steps(&rt, MISUSED)?;
-    take_steps(&rt, HELPED)?;
-    take_steps(&rt, VERSIONS)?;
-    take_steps(&rt, COMPACTED)?;
-    take_steps(&rt, SWEPT)
+    take_steps(&rt, STEPS)
 }
