@@ -11,12 +11,12 @@ pub struct At {
 
 /// What is found there, or for this reference.
 pub fn expect_found(rt: &impl Abort, at: At, found: Option<u64>, wanted: Option<u64>) {
-    assert_eq!(rt; found, wanted, "{}, row {}", at.case, at.row);
+    expect_so(rt, at, found == wanted);
 }
 
 /// There are so many.
 pub fn expect_count(rt: &impl Abort, at: At, found: u64, wanted: u64) {
-    expect_found(rt, at, Some(found), Some(wanted));
+    expect_so(rt, at, found == wanted);
 }
 
 /// That is the first fault, where there is one.
@@ -26,7 +26,7 @@ pub fn expect_fault(
     found: Option<LayoutFault>,
     wanted: Option<LayoutFault>,
 ) {
-    assert_eq!(rt; found, wanted, "{}, row {}", at.case, at.row);
+    expect_so(rt, at, found == wanted);
 }
 
 /// It is so.

@@ -1,7 +1,7 @@
 //! Why heaps are refused.
-use crate::expected::{At, expect_fault};
+use crate::expected::{At, expect_fault, expect_so};
 use heap_layout::fault::LayoutFault;
-use std::test::Fail;
+use std::process::Abort;
 use worked_heaps::heaps::{F, THREE, judged};
 
 // The words, the marks and the roots of a heap, and its first fault, where it has one.
@@ -61,28 +61,43 @@ const JUDGED: [Judged; 10] = [
     (&[], &[], &[], None),
 ];
 
+// The first fault of a heap, where it has one.
+fn first_fault(
+    rt: &(impl Abort + AllocGlobal),
+    words: &[u64],
+    marks: &[u32],
+    roots: &[u64],
+) -> Option<LayoutFault> {
+    let Ok(judged) = judged(rt.alloc(), words, marks, roots) else {
+        panic!(rt; "memory for a heap");
+    };
+    judged.err()
+}
+
 #[test]
-fn names_the_first_fault(rt: HostRuntime) -> Result<(), Fail> {
+fn names_the_first_fault(rt: HostRuntime) {
     for (row, (words, marks, roots, wanted)) in JUDGED.iter().enumerate() {
         let at = At {
             case: "the first fault",
             row: row as u64,
         };
-        let found = judged(rt.alloc(), words, marks, roots)?.err();
-        expect_fault(&rt, at, found, *wanted);
+        expect_fault(&rt, at, first_fault(&rt, words, marks, roots), *wanted);
     }
-    Ok(())
 }
 
 // The first fault of a heap of as many empty objects, none of which is marked, and as many null roots.
 fn fault_of_many(
-    rt: &impl AllocGlobal,
+    rt: &(impl Abort + AllocGlobal),
     words: usize,
     roots: usize,
-) -> Result<Option<LayoutFault>, Fail> {
-    let words = vec![in rt.alloc(); 0u64; words]?;
-    let roots = vec![in rt.alloc(); 0u64; roots]?;
-    Ok(judged(rt.alloc(), &words, &[], &roots)?.err())
+) -> Option<LayoutFault> {
+    let Ok(words) = vec![in rt.alloc(); 0u64; words] else {
+        panic!(rt; "memory for words");
+    };
+    let Ok(roots) = vec![in rt.alloc(); 0u64; roots] else {
+        panic!(rt; "memory for roots");
+    };
+    first_fault(rt, &words, &[], &roots)
 }
 
 // As many words and roots as there may be, and one more of each.
@@ -93,15 +108,14 @@ const MANY: [(usize, usize, Option<LayoutFault>); 3] = [
 ];
 
 #[test]
-fn refuses_what_is_too_large(rt: HostRuntime) -> Result<(), Fail> {
+fn refuses_what_is_too_large(rt: HostRuntime) {
     for (row, (words, roots, wanted)) in MANY.iter().enumerate() {
         let at = At {
             case: "too large",
             row: row as u64,
         };
-        expect_fault(&rt, at, fault_of_many(&rt, *words, *roots)?, *wanted);
+        expect_fault(&rt, at, fault_of_many(&rt, *words, *roots), *wanted);
     }
-    Ok(())
 }
 
 const TEXTS: [(LayoutFault, &str); 12] = [
@@ -120,9 +134,15 @@ const TEXTS: [(LayoutFault, &str); 12] = [
 ];
 
 #[test]
-fn prints_each_fault(rt: HostRuntime) -> Result<(), Fail> {
-    for (fault, text) in &TEXTS {
-        assert_eq!(rt; fault.to_string(rt.alloc())?.as_str(), *text);
+fn prints_each_fault(rt: HostRuntime) {
+    for (row, (fault, wanted)) in TEXTS.iter().enumerate() {
+        let at = At {
+            case: "printed faults",
+            row: row as u64,
+        };
+        let Ok(text) = fault.to_string(rt.alloc()) else {
+            panic!(rt; "memory for a text");
+        };
+        expect_so(&rt, at, text.as_str() == *wanted);
     }
-    Ok(())
 }

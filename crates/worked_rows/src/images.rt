@@ -76,19 +76,6 @@ fn is_three(heap: &MarkedHeap) -> bool {
         && heap.roots() == [F + 5].as_slice()
 }
 
-// The image is read whole, in pieces of this size.
-fn expect_three(rt: &(impl Abort + AllocGlobal), bytes: &[u8], piece: usize) {
-    let mut reader = Counted::new(Pieces::new(bytes, piece, None));
-    let at = At {
-        case: "an image in pieces",
-        row: piece as u64,
-    };
-    let Ok(heap) = read_image(rt.alloc(), &mut reader) else {
-        panic!(rt; "an image in pieces of {piece}");
-    };
-    expect_so(rt, at, is_three(&heap));
-}
-
 #[test]
 fn reads_an_image(rt: HostRuntime) {
     let bytes = three_image(&rt);
@@ -98,8 +85,12 @@ fn reads_an_image(rt: HostRuntime) {
     };
     expect_count(&rt, at, bytes.len() as u64, 96);
     expect_so(&rt, at, read(&rt, &bytes).is_ok_and(|heap| is_three(&heap)));
-    for piece in [1, 2, 7, 95] {
-        expect_three(&rt, &bytes, piece);
+    for piece in [1usize, 2, 7, 95] {
+        let at = At {
+            case: "an image in pieces",
+            row: piece as u64,
+        };
+        expect_three_or_device(&rt, at, &bytes, piece, None);
     }
 }
 
@@ -184,35 +175,51 @@ fn takes_no_other_bytes_for_a_heap(rt: HostRuntime) {
 // The image of the three objects is read whole, or a call of the reader fails, and that is what is told.
 fn expect_three_or_device(
     rt: &(impl Abort + AllocGlobal),
+    at: At,
     bytes: &[u8],
     piece: usize,
-    failing: (u64, ErrorKind),
+    failing: Option<(u64, ErrorKind)>,
 ) {
-    let at = At {
-        case: "a failing call",
-        row: failing.0,
-    };
-    let mut reader = Counted::new(Pieces::new(bytes, piece, Some(failing)));
-    match read_image(rt.alloc(), &mut reader) {
-        Ok(heap) => {
-            expect_so(rt, at, is_three(&heap));
-            expect_count(rt, at, reader.failures(), 0);
-        }
+    let mut reader = Counted::new(Pieces::new(bytes, piece, failing));
+    let well = match read_image(rt.alloc(), &mut reader) {
+        Ok(heap) => reader.failures() == 0 && is_three(&heap),
         Err(fault) => {
-            expect_fault(rt, at, Some(fault), Some(LayoutFault::Device));
-            expect_count(rt, at, reader.failures(), 1);
+            failing.is_some() && reader.failures() == 1 && fault == LayoutFault::Device
         }
+    };
+    expect_so(rt, at, well);
+}
+
+// How much a reader gives a call, and how one of its calls fails.
+const FAILING: [(usize, ErrorKind); 6] = [
+    (1, ErrorKind::Other),
+    (1, ErrorKind::Interrupted),
+    (8, ErrorKind::Other),
+    (8, ErrorKind::Interrupted),
+    (96, ErrorKind::Other),
+    (96, ErrorKind::Interrupted),
+];
+
+// Each of the first calls fails.
+fn expect_each_failing(
+    rt: &(impl Abort + AllocGlobal),
+    bytes: &[u8],
+    piece: usize,
+    kind: ErrorKind,
+) {
+    for call in 0..200u64 {
+        let at = At {
+            case: "a failing call",
+            row: call,
+        };
+        expect_three_or_device(rt, at, bytes, piece, Some((call, kind)));
     }
 }
 
 #[test]
 fn tells_of_each_failing_call(rt: HostRuntime) {
     let bytes = three_image(&rt);
-    for piece in [1usize, 8, 96] {
-        for kind in [ErrorKind::Other, ErrorKind::Interrupted] {
-            for call in 0..200 {
-                expect_three_or_device(&rt, &bytes, piece, (call, kind));
-            }
-        }
+    for (piece, kind) in &FAILING {
+        expect_each_failing(&rt, &bytes, *piece, *kind);
     }
 }
