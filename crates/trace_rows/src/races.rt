@@ -216,14 +216,23 @@ fn zeros(rt: &impl Abort, alloc: Global) -> Plan {
     plan_of(rt, alloc, heap(alloc, &words, &[0], &[F]))
 }
 
+// All rows on the three objects.
+fn race_rows<R: Abort + Threads + Wait + Sync>(rt: &R, alloc: Global) {
+    let plan = plan_of(rt, alloc, three(alloc));
+    for row in &ROWS {
+        race_row(rt, alloc, plan_of(rt, alloc, three(alloc)), &plan, row);
+    }
+}
+
+// The row on the object of four pages.
+fn race_side_by_side<R: Abort + Threads + Wait + Sync>(rt: &R, alloc: Global) {
+    let plan = zeros(rt, alloc);
+    let builder = Meeting::new(zeros(rt, alloc));
+    race_row(rt, alloc, builder, &plan, &SIDE_BY_SIDE);
+}
+
 #[test]
 fn races_on_three_and_side_by_side(rt: HostRuntime) {
-    let alloc = rt.alloc();
-    let plan = plan_of(&rt, alloc, three(alloc));
-    for row in &ROWS {
-        race_row(&rt, alloc, plan_of(&rt, alloc, three(alloc)), &plan, row);
-    }
-    let plan = zeros(&rt, alloc);
-    let builder = Meeting::new(zeros(&rt, alloc));
-    race_row(&rt, alloc, builder, &plan, &SIDE_BY_SIDE);
+    race_rows(&rt, rt.alloc());
+    race_side_by_side(&rt, rt.alloc());
 }

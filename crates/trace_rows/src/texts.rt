@@ -265,20 +265,29 @@ fn expect_printed(rt: &impl Abort, alloc: Global, fault: TraceFault, text: &str)
     expect_so(rt, text, printed.as_str() == text, 0);
 }
 
-#[test]
-fn reads_texts_and_prints_faults(rt: HostRuntime) {
-    let alloc = rt.alloc();
+// All rows of texts.
+fn expect_texts(rt: &impl Abort, alloc: Global) {
     for row in &ROWS {
-        expect_read(&rt, alloc, row.name, row.text, &row.wanted);
+        expect_read(rt, alloc, row.name, row.text, &row.wanted);
     }
-    expect_long_number(&rt, alloc);
+    expect_long_number(rt, alloc);
+}
+
+// All faults, and one that is made of a stop.
+fn expect_faults(rt: &impl Abort, alloc: Global) {
     for (fault, text) in &PRINTED {
-        expect_printed(&rt, alloc, *fault, text);
+        expect_printed(rt, alloc, *fault, text);
     }
     let stop = Stop {
         line: 7,
         refusal: Refusal::NotAStart(8_589_934_593),
     };
     let text = "T6 Refused(7, M2 NotAStart(8589934593))";
-    expect_printed(&rt, alloc, TraceFault::from(stop), text);
+    expect_printed(rt, alloc, TraceFault::from(stop), text);
+}
+
+#[test]
+fn reads_texts_and_prints_faults(rt: HostRuntime) {
+    expect_texts(&rt, rt.alloc());
+    expect_faults(&rt, rt.alloc());
 }
