@@ -1,13 +1,16 @@
 //! What the mutators of a flipped heap do, by turns and at once, and what is left at the end.
 ghost use Rattle.std.specs.Prelude.{◌≡◌};
-ghost use Rattle.comp_mutator.specs.Mutators.{AreMutatorsOf, IsMutatorOf};
+ghost use Rattle.comp_mutator.specs.Mutators.{setup_of, AreMutatorsOf, IsMutatorOf};
 
-use crate::endings::{Ending, expect_ending};
-use crate::expected::{At, expect_count};
-use crate::flipped::{Heap, finish, flipped, plan_of, shared};
+use crate::endings::{End, expect_ending};
+use crate::expected::{At, expect_count, expect_so};
+use crate::flipped::{Heap, finish, hand_back, plan_of, shared};
 use crate::rows::{Row, expect_row};
 use crate::threads::at_once;
+use comp_mutator::finishing::Finished;
+use comp_mutator::flipping::flip;
 use comp_mutator::mutator::Mutator;
+use comp_mutator::refusal::FlipFault;
 use comp_mutator::space::Space;
 use page_plan::builder::Builder;
 use page_plan::plan::Plan;
@@ -42,8 +45,7 @@ pub struct Case {
     pub mutators: u32,
     pub fresh_pages: u32,
     pub rows: &'static [Row],
-    /// What the finished heap has, where the case tells it.
-    pub ending: Option<Ending>,
+    pub end: End,
 }
 
 // Two mutators that have met: the first one the second, or the second one the first.
@@ -100,6 +102,15 @@ fn play_one<L: Named, B: Builder, R: Abort + Wait>(
     expect_row(rt, alloc, space, &mut mutators[number], at, row);
 }
 
+// There are so many mutators, which count from 0, and none of which has done anything.
+fn expect_new<L: Named>(rt: &impl Abort, at: At, mutators: &[Mutator<L>], count: u64) {
+    expect_count(rt, at, mutators.len() as u64, count);
+    for (number, m) in mutators.iter().enumerate() {
+        let idle = m.builds().is_empty() && m.unposted() == 0;
+        expect_so(rt, at, idle && usize::from(m.number()) == number);
+    }
+}
+
 // A row of the mutator of this number, or of two. The next row is that of the mutator whose number is the answer.
 fn play_row<L: Named + Send + Sync, B: Builder, R: Abort + Threads + Wait + Sync>(
     rt: &R,
@@ -117,6 +128,7 @@ fn play_row<L: Named + Send + Sync, B: Builder, R: Abort + Threads + Wait + Sync
         Row::By(next) => return *next,
         Row::Meet => meet(rt, space, mutators, false),
         Row::MeetBack => meet(rt, space, mutators, true),
+        Row::New(count) => expect_new(rt, at, mutators, *count),
         Row::AtOnce(first, second) => at_once(rt, alloc, space, mutators, first, second, at),
         _ => play_one(rt, alloc, space, mutators, number, at, row),
     }
@@ -144,7 +156,53 @@ fn play_rows<L: Named + Send + Sync, B: Builder, R: Abort + Threads + Wait + Syn
     }
 }
 
-// The rows of the mutators of a flipped heap, and its end.
+impl Case {
+    // What a failing test tells behind all rows.
+    fn behind_rows(&self) -> At {
+        At {
+            case: self.name,
+            row: self.rows.len(),
+        }
+    }
+}
+
+// The finished heap is that of the case.
+fn expect_end(rt: &impl Abort, case: &Case, finished: &Finished) {
+    let at = case.behind_rows();
+    match &case.end {
+        End::Refused(_) => expect_so(rt, at, false),
+        End::Untold => {}
+        End::Told(ending) => expect_ending(rt, at, case.mutators, finished, ending),
+    }
+}
+
+// The flip of the case is refused for this cause.
+fn expect_refused(rt: &impl Abort, case: &Case, fault: FlipFault) {
+    let refused = match case.end {
+        End::Refused(wanted) => wanted == fault,
+        _ => false,
+    };
+    expect_so(rt, case.behind_rows(), refused);
+}
+
+// The rows of the mutators of a flipped heap, and its end. One mutator is missing at first.
+fn play_to_end<L: Named + Send + Sync, B: Builder, R: Abort + Threads + Wait + Sync>(
+    rt: &R,
+    alloc: Global,
+    space: Space<L, B>,
+    mut mutators: Vec<Mutator<L>>,
+    case: &Case,
+)
+    requires of { AreMutatorsOf space mutators.items }
+    requires whole { (setup_of space).mutators ≡ L.parts }
+{
+    play_rows(rt, alloc, &space, &mut mutators, case);
+    let left = hand_back(rt, alloc, case.name, space, mutators);
+    let finished = finish(rt, alloc, left.space, left.mutators);
+    expect_end(rt, case, &finished);
+}
+
+// The flip of a case, which may be refused.
 fn play_flipped<L: Named + Send + Sync, B: Builder, R: Abort + Threads + Wait + Sync>(
     rt: &R,
     alloc: Global,
@@ -156,18 +214,9 @@ fn play_flipped<L: Named + Send + Sync, B: Builder, R: Abort + Threads + Wait + 
     requires parts { blank.parts ≡ L.parts }
     requires count { blank.parts ≡ case.now.mutators }
 {
-    let (space, mut mutators) = flipped::<L, B>(
-        rt,
-        alloc,
-        blank,
-        builder,
-        case.mutators,
-        case.fresh_pages,
-    );
-    play_rows(rt, alloc, &space, &mut mutators, case);
-    let finished = finish(rt, alloc, space, mutators);
-    if let Some(ending) = &case.ending {
-        expect_ending(rt, alloc, case.name, &finished, ending);
+    match flip::<L, B>(alloc, blank, builder, case.mutators, case.fresh_pages) {
+        Ok((space, mutators)) => play_to_end(rt, alloc, space, mutators, case),
+        Err(fault) => expect_refused(rt, case, fault),
     }
 }
 
@@ -193,11 +242,7 @@ fn play_counted<R: Abort + Threads + Wait + Sync>(
     let counts = shared(rt, alloc, Counting::new(plan));
     let builder = counts.clone().ok().expect(rt, "a second reference");
     play_built(rt, alloc, builder, case);
-    let at = At {
-        case: case.name,
-        row: case.rows.len(),
-    };
-    expect_count(rt, at, counts.count(), builds);
+    expect_count(rt, case.behind_rows(), counts.count(), builds);
 }
 
 // The case, with the builder that it names.

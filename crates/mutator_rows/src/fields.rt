@@ -1,5 +1,6 @@
 //! Reads and writes of fields, one call after another.
 use crate::cases::{BuiltBy, Case};
+use crate::endings::End;
 use crate::flipped::Heap;
 use crate::rows::Row;
 use comp_access::refusal::Refusal;
@@ -22,7 +23,7 @@ const ACROSS: Case = Case {
         Row::ReadData(T + 65, 0, Err(Refusal::NotAStart(8_589_934_657))),
         Row::Builds(&[1]),
     ],
-    ending: None,
+    end: End::Untold,
 };
 
 // A data word that looks like an address of from-space.
@@ -36,7 +37,7 @@ const LIKE_AN_ADDRESS: Case = Case {
         Row::WriteData(T, 0, 4_294_967_296, Ok(0)),
         Row::ReadData(T, 0, Ok(4_294_967_296)),
     ],
-    ending: None,
+    end: End::Untold,
 };
 
 // Where the second slid object starts.
@@ -64,7 +65,7 @@ const NO_STARTS: Case = Case {
         Row::Builds(&[]),
         Row::Page(0, &[4_295_032_832, 11, 12_884_901_889, 8_589_934_592], &[]),
     ],
-    ending: None,
+    end: End::Untold,
 };
 
 // As many writes as a journal takes, and one more. The last that it took is read.
@@ -79,7 +80,7 @@ const FULL_JOURNAL: Case = Case {
         Row::WriteData(T, 0, 1024, Err(Refusal::JournalFull(0))),
         Row::ReadData(T, 0, Ok(1023)),
     ],
-    ending: None,
+    end: End::Untold,
 };
 
 /// Those cases.

@@ -2,6 +2,7 @@
 ghost use Rattle.std.specs.Prelude.{◌≡◌};
 ghost use Rattle.comp_mutator.specs.Mutators.{setup_of, AreMutatorsOf};
 
+use crate::expected::{At, expect_so};
 use comp_mutator::finishing::{FinishFault, Finished, Unfinished};
 use comp_mutator::flipping::flip;
 use comp_mutator::mutator::Mutator;
@@ -33,13 +34,13 @@ pub enum Heap {
 /// The plan of this heap.
 pub fn plan_of(alloc: Global, heap: Heap) -> Result<Plan, Fail> {
     let heap = match heap {
-        Heap::Empty => empty(alloc)?,
-        Heap::Smallest => smallest(alloc)?,
-        Heap::Three => three(alloc)?,
-        Heap::Seventeen => seventeen_pages(alloc)?,
-        Heap::Counting(data_words) => counting_heap(alloc, data_words)?,
+        Heap::Empty => empty(alloc),
+        Heap::Smallest => smallest(alloc),
+        Heap::Three => three(alloc),
+        Heap::Seventeen => seventeen_pages(alloc),
+        Heap::Counting(data_words) => counting_heap(alloc, data_words),
     };
-    planned(alloc, heap)
+    planned(alloc, heap?)
 }
 
 /// The builder, to be shared.
@@ -69,6 +70,41 @@ pub fn flipped<L: Named, B: Builder>(
         panic!(rt; "a flipped heap");
     };
     flipped
+}
+
+/// One mutator is missing at first: the space is handed back with the others, and then that one is handed in too.
+pub fn hand_back<L: Named, B: Builder>(
+    rt: &impl Abort,
+    alloc: Global,
+    case: &'static str,
+    space: Space<L, B>,
+    mut mutators: Vec<Mutator<L>>,
+) -> Unfinished<L, B>
+    requires of { AreMutatorsOf space mutators.items }
+    requires whole { (setup_of space).mutators ≡ L.parts }
+    ensures of { AreMutatorsOf result.space result.mutators.items }
+    ensures whole { (setup_of result.space).mutators ≡ L.parts }
+{
+    let last = mutators.pop().expect(rt, "a mutator");
+    let Err(mut left) = space.finish(alloc, mutators) else {
+        panic!(rt; "a mutator is missing");
+    };
+    expect_missing(rt, case, left.fault, left.mutators.len(), last.number());
+    left.mutators.push(last).ok().expect(rt, "room for all");
+    left
+}
+
+// The finish was refused since the mutator of this number was missing, and so many were handed back.
+fn expect_missing(
+    rt: &impl Abort,
+    case: &'static str,
+    fault: FinishFault,
+    back: usize,
+    number: u8,
+) {
+    let row = usize::from(number);
+    let missing = fault == FinishFault::MutatorMissing(number);
+    expect_so(rt, At { case, row }, missing && back == row);
 }
 
 /// Finishes with all mutators, the first one handed in last. Where memory is refused once, what was handed back is finished.

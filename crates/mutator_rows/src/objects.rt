@@ -1,6 +1,6 @@
 //! Objects that mutators make, and the heaps that they leave at the end.
 use crate::cases::{BuiltBy, Case};
-use crate::endings::Ending;
+use crate::endings::{End, Ending};
 use crate::flipped::Heap;
 use crate::rows::Row;
 use comp_access::refusal::Refusal;
@@ -24,12 +24,12 @@ const FULL_PAGES: Case = Case {
         Row::Alloc(u16::MAX, u16::MAX, u32::MAX, Err(Refusal::ObjectTooLarge)),
         Row::Unposted(128),
     ],
-    ending: Some(Ending {
+    end: End::Told(Ending {
         live_words: 129,
         roots: &[8_589_934_592],
         pages: &[false, true, true],
         entries: 3,
-        builds: &[&[1, 2]],
+        builds: Some((&[1, 2], &[])),
     }),
 };
 
@@ -82,12 +82,12 @@ const LINKED_AND_CLEARED: Case = Case {
         Row::Builds(&[1, 0]),
         Row::Unposted(2),
     ],
-    ending: Some(Ending {
+    end: End::Told(Ending {
         live_words: 7,
         roots: &[8_589_934_594],
         pages: &[true, true, true],
         entries: 5,
-        builds: &[&[1, 0], &[2]],
+        builds: Some((&[1, 0], &[2])),
     }),
 };
 

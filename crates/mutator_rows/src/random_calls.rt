@@ -4,14 +4,14 @@ ghost use Rattle.comp_mutator.specs.Mutators.{AreMutatorsOf};
 
 use crate::calls::answer;
 use crate::endings::expect_all_stamps;
-use crate::expected::{At, expect_answer, expect_count};
+use crate::expected::{At, expect_answer, expect_count, expect_numbers, expect_so};
 use crate::flipped::{finish, flipped, shared};
+use comp_journal::journaled_page::JournaledPage;
 use comp_mutator::finishing::Finished;
 use comp_mutator::mutator::Mutator;
 use comp_mutator::space::Space;
 use page_plan::builder::Builder;
 use page_plan::plan::Plan;
-use plain_objects::object::Object;
 use plain_objects::objects::Objects;
 use plain_objects::random::Random;
 use plain_objects::two_live::{opening, two_live};
@@ -21,7 +21,6 @@ use std::process::Abort;
 use std::sync::Wait;
 use std::sync::ledger::{Blank, Ledger as Named};
 use std::test::Fail;
-use worked_heaps::heaps::T;
 
 // Random calls of mutators, by turns.
 struct Calls {
@@ -61,59 +60,40 @@ fn play<L: Named, B: Builder, R: Abort + Wait>(
     expect_answer(rt, at, found, wanted);
 }
 
-// The word at an address, on a page that is there.
-fn word_at(rt: &impl Abort, finished: &Finished, address: u64) -> u64 {
-    let place = address.wrapping_sub(T);
-    let Some(Some(page)) = finished.pages().get((place / 64) as usize) else {
-        panic!(rt; "the page is there");
-    };
-    page.words()[(place % 64) as usize]
-}
-
-// The words behind this address are these.
-fn expect_fields(rt: &impl Abort, finished: &Finished, behind: u64, words: &[u64]) {
-    let mut address = behind;
-    for word in words {
-        address = address.wrapping_add(1);
+// The finished heap has all pages, and each has the words of the plain objects.
+fn expect_pages(
+    rt: &impl Abort,
+    alloc: Global,
+    pages: &[Option<JournaledPage>],
+    objects: &Objects,
+) {
+    for (row, page) in pages.iter().enumerate() {
         let at = At {
-            case: "the word at an address",
-            row: address as usize,
+            case: "the words of a page",
+            row,
         };
-        expect_count(rt, at, word_at(rt, finished, address), *word);
+        let words = objects
+            .words_of(alloc, row as u64)
+            .ok()
+            .expect(rt, "memory for words");
+        match page {
+            Some(page) => expect_numbers(rt, at, page.words(), &words),
+            None => expect_so(rt, at, false),
+        }
     }
 }
 
-// The finished heap has the fields of this object.
-fn expect_object(rt: &impl Abort, finished: &Finished, object: &Object) {
-    let references = object.references.len() as u64;
-    expect_fields(rt, finished, object.address, &object.references);
-    let behind = object.address.wrapping_add(references);
-    expect_fields(rt, finished, behind, &object.data_words);
-}
-
-// How many words the objects have.
-fn live_words(objects: &[Object]) -> u64 {
-    let mut live = 0u64;
-    for object in objects {
-        live = live
-            .wrapping_add(1)
-            .wrapping_add(object.references.len() as u64)
-            .wrapping_add(object.data_words.len() as u64);
-    }
-    live
-}
-
-// The finished heap has the fields of all plain objects, their words and their entries.
+// The finished heap has the words and the entries of the plain objects, and is as large.
 fn expect_objects(rt: &impl Abort, alloc: Global, finished: &Finished, objects: &Objects) {
+    let entries = objects.written.len();
     let at = At {
         case: "finished as plain objects",
-        row: objects.written.len(),
+        row: entries,
     };
-    for object in &objects.objects {
-        expect_object(rt, finished, object);
-    }
-    expect_count(rt, at, finished.live_words(), live_words(&objects.objects));
-    expect_all_stamps(rt, alloc, at, finished, objects.written.len());
+    expect_count(rt, at, finished.pages().len() as u64, 7);
+    expect_pages(rt, alloc, finished.pages(), objects);
+    expect_count(rt, at, finished.live_words(), objects.live_words());
+    expect_all_stamps(rt, at, finished.pages(), entries as u64);
 }
 
 // All calls of the mutators, by turns.

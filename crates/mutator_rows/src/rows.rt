@@ -55,8 +55,12 @@ pub enum Row {
     Race,
     /// What the mutator allocated is posted.
     Settle,
+    /// There are so many mutators, which count from 0, and none of which has done anything.
+    New(u64),
     /// The space has so many pages.
     Pages(u64),
+    /// So many of them are compacted ones.
+    Compacted(u64),
     /// The roots lead there.
     Roots(&'static [u64]),
     /// The mutator has built these pages, in this order.
@@ -179,6 +183,7 @@ fn expect_told<L: Named, B: Builder>(
 ) {
     match row {
         Row::Pages(wanted) => expect_count(rt, at, space.pages(), *wanted),
+        Row::Compacted(wanted) => expect_count(rt, at, space.compacted_pages(), *wanted),
         Row::Roots(wanted) => expect_numbers(rt, at, space.roots(), wanted),
         Row::Builds(wanted) => expect_numbers(rt, at, m.builds(), wanted),
         Row::Unposted(wanted) => expect_count(rt, at, m.unposted(), *wanted),

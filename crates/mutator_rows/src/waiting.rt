@@ -1,5 +1,6 @@
 //! The calls that wait, of a mutator that is alone: each answers at once.
 use crate::cases::{BuiltBy, Case};
+use crate::endings::End;
 use crate::flipped::Heap;
 use crate::rows::Row;
 use comp_access::pages::Touched;
@@ -23,7 +24,7 @@ const AT_ONCE: Case = Case {
         Row::AtLast(&Row::ReadData(T, 0, Ok(9))),
         Row::AtLast(&Row::ReadData(0, 0, Err(Refusal::Null))),
     ],
-    ending: None,
+    end: End::Untold,
 };
 
 /// Those cases.

@@ -12,7 +12,7 @@ use worked_heaps::heaps::T;
 const FRESH: u64 = T + 64;
 
 /// The most entries of a page.
-const ENTRIES: usize = 1024;
+const ENTRIES: u64 = 1024;
 
 /// An entry, and the number of its page.
 #[derive(Clone, Copy)]
@@ -21,10 +21,11 @@ pub struct Written {
     pub entry: Entry,
 }
 
-/// All objects, how many mutators there are, how much of each fresh page is used, and what was written, in order.
+/// All objects and the words of all pages, how many mutators there are, how much of each fresh page is used, and what was written, in order.
 #[derive(Drop)]
 pub struct Objects {
     pub objects: Vec<Object>,
+    pub words: Vec<u64>,
     pub mutators: usize,
     pub used: Vec<u64>,
     pub written: Vec<Written>,
@@ -32,47 +33,43 @@ pub struct Objects {
 
 impl Objects {
     /// The object at this address.
-    pub fn find(&self, address: u64) -> Result<&Object, Refusal> {
+    pub fn find(&self, address: u64) -> Result<Object, Refusal> {
         if address == 0 {
             return Err(Refusal::Null);
         }
         for object in &self.objects {
             if object.address == address {
-                return Ok(object);
+                return Ok(*object);
             }
         }
         Err(Refusal::NotAStart(address))
     }
 
-    fn read(&self, kind: Kind, address: u64, field: u16) -> Result<u64, Refusal> {
-        let object = self.find(address)?;
-        match object.fields(kind).get(usize::from(field)) {
-            Some(word) => Ok(*word),
-            None => Err(Refusal::NoSuchField),
+    // The address of a field.
+    fn place(&self, kind: Kind, object: u64, field: u16) -> Result<u64, Refusal> {
+        let object = self.find(object)?;
+        object.place(kind, field).ok_or(Refusal::NoSuchField)
+    }
+
+    // The word at this address.
+    fn word_at(&self, address: u64) -> u64 {
+        match self.words.get(address.wrapping_sub(T) as usize) {
+            Some(word) => *word,
+            None => 0,
         }
     }
 
-    // Why a reference may not be stored, if it may not.
-    fn judge(&self, address: u64, field: u16, value: u64) -> Result<(), Refusal> {
-        self.read(Kind::Reference, address, field)?;
-        if value != 0 {
-            self.find(value)?;
-        }
-        Ok(())
+    fn read(&self, kind: Kind, object: u64, field: u16) -> Result<u64, Refusal> {
+        let place = self.place(kind, object, field)?;
+        Ok(self.word_at(place))
     }
 
-    // The stamp of one entry more, at this address: none where the journal of the page is full.
-    fn enter(
-        &mut self,
-        writer: u8,
-        kind: Kind,
-        address: u64,
-        value: u64,
-    ) -> Result<Result<u64, Refusal>, AllocError> {
+    // Writes the word at this address. The answer is the stamp of its entry: none where the journal of the page is full, or where there is no memory.
+    fn enter(&mut self, writer: u8, kind: Kind, address: u64, value: u64) -> Result<u64, Refusal> {
         let place = address.wrapping_sub(T);
         let page = place / 64;
         if self.entries_on(page) >= ENTRIES {
-            return Ok(Err(Refusal::JournalFull(page)));
+            return Err(Refusal::JournalFull(page));
         }
         let stamp = self.written.len() as u64;
         let entry = Entry {
@@ -82,60 +79,57 @@ impl Objects {
             offset: (place % 64) as u8,
             value,
         };
-        self.written.push(Written { page, entry })?;
-        Ok(Ok(stamp))
+        if self.written.push(Written { page, entry }).is_err() {
+            return Err(Refusal::OutOfMemory);
+        }
+        if let Some(word) = self.words.get_mut(place as usize) {
+            *word = value;
+        }
+        Ok(stamp)
     }
 
-    // A field that is there becomes this value.
-    fn write(
-        &mut self,
-        writer: u8,
-        kind: Kind,
-        address: u64,
-        field: u16,
-        value: u64,
-    ) -> Result<Result<u64, Refusal>, AllocError> {
-        let place = match self.find(address) {
-            Ok(object) => object.place(kind, field),
-            Err(refusal) => return Ok(Err(refusal)),
-        };
-        let entered = self.enter(writer, kind, place, value)?;
-        if entered.is_ok() {
-            for object in &mut self.objects {
-                if object.address == address {
-                    object.set(kind, field, value);
-                }
-            }
+    // Writes a reference: to nothing, or to an object.
+    fn refer(&mut self, writer: u8, object: u64, field: u16, value: u64) -> Result<u64, Refusal> {
+        let place = self.place(Kind::Reference, object, field)?;
+        if value != 0 {
+            self.find(value)?;
         }
-        Ok(entered)
+        self.enter(writer, Kind::Reference, place, value)
+    }
+
+    // Writes a data word.
+    fn put(&mut self, writer: u8, object: u64, field: u16, value: u64) -> Result<u64, Refusal> {
+        let place = self.place(Kind::Data, object, field)?;
+        self.enter(writer, Kind::Data, place, value)
     }
 
     // The object goes onto the first of the pages `writer`, `writer + mutators`, .. that has room.
-    fn alloc(
-        &mut self,
-        alloc: Global,
-        writer: u8,
-        header: Header,
-    ) -> Result<Result<u64, Refusal>, AllocError> {
+    fn alloc(&mut self, writer: u8, header: Header) -> Result<u64, Refusal> {
         let size = u64::from(header.size());
         if size > 64 {
-            return Ok(Err(Refusal::ObjectTooLarge));
+            return Err(Refusal::ObjectTooLarge);
         }
-        let Some(page) = self.lowest(usize::from(writer), size) else {
-            return Ok(Err(Refusal::OutOfPages));
-        };
+        match self.lowest(usize::from(writer), size) {
+            Some(page) => self.add(writer, page, header),
+            None => Err(Refusal::OutOfPages),
+        }
+    }
+
+    // The object goes onto this page, which has room for it.
+    fn add(&mut self, writer: u8, page: usize, header: Header) -> Result<u64, Refusal> {
         let offset = self.used.get(page).copied().unwrap_or(0);
         let address = FRESH
-            .wrapping_add(64 * (page as u64 % 64))
+            .wrapping_add(64u64.wrapping_mul(page as u64))
             .wrapping_add(offset);
-        if let Err(refusal) = self.enter(writer, Kind::Header, address, header.word())? {
-            return Ok(Err(refusal));
-        }
+        self.enter(writer, Kind::Header, address, header.word())?;
+        let object = Object { address, header };
         if let Some(used) = self.used.get_mut(page) {
-            *used = offset.wrapping_add(size);
+            *used = offset.wrapping_add(object.size());
         }
-        self.objects.push(Object::zeros(alloc, address, header)?)?;
-        Ok(Ok(address))
+        match self.objects.push(object) {
+            Ok(()) => Ok(address),
+            Err(_) => Err(Refusal::OutOfMemory),
+        }
     }
 
     // The first of the pages `first`, `first + mutators`, .. that has room for an object of this size.
@@ -148,37 +142,39 @@ impl Objects {
         None
     }
 
-    /// The answer of a call of mutator `writer`.
-    pub fn answer(
-        &mut self,
-        alloc: Global,
-        writer: u8,
-        call: Call,
-    ) -> Result<Result<u64, Refusal>, AllocError> {
+    // The answer of a call of mutator `writer`: out of memory where there was none for an object or an entry.
+    fn answered(&mut self, writer: u8, call: Call) -> Result<u64, Refusal> {
         match call {
-            Call::ReadRef { object, field } => Ok(self.read(Kind::Reference, object, field)),
-            Call::ReadData { object, field } => Ok(self.read(Kind::Data, object, field)),
+            Call::ReadRef { object, field } => self.read(Kind::Reference, object, field),
+            Call::ReadData { object, field } => self.read(Kind::Data, object, field),
             Call::WriteRef {
                 object,
                 field,
                 value,
-            } => match self.judge(object, field, value) {
-                Ok(()) => self.write(writer, Kind::Reference, object, field, value),
-                Err(refusal) => Ok(Err(refusal)),
-            },
+            } => self.refer(writer, object, field, value),
             Call::WriteData {
                 object,
                 field,
                 value,
-            } => match self.read(Kind::Data, object, field) {
-                Ok(_) => self.write(writer, Kind::Data, object, field, value),
-                Err(refusal) => Ok(Err(refusal)),
-            },
+            } => self.put(writer, object, field, value),
             Call::Alloc {
                 references,
                 data_words,
                 tag,
-            } => self.alloc(alloc, writer, Header::new(references, data_words, tag)),
+            } => self.alloc(writer, Header::new(references, data_words, tag)),
+        }
+    }
+
+    /// The answer of a call of mutator `writer`.
+    pub fn answer(
+        &mut self,
+        _alloc: Global,
+        writer: u8,
+        call: Call,
+    ) -> Result<Result<u64, Refusal>, AllocError> {
+        match self.answered(writer, call) {
+            Err(Refusal::OutOfMemory) => Err(AllocError),
+            answer => Ok(answer),
         }
     }
 
@@ -201,8 +197,14 @@ impl Objects {
     }
 
     /// How many entries a page has.
-    pub fn entries_on(&self, page: u64) -> usize {
-        self.written.iter().filter(|it| it.page == page).count()
+    pub fn entries_on(&self, page: u64) -> u64 {
+        let mut entries = 0u64;
+        for written in &self.written {
+            if written.page == page {
+                entries = entries.wrapping_add(1);
+            }
+        }
+        entries
     }
 
     /// The entries of a page, in order.
@@ -218,10 +220,10 @@ impl Objects {
 
     /// The words of a page: 0 where there is no object.
     pub fn words_of(&self, alloc: Global, page: u64) -> Result<Vec<u64>, AllocError> {
-        let mut words = vec![in alloc; 0; 64]?;
+        let mut words = Vec::new(alloc);
         let first = T.wrapping_add(page.wrapping_mul(64));
-        for object in &self.objects {
-            object.put_into(&mut words, first);
+        for offset in 0..64 {
+            words.push(self.word_at(first.wrapping_add(offset)))?;
         }
         Ok(words)
     }

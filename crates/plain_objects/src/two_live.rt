@@ -27,30 +27,36 @@ pub fn two_live(alloc: Global) -> Result<Plan, Fail> {
     planned(alloc, heap(alloc, &words, &[0, 6], &[F, 0, F + 6])?)
 }
 
-// An object with these fields.
-fn object_with(
-    alloc: Global,
-    address: u64,
-    tag: u32,
-    references: &[u64],
-    data_words: &[u64],
-) -> Result<Object, AllocError> {
-    Ok(Object {
-        address,
-        tag,
-        references: references.to_vec(alloc)?,
-        data_words: data_words.to_vec(alloc)?,
-    })
+// As many words, all of which are 0.
+fn zeros(alloc: Global, count: usize) -> Result<Vec<u64>, AllocError> {
+    vec![in alloc; 0; count]
+}
+
+// The words of all seven pages: those of the two live objects, and 0 behind them.
+fn slid(alloc: Global, first: Header, second: Header) -> Result<Vec<u64>, AllocError> {
+    let live = [first.word(), T + 4, 0, 10, second.word(), T, 30, 31];
+    let mut words = zeros(alloc, 7 * 64)?;
+    for (word, value) in words.iter_mut().zip(live) {
+        *word = value;
+    }
+    Ok(words)
 }
 
 /// The two live objects once they have slid, and six fresh pages.
 pub fn opening(alloc: Global, mutators: usize) -> Result<Objects, AllocError> {
-    let first = object_with(alloc, T, 1, &[T + 4, 0], &[10])?;
-    let second = object_with(alloc, T + 4, 3, &[T], &[30, 31])?;
+    let first = Object {
+        address: T,
+        header: Header::new(2, 1, 1),
+    };
+    let second = Object {
+        address: T + 4,
+        header: Header::new(1, 2, 3),
+    };
     Ok(Objects {
         objects: vec![in alloc; first, second]?,
+        words: slid(alloc, first.header, second.header)?,
         mutators,
-        used: vec![in alloc; 0; 6]?,
+        used: zeros(alloc, 6)?,
         written: Vec::new(alloc),
     })
 }
