@@ -1,8 +1,6 @@
-//! What the words of the command line ask; and runs of the program: what it prints, tells, writes and refuses, also where its output takes only so much, with values from outside.
+//! Runs of the program: what it prints, tells, writes and refuses, also where its output takes only so much, with values from outside.
 #![tactic(auto)]
 
-#[cfg(test)]
-mod asking;
 #[cfg(test)]
 mod judging;
 #[cfg(test)]
