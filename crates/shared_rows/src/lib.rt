@@ -1,5 +1,5 @@
 //! What mutators share, also by threads: pages of worked heaps taken, written, built and closed through their cells, and ledgers at work, with their printed refusals. What no contract says, with values
-//! from outside.
+//! from outside. What passes and shares do stands in tables of cases; a failing row tells the name of its case.
 #![tactic(auto)]
 
 #[cfg(test)]
@@ -7,12 +7,14 @@ mod cells;
 #[cfg(test)]
 mod expected;
 #[cfg(test)]
-mod gathered;
+mod held;
 #[cfg(test)]
 mod ledgers;
 #[cfg(test)]
+mod pages;
+#[cfg(test)]
 mod passes;
 #[cfg(test)]
-mod posting;
-#[cfg(test)]
 mod refusals;
+#[cfg(test)]
+mod rows;

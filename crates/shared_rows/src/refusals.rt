@@ -1,24 +1,23 @@
 //! The refusals of ledgers as they are printed.
-use crate::expected::expect;
+use crate::expected::{At, expect_so};
 use comp_ledger::refusal::LedgerFault;
-use std::alloc::Global;
-use std::process::Abort;
 
-fn expect_printed(rt: &impl Abort, alloc: Global, fault: LedgerFault, wanted: &str) {
-    let Ok(text) = fault.to_string(alloc) else {
-        panic!(rt; "no memory for a text");
-    };
-    expect(rt, &text.as_str(), &wanted);
-}
+const TEXTS: [(LedgerFault, &str); 2] = [
+    (LedgerFault::OverCapacity, "L1 OverCapacity"),
+    (LedgerFault::ShareMissing(3), "L2 ShareMissing(3)"),
+];
 
 #[test]
 fn prints_refusals(rt: HostRuntime) {
-    let alloc = rt.alloc();
-    expect_printed(&rt, alloc, LedgerFault::OverCapacity, "L1 OverCapacity");
-    expect_printed(
-        &rt,
-        alloc,
-        LedgerFault::ShareMissing(3),
-        "L2 ShareMissing(3)",
-    );
+    for (row, (fault, wanted)) in TEXTS.iter().enumerate() {
+        let Ok(text) = fault.to_string(rt.alloc()) else {
+            panic!(rt; "no memory for a text");
+        };
+        let at = At {
+            case: "printed refusals",
+            round: 0,
+            row,
+        };
+        expect_so(&rt, at, text.as_str() == *wanted);
+    }
 }

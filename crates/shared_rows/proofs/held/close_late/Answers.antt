@@ -4,7 +4,7 @@ use Rattle.cell_steps.specs.declared.pass.Pass.{Pass}
 use Rattle.page_cells.specs.Cells.{mutators_of, Works}
 use Rattle.page_cells.specs.Ends.{AllRest}
 use Rattle.cell_steps.proofs.Sums.{each-one, each-append}
-use Rattle.shared_rows.proofs.cells.close_late.Goals as goal
+use Rattle.shared_rows.proofs.held.close_late.Goals as goal
 
 pub close-requires-2-after_bounds : goal.close-requires-2-after_bounds
 close-requires-2-after_bounds g c κs within =

@@ -4,7 +4,7 @@ use Rattle.heap_layout.specs.declared.kind.Kind.TheVariants.{Data}
 use Rattle.cell_steps.specs.Lawful.{IsField}
 use Rattle.page_cells.specs.Cells.{journal_of, setup_of}
 use Rattle.page_cells.specs.Objects.{offset_at, page_at}
-use Rattle.shared_rows.proofs.cells.take_and_write.Goals as goal
+use Rattle.shared_rows.proofs.pages.take_and_write.Goals as goal
 
 pub append-stamp-requires-clause-fits : goal.append-stamp-requires-clause-fits
 append-stamp-requires-clause-fits g c κs within =
