@@ -1,5 +1,5 @@
 //! Dumps written into memory, read from there, and compared part by part.
-use crate::expected::expect;
+use crate::expected::expect_so;
 use crate::judged::expect_yes;
 use comp_dump::dump::Dump;
 use comp_dump::fault::DumpFault;
@@ -23,19 +23,26 @@ pub fn read(alloc: Global, bytes: &[u8]) -> Result<Dump<'static>, DumpFault> {
     read_dump(alloc, &mut Counted::new(bytes))
 }
 
-/// The parts of a dump, of its pages only how many there are: mutators, fresh pages, roots, pages, builds and live words.
-pub type Parts<'a> = (u8, u32, &'a [u64], usize, &'a [Vec<u32>], u64);
-
-/// These parts of a dump.
-pub fn parts<'a>(dump: &'a Dump<'_>) -> Parts<'a> {
-    (
-        dump.mutators(),
-        dump.fresh_pages(),
-        dump.roots(),
-        dump.pages().len(),
-        dump.builds(),
+// The numbers of a dump: mutators, fresh pages, roots, pages, lists of builds, and live words.
+fn counts(dump: &Dump<'_>) -> [u64; 6] {
+    [
+        u64::from(dump.mutators()),
+        u64::from(dump.fresh_pages()),
+        dump.roots().len() as u64,
+        dump.pages().len() as u64,
+        dump.builds().len() as u64,
         dump.live_words(),
-    )
+    ]
+}
+
+/// A dump has so many mutators, fresh pages, roots, pages, lists of builds, and live words.
+pub fn expect_counts(rt: &impl Abort, dump: &Dump<'_>, wanted: &[u64; 6]) {
+    expect_so(
+        rt,
+        "counts",
+        0,
+        counts(dump).as_slice() == wanted.as_slice(),
+    );
 }
 
 /// The words and the journal of a page.
@@ -49,21 +56,33 @@ pub fn page_parts<'a>(dump: &'a Dump<'_>, page: usize) -> Option<PageParts<'a>> 
     }
 }
 
-/// Two dumps have the same parts.
+// Two dumps have the same parts.
+fn expect_same_parts(rt: &impl Abort, one: &Dump<'_>, other: &Dump<'_>) {
+    expect_counts(rt, one, &counts(other));
+    expect_so(rt, "roots", 0, one.roots() == other.roots());
+    expect_so(rt, "builds", 0, one.builds() == other.builds());
+}
+
+/// Two dumps have the same parts and pages.
 pub fn expect_same(rt: &impl Abort, one: &Dump<'_>, other: &Dump<'_>) {
-    expect(rt, &parts(one), &parts(other), "parts", 0);
+    expect_same_parts(rt, one, other);
     for page in 0..one.pages().len() {
-        let wanted = page_parts(other, page);
-        expect(rt, &page_parts(one, page), &wanted, "page", page);
+        let same = page_parts(one, page) == page_parts(other, page);
+        expect_so(rt, "page", page, same);
     }
+}
+
+// These bytes are read as this dump again, which by this plan is judged lawful.
+fn expect_again(rt: &impl Abort, alloc: Global, plan: &Plan, dump: &Dump<'_>, bytes: &[u8]) {
+    let again = read(alloc, bytes).expect(rt, "a dump");
+    expect_same(rt, dump, &again);
+    expect_yes(rt, alloc, plan, &again, bytes.len());
 }
 
 /// The dump has these bytes. They are read as the same dump again, which by this plan is judged lawful before and after.
 pub fn expect_dump(rt: &impl Abort, alloc: Global, plan: &Plan, dump: &Dump<'_>, wanted: &[u8]) {
     expect_yes(rt, alloc, plan, dump, wanted.len());
     let bytes = written(rt, alloc, dump);
-    expect(rt, &bytes.as_slice(), &wanted, "bytes", wanted.len());
-    let again = read(alloc, &bytes).expect(rt, "a dump");
-    expect_same(rt, dump, &again);
-    expect_yes(rt, alloc, plan, &again, wanted.len());
+    expect_so(rt, "bytes", wanted.len(), bytes.as_slice() == wanted);
+    expect_again(rt, alloc, plan, dump, &bytes);
 }

@@ -2,7 +2,7 @@
 //! and from the order of the checks. No such change leaves a dump that is judged lawful: a number of the format's own is refused where it differs, each word
 //! has the one value that its base and its journal give it, and each other field is told by the plan or by the other fields.
 use crate::encoded::{Whole, encoded};
-use crate::expected::expect;
+use crate::expected::expect_so;
 use crate::judged::{Told, expect_told, told};
 use crate::planned::{Worked, plan_of};
 use audit_checks::fault::AuditFault;
@@ -134,25 +134,25 @@ fn expect_reckoned(rt: &impl Abort, found: Told, at: usize, byte: u8) {
         if *first <= at && at <= *last && *least <= byte && byte <= *most {
             let number = at.wrapping_mul(256).wrapping_add(usize::from(byte));
             let wanted = reckoned(rule, at, found);
-            return expect(
-                rt,
-                &found,
-                &wanted,
-                "256 times the place, and the byte:",
-                number,
-            );
+            let name = "256 times the place, and the byte:";
+            return expect_so(rt, name, number, found == wanted);
         }
     }
     panic!(rt; "no rule");
 }
 
 // Each other value at each place of the dump, which has these bytes. The last value at a place is the right one, with which it is left.
-fn expect_each(rt: &impl Abort, alloc: Global, plan: &Plan, whole: &[u8], bytes: &mut [u8]) {
+fn expect_each(rt: &impl Abort, alloc: Global, plan: &Plan, bytes: &mut [u8]) {
+    let mut right = 0;
+    let mut byte = 0u8;
     for n in 0..1_129 * 256 {
         let at = n / 256;
-        let right = whole.get(at).copied().expect(rt, "a byte of the dump");
-        let byte = right.wrapping_add((n % 256) as u8).wrapping_add(1);
         if let Some(place) = bytes.get_mut(at) {
+            if n % 256 == 0 {
+                right = *place;
+                byte = right;
+            }
+            byte = byte.wrapping_add(1);
             *place = byte;
         }
         if byte != right {
@@ -161,13 +161,17 @@ fn expect_each(rt: &impl Abort, alloc: Global, plan: &Plan, whole: &[u8], bytes:
     }
 }
 
+// The dump has 1,129 bytes, and is lawful once each of them is the right one again.
+fn expect_bytes(rt: &impl Abort, alloc: Global, plan: &Plan) {
+    let mut bytes = encoded(rt, alloc, &Whole::Linked);
+    expect_so(rt, "bytes", 0, bytes.len() == 1_129);
+    expect_each(rt, alloc, plan, &mut bytes);
+    expect_told(rt, alloc, plan, &bytes, Ok(Verdict::Yes), "no change");
+}
+
 #[test]
 fn tells_each_changed_byte(rt: HostRuntime) {
     let alloc = rt.alloc();
     let plan = plan_of(&rt, alloc, &Worked::Three);
-    let whole = encoded(&rt, alloc, &Whole::Linked);
-    let mut bytes = encoded(&rt, alloc, &Whole::Linked);
-    expect(&rt, &whole.len(), &1_129, "bytes", 0);
-    expect_each(&rt, alloc, &plan, &whole, &mut bytes);
-    expect_told(&rt, alloc, &plan, &bytes, Ok(Verdict::Yes), "no change");
+    expect_bytes(&rt, alloc, &plan);
 }

@@ -4,15 +4,15 @@ ghost use Rattle.std.specs.Prelude.{◌≤◌};
 use std::alloc::{AllocError, Global};
 use std::process::Abort;
 
-/// A part of a dump.
-pub enum Part {
-    /// These bytes.
+// A part of a dump.
+enum Part {
+    // These bytes.
     Bytes(&'static [u8]),
-    /// Numbers of 4 bytes each.
+    // Numbers of 4 bytes each.
     Fours(&'static [u64]),
-    /// Numbers of 8 bytes each.
+    // Numbers of 8 bytes each.
     Eights(&'static [u64]),
-    /// So many bytes 0.
+    // So many bytes 0.
     Zeros(usize),
 }
 
@@ -33,22 +33,25 @@ pub enum Whole {
     /// That of two objects of 640 words each, all zeros behind their headers: 20 pages in three regions, of which the first of two mutators built the first
     /// and the last, and the second one the second. It has 10,464 bytes.
     Twenty,
-    /// These parts.
-    Of(&'static [Part]),
+    /// A head with nothing behind it: how many mutators, fresh pages, pages and roots there are.
+    Head(u64, u64, u64, u64),
 }
 
-/// In place of so many bytes from this one on there stands this part.
-pub struct Change(pub usize, pub usize, pub Part);
+/// From this byte on, in place of so many bytes, there stand so many others: those of this number, the least one first, and zeros behind them.
+pub struct Change(pub usize, pub usize, pub usize, pub u64);
 
 /// So many bytes that none is left behind.
 pub const REST: usize = usize::MAX;
 
-/// The first 8 bytes of a dump. The version, which is 1, and how many mutators, fresh pages, pages and roots there are follow as numbers of 4 bytes each.
-pub const MAGIC: Part = Part::Bytes(b"COMPDUMP");
+// The first 8 bytes of a dump. The version, which is 1, and how many mutators, fresh pages, pages and roots there are follow as numbers of 4 bytes each.
+const MAGIC: Part = Part::Bytes(b"COMPDUMP");
 
-/// What says that a page was built. Its words follow, and how many entries it has, in 4 bytes. An entry is its stamp, then its writer, the code of its kind
-/// and its offset in a byte each, and its value.
-pub const BUILT: Part = Part::Bytes(&[1]);
+// What says that a page was built. Its words follow, and how many entries it has, in 4 bytes. An entry is its stamp, then its writer, the code of its kind
+// and its offset in a byte each, and its value.
+const BUILT: Part = Part::Bytes(&[1]);
+
+// The magic and the version.
+static HEAD: [Part; 2] = [MAGIC, Part::Fours(&[1])];
 
 static NOTHING: [Part; 1] = [Part::Bytes(&[
     0x43, 0x4f, 0x4d, 0x50, 0x44, 0x55, 0x4d, 0x50, 1, 0, 0, 0, 2, 0, 0, 0, 0, 0, 0, 0, 0, 0, 0, 0,
@@ -218,7 +221,7 @@ fn parts_of(whole: &Whole) -> &'static [Part] {
         Whole::Put => &PUT,
         Whole::Address => &ADDRESS,
         Whole::Twenty => &TWENTY,
-        Whole::Of(parts) => parts,
+        Whole::Head(..) => &HEAD,
     }
 }
 
@@ -228,21 +231,38 @@ pub fn encoded(rt: &impl Abort, alloc: Global, whole: &Whole) -> Vec<u8> {
     for part in parts_of(whole) {
         put_part(&mut bytes, part).expect(rt, "memory");
     }
+    if let Whole::Head(mutators, fresh, pages, roots) = whole {
+        let counts = [*mutators, *fresh, *pages, *roots];
+        put_numbers(&mut bytes, 4, &counts).expect(rt, "memory");
+    }
     bytes
+}
+
+// So many bytes of this number, the least one first, and zeros behind them.
+fn put_number(bytes: &mut Vec<u8>, count: usize, number: u64) -> Result<(), AllocError> {
+    let end = bytes.len().saturating_add(count);
+    let width = count.min(8);
+    bytes.extend_from_slice(&number.to_le_bytes()[..width])?;
+    bytes.resize(end, 0)
+}
+
+// These bytes with these changes, which come in order, behind what is there.
+fn put_changed(rt: &impl Abort, out: &mut Vec<u8>, bytes: &[u8], changes: &[Change]) {
+    let mut from = 0;
+    for Change(at, width, count, number) in changes {
+        let kept = bytes.get(from..*at).expect(rt, "changes inside, in order");
+        out.extend_from_slice(kept).expect(rt, "memory");
+        put_number(out, *count, *number).expect(rt, "memory");
+        from = at.saturating_add(*width);
+    }
+    let kept = bytes.get(from..).unwrap_or(&[]);
+    out.extend_from_slice(kept).expect(rt, "memory");
 }
 
 /// The bytes of this dump with these changes, which come in order.
 pub fn changed(rt: &impl Abort, alloc: Global, whole: &Whole, changes: &[Change]) -> Vec<u8> {
     let bytes = encoded(rt, alloc, whole);
     let mut out = Vec::new(alloc);
-    let mut from = 0;
-    for Change(at, width, part) in changes {
-        let kept = bytes.get(from..*at).expect(rt, "changes inside, in order");
-        out.extend_from_slice(kept).expect(rt, "memory");
-        put_part(&mut out, part).expect(rt, "memory");
-        from = at.saturating_add(*width);
-    }
-    let kept = bytes.get(from..).unwrap_or(&[]);
-    out.extend_from_slice(kept).expect(rt, "memory");
+    put_changed(rt, &mut out, &bytes, changes);
     out
 }

@@ -2,7 +2,7 @@
 use crate::devices::{Narrow, Pieces, WhenFull};
 use crate::dumped::{expect_same, read};
 use crate::encoded::{Whole, encoded};
-use crate::expected::expect;
+use crate::expected::expect_so;
 use crate::heads::expect_largest;
 use crate::written::expect_linked;
 use comp_dump::dump::Dump;
@@ -61,10 +61,11 @@ fn read_failing(alloc: Global, bytes: &[u8], call: u64, kind: ErrorKind) -> Outc
 }
 
 // The smallest heap's 569 bytes are read in 570 calls, each of which may fail; no call comes behind them.
-fn expect_failing_reads(rt: &impl Abort, alloc: Global, bytes: &[u8], kind: ErrorKind) {
+fn expect_failing_reads(rt: &impl Abort, alloc: Global, kind: ErrorKind) {
+    let bytes = encoded(rt, alloc, &Whole::Smallest);
     for call in 0..571 {
-        let found = read_failing(alloc, bytes, call as u64, kind);
-        expect(rt, &found, &outcome(call == 570, &[]), "call", call);
+        let found = read_failing(alloc, &bytes, call as u64, kind);
+        expect_so(rt, "call", call, found == outcome(call == 570, &[]));
     }
 }
 
@@ -88,7 +89,7 @@ fn expect_write(
     let counted = writer.failures();
     let narrow = writer.into_inner();
     let found = (told, counted, narrow.taken.as_slice());
-    expect(rt, &found, &outcome(is_all, bytes), "room", bytes.len());
+    expect_so(rt, "room", bytes.len(), found == outcome(is_all, bytes));
 }
 
 // Where the writer fails before the dump's end, just what came before was taken.
@@ -99,8 +100,9 @@ fn expect_beginnings(rt: &impl Abort, alloc: Global, dump: &Dump<'_>, bytes: &[u
     }
 }
 
-// A dump and its bytes, from readers that give little and to writers that fail.
+// The bytes of a dump that is known, from readers that give little, and the dump to writers that fail.
 fn expect_devices(rt: &impl Abort, alloc: Global, dump: &Dump<'_>, bytes: &[u8]) {
+    expect_linked(rt, dump);
     for piece in &PIECES {
         expect_in_pieces(rt, alloc, bytes, *piece, dump);
     }
@@ -109,15 +111,18 @@ fn expect_devices(rt: &impl Abort, alloc: Global, dump: &Dump<'_>, bytes: &[u8])
     }
 }
 
+// The dump of the new object, read and written.
+fn expect_linked_devices(rt: &impl Abort, alloc: Global) {
+    let bytes = encoded(rt, alloc, &Whole::Linked);
+    let dump = read(alloc, &bytes).expect(rt, "a dump");
+    expect_devices(rt, alloc, &dump, &bytes);
+}
+
 #[test]
 fn reads_and_writes_as_devices_let_it(rt: HostRuntime) {
     let alloc = rt.alloc();
-    let smallest = encoded(&rt, alloc, &Whole::Smallest);
-    expect_failing_reads(&rt, alloc, &smallest, ErrorKind::Other);
-    expect_failing_reads(&rt, alloc, &smallest, ErrorKind::Interrupted);
-    let bytes = encoded(&rt, alloc, &Whole::Linked);
-    let dump = read(alloc, &bytes).expect(&rt, "a dump");
-    expect_linked(&rt, alloc, &dump);
-    expect_devices(&rt, alloc, &dump, &bytes);
+    expect_failing_reads(&rt, alloc, ErrorKind::Other);
+    expect_failing_reads(&rt, alloc, ErrorKind::Interrupted);
+    expect_linked_devices(&rt, alloc);
     expect_largest(&rt, alloc);
 }

@@ -5,7 +5,7 @@ ghost use Rattle.comp_mutator.specs.Mutators.{setup_of, AreMutatorsOf, IsMutator
 
 use crate::dumped::expect_dump;
 use crate::encoded::{Whole, encoded};
-use crate::expected::expect;
+use crate::expected::expect_so;
 use crate::planned::{Worked, plan_of};
 use comp_access::pages::Touched;
 use comp_access::refusal::Refusal;
@@ -116,7 +116,7 @@ fn expect_row<L: Named>(
     let by = *by;
     assert!(rt; by < mutators.len());
     let found = answer(rt, alloc, space, &mut mutators[by], call);
-    expect(rt, &found, &Ok(*wanted), name, at);
+    expect_so(rt, name, at, found == Ok(*wanted));
 }
 
 // The calls of a run, one after another.
@@ -155,15 +155,20 @@ fn finish<L: Named>(
     }
 }
 
+// This dump of what a run left is what it has to be.
+fn expect_left(rt: &impl Abort, alloc: Global, run: &Run, dump: &Dump<'_>) {
+    let plan = plan_of(rt, alloc, &run.heap);
+    let wanted = encoded(rt, alloc, &run.parts);
+    expect_so(rt, run.name, 0, wanted.len() == run.length);
+    expect_dump(rt, alloc, &plan, dump, &wanted);
+}
+
 // The dump of what a run left is what it has to be.
 fn expect_finished(rt: &impl Abort, alloc: Global, run: &Run, finished: &Finished)
     requires { IsOfFlip run.now.mutators run.now.fresh_pages finished.now }
 {
     let dump = Dump::of(alloc, finished, run.mutators, run.fresh_pages).expect(rt, "memory");
-    let plan = plan_of(rt, alloc, &run.heap);
-    let wanted = encoded(rt, alloc, &run.parts);
-    expect_dump(rt, alloc, &plan, &dump, &wanted);
-    expect(rt, &wanted.len(), &run.length, run.name, 0);
+    expect_left(rt, alloc, run, &dump);
 }
 
 fn expect_run_of<L: Named>(rt: &impl Abort, alloc: Global, blank: Blank, run: &Run)

@@ -1,5 +1,5 @@
 //! The dump of a new object with some fields changed, and the fault that is told of it: one of each kind.
-use crate::encoded::{Change, Part, Whole};
+use crate::encoded::{Change, Whole};
 use crate::judged::{Row, Told};
 use audit_checks::fault::AuditFault;
 use comp_audit::verdict::Verdict;
@@ -60,39 +60,39 @@ const MISSING: Told = Ok(Verdict::No(AuditFault::StampMissing(1)));
 const WRONG_TOTAL: Told = Ok(Verdict::No(AuditFault::WrongTotal));
 
 // The root is null.
-const NULL_ROOT: Change = Change(ROOT, 8, Part::Eights(&[0]));
+const NULL_ROOT: Change = Change(ROOT, 8, 8, 0);
 
-const ONE_FRESH: Change = Change(FRESH, 1, Part::Bytes(&[1]));
+const ONE_FRESH: Change = Change(FRESH, 1, 1, 1);
 
-const DATA_12: Change = Change(FIRST_DATA, 8, Part::Eights(&[12]));
+const DATA_12: Change = Change(FIRST_DATA, 8, 8, 12);
 
 // A word behind all objects.
-const LAST_1: Change = Change(LAST_WORD, 8, Part::Eights(&[1]));
+const LAST_1: Change = Change(LAST_WORD, 8, 8, 1);
 
 // A reference into an object, and its entry.
-const INNER: Change = Change(LINK, 8, Part::Eights(&[8_589_934_593]));
+const INNER: Change = Change(LINK, 8, 8, 8_589_934_593);
 
-const INNER_VALUE: Change = Change(LINK_VALUE, 8, Part::Eights(&[8_589_934_593]));
+const INNER_VALUE: Change = Change(LINK_VALUE, 8, 8, 8_589_934_593);
 
-const LINK_0: Change = Change(LINK_STAMP, 8, Part::Eights(&[0]));
+const LINK_0: Change = Change(LINK_STAMP, 8, 8, 0);
 
-const LINK_2: Change = Change(LINK_STAMP, 8, Part::Eights(&[2]));
+const LINK_2: Change = Change(LINK_STAMP, 8, 8, 2);
 
-const LINK_MAX: Change = Change(LINK_STAMP, 8, Part::Eights(&[u64::MAX]));
+const LINK_MAX: Change = Change(LINK_STAMP, 8, 8, u64::MAX);
 
-const HEADER_1: Change = Change(HEADER_STAMP, 8, Part::Eights(&[1]));
+const HEADER_1: Change = Change(HEADER_STAMP, 8, 8, 1);
 
-const HEADER_2: Change = Change(HEADER_STAMP, 8, Part::Eights(&[2]));
+const HEADER_2: Change = Change(HEADER_STAMP, 8, 8, 2);
 
 // The header stands in word 1 of its page.
-const GAP: Change = Change(HEADER_OFFSET, 1, Part::Bytes(&[1]));
+const GAP: Change = Change(HEADER_OFFSET, 1, 1, 1);
 
 // Both builds are of page 0.
-const CLAIM_0: Change = Change(BUILDS + 4, 1, Part::Bytes(&[0]));
+const CLAIM_0: Change = Change(BUILDS + 4, 1, 1, 0);
 
-const TOTAL_4: Change = Change(TOTAL, 8, Part::Eights(&[4]));
+const TOTAL_4: Change = Change(TOTAL, 8, 8, 4);
 
-const TOTAL_6: Change = Change(TOTAL, 8, Part::Eights(&[6]));
+const TOTAL_6: Change = Change(TOTAL, 8, 8, 6);
 
 /// One fault of each kind.
 pub static FORGED: [Row; 14] = [
@@ -157,25 +157,31 @@ pub static CLAIMED: [Row; 4] = [
     Row(
         "a page left out",
         Whole::Linked,
-        &[Change(BUILDS, 12, Part::Fours(&[1, 1]))],
+        &[Change(BUILDS, 12, 8, 4_294_967_297)],
         PAGE_0_UNCLAIMED,
     ),
     Row(
         "a page that was never built",
         Whole::Linked,
-        &[Change(BUILDS, 12, Part::Fours(&[3, 1, 0, 2]))],
+        &[
+            Change(BUILDS, 12, 8, 4_294_967_299),
+            Change(BUILDS + 12, 0, 8, 8_589_934_592),
+        ],
         PAGE_2_UNCLAIMED,
     ),
     Row(
         "a page twice",
         Whole::Linked,
-        &[Change(BUILDS, 12, Part::Fours(&[3, 1, 0, 0]))],
+        &[
+            Change(BUILDS, 12, 8, 4_294_967_299),
+            Change(BUILDS + 12, 0, 8, 0),
+        ],
         PAGE_0_UNCLAIMED,
     ),
     Row(
         "no page",
         Whole::Linked,
-        &[Change(BUILDS, 12, Part::Fours(&[0]))],
+        &[Change(BUILDS, 12, 4, 0)],
         PAGE_0_UNCLAIMED,
     ),
 ];
@@ -210,25 +216,25 @@ pub static NO_DUMPS: [Row; 4] = [
     Row(
         "the last byte left out",
         Whole::Linked,
-        &[Change(END - 1, 1, Part::Bytes(&[]))],
+        &[Change(END - 1, 1, 0, 0)],
         Err(DumpFault::Truncated),
     ),
     Row(
         "one byte more",
         Whole::Linked,
-        &[Change(END, 0, Part::Bytes(&[0]))],
+        &[Change(END, 0, 1, 0)],
         Err(DumpFault::TrailingBytes),
     ),
     Row(
         "version 9",
         Whole::Linked,
-        &[Change(VERSION, 1, Part::Bytes(&[9]))],
+        &[Change(VERSION, 1, 1, 9)],
         Err(DumpFault::BadMagic),
     ),
     Row(
         "neither built nor not",
         Whole::Linked,
-        &[Change(LAST_PAGE, 1, Part::Bytes(&[2]))],
+        &[Change(LAST_PAGE, 1, 1, 2)],
         Err(DumpFault::BadField),
     ),
 ];

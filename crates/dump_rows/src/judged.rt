@@ -1,7 +1,7 @@
 //! What becomes of bytes that are read as a dump, and tables of that.
 use crate::dumped::read;
 use crate::encoded::{Change, Whole, changed};
-use crate::expected::expect;
+use crate::expected::expect_so;
 use comp_audit::auditing::audit;
 use comp_audit::verdict::Verdict;
 use comp_dump::dump::Dump;
@@ -38,7 +38,8 @@ pub fn expect_told(
     wanted: Told,
     name: &str,
 ) {
-    expect(rt, &told(alloc, plan, bytes), &wanted, name, bytes.len());
+    let found = told(alloc, plan, bytes);
+    expect_so(rt, name, bytes.len(), found == wanted);
 }
 
 fn expect_row(rt: &impl Abort, alloc: Global, plan: &Plan, row: &Row) {
@@ -50,7 +51,7 @@ fn expect_row(rt: &impl Abort, alloc: Global, plan: &Plan, row: &Row) {
 /// The dump, of so many bytes, is what a compaction by this plan can have left.
 pub fn expect_yes(rt: &impl Abort, alloc: Global, plan: &Plan, dump: &Dump<'_>, length: usize) {
     let found = judged(alloc, plan, dump);
-    expect(rt, &found, &Ok(Verdict::Yes), "a dump of bytes", length);
+    expect_so(rt, "a dump of bytes", length, found == Ok(Verdict::Yes));
 }
 
 /// All rows of a table, where this plan compacted the three objects.

@@ -1,13 +1,12 @@
 //! What is written of worked heaps, and what is read of that.
-use crate::dumped::{PageParts, Parts, page_parts, parts};
+use crate::dumped::{PageParts, expect_counts, page_parts};
 use crate::encoded::Whole;
-use crate::expected::expect;
+use crate::expected::expect_so;
 use crate::finished::{Call, Row, Run, expect_run};
 use crate::planned::Worked;
 use comp_dump::dump::Dump;
 use comp_journal::entry::Entry;
 use heap_layout::kind::Kind;
-use std::alloc::Global;
 use std::process::Abort;
 use worked_heaps::heaps::T;
 
@@ -213,11 +212,13 @@ static LINKED_PAGES: [Option<PageParts<'static>>; 3] = [
 ];
 
 /// The dump of the three objects, of which the last refers to a new one on the first of two fresh pages. There is one list of builds, of page 1 and of page 0.
-pub fn expect_linked(rt: &impl Abort, alloc: Global, dump: &Dump<'_>) {
-    let builds = [[1, 0].to_vec(alloc).expect(rt, "memory")];
-    let wanted: Parts<'_> = (1, 2, &[8_589_934_594], 3, &builds, 5);
-    expect(rt, &parts(dump), &wanted, "parts", 0);
+pub fn expect_linked(rt: &impl Abort, dump: &Dump<'_>) {
+    expect_counts(rt, dump, &[1, 2, 1, 3, 1, 5]);
+    expect_so(rt, "roots", 0, dump.roots() == [8_589_934_594].as_slice());
+    for built in dump.builds() {
+        expect_so(rt, "builds", 0, built.as_slice() == [1, 0].as_slice());
+    }
     for (page, wanted) in LINKED_PAGES.iter().enumerate() {
-        expect(rt, &page_parts(dump, page), wanted, "page", page);
+        expect_so(rt, "page", page, page_parts(dump, page) == *wanted);
     }
 }
