@@ -53,7 +53,7 @@ fn play<L: Named, B: Builder, R: Abort + Wait>(
     assert!(rt; number < mutators.len());
     let m = &mut mutators[number];
     let wanted = objects
-        .answer(alloc, m.number(), call)
+        .answer(m.number(), call)
         .ok()
         .expect(rt, "memory for plain objects");
     let found = answer(rt, alloc, space, m, call, false);

@@ -166,12 +166,7 @@ impl Objects {
     }
 
     /// The answer of a call of mutator `writer`.
-    pub fn answer(
-        &mut self,
-        _alloc: Global,
-        writer: u8,
-        call: Call,
-    ) -> Result<Result<u64, Refusal>, AllocError> {
+    pub fn answer(&mut self, writer: u8, call: Call) -> Result<Result<u64, Refusal>, AllocError> {
         match self.answered(writer, call) {
             Err(Refusal::OutOfMemory) => Err(AllocError),
             answer => Ok(answer),

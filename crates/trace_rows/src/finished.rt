@@ -83,13 +83,7 @@ fn entry_of(finished: &Finished, stamp: u64) -> Option<Written> {
 }
 
 // The plain objects take the entry with this stamp next: true where it is what a call of its writer does to them.
-fn take_stamp(
-    rt: &impl Abort,
-    alloc: Global,
-    objects: &mut Objects,
-    finished: &Finished,
-    stamp: u64,
-) -> bool {
+fn take_stamp(rt: &impl Abort, objects: &mut Objects, finished: &Finished, stamp: u64) -> bool {
     let Some(written) = entry_of(finished, stamp) else {
         return false;
     };
@@ -102,7 +96,7 @@ fn take_stamp(
         _ => entry.stamp,
     };
     match objects.call_of(entry.kind, address, entry.value) {
-        Some(call) => objects.answer(alloc, entry.writer, call).expect(rt, "room") == Ok(wanted),
+        Some(call) => objects.answer(entry.writer, call).expect(rt, "room") == Ok(wanted),
         None => false,
     }
 }
@@ -116,7 +110,7 @@ pub fn take_history(
     objects: &mut Objects,
 ) {
     for stamp in 0..count_entries(finished) {
-        let is_next = take_stamp(rt, alloc, objects, finished, stamp);
+        let is_next = take_stamp(rt, objects, finished, stamp);
         expect_so(rt, name, is_next, stamp);
     }
     expect_pages(rt, alloc, name, finished, objects);

@@ -46,11 +46,7 @@ impl PlainRun {
     }
 
     /// What a line is answered: where a root leads, 0 for a register that becomes null, and else what its call is. No register is set yet.
-    pub fn answer(
-        &mut self,
-        alloc: Global,
-        line: Line,
-    ) -> Result<Result<u64, Refusal>, AllocError> {
+    pub fn answer(&mut self, line: Line) -> Result<Result<u64, Refusal>, AllocError> {
         let m = line.mutator;
         let call = match line.action {
             Action::Root { root, .. } => {
@@ -94,7 +90,7 @@ impl PlainRun {
                 tag,
             },
         };
-        self.objects.answer(alloc, m, call)
+        self.objects.answer(m, call)
     }
 
     /// Sets the register of line `number`, or keeps what it shows.
