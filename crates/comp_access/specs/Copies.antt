@@ -9,6 +9,8 @@ use Rattle.cell_steps.specs.Passes.{lost, seen, HasSeenBuilt, MayRefer}
 use Rattle.page_cells.specs.Cells.{KnowsObjects}
 use Rattle.cell_steps.specs.declared.pass.Pass.{Pass}
 use Rattle.page_cells.specs.Calls.{builds_with, SeesNothingNew}
+use Rattle.page_cells.specs.declared.refusal.CellRefusal.{CellRefusal}
+use Rattle.page_cells.specs.declared.refusal.CellRefusal.TheVariants.{Busy as CellBusy, NoSuchPage, OutOfMemory as CellOutOfMemory, PassMissing}
 use Rattle.comp_access.specs.Reads.{KnowsBuilt, SeesFull}
 use Rattle.comp_access.specs.declared.pages.PageCopy.{PageCopy}
 use Rattle.comp_access.specs.declared.pages.Touched.{Touched}
@@ -26,6 +28,20 @@ PageRefused p old new OutOfPages = ⊥
 PageRefused p old new (Busy q) = (q ≡ p) × (lost old p < lost new p)
 PageRefused p old new (JournalFull q) = ⊥
 PageRefused p old new OutOfMemory = KnowsBuilt old p → ⊥
+
+-- the cells refuse a page that there is
+abbrev pub IsOfPage : CellRefusal → Type 0
+IsOfPage (CellBusy q) = Unit {0}
+IsOfPage NoSuchPage = ⊥
+IsOfPage CellOutOfMemory = Unit {0}
+IsOfPage (PassMissing k) = ⊥
+
+-- what is told of that
+abbrev pub IsToldAs : CellRefusal → Refusal → Type 0
+IsToldAs (CellBusy q) told = told ≡ Busy q
+IsToldAs NoSuchPage told = ⊥
+IsToldAs CellOutOfMemory told = told ≡ OutOfMemory
+IsToldAs (PassMissing k) told = ⊥
 
 -- why a page takes no entry
 abbrev pub PageTakesNone : ℕ → Pass → Refusal → Type 0

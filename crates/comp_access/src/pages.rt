@@ -10,14 +10,13 @@ ghost use Rattle.comp_access.specs.declared.pages.Touched.TheVariants.{AlreadyBu
 ghost use Rattle.comp_access.specs.declared.refusal.Refusal.TheVariants.{Busy};
 
 use crate::refusal::Refusal;
-use crate::taking::take;
+use crate::taking::{page_refusal, take};
 use cell_steps::pass::Pass;
 use comp_journal::entry::Entry;
 use heap_layout::fault::OutOfMemory;
 use heap_layout::page_words::PageWords;
 use page_cells::cells::Cells;
 use page_cells::laws;
-use page_cells::refusal::CellRefusal;
 use page_cells::taking::Taken;
 use page_plan::builder::Builder;
 use std::alloc::Global;
@@ -60,10 +59,7 @@ pub fn try_touch<B: Builder>(
     match cells.try_build(alloc, pass, p) {
         Ok(true) => Ok(Touched::Built),
         Ok(false) => Ok(Touched::AlreadyBuilt),
-        Err(CellRefusal::Busy(q)) => Err(Refusal::Busy(q)),
-        Err(CellRefusal::OutOfMemory) => Err(Refusal::OutOfMemory),
-        Err(CellRefusal::NoSuchPage) => unreachable!(),
-        Err(CellRefusal::PassMissing(_)) => unreachable!(),
+        Err(refusal) => Err(page_refusal(refusal)),
     }
 }
 
@@ -86,18 +82,6 @@ fn copy_words<B: Builder>(
     Ok(words)
 }
 
-/// The journal of a page that was taken.
-fn copy_journal(alloc: Global, taken: &Taken) -> Result<Vec<Entry>, OutOfMemory>
-    ensures { IfOk result (λ copy. copy.items ≡ journal_of taken.now) }
-{
-    let journal = taken.journal();
-    let mut copy = Vec::with_capacity(alloc, journal.len())?;
-    for entry in journal {
-        copy.push_reserved(*entry);
-    }
-    Ok(copy)
-}
-
 /// The words and the journal of a page that was taken.
 fn copy_taken<B: Builder>(
     alloc: Global,
@@ -111,7 +95,7 @@ fn copy_taken<B: Builder>(
     ensures same { pass.new ≡ pass.old }
 {
     let words = copy_words(alloc, cells, pass, taken)?;
-    let journal = copy_journal(alloc, taken)?;
+    let journal = taken.journal().to_vec(alloc)?;
     Ok(PageCopy { words, journal })
 }
 

@@ -5,7 +5,7 @@ ghost use Rattle.cell_steps.specs.Lawful.{HasHead, IsLawful};
 ghost use Rattle.cell_steps.specs.Passes.{builds_of, did, number_of, HasSeenBuilt, KnowsFresh, Rests};
 ghost use Rattle.page_cells.specs.Cells.{journal_of, mutators_of, page_number, pages_of, setup_of, Has, IsPassOf};
 ghost use Rattle.page_cells.specs.Calls.{Grows, SeesNothingNew};
-ghost use Rattle.comp_access.specs.Copies.{PageRefused};
+ghost use Rattle.comp_access.specs.Copies.{IsOfPage, IsToldAs, PageRefused};
 ghost use Rattle.comp_access.specs.Reads.{MayBuild};
 ghost use Rattle.comp_access.specs.declared.refusal.Refusal.TheVariants.{Busy};
 
@@ -16,6 +16,19 @@ use page_cells::refusal::CellRefusal;
 use page_cells::taking::Taken;
 use page_plan::builder::Builder;
 use std::alloc::Global;
+
+/// What is told of a page that there is, where the cells refuse it.
+pub(crate) fn page_refusal(refusal: CellRefusal) -> Refusal
+    requires { IsOfPage refusal }
+    ensures { IsToldAs refusal result }
+{
+    match refusal {
+        CellRefusal::Busy(q) => Refusal::Busy(q),
+        CellRefusal::OutOfMemory => Refusal::OutOfMemory,
+        CellRefusal::NoSuchPage => unreachable!(),
+        CellRefusal::PassMissing(_) => unreachable!(),
+    }
+}
 
 /// Takes page `p`, which there is.
 pub(crate) fn take<B: Builder>(
@@ -37,9 +50,6 @@ pub(crate) fn take<B: Builder>(
 {
     match cells.try_take(alloc, pass, p) {
         Ok(taken) => Ok(taken),
-        Err(CellRefusal::Busy(q)) => Err(Refusal::Busy(q)),
-        Err(CellRefusal::OutOfMemory) => Err(Refusal::OutOfMemory),
-        Err(CellRefusal::NoSuchPage) => unreachable!(),
-        Err(CellRefusal::PassMissing(_)) => unreachable!(),
+        Err(refusal) => Err(page_refusal(refusal)),
     }
 }

@@ -1,29 +1,33 @@
-use Rattle.std.proofs.Common.{◌≡◌, ⊎_elim, Ok, false}
+use Rattle.std.proofs.Common.{◌≡◌, ⊎_elim, Ok, Err, false, refl, sym, arith}
+use Rattle.comp_access.specs.Reads.{KnowsBuilt}
+use Rattle.comp_access.specs.declared.refusal.Refusal.TheVariants.{Busy}
+use Rattle.comp_access.proofs.Answering.{ok_apart}
+use Rattle.comp_access.proofs.PageAnswers.{busy_told, not_built, of_page, page_refused_as}
 use Rattle.comp_access.proofs.pages.try_touch.Goals as goal
+
+pub page_refusal-requires : goal.page_refusal-requires
+page_refusal-requires g c =
+    let why = c.in-Err.ensures in
+    of_page c.in-Err.refusal (λ none. let past = why.page.0 none in omega (arith, past, c.requires.inside)) why.named
 
 pub returns-in-Ok-true-clause-known : goal.returns-in-Ok-true-clause-known
 returns-in-Ok-true-clause-known g c = λ known.
-    let h = c.try_build.ensures in
-    let e : c.try_build.result ≡ Ok false = ⊎_elim (λ seen. h.seen c.requires.inside seen) (λ start. h.known start.0 start.1) known in
-    absurd (cc)
+    let h = c.in-Ok-true.ensures in
+    absurd (⊎_elim (λ seen. not_built c.in-Ok-true.field-0 c.in-Ok-true.field-0-test (h.seen c.requires.inside seen)) (λ start. not_built c.in-Ok-true.field-0 c.in-Ok-true.field-0-test (h.known start.0 start.1)) known)
 
-pub returns-in-Err-Busy-clause-known : goal.returns-in-Err-Busy-clause-known
-returns-in-Err-Busy-clause-known g c = λ known.
+pub returns-in-Err : goal.returns-in-Err
+returns-in-Err g c =
     let h = c.try_build.ensures in
-    let e : c.try_build.result ≡ Ok false = ⊎_elim (λ seen. h.seen c.requires.inside seen) (λ start. h.known start.0 start.1) known in
-    absurd (cc)
-
-pub returns-in-Err-OutOfMemory-clause-known : goal.returns-in-Err-OutOfMemory-clause-known
-returns-in-Err-OutOfMemory-clause-known g c = λ known.
-    let h = c.try_build.ensures in
-    let e : c.try_build.result ≡ Ok false = ⊎_elim (λ seen. h.seen c.requires.inside seen) (λ start. h.known start.0 start.1) known in
-    absurd (cc)
-
-pub returns-in-Err-OutOfMemory-clause-refused : goal.returns-in-Err-OutOfMemory-clause-refused
-returns-in-Err-OutOfMemory-clause-refused g c = (
-  c.in-Err-OutOfMemory.ensures.refused,
-  λ known.
-      let h = c.try_build.ensures in
-      let e : c.try_build.result ≡ Ok false = ⊎_elim (λ seen. h.seen c.requires.inside seen) (λ start. h.known start.0 start.1) known in
-      cc,
-)
+    let why = c.in-Err.ensures in
+    let refusal = c.in-Err.refusal in
+    let told = c.page_refusal.ensures in
+    let unknown = λ (known : KnowsBuilt c.args.pass.now c.args.p). ⊎_elim (λ seen. ok_apart false refusal (sym (why.seen c.requires.inside seen))) (λ start. ok_apart false refusal (sym (why.known start.0 start.1))) known in
+    record {
+      of = h.of;
+      grows = (h.grows, h.wrote);
+      touched = tt;
+      alone = λ one q e. why.alone one q (busy_told refusal c.page_refusal.result q told e);
+      known = λ known. absurd (unknown known);
+      unbuilt = λ q e. why.unbuilt q (busy_told refusal c.page_refusal.result q told e);
+      refused = (why.refused, page_refused_as c.args.p c.args.pass.now c.try_build.new.pass refusal c.page_refusal.result told why.busy (λ wanting. unknown));
+    }

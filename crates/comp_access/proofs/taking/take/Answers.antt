@@ -1,8 +1,14 @@
-use Rattle.std.proofs.Common.{⊎_elim, ap, Err}
+use Rattle.std.proofs.Common.{⊎_elim, arith}
 use Rattle.comp_access.specs.declared.refusal.Refusal.TheVariants.{Busy}
-use Rattle.comp_access.proofs.Answering.{memory_apart, ok_apart}
+use Rattle.comp_access.proofs.Answering.{ok_apart}
 use Rattle.comp_access.proofs.Building.{may_build}
+use Rattle.comp_access.proofs.PageAnswers.{busy_told, of_page, page_refused_as}
 use Rattle.comp_access.proofs.taking.take.Goals as goal
+
+pub page_refusal-requires : goal.page_refusal-requires
+page_refusal-requires g c =
+    let why = c.in-Err.ensures in
+    of_page c.in-Err.refusal (λ none. let past = why.page.0 none in omega (arith, past, c.requires.inside)) why.named
 
 pub returns-in-Ok : goal.returns-in-Ok
 returns-in-Ok g c =
@@ -18,34 +24,23 @@ returns-in-Ok g c =
       refused = tt;
     }
 
-pub returns-in-Err-Busy : goal.returns-in-Err-Busy
-returns-in-Err-Busy g c =
+pub returns-in-Err : goal.returns-in-Err
+returns-in-Err g c =
     let h = c.try_take.ensures in
-    let why = c.in-Err-Busy.ensures in
-    let is = ap Err c.in-Err-Busy.field-0-is in
+    let why = c.in-Err.ensures in
+    let told = c.page_refusal.ensures in
     record {
       of = h.of;
       grows = h.grows;
-      alone = λ one q e. why.alone one _ is;
+      alone = λ one q e. why.alone one q (busy_told c.in-Err.refusal c.page_refusal.result q told e);
       taken = tt;
       heads = tt;
       builds = may_build c.args.p c.args.pass.now c.try_take.new.pass h.built h.known h.builds h.told;
       known = h.known;
-      refused = (why.refused.0, why.refused.1.seen, why.busy _ is);
-    }
-
-pub returns-in-Err-OutOfMemory : goal.returns-in-Err-OutOfMemory
-returns-in-Err-OutOfMemory g c =
-    let h = c.try_take.ensures in
-    let why = c.in-Err-OutOfMemory.ensures in
-    let is = ap Err c.in-Err-OutOfMemory.field-0-is in
-    record {
-      of = h.of;
-      grows = h.grows;
-      alone = λ one q. memory_apart q;
-      taken = tt;
-      heads = tt;
-      builds = may_build c.args.p c.args.pass.now c.try_take.new.pass h.built h.known h.builds h.told;
-      known = h.known;
-      refused = (why.refused.0, why.refused.1.seen, λ known. ⊎_elim (λ seen. why.memory seen is) (λ start. why.memory_known start.0 start.1 is) known);
+      refused = (
+        why.refused.0,
+        why.refused.1.seen,
+        page_refused_as c.args.p c.args.pass.now c.try_take.new.pass c.in-Err.refusal c.page_refusal.result told why.busy
+            (λ wanting known. ⊎_elim (λ seen. why.memory seen wanting) (λ start. why.memory_known start.0 start.1 wanting) known),
+      );
     }
