@@ -2,7 +2,7 @@ ghost use Rattle.std.specs.Prelude.{◌≡◌, Some, codes};
 ghost use Rattle.command_io.specs.declared.refusal.Refusal.TheVariants as refusal;
 
 use audit_checks::fault::AuditFault;
-use comp_access::refusal as mutators;
+use call_refusals::refusal as mutators;
 use comp_dump::fault::DumpFault;
 use comp_regions::refusal::SweepFault;
 use heap_layout::fault::{self, LayoutFault};

@@ -15,8 +15,8 @@ use Rattle.comp_access.specs.Fields.{count_of, place_of, HasSlidFieldOn, LacksFi
 use Rattle.comp_access.specs.Finds.{HoldsField}
 use Rattle.comp_access.specs.Reads.{BuildsNothing, BuildsPage, FieldRefused, MayBuild, MayBuildTouched, NeedsNoPage, TouchesOnly}
 use Rattle.comp_access.specs.Writes.{DataRefused, EntryRefused, IsNoTarget, ReferenceRefused, ValueRefused}
-use Rattle.comp_access.specs.declared.refusal.Refusal.{Refusal}
-use Rattle.comp_access.specs.declared.refusal.Refusal.TheVariants.{Null, NotAStart, NoSuchField, ObjectTooLarge, OutOfPages, Busy, JournalFull, OutOfMemory}
+use Rattle.call_refusals.specs.declared.refusal.Refusal.{Refusal}
+use Rattle.call_refusals.specs.declared.refusal.Refusal.TheVariants.{Null, NotAStart, NoSuchField, ObjectTooLarge, OutOfPages, Busy, JournalFull, OutOfMemory}
 use Rattle.comp_access.proofs.Building.{builds_then, BuildsOneOf}
 use Rattle.comp_access.proofs.Growing.{known_more}
 

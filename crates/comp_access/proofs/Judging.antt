@@ -8,8 +8,8 @@ use Rattle.cell_steps.specs.declared.pass.Pass.{Pass}
 use Rattle.comp_access.specs.Finds.{IsEarly}
 use Rattle.comp_access.specs.Reads.{FieldRefused}
 use Rattle.comp_access.specs.Writes.{IsJudgedBefore}
-use Rattle.comp_access.specs.declared.refusal.Refusal.{Refusal}
-use Rattle.comp_access.specs.declared.refusal.Refusal.TheVariants.{Null, NotAStart, NoSuchField, ObjectTooLarge, OutOfPages, Busy, JournalFull, OutOfMemory}
+use Rattle.call_refusals.specs.declared.refusal.Refusal.{Refusal}
+use Rattle.call_refusals.specs.declared.refusal.Refusal.TheVariants.{Null, NotAStart, NoSuchField, ObjectTooLarge, OutOfPages, Busy, JournalFull, OutOfMemory}
 
 module _ (u : Setup) (new : Pass) (object value : ℕ) where
   -- what comes before any page is taken does not wait for the value

@@ -11,8 +11,8 @@ use Rattle.comp_access.specs.Copies.{CopyRefused, PageRefused, PageTakesNone}
 use Rattle.comp_access.specs.Reads.{FieldRefused, KnowsBuilt, MayBuild, TouchesOnly, WantsMemory}
 use Rattle.comp_access.specs.Writes.{EntryRefused}
 use Rattle.comp_access.specs.Allocations.{AllocationRefused, IsLowestPage}
-use Rattle.comp_access.specs.declared.refusal.Refusal.{Refusal}
-use Rattle.comp_access.specs.declared.refusal.Refusal.TheVariants.{Null, NotAStart, NoSuchField, ObjectTooLarge, OutOfPages, Busy, JournalFull, OutOfMemory}
+use Rattle.call_refusals.specs.declared.refusal.Refusal.{Refusal}
+use Rattle.call_refusals.specs.declared.refusal.Refusal.TheVariants.{Null, NotAStart, NoSuchField, ObjectTooLarge, OutOfPages, Busy, JournalFull, OutOfMemory}
 use Rattle.comp_access.proofs.Building.{only_of, Touches}
 
 -- the page on which an object was to be made was not to be had

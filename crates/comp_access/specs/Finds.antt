@@ -11,8 +11,8 @@ use Rattle.comp_access.specs.Fields.{count_of, place_of, IsFieldOf, IsFreshObjec
 use Rattle.comp_access.specs.Reads.{TouchesOnly}
 use Rattle.comp_access.specs.declared.finding.Found.{Found}
 use Rattle.comp_access.specs.declared.finding.Found.TheVariants.{Slid, Fresh}
-use Rattle.comp_access.specs.declared.refusal.Refusal.{Refusal}
-use Rattle.comp_access.specs.declared.refusal.Refusal.TheVariants.{Null, NotAStart, NoSuchField, ObjectTooLarge, OutOfPages, Busy, JournalFull, OutOfMemory}
+use Rattle.call_refusals.specs.declared.refusal.Refusal.{Refusal}
+use Rattle.call_refusals.specs.declared.refusal.Refusal.TheVariants.{Null, NotAStart, NoSuchField, ObjectTooLarge, OutOfPages, Busy, JournalFull, OutOfMemory}
 
 -- An object of the slid heap has the field, whose word is at this address.
 pub record IsSlidField (u : Setup) (kind : Kind) (object field place : ℕ) : Type 0 where

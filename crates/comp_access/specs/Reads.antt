@@ -9,8 +9,8 @@ use Rattle.cell_steps.specs.declared.pass.Pass.{Pass}
 use Rattle.page_cells.specs.Calls.{SeesNothingNew}
 use Rattle.page_cells.specs.Objects.{word_at}
 use Rattle.comp_access.specs.Fields.{HasSlidFieldOn, IsFieldOf, LacksField, LiesFreshOn}
-use Rattle.comp_access.specs.declared.refusal.Refusal.{Refusal}
-use Rattle.comp_access.specs.declared.refusal.Refusal.TheVariants.{Null, NotAStart, NoSuchField, ObjectTooLarge, OutOfPages, Busy, JournalFull, OutOfMemory}
+use Rattle.call_refusals.specs.declared.refusal.Refusal.{Refusal}
+use Rattle.call_refusals.specs.declared.refusal.Refusal.TheVariants.{Null, NotAStart, NoSuchField, ObjectTooLarge, OutOfPages, Busy, JournalFull, OutOfMemory}
 
 -- The word of the object's field, where the pages have these journals.
 pub record Reads (u : Setup) (journals : Journals) (kind : Kind) (object field word : ℕ) : Type 0 where

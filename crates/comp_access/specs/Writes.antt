@@ -10,8 +10,8 @@ use Rattle.cell_steps.specs.declared.pass.Pass.{Pass}
 use Rattle.page_cells.specs.Objects.{offset_at, page_at}
 use Rattle.comp_access.specs.Fields.{IsFieldOf, KnowsFieldOn}
 use Rattle.comp_access.specs.Reads.{FieldRefused, NeedsNoPage, SeesFull, TouchesOnly}
-use Rattle.comp_access.specs.declared.refusal.Refusal.{Refusal}
-use Rattle.comp_access.specs.declared.refusal.Refusal.TheVariants.{Null, NotAStart, NoSuchField, ObjectTooLarge, OutOfPages, Busy, JournalFull, OutOfMemory}
+use Rattle.call_refusals.specs.declared.refusal.Refusal.{Refusal}
+use Rattle.call_refusals.specs.declared.refusal.Refusal.TheVariants.{Null, NotAStart, NoSuchField, ObjectTooLarge, OutOfPages, Busy, JournalFull, OutOfMemory}
 
 -- an entry of the pass
 abbrev pub entry_by : Pass → ℕ → Kind → ℕ → ℕ → Entry

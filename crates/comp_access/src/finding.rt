@@ -7,11 +7,11 @@ ghost use Rattle.page_cells.specs.Calls.{Grows, WroteNothing};
 ghost use Rattle.comp_access.specs.Fields.{count_of, place_of, IsFreshObject};
 ghost use Rattle.comp_access.specs.Finds.{HoldsField, IsEarly, IsFound};
 ghost use Rattle.comp_access.specs.Reads.{FieldRefused};
-ghost use Rattle.comp_access.specs.declared.refusal.Refusal.TheVariants.{Busy};
+ghost use Rattle.call_refusals.specs.declared.refusal.Refusal.TheVariants.{Busy};
 
 use crate::places::{offset_at, page_at};
-use crate::refusal::Refusal;
 use crate::taking::take;
+use call_refusals::refusal::Refusal;
 use cell_steps::pass::Pass;
 use heap_layout::header::Header;
 use heap_layout::kind::Kind;

@@ -5,10 +5,10 @@ ghost use Rattle.cell_steps.specs.Passes.{did, seen, MayRefer, Rests};
 ghost use Rattle.page_cells.specs.Cells.{mutators_of, setup_of, IsPassOf};
 ghost use Rattle.page_cells.specs.Calls.{Grows};
 ghost use Rattle.comp_access.specs.Reads.{FieldRefused, MayBuildTouched, Reads};
-ghost use Rattle.comp_access.specs.declared.refusal.Refusal.TheVariants.{Busy};
+ghost use Rattle.call_refusals.specs.declared.refusal.Refusal.TheVariants.{Busy};
 
 use crate::finding::{FieldName, Held, hold};
-use crate::refusal::Refusal;
+use call_refusals::refusal::Refusal;
 use cell_steps::pass::Pass;
 use heap_layout::kind::Kind;
 use page_cells::cells::Cells;

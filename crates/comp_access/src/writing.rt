@@ -13,10 +13,10 @@ ghost use Rattle.comp_access.specs.Allocations.{AreZero};
 ghost use Rattle.comp_access.specs.Copies.{PageTakesNone};
 ghost use Rattle.comp_access.specs.Reads.{FieldRefused, MayBuildTouched, NeedsNoPage};
 ghost use Rattle.comp_access.specs.Writes.{entry_by, Adds, DataRefused, ReferenceRefused, Writes};
-ghost use Rattle.comp_access.specs.declared.refusal.Refusal.TheVariants.{Busy};
+ghost use Rattle.call_refusals.specs.declared.refusal.Refusal.TheVariants.{Busy};
 
 use crate::finding::{FieldName, Found, Held, find, take_found, take_fresh};
-use crate::refusal::Refusal;
+use call_refusals::refusal::Refusal;
 use cell_steps::pass::Pass;
 use comp_journal::refusal::JournalRefusal;
 use heap_layout::kind::Kind;

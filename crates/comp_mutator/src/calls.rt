@@ -12,12 +12,12 @@ ghost use Rattle.comp_mutator.specs.Mutators.{pass_of, setup_of, unposted_of, Is
 ghost use Rattle.comp_access.specs.Reads.{FieldRefused, KnowsBuilt, MayBuild, MayBuildTouched, Reads};
 ghost use Rattle.comp_access.specs.Writes.{DataRefused, ReferenceRefused, Writes};
 ghost use Rattle.comp_access.specs.declared.pages.Touched.TheVariants.{AlreadyBuilt};
-ghost use Rattle.comp_access.specs.declared.refusal.Refusal.TheVariants.{Busy};
+ghost use Rattle.call_refusals.specs.declared.refusal.Refusal.TheVariants.{Busy};
 
 use crate::mutator::{Hand, Mutator};
 use crate::space::Space;
+use call_refusals::refusal::Refusal;
 use comp_access::pages::{self, PageCopy, Touched};
-use comp_access::refusal::Refusal;
 use comp_access::{allocating, reading, writing};
 use comp_ledger::unposted::count_made;
 use heap_layout::header::Header;

@@ -9,8 +9,8 @@ use Rattle.page_cells.specs.Calls.{Grows}
 use Rattle.comp_access.specs.Allocations.{Allocates}
 use Rattle.comp_access.specs.Reads.{Reads}
 use Rattle.comp_access.specs.Writes.{Writes}
-use Rattle.comp_access.specs.declared.refusal.Refusal.{Refusal}
-use Rattle.comp_access.specs.declared.refusal.Refusal.TheVariants.{Busy}
+use Rattle.call_refusals.specs.declared.refusal.Refusal.{Refusal}
+use Rattle.call_refusals.specs.declared.refusal.Refusal.TheVariants.{Busy}
 use Rattle.trace_steps.specs.Acting.{Steps}
 use Rattle.trace_text.specs.declared.line.Action.TheVariants.{Get, Load, New, Put}
 

@@ -9,7 +9,7 @@ use Rattle.cell_steps.specs.declared.pass.Pass.{Pass}
 use Rattle.page_cells.specs.Calls.{Grows}
 use Rattle.comp_mutator.specs.Mutators.{pass_of, setup_of}
 use Rattle.comp_mutator.specs.declared.mutator.Mutator.{Mutator}
-use Rattle.comp_access.specs.declared.refusal.Refusal.TheVariants.{Busy}
+use Rattle.call_refusals.specs.declared.refusal.Refusal.TheVariants.{Busy}
 use Rattle.comp_mutator.specs.declared.space.Space.{Space}
 use Rattle.trace_steps.specs.Acting.{null_registers, registers_after, shown_at, Refuses, Steps}
 use Rattle.trace_text.specs.declared.fault.Stop.{Stop}

@@ -4,10 +4,10 @@ ghost use Rattle.cell_steps.specs.Passes.{did};
 ghost use Rattle.cell_steps.specs.Setup.{Setup};
 ghost use Rattle.page_cells.specs.Calls.{Grows};
 ghost use Rattle.comp_mutator.specs.Mutators.{pass_of, setup_of, IsMutatorOf};
-ghost use Rattle.comp_access.specs.declared.refusal.Refusal.TheVariants.{Busy};
+ghost use Rattle.call_refusals.specs.declared.refusal.Refusal.TheVariants.{Busy};
 ghost use Rattle.trace_steps.specs.Acting.{registers_after, Fits, Refuses, Steps};
 
-use comp_access::refusal::Refusal;
+use call_refusals::refusal::Refusal;
 use comp_mutator::mutator::Mutator;
 use comp_mutator::space::Space;
 use page_plan::builder::Builder;

@@ -16,7 +16,7 @@ use Rattle.comp_history.specs.Merged.{written_by}
 use Rattle.comp_access.proofs.OwnPages.{on_append}
 use Rattle.comp_mutator.specs.Mutators.{pass_of}
 use Rattle.comp_mutator.specs.declared.mutator.Mutator.{Mutator}
-use Rattle.comp_access.specs.declared.refusal.Refusal.{Refusal}
+use Rattle.call_refusals.specs.declared.refusal.Refusal.{Refusal}
 use Rattle.trace_steps.specs.Acting.{null_registers, registers_after, shown_at}
 use Rattle.trace_steps.specs.Builds.{built_after, touched, BuildOn, HaveBuilt}
 use Rattle.trace_steps.specs.Deeds.{deeds_of, AreMerged, Deeds, HaveStart, IsMerged, KnowTheirs}

@@ -6,7 +6,7 @@ use Rattle.cell_steps.specs.Setup.{Setup}
 use Rattle.cell_steps.specs.Locks.{Journals}
 use Rattle.comp_history.specs.Merged.{written_by}
 use Rattle.comp_mutator.specs.declared.mutator.Mutator.{Mutator}
-use Rattle.comp_access.specs.declared.refusal.Refusal.{Refusal}
+use Rattle.call_refusals.specs.declared.refusal.Refusal.{Refusal}
 use Rattle.trace_steps.specs.Builds.{HaveBuilt}
 use Rattle.trace_steps.specs.Deeds.{deeds_of, AreMerged, Deeds, HaveAll}
 use Rattle.trace_steps.specs.Rounds.{IsTurnedDown}

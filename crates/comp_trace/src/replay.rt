@@ -9,7 +9,7 @@ ghost use Rattle.trace_steps.specs.Rounds.{AreLater, DidNothing};
 ghost use Rattle.trace_steps.specs.Traces.{AllFit, IsParsedFor};
 ghost use Rattle.trace_text.specs.Traces.{lines_of};
 
-use comp_access::refusal::Refusal;
+use call_refusals::refusal::Refusal;
 use comp_mutator::mutator::Mutator;
 use comp_mutator::space::Space;
 use page_plan::builder::Builder;

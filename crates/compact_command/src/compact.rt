@@ -11,11 +11,11 @@ ghost use Rattle.command_io.specs.Dumps.{RefusedUncreated};
 ghost use Rattle.command_io.specs.Images.{IsImageOf, SomeGiven, RefusesAt};
 ghost use Rattle.command_io.specs.Printing.{CountsPrint, CountsRead, RefusedUnprinted};
 
+use call_refusals::refusal as mutators;
 use command_io::dumps::{Dumps, write_to};
 use command_io::images::Images;
 use command_io::print::print_line;
 use command_io::refusal::Refusal;
-use comp_access::refusal as mutators;
 use comp_dump::dump::Dump;
 use comp_mutator::finishing::{FinishFault, Finished};
 use comp_mutator::flipping::flip;

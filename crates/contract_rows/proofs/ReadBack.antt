@@ -13,7 +13,7 @@ use Rattle.comp_access.specs.Allocations.{own_page, used, Allocates}
 use Rattle.comp_access.specs.Fields.{IsFieldOf}
 use Rattle.comp_access.specs.Reads.{Reads}
 use Rattle.comp_access.specs.Writes.{entry_by, Writes}
-use Rattle.comp_access.specs.declared.refusal.Refusal.{Refusal}
+use Rattle.call_refusals.specs.declared.refusal.Refusal.{Refusal}
 
 -- what holds of two answers holds where both are Ok
 pub both_ok : (s w : Result ℕ Refusal) (P Q R : ℕ → Type 0) → IfOk s P → IfOk w Q → ((a b : ℕ) → P a → Q b → R b) → IfOk s (λ a. IfOk w R)

@@ -2,7 +2,7 @@
 ghost use Rattle.std.specs.Prelude.{◌≡◌, IfOk};
 ghost use Rattle.comp_mutator.specs.Mutators.{setup_of, IsMutatorOf};
 
-use comp_access::refusal::Refusal;
+use call_refusals::refusal::Refusal;
 use comp_mutator::laws;
 use comp_mutator::mutator::Mutator;
 use comp_mutator::space::Space;

@@ -8,10 +8,10 @@ ghost use Rattle.cell_steps.specs.Setup.{pages};
 ghost use Rattle.comp_access.specs.Copies.{IsCopy};
 ghost use Rattle.comp_mutator.specs.Mutators.{pass_of, setup_of, IsMutatorOf};
 ghost use Rattle.comp_access.specs.declared.pages.Touched.TheVariants.{AlreadyBuilt};
-ghost use Rattle.comp_access.specs.declared.refusal.Refusal.TheVariants.{NotAStart, OutOfMemory};
+ghost use Rattle.call_refusals.specs.declared.refusal.Refusal.TheVariants.{NotAStart, OutOfMemory};
 
+use call_refusals::refusal::Refusal;
 use comp_access::pages::{PageCopy, Touched};
-use comp_access::refusal::Refusal;
 use comp_journal::entry::Entry;
 use comp_mutator::mutator::Mutator;
 use comp_mutator::space::Space;

@@ -4,7 +4,7 @@ ghost use Rattle.cell_steps.specs.Lists.{StartsWith};
 ghost use Rattle.cell_steps.specs.Passes.{number_of, seen};
 ghost use Rattle.comp_mutator.specs.Mutators.{pass_of, setup_of, IsMutatorOf};
 
-use comp_access::refusal::Refusal;
+use call_refusals::refusal::Refusal;
 use comp_mutator::laws;
 use comp_mutator::mutator::Mutator;
 use comp_mutator::space::Space;

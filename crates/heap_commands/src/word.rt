@@ -5,16 +5,16 @@ ghost use Rattle.heap_layout.specs.Heap.{live};
 ghost use Rattle.page_plan.specs.Sliding.{pages, slid_words};
 ghost use Rattle.page_cells.specs.Cells.{steps_of, AreNew, IsNew};
 ghost use Rattle.comp_mutator.specs.Mutators.{cells_of, pass_of, setup_of};
-ghost use Rattle.comp_access.specs.declared.refusal.Refusal.TheVariants as refusals;
+ghost use Rattle.call_refusals.specs.declared.refusal.Refusal.TheVariants as refusals;
 ghost use Rattle.std.specs.Io.KnownBytes.{Appends};
 ghost use Rattle.command_io.specs.Printing.{line_of, CountsPrint, CountsRead, RefusedUnprinted};
 ghost use Rattle.command_io.specs.Images.{IsImageOf, SomeGiven, RefusesAt};
 ghost use Rattle.heap_commands.specs.Word.{IsWordAt, IsPast, PrintsWordAt, RefusesWord, RefusesPrint};
 
+use call_refusals::refusal as mutators;
 use command_io::images::Images;
 use command_io::print::{print_digits, print_text};
 use command_io::refusal::Refusal;
-use comp_access::refusal as mutators;
 use comp_mutator::flipping::flip;
 use comp_mutator::laws::alone_sees_its_own;
 use comp_mutator::mutator::Mutator;

@@ -1,6 +1,6 @@
 //! What tests expect of answers, of numbers and of pages.
+use call_refusals::refusal::Refusal;
 use comp_access::pages::PageCopy;
-use comp_access::refusal::Refusal;
 use comp_journal::entry::Entry;
 use std::process::Abort;
 

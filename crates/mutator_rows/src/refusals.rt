@@ -1,5 +1,5 @@
 //! The refusals of journals, cells and mutators as they are printed.
-use comp_access::refusal::Refusal;
+use call_refusals::refusal::Refusal;
 use comp_journal::refusal::JournalRefusal;
 use comp_mutator::finishing::FinishFault;
 use comp_mutator::refusal::FlipFault;

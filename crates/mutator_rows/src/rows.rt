@@ -6,8 +6,8 @@ use crate::expected::{
     At, expect_answer, expect_count, expect_entries, expect_numbers, expect_so, expect_words,
 };
 use crate::turns::expect_turns;
+use call_refusals::refusal::Refusal;
 use comp_access::pages::Touched;
-use comp_access::refusal::Refusal;
 use comp_journal::entry::Entry;
 use comp_mutator::mutator::Mutator;
 use comp_mutator::space::Space;

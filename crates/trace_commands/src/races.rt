@@ -12,8 +12,8 @@ ghost use Rattle.command_io.specs.Texts.{HasLines};
 
 use crate::by_line::{by_line, first_stop};
 use crate::replays::{Halted, Replayed, unshown};
+use call_refusals::refusal::Refusal as MutatorRefusal;
 use command_io::refusal::Refusal;
-use comp_access::refusal::Refusal as MutatorRefusal;
 use comp_mutator::finishing::FinishFault;
 use comp_mutator::flipping::flip;
 use comp_mutator::mutator::Mutator;

@@ -10,8 +10,8 @@ ghost use Rattle.trace_text.specs.Traces.{lines_of, mutators_of, roots_of};
 ghost use Rattle.trace_commands.specs.Replays.{IsHalted, IsReplayedHeap};
 ghost use Rattle.command_io.specs.Texts.{HasLines};
 
+use call_refusals::refusal::Refusal as MutatorRefusal;
 use command_io::refusal::Refusal;
-use comp_access::refusal::Refusal as MutatorRefusal;
 use comp_mutator::finishing::{FinishFault, Finished};
 use comp_mutator::flipping::flip;
 use comp_mutator::mutator::Mutator;

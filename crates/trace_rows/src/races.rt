@@ -2,7 +2,7 @@
 use crate::expected::{expect_so, plan_of};
 use crate::flipped::Case;
 use crate::ran::raced;
-use comp_access::refusal::Refusal;
+use call_refusals::refusal::Refusal;
 use comp_mutator::finishing::Finished;
 use comp_race::race::Run;
 use heap_layout::header::Header;

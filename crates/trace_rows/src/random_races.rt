@@ -4,7 +4,7 @@ use crate::expected::{expect_plan, expect_so};
 use crate::finished::{expect_pages, take_history};
 use crate::ran::raced;
 use crate::random_traces::{case_of, drawn};
-use comp_access::refusal::Refusal;
+use call_refusals::refusal::Refusal;
 use comp_journal::entry::Entry;
 use comp_mutator::finishing::Finished;
 use comp_race::race::Run;

@@ -2,7 +2,7 @@
 use crate::expected::{expect_so, plan_of};
 use crate::flipped::Case;
 use crate::ran::replayed;
-use comp_access::refusal::Refusal;
+use call_refusals::refusal::Refusal;
 use comp_journal::entry::Entry;
 use comp_mutator::finishing::Finished;
 use comp_trace::replay::Stopped;

@@ -1,6 +1,6 @@
 //! Texts of traces: those that are none, what the others say, and how faults are printed.
 use crate::expected::expect_so;
-use comp_access::refusal::Refusal;
+use call_refusals::refusal::Refusal;
 use std::alloc::Global;
 use std::process::Abort;
 use trace_text::fault::{Stop, TraceFault};

@@ -19,7 +19,7 @@ use Rattle.page_cells.specs.Objects.{page_at}
 use Rattle.comp_access.specs.Allocations.{own_page, used, Allocates}
 use Rattle.comp_access.specs.Fields.{place_of}
 use Rattle.comp_access.specs.Reads.{BuildsNothing, BuildsPage, MayBuild, MayBuildTouched}
-use Rattle.comp_access.specs.declared.refusal.Refusal.{Refusal}
+use Rattle.call_refusals.specs.declared.refusal.Refusal.{Refusal}
 use Rattle.trace_steps.specs.Builds.{built_after, built_by, is_built, slid_page, BuildsTouched}
 use Rattle.trace_steps.specs.Rounds.{Met}
 

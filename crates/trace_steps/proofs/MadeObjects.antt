@@ -16,7 +16,7 @@ use Rattle.cell_steps.specs.Passes.{did, KnowsFresh}
 use Rattle.page_cells.specs.Calls.{Grows}
 use Rattle.page_cells.specs.Objects.{HasHeader}
 use Rattle.comp_access.proofs.OwnPages.{on_append}
-use Rattle.comp_access.specs.declared.refusal.Refusal.{Refusal}
+use Rattle.call_refusals.specs.declared.refusal.Refusal.{Refusal}
 use Rattle.trace_steps.specs.Acting.{Answers, Steps}
 use Rattle.trace_steps.specs.Deeds.{Deeds, IsMerged, KnowsMade}
 use Rattle.trace_steps.specs.Rounds.{Learns}

@@ -12,7 +12,7 @@ use Rattle.page_cells.specs.Calls.{Grows}
 use Rattle.page_cells.specs.Cells.{steps_of}
 use Rattle.comp_mutator.specs.Mutators.{cells_of, pass_of, setup_of, AreMutatorsOf}
 use Rattle.comp_mutator.specs.declared.mutator.Mutator.{Mutator}
-use Rattle.comp_access.specs.declared.refusal.Refusal.{Refusal}
+use Rattle.call_refusals.specs.declared.refusal.Refusal.{Refusal}
 use Rattle.comp_mutator.specs.declared.space.Space.{Space}
 use Rattle.trace_steps.specs.Acting.{Answers, Refuses}
 use Rattle.trace_steps.specs.Builds.{built_after, BuildOn, BuildsTouched}

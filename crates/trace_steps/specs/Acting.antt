@@ -11,7 +11,7 @@ use Rattle.page_cells.specs.Calls.{Grows}
 use Rattle.comp_access.specs.Allocations.{AllocationRefused, Allocates}
 use Rattle.comp_access.specs.Reads.{FieldRefused, Reads}
 use Rattle.comp_access.specs.Writes.{DataRefused, ReferenceRefused, Writes}
-use Rattle.comp_access.specs.declared.refusal.Refusal.{Refusal}
+use Rattle.call_refusals.specs.declared.refusal.Refusal.{Refusal}
 use Rattle.trace_text.specs.declared.line.Action.{Action}
 use Rattle.trace_text.specs.declared.line.Action.TheVariants.{Root, Load, Get, Store, Put, New, Nil}
 use Rattle.trace_steps.specs.declared.shown.Shown.{Shown}

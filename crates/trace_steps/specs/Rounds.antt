@@ -13,7 +13,7 @@ use Rattle.page_cells.specs.Objects.{HasHeader}
 use Rattle.comp_history.specs.Merged.{written_by}
 use Rattle.comp_mutator.specs.Mutators.{pass_of}
 use Rattle.comp_mutator.specs.declared.mutator.Mutator.{Mutator}
-use Rattle.comp_access.specs.declared.refusal.Refusal.{Refusal}
+use Rattle.call_refusals.specs.declared.refusal.Refusal.{Refusal}
 use Rattle.trace_steps.specs.Acting.{Refuses}
 use Rattle.trace_steps.specs.Deeds.{deeds_of, AreMerged, Deeds, HaveAll, KnowsMade, KnowTheirs}
 use Rattle.trace_steps.specs.Lines.{with_entries, Acts}

@@ -7,7 +7,7 @@ ghost use Rattle.trace_steps.specs.Acting.{registers_after, Fits, Refuses, Steps
 ghost use Rattle.trace_steps.specs.Builds.{touched, BuildsTouched};
 
 use crate::registers::{held, root_at};
-use comp_access::refusal::Refusal;
+use call_refusals::refusal::Refusal;
 use comp_mutator::mutator::Mutator;
 use comp_mutator::space::Space;
 use page_plan::builder::Builder;

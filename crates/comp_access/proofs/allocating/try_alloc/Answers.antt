@@ -11,7 +11,7 @@ use Rattle.page_cells.proofs.Growing.{grows_then}
 use Rattle.comp_access.specs.Allocations.{own_page, used, AreZero, Counts, IsLowest}
 use Rattle.comp_access.specs.Reads.{MayBuild}
 use Rattle.comp_access.specs.Copies.{PageTakesNone}
-use Rattle.comp_access.specs.declared.refusal.Refusal.TheVariants.{Busy}
+use Rattle.call_refusals.specs.declared.refusal.Refusal.TheVariants.{Busy}
 use Rattle.comp_access.proofs.Answering.{err_anyway, ok_apart, same_refusal}
 use Rattle.comp_access.proofs.Building.{builds_before}
 use Rattle.comp_access.proofs.OwnPages.{counts_more, lowest_own, made_own, next_own, counts_kept}

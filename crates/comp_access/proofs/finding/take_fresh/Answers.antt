@@ -3,7 +3,7 @@ use Rattle.std.proofs.lemmas.Result.{IfOk-from_err}
 use Rattle.cell_steps.specs.Passes.{HasSeenBuilt, KnowsFresh}
 use Rattle.page_cells.specs.Cells.{setup_of}
 use Rattle.page_cells.specs.Objects.{offset_at}
-use Rattle.comp_access.specs.declared.refusal.Refusal.TheVariants.{Busy}
+use Rattle.call_refusals.specs.declared.refusal.Refusal.TheVariants.{Busy}
 use Rattle.comp_access.proofs.Answering.{err_anyway, same_refusal}
 use Rattle.comp_access.proofs.FieldPlaces.{holds_fresh}
 use Rattle.comp_access.proofs.Growing.{fresh_more, shape_more, still_then}

@@ -12,7 +12,7 @@ use Rattle.comp_access.specs.Copies.{AreWordsOf}
 use Rattle.cell_steps.specs.declared.pass.Pass.{Pass}
 use Rattle.cell_steps.specs.Passes.{did, seen, KnowsFresh, MayRefer, builds_of}
 use Rattle.page_cells.specs.Calls.{Grows}
-use Rattle.comp_access.specs.declared.refusal.Refusal.TheVariants.{Busy}
+use Rattle.call_refusals.specs.declared.refusal.Refusal.TheVariants.{Busy}
 use Rattle.comp_access.proofs.Refusing.{copy_refused}
 use Rattle.comp_access.proofs.Building.{builds_before}
 use Rattle.comp_access.proofs.Answering.{err_anyway, memory_apart, ok_apart, same_refusal}

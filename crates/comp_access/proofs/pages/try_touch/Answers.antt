@@ -1,6 +1,6 @@
 use Rattle.std.proofs.Common.{◌≡◌, ⊎_elim, Ok, Err, false, refl, sym, arith}
 use Rattle.comp_access.specs.Reads.{KnowsBuilt}
-use Rattle.comp_access.specs.declared.refusal.Refusal.TheVariants.{Busy}
+use Rattle.call_refusals.specs.declared.refusal.Refusal.TheVariants.{Busy}
 use Rattle.comp_access.proofs.Answering.{ok_apart}
 use Rattle.comp_access.proofs.PageAnswers.{busy_told, not_built, of_page, page_refused_as}
 use Rattle.comp_access.proofs.pages.try_touch.Goals as goal

@@ -5,7 +5,7 @@ use Rattle.cell_steps.specs.declared.pass.Pass.{Pass}
 use Rattle.cell_steps.specs.Passes.{builds_of, did, MayRefer}
 use Rattle.page_cells.specs.Cells.{setup_of}
 use Rattle.page_cells.specs.Calls.{Grows}
-use Rattle.comp_access.specs.declared.refusal.Refusal.TheVariants.{Busy}
+use Rattle.call_refusals.specs.declared.refusal.Refusal.TheVariants.{Busy}
 use Rattle.comp_access.proofs.Answering.{err_anyway, ok_apart, same_refusal}
 use Rattle.comp_access.proofs.Building.{only_before}
 use Rattle.comp_access.proofs.Growing.{refers_more, still_then}
