@@ -4,12 +4,13 @@ use mathlib.Core.Option.{some}
 use lib.ListN.{get_elem?}
 use Rattle.cell_steps.proofs.Sums.{is_inside, read_at}
 use Rattle.page_cells.proofs.Rows.{at_map, at_map_back}
-use Rattle.std.specs.Prelude.{Option, OnOk}
-use Rattle.heap_layout.specs.declared.kind.Kind.TheVariants.{Reference}
+use Rattle.std.specs.Prelude.{Option, OnErr, OnOk}
+use Rattle.heap_layout.specs.declared.kind.Kind.TheVariants.{Data, Reference}
 use Rattle.cell_steps.specs.Setup.{Setup}
-use Rattle.cell_steps.specs.Passes.{MayRefer}
+use Rattle.cell_steps.specs.Passes.{did, seen, MayRefer}
 use Rattle.cell_steps.specs.declared.pass.Pass.{Pass}
 use Rattle.page_cells.specs.Calls.{Grows}
+use Rattle.comp_access.specs.Reads.{Reads}
 use Rattle.comp_access.specs.Writes.{Writes}
 use Rattle.call_refusals.specs.declared.refusal.Refusal.{Refusal}
 use Rattle.trace_steps.specs.Acting.{shown_at, Steps}
@@ -25,6 +26,27 @@ stored u object field value registers old new o v (Ok a) eo ev grows wrote targe
   answers = (subst (λ x. Writes u old new Reference x field (get_or registers value 0) a) eo (subst (λ x. Writes u old new Reference o field x a) ev wrote), subst (MayRefer new) ev target);
 }
 stored u object field value registers old new o v (Err e) eo ev grows wrote target = tt
+
+-- a data field was read
+pub got : (u : Setup) (object field : ℕ) (registers : List ℕ) (old new : Pass) (o : ℕ) (r : Result ℕ Refusal) → o ≡ get_or registers object 0
+    → Grows old new × (did new ≡ did old) → IfOk r (Reads u (seen new) Data o field) → IfOk r (Steps u (Get object field) registers old new)
+got u object field registers old new o (Ok a) e grows read = record { grows = grows.0; answers = (grows.1, subst (λ x. Reads u (seen new) Data x field a) e read) }
+got u object field registers old new o (Err e) same grows read = tt
+
+-- a value was put
+pub put : (u : Setup) (object field value : ℕ) (registers : List ℕ) (old new : Pass) (o : ℕ) (r : Result ℕ Refusal) → o ≡ get_or registers object 0
+    → Grows old new → IfOk r (Writes u old new Data o field value) → IfOk r (Steps u (Put object field value) registers old new)
+put u object field value registers old new o (Ok a) e grows wrote = record { grows = grows; answers = subst (λ x. Writes u old new Data x field value a) e wrote }
+put u object field value registers old new o (Err e) same grows wrote = tt
+
+-- what holds of each answer, and of a refused call
+pub answered : (r : Result ℕ Refusal) (P : ℕ → Type 0) → ((answer : ℕ) → P answer) → IfOk r P
+answered (Ok answer) P h = h answer
+answered (Err refusal) P h = tt
+
+pub refused : (r : Result ℕ Refusal) (P : Type 0) → P → OnErr r P
+refused (Ok answer) P h = tt
+refused (Err refusal) P h = h
 
 -- a line shows one value at most
 pub shows_one : (number : ℕ) (action : Action) (answer : ℕ) → length (shown_at number action answer) ≤ 1
