@@ -1,15 +1,20 @@
 -- A line: what it stores, what it shows, and where its root leads.
-use Rattle.std.proofs.Common.{◌≡◌, ℕ, ◌<◌, ◌≤◌, List, length, map, get_or, IfOk, Result, Ok, Err, Some, sym, ap, ◌∙◌, arith, subst}
+use Rattle.std.proofs.Common.{◌≡◌, ℕ, ◌<◌, ◌≤◌, List, length, map, get_or, IfOk, Result, Ok, Err, Some, refl, sym, ap, ◌∙◌, arith, subst}
 use mathlib.Core.Option.{some}
 use lib.ListN.{get_elem?}
 use Rattle.cell_steps.proofs.Sums.{is_inside, read_at}
 use Rattle.page_cells.proofs.Rows.{at_map, at_map_back}
 use Rattle.std.specs.Prelude.{Option, OnErr, OnOk}
+use Rattle.heap_layout.specs.Heap.{live}
+use Rattle.heap_layout.specs.Header.{header_word}
+use Rattle.page_plan.specs.Sliding.{forward}
 use Rattle.heap_layout.specs.declared.kind.Kind.TheVariants.{Data, Reference}
 use Rattle.cell_steps.specs.Setup.{Setup}
 use Rattle.cell_steps.specs.Passes.{did, seen, MayRefer}
 use Rattle.cell_steps.specs.declared.pass.Pass.{Pass}
 use Rattle.page_cells.specs.Calls.{Grows}
+use Rattle.page_cells.proofs.Growing.{grows_none}
+use Rattle.comp_access.specs.Allocations.{Allocates}
 use Rattle.comp_access.specs.Reads.{Reads}
 use Rattle.comp_access.specs.Writes.{Writes}
 use Rattle.call_refusals.specs.declared.refusal.Refusal.{Refusal}
@@ -39,14 +44,36 @@ pub put : (u : Setup) (object field value : ℕ) (registers : List ℕ) (old new
 put u object field value registers old new o (Ok a) e grows wrote = record { grows = grows; answers = subst (λ x. Writes u old new Data x field value a) e wrote }
 put u object field value registers old new o (Err e) same grows wrote = tt
 
--- what holds of each answer, and of a refused call
-pub answered : (r : Result ℕ Refusal) (P : ℕ → Type 0) → ((answer : ℕ) → P answer) → IfOk r P
-answered (Ok answer) P h = h answer
-answered (Err refusal) P h = tt
+-- a root was taken
+pub rooted : (u : Setup) (to root : ℕ) (registers : List ℕ) (pass : Pass) (place : ℕ) → forward (live u.heap) (get_or u.heap.roots root 0) ≡ Some place
+    → Steps u (Root to root) registers pass pass place
+rooted u to root registers pass place leads = record { grows = grows_none pass; answers = (refl, leads) }
 
-pub refused : (r : Result ℕ Refusal) (P : Type 0) → P → OnErr r P
-refused (Ok answer) P h = tt
-refused (Err refusal) P h = h
+-- a register became null
+pub nulled : (u : Setup) (to : ℕ) (registers : List ℕ) (pass : Pass) → Steps u (Nil to) registers pass pass 0
+nulled u to registers pass = record { grows = grows_none pass; answers = (refl, refl) }
+
+-- a reference was loaded
+pub loaded : (u : Setup) (to object field : ℕ) (registers : List ℕ) (old new : Pass) (o word : ℕ) → o ≡ get_or registers object 0 → Grows old new × (did new ≡ did old)
+    → Reads u (seen new) Reference o field word → MayRefer new word → Steps u (Load to object field) registers old new word
+loaded u to object field registers old new o word e grows read known = record {
+  grows = grows.0;
+  answers = (grows.1, subst (λ x. Reads u (seen new) Reference x field word) e read, known);
+}
+
+-- an object was made
+pub made : (u : Setup) (to refs data_words tag : ℕ) (registers : List ℕ) (old new : Pass) (place : ℕ) → Grows old new → Allocates u old new (header_word refs data_words tag) place
+    → Steps u (New to refs data_words tag) registers old new place
+made u to refs data_words tag registers old new place grows allocated = record { grows = grows; answers = allocated }
+
+-- what holds of each answer, and of a refused call
+pub if_answered : (r : Result ℕ Refusal) (P : ℕ → Type 0) → ((answer : ℕ) → P answer) → IfOk r P
+if_answered (Ok answer) P h = h answer
+if_answered (Err refusal) P h = tt
+
+pub if_refused : (r : Result ℕ Refusal) (P : Type 0) → P → OnErr r P
+if_refused (Ok answer) P h = tt
+if_refused (Err refusal) P h = h
 
 -- a line shows one value at most
 pub shows_one : (number : ℕ) (action : Action) (answer : ℕ) → length (shown_at number action answer) ≤ 1
