@@ -32,17 +32,29 @@ stored u object field value registers old new o v (Ok a) eo ev grows wrote targe
 }
 stored u object field value registers old new o v (Err e) eo ev grows wrote target = tt
 
--- a data field was read
-pub got : (u : Setup) (object field : ℕ) (registers : List ℕ) (old new : Pass) (o : ℕ) (r : Result ℕ Refusal) → o ≡ get_or registers object 0
-    → Grows old new × (did new ≡ did old) → IfOk r (Reads u (seen new) Data o field) → IfOk r (Steps u (Get object field) registers old new)
+-- a data word was read
+pub got : (u : Setup) (object field : ℕ) (registers : List ℕ) (old new : Pass) (o : ℕ) (r : Result ℕ Refusal) → o ≡ get_or registers object 0 → Grows old new × (did new ≡ did old)
+    → IfOk r (Reads u (seen new) Data o field) → IfOk r (Steps u (Get object field) registers old new)
 got u object field registers old new o (Ok a) e grows read = record { grows = grows.0; answers = (grows.1, subst (λ x. Reads u (seen new) Data x field a) e read) }
-got u object field registers old new o (Err e) same grows read = tt
+got u object field registers old new o (Err refusal) e grows read = tt
 
--- a value was put
-pub put : (u : Setup) (object field value : ℕ) (registers : List ℕ) (old new : Pass) (o : ℕ) (r : Result ℕ Refusal) → o ≡ get_or registers object 0
-    → Grows old new → IfOk r (Writes u old new Data o field value) → IfOk r (Steps u (Put object field value) registers old new)
+-- a data word was written
+pub put : (u : Setup) (object field value : ℕ) (registers : List ℕ) (old new : Pass) (o : ℕ) (r : Result ℕ Refusal) → o ≡ get_or registers object 0 → Grows old new
+    → IfOk r (Writes u old new Data o field value) → IfOk r (Steps u (Put object field value) registers old new)
 put u object field value registers old new o (Ok a) e grows wrote = record { grows = grows; answers = subst (λ x. Writes u old new Data x field value a) e wrote }
-put u object field value registers old new o (Err e) same grows wrote = tt
+put u object field value registers old new o (Err refusal) e grows wrote = tt
+
+-- a reference was read
+pub loaded : (u : Setup) (to object field : ℕ) (registers : List ℕ) (old new : Pass) (o : ℕ) (r : Result ℕ Refusal) → o ≡ get_or registers object 0 → Grows old new × (did new ≡ did old)
+    → IfOk r (Reads u (seen new) Reference o field) → IfOk r (MayRefer new) → IfOk r (Steps u (Load to object field) registers old new)
+loaded u to object field registers old new o (Ok a) e grows read known = record { grows = grows.0; answers = (grows.1, subst (λ x. Reads u (seen new) Reference x field a) e read, known) }
+loaded u to object field registers old new o (Err refusal) e grows read known = tt
+
+-- an object was made
+pub made : (u : Setup) (to refs data_words tag : ℕ) (registers : List ℕ) (old new : Pass) (r : Result ℕ Refusal) → Grows old new
+    → IfOk r (Allocates u old new (header_word refs data_words tag)) → IfOk r (Steps u (New to refs data_words tag) registers old new)
+made u to refs data_words tag registers old new (Ok a) grows allocated = record { grows = grows; answers = allocated }
+made u to refs data_words tag registers old new (Err refusal) grows allocated = tt
 
 -- a root was taken
 pub rooted : (u : Setup) (to root : ℕ) (registers : List ℕ) (pass : Pass) (place : ℕ) → forward (live u.heap) (get_or u.heap.roots root 0) ≡ Some place
@@ -53,27 +65,15 @@ rooted u to root registers pass place leads = record { grows = grows_none pass; 
 pub nulled : (u : Setup) (to : ℕ) (registers : List ℕ) (pass : Pass) → Steps u (Nil to) registers pass pass 0
 nulled u to registers pass = record { grows = grows_none pass; answers = (refl, refl) }
 
--- a reference was loaded
-pub loaded : (u : Setup) (to object field : ℕ) (registers : List ℕ) (old new : Pass) (o word : ℕ) → o ≡ get_or registers object 0 → Grows old new × (did new ≡ did old)
-    → Reads u (seen new) Reference o field word → MayRefer new word → Steps u (Load to object field) registers old new word
-loaded u to object field registers old new o word e grows read known = record {
-  grows = grows.0;
-  answers = (grows.1, subst (λ x. Reads u (seen new) Reference x field word) e read, known);
-}
+-- what holds of each answer
+pub on_ok : (r : Result ℕ Refusal) (P : ℕ → Type 0) → ((answer : ℕ) → P answer) → IfOk r P
+on_ok (Ok answer) P h = h answer
+on_ok (Err refusal) P h = tt
 
--- an object was made
-pub made : (u : Setup) (to refs data_words tag : ℕ) (registers : List ℕ) (old new : Pass) (place : ℕ) → Grows old new → Allocates u old new (header_word refs data_words tag) place
-    → Steps u (New to refs data_words tag) registers old new place
-made u to refs data_words tag registers old new place grows allocated = record { grows = grows; answers = allocated }
-
--- what holds of each answer, and of a refused call
-pub if_answered : (r : Result ℕ Refusal) (P : ℕ → Type 0) → ((answer : ℕ) → P answer) → IfOk r P
-if_answered (Ok answer) P h = h answer
-if_answered (Err refusal) P h = tt
-
-pub if_refused : (r : Result ℕ Refusal) (P : Type 0) → P → OnErr r P
-if_refused (Ok answer) P h = tt
-if_refused (Err refusal) P h = h
+-- what holds anyway holds where a call is refused
+pub on_err : (r : Result ℕ Refusal) (P : Type 0) → P → OnErr r P
+on_err (Ok a) P h = tt
+on_err (Err refusal) P h = h
 
 -- a line shows one value at most
 pub shows_one : (number : ℕ) (action : Action) (answer : ℕ) → length (shown_at number action answer) ≤ 1

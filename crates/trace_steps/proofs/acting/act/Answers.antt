@@ -1,16 +1,18 @@
-use Rattle.std.proofs.Common.{◌≡◌, ◌∙◌, IfErr, IfOk, ℕ, ap, get_or, refl, set, sym, subst}
+use Rattle.std.proofs.Common.{◌≡◌, ◌<◌, ◌∙◌, Ok, IfErr, IfOk, ℕ, ap, get_or, refl, set, sym, subst}
 use Rattle.std.proofs.lemmas.Result.{IfOk-from_err, on_err_weaker}
 use Rattle.heap_layout.specs.Header.{header_word}
 use Rattle.heap_layout.specs.declared.kind.Kind.TheVariants.{Reference, Data}
+use Rattle.cell_steps.specs.Passes.{did}
+use Rattle.page_cells.specs.Calls.{Grows}
 use Rattle.comp_access.specs.Reads.{FieldRefused}
 use Rattle.comp_access.specs.Writes.{DataRefused, ReferenceRefused}
 use Rattle.comp_access.proofs.Answering.{err_anyway}
-use Rattle.trace_steps.specs.Acting.{registers_after, Refuses, Steps}
+use Rattle.trace_steps.specs.Acting.{registers_after, Fits, Refuses, Steps}
 use Rattle.trace_steps.specs.Builds.{slid_page, touched, BuildsTouched}
 use Rattle.trace_text.specs.declared.line.Action.{Action}
 use Rattle.comp_mutator.specs.Mutators.{pass_of, setup_of}
 use Rattle.trace_steps.proofs.Building.{call_touched, field_touched, made_touched}
-use Rattle.trace_steps.proofs.OneLine.{got, if_answered, if_refused, loaded, made, nulled, put, rooted, stored}
+use Rattle.trace_steps.proofs.OneLine.{got, loaded, made, nulled, on_err, on_ok, put, rooted, stored}
 use Rattle.trace_steps.proofs.acting.act.Goals as goal
 
 pub returns-in_default-clause-refused : goal.returns-in_default-clause-refused
@@ -65,7 +67,7 @@ returns-in-Ok g c =
     let is = sym c.in-Load.is in
     record {
       of = told.of;
-      went = subst (λ (a : Action). Steps u a registers old new word) is (loaded u c.in-Load.to c.in-Load.object c.in-Load.field registers old new c.held.result word c.held.ensures told.grows c.in-Ok.ensures.read c.in-Ok.ensures.known);
+      went = subst (λ (a : Action). Steps u a registers old new word) is (loaded u c.in-Load.to c.in-Load.object c.in-Load.field registers old new c.held.result (Ok word) c.held.ensures told.grows c.in-Ok.ensures.read c.in-Ok.ensures.known);
       builds = subst (λ (a : Action). BuildsTouched (touched u a registers word) old new) is
           (subst (λ (o : ℕ). BuildsTouched (slid_page u Reference o c.in-Load.field) old new) c.held.ensures (field_touched u old new Reference c.held.result c.in-Load.field c.in-Ok.ensures.builds));
       registers = ap (λ to. set registers to word) c.from-in-Ok.ensures ∙ ap (λ (a : Action). registers_after a registers word) is;
@@ -86,7 +88,7 @@ returns-in_ok-place-in-New g c =
     let is = sym c.in-New.is in
     record {
       of = c.try_alloc.ensures.of;
-      went = subst (λ (a : Action). Steps u a registers old new place) is (made u c.in-New.to c.in-New.refs c.in-New.data_words c.in-New.tag registers old new place c.try_alloc.ensures.grows allocated);
+      went = subst (λ (a : Action). Steps u a registers old new place) is (made u c.in-New.to c.in-New.refs c.in-New.data_words c.in-New.tag registers old new (Ok place) c.try_alloc.ensures.grows allocated);
       builds = subst (λ (a : Action). BuildsTouched (touched u a registers place) old new) is (made_touched u old new header place allocated);
       registers = ap (λ to. set registers to place) c.from-in-New.ensures ∙ ap (λ (a : Action). registers_after a registers place) is;
       grows = tt;
@@ -110,9 +112,9 @@ returns-in-Get g c =
       went = subst (λ (a : Action). IfOk r (Steps u a registers old new)) is (got u c.in-Get.object field registers old new object.result r object.ensures told.grows told.read);
       builds = subst (λ (a : Action). IfOk r (λ answer. BuildsTouched (touched u a registers answer) old new)) is
           (subst (λ (o : ℕ). IfOk r (λ answer. BuildsTouched (slid_page u Data o field) old new)) object.ensures (call_touched u old new Data object.result field r told.builds));
-      registers = if_answered r (λ answer. registers ≡ registers_after c.args.action registers answer) (λ answer. ap (λ (a : Action). registers_after a registers answer) is);
-      grows = if_refused r _ told.grows.0;
-      did = if_refused r _ (told.grows.1, refl);
+      registers = on_ok r (λ answer. registers ≡ registers_after c.args.action registers answer) (λ answer. ap (λ (a : Action). registers_after a registers answer) is);
+      grows = on_err r (Grows old new) told.grows.0;
+      did = on_err r ((did new ≡ did old) × (registers ≡ registers)) (told.grows.1, refl);
       refused = subst (λ (a : Action). IfErr r (Refuses u a registers old new)) is
           (subst (λ (o : ℕ). IfErr r (FieldRefused u old new Data o field)) object.ensures told.refused);
     }
@@ -133,8 +135,8 @@ returns-in-Store g c =
       went = subst (λ (a : Action). IfOk r (Steps u a registers old new)) is (stored u c.in-Store.object field c.in-Store.value registers old new object.result c.held-value.result r object.ensures c.held-value.ensures told.grows told.wrote told.target);
       builds = subst (λ (a : Action). IfOk r (λ answer. BuildsTouched (touched u a registers answer) old new)) is
           (subst (λ (o : ℕ). IfOk r (λ answer. BuildsTouched (slid_page u Reference o field) old new)) object.ensures (call_touched u old new Reference object.result field r told.builds));
-      registers = if_answered r (λ answer. registers ≡ registers_after c.args.action registers answer) (λ answer. ap (λ (a : Action). registers_after a registers answer) is);
-      grows = if_refused r _ told.grows;
+      registers = on_ok r (λ answer. registers ≡ registers_after c.args.action registers answer) (λ answer. ap (λ (a : Action). registers_after a registers answer) is);
+      grows = on_err r (Grows old new) told.grows;
       did = on_err_weaker r (λ same. (same, refl)) told.did;
       refused = subst (λ (a : Action). IfErr r (Refuses u a registers old new)) is
           (subst (λ (o : ℕ). IfErr r (ReferenceRefused u old new Reference o field (get_or registers c.in-Store.value 0))) object.ensures
@@ -157,8 +159,8 @@ returns-in-Put g c =
       went = subst (λ (a : Action). IfOk r (Steps u a registers old new)) is (put u c.in-Put.object field c.in-Put.value registers old new object.result r object.ensures told.grows told.wrote);
       builds = subst (λ (a : Action). IfOk r (λ answer. BuildsTouched (touched u a registers answer) old new)) is
           (subst (λ (o : ℕ). IfOk r (λ answer. BuildsTouched (slid_page u Data o field) old new)) object.ensures (call_touched u old new Data object.result field r told.builds));
-      registers = if_answered r (λ answer. registers ≡ registers_after c.args.action registers answer) (λ answer. ap (λ (a : Action). registers_after a registers answer) is);
-      grows = if_refused r _ told.grows;
+      registers = on_ok r (λ answer. registers ≡ registers_after c.args.action registers answer) (λ answer. ap (λ (a : Action). registers_after a registers answer) is);
+      grows = on_err r (Grows old new) told.grows;
       did = on_err_weaker r (λ same. (same, refl)) told.did;
       refused = subst (λ (a : Action). IfErr r (Refuses u a registers old new)) is
           (subst (λ (o : ℕ). IfErr r (DataRefused u old new Data o field)) object.ensures told.refused);
@@ -179,7 +181,52 @@ returns-in_err-place-in-New g c =
       went = IfOk-from_err back _ none;
       builds = IfOk-from_err back _ none;
       registers = IfOk-from_err back _ none;
-      grows = if_refused back _ c.try_alloc.ensures.grows;
-      did = if_refused back _ (why.did.0, refl);
+      grows = on_err back (Grows old new) c.try_alloc.ensures.grows;
+      did = on_err back ((did new ≡ did old) × (registers ≡ registers)) (why.did.0, refl);
       refused = subst (λ (a : Action). IfErr back (Refuses u a registers old new)) (sym c.in-New.is) (err_anyway back _ c.in_err-place-in-New.field-0.0 same why.refused);
     }
+
+pub held-requires : goal.held-requires
+held-requires g c = (subst (Fits (setup_of c.args.space.now)) c.in-Load.is c.requires.fits).1
+
+pub held-requires-in-Get : goal.held-requires-in-Get
+held-requires-in-Get g c = subst (Fits (setup_of c.args.space.now)) c.in-Get.is c.requires.fits
+
+pub held-value-requires : goal.held-value-requires
+held-value-requires g c = (subst (Fits (setup_of c.args.space.now)) c.in-Store.is c.requires.fits).1
+
+pub held-requires-in-Store : goal.held-requires-in-Store
+held-requires-in-Store g c = (subst (Fits (setup_of c.args.space.now)) c.in-Store.is c.requires.fits).0
+
+pub held-requires-in-Put : goal.held-requires-in-Put
+held-requires-in-Put g c = subst (Fits (setup_of c.args.space.now)) c.in-Put.is c.requires.fits
+
+pub root_at-place-requires-after_bounds : goal.root_at-place-requires-after_bounds
+root_at-place-requires-after_bounds g c κs within = (subst (Fits (setup_of c.args.space.now)) c.in-Root.is c.requires.fits).1
+
+pub bounds-registers-from : goal.bounds-registers-from
+bounds-registers-from g c = subst (λ n. n < 16) (sym c.from.ensures) (subst (Fits (setup_of c.args.space.now)) c.in-Root.is c.requires.fits).0
+
+pub bounds-registers-from-in-Ok : goal.bounds-registers-from-in-Ok
+bounds-registers-from-in-Ok g c = subst (λ n. n < 16) (sym c.from-in-Ok.ensures) (subst (Fits (setup_of c.args.space.now)) c.in-Load.is c.requires.fits).0
+
+pub bounds-registers-from-in-New : goal.bounds-registers-from-in-New
+bounds-registers-from-in-New g c = subst (λ n. n < 16) (sym c.from-in-New.ensures) (subst (Fits (setup_of c.args.space.now)) c.in-New.is c.requires.fits)
+
+pub bounds-registers-from-in-Nil : goal.bounds-registers-from-in-Nil
+bounds-registers-from-in-Nil g c = subst (λ n. n < 16) (sym c.from-in-Nil.ensures) (subst (Fits (setup_of c.args.space.now)) c.in-Nil.is c.requires.fits)
+
+pub try_read_ref-answer-requires-after_bounds : goal.try_read_ref-answer-requires-after_bounds
+try_read_ref-answer-requires-after_bounds g c κs within = c.requires.of
+
+pub try_read_data-requires-after_bounds : goal.try_read_data-requires-after_bounds
+try_read_data-requires-after_bounds g c κs within = c.requires.of
+
+pub try_write_ref-requires-after_bounds : goal.try_write_ref-requires-after_bounds
+try_write_ref-requires-after_bounds g c κs within = c.requires.of
+
+pub try_write_data-requires-after_bounds : goal.try_write_data-requires-after_bounds
+try_write_data-requires-after_bounds g c κs within = c.requires.of
+
+pub try_alloc-requires-after_bounds : goal.try_alloc-requires-after_bounds
+try_alloc-requires-after_bounds g c κs within = c.requires.of
