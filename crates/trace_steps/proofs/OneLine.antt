@@ -1,15 +1,21 @@
 -- A line: what it stores, what it shows, and where its root leads.
-use Rattle.std.proofs.Common.{◌≡◌, ℕ, ◌<◌, ◌≤◌, List, length, map, get_or, IfOk, Result, Ok, Err, Some, sym, ap, ◌∙◌, arith, subst}
+use Rattle.std.proofs.Common.{◌≡◌, ℕ, ◌<◌, ◌≤◌, List, length, map, get_or, IfOk, Result, Ok, Err, Some, refl, sym, ap, ◌∙◌, arith, subst}
 use mathlib.Core.Option.{some}
 use lib.ListN.{get_elem?}
 use Rattle.cell_steps.proofs.Sums.{is_inside, read_at}
 use Rattle.page_cells.proofs.Rows.{at_map, at_map_back}
-use Rattle.std.specs.Prelude.{Option, OnOk}
-use Rattle.heap_layout.specs.declared.kind.Kind.TheVariants.{Reference}
+use Rattle.std.specs.Prelude.{Option, OnErr, OnOk}
+use Rattle.heap_layout.specs.Heap.{live}
+use Rattle.heap_layout.specs.Header.{header_word}
+use Rattle.page_plan.specs.Sliding.{forward}
+use Rattle.heap_layout.specs.declared.kind.Kind.TheVariants.{Data, Reference}
 use Rattle.cell_steps.specs.Setup.{Setup}
-use Rattle.cell_steps.specs.Passes.{MayRefer}
+use Rattle.cell_steps.specs.Passes.{did, seen, MayRefer}
 use Rattle.cell_steps.specs.declared.pass.Pass.{Pass}
 use Rattle.page_cells.specs.Calls.{Grows}
+use Rattle.page_cells.proofs.Growing.{grows_none}
+use Rattle.comp_access.specs.Allocations.{Allocates}
+use Rattle.comp_access.specs.Reads.{Reads}
 use Rattle.comp_access.specs.Writes.{Writes}
 use Rattle.call_refusals.specs.declared.refusal.Refusal.{Refusal}
 use Rattle.trace_steps.specs.Acting.{shown_at, Steps}
@@ -25,6 +31,49 @@ stored u object field value registers old new o v (Ok a) eo ev grows wrote targe
   answers = (subst (λ x. Writes u old new Reference x field (get_or registers value 0) a) eo (subst (λ x. Writes u old new Reference o field x a) ev wrote), subst (MayRefer new) ev target);
 }
 stored u object field value registers old new o v (Err e) eo ev grows wrote target = tt
+
+-- a data word was read
+pub got : (u : Setup) (object field : ℕ) (registers : List ℕ) (old new : Pass) (o : ℕ) (r : Result ℕ Refusal) → o ≡ get_or registers object 0 → Grows old new × (did new ≡ did old)
+    → IfOk r (Reads u (seen new) Data o field) → IfOk r (Steps u (Get object field) registers old new)
+got u object field registers old new o (Ok a) e grows read = record { grows = grows.0; answers = (grows.1, subst (λ x. Reads u (seen new) Data x field a) e read) }
+got u object field registers old new o (Err refusal) e grows read = tt
+
+-- a data word was written
+pub put : (u : Setup) (object field value : ℕ) (registers : List ℕ) (old new : Pass) (o : ℕ) (r : Result ℕ Refusal) → o ≡ get_or registers object 0 → Grows old new
+    → IfOk r (Writes u old new Data o field value) → IfOk r (Steps u (Put object field value) registers old new)
+put u object field value registers old new o (Ok a) e grows wrote = record { grows = grows; answers = subst (λ x. Writes u old new Data x field value a) e wrote }
+put u object field value registers old new o (Err refusal) e grows wrote = tt
+
+-- a reference was read
+pub loaded : (u : Setup) (to object field : ℕ) (registers : List ℕ) (old new : Pass) (o : ℕ) (r : Result ℕ Refusal) → o ≡ get_or registers object 0 → Grows old new × (did new ≡ did old)
+    → IfOk r (Reads u (seen new) Reference o field) → IfOk r (MayRefer new) → IfOk r (Steps u (Load to object field) registers old new)
+loaded u to object field registers old new o (Ok a) e grows read known = record { grows = grows.0; answers = (grows.1, subst (λ x. Reads u (seen new) Reference x field a) e read, known) }
+loaded u to object field registers old new o (Err refusal) e grows read known = tt
+
+-- an object was made
+pub made : (u : Setup) (to refs data_words tag : ℕ) (registers : List ℕ) (old new : Pass) (r : Result ℕ Refusal) → Grows old new
+    → IfOk r (Allocates u old new (header_word refs data_words tag)) → IfOk r (Steps u (New to refs data_words tag) registers old new)
+made u to refs data_words tag registers old new (Ok a) grows allocated = record { grows = grows; answers = allocated }
+made u to refs data_words tag registers old new (Err refusal) grows allocated = tt
+
+-- a root was taken
+pub rooted : (u : Setup) (to root : ℕ) (registers : List ℕ) (pass : Pass) (place : ℕ) → forward (live u.heap) (get_or u.heap.roots root 0) ≡ Some place
+    → Steps u (Root to root) registers pass pass place
+rooted u to root registers pass place leads = record { grows = grows_none pass; answers = (refl, leads) }
+
+-- a register became null
+pub nulled : (u : Setup) (to : ℕ) (registers : List ℕ) (pass : Pass) → Steps u (Nil to) registers pass pass 0
+nulled u to registers pass = record { grows = grows_none pass; answers = (refl, refl) }
+
+-- what holds of each answer
+pub on_ok : (r : Result ℕ Refusal) (P : ℕ → Type 0) → ((answer : ℕ) → P answer) → IfOk r P
+on_ok (Ok answer) P h = h answer
+on_ok (Err refusal) P h = tt
+
+-- what holds anyway holds where a call is refused
+pub on_err : (r : Result ℕ Refusal) (P : Type 0) → P → OnErr r P
+on_err (Ok a) P h = tt
+on_err (Err refusal) P h = h
 
 -- a line shows one value at most
 pub shows_one : (number : ℕ) (action : Action) (answer : ℕ) → length (shown_at number action answer) ≤ 1

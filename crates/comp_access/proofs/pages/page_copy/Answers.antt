@@ -7,7 +7,7 @@ use Rattle.comp_journal.specs.Journal.{Journaled, replayed}
 use Rattle.comp_journal.specs.declared.entry.Entry.{Entry}
 use Rattle.cell_steps.specs.Setup.{base_of}
 use Rattle.cell_steps.specs.Lawful.{IsField}
-use Rattle.page_cells.specs.Cells.{journal_of, setup_of, KnowsObjects}
+use Rattle.page_cells.specs.Cells.{journal_of, setup_of, Has, IsPassOf, KnowsObjects}
 use Rattle.comp_access.specs.Copies.{AreWordsOf}
 use Rattle.cell_steps.specs.declared.pass.Pass.{Pass}
 use Rattle.cell_steps.specs.Passes.{did, seen, KnowsFresh, MayRefer, builds_of}
@@ -84,3 +84,12 @@ returns-in-Err g c =
       builds = builds_before c.args.pass.now c.take.new.pass c.put_back.new.pass c.args.p c.take.ensures.builds grows (back.builds ∙ ap builds_of same);
       refused = tt;
     }
+
+pub copy_taken-copied-requires-after_bounds : goal.copy_taken-copied-requires-after_bounds
+copy_taken-copied-requires-after_bounds g c κs within = c.in_ok-taken.ensures.taken.1
+
+pub put_back-requires-clause-of : goal.put_back-requires-clause-of
+put_back-requires-clause-of g c κs within = subst (λ (m : Pass). IsPassOf c.args.cells.now m) (sym c.copy_taken-copied.ensures.same) c.take.ensures.of
+
+pub put_back-requires-clause-has : goal.put_back-requires-clause-has
+put_back-requires-clause-has g c κs within = subst (λ (m : Pass). Has c.args.cells.now m c.in_ok-taken.taken) (sym c.copy_taken-copied.ensures.same) c.in_ok-taken.ensures.taken.1

@@ -1,4 +1,6 @@
-use Rattle.std.proofs.Common.{◌≡◌, ⊎_elim, Ok, Err, false, refl, sym, arith}
+use Rattle.std.proofs.Common.{◌≡◌, ◌∙◌, ⊎_elim, Ok, Err, false, refl, sym, ap, arith}
+use Rattle.cell_steps.specs.Passes.{builds_of}
+use Rattle.page_cells.specs.Calls.{builds_with}
 use Rattle.comp_access.specs.Reads.{KnowsBuilt}
 use Rattle.call_refusals.specs.declared.refusal.Refusal.TheVariants.{Busy}
 use Rattle.comp_access.proofs.Answering.{ok_apart}
@@ -10,10 +12,34 @@ page_refusal-requires g c =
     let why = c.in-Err.ensures in
     of_page c.in-Err.refusal (λ none. let past = why.page.0 none in omega (arith, past, c.requires.inside)) why.named
 
-pub returns-in-Ok-true-clause-known : goal.returns-in-Ok-true-clause-known
-returns-in-Ok-true-clause-known g c = λ known.
-    let h = c.in-Ok-true.ensures in
-    absurd (⊎_elim (λ seen. not_built c.in-Ok-true.field-0 c.in-Ok-true.field-0-test (h.seen c.requires.inside seen)) (λ start. not_built c.in-Ok-true.field-0 c.in-Ok-true.field-0-test (h.known start.0 start.1)) known)
+pub returns-in-Ok-true : goal.returns-in-Ok-true
+returns-in-Ok-true g c =
+    let h = c.try_build.ensures in
+    let built = c.in-Ok-true.ensures in
+    let now = c.in-Ok-true.field-0-test in
+    record {
+      of = h.of;
+      grows = (h.grows, h.wrote);
+      touched = (built.builds.1, built.builds.0 ∙ ap (builds_with (builds_of c.args.pass.now) c.args.p) now);
+      alone = λ one q. ok_apart _ (Busy q);
+      known = λ known. absurd (⊎_elim (λ seen. not_built c.in-Ok-true.field-0 now (built.seen c.requires.inside seen)) (λ start. not_built c.in-Ok-true.field-0 now (built.known start.0 start.1)) known);
+      unbuilt = λ q e. absurd (ok_apart _ (Busy q) e);
+      refused = tt;
+    }
+
+pub returns-in-Ok-false : goal.returns-in-Ok-false
+returns-in-Ok-false g c =
+    let h = c.try_build.ensures in
+    let built = c.in-Ok-false.ensures in
+    record {
+      of = h.of;
+      grows = (h.grows, h.wrote);
+      touched = (built.builds.1, built.builds.0 ∙ ap (builds_with (builds_of c.args.pass.now) c.args.p) c.in-Ok-false.field-0-test);
+      alone = λ one q. ok_apart _ (Busy q);
+      known = λ known. refl;
+      unbuilt = λ q e. absurd (ok_apart _ (Busy q) e);
+      refused = tt;
+    }
 
 pub returns-in-Err : goal.returns-in-Err
 returns-in-Err g c =

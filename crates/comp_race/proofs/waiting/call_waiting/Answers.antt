@@ -7,8 +7,8 @@ use Rattle.comp_access.specs.Writes.{DataRefused, ReferenceRefused}
 use Rattle.trace_steps.specs.Acting.{Fits, Refuses, Steps}
 use Rattle.trace_text.specs.declared.line.Action.{Action}
 use Rattle.comp_mutator.specs.Mutators.{pass_of, setup_of}
-use Rattle.trace_steps.proofs.OneLine.{stored}
-use Rattle.comp_race.proofs.FieldCalls.{got, loaded, made, ok_waits, on_err, put}
+use Rattle.trace_steps.proofs.OneLine.{got, loaded, made, on_err, put, stored}
+use Rattle.comp_race.proofs.FieldCalls.{ok_waits}
 use Rattle.comp_race.proofs.waiting.call_waiting.Goals as goal
 
 pub returns-in-Root-clause-went : goal.returns-in-Root-clause-went
@@ -177,3 +177,18 @@ alloc-requires-after_bounds g c κs within = c.requires.of
 
 pub root_at-requires-after_bounds : goal.root_at-requires-after_bounds
 root_at-requires-after_bounds g c κs within = (subst (Fits (setup_of c.args.space.now)) c.in-Root.is c.requires.fits).1
+
+pub held-requires : goal.held-requires
+held-requires g c = (subst (Fits (setup_of c.args.space.now)) c.in-Load.is c.requires.fits).1
+
+pub held-requires-in-Get : goal.held-requires-in-Get
+held-requires-in-Get g c = subst (Fits (setup_of c.args.space.now)) c.in-Get.is c.requires.fits
+
+pub held-value-requires : goal.held-value-requires
+held-value-requires g c = (subst (Fits (setup_of c.args.space.now)) c.in-Store.is c.requires.fits).1
+
+pub held-requires-in-Store : goal.held-requires-in-Store
+held-requires-in-Store g c = (subst (Fits (setup_of c.args.space.now)) c.in-Store.is c.requires.fits).0
+
+pub held-requires-in-Put : goal.held-requires-in-Put
+held-requires-in-Put g c = subst (Fits (setup_of c.args.space.now)) c.in-Put.is c.requires.fits

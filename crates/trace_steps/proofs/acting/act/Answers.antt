@@ -1,49 +1,19 @@
-use Rattle.std.proofs.Common.{IfErr, IfOk, ℕ, get_or, sym, subst}
+use Rattle.std.proofs.Common.{◌≡◌, ◌<◌, ◌∙◌, Ok, IfErr, IfOk, ℕ, ap, get_or, refl, set, sym, subst}
+use Rattle.std.proofs.lemmas.Result.{IfOk-from_err, on_err_weaker}
 use Rattle.heap_layout.specs.Header.{header_word}
 use Rattle.heap_layout.specs.declared.kind.Kind.TheVariants.{Reference, Data}
+use Rattle.cell_steps.specs.Passes.{did}
+use Rattle.page_cells.specs.Calls.{Grows}
 use Rattle.comp_access.specs.Reads.{FieldRefused}
 use Rattle.comp_access.specs.Writes.{DataRefused, ReferenceRefused}
-use Rattle.trace_steps.specs.Acting.{Refuses, Steps}
+use Rattle.comp_access.proofs.Answering.{err_anyway}
+use Rattle.trace_steps.specs.Acting.{registers_after, Fits, Refuses, Steps}
 use Rattle.trace_steps.specs.Builds.{slid_page, touched, BuildsTouched}
 use Rattle.trace_text.specs.declared.line.Action.{Action}
 use Rattle.comp_mutator.specs.Mutators.{pass_of, setup_of}
 use Rattle.trace_steps.proofs.Building.{call_touched, field_touched, made_touched}
-use Rattle.trace_steps.proofs.OneLine.{stored}
+use Rattle.trace_steps.proofs.OneLine.{got, loaded, made, nulled, on_err, on_ok, put, rooted, stored}
 use Rattle.trace_steps.proofs.acting.act.Goals as goal
-
-pub returns-in-Get-clause-refused : goal.returns-in-Get-clause-refused
-returns-in-Get-clause-refused g c =
-    let u = setup_of c.args.space.now in
-    let old = pass_of c.args.m.now in
-    let new = pass_of c.try_read_data.new.m in
-    subst (λ (a : Action). IfErr c.try_read_data.result (Refuses u a c.args.registers.now old new)) (sym c.in-Get.is)
-    (subst (λ (o : ℕ). IfErr c.try_read_data.result (FieldRefused u old new Data o c.in-Get.field)) c.held-in-Get.ensures c.try_read_data.ensures.refused)
-
-pub returns-in-Put-clause-refused : goal.returns-in-Put-clause-refused
-returns-in-Put-clause-refused g c =
-    let u = setup_of c.args.space.now in
-    let old = pass_of c.args.m.now in
-    let new = pass_of c.try_write_data.new.m in
-    subst (λ (a : Action). IfErr c.try_write_data.result (Refuses u a c.args.registers.now old new)) (sym c.in-Put.is)
-    (subst (λ (o : ℕ). IfErr c.try_write_data.result (DataRefused u old new Data o c.in-Put.field)) c.held-in-Put.ensures c.try_write_data.ensures.refused)
-
-pub returns-in-Store-clause-refused : goal.returns-in-Store-clause-refused
-returns-in-Store-clause-refused g c =
-    let u = setup_of c.args.space.now in
-    let old = pass_of c.args.m.now in
-    let new = pass_of c.try_write_ref.new.m in
-    subst (λ (a : Action). IfErr c.try_write_ref.result (Refuses u a c.args.registers.now old new)) (sym c.in-Store.is)
-    (subst (λ (o : ℕ). IfErr c.try_write_ref.result (ReferenceRefused u old new Reference o c.in-Store.field (get_or c.args.registers.now c.in-Store.value 0))) c.held-in-Store.ensures
-    (subst (λ (x : ℕ). IfErr c.try_write_ref.result (ReferenceRefused u old new Reference c.held-in-Store.result c.in-Store.field x)) c.held-value.ensures c.try_write_ref.ensures.refused))
-
-pub returns-in-Store-clause-went : goal.returns-in-Store-clause-went
-returns-in-Store-clause-went g c =
-    let u = setup_of c.args.space.now in
-    let old = pass_of c.args.m.now in
-    let new = pass_of c.try_write_ref.new.m in
-    subst (λ (a : Action). IfOk c.try_write_ref.result (Steps u a c.args.registers.now old new)) (sym c.in-Store.is)
-    (stored u c.in-Store.object c.in-Store.field c.in-Store.value c.args.registers.now old new c.held-in-Store.result c.held-value.result c.try_write_ref.result c.held-in-Store.ensures c.held-value.ensures c.try_write_ref.ensures.grows
-    c.try_write_ref.ensures.wrote c.try_write_ref.ensures.target)
 
 pub returns-in_default-clause-refused : goal.returns-in_default-clause-refused
 returns-in_default-clause-refused g c =
@@ -53,46 +23,210 @@ returns-in_default-clause-refused g c =
     subst (λ (a : Action). IfErr c.try_read_ref-answer.result (Refuses u a c.args.registers.now old new)) (sym c.in-Load.is)
     (subst (λ (o : ℕ). IfErr c.try_read_ref-answer.result (FieldRefused u old new Reference o c.in-Load.field)) c.held.ensures c.try_read_ref-answer.ensures.refused)
 
-pub returns-in-Get-clause-builds : goal.returns-in-Get-clause-builds
-returns-in-Get-clause-builds g c =
+pub returns-in-Root : goal.returns-in-Root
+returns-in-Root g c =
     let u = setup_of c.args.space.now in
     let old = pass_of c.args.m.now in
-    let new = pass_of c.try_read_data.new.m in
-    subst (λ (a : Action). IfOk c.try_read_data.result (λ answer. BuildsTouched (touched u a c.args.registers.now answer) old new)) (sym c.in-Get.is)
-    (subst (λ (o : ℕ). IfOk c.try_read_data.result (λ answer. BuildsTouched (slid_page u Data o c.in-Get.field) old new)) c.held-in-Get.ensures
-    (call_touched u old new Data c.held-in-Get.result c.in-Get.field c.try_read_data.result c.try_read_data.ensures.builds))
+    let registers = c.args.registers.now in
+    let place = c.root_at-place.result in
+    let is = sym c.in-Root.is in
+    record {
+      of = c.requires.of;
+      went = subst (λ (a : Action). Steps u a registers old old place) is (rooted u c.in-Root.to c.in-Root.root registers old place c.root_at-place.ensures);
+      builds = subst (λ (a : Action). BuildsTouched (touched u a registers place) old old) is refl;
+      registers = ap (λ to. set registers to place) c.from.ensures ∙ ap (λ (a : Action). registers_after a registers place) is;
+      grows = tt;
+      did = tt;
+      refused = tt;
+    }
 
-pub returns-in-Store-clause-builds : goal.returns-in-Store-clause-builds
-returns-in-Store-clause-builds g c =
+pub returns-in-Nil : goal.returns-in-Nil
+returns-in-Nil g c =
     let u = setup_of c.args.space.now in
     let old = pass_of c.args.m.now in
-    let new = pass_of c.try_write_ref.new.m in
-    subst (λ (a : Action). IfOk c.try_write_ref.result (λ answer. BuildsTouched (touched u a c.args.registers.now answer) old new)) (sym c.in-Store.is)
-    (subst (λ (o : ℕ). IfOk c.try_write_ref.result (λ answer. BuildsTouched (slid_page u Reference o c.in-Store.field) old new)) c.held-in-Store.ensures
-    (call_touched u old new Reference c.held-in-Store.result c.in-Store.field c.try_write_ref.result c.try_write_ref.ensures.builds))
+    let registers = c.args.registers.now in
+    let is = sym c.in-Nil.is in
+    record {
+      of = c.requires.of;
+      went = subst (λ (a : Action). Steps u a registers old old 0) is (nulled u c.in-Nil.to registers old);
+      builds = subst (λ (a : Action). BuildsTouched (touched u a registers 0) old old) is refl;
+      registers = ap (λ to. set registers to 0) c.from-in-Nil.ensures ∙ ap (λ (a : Action). registers_after a registers 0) is;
+      grows = tt;
+      did = tt;
+      refused = tt;
+    }
 
-pub returns-in-Put-clause-builds : goal.returns-in-Put-clause-builds
-returns-in-Put-clause-builds g c =
+pub returns-in-Ok : goal.returns-in-Ok
+returns-in-Ok g c =
     let u = setup_of c.args.space.now in
     let old = pass_of c.args.m.now in
-    let new = pass_of c.try_write_data.new.m in
-    subst (λ (a : Action). IfOk c.try_write_data.result (λ answer. BuildsTouched (touched u a c.args.registers.now answer) old new)) (sym c.in-Put.is)
-    (subst (λ (o : ℕ). IfOk c.try_write_data.result (λ answer. BuildsTouched (slid_page u Data o c.in-Put.field) old new)) c.held-in-Put.ensures
-    (call_touched u old new Data c.held-in-Put.result c.in-Put.field c.try_write_data.result c.try_write_data.ensures.builds))
-
-pub returns-in-Ok-clause-builds : goal.returns-in-Ok-clause-builds
-returns-in-Ok-clause-builds g c =
-    let u = setup_of c.args.space.now in
-    let old = pass_of c.args.m.now in
+    let registers = c.args.registers.now in
     let new = pass_of c.try_read_ref-answer.new.m in
-    subst (λ (a : Action). BuildsTouched (touched u a c.args.registers.now c.in-Ok.word) old new) (sym c.in-Load.is)
-    (subst (λ (o : ℕ). BuildsTouched (slid_page u Reference o c.in-Load.field) old new) c.held.ensures
-    (field_touched u old new Reference c.held.result c.in-Load.field c.in-Ok.ensures.builds))
+    let told = c.try_read_ref-answer.ensures in
+    let word = c.in-Ok.word in
+    let is = sym c.in-Load.is in
+    record {
+      of = told.of;
+      went = subst (λ (a : Action). Steps u a registers old new word) is (loaded u c.in-Load.to c.in-Load.object c.in-Load.field registers old new c.held.result (Ok word) c.held.ensures told.grows c.in-Ok.ensures.read c.in-Ok.ensures.known);
+      builds = subst (λ (a : Action). BuildsTouched (touched u a registers word) old new) is
+          (subst (λ (o : ℕ). BuildsTouched (slid_page u Reference o c.in-Load.field) old new) c.held.ensures (field_touched u old new Reference c.held.result c.in-Load.field c.in-Ok.ensures.builds));
+      registers = ap (λ to. set registers to word) c.from-in-Ok.ensures ∙ ap (λ (a : Action). registers_after a registers word) is;
+      grows = tt;
+      did = tt;
+      refused = tt;
+    }
 
-pub returns-in_ok-place-in-New-clause-builds : goal.returns-in_ok-place-in-New-clause-builds
-returns-in_ok-place-in-New-clause-builds g c =
+pub returns-in_ok-place-in-New : goal.returns-in_ok-place-in-New
+returns-in_ok-place-in-New g c =
+    let u = setup_of c.args.space.now in
+    let old = pass_of c.args.m.now in
+    let registers = c.args.registers.now in
+    let new = pass_of c.try_alloc.new.m in
+    let place = c.in_ok-place-in-New.place in
+    let allocated = c.in_ok-place-in-New.ensures.allocated in
+    let header = header_word c.in-New.refs c.in-New.data_words c.in-New.tag in
+    let is = sym c.in-New.is in
+    record {
+      of = c.try_alloc.ensures.of;
+      went = subst (λ (a : Action). Steps u a registers old new place) is (made u c.in-New.to c.in-New.refs c.in-New.data_words c.in-New.tag registers old new (Ok place) c.try_alloc.ensures.grows allocated);
+      builds = subst (λ (a : Action). BuildsTouched (touched u a registers place) old new) is (made_touched u old new header place allocated);
+      registers = ap (λ to. set registers to place) c.from-in-New.ensures ∙ ap (λ (a : Action). registers_after a registers place) is;
+      grows = tt;
+      did = tt;
+      refused = tt;
+    }
+
+pub returns-in-Get : goal.returns-in-Get
+returns-in-Get g c =
+    let u = setup_of c.args.space.now in
+    let old = pass_of c.args.m.now in
+    let registers = c.args.registers.now in
+    let new = pass_of c.try_read_data.new.m in
+    let r = c.try_read_data.result in
+    let told = c.try_read_data.ensures in
+    let object = c.held-in-Get in
+    let field = c.in-Get.field in
+    let is = sym c.in-Get.is in
+    record {
+      of = told.of;
+      went = subst (λ (a : Action). IfOk r (Steps u a registers old new)) is (got u c.in-Get.object field registers old new object.result r object.ensures told.grows told.read);
+      builds = subst (λ (a : Action). IfOk r (λ answer. BuildsTouched (touched u a registers answer) old new)) is
+          (subst (λ (o : ℕ). IfOk r (λ answer. BuildsTouched (slid_page u Data o field) old new)) object.ensures (call_touched u old new Data object.result field r told.builds));
+      registers = on_ok r (λ answer. registers ≡ registers_after c.args.action registers answer) (λ answer. ap (λ (a : Action). registers_after a registers answer) is);
+      grows = on_err r (Grows old new) told.grows.0;
+      did = on_err r ((did new ≡ did old) × (registers ≡ registers)) (told.grows.1, refl);
+      refused = subst (λ (a : Action). IfErr r (Refuses u a registers old new)) is
+          (subst (λ (o : ℕ). IfErr r (FieldRefused u old new Data o field)) object.ensures told.refused);
+    }
+
+pub returns-in-Store : goal.returns-in-Store
+returns-in-Store g c =
+    let u = setup_of c.args.space.now in
+    let old = pass_of c.args.m.now in
+    let registers = c.args.registers.now in
+    let new = pass_of c.try_write_ref.new.m in
+    let r = c.try_write_ref.result in
+    let told = c.try_write_ref.ensures in
+    let object = c.held-in-Store in
+    let field = c.in-Store.field in
+    let is = sym c.in-Store.is in
+    record {
+      of = told.of;
+      went = subst (λ (a : Action). IfOk r (Steps u a registers old new)) is (stored u c.in-Store.object field c.in-Store.value registers old new object.result c.held-value.result r object.ensures c.held-value.ensures told.grows told.wrote told.target);
+      builds = subst (λ (a : Action). IfOk r (λ answer. BuildsTouched (touched u a registers answer) old new)) is
+          (subst (λ (o : ℕ). IfOk r (λ answer. BuildsTouched (slid_page u Reference o field) old new)) object.ensures (call_touched u old new Reference object.result field r told.builds));
+      registers = on_ok r (λ answer. registers ≡ registers_after c.args.action registers answer) (λ answer. ap (λ (a : Action). registers_after a registers answer) is);
+      grows = on_err r (Grows old new) told.grows;
+      did = on_err_weaker r (λ same. (same, refl)) told.did;
+      refused = subst (λ (a : Action). IfErr r (Refuses u a registers old new)) is
+          (subst (λ (o : ℕ). IfErr r (ReferenceRefused u old new Reference o field (get_or registers c.in-Store.value 0))) object.ensures
+          (subst (λ (x : ℕ). IfErr r (ReferenceRefused u old new Reference object.result field x)) c.held-value.ensures told.refused));
+    }
+
+pub returns-in-Put : goal.returns-in-Put
+returns-in-Put g c =
+    let u = setup_of c.args.space.now in
+    let old = pass_of c.args.m.now in
+    let registers = c.args.registers.now in
+    let new = pass_of c.try_write_data.new.m in
+    let r = c.try_write_data.result in
+    let told = c.try_write_data.ensures in
+    let object = c.held-in-Put in
+    let field = c.in-Put.field in
+    let is = sym c.in-Put.is in
+    record {
+      of = told.of;
+      went = subst (λ (a : Action). IfOk r (Steps u a registers old new)) is (put u c.in-Put.object field c.in-Put.value registers old new object.result r object.ensures told.grows told.wrote);
+      builds = subst (λ (a : Action). IfOk r (λ answer. BuildsTouched (touched u a registers answer) old new)) is
+          (subst (λ (o : ℕ). IfOk r (λ answer. BuildsTouched (slid_page u Data o field) old new)) object.ensures (call_touched u old new Data object.result field r told.builds));
+      registers = on_ok r (λ answer. registers ≡ registers_after c.args.action registers answer) (λ answer. ap (λ (a : Action). registers_after a registers answer) is);
+      grows = on_err r (Grows old new) told.grows;
+      did = on_err_weaker r (λ same. (same, refl)) told.did;
+      refused = subst (λ (a : Action). IfErr r (Refuses u a registers old new)) is
+          (subst (λ (o : ℕ). IfErr r (DataRefused u old new Data o field)) object.ensures told.refused);
+    }
+
+pub returns-in_err-place-in-New : goal.returns-in_err-place-in-New
+returns-in_err-place-in-New g c =
     let u = setup_of c.args.space.now in
     let old = pass_of c.args.m.now in
     let new = pass_of c.try_alloc.new.m in
-    let place = c.in_ok-place-in-New.place in
-    subst (λ (a : Action). BuildsTouched (touched u a c.args.registers.now place) old new) (sym c.in-New.is) (made_touched u old new (header_word c.in-New.refs c.in-New.data_words c.in-New.tag) place c.in_ok-place-in-New.ensures.allocated)
+    let registers = c.args.registers.now in
+    let back = c.from_residual.result in
+    let none = c.from_residual.ensures.0 in
+    let same = c.from_residual.ensures.1 in
+    let why = c.in_err-place-in-New.ensures in
+    record {
+      of = c.try_alloc.ensures.of;
+      went = IfOk-from_err back _ none;
+      builds = IfOk-from_err back _ none;
+      registers = IfOk-from_err back _ none;
+      grows = on_err back (Grows old new) c.try_alloc.ensures.grows;
+      did = on_err back ((did new ≡ did old) × (registers ≡ registers)) (why.did.0, refl);
+      refused = subst (λ (a : Action). IfErr back (Refuses u a registers old new)) (sym c.in-New.is) (err_anyway back _ c.in_err-place-in-New.field-0.0 same why.refused);
+    }
+
+pub held-requires : goal.held-requires
+held-requires g c = (subst (Fits (setup_of c.args.space.now)) c.in-Load.is c.requires.fits).1
+
+pub held-requires-in-Get : goal.held-requires-in-Get
+held-requires-in-Get g c = subst (Fits (setup_of c.args.space.now)) c.in-Get.is c.requires.fits
+
+pub held-value-requires : goal.held-value-requires
+held-value-requires g c = (subst (Fits (setup_of c.args.space.now)) c.in-Store.is c.requires.fits).1
+
+pub held-requires-in-Store : goal.held-requires-in-Store
+held-requires-in-Store g c = (subst (Fits (setup_of c.args.space.now)) c.in-Store.is c.requires.fits).0
+
+pub held-requires-in-Put : goal.held-requires-in-Put
+held-requires-in-Put g c = subst (Fits (setup_of c.args.space.now)) c.in-Put.is c.requires.fits
+
+pub root_at-place-requires-after_bounds : goal.root_at-place-requires-after_bounds
+root_at-place-requires-after_bounds g c κs within = (subst (Fits (setup_of c.args.space.now)) c.in-Root.is c.requires.fits).1
+
+pub bounds-registers-from : goal.bounds-registers-from
+bounds-registers-from g c = subst (λ n. n < 16) (sym c.from.ensures) (subst (Fits (setup_of c.args.space.now)) c.in-Root.is c.requires.fits).0
+
+pub bounds-registers-from-in-Ok : goal.bounds-registers-from-in-Ok
+bounds-registers-from-in-Ok g c = subst (λ n. n < 16) (sym c.from-in-Ok.ensures) (subst (Fits (setup_of c.args.space.now)) c.in-Load.is c.requires.fits).0
+
+pub bounds-registers-from-in-New : goal.bounds-registers-from-in-New
+bounds-registers-from-in-New g c = subst (λ n. n < 16) (sym c.from-in-New.ensures) (subst (Fits (setup_of c.args.space.now)) c.in-New.is c.requires.fits)
+
+pub bounds-registers-from-in-Nil : goal.bounds-registers-from-in-Nil
+bounds-registers-from-in-Nil g c = subst (λ n. n < 16) (sym c.from-in-Nil.ensures) (subst (Fits (setup_of c.args.space.now)) c.in-Nil.is c.requires.fits)
+
+pub try_read_ref-answer-requires-after_bounds : goal.try_read_ref-answer-requires-after_bounds
+try_read_ref-answer-requires-after_bounds g c κs within = c.requires.of
+
+pub try_read_data-requires-after_bounds : goal.try_read_data-requires-after_bounds
+try_read_data-requires-after_bounds g c κs within = c.requires.of
+
+pub try_write_ref-requires-after_bounds : goal.try_write_ref-requires-after_bounds
+try_write_ref-requires-after_bounds g c κs within = c.requires.of
+
+pub try_write_data-requires-after_bounds : goal.try_write_data-requires-after_bounds
+try_write_data-requires-after_bounds g c κs within = c.requires.of
+
+pub try_alloc-requires-after_bounds : goal.try_alloc-requires-after_bounds
+try_alloc-requires-after_bounds g c κs within = c.requires.of
