@@ -4,3 +4,4 @@ pub mod Outcomes
 pub mod Pieces
 pub mod Unread
 pub mod Imaged
+pub mod Printings

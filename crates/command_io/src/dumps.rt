@@ -50,10 +50,13 @@ impl<R: Files + AllocGlobal> Dumps for FileDumps<'_, R> {
     ghost lacks = { λ _ _. Unit {0} };
 
     fn create(&mut self, path: &str) -> Result<BufWriter<R::File, Global>, Refusal> {
-        let file = fs::create(self.rt, path).map_err(|_| Refusal::CannotCreate(Output::Dump))?;
-        BufWriter::with_capacity(self.rt.alloc(), WRITTEN_AT_ONCE, file).map_err(
-            |_| Refusal::OutOfMemory,
-        )
+        let Ok(file) = fs::create(self.rt, path) else {
+            return Err(Refusal::CannotCreate(Output::Dump));
+        };
+        match BufWriter::with_capacity(self.rt.alloc(), WRITTEN_AT_ONCE, file) {
+            Ok(writer) => Ok(writer),
+            Err(_) => Err(Refusal::OutOfMemory),
+        }
     }
 }
 

@@ -43,8 +43,13 @@ impl<R: Files + AllocGlobal> Images for FileImages<'_, R> {
     ghost lacks = { λ _ _. Unit {0} };
 
     fn open(&self, path: &str) -> Result<BufReader<R::File, Global>, Refusal> {
-        let file = fs::open(self.rt, path).map_err(|_| Refusal::CannotOpen(Input::Image))?;
-        BufReader::new(self.rt.alloc(), file).map_err(|_| Refusal::OutOfMemory)
+        let Ok(file) = fs::open(self.rt, path) else {
+            return Err(Refusal::CannotOpen(Input::Image));
+        };
+        match BufReader::new(self.rt.alloc(), file) {
+            Ok(reader) => Ok(reader),
+            Err(_) => Err(Refusal::OutOfMemory),
+        }
     }
 }
 

@@ -53,22 +53,22 @@ impl fmt::Display for Output {
 #[derive(Clone, Copy, Debug, PartialEq, Eq, Error)]
 pub enum Refusal {
     /// The image is refused.
-    #[error("{0}")]
+    #[error(transparent)]
     Layout(LayoutFault),
     /// A mutator is refused what it asked.
-    #[error("{0}")]
+    #[error(transparent)]
     Mutator(mutators::Refusal),
     /// The heap was not swept.
-    #[error("{0}")]
+    #[error(transparent)]
     Sweep(SweepFault),
     /// The text of the trace is refused, or one of its lines.
-    #[error("{0}")]
+    #[error(transparent)]
     Trace(TraceFault),
     /// The dump was not written whole, or what is at its path is no dump.
-    #[error("{0}")]
+    #[error(transparent)]
     Dump(DumpFault),
     /// The dump is none that a compaction of the heap can have left.
-    #[error("{0}")]
+    #[error(transparent)]
     Audit(AuditFault),
     /// The file could not be opened.
     #[error("P1 CannotOpen({0})")]

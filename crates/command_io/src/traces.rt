@@ -49,8 +49,13 @@ impl<R: Files + AllocGlobal> Traces for FileTraces<'_, R> {
     ghost lacks = { λ _ _. Unit {0} };
 
     fn open(&self, path: &str) -> Result<BufReader<R::File, Global>, Refusal> {
-        let file = fs::open(self.rt, path).map_err(|_| Refusal::CannotOpen(Input::Trace))?;
-        BufReader::new(self.rt.alloc(), file).map_err(|_| Refusal::OutOfMemory)
+        let Ok(file) = fs::open(self.rt, path) else {
+            return Err(Refusal::CannotOpen(Input::Trace));
+        };
+        match BufReader::new(self.rt.alloc(), file) {
+            Ok(reader) => Ok(reader),
+            Err(_) => Err(Refusal::OutOfMemory),
+        }
     }
 }
 

@@ -17,13 +17,20 @@ use Rattle.comp_dump.proofs.Readings.{Spells, spells_then, spells_last, spells_t
 use Rattle.comp_dump.proofs.Fields.{spells_small, spells_four, spells_word, words_spell, pages_spell, lists_spell}
 
 -- the parts of a page are the page
-pub built_read : (a b c d : Option (List ℕ)) (page : BuiltPage) (count : ℕ) → length page.journal ≡ count → Consumes a b (flat_map eight_bytes page.words)
+built_read : (a b c d : Option (List ℕ)) (page : BuiltPage) (count : ℕ) → length page.journal ≡ count → Consumes a b (flat_map eight_bytes page.words)
     → Consumes b c (four_bytes count) → Consumes c d (flat_map entry_bytes page.journal) → Consumes a d (built_bytes page)
 unfolding built_bytes
 built_read a b c d page count long words number journal =
     Consumes-trans a b d (flat_map eight_bytes page.words) (four_bytes (length page.journal) ++ flat_map entry_bytes page.journal) words
     (Consumes-trans b c d (four_bytes (length page.journal)) (flat_map entry_bytes page.journal)
     (subst (λ (n : ℕ). Consumes b c (four_bytes n)) (sym long) number) journal)
+
+-- and behind the byte that says so they are its record
+pub page_read : (a b c d e : Option (List ℕ)) (flag : ℕ) (page : BuiltPage) (count : ℕ) → flag ≡ 1 → Consumes a b (one_byte flag) → length page.journal ≡ count
+    → Consumes b c (flat_map eight_bytes page.words) → Consumes c d (four_bytes count) → Consumes d e (flat_map entry_bytes page.journal) → Consumes a e (page_bytes (Some page))
+page_read a b c d e flag page count one first long words number journal =
+    Consumes-trans a b e (one_byte 1) (built_bytes page) (subst (λ (k : ℕ). Consumes a b (one_byte k)) one first)
+    (built_read b c d e page count long words number journal)
 
 -- a page that was built is not read
 pub stops_page : (mutators : ℕ) (a b : Option (List ℕ)) (flag : ℕ) (fault : DumpFault) → Consumes a b (one_byte flag) → flag ≡ 1

@@ -14,7 +14,7 @@ mod pages;
 
 use crate::dump::Dump;
 use crate::fault::DumpFault;
-use crate::reading::fields::{expect_end, expect_magic, expect_version, read_eight, read_four};
+use crate::reading::fields::{MAGIC, VERSION, expect, expect_end, read_eight, read_four};
 use crate::reading::pages::read_pages;
 use heap_image::counted::Counted;
 use std::alloc::Global;
@@ -70,8 +70,8 @@ fn read_head<R: Read>(r: &mut Counted<R>) -> Result<Head, DumpFault>
     ensures cause { IfErr result (Stops reading.head (R.remaining (inner_of r.old))) }
     ensures counts { CountsFailure (failures_of r.old) (failures_of r.new) result }
 {
-    expect_magic(r)?;
-    expect_version(r)?;
+    expect(r, &MAGIC)?;
+    expect(r, &VERSION)?;
     let mutators = read_four(r, 1, 64)?;
     let fresh = read_four(r, 0, 4_096)?;
     let pages = read_four(r, fresh, 20_480)?;

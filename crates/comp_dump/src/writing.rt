@@ -5,7 +5,7 @@ ghost use Rattle.std.specs.List.{flat_map};
 ghost use Rattle.heap_image.specs.Counted.{inner_of, failures_of, is_flushed_of};
 ghost use Rattle.page_cells.specs.Ends.{lists as items_of};
 ghost use Rattle.comp_dump.specs.Dumped.{HasFewEntries, IsWritable};
-ghost use Rattle.comp_dump.specs.DumpEncoding.{built_bytes, builds_bytes, dump_bytes, eight_bytes, entry_bytes, four_bytes, front_bytes, head, kind_code, one_byte, page_bytes};
+ghost use Rattle.comp_dump.specs.DumpEncoding.{builds_bytes, dump_bytes, eight_bytes, entry_bytes, four_bytes, head, kind_code, one_byte, page_bytes};
 ghost use Rattle.comp_dump.specs.DumpReading.{CountsFailure};
 ghost use Rattle.comp_dump.specs.DumpWriting.{Writes, CountsOne};
 
@@ -143,22 +143,6 @@ fn write_numbers<W: Write>(w: &mut Counted<W>, numbers: &[u32]) -> Result<(), Du
     Ok(())
 }
 
-/// A page that was built.
-fn write_built<W: Write>(
-    w: &mut Counted<W>,
-    words: &[u64],
-    journal: &[Entry],
-) -> Result<(), DumpFault>
-    requires { length journal.now ≤ 1024 }
-    ensures writes { Writes (W.contents (inner_of w.old)) (W.contents (inner_of w.new)) (built_bytes (record { words = words.now; journal = journal.now })) result }
-    ensures counts { CountsOne (failures_of w.old) (failures_of w.new) result }
-{
-    write_words(w, words)?;
-    write_four(w, journal.len() as u32)?;
-    write_entries(w, journal)?;
-    Ok(())
-}
-
 /// A page that was built, behind the byte that says so.
 fn write_there<W: Write>(
     w: &mut Counted<W>,
@@ -170,8 +154,9 @@ fn write_there<W: Write>(
     ensures counts { CountsOne (failures_of w.old) (failures_of w.new) result }
 {
     write_one(w, 1)?;
-    write_built(w, words, journal)?;
-    Ok(())
+    write_words(w, words)?;
+    write_four(w, journal.len() as u32)?;
+    write_entries(w, journal)
 }
 
 /// A page, or none where it was never built.
@@ -208,8 +193,7 @@ fn write_builds<W: Write>(w: &mut Counted<W>, list: &[u32]) -> Result<(), DumpFa
     ensures counts { CountsOne (failures_of w.old) (failures_of w.new) result }
 {
     write_four(w, list.len() as u32)?;
-    write_numbers(w, list)?;
-    Ok(())
+    write_numbers(w, list)
 }
 
 /// What every mutator built.
@@ -240,27 +224,7 @@ fn write_head<W: Write>(
     write_small(w, mutators)?;
     write_four(w, fresh)?;
     write_four(w, pages)?;
-    write_four(w, roots)?;
-    Ok(())
-}
-
-/// All that stands before the build lists.
-fn write_front<W: Write>(
-    w: &mut Counted<W>,
-    mutators: u8,
-    fresh: u32,
-    roots: &[u64],
-    pages: &[Option<DumpedPage<'_>>],
-) -> Result<(), DumpFault>
-    requires counts { (length pages.now < 2 ^ 32) × (length roots.now < 2 ^ 32) }
-    requires few { All HasFewEntries pages.now }
-    ensures writes { Writes (W.contents (inner_of w.old)) (W.contents (inner_of w.new)) (front_bytes mutators fresh roots.now pages.now) result }
-    ensures counts { CountsOne (failures_of w.old) (failures_of w.new) result }
-{
-    write_head(w, mutators, fresh, pages.len() as u32, roots.len() as u32)?;
-    write_words(w, roots)?;
-    write_pages(w, pages)?;
-    Ok(())
+    write_four(w, roots)
 }
 
 /// A dump of these parts.
@@ -278,10 +242,11 @@ fn write_parts<W: Write>(
         (dump_bytes (record { mutators = mutators; fresh = fresh; roots = roots.now; pages = pages.now; builds = items_of builds.now; total = total })) result }
     ensures counts { CountsOne (failures_of w.old) (failures_of w.new) result }
 {
-    write_front(w, mutators, fresh, roots, pages)?;
+    write_head(w, mutators, fresh, pages.len() as u32, roots.len() as u32)?;
+    write_words(w, roots)?;
+    write_pages(w, pages)?;
     write_all_builds(w, builds)?;
-    write_eight(w, total)?;
-    Ok(())
+    write_eight(w, total)
 }
 
 /// Writes a dump, and takes no memory. The first call of the writer that fails ends the writing, an interrupted one too; a beginning of the dump stays written.

@@ -117,7 +117,9 @@ pub fn swept<R: Threads + Wait + Sync>(
     ensures flipped { IfOk result (IsOfFlip workers 0) }
     ensures cause { IfErr result (IsOfSweeping plan) }
 {
-    let plan = Arc::new(alloc, plan).map_err(|_| Refusal::OutOfMemory)?;
+    let Ok(plan) = Arc::new(alloc, plan) else {
+        return Err(Refusal::OutOfMemory);
+    };
     flipped_and_swept::<Brand, R>(alloc, rt, Blank::new(u64::from(workers)), plan, workers)
 }
 

@@ -103,7 +103,9 @@ pub fn word_of(alloc: Global, plan: Plan, index: u64) -> Result<u64, Refusal>
     if index / 64 >= plan.pages() {
         return Err(Refusal::NoSuchWord(index));
     }
-    let plan = Arc::new(alloc, plan).map_err(|_| Refusal::OutOfMemory)?;
+    let Ok(plan) = Arc::new(alloc, plan) else {
+        return Err(Refusal::OutOfMemory);
+    };
     Ok(flipped_word::<Brand>(alloc, Blank::new(1), plan, index)?)
 }
 

@@ -3,7 +3,6 @@ ghost use Rattle.std.specs.Prelude.{◌≡◌, ℕ, ◌-◌, ◌^◌, ◌<◌, �
 ghost use Rattle.std.specs.Io.KnownBytes.{Consumes, IsAtEnd};
 ghost use Rattle.byteorder.specs.Endian.{little_bytes};
 ghost use Rattle.heap_image.specs.Counted.{inner_of, failures_of};
-ghost use Rattle.comp_dump.specs.DumpEncoding.{four_bytes, magic};
 ghost use Rattle.comp_dump.specs.DumpReading.{expected, number, word, CountsFailure, EndsBefore, RefusesEnd, Stops};
 
 use crate::fault::DumpFault;
@@ -79,31 +78,18 @@ pub(crate) fn read_eight<R: Read>(r: &mut Counted<R>) -> Result<u64, DumpFault>
     Ok(LittleEndian::read_u64(&bytes))
 }
 
-/// The magic.
-pub(crate) fn expect_magic<R: Read>(r: &mut Counted<R>) -> Result<(), DumpFault>
-    requires { failures_of r.old < 2 ^ 64 - 1 }
-    ensures read { OnOk result (Consumes (R.remaining (inner_of r.old)) (R.remaining (inner_of r.new)) magic) }
-    ensures cause { IfErr result (Stops (expected magic) (R.remaining (inner_of r.old))) }
+/// These very bytes, at most 8.
+pub(crate) fn expect<R: Read>(r: &mut Counted<R>, wanted: &[u8]) -> Result<(), DumpFault>
+    requires room { failures_of r.old < 2 ^ 64 - 1 }
+    requires few { length wanted.now ≤ 8 }
+    ensures read { OnOk result (Consumes (R.remaining (inner_of r.old)) (R.remaining (inner_of r.new)) wanted.now) }
+    ensures cause { IfErr result (Stops (expected wanted.now) (R.remaining (inner_of r.old))) }
     ensures counts { CountsFailure (failures_of r.old) (failures_of r.new) result }
 {
     let mut bytes = [0; 8];
-    read_part(r, &mut bytes)?;
-    if bytes != MAGIC {
-        return Err(DumpFault::BadMagic);
-    }
-    Ok(())
-}
-
-/// The version.
-pub(crate) fn expect_version<R: Read>(r: &mut Counted<R>) -> Result<(), DumpFault>
-    requires { failures_of r.old < 2 ^ 64 - 1 }
-    ensures read { OnOk result (Consumes (R.remaining (inner_of r.old)) (R.remaining (inner_of r.new)) (four_bytes 1)) }
-    ensures cause { IfErr result (Stops (expected (four_bytes 1)) (R.remaining (inner_of r.old))) }
-    ensures counts { CountsFailure (failures_of r.old) (failures_of r.new) result }
-{
-    let mut bytes = [0; 4];
-    read_part(r, &mut bytes)?;
-    if bytes != VERSION {
+    let found = &mut bytes[..wanted.len()];
+    read_part(r, found)?;
+    if *found != *wanted {
         return Err(DumpFault::BadMagic);
     }
     Ok(())

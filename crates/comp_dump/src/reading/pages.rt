@@ -3,8 +3,8 @@ ghost use Rattle.std.specs.Prelude.{◌≡◌, ◌-◌, ◌^◌, ◌<◌, ◌≤
 ghost use Rattle.std.specs.Io.KnownBytes.{Consumes};
 ghost use Rattle.std.specs.List.{flat_map};
 ghost use Rattle.heap_image.specs.Counted.{inner_of, failures_of};
-ghost use Rattle.comp_dump.specs.Dumped.{IsStoredEntry, IsStoredPage, IsStoredRecord};
-ghost use Rattle.comp_dump.specs.DumpEncoding.{built_bytes, eight_bytes, entry_bytes, kind_code, one_byte, page_bytes};
+ghost use Rattle.comp_dump.specs.Dumped.{IsStoredEntry, IsStoredRecord};
+ghost use Rattle.comp_dump.specs.DumpEncoding.{eight_bytes, entry_bytes, kind_code, one_byte, page_bytes};
 ghost use Rattle.comp_dump.specs.DumpReading as reading;
 ghost use Rattle.comp_dump.specs.DumpReading.{times_read, word, CountsFailure, Stops};
 
@@ -94,25 +94,6 @@ fn read_words<R: Read>(alloc: Global, r: &mut Counted<R>) -> Result<PageWords, D
     Ok(words)
 }
 
-/// A page that was built, behind the byte that says so.
-fn read_built<R: Read>(
-    alloc: Global,
-    r: &mut Counted<R>,
-    mutators: u8,
-) -> Result<DumpedPage<'static>, DumpFault>
-    requires room { failures_of r.old < 2 ^ 64 - 1 }
-    requires some { 1 ≤ mutators }
-    ensures read { IfOk result (λ page. Consumes (R.remaining (inner_of r.old)) (R.remaining (inner_of r.new)) (built_bytes page)) }
-    ensures stored { IfOk result (IsStoredPage mutators) }
-    ensures cause { IfErr result (Stops (reading.built mutators) (R.remaining (inner_of r.old))) }
-    ensures counts { CountsFailure (failures_of r.old) (failures_of r.new) result }
-{
-    let words = read_words(alloc, r)?;
-    let count = read_four(r, 0, 1_024)?;
-    let journal = read_journal(alloc, r, mutators, count)?;
-    Ok(DumpedPage::owned(words, journal))
-}
-
 /// A page, or none where it was never built.
 fn read_page<R: Read>(
     alloc: Global,
@@ -129,8 +110,10 @@ fn read_page<R: Read>(
     if read_one(r, 1)? == 0 {
         return Ok(None);
     }
-    let page = read_built(alloc, r, mutators)?;
-    Ok(Some(page))
+    let words = read_words(alloc, r)?;
+    let count = read_four(r, 0, 1_024)?;
+    let journal = read_journal(alloc, r, mutators, count)?;
+    Ok(Some(DumpedPage::owned(words, journal)))
 }
 
 /// So many pages.

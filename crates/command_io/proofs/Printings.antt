@@ -1,0 +1,14 @@
+-- What a call prints behind what was printed before it.
+use Rattle.std.proofs.Common.{◌≡◌, ℕ, List, ◌++◌, Option, Result, Ok, Err, OnOk, subst}
+use Rattle.std.specs.Io.KnownBytes.{Appends}
+use Rattle.std.proofs.KnownBytes.{Appends-trans}
+use Rattle.command_io.specs.Printing.{CountsPrint}
+use Rattle.command_io.specs.declared.refusal.Refusal.{Refusal}
+
+pub printed_then : (a b c : Option (List ℕ)) (part more : List ℕ) (result : Result (Unit {0}) Refusal) → Appends a b part → OnOk result (Appends b c more) → OnOk result (Appends a c (part ++ more))
+printed_then a b c part more (Ok _) first next = Appends-trans a b c part more first next
+printed_then a b c part more (Err refusal) first next = tt
+
+-- no call of the output failed before it
+pub counted_then : (before now after : ℕ) (result : Result (Unit {0}) Refusal) → now ≡ before → CountsPrint now after result → CountsPrint before after result
+counted_then before now after result same h = subst (λ (n : ℕ). CountsPrint n after result) same h

@@ -1,0 +1,11 @@
+use Rattle.std.proofs.lemmas.Result.{err_from_is_err_and}
+use Rattle.command_io.proofs.Printings.{counted_then}
+use Rattle.command_io.proofs.print.print_help.Goals as goal
+
+pub returns-in_err-print_text-clause-counts : goal.returns-in_err-print_text-clause-counts
+returns-in_err-print_text-clause-counts g c =
+    let p = err_from_is_err_and c.from_residual.result c.from_residual.ensures.1 in
+    rw (p.1, p.2) c.in_err-print_text.ensures.counts
+
+pub returns-clause-counts : goal.returns-clause-counts
+returns-clause-counts g c = counted_then _ _ _ _ c.in_ok-print_text.ensures.counts c.print_text-2.ensures.counts
