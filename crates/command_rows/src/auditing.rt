@@ -57,8 +57,8 @@ fn expect_judged<R: Abort + AllocGlobal>(
     Ok(())
 }
 
-// A change of a dump.
-enum Change {
+/// A change of a dump.
+pub enum Change {
     /// At this place stand these bytes.
     Bytes(usize, &'static [u8]),
     /// At this place stands this word of 8 bytes.
@@ -100,11 +100,11 @@ fn forged<R: Abort + AllocGlobal>(rt: &R, changes: &[Change]) -> Result<Vec<u8>,
     Ok(bytes)
 }
 
-// A forged dump, where the heap of three objects was compacted: its name, the changes, and what is refused.
-type Forgery = (&'static str, &'static [Change], Refusal);
+/// A forged dump, where the heap of three objects was compacted: its name, the changes, and what is refused.
+pub type Forgery = (&'static str, &'static [Change], Refusal);
 
-// These forged dumps are refused so, and nothing is printed.
-fn expect_refused<R: Abort + AllocGlobal>(rt: &R, forgeries: &[Forgery]) -> Result<(), Fail> {
+/// These forged dumps are refused so, and nothing is printed.
+pub fn expect_refused<R: Abort + AllocGlobal>(rt: &R, forgeries: &[Forgery]) -> Result<(), Fail> {
     for (name, changes, refusal) in forgeries {
         let dump = forged(rt, changes)?;
         expect_judged(rt, &THREE_IMAGE, &dump, name, Err(*refusal), "")?;
@@ -138,7 +138,7 @@ const BUILDS: usize = 1_109;
 const TOTAL: usize = 1_121;
 
 // The dump of the twenty pages, which the first of two workers built.
-const BY_THE_FIRST: [Part; 8] = [
+static BY_THE_FIRST: [Part; 8] = [
     Part::Bytes(b"COMPDUMP"),
     Part::Numbers(&[1, 2, 0, 20, 0]),
     Part::Pages,
@@ -161,14 +161,23 @@ fn expect_passed<R: Abort + AllocGlobal>(
     expect_judged(rt, image, &bytes, name, Ok(()), text)
 }
 
-#[test]
-fn passes_true_dumps(rt: HostRuntime) -> Result<(), Fail> {
-    expect_passed(&rt, &THREE_IMAGE, &FRESH_DUMP, "fresh", "ok 5\n")?;
-    expect_passed(&rt, &TWENTY_IMAGE, &BY_THE_FIRST, "twenty", "ok 1280\n")
+/// True dumps pass.
+pub fn expect_true_dumps<R: Abort + AllocGlobal>(rt: &R) -> Result<(), Fail> {
+    expect_passed(rt, &THREE_IMAGE, &FRESH_DUMP, "fresh", "ok 5\n")?;
+    expect_passed(rt, &TWENTY_IMAGE, &BY_THE_FIRST, "twenty", "ok 1280\n")
 }
 
-// Each dump has a second fault, which is not told.
-const FORGED: [Forgery; 9] = [
+// The header of the new object is stamped after the reference to it.
+const LATE: [Change; 2] = [
+    Change::Word(HEADER_STAMP, 1),
+    Change::Word(REFERENCE_STAMP, 0),
+];
+
+const TRUNCATED: Refusal = Refusal::Dump(DumpFault::Truncated);
+
+/// All forged dumps.
+pub static FORGED: [Forgery; 25] = [
+    // Each dump has a second fault, which is not told.
     (
         "a root",
         &[Change::Word(ROOT, 0), Change::Word(TOTAL, 6)],
@@ -217,21 +226,7 @@ const FORGED: [Forgery; 9] = [
         &[Change::Word(TOTAL, 6), Change::Word(REFERENCE_STAMP, 1)],
         Refusal::Audit(AuditFault::WrongTotal),
     ),
-];
-
-// The header of the new object is stamped after the reference to it.
-const LATE: [Change; 2] = [
-    Change::Word(HEADER_STAMP, 1),
-    Change::Word(REFERENCE_STAMP, 0),
-];
-
-#[test]
-fn names_the_first_fault_of_a_forged_dump(rt: HostRuntime) -> Result<(), Fail> {
-    expect_refused(&rt, &FORGED)
-}
-
-// The dump with other lists of builds.
-const UNCLAIMED: [Forgery; 3] = [
+    // The dump with other lists of builds.
     (
         "without page 0",
         &[
@@ -256,16 +251,7 @@ const UNCLAIMED: [Forgery; 3] = [
         ],
         Refusal::Audit(AuditFault::BuildUnclaimed(0)),
     ),
-];
-
-#[test]
-fn names_the_page_that_no_list_of_builds_claims(rt: HostRuntime) -> Result<(), Fail> {
-    expect_refused(&rt, &UNCLAIMED)
-}
-
-const TRUNCATED: Refusal = Refusal::Dump(DumpFault::Truncated);
-
-const NO_DUMPS: [Forgery; 13] = [
+    // Bytes that are no dump.
     ("no byte", &[Change::Cut(0)], TRUNCATED),
     ("7 bytes", &[Change::Cut(7)], TRUNCATED),
     ("8 bytes", &[Change::Cut(8)], TRUNCATED),
@@ -297,15 +283,10 @@ const NO_DUMPS: [Forgery; 13] = [
     ),
 ];
 
-#[test]
-fn refuses_bytes_that_are_no_dump(rt: HostRuntime) -> Result<(), Fail> {
-    expect_refused(&rt, &NO_DUMPS)
-}
-
 // The paths of an image and of a dump, and what is refused.
 type Unread = (&'static str, &'static str, Refusal);
 
-const UNREAD: [Unread; 4] = [
+static UNREAD: [Unread; 4] = [
     ("absent", "absent", Refusal::CannotOpen(Input::Image)),
     ("cut.img", "absent", Refusal::Layout(LayoutFault::Truncated)),
     ("three.img", "absent", Refusal::CannotOpen(Input::Dump)),
@@ -319,8 +300,8 @@ fn expect_unread<R: Abort + AllocGlobal>(rt: &R, images: &[Image], rows: &[Unrea
     }
 }
 
-#[test]
-fn reads_the_image_before_the_dump(rt: HostRuntime) -> Result<(), Fail> {
+/// The image is read before the dump.
+pub fn expect_image_first<R: Abort + AllocGlobal>(rt: &R) -> Result<(), Fail> {
     let whole = bytes_of(rt.alloc(), &THREE_IMAGE)?;
     let images = [
         Image {
@@ -332,6 +313,6 @@ fn reads_the_image_before_the_dump(rt: HostRuntime) -> Result<(), Fail> {
             bytes: &whole,
         },
     ];
-    expect_unread(&rt, &images, &UNREAD);
+    expect_unread(rt, &images, &UNREAD);
     Ok(())
 }

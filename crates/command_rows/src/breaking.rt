@@ -104,11 +104,11 @@ fn expect_all_cut_off<R: Abort + AllocGlobal + Files>(
     Ok(())
 }
 
-#[test]
-fn prints_nothing_where_the_dump_is_cut_off(rt: HostRuntime) -> Result<(), Fail> {
-    take_file_steps(&rt, FRESH)?;
-    expect_all_cut_off(&rt, &CUT_OFF)?;
-    take_file_steps(&rt, REMOVED)
+/// Nothing is printed where the dump is cut off.
+pub fn expect_dumps_cut_off<R: Abort + AllocGlobal + Files>(rt: &R) -> Result<(), Fail> {
+    take_file_steps(rt, FRESH)?;
+    expect_all_cut_off(rt, &CUT_OFF)?;
+    take_file_steps(rt, REMOVED)
 }
 
 // Gives a byte a call, and an error at the call of this number.

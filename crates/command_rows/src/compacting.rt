@@ -14,9 +14,9 @@ use worked_files::images::{ALL, TWENTY_IMAGE};
 use worked_files::parts::{Part, bytes_of};
 use worked_files::writers::{Failure, Narrow};
 
-// A compaction in memory, and what has to come of it.
+/// A compaction in memory, and what has to come of it.
 #[derive(Clone, Copy)]
-struct Row {
+pub struct Row {
     name: &'static str,
     /// The path of the image, and that of the dump, which is to be `out`.
     image: &'static str,
@@ -56,8 +56,8 @@ fn expect_row<R: Abort + AllocGlobal + Threads + Wait + Sync>(
     Ok(())
 }
 
-// Compacts as each of these rows says.
-fn expect_rows<R: Abort + AllocGlobal + Threads + Wait + Sync>(
+/// Compacts as each of these rows says.
+pub fn expect_rows<R: Abort + AllocGlobal + Threads + Wait + Sync>(
     rt: &R,
     rows: &[Row],
 ) -> Result<(), Fail> {
@@ -177,8 +177,33 @@ const ALONE: Row = Row {
     left: 10_460,
 };
 
-// By some workers, with just enough room for the dump.
-const COMPACTED: [Row; 4] = [
+// The dump cannot be flushed.
+const UNFLUSHED: Row = Row {
+    name: "no flush",
+    failure: Failure::Flush,
+    answer: Err(Refusal::Dump(DumpFault::Device)),
+    printed: "",
+    ..ALONE
+};
+
+// An image that is cut off, by two workers.
+const CUT_IMAGE: Row = Row {
+    name: "an image that is cut off",
+    image: "cut.img",
+    path: "out",
+    workers: 2,
+    room: 4_096,
+    failure: Failure::Error,
+    printable: 10,
+    answer: Err(Refusal::Layout(LayoutFault::Truncated)),
+    printed: "",
+    dump: &[],
+    left: 0,
+};
+
+/// All compactions.
+pub static ROWS: [Row; 14] = [
+    // By some workers, with just enough room for the dump.
     ALONE,
     Row {
         name: "two workers",
@@ -204,24 +229,7 @@ const COMPACTED: [Row; 4] = [
         left: 10_712,
         ..ALONE
     },
-];
-
-#[test]
-fn compacts_by_some_workers(rt: HostRuntime) -> Result<(), Fail> {
-    expect_rows(&rt, &COMPACTED)
-}
-
-// The dump cannot be flushed.
-const UNFLUSHED: Row = Row {
-    name: "no flush",
-    failure: Failure::Flush,
-    answer: Err(Refusal::Dump(DumpFault::Device)),
-    printed: "",
-    ..ALONE
-};
-
-// The dump is cut off behind so many bytes.
-const CUT_OFF: [Row; 6] = [
+    // The dump is cut off behind so many bytes.
     Row {
         name: "room for 0 bytes",
         room: 0,
@@ -258,29 +266,7 @@ const CUT_OFF: [Row; 6] = [
         ..UNFLUSHED
     },
     UNFLUSHED,
-];
-
-#[test]
-fn tells_that_a_dump_is_cut_off(rt: HostRuntime) -> Result<(), Fail> {
-    expect_rows(&rt, &CUT_OFF)
-}
-
-// An image that is cut off, by two workers.
-const CUT_IMAGE: Row = Row {
-    name: "an image that is cut off",
-    image: "cut.img",
-    path: "out",
-    workers: 2,
-    room: 4_096,
-    failure: Failure::Error,
-    printable: 10,
-    answer: Err(Refusal::Layout(LayoutFault::Truncated)),
-    printed: "",
-    dump: &[],
-    left: 0,
-};
-
-const UNCREATED: [Row; 3] = [
+    // No dump is created where the image is refused.
     CUT_IMAGE,
     Row {
         name: "an image that is absent",
@@ -296,23 +282,12 @@ const UNCREATED: [Row; 3] = [
         answer: Err(Refusal::CannotOpen(Input::Image)),
         ..CUT_IMAGE
     },
+    // Three bytes of the line can be printed.
+    Row {
+        name: "room for 3 bytes of the line",
+        printable: 3,
+        answer: Err(Refusal::CannotPrint),
+        printed: "liv",
+        ..ALONE
+    },
 ];
-
-#[test]
-fn creates_no_dump_of_a_refused_image(rt: HostRuntime) -> Result<(), Fail> {
-    expect_rows(&rt, &UNCREATED)
-}
-
-// Three bytes of the line can be printed.
-const UNPRINTED: [Row; 1] = [Row {
-    name: "room for 3 bytes of the line",
-    printable: 3,
-    answer: Err(Refusal::CannotPrint),
-    printed: "liv",
-    ..ALONE
-}];
-
-#[test]
-fn keeps_the_dump_where_it_cannot_print(rt: HostRuntime) -> Result<(), Fail> {
-    expect_rows(&rt, &UNPRINTED)
-}

@@ -12,3 +12,5 @@ mod compacting;
 mod places;
 #[cfg(test)]
 mod printing;
+#[cfg(test)]
+mod tables;

@@ -19,7 +19,7 @@ type Row = (
     &'static str,
 );
 
-const WORDS: [Row; 6] = [
+static WORDS: [Row; 6] = [
     ("a header", "three.img", 2, Ok(()), "12884901889\n"),
     ("a reference", "three.img", 3, Ok(()), "8589934592\n"),
     ("the last word", "three.img", 63, Ok(()), "0\n"),
@@ -73,8 +73,8 @@ fn expect_plan<R: Abort + AllocGlobal>(rt: &R, memory: &Memory) {
     expect_printed(rt, "a plan", (found, &bytes), (Ok(()), text));
 }
 
-#[test]
-fn prints_words_and_plans_of_images_in_memory(rt: HostRuntime) -> Result<(), Fail> {
+/// Words and plans of images in memory.
+pub fn expect_words_and_plan<R: Abort + AllocGlobal>(rt: &R) -> Result<(), Fail> {
     let bytes = bytes_of(rt.alloc(), &THREE_IMAGE)?;
     let images = [
         Image {
@@ -87,7 +87,7 @@ fn prints_words_and_plans_of_images_in_memory(rt: HostRuntime) -> Result<(), Fai
         },
     ];
     let memory = Memory { images: &images };
-    expect_words(&rt, &memory, &WORDS);
-    expect_plan(&rt, &memory);
+    expect_words(rt, &memory, &WORDS);
+    expect_plan(rt, &memory);
     Ok(())
 }

@@ -31,8 +31,16 @@ pub enum Heap {
     Counting(u16),
 }
 
+/// What was made.
+pub fn made<T>(rt: &impl Abort, found: Result<T, Fail>) -> T {
+    match found {
+        Ok(value) => value,
+        Err(_) => panic!(rt; "a worked heap"),
+    }
+}
+
 /// The plan of this heap.
-pub fn plan_of(alloc: Global, heap: Heap) -> Result<Plan, Fail> {
+pub fn plan_of(rt: &impl Abort, alloc: Global, heap: Heap) -> Plan {
     let heap = match heap {
         Heap::Empty => empty(alloc),
         Heap::Smallest => smallest(alloc),
@@ -40,7 +48,7 @@ pub fn plan_of(alloc: Global, heap: Heap) -> Result<Plan, Fail> {
         Heap::Seventeen => seventeen_pages(alloc),
         Heap::Counting(data_words) => counting_heap(alloc, data_words),
     };
-    planned(alloc, heap?)
+    made(rt, planned(alloc, made(rt, heap)))
 }
 
 /// The builder, to be shared.

@@ -5,7 +5,7 @@ ghost use Rattle.comp_mutator.specs.Mutators.{AreMutatorsOf};
 use crate::calls::answer;
 use crate::endings::expect_all_stamps;
 use crate::expected::{At, expect_answer, expect_count, expect_numbers, expect_so};
-use crate::flipped::{finish, flipped, shared};
+use crate::flipped::{finish, flipped, made, shared};
 use comp_journal::journaled_page::JournaledPage;
 use comp_mutator::finishing::Finished;
 use comp_mutator::mutator::Mutator;
@@ -20,7 +20,6 @@ use std::marker::Brand;
 use std::process::Abort;
 use std::sync::Wait;
 use std::sync::ledger::{Blank, Ledger as Named};
-use std::test::Fail;
 
 // Random calls of mutators, by turns.
 struct Calls {
@@ -54,7 +53,6 @@ fn play<L: Named, B: Builder, R: Abort + Wait>(
     let m = &mut mutators[number];
     let wanted = objects
         .answer(m.number(), call)
-        .ok()
         .expect(rt, "memory for plain objects");
     let found = answer(rt, alloc, space, m, call, false);
     expect_answer(rt, at, found, wanted);
@@ -74,7 +72,6 @@ fn expect_pages(
         };
         let words = objects
             .words_of(alloc, row as u64)
-            .ok()
             .expect(rt, "memory for words");
         match page {
             Some(page) => expect_numbers(rt, at, page.words(), &words),
@@ -160,15 +157,18 @@ static CALLS: [Calls; 2] = [
     },
 ];
 
+// The two live objects, by these calls and plainly.
+fn play_random<R: Abort + Wait>(rt: &R, alloc: Global, calls: &Calls) {
+    let plan = made(rt, two_live(alloc));
+    let opened = opening(alloc, calls.mutators as usize);
+    let mut objects = opened.expect(rt, "memory for plain objects");
+    let blank = Blank::new(u64::from(calls.mutators));
+    play_and_finish::<Brand, R>(rt, alloc, blank, plan, &mut objects, calls);
+}
+
 #[test]
-fn agrees_with_plain_objects(rt: HostRuntime) -> Result<(), Fail> {
-    let alloc = rt.alloc();
+fn agrees_with_plain_objects(rt: HostRuntime) {
     for calls in &CALLS {
-        let plan = two_live(alloc)?;
-        let opened = opening(alloc, calls.mutators as usize).ok();
-        let mut objects = opened.expect(&rt, "memory for plain objects");
-        let blank = Blank::new(u64::from(calls.mutators));
-        play_and_finish::<Brand, HostRuntime>(&rt, alloc, blank, plan, &mut objects, calls);
+        play_random(&rt, rt.alloc(), calls);
     }
-    Ok(())
 }

@@ -2,9 +2,7 @@
 ghost use Rattle.comp_mutator.specs.Mutators.{IsMutatorOf};
 
 use crate::calls::{answer, copy, touch};
-use crate::expected::{
-    At, expect_answer, expect_count, expect_entries, expect_numbers, expect_so, expect_words,
-};
+use crate::expected::{At, expect_answer, expect_entries, expect_so, expect_words};
 use crate::turns::expect_turns;
 use call_refusals::refusal::Refusal;
 use comp_access::pages::Touched;
@@ -145,14 +143,6 @@ fn expect_state<L: Named, B: Builder, R: Abort + Wait>(
     ensures of { IsMutatorOf space.now m.new }
 {
     match row {
-        Row::Touch(p, wanted) => {
-            let found = touch(rt, alloc, space, m, *p, waits);
-            expect_so(rt, at, found == *wanted);
-        }
-        Row::Race => {
-            let found = touch(rt, alloc, space, m, 0, false);
-            expect_so(rt, at, is_of_race(found, m.builds()));
-        }
         Row::Rising(_, _, count) | Row::Writes(_, count) | Row::Objects(count) => {
             expect_steps(rt, alloc, space, m, at, row, *count)
         }
@@ -160,7 +150,10 @@ fn expect_state<L: Named, B: Builder, R: Abort + Wait>(
         Row::Settle => settle(rt, space, m),
         Row::Page(p, begin, entries) => expect_page(rt, alloc, space, m, at, *p, begin, entries),
         Row::Turns(p) => expect_turns(rt, at, &copy(rt, alloc, space, m, *p)),
-        _ => expect_told(rt, space, m, at, row),
+        _ => {
+            let told = is_told(rt, alloc, space, m, row, waits);
+            expect_so(rt, at, told);
+        }
     }
 }
 
@@ -173,21 +166,30 @@ fn is_of_race(touched: Result<Touched, Refusal>, builds: &[u64]) -> bool {
     }
 }
 
-// A row that is no call: what the space and the mutator tell.
-fn expect_told<L: Named, B: Builder>(
-    rt: &impl Abort,
+// A touch, or what the space and the mutator tell.
+fn is_told<L: Named, B: Builder, R: Abort + Wait>(
+    rt: &R,
+    alloc: Global,
     space: &Space<L, B>,
-    m: &Mutator<L>,
-    at: At,
+    m: &mut Mutator<L>,
     row: &Row,
-) {
-    match row {
-        Row::Pages(wanted) => expect_count(rt, at, space.pages(), *wanted),
-        Row::Compacted(wanted) => expect_count(rt, at, space.compacted_pages(), *wanted),
-        Row::Roots(wanted) => expect_numbers(rt, at, space.roots(), wanted),
-        Row::Builds(wanted) => expect_numbers(rt, at, m.builds(), wanted),
-        Row::Unposted(wanted) => expect_count(rt, at, m.unposted(), *wanted),
-        _ => panic!(rt; "a row of one mutator"),
+    waits: bool,
+) -> bool
+    requires of { IsMutatorOf space.now m.old }
+    ensures of { IsMutatorOf space.now m.new }
+{
+    match *row {
+        Row::Touch(p, wanted) => touch(rt, alloc, space, m, p, waits) == wanted,
+        Row::Race => {
+            let found = touch(rt, alloc, space, m, 0, false);
+            is_of_race(found, m.builds())
+        }
+        Row::Pages(wanted) => space.pages() == wanted,
+        Row::Compacted(wanted) => space.compacted_pages() == wanted,
+        Row::Roots(wanted) => space.roots() == wanted,
+        Row::Builds(wanted) => m.builds() == wanted,
+        Row::Unposted(wanted) => m.unposted() == wanted,
+        _ => false,
     }
 }
 

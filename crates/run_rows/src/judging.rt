@@ -1,10 +1,9 @@
 //! Audits by the program.
-use crate::runs::take_steps;
-use std::test::Fail;
 use worked_files::contents::Content;
 use worked_files::steps::Step;
 
-const PASSED: &[Step] = &[
+/// Dumps that pass.
+pub const PASSED: &[Step] = &[
     Step::Write("left.tests.img", Content::ThreeImage),
     Step::Write(
         "left.tests.trace",
@@ -22,7 +21,8 @@ const PASSED: &[Step] = &[
     Step::Remove("left.tests.out"),
 ];
 
-const JUDGED: &[Step] = &[
+/// Files that do not pass, or are no dumps.
+pub const JUDGED: &[Step] = &[
     Step::Write("judge.tests.img", Content::ThreeImage),
     Step::Write("late.tests.dump", Content::LateDump),
     Step::MakeFolder("judge.tests"),
@@ -48,9 +48,3 @@ const JUDGED: &[Step] = &[
     Step::Remove("late.tests.dump"),
     Step::RemoveFolder("judge.tests"),
 ];
-
-#[test]
-fn passes_what_it_dumps_and_tells_why_a_dump_does_not_pass(rt: HostRuntime) -> Result<(), Fail> {
-    take_steps(&rt, PASSED)?;
-    take_steps(&rt, JUDGED)
-}

@@ -13,3 +13,5 @@ mod racing;
 mod replaying;
 #[cfg(test)]
 mod runs;
+#[cfg(test)]
+mod tables;

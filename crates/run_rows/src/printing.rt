@@ -6,13 +6,28 @@ use std::test::Fail;
 use std::thread::Threads;
 use worked_files::contents::Content;
 use worked_files::runs::{Run, Text, expect_ran, words_of};
-use worked_files::steps::{Step, take_file_steps};
+use worked_files::steps::Step;
 use worked_files::writers::{Failure, Narrow};
 
-// A run, with an output that has so much room. What it prints there is not looked at.
+// What has to come of a line that is refused since it cannot print, or of one that is not refused. What it prints is not looked at.
+fn wanted_of(line: &'static str, refused: bool) -> Run {
+    Run {
+        line,
+        status: u8::from(refused),
+        out: Text::Is(""),
+        err: if refused {
+            Text::Refusal("P4 CannotPrint")
+        } else {
+            Text::Is("")
+        },
+    }
+}
+
+// A run of a line, with an output that has so much room.
 fn expect_narrow<R: Files + AllocGlobal + Threads + Wait + Sync>(
     rt: &R,
-    wanted: &Run,
+    line: &'static str,
+    refused: bool,
     room: usize,
     failure: Failure,
 ) -> Result<(), Fail> {
@@ -24,9 +39,9 @@ fn expect_narrow<R: Files + AllocGlobal + Threads + Wait + Sync>(
         at_once: 3,
         failure,
     };
-    let words = words_of(rt.alloc(), wanted.line)?;
+    let words = words_of(rt.alloc(), line)?;
     let status = run(rt, words, &mut out, &mut err);
-    expect_ran(wanted, status, &[], &err)
+    expect_ran(&wanted_of(line, refused), status, &[], &err)
 }
 
 // With less room than this line prints a run is refused; with more it is not, unless the output cannot be flushed.
@@ -35,36 +50,24 @@ fn expect_cut_off<R: Files + AllocGlobal + Threads + Wait + Sync>(
     line: &'static str,
     length: usize,
 ) -> Result<(), Fail> {
-    let refused = Run {
-        line,
-        status: 1,
-        out: Text::Is(""),
-        err: Text::Refusal("P4 CannotPrint"),
-    };
-    let done = Run {
-        line,
-        status: 0,
-        out: Text::Is(""),
-        err: Text::Is(""),
-    };
     for room in 0..length {
-        expect_narrow(rt, &refused, room, Failure::Error)?;
-        expect_narrow(rt, &refused, room, Failure::TakesNone)?;
+        expect_narrow(rt, line, true, room, Failure::Error)?;
+        expect_narrow(rt, line, true, room, Failure::TakesNone)?;
     }
-    expect_narrow(rt, &done, 4_096, Failure::Error)?;
-    expect_narrow(rt, &refused, 4_096, Failure::Flush)
+    expect_narrow(rt, line, false, 4_096, Failure::Error)?;
+    expect_narrow(rt, line, true, 4_096, Failure::Flush)
 }
 
-// Lines, and how many bytes they print at least.
-const LINES: [(&str, usize); 4] = [
+/// Lines, and how many bytes they print at least.
+pub const LINES: [(&str, usize); 4] = [
     ("word print.tests.img 2", 12),
     ("plan print.tests.img", 48),
     ("--help", 1),
     ("--version", 17),
 ];
 
-// Each of these lines cannot print.
-fn expect_lines<R: Files + AllocGlobal + Threads + Wait + Sync>(
+/// Each of these lines cannot print.
+pub fn expect_lines<R: Files + AllocGlobal + Threads + Wait + Sync>(
     rt: &R,
     lines: &[(&'static str, usize)],
 ) -> Result<(), Fail> {
@@ -74,13 +77,8 @@ fn expect_lines<R: Files + AllocGlobal + Threads + Wait + Sync>(
     Ok(())
 }
 
-const WRITTEN: &[Step] = &[Step::Write("print.tests.img", Content::ThreeImage)];
+/// The image that they read.
+pub const WRITTEN: &[Step] = &[Step::Write("print.tests.img", Content::ThreeImage)];
 
-const REMOVED: &[Step] = &[Step::Remove("print.tests.img")];
-
-#[test]
-fn tells_that_it_cannot_print(rt: HostRuntime) -> Result<(), Fail> {
-    take_file_steps(&rt, WRITTEN)?;
-    expect_lines(&rt, &LINES)?;
-    take_file_steps(&rt, REMOVED)
-}
+/// It is not needed any more.
+pub const REMOVED: &[Step] = &[Step::Remove("print.tests.img")];

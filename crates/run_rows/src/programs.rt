@@ -1,11 +1,9 @@
 //! Runs of the program: what it prints, and its status.
-use crate::runs::take_steps;
-use std::test::Fail;
 use worked_files::contents::Content;
 use worked_files::steps::Step;
 
-// All the steps of the test are one table, which costs its proof less than seven.
-const STEPS: &[Step] = &[
+/// Words, plans, compactions and audits, and words that are no command.
+pub const STEPS: &[Step] = &[
     // Words and plans of the heap of three objects.
     Step::Write("three.tests.img", Content::ThreeImage),
     Step::Prints("word three.tests.img 2", "12884901889\n"),
@@ -121,8 +119,3 @@ const STEPS: &[Step] = &[
     Step::Remove("run.tests.img"),
     Step::Remove("run.tests.out"),
 ];
-
-#[test]
-fn does_what_its_words_ask(rt: HostRuntime) -> Result<(), Fail> {
-    take_steps(&rt, STEPS)
-}

@@ -1,6 +1,4 @@
 //! Traces whose mutators race over heaps: the lines, the dump, and what refusals leave.
-use crate::runs::take_steps;
-use std::test::Fail;
 use worked_files::contents::Content;
 use worked_files::steps::Step;
 
@@ -17,7 +15,8 @@ const STOPPED: Content = Content::Text(
     "0 root 0 0\n0 load 1 0 0\n1 root 0 0\n1 load 1 0 0\n0 get 1 0\n1 get 1 0\n1 get 2 0\n0 get 1 0\n0 get 2 0\n1 get 1 0\n",
 );
 
-const RACED: &[Step] = &[
+/// Races that come to their end.
+pub const RACED: &[Step] = &[
     Step::Write("race.tests.img", Content::ThreeImage),
     Step::Write("race.tests.trace", SEEN),
     Step::PrintsEither(
@@ -39,7 +38,8 @@ const RACED: &[Step] = &[
     Step::Remove("race.tests.out"),
 ];
 
-const HALTED: &[Step] = &[
+/// Races that are refused.
+pub const HALTED: &[Step] = &[
     Step::Write("stop.tests.img", Content::ThreeImage),
     Step::Write("stop.tests.trace", STOPPED),
     Step::Refuses(
@@ -55,9 +55,3 @@ const HALTED: &[Step] = &[
     Step::Remove("stop.tests.img"),
     Step::Remove("stop.tests.trace"),
 ];
-
-#[test]
-fn races_traces_and_tells_the_least_refused_line(rt: HostRuntime) -> Result<(), Fail> {
-    take_steps(&rt, RACED)?;
-    take_steps(&rt, HALTED)
-}

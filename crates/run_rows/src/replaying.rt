@@ -1,6 +1,4 @@
 //! Traces that are run over heaps: the dump, the lines, and what a refusal leaves.
-use crate::runs::take_steps;
-use std::test::Fail;
 use worked_files::contents::Content;
 use worked_files::steps::Step;
 
@@ -12,7 +10,8 @@ const SEEN: Content = Content::Text(
 // A new object becomes the field of the root.
 const FRESH: Content = Content::Text("0 root 0 0\n0 new 1 0 0 0\n0 store 0 0 1\n");
 
-const REPLAYED: &[Step] = &[
+/// Traces that are run to their end.
+pub const REPLAYED: &[Step] = &[
     Step::Write("rows.tests.img", Content::ThreeImage),
     Step::Write("rows.tests.trace", SEEN),
     Step::Prints(
@@ -52,7 +51,8 @@ const KEPT: Content = Content::Text("kept");
 // The run of the trace that was written last.
 const HALT: &str = "replay halt.tests.img halt.tests.trace halt.tests.out";
 
-const STOPPED: &[Step] = &[
+/// Traces that are refused: the dump stays as it was.
+pub const STOPPED: &[Step] = &[
     Step::Write("halt.tests.img", Content::ThreeImage),
     Step::Write("halt.tests.out", KEPT),
     Step::Write("halt.tests.trace", HALTED),
@@ -84,7 +84,8 @@ const STOPPED: &[Step] = &[
     Step::Remove("halt.tests.out"),
 ];
 
-const WRONG_FILES: &[Step] = &[
+/// Files that are not there, and folders in place of files.
+pub const WRONG_FILES: &[Step] = &[
     Step::Write("file.tests.img", Content::ThreeImage),
     Step::Write("file.tests.trace", SEEN),
     Step::MakeFolder("file.tests"),
@@ -112,10 +113,3 @@ const WRONG_FILES: &[Step] = &[
     Step::Remove("file.tests.trace"),
     Step::RemoveFolder("file.tests"),
 ];
-
-#[test]
-fn replays_traces_and_tells_what_is_refused(rt: HostRuntime) -> Result<(), Fail> {
-    take_steps(&rt, REPLAYED)?;
-    take_steps(&rt, STOPPED)?;
-    take_steps(&rt, WRONG_FILES)
-}

@@ -5,6 +5,7 @@ ghost use Rattle.page_cells.specs.Cells.{IsPassOf};
 
 use crate::expected::{At, expect_so};
 use crate::rows::{Row, at_once};
+use heap_layout::heap::MarkedHeap;
 use page_cells::Pass;
 use page_cells::cells::Cells;
 use page_cells::refusal::CellRefusal;
@@ -16,7 +17,7 @@ use std::sync::Arc;
 use std::test::Fail;
 use std::thread::Threads;
 use worked_heaps::builders::{Meeting, Refusing};
-use worked_heaps::heaps::{heap, planned, three};
+use worked_heaps::heaps::{counting_heap, planned, three};
 
 // What two passes do at once: the rows of the first, and those of the second.
 type Round = (&'static [Row], &'static [Row]);
@@ -37,9 +38,7 @@ pub(crate) fn opened<B: Builder>(
 ) -> (Cells<B>, Vec<Pass>)
     ensures { All (λ pass. IsPassOf result.0 pass × Rests pass) result.1.items }
 {
-    let Ok(builder) = Arc::new(alloc, builder) else {
-        panic!(rt; "no memory for a builder");
-    };
+    let builder = Arc::new(alloc, builder).expect(rt, "memory for a builder");
     let Ok(opened) = Cells::new(alloc, builder, 0, 2) else {
         panic!(rt; "no memory for cells");
     };
@@ -92,16 +91,27 @@ fn play_case<B: Builder, R: Abort + Threads + Sync>(
     play_rounds(rt, alloc, &cells, &mut passes, case);
 }
 
+// What was made.
+fn made<T>(rt: &impl Abort, found: Result<T, Fail>) -> T {
+    match found {
+        Ok(value) => value,
+        Err(_) => panic!(rt; "a worked heap"),
+    }
+}
+
+// The plan of a worked heap.
+fn plan_of(rt: &impl Abort, alloc: Global, heap: Result<MarkedHeap, Fail>) -> Plan {
+    made(rt, planned(alloc, made(rt, heap)))
+}
+
 /// The plan of the heap of three objects.
-pub(crate) fn planned_three(alloc: Global) -> Result<Plan, Fail> {
-    planned(alloc, three(alloc)?)
+pub(crate) fn planned_three(rt: &impl Abort, alloc: Global) -> Plan {
+    plan_of(rt, alloc, three(alloc))
 }
 
 // The plan of a heap of one object of 255 data words.
-fn planned_four_pages(alloc: Global) -> Result<Plan, Fail> {
-    let mut words = vec![in alloc; 0u64; 255]?;
-    words.insert(0, 16_711_680)?;
-    planned(alloc, heap(alloc, &words, &[0], &[])?)
+fn planned_four_pages(rt: &impl Abort, alloc: Global) -> Plan {
+    plan_of(rt, alloc, counting_heap(alloc, 255))
 }
 
 // The first pass writes; then the other one reads.
@@ -144,16 +154,12 @@ const TWO_PAGES: Case = Case {
 };
 
 #[test]
-fn plays_cases(rt: HostRuntime) -> Result<(), Fail> {
+fn plays_cases(rt: HostRuntime) {
     let alloc = rt.alloc();
-    play_case(&rt, alloc, planned_three(alloc)?, &WRITTEN);
-    play_case(&rt, alloc, planned_three(alloc)?, &RACE);
-    play_case(&rt, alloc, Refusing::new(planned_three(alloc)?), &REFUSED);
-    play_case(
-        &rt,
-        alloc,
-        Meeting::new(planned_four_pages(alloc)?),
-        &TWO_PAGES,
-    );
-    Ok(())
+    play_case(&rt, alloc, planned_three(&rt, alloc), &WRITTEN);
+    play_case(&rt, alloc, planned_three(&rt, alloc), &RACE);
+    let refusing = Refusing::new(planned_three(&rt, alloc));
+    play_case(&rt, alloc, refusing, &REFUSED);
+    let meeting = Meeting::new(planned_four_pages(&rt, alloc));
+    play_case(&rt, alloc, meeting, &TWO_PAGES);
 }

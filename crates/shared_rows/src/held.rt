@@ -14,7 +14,6 @@ use page_plan::builder::Builder;
 use page_plan::plan::Plan;
 use std::alloc::Global;
 use std::process::Abort;
-use std::test::Fail;
 
 // The beginning of a case.
 fn begin_of(case: &'static str) -> At {
@@ -126,22 +125,15 @@ fn close_late<B: Builder>(
     requires first { IsPassOf cells first × Rests first }
     requires second { IsPassOf cells second × Rests second }
 {
-    let Ok(alone) = vec![in alloc; second] else {
-        panic!(rt; "no memory for a pass");
-    };
-    let Err(left) = cells.close(alloc, alone) else {
+    let alone = vec![in alloc; second].expect(rt, "memory for a pass");
+    let Err(mut left) = cells.close(alloc, alone) else {
         panic!(rt; "a pass was missing");
     };
     let at = begin_of(CLOSED);
     expect_so(rt, at, left.fault == CellRefusal::PassMissing(0));
-    let mut passes = left.passes;
-    let Ok(()) = passes.push(first) else {
-        panic!(rt; "no memory for a pass");
-    };
-    let Ok(closed) = left.cells.close(alloc, passes) else {
-        panic!(rt; "no pass is missing");
-    };
-    expect_so(rt, at, is_end(&closed));
+    left.passes.push(first).expect(rt, "memory for a pass");
+    let closed = left.cells.close(alloc, left.passes).ok();
+    expect_so(rt, at, is_end(&closed.expect(rt, "no pass is missing")));
 }
 
 // New cells whose first page is held by the first pass, also through a meeting.
@@ -175,10 +167,9 @@ fn play_closed(rt: &impl Abort, alloc: Global, plan: Plan) {
 }
 
 #[test]
-fn holds_pages_and_closes_cells(rt: HostRuntime) -> Result<(), Fail> {
+fn holds_pages_and_closes_cells(rt: HostRuntime) {
     let alloc = rt.alloc();
-    play_held(&rt, alloc, planned_three(alloc)?, Held::Alone);
-    play_held(&rt, alloc, planned_three(alloc)?, Held::ThroughMeeting);
-    play_closed(&rt, alloc, planned_three(alloc)?);
-    Ok(())
+    play_held(&rt, alloc, planned_three(&rt, alloc), Held::Alone);
+    play_held(&rt, alloc, planned_three(&rt, alloc), Held::ThroughMeeting);
+    play_closed(&rt, alloc, planned_three(&rt, alloc));
 }

@@ -3,7 +3,7 @@ ghost use Rattle.std.specs.Prelude.{◌≡◌};
 ghost use Rattle.comp_ledger.specs.Ledgers.{share_count};
 
 use crate::expected::{At, expect_so};
-use comp_ledger::ledger::Ledger;
+use comp_ledger::ledger::{Ledger, NotGathered};
 use comp_ledger::refusal::LedgerFault;
 use comp_ledger::share::Share;
 use std::alloc::Global;
@@ -105,7 +105,7 @@ fn at_once<L: Named + Send + Sync, R: Abort + Threads + Wait + Sync>(
     );
 }
 
-// Gathers these shares with their last words, is refused, and gives back what the refusal left.
+// Gathers these shares with their last words, is refused, and gives what the refusal left.
 fn gather_refused<L: Named>(
     rt: &impl Abort,
     ledger: Ledger<L>,
@@ -113,16 +113,16 @@ fn gather_refused<L: Named>(
     at: At,
     last: &[u64],
     wanted: LedgerFault,
-) -> (Ledger<L>, Vec<Share<L>>)
+) -> NotGathered<L>
     requires whole { share_count ledger ≡ L.parts }
-    ensures same { result.0 ≡ ledger }
+    ensures same { result.ledger ≡ ledger }
 {
     assert!(rt; shares.len() == last.len());
     let Err(left) = ledger.gather(shares, last) else {
         panic!(rt; "nothing was refused");
     };
     expect_so(rt, at, left.fault == wanted);
-    (left.ledger, left.shares)
+    left
 }
 
 // Nothing was posted with either share.
@@ -134,19 +134,26 @@ fn gather_in_vain<L: Named + Send + Sync, R: Abort + Threads + Wait + Sync>(
     ledger: Ledger<L>,
     mut shares: Vec<Share<L>>,
     at: At,
-) -> (Ledger<L>, Vec<Share<L>>)
+) -> NotGathered<L>
     requires whole { share_count ledger ≡ L.parts }
-    ensures same { result.0 ≡ ledger }
+    ensures same { result.ledger ≡ ledger }
 {
     assert!(rt; shares.len() == 2);
     let first = shares.remove(0);
     let missing = LedgerFault::ShareMissing(0);
-    let (ledger, mut both) = gather_refused(rt, ledger, shares, at, &[0], missing);
-    assert!(rt; both.push(first).is_ok());
+    let mut left = gather_refused(rt, ledger, shares, at, &[0], missing);
+    left.shares.push(first).expect(rt, "memory for a share");
     let over = LedgerFault::OverCapacity;
-    let (ledger, mut both) = gather_refused(rt, ledger, both, at, &[2, 1], over);
-    at_once(rt, &ledger, &mut both, at, &NONE_POSTED, &NONE_POSTED);
-    (ledger, both)
+    let mut left = gather_refused(rt, left.ledger, left.shares, at, &[2, 1], over);
+    at_once(
+        rt,
+        &left.ledger,
+        &mut left.shares,
+        at,
+        &NONE_POSTED,
+        &NONE_POSTED,
+    );
+    left
 }
 
 // Gathers these shares with their last words, and finds so many words in all.
@@ -161,10 +168,8 @@ fn gather<L: Named>(
     requires whole { share_count ledger ≡ L.parts }
 {
     assert!(rt; shares.len() == last.len());
-    let Ok(words) = ledger.gather(shares, last) else {
-        panic!(rt; "these shares are all, and their words fit");
-    };
-    expect_so(rt, at, words == wanted);
+    let words = ledger.gather(shares, last).ok();
+    expect_so(rt, at, words == Some(wanted));
 }
 
 // The shares of a case are gathered.
@@ -178,8 +183,8 @@ fn end<L: Named + Send + Sync, R: Abort + Threads + Wait + Sync>(
 {
     let at = round_of(case, case.rounds.len());
     if case.refused {
-        let (ledger, shares) = gather_in_vain(rt, ledger, shares, at);
-        gather(rt, ledger, shares, at, case.last, case.words);
+        let left = gather_in_vain(rt, ledger, shares, at);
+        gather(rt, left.ledger, left.shares, at, case.last, case.words);
     } else {
         gather(rt, ledger, shares, at, case.last, case.words);
     }
@@ -192,8 +197,7 @@ fn play_rounds<L: Named + Send + Sync, R: Abort + Threads + Wait + Sync>(
     shares: &mut [Share<L>],
     case: &Case,
 ) {
-    assert!(rt; ledger.count() == case.shares);
-    assert!(rt; shares.len() == usize::from(case.shares));
+    assert!(rt; ledger.count() == case.shares && shares.len() == usize::from(case.shares));
     for (round, (first, second)) in case.rounds.iter().enumerate() {
         at_once(rt, ledger, shares, round_of(case, round), first, second);
     }

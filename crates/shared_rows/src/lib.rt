@@ -1,4 +1,4 @@
-//! What mutators share, also by threads: pages of worked heaps taken, written, built and closed through their cells, and ledgers at work, with their printed refusals. What no contract says, with values
+//! What mutators share, also by threads: pages of worked heaps taken, written, built and closed through their cells, and ledgers at work. What no contract says, with values
 //! from outside. What passes and shares do stands in tables of cases; a failing row tells the name of its case.
 #![tactic(auto)]
 
@@ -14,7 +14,5 @@ mod ledgers;
 mod pages;
 #[cfg(test)]
 mod passes;
-#[cfg(test)]
-mod refusals;
 #[cfg(test)]
 mod rows;

@@ -68,10 +68,9 @@ fn first_fault(
     marks: &[u32],
     roots: &[u64],
 ) -> Option<LayoutFault> {
-    let Ok(judged) = judged(rt.alloc(), words, marks, roots) else {
-        panic!(rt; "memory for a heap");
-    };
-    judged.err()
+    judged(rt.alloc(), words, marks, roots)
+        .expect(rt, "memory for a heap")
+        .err()
 }
 
 #[test]
@@ -85,19 +84,18 @@ fn names_the_first_fault(rt: HostRuntime) {
     }
 }
 
+// As many zeros.
+fn zeros(rt: &(impl Abort + AllocGlobal), count: usize) -> Vec<u64> {
+    vec![in rt.alloc(); 0u64; count].expect(rt, "memory for zeros")
+}
+
 // The first fault of a heap of as many empty objects, none of which is marked, and as many null roots.
 fn fault_of_many(
     rt: &(impl Abort + AllocGlobal),
     words: usize,
     roots: usize,
 ) -> Option<LayoutFault> {
-    let Ok(words) = vec![in rt.alloc(); 0u64; words] else {
-        panic!(rt; "memory for words");
-    };
-    let Ok(roots) = vec![in rt.alloc(); 0u64; roots] else {
-        panic!(rt; "memory for roots");
-    };
-    first_fault(rt, &words, &[], &roots)
+    first_fault(rt, &zeros(rt, words), &[], &zeros(rt, roots))
 }
 
 // As many words and roots as there may be, and one more of each.
@@ -140,9 +138,7 @@ fn prints_each_fault(rt: HostRuntime) {
             case: "printed faults",
             row: row as u64,
         };
-        let Ok(text) = fault.to_string(rt.alloc()) else {
-            panic!(rt; "memory for a text");
-        };
+        let text = fault.to_string(rt.alloc()).expect(&rt, "memory for a text");
         expect_so(&rt, at, text.as_str() == *wanted);
     }
 }

@@ -3,6 +3,7 @@ use crate::larger_heaps::{across_blocks, every_second, scattered, step};
 use heap_layout::heap::MarkedHeap;
 use page_plan::plan::Plan;
 use std::alloc::Global;
+use std::process::Abort;
 use std::test::Fail;
 use worked_heaps::heaps::{
     counting_heap, counting_object, empty, heap, planned, seventeen_pages, smallest, three,
@@ -54,7 +55,16 @@ fn heap_of(alloc: Global, heap: Heap) -> Result<MarkedHeap, Fail> {
     }
 }
 
+// What was made.
+fn made<T>(rt: &impl Abort, found: Result<T, Fail>) -> T {
+    match found {
+        Ok(value) => value,
+        Err(_) => panic!(rt; "a worked heap"),
+    }
+}
+
 /// The plan for the heap of a case.
-pub fn plan_of(alloc: Global, heap: Heap) -> Result<Plan, Fail> {
-    planned(alloc, heap_of(alloc, heap)?)
+pub fn plan_of(rt: &(impl Abort + AllocGlobal), heap: Heap) -> Plan {
+    let alloc = rt.alloc();
+    made(rt, planned(alloc, made(rt, heap_of(alloc, heap))))
 }

@@ -5,7 +5,6 @@ use heap_image::counted::Counted;
 use heap_image::image::read_image;
 use heap_layout::fault::LayoutFault;
 use heap_layout::heap::MarkedHeap;
-use std::alloc::AllocError;
 use std::io::ErrorKind;
 use std::process::Abort;
 use worked_heaps::heaps::{F, THREE};
@@ -15,39 +14,28 @@ fn count_of<T>(parts: &[T]) -> u32 {
     u32::try_from(parts.len()).unwrap_or(u32::MAX)
 }
 
+// Adds bytes.
+fn push(rt: &impl Abort, bytes: &mut Vec<u8>, more: &[u8]) {
+    bytes
+        .extend_from_slice(more)
+        .expect(rt, "memory for an image");
+}
+
 // Adds numbers of 4 bytes.
-fn push_numbers(bytes: &mut Vec<u8>, numbers: &[u32]) -> Result<(), AllocError> {
+fn push_numbers(rt: &impl Abort, bytes: &mut Vec<u8>, numbers: &[u32]) {
     for number in numbers {
-        bytes.extend_from_slice(&number.to_le_bytes())?;
+        push(rt, bytes, &number.to_le_bytes());
     }
-    Ok(())
 }
 
 // Adds words of 8 bytes.
-fn push_words(bytes: &mut Vec<u8>, words: &[u64]) -> Result<(), AllocError> {
+fn push_words(rt: &impl Abort, bytes: &mut Vec<u8>, words: &[u64]) {
     for word in words {
-        bytes.extend_from_slice(&word.to_le_bytes())?;
+        push(rt, bytes, &word.to_le_bytes());
     }
-    Ok(())
 }
 
-// Adds an image, field by field.
-fn push_image(
-    bytes: &mut Vec<u8>,
-    version: u32,
-    words: &[u64],
-    marks: &[u32],
-    roots: &[u64],
-) -> Result<(), AllocError> {
-    let numbers = [version, count_of(words), count_of(marks), count_of(roots)];
-    bytes.extend_from_slice(b"COMPHEAP")?;
-    push_numbers(bytes, &numbers)?;
-    push_words(bytes, words)?;
-    push_numbers(bytes, marks)?;
-    push_words(bytes, roots)
-}
-
-// An image.
+// An image, field by field.
 fn image(
     rt: &(impl Abort + AllocGlobal),
     version: u32,
@@ -56,7 +44,12 @@ fn image(
     roots: &[u64],
 ) -> Vec<u8> {
     let mut bytes = Vec::new(rt.alloc());
-    assert!(rt; push_image(&mut bytes, version, words, marks, roots).is_ok());
+    let numbers = [version, count_of(words), count_of(marks), count_of(roots)];
+    push(rt, &mut bytes, b"COMPHEAP");
+    push_numbers(rt, &mut bytes, &numbers);
+    push_words(rt, &mut bytes, words);
+    push_numbers(rt, &mut bytes, marks);
+    push_words(rt, &mut bytes, roots);
     bytes
 }
 
@@ -70,11 +63,23 @@ fn read(rt: &impl AllocGlobal, bytes: &[u8]) -> Result<MarkedHeap, LayoutFault> 
     read_image(rt.alloc(), &mut Counted::new(bytes))
 }
 
+// The heap is that of the three objects.
 fn is_three(heap: &MarkedHeap) -> bool {
     heap.words() == THREE.as_slice()
         && heap.marks() == [0, 5].as_slice()
         && heap.roots() == [F + 5].as_slice()
 }
+
+// These bytes are read as the three objects.
+fn is_read_as_three(rt: &impl AllocGlobal, bytes: &[u8]) -> bool {
+    match read(rt, bytes) {
+        Ok(heap) => is_three(&heap),
+        Err(_) => false,
+    }
+}
+
+// How many bytes a call reads.
+static PIECES: [usize; 4] = [1, 2, 7, 95];
 
 #[test]
 fn reads_an_image(rt: HostRuntime) {
@@ -84,13 +89,13 @@ fn reads_an_image(rt: HostRuntime) {
         row: 0,
     };
     expect_count(&rt, at, bytes.len() as u64, 96);
-    expect_so(&rt, at, read(&rt, &bytes).is_ok_and(|heap| is_three(&heap)));
-    for piece in [1usize, 2, 7, 95] {
+    expect_so(&rt, at, is_read_as_three(&rt, &bytes));
+    for piece in &PIECES {
         let at = At {
             case: "an image in pieces",
-            row: piece as u64,
+            row: *piece as u64,
         };
-        expect_three_or_device(&rt, at, &bytes, piece, None);
+        expect_three_or_device(&rt, at, &bytes, *piece, None);
     }
 }
 
@@ -125,11 +130,11 @@ const HUGE: [u8; 24] = [
 fn refuses_what_is_no_image(rt: HostRuntime) {
     let mut bytes = three_image(&rt);
     expect_truncated(&rt, &bytes);
-    assert!(rt; bytes.push(0).is_ok());
+    push(&rt, &mut bytes, &[0]);
     expect_refused(&rt, "a byte more", &bytes, LayoutFault::TrailingBytes);
+    expect_refused(&rt, "too many words", &HUGE, LayoutFault::TooLarge);
     let newer = image(&rt, 2, &THREE, &[0, 5], &[F + 5]);
     expect_refused(&rt, "another version", &newer, LayoutFault::BadMagic);
-    expect_refused(&rt, "too many words", &HUGE, LayoutFault::TooLarge);
 }
 
 // These bytes are the image of the heap.
@@ -156,7 +161,9 @@ fn expect_judged(
         Ok(heap) => is_image_of(rt, bytes, &heap),
         Err(fault) => value != right && is_cause(fault, at),
     };
-    assert!(rt; well, "byte {at} as {value}");
+    let row = (at as u64).wrapping_mul(256).wrapping_add(u64::from(value));
+    let case = "256 times the place, and the byte:";
+    expect_so(rt, At { case, row }, well);
 }
 
 #[test]

@@ -1,11 +1,8 @@
 //! Pages of slid heaps.
 use crate::expected::{At, expect_count};
 use crate::heaps::{Heap, plan_of};
-use crate::rows::{Case, Row, expect_cases, expect_words};
-use heap_layout::page_words::PageWords;
-use page_plan::builder::Builder;
+use crate::rows::{Case, Row, expect_words, page_of};
 use std::process::Abort;
-use std::test::Fail;
 use worked_heaps::builders::Counting;
 use worked_heaps::heaps::{F, T};
 
@@ -15,8 +12,8 @@ const SLID_THREE: [u64; 4] = [4_295_032_832, 11, 12_884_901_889, 8_589_934_592];
 // The address of the last of the three objects.
 const LAST: u64 = F + 5;
 
-// Objects that slide a gap shut, with references that name no marked one; pages of one object, of an object behind a gap, and of many.
-const PAGES: [Case; 7] = [
+/// Objects that slide a gap shut, with references that name no marked one; pages of one object, of an object behind a gap, and of many.
+pub static CASES: [Case; 7] = [
     Case {
         name: "slides a gap shut",
         heap: Heap::Three,
@@ -72,20 +69,6 @@ const PAGES: [Case; 7] = [
     },
 ];
 
-#[test]
-fn slides_and_builds_pages(rt: HostRuntime) -> Result<(), Fail> {
-    expect_cases(&rt, &PAGES)
-}
-
-// Builds page `p` by a builder of any kind.
-fn build_by<B: Builder>(rt: &(impl Abort + AllocGlobal), builder: &B, p: u64) -> PageWords {
-    assert!(rt; p < builder.plan().pages());
-    let Ok(page) = builder.build(rt.alloc(), p) else {
-        panic!(rt; "memory for page {p}");
-    };
-    page
-}
-
 // The three objects, by a builder that counts and by its plan.
 fn expect_builds(rt: &(impl Abort + AllocGlobal), counting: &Counting) {
     let at = At {
@@ -93,14 +76,13 @@ fn expect_builds(rt: &(impl Abort + AllocGlobal), counting: &Counting) {
         row: 0,
     };
     expect_count(rt, at, counting.count(), 0);
-    expect_words(rt, at, &build_by(rt, counting, 0), &SLID_THREE);
+    expect_words(rt, at, &page_of(rt, counting, 0), &SLID_THREE);
     expect_count(rt, at, counting.count(), 1);
-    expect_words(rt, at, &build_by(rt, &counting.plan, 0), &SLID_THREE);
+    expect_words(rt, at, &page_of(rt, &counting.plan, 0), &SLID_THREE);
 }
 
 #[test]
-fn builds_by_any_builder(rt: HostRuntime) -> Result<(), Fail> {
-    let counting = Counting::new(plan_of(rt.alloc(), Heap::Three)?);
+fn builds_by_any_builder(rt: HostRuntime) {
+    let counting = Counting::new(plan_of(&rt, Heap::Three));
     expect_builds(&rt, &counting);
-    Ok(())
 }

@@ -7,7 +7,6 @@ use heap_layout::heap::MarkedHeap;
 use mark_tables::tables::Tables;
 use page_plan::plan::Plan;
 use std::process::Abort;
-use std::test::Fail;
 use worked_heaps::heaps::{F, T};
 
 // A number of a page, a word or an address, by the plain walk.
@@ -72,28 +71,19 @@ pub fn expect_plain(rt: &(impl Abort + AllocGlobal), plan: &Plan, tables: &Table
     expect_plain_places(rt, plan.heap(), plan, tables);
 }
 
-// Each of these heaps.
-fn expect_all_plain(rt: &(impl Abort + AllocGlobal), heaps: &[Heap]) -> Result<(), Fail> {
+/// Each of these heaps.
+pub fn expect_all_plain(rt: &(impl Abort + AllocGlobal), heaps: &[Heap]) {
     for heap in heaps {
-        expect_heap(rt, "a plain walk", *heap, &[Row::PlainWalk])?;
+        expect_heap(rt, "a plain walk", *heap, &[Row::PlainWalk]);
     }
-    Ok(())
 }
 
-const HEAPS: [Heap; 4] = [
+/// Some heaps; one object of each of these sizes, marked and not; and scattered objects, with few and many of them marked.
+pub static HEAPS: [Heap; 50] = [
     Heap::Step,
     Heap::Three,
     Heap::EverySecond(1_000),
     Heap::Empty,
-];
-
-#[test]
-fn agrees_with_a_plain_walk(rt: HostRuntime) -> Result<(), Fail> {
-    expect_all_plain(&rt, &HEAPS)
-}
-
-// One object of each of these sizes, marked and not.
-const ONE_OBJECT: [Heap; 14] = [
     Heap::Counting(62),
     Heap::Unmarked(62),
     Heap::Counting(63),
@@ -108,19 +98,36 @@ const ONE_OBJECT: [Heap; 14] = [
     Heap::Unmarked(150),
     Heap::Counting(1_023),
     Heap::Unmarked(1_023),
+    Heap::Scattered(0, 0),
+    Heap::Scattered(0, 1),
+    Heap::Scattered(0, 2),
+    Heap::Scattered(0, 4),
+    Heap::Scattered(1, 0),
+    Heap::Scattered(1, 1),
+    Heap::Scattered(1, 2),
+    Heap::Scattered(1, 4),
+    Heap::Scattered(2, 0),
+    Heap::Scattered(2, 1),
+    Heap::Scattered(2, 2),
+    Heap::Scattered(2, 4),
+    Heap::Scattered(3, 0),
+    Heap::Scattered(3, 1),
+    Heap::Scattered(3, 2),
+    Heap::Scattered(3, 4),
+    Heap::Scattered(4, 0),
+    Heap::Scattered(4, 1),
+    Heap::Scattered(4, 2),
+    Heap::Scattered(4, 4),
+    Heap::Scattered(5, 0),
+    Heap::Scattered(5, 1),
+    Heap::Scattered(5, 2),
+    Heap::Scattered(5, 4),
+    Heap::Scattered(6, 0),
+    Heap::Scattered(6, 1),
+    Heap::Scattered(6, 2),
+    Heap::Scattered(6, 4),
+    Heap::Scattered(7, 0),
+    Heap::Scattered(7, 1),
+    Heap::Scattered(7, 2),
+    Heap::Scattered(7, 4),
 ];
-
-#[test]
-fn agrees_with_a_plain_walk_on_one_object(rt: HostRuntime) -> Result<(), Fail> {
-    expect_all_plain(&rt, &ONE_OBJECT)
-}
-
-#[test]
-fn agrees_with_a_plain_walk_on_scattered_objects(rt: HostRuntime) -> Result<(), Fail> {
-    for seed in 0..8u64 {
-        for often in [0, 1, 2, 4] {
-            expect_all_plain(&rt, &[Heap::Scattered(seed, often)])?;
-        }
-    }
-    Ok(())
-}

@@ -1,0 +1,40 @@
+//! The tables of all runs: one test runs all of them, which costs its proof less than a test for each.
+use crate::printing::{LINES, REMOVED, WRITTEN, expect_lines};
+use crate::runs::take_steps;
+use crate::{judging, programs, racing, replaying};
+use std::rt::Files;
+use std::sync::Wait;
+use std::test::Fail;
+use std::thread::Threads;
+use worked_files::steps::Step;
+
+// All tables, the last of which writes the image that the lines print of.
+static TABLES: [&[Step]; 9] = [
+    programs::STEPS,
+    judging::PASSED,
+    judging::JUDGED,
+    racing::RACED,
+    racing::HALTED,
+    replaying::REPLAYED,
+    replaying::STOPPED,
+    replaying::WRONG_FILES,
+    WRITTEN,
+];
+
+// Takes the steps of these tables, one table after another.
+fn take_tables<R: Files + AllocGlobal + Threads + Wait + Sync>(
+    rt: &R,
+    tables: &[&[Step]],
+) -> Result<(), Fail> {
+    for steps in tables {
+        take_steps(rt, steps)?;
+    }
+    Ok(())
+}
+
+#[test]
+fn does_what_its_words_ask(rt: HostRuntime) -> Result<(), Fail> {
+    take_tables(&rt, &TABLES)?;
+    expect_lines(&rt, &LINES)?;
+    take_steps(&rt, REMOVED)
+}
