@@ -1,6 +1,8 @@
-//! Runs of the program: what it prints, tells, writes and refuses, also where its output takes only so much, with values from outside.
+//! What words ask of the program, and its runs: what it prints, tells, writes and refuses, also where its output takes only so much, with values from outside.
 #![tactic(auto)]
 
+#[cfg(test)]
+mod asking;
 #[cfg(test)]
 mod judging;
 #[cfg(test)]

@@ -1,5 +1,0 @@
-//! What the words of the command line ask, with values from outside.
-#![tactic(auto)]
-
-#[cfg(test)]
-mod asking;
