@@ -10,8 +10,8 @@ use Rattle.cell_steps.specs.Setup.{Setup}
 use Rattle.cell_steps.specs.Lawful.{kinds_by, kinds_in, filled, Fits, LawfulAfter}
 use Rattle.page_cells.proofs.Heads.{kinds_append, one_on}
 use Rattle.comp_history.proofs.Words.{kinds_long}
-use Rattle.audit_checks.specs.declared.fault.AuditFault.{AuditFault}
-use Rattle.audit_checks.specs.declared.fault.AuditFault.TheVariants.{BadEntry}
+use Rattle.audit_faults.specs.declared.fault.AuditFault.{AuditFault}
+use Rattle.audit_faults.specs.declared.fault.AuditFault.TheVariants.{BadEntry}
 use Rattle.audit_checks.specs.Checks.{unless, entry_faults, fits}
 use Rattle.audit_checks.specs.Told.{IsFirst}
 

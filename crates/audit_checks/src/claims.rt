@@ -7,7 +7,8 @@ ghost use Rattle.audit_checks.specs.Checks.{build_faults, is_claimed};
 ghost use Rattle.comp_dump.specs.Dumped.{IsStoredList};
 ghost use Rattle.audit_checks.specs.Told.{Tells};
 
-use crate::fault::{AuditFault, Stop};
+use crate::fault::Stop;
+use audit_faults::fault::AuditFault;
 use comp_dump::page::DumpedPage;
 use std::alloc::{AllocError, Global};
 

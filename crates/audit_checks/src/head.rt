@@ -5,8 +5,9 @@ ghost use Rattle.audit_checks.specs.Checks.{head_faults};
 ghost use Rattle.audit_checks.specs.Told.{Tells};
 ghost use Rattle.audit_checks.specs.Noted.{setup_at};
 
-use crate::fault::{AuditFault, Stop};
+use crate::fault::Stop;
 use crate::setting::Setting;
+use audit_faults::fault::AuditFault;
 use comp_dump::page::DumpedPage;
 use std::alloc::Global;
 

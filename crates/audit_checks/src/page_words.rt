@@ -7,8 +7,9 @@ ghost use Rattle.comp_dump.specs.Dumped.{IsStoredPage, IsStoredRecord};
 ghost use Rattle.audit_checks.specs.Told.{Tells};
 ghost use Rattle.audit_checks.specs.Noted.{setup_at};
 
-use crate::fault::{AuditFault, Stop};
+use crate::fault::Stop;
 use crate::setting::Setting;
+use audit_faults::fault::AuditFault;
 use comp_dump::page::DumpedPage;
 use comp_journal::entry::Entry;
 use heap_layout::fault::OutOfMemory;

@@ -9,10 +9,11 @@ ghost use Rattle.comp_dump.specs.Dumped.{IsStoredPage, IsStoredRecord};
 ghost use Rattle.audit_checks.specs.Told.{Tells};
 ghost use Rattle.audit_checks.specs.Noted.{leads, setup_at};
 
-use crate::fault::{AuditFault, Stop};
+use crate::fault::Stop;
 use crate::kinds::{is_word_of, kinds_on};
 use crate::setting::Setting;
 use crate::starts::Starts;
+use audit_faults::fault::AuditFault;
 use comp_dump::page::DumpedPage;
 use heap_layout::kind::Kind;
 use page_plan::TO_SPACE;

@@ -4,8 +4,9 @@ ghost use Rattle.comp_journal.specs.declared.entry.Entry.{Entry};
 ghost use Rattle.audit_checks.specs.Checks.{all_stamps, missing_faults, repeat_faults};
 ghost use Rattle.audit_checks.specs.Told.{Tells};
 
-use crate::fault::{AuditFault, Stop};
+use crate::fault::Stop;
 use crate::record::journal_of;
+use audit_faults::fault::AuditFault;
 use comp_dump::page::DumpedPage;
 use comp_journal::entry::Entry;
 use std::alloc::{AllocError, Global};

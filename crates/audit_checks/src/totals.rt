@@ -7,8 +7,9 @@ ghost use Rattle.audit_checks.specs.Checks.{all_entries, total_faults};
 ghost use Rattle.comp_dump.specs.Dumped.{HasFewEntries};
 ghost use Rattle.audit_checks.specs.Told.{Tells};
 
-use crate::fault::{AuditFault, Stop};
+use crate::fault::Stop;
 use crate::record::journal_of;
+use audit_faults::fault::AuditFault;
 use comp_dump::page::DumpedPage;
 use comp_journal::entry::Entry;
 use heap_layout::header::Header;

@@ -1,7 +1,7 @@
 //! Dumps that are judged: true ones, and forged ones.
 use crate::places::{Image, Memory};
 use crate::printing::expect_printed;
-use audit_checks::fault::AuditFault;
+use audit_faults::fault::AuditFault;
 use command_io::refusal::{Input, Refusal};
 use comp_dump::fault::DumpFault;
 use heap_commands::audit::print_audit;

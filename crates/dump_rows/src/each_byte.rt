@@ -5,7 +5,7 @@ use crate::encoded::{Whole, encoded};
 use crate::expected::expect_so;
 use crate::judged::{Told, expect_told, told};
 use crate::planned::{Worked, plan_of};
-use audit_checks::fault::AuditFault;
+use audit_faults::fault::AuditFault;
 use comp_audit::verdict::Verdict;
 use comp_dump::fault::DumpFault;
 use page_plan::plan::Plan;

@@ -2,7 +2,7 @@
 use crate::encoded::{Change, REST, Whole};
 use crate::expected::expect_so;
 use crate::judged::{Row, Told};
-use audit_checks::fault::AuditFault;
+use audit_faults::fault::AuditFault;
 use comp_audit::verdict::Verdict;
 use comp_dump::fault::DumpFault;
 use std::alloc::Global;

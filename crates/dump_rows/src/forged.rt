@@ -1,7 +1,7 @@
 //! The dump of a new object with some fields changed, and the fault that is told of it: one of each kind.
 use crate::encoded::{Change, Whole};
 use crate::judged::{Row, Told};
-use audit_checks::fault::AuditFault;
+use audit_faults::fault::AuditFault;
 use comp_audit::verdict::Verdict;
 use comp_dump::fault::DumpFault;
 

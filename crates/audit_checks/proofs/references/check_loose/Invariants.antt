@@ -5,7 +5,7 @@ use Rattle.heap_layout.specs.declared.kind.Kind.TheVariants as sorts
 use Rattle.cell_steps.specs.Setup.{address}
 use Rattle.audit_checks.specs.Checks.{unless, is_kind, loose_faults}
 use Rattle.audit_checks.specs.Noted.{leads}
-use Rattle.audit_checks.specs.declared.fault.AuditFault.TheVariants.{LooseReference}
+use Rattle.audit_faults.specs.declared.fault.AuditFault.TheVariants.{LooseReference}
 use Rattle.audit_checks.proofs.references.check_loose.Given as goal
 
 -- the words that are left have the faults of all

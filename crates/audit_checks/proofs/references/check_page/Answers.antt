@@ -4,8 +4,8 @@ use Rattle.heap_layout.specs.declared.kind.Kind.{Kind}
 use Rattle.heap_layout.specs.declared.kind.Kind.TheVariants as sorts
 use Rattle.cell_steps.specs.Lawful.{kind_at}
 use Rattle.cell_steps.specs.Setup.{address}
-use Rattle.audit_checks.specs.declared.fault.AuditFault.{AuditFault}
-use Rattle.audit_checks.specs.declared.fault.AuditFault.TheVariants.{LooseReference}
+use Rattle.audit_faults.specs.declared.fault.AuditFault.{AuditFault}
+use Rattle.audit_faults.specs.declared.fault.AuditFault.TheVariants.{LooseReference}
 use Rattle.audit_checks.specs.Checks.{is_kind, loose_faults, reference_faults, unless}
 use Rattle.audit_checks.specs.Told.{Tells}
 use Rattle.audit_checks.specs.Noted.{leads, setup_at}
