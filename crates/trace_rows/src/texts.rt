@@ -1,5 +1,6 @@
 //! Texts of traces: those that are none, what the others say, and how faults are printed.
 use crate::expected::expect_so;
+use crate::flipped::Case;
 use call_refusals::refusal::Refusal;
 use std::alloc::Global;
 use std::process::Abort;
@@ -7,161 +8,95 @@ use trace_text::fault::{Stop, TraceFault};
 use trace_text::line::{Action, Line};
 use trace_text::parsing::parse;
 
-// A text, and what it says to two mutators beside one root: these lines, or that it is none, for a cause.
-struct Row {
-    name: &'static str,
-    text: &'static [u8],
-    wanted: Result<&'static [Line], TraceFault>,
-}
+// A text that is none, and the cause.
+struct NoText(&'static [u8], TraceFault);
 
-// Lines that are none, numbers past their bounds, and, behind them, no line and a line of each kind.
-static ROWS: [Row; 29] = [
-    Row {
-        name: "two spaces",
-        text: b"0  nil 0\n",
-        wanted: Err(TraceFault::BadLine(1)),
-    },
-    Row {
-        name: "no end of the line",
-        text: b"0 nil 0",
-        wanted: Err(TraceFault::BadLine(1)),
-    },
-    Row {
-        name: "an empty line",
-        text: b"\n",
-        wanted: Err(TraceFault::BadLine(1)),
-    },
-    Row {
-        name: "a zero in front",
-        text: b"00 nil 0\n",
-        wanted: Err(TraceFault::BadLine(1)),
-    },
-    Row {
-        name: "a carriage return",
-        text: b"0 nil 0\r\n",
-        wanted: Err(TraceFault::BadLine(1)),
-    },
-    Row {
-        name: "a byte past 127",
-        text: b"0 nil \x80\n",
-        wanted: Err(TraceFault::BadLine(1)),
-    },
-    Row {
-        name: "a space in front",
-        text: b" 0 nil 0\n",
-        wanted: Err(TraceFault::BadLine(1)),
-    },
-    Row {
-        name: "a space behind",
-        text: b"0 nil 0 \n",
-        wanted: Err(TraceFault::BadLine(1)),
-    },
-    Row {
-        name: "a number too few",
-        text: b"0 nil\n",
-        wanted: Err(TraceFault::BadLine(1)),
-    },
-    Row {
-        name: "a number too many",
-        text: b"0 nil 0 0\n",
-        wanted: Err(TraceFault::BadLine(1)),
-    },
-    Row {
-        name: "a capital letter",
-        text: b"0 Nil 0\n",
-        wanted: Err(TraceFault::BadLine(1)),
-    },
-    Row {
-        name: "a sign",
-        text: b"0 get 0 -1\n",
-        wanted: Err(TraceFault::BadLine(1)),
-    },
-    Row {
-        name: "no mutator",
-        text: b"nil 0\n",
-        wanted: Err(TraceFault::BadLine(1)),
-    },
-    Row {
-        name: "an empty second line",
-        text: b"0 nil 0\n\n",
-        wanted: Err(TraceFault::BadLine(2)),
-    },
-    Row {
-        name: "mutator 2",
-        text: b"2 nil 0\n",
-        wanted: Err(TraceFault::NoSuchMutator(1)),
-    },
-    Row {
-        name: "mutator 2, and register 16",
-        text: b"2 nil 16\n",
-        wanted: Err(TraceFault::NoSuchMutator(1)),
-    },
-    Row {
-        name: "register 16",
-        text: b"0 nil 16\n",
-        wanted: Err(TraceFault::NoSuchRegister(1)),
-    },
-    Row {
-        name: "register 16, and root 9",
-        text: b"0 root 16 9\n",
-        wanted: Err(TraceFault::NoSuchRegister(1)),
-    },
-    Row {
-        name: "a field of 17 bits, and then register 16",
-        text: b"0 store 0 65536 16\n",
-        wanted: Err(TraceFault::NoSuchRegister(1)),
-    },
-    Row {
-        name: "register 16, and a value of 67 bits",
-        text: b"0 put 16 0 99999999999999999999\n",
-        wanted: Err(TraceFault::NoSuchRegister(1)),
-    },
-    Row {
-        name: "a value of 65 bits",
-        text: b"0 put 0 0 18446744073709551616\n",
-        wanted: Err(TraceFault::NumberTooLarge(1)),
-    },
-    Row {
-        name: "a count of 17 bits",
-        text: b"0 new 0 65536 0 0\n",
-        wanted: Err(TraceFault::NumberTooLarge(1)),
-    },
-    Row {
-        name: "a tag of 33 bits",
-        text: b"0 new 0 0 0 4294967296\n",
-        wanted: Err(TraceFault::NumberTooLarge(1)),
-    },
-    Row {
-        name: "root 1",
-        text: b"0 root 0 1\n",
-        wanted: Err(TraceFault::NoSuchRoot(1)),
-    },
-    Row {
-        name: "a root of 67 bits",
-        text: b"0 root 0 99999999999999999999\n",
-        wanted: Err(TraceFault::NoSuchRoot(1)),
-    },
-    Row {
-        name: "register 16 in line 2, and mutator 5 in line 3",
-        text: b"0 nil 0\n1 nil 16\n5 nil 0\n",
-        wanted: Err(TraceFault::NoSuchRegister(2)),
-    },
-    Row {
-        name: "a mutator of 129 bits",
-        text: b"340282366920938463463374607431768211456 nil 0\n",
-        wanted: Err(TraceFault::NoSuchMutator(1)),
-    },
-    Row {
-        name: "no line",
-        text: b"",
-        wanted: Ok(&[]),
-    },
-    Row {
-        name: "a line of each kind",
-        text: b"1 root 15 0\n0 load 1 2 65535\n0 get 3 0\n1 store 4 5 6\n0 put 7 8 18446744073709551615\n0 new 9 1 2 4294967295\n1 nil 10\n",
-        wanted: Ok(&LINES),
-    },
+// Lines that are none, and numbers past their bounds: to two mutators beside one root.
+static NO_TEXTS: [NoText; 27] = [
+    // Two spaces.
+    NoText(b"0  nil 0\n", TraceFault::BadLine(1)),
+    // No end of the line.
+    NoText(b"0 nil 0", TraceFault::BadLine(1)),
+    // An empty line.
+    NoText(b"\n", TraceFault::BadLine(1)),
+    // A zero in front.
+    NoText(b"00 nil 0\n", TraceFault::BadLine(1)),
+    // A carriage return.
+    NoText(b"0 nil 0\r\n", TraceFault::BadLine(1)),
+    // A byte past 127.
+    NoText(b"0 nil \x80\n", TraceFault::BadLine(1)),
+    // A space in front.
+    NoText(b" 0 nil 0\n", TraceFault::BadLine(1)),
+    // A space behind.
+    NoText(b"0 nil 0 \n", TraceFault::BadLine(1)),
+    // A number too few.
+    NoText(b"0 nil\n", TraceFault::BadLine(1)),
+    // A number too many.
+    NoText(b"0 nil 0 0\n", TraceFault::BadLine(1)),
+    // A capital letter.
+    NoText(b"0 Nil 0\n", TraceFault::BadLine(1)),
+    // A sign.
+    NoText(b"0 get 0 -1\n", TraceFault::BadLine(1)),
+    // No mutator.
+    NoText(b"nil 0\n", TraceFault::BadLine(1)),
+    // An empty second line.
+    NoText(b"0 nil 0\n\n", TraceFault::BadLine(2)),
+    // Mutator 2.
+    NoText(b"2 nil 0\n", TraceFault::NoSuchMutator(1)),
+    // Mutator 2, and register 16.
+    NoText(b"2 nil 16\n", TraceFault::NoSuchMutator(1)),
+    // Register 16.
+    NoText(b"0 nil 16\n", TraceFault::NoSuchRegister(1)),
+    // Register 16, and root 9.
+    NoText(b"0 root 16 9\n", TraceFault::NoSuchRegister(1)),
+    // A field of 17 bits, and then register 16.
+    NoText(b"0 store 0 65536 16\n", TraceFault::NoSuchRegister(1)),
+    // Register 16, and a value of 67 bits.
+    NoText(
+        b"0 put 16 0 99999999999999999999\n",
+        TraceFault::NoSuchRegister(1),
+    ),
+    // A value of 65 bits.
+    NoText(
+        b"0 put 0 0 18446744073709551616\n",
+        TraceFault::NumberTooLarge(1),
+    ),
+    // A count of 17 bits.
+    NoText(b"0 new 0 65536 0 0\n", TraceFault::NumberTooLarge(1)),
+    // A tag of 33 bits.
+    NoText(b"0 new 0 0 0 4294967296\n", TraceFault::NumberTooLarge(1)),
+    // Root 1.
+    NoText(b"0 root 0 1\n", TraceFault::NoSuchRoot(1)),
+    // A root of 67 bits.
+    NoText(
+        b"0 root 0 99999999999999999999\n",
+        TraceFault::NoSuchRoot(1),
+    ),
+    // Register 16 in line 2, and mutator 5 in line 3.
+    NoText(
+        b"0 nil 0\n1 nil 16\n5 nil 0\n",
+        TraceFault::NoSuchRegister(2),
+    ),
+    // A mutator of 129 bits.
+    NoText(
+        b"340282366920938463463374607431768211456 nil 0\n",
+        TraceFault::NoSuchMutator(1),
+    ),
 ];
+
+const NO_LINE: Case = Case {
+    name: "no line",
+    mutators: 2,
+    fresh_pages: 0,
+    text: b"",
+};
+
+const EACH_KIND: Case = Case {
+    name: "a line of each kind",
+    mutators: 2,
+    fresh_pages: 0,
+    text: b"1 root 15 0\n0 load 1 2 65535\n0 get 3 0\n1 store 4 5 6\n0 put 7 8 18446744073709551615\n0 new 9 1 2 4294967295\n1 nil 10\n",
+};
 
 // What the line of each kind says.
 const LINES: [Line; 7] = [
@@ -233,21 +168,10 @@ static PRINTED: [(TraceFault, &str); 8] = [
     (TraceFault::OutOfMemory, "T7 OutOfMemory"),
 ];
 
-// The text says this to two mutators beside one root.
-fn expect_read(
-    rt: &impl Abort,
-    alloc: Global,
-    name: &str,
-    text: &[u8],
-    wanted: &Result<&[Line], TraceFault>,
-) {
-    let found = parse(alloc, text, 2, 1);
-    let same = match (&found, wanted) {
-        (Ok(trace), Ok(lines)) => trace.lines() == *lines,
-        (Err(fault), Err(cause)) => *fault == *cause,
-        _ => false,
-    };
-    expect_so(rt, name, same, 0);
+// The text is none to two mutators beside one root, for this cause.
+fn expect_none(rt: &impl Abort, alloc: Global, text: &[u8], fault: TraceFault, number: usize) {
+    let found = parse(alloc, text, 2, 1).err();
+    expect_so(rt, "no text", found == Some(fault), number as u64);
 }
 
 // A number of any length is read.
@@ -255,8 +179,14 @@ fn expect_long_number(rt: &impl Abort, alloc: Global) {
     let mut text = b"0 get 0 ".to_vec(alloc).expect(rt, "a text");
     text.resize(100_008, b'9').expect(rt, "a long text");
     text.push(b'\n').expect(rt, "a line");
-    let fault = Err(TraceFault::NumberTooLarge(1));
-    expect_read(rt, alloc, "a number of 100,000 digits", &text, &fault);
+    expect_none(rt, alloc, &text, TraceFault::NumberTooLarge(1), 100_000);
+}
+
+/// The text of a case says these lines to its mutators, beside so many roots.
+pub fn expect_lines(rt: &impl Abort, alloc: Global, case: Case, roots: u16, lines: &[Line]) {
+    let trace = parse(alloc, case.text, case.mutators, roots).expect(rt, case.name);
+    let same = trace.lines() == lines;
+    expect_so(rt, case.name, same, 0);
 }
 
 // The fault is printed so.
@@ -265,12 +195,14 @@ fn expect_printed(rt: &impl Abort, alloc: Global, fault: TraceFault, text: &str)
     expect_so(rt, text, printed.as_str() == text, 0);
 }
 
-// All rows of texts.
+// All texts: those that are none, one without a line, and one that has a line of each kind.
 fn expect_texts(rt: &impl Abort, alloc: Global) {
-    for row in &ROWS {
-        expect_read(rt, alloc, row.name, row.text, &row.wanted);
+    for (at, NoText(text, fault)) in NO_TEXTS.iter().enumerate() {
+        expect_none(rt, alloc, text, *fault, at);
     }
     expect_long_number(rt, alloc);
+    expect_lines(rt, alloc, NO_LINE, 1, &[]);
+    expect_lines(rt, alloc, EACH_KIND, 1, &LINES);
 }
 
 // All faults, and one that is made of a stop.
