@@ -3,7 +3,7 @@
 //! has the one value that its base and its journal give it, and each other field is told by the plan or by the other fields.
 use crate::encoded::{Whole, encoded};
 use crate::expected::expect_so;
-use crate::judged::{Told, expect_told, told};
+use crate::judged::{Told, told};
 use crate::planned::{Worked, plan_of};
 use audit_checks::fault::AuditFault;
 use comp_audit::verdict::Verdict;
@@ -138,7 +138,7 @@ fn expect_reckoned(rt: &impl Abort, found: Told, at: usize, byte: u8) {
             return expect_so(rt, name, number, found == wanted);
         }
     }
-    panic!(rt; "no rule");
+    rt.panic("no rule")
 }
 
 // Each other value at each place of the dump, which has these bytes. The last value at a place is the right one, with which it is left.
@@ -166,7 +166,8 @@ fn expect_bytes(rt: &impl Abort, alloc: Global, plan: &Plan) {
     let mut bytes = encoded(rt, alloc, &Whole::Linked);
     expect_so(rt, "bytes", 0, bytes.len() == 1_129);
     expect_each(rt, alloc, plan, &mut bytes);
-    expect_told(rt, alloc, plan, &bytes, Ok(Verdict::Yes), "no change");
+    let found = told(alloc, plan, &bytes);
+    expect_so(rt, "no change", 0, found == Ok(Verdict::Yes));
 }
 
 #[test]

@@ -1,10 +1,11 @@
 //! Numbers behind the head of a dump that are out of range, and the refusals as they are printed.
 use crate::encoded::{Change, REST, Whole};
 use crate::expected::expect_so;
-use crate::judged::{Row, Told};
+use crate::judged::{Row, Told, told_changed};
 use audit_checks::fault::AuditFault;
 use comp_audit::verdict::Verdict;
 use comp_dump::fault::DumpFault;
+use page_plan::plan::Plan;
 use std::alloc::Global;
 use std::process::Abort;
 
@@ -12,218 +13,52 @@ const BAD: Told = Err(DumpFault::BadField);
 
 const CUT: Told = Err(DumpFault::Truncated);
 
-/// With this field in place of what stood there the dump is refused: as soon as the field is complete, whatever follows, and no sooner.
-pub static OF_PAGES: [Row; 21] = [
-    Row(
-        "neither built nor not",
-        Whole::Linked,
-        &[Change(36, 1, 1, 2)],
-        BAD,
-    ),
-    Row(
-        "neither built nor not, and no more",
-        Whole::Linked,
-        &[Change(36, REST, 1, 2)],
-        BAD,
-    ),
-    Row(
-        "neither built nor not, cut short",
-        Whole::Linked,
-        &[Change(36, REST, 0, 0)],
-        CUT,
-    ),
-    Row(
-        "1,025 entries",
-        Whole::Linked,
-        &[Change(549, 4, 4, 1_025)],
-        BAD,
-    ),
-    Row(
-        "1,025 entries, and no more",
-        Whole::Linked,
-        &[Change(549, REST, 4, 1_025)],
-        BAD,
-    ),
-    Row(
-        "1,025 entries, cut short",
-        Whole::Linked,
-        &[Change(549, REST, 3, 1_025)],
-        CUT,
-    ),
-    Row(
-        "the writer is no mutator",
-        Whole::Linked,
-        &[Change(561, 1, 1, 1)],
-        BAD,
-    ),
-    Row(
-        "the writer is no mutator, and no more",
-        Whole::Linked,
-        &[Change(561, REST, 1, 1)],
-        BAD,
-    ),
-    Row(
-        "the writer is no mutator, cut short",
-        Whole::Linked,
-        &[Change(561, REST, 0, 0)],
-        CUT,
-    ),
-    Row("kind 3", Whole::Linked, &[Change(562, 1, 1, 3)], BAD),
-    Row(
-        "kind 3, and no more",
-        Whole::Linked,
-        &[Change(562, REST, 1, 3)],
-        BAD,
-    ),
-    Row(
-        "kind 3, cut short",
-        Whole::Linked,
-        &[Change(562, REST, 0, 0)],
-        CUT,
-    ),
-    Row("kind 9", Whole::Linked, &[Change(562, 1, 1, 9)], BAD),
-    Row(
-        "kind 9, and no more",
-        Whole::Linked,
-        &[Change(562, REST, 1, 9)],
-        BAD,
-    ),
-    Row(
-        "kind 9, cut short",
-        Whole::Linked,
-        &[Change(562, REST, 0, 0)],
-        CUT,
-    ),
-    Row("offset 64", Whole::Linked, &[Change(563, 1, 1, 64)], BAD),
-    Row(
-        "offset 64, and no more",
-        Whole::Linked,
-        &[Change(563, REST, 1, 64)],
-        BAD,
-    ),
-    Row(
-        "offset 64, cut short",
-        Whole::Linked,
-        &[Change(563, REST, 0, 0)],
-        CUT,
-    ),
-    Row(
-        "a last page out of range",
-        Whole::Linked,
-        &[Change(1_108, 1, 1, 255)],
-        BAD,
-    ),
-    Row(
-        "a last page out of range, and no more",
-        Whole::Linked,
-        &[Change(1_108, REST, 1, 255)],
-        BAD,
-    ),
-    Row(
-        "a last page out of range, cut short",
-        Whole::Linked,
-        &[Change(1_108, REST, 0, 0)],
-        CUT,
-    ),
+// A number in a field: a dump, where the field lies, how many bytes it has, and the number, which is out of range.
+struct Field(Whole, usize, usize, u64);
+
+static FIELDS: [Field; 12] = [
+    // Neither built nor not.
+    Field(Whole::Linked, 36, 1, 2),
+    // 1,025 entries.
+    Field(Whole::Linked, 549, 4, 1_025),
+    // The writer is no mutator.
+    Field(Whole::Linked, 561, 1, 1),
+    // Kinds 3 and 9.
+    Field(Whole::Linked, 562, 1, 3),
+    Field(Whole::Linked, 562, 1, 9),
+    // Offset 64.
+    Field(Whole::Linked, 563, 1, 64),
+    // A last page out of range.
+    Field(Whole::Linked, 1_108, 1, 255),
+    // 4 builds of 3 pages.
+    Field(Whole::Linked, 1_109, 4, 4),
+    // A build of page 3, and one far behind.
+    Field(Whole::Linked, 1_113, 4, 3),
+    Field(Whole::Linked, 1_117, 4, 16_777_216),
+    // The writer is none of two mutators.
+    Field(Whole::Put, 561, 1, 2),
+    // 66 builds of 65 pages.
+    Field(Whole::Put, 644, 4, 66),
 ];
 
-/// The same of lists of builds, and of the dump of two mutators.
-pub static OF_BUILDS: [Row; 15] = [
-    Row(
-        "4 builds of 3 pages",
-        Whole::Linked,
-        &[Change(1_109, 4, 4, 4)],
-        BAD,
-    ),
-    Row(
-        "4 builds of 3 pages, and no more",
-        Whole::Linked,
-        &[Change(1_109, REST, 4, 4)],
-        BAD,
-    ),
-    Row(
-        "4 builds of 3 pages, cut short",
-        Whole::Linked,
-        &[Change(1_109, REST, 3, 4)],
-        CUT,
-    ),
-    Row(
-        "a build of page 3",
-        Whole::Linked,
-        &[Change(1_113, 4, 4, 3)],
-        BAD,
-    ),
-    Row(
-        "a build of page 3, and no more",
-        Whole::Linked,
-        &[Change(1_113, REST, 4, 3)],
-        BAD,
-    ),
-    Row(
-        "a build of page 3, cut short",
-        Whole::Linked,
-        &[Change(1_113, REST, 3, 3)],
-        CUT,
-    ),
-    Row(
-        "a build far behind",
-        Whole::Linked,
-        &[Change(1_117, 4, 4, 16_777_216)],
-        BAD,
-    ),
-    Row(
-        "a build far behind, and no more",
-        Whole::Linked,
-        &[Change(1_117, REST, 4, 16_777_216)],
-        BAD,
-    ),
-    Row(
-        "a build far behind, cut short",
-        Whole::Linked,
-        &[Change(1_117, REST, 3, 0)],
-        CUT,
-    ),
-    Row(
-        "the writer is none of two mutators",
-        Whole::Put,
-        &[Change(561, 1, 1, 2)],
-        BAD,
-    ),
-    Row(
-        "the writer is none of two mutators, and no more",
-        Whole::Put,
-        &[Change(561, REST, 1, 2)],
-        BAD,
-    ),
-    Row(
-        "the writer is none of two mutators, cut short",
-        Whole::Put,
-        &[Change(561, REST, 0, 0)],
-        CUT,
-    ),
-    Row(
-        "66 builds of 65 pages",
-        Whole::Put,
-        &[Change(644, 4, 4, 66)],
-        BAD,
-    ),
-    Row(
-        "66 builds of 65 pages, and no more",
-        Whole::Put,
-        &[Change(644, REST, 4, 66)],
-        BAD,
-    ),
-    Row(
-        "66 builds of 65 pages, cut short",
-        Whole::Put,
-        &[Change(644, REST, 3, 66)],
-        CUT,
-    ),
-];
+/// With such a number in place of what stood in its field the dump is refused: as soon as the field is complete, whatever follows, and no sooner.
+pub fn expect_fields(rt: &impl Abort, alloc: Global, plan: &Plan) {
+    for Field(dump, at, size, number) in &FIELDS {
+        let (at, size, number) = (*at, *size, *number);
+        let among = [Change(at, size, size, number)];
+        let found = told_changed(rt, alloc, plan, dump, &among);
+        expect_so(rt, "field at", at, found == BAD);
+        let last = [Change(at, REST, size, number)];
+        let found = told_changed(rt, alloc, plan, dump, &last);
+        expect_so(rt, "last field at", at, found == BAD);
+        let short = [Change(at, REST, size.saturating_sub(1), number)];
+        let found = told_changed(rt, alloc, plan, dump, &short);
+        expect_so(rt, "field cut at", at, found == CUT);
+    }
+}
 
 /// The writer, the offset and the page of the one build are the last in range, and the bytes are a dump: that of a page that stands in no list of builds.
 pub static LAST_IN_RANGE: [Row; 1] = [Row(
-    "the ends of ranges",
     Whole::Put,
     &[
         Change(561, 1, 1, 1),

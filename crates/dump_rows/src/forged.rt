@@ -96,72 +96,46 @@ const TOTAL_6: Change = Change(TOTAL, 8, 8, 6);
 
 /// One fault of each kind.
 pub static FORGED: [Row; 14] = [
-    Row("no change", Whole::Linked, &[], YES),
-    Row(
-        "head: the root is null",
-        Whole::Linked,
-        &[NULL_ROOT],
-        WRONG_HEAD,
-    ),
-    Row(
-        "head: one fresh page",
-        Whole::Linked,
-        &[ONE_FRESH],
-        WRONG_HEAD,
-    ),
-    Row("entry: a gap before it", Whole::Linked, &[GAP], BAD_HEADER),
-    Row("word: 12 for 11", Whole::Linked, &[DATA_12], WRONG_DATA),
-    Row(
-        "word: 1 behind all objects",
-        Whole::Linked,
-        &[LAST_1],
-        WRONG_LAST,
-    ),
-    Row(
-        "reference into an object",
-        Whole::Linked,
-        &[INNER, INNER_VALUE],
-        LOOSE,
-    ),
-    Row("stamps 0 and 0", Whole::Linked, &[LINK_0], REPEATED),
-    Row("stamps 0 and 2", Whole::Linked, &[LINK_2], MISSING),
-    Row(
-        "stamps 2 and 0",
-        Whole::Linked,
-        &[LINK_0, HEADER_2],
-        MISSING,
-    ),
-    Row(
-        "stamps 0 and the largest",
-        Whole::Linked,
-        &[LINK_MAX],
-        MISSING,
-    ),
-    Row(
-        "reference to what was made later",
-        Whole::Linked,
-        &[LINK_0, HEADER_1],
-        BAD_LINK,
-    ),
-    Row("total: 6 for 5", Whole::Linked, &[TOTAL_6], WRONG_TOTAL),
-    Row(
-        "total: the words that slid",
-        Whole::Linked,
-        &[TOTAL_4],
-        WRONG_TOTAL,
-    ),
+    // No change.
+    Row(Whole::Linked, &[], YES),
+    // Head: the root is null.
+    Row(Whole::Linked, &[NULL_ROOT], WRONG_HEAD),
+    // Head: one fresh page.
+    Row(Whole::Linked, &[ONE_FRESH], WRONG_HEAD),
+    // Entry: a gap before it.
+    Row(Whole::Linked, &[GAP], BAD_HEADER),
+    // Word: 12 for 11.
+    Row(Whole::Linked, &[DATA_12], WRONG_DATA),
+    // Word: 1 behind all objects.
+    Row(Whole::Linked, &[LAST_1], WRONG_LAST),
+    // Reference into an object.
+    Row(Whole::Linked, &[INNER, INNER_VALUE], LOOSE),
+    // Stamps 0 and 0.
+    Row(Whole::Linked, &[LINK_0], REPEATED),
+    // Stamps 0 and 2.
+    Row(Whole::Linked, &[LINK_2], MISSING),
+    // Stamps 2 and 0.
+    Row(Whole::Linked, &[LINK_0, HEADER_2], MISSING),
+    // Stamps 0 and the largest.
+    Row(Whole::Linked, &[LINK_MAX], MISSING),
+    // Reference to what was made later.
+    Row(Whole::Linked, &[LINK_0, HEADER_1], BAD_LINK),
+    // Total: 6 for 5.
+    Row(Whole::Linked, &[TOTAL_6], WRONG_TOTAL),
+    // Total: the words that slid.
+    Row(Whole::Linked, &[TOTAL_4], WRONG_TOTAL),
 ];
 
 /// Lists of builds in which a page that was built does not stand just once, or one that was never built does.
 pub static CLAIMED: [Row; 4] = [
+    // A page left out.
     Row(
-        "a page left out",
         Whole::Linked,
         &[Change(BUILDS, 12, 8, 4_294_967_297)],
         PAGE_0_UNCLAIMED,
     ),
+    // A page that was never built.
     Row(
-        "a page that was never built",
         Whole::Linked,
         &[
             Change(BUILDS, 12, 8, 4_294_967_299),
@@ -169,8 +143,8 @@ pub static CLAIMED: [Row; 4] = [
         ],
         PAGE_2_UNCLAIMED,
     ),
+    // A page twice.
     Row(
-        "a page twice",
         Whole::Linked,
         &[
             Change(BUILDS, 12, 8, 4_294_967_299),
@@ -178,61 +152,48 @@ pub static CLAIMED: [Row; 4] = [
         ],
         PAGE_0_UNCLAIMED,
     ),
-    Row(
-        "no page",
-        Whole::Linked,
-        &[Change(BUILDS, 12, 4, 0)],
-        PAGE_0_UNCLAIMED,
-    ),
+    // No page.
+    Row(Whole::Linked, &[Change(BUILDS, 12, 4, 0)], PAGE_0_UNCLAIMED),
 ];
 
 /// Of two faults the one is told whose check comes first.
 pub static FIRST_OF_TWO: [Row; 6] = [
-    Row(
-        "head, total",
-        Whole::Linked,
-        &[NULL_ROOT, TOTAL_6],
-        WRONG_HEAD,
-    ),
-    Row(
-        "build, entry",
-        Whole::Linked,
-        &[GAP, CLAIM_0],
-        PAGE_0_UNCLAIMED,
-    ),
-    Row("entry, word", Whole::Linked, &[LAST_1, GAP], BAD_HEADER),
-    Row("word, stamp", Whole::Linked, &[LAST_1, LINK_0], WRONG_LAST),
-    Row(
-        "repeated, total",
-        Whole::Linked,
-        &[LINK_0, TOTAL_6],
-        REPEATED,
-    ),
-    Row("missing, total", Whole::Linked, &[LINK_2, TOTAL_6], MISSING),
+    // Head, total.
+    Row(Whole::Linked, &[NULL_ROOT, TOTAL_6], WRONG_HEAD),
+    // Build, entry.
+    Row(Whole::Linked, &[GAP, CLAIM_0], PAGE_0_UNCLAIMED),
+    // Entry, word.
+    Row(Whole::Linked, &[LAST_1, GAP], BAD_HEADER),
+    // Word, stamp.
+    Row(Whole::Linked, &[LAST_1, LINK_0], WRONG_LAST),
+    // Repeated, total.
+    Row(Whole::Linked, &[LINK_0, TOTAL_6], REPEATED),
+    // Missing, total.
+    Row(Whole::Linked, &[LINK_2, TOTAL_6], MISSING),
 ];
 
 /// Bytes that are no dump.
 pub static NO_DUMPS: [Row; 4] = [
+    // The last byte left out.
     Row(
-        "the last byte left out",
         Whole::Linked,
         &[Change(END - 1, 1, 0, 0)],
         Err(DumpFault::Truncated),
     ),
+    // One byte more.
     Row(
-        "one byte more",
         Whole::Linked,
         &[Change(END, 0, 1, 0)],
         Err(DumpFault::TrailingBytes),
     ),
+    // Version 9.
     Row(
-        "version 9",
         Whole::Linked,
         &[Change(VERSION, 1, 1, 9)],
         Err(DumpFault::BadMagic),
     ),
+    // Neither built nor not.
     Row(
-        "neither built nor not",
         Whole::Linked,
         &[Change(LAST_PAGE, 1, 1, 2)],
         Err(DumpFault::BadField),
