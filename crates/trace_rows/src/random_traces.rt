@@ -75,7 +75,7 @@ fn replay_drawn(rt: &impl Abort, alloc: Global, plan: &Plan, n: u8, drawn: &Draw
     expect_drawn(rt, alloc, drawn, &run, &finished);
 }
 
-// The trace, replayed or raced by `n` mutators.
+// The trace, replayed or raced by `n` mutators. Its text, which is read for the three roots of the two live objects, has its lines.
 fn run_drawn<R: Abort + Threads + Wait + Sync>(
     rt: &R,
     alloc: Global,
@@ -84,13 +84,15 @@ fn run_drawn<R: Abort + Threads + Wait + Sync>(
     drawn: &Drawn,
     way: Way,
 ) {
+    let text = drawn.text.as_bytes();
+    expect_lines(rt, alloc, &drawn.name, text, n, 3, &drawn.lines);
     match way {
         Way::Replayed => replay_drawn(rt, alloc, plan, n, drawn),
         Way::Raced => race_drawn(rt, alloc, plan, n, drawn),
     }
 }
 
-// The trace of this seed. Its text, which is read for the three roots of the two live objects, has its lines.
+// The trace of this seed.
 fn run_seed<R: Abort + Threads + Wait + Sync>(
     rt: &R,
     alloc: Global,
@@ -100,7 +102,6 @@ fn run_seed<R: Abort + Threads + Wait + Sync>(
     way: Way,
 ) {
     let drawn = draw_trace(rt, alloc, n, seed);
-    expect_lines(rt, alloc, case_of(&drawn, n), 3, &drawn.lines);
     run_drawn(rt, alloc, plan, n, &drawn, way);
 }
 
