@@ -1,6 +1,5 @@
 //! Worked heaps, flipped, worked on and finished, and their dumps.
 ghost use Rattle.std.specs.Prelude.{◌≡◌};
-ghost use Rattle.comp_history.specs.Finishes.{IsOfFlip};
 ghost use Rattle.comp_mutator.specs.Mutators.{setup_of, AreMutatorsOf, IsMutatorOf};
 
 use crate::dumped::expect_dump;
@@ -10,7 +9,6 @@ use crate::planned::{Worked, plan_of};
 use call_refusals::refusal::Refusal;
 use comp_access::pages::Touched;
 use comp_dump::dump::Dump;
-use comp_mutator::finishing::Finished;
 use comp_mutator::flipping::flip;
 use comp_mutator::mutator::Mutator;
 use comp_mutator::space::Space;
@@ -57,22 +55,6 @@ pub struct Run {
     pub parts: Whole,
 }
 
-// Touches a page that is there.
-fn touch<L: Named>(
-    rt: &impl Abort,
-    alloc: Global,
-    space: &Space<L, Plan>,
-    m: &mut Mutator<L>,
-    p: u64,
-) -> Result<u64, Refusal>
-    requires of { IsMutatorOf space.now m.old }
-    ensures of { IsMutatorOf space.now m.new }
-{
-    assert!(rt; p < space.pages());
-    let touched = space.try_touch(alloc, m, p)?;
-    Ok(u64::from(touched == Touched::Built))
-}
-
 // What a call is answered.
 fn answer<L: Named>(
     rt: &impl Abort,
@@ -86,7 +68,11 @@ fn answer<L: Named>(
 {
     match call {
         Call::Pages => Ok(space.pages()),
-        Call::Touch(p) => touch(rt, alloc, space, m, *p),
+        Call::Touch(p) => {
+            assert!(rt; *p < space.pages());
+            let touched = space.try_touch(alloc, m, *p)?;
+            Ok(u64::from(touched == Touched::Built))
+        }
         Call::ReadRef(object, field) => space.try_read_ref(alloc, m, *object, *field),
         Call::ReadData(object, field) => space.try_read_data(alloc, m, *object, *field),
         Call::WriteRef(object, field, value) => {
@@ -138,23 +124,6 @@ fn expect_rows<L: Named>(
     }
 }
 
-// Finishes with all mutators.
-fn finish<L: Named>(
-    rt: &impl Abort,
-    alloc: Global,
-    space: Space<L, Plan>,
-    mutators: Vec<Mutator<L>>,
-) -> Finished
-    requires of { AreMutatorsOf space mutators.items }
-    requires whole { (setup_of space).mutators ≡ L.parts }
-    ensures { IsOfFlip L.parts (setup_of space).fresh result }
-{
-    match space.finish(alloc, mutators) {
-        Ok(finished) => finished,
-        Err(_) => panic!(rt; "no mutator is missing"),
-    }
-}
-
 // This dump of what a run left is what it has to be.
 fn expect_left(rt: &impl Abort, alloc: Global, run: &Run, dump: &Dump<'_>) {
     let plan = plan_of(rt, alloc, &run.heap);
@@ -163,11 +132,24 @@ fn expect_left(rt: &impl Abort, alloc: Global, run: &Run, dump: &Dump<'_>) {
     expect_dump(rt, alloc, &plan, dump, &wanted);
 }
 
-// The dump of what a run left is what it has to be.
-fn expect_finished(rt: &impl Abort, alloc: Global, run: &Run, finished: &Finished)
-    requires { IsOfFlip run.now.mutators run.now.fresh_pages finished.now }
+// Finishes with all mutators. The dump of what the run left is what it has to be.
+fn expect_finish<L: Named>(
+    rt: &impl Abort,
+    alloc: Global,
+    run: &Run,
+    space: Space<L, Plan>,
+    mutators: Vec<Mutator<L>>,
+)
+    requires of { AreMutatorsOf space mutators.items }
+    requires whole { (setup_of space).mutators ≡ L.parts }
+    requires mutators { (setup_of space).mutators ≡ run.now.mutators }
+    requires fresh { (setup_of space).fresh ≡ run.now.fresh_pages }
 {
-    let dump = Dump::of(alloc, finished, run.mutators, run.fresh_pages).expect(rt, "memory");
+    let finished = match space.finish(alloc, mutators) {
+        Ok(finished) => finished,
+        Err(_) => rt.panic(run.name),
+    };
+    let dump = Dump::of(alloc, &finished, run.mutators, run.fresh_pages).expect(rt, run.name);
     expect_left(rt, alloc, run, &dump);
 }
 
@@ -180,8 +162,7 @@ fn expect_run_of<L: Named>(rt: &impl Abort, alloc: Global, blank: Blank, run: &R
     let flipped = flip::<L, Plan>(alloc, blank, builder, run.mutators, run.fresh_pages);
     let (space, mut mutators) = flipped.expect(rt, "a flip");
     expect_rows(rt, alloc, &space, &mut mutators, run);
-    let finished = finish(rt, alloc, space, mutators);
-    expect_finished(rt, alloc, run, &finished);
+    expect_finish(rt, alloc, run, space, mutators);
 }
 
 /// The calls of a run are answered as they have to be, and so is the dump of what it left.

@@ -22,7 +22,7 @@ pub enum Worked {
 fn made<T>(rt: &impl Abort, found: Result<T, Fail>) -> T {
     match found {
         Ok(value) => value,
-        Err(_) => panic!(rt; "a worked heap"),
+        Err(_) => rt.panic("a worked heap"),
     }
 }
 

@@ -1,6 +1,6 @@
 //! Dumps that are cut, that are too long, or in which some fields are changed: all tables of them, beside the plan of the three objects.
 use crate::cuts::{LONGER, OTHERS, expect_beginnings};
-use crate::fields::{LAST_IN_RANGE, OF_BUILDS, OF_PAGES};
+use crate::fields::{LAST_IN_RANGE, expect_fields};
 use crate::forged::{CLAIMED, FIRST_OF_TWO, FORGED, NO_DUMPS};
 use crate::heads::{LEFT_OUT, TOO_LARGE};
 use crate::judged::expect_rows;
@@ -11,13 +11,12 @@ use std::process::Abort;
 
 // Bytes that are no dump, for each cause that needs no device.
 fn expect_no_dumps(rt: &impl Abort, alloc: Global, plan: &Plan) {
-    expect_rows(rt, alloc, plan, &LONGER);
-    expect_rows(rt, alloc, plan, &OTHERS);
-    expect_rows(rt, alloc, plan, &TOO_LARGE);
-    expect_rows(rt, alloc, plan, &LEFT_OUT);
-    expect_rows(rt, alloc, plan, &OF_PAGES);
-    expect_rows(rt, alloc, plan, &OF_BUILDS);
-    expect_rows(rt, alloc, plan, &NO_DUMPS);
+    expect_rows(rt, alloc, plan, "longer", &LONGER);
+    expect_rows(rt, alloc, plan, "others", &OTHERS);
+    expect_rows(rt, alloc, plan, "too large", &TOO_LARGE);
+    expect_rows(rt, alloc, plan, "left out", &LEFT_OUT);
+    expect_fields(rt, alloc, plan);
+    expect_rows(rt, alloc, plan, "no dumps", &NO_DUMPS);
 }
 
 #[test]
@@ -26,8 +25,8 @@ fn tells_what_becomes_of_cut_and_changed_dumps(rt: HostRuntime) {
     let plan = plan_of(&rt, alloc, &Worked::Three);
     expect_beginnings(&rt, alloc, &plan);
     expect_no_dumps(&rt, alloc, &plan);
-    expect_rows(&rt, alloc, &plan, &LAST_IN_RANGE);
-    expect_rows(&rt, alloc, &plan, &FORGED);
-    expect_rows(&rt, alloc, &plan, &CLAIMED);
-    expect_rows(&rt, alloc, &plan, &FIRST_OF_TWO);
+    expect_rows(&rt, alloc, &plan, "last in range", &LAST_IN_RANGE);
+    expect_rows(&rt, alloc, &plan, "forged", &FORGED);
+    expect_rows(&rt, alloc, &plan, "claimed", &CLAIMED);
+    expect_rows(&rt, alloc, &plan, "first of two", &FIRST_OF_TWO);
 }

@@ -15,7 +15,7 @@ pub fn expect_so(rt: &impl Abort, name: &str, so: bool, number: u64) {
 pub fn plan_of(rt: &impl Abort, alloc: Global, made: Result<MarkedHeap, Fail>) -> Plan {
     match made {
         Ok(heap) => expect_plan(rt, planned(alloc, heap)),
-        Err(_fail) => panic!(rt; "no heap"),
+        Err(_fail) => rt.panic("no heap"),
     }
 }
 
@@ -23,6 +23,6 @@ pub fn plan_of(rt: &impl Abort, alloc: Global, made: Result<MarkedHeap, Fail>) -
 pub fn expect_plan(rt: &impl Abort, made: Result<Plan, Fail>) -> Plan {
     match made {
         Ok(plan) => plan,
-        Err(_fail) => panic!(rt; "no plan"),
+        Err(_fail) => rt.panic("no plan"),
     }
 }

@@ -2,6 +2,7 @@
 use crate::expected::{expect_so, plan_of};
 use crate::flipped::Case;
 use crate::ran::raced;
+use crate::replays::replay_rows;
 use call_refusals::refusal::Refusal;
 use comp_mutator::finishing::Finished;
 use comp_race::race::Run;
@@ -216,11 +217,10 @@ fn zeros(rt: &impl Abort, alloc: Global) -> Plan {
     plan_of(rt, alloc, heap(alloc, &words, &[0], &[F]))
 }
 
-// All rows on the three objects.
-fn race_rows<R: Abort + Threads + Wait + Sync>(rt: &R, alloc: Global) {
-    let plan = plan_of(rt, alloc, three(alloc));
+// All rows on the three objects, whose plan this is.
+fn race_rows<R: Abort + Threads + Wait + Sync>(rt: &R, alloc: Global, plan: &Plan) {
     for row in &ROWS {
-        race_row(rt, alloc, plan_of(rt, alloc, three(alloc)), &plan, row);
+        race_row(rt, alloc, plan_of(rt, alloc, three(alloc)), plan, row);
     }
 }
 
@@ -232,7 +232,10 @@ fn race_side_by_side<R: Abort + Threads + Wait + Sync>(rt: &R, alloc: Global) {
 }
 
 #[test]
-fn races_on_three_and_side_by_side(rt: HostRuntime) {
-    race_rows(&rt, rt.alloc());
-    race_side_by_side(&rt, rt.alloc());
+fn replays_and_races_on_three_and_races_side_by_side(rt: HostRuntime) {
+    let alloc = rt.alloc();
+    let plan = plan_of(&rt, alloc, three(alloc));
+    replay_rows(&rt, alloc, &plan);
+    race_rows(&rt, alloc, &plan);
+    race_side_by_side(&rt, alloc);
 }

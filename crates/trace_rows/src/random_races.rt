@@ -3,7 +3,7 @@ use crate::drawn::Drawn;
 use crate::expected::{expect_plan, expect_so};
 use crate::finished::{expect_pages, take_history};
 use crate::ran::raced;
-use crate::random_traces::{case_of, drawn};
+use crate::random_traces::case_of;
 use call_refusals::refusal::Refusal;
 use comp_journal::entry::Entry;
 use comp_mutator::finishing::Finished;
@@ -161,10 +161,9 @@ fn expect_runs(rt: &impl Abort, drawn: &Drawn, runs: &[Run], objects: &Objects) 
 
 // A mutator that is alone showed the values of the plain run, and stopped where that did.
 fn expect_alone(rt: &impl Abort, drawn: &Drawn, runs: &[Run]) {
-    for run in runs {
-        let same = run.shown.as_slice() == drawn.run.shown.as_slice() && run.fault == drawn.stop;
-        expect_so(rt, &drawn.name, same, 0);
-    }
+    let run = runs.first().expect(rt, &drawn.name);
+    let same = run.shown.as_slice() == drawn.run.shown.as_slice() && run.fault == drawn.stop;
+    expect_so(rt, &drawn.name, same, 0);
 }
 
 // The finished heap has one history, which is what `n` mutators ran; of one that is alone it is the plain run.
@@ -187,18 +186,17 @@ fn expect_raced(
     expect_runs(rt, drawn, runs, &objects);
 }
 
-/// The trace of this seed, raced by `n` mutators, and the finished heap.
+/// The trace, raced by `n` mutators, and the finished heap.
 pub fn race_drawn<R: Abort + Threads + Wait + Sync>(
     rt: &R,
     alloc: Global,
     plan: &Plan,
     n: u8,
-    seed: u64,
+    drawn: &Drawn,
 ) {
-    let drawn = drawn(rt, alloc, n, seed);
-    let case = case_of(&drawn, n);
+    let case = case_of(drawn, n);
     let blank = Blank::new(u64::from(case.mutators));
     let builder = expect_plan(rt, two_live(alloc));
     let (runs, finished) = raced::<Brand, Plan, R>(rt, alloc, blank, case, builder, plan);
-    expect_raced(rt, alloc, &drawn, n, &runs, &finished);
+    expect_raced(rt, alloc, drawn, n, &runs, &finished);
 }

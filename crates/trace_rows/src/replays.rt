@@ -19,8 +19,6 @@ use worked_heaps::heaps::three;
 // A text, and what is to come of it.
 struct Row {
     case: Case<'static>,
-    // how many lines `0 put 1 0 7` follow the text
-    puts: usize,
     shown: &'static [Shown],
     fault: Option<TraceFault>,
     live_words: u64,
@@ -28,7 +26,7 @@ struct Row {
     entries: &'static [(usize, Entry)],
 }
 
-static ROWS: [Row; 10] = [
+static ROWS: [Row; 9] = [
     Row {
         case: Case {
             name: "shows what another mutator wrote, and leaves it to the words that slid",
@@ -36,7 +34,6 @@ static ROWS: [Row; 10] = [
             fresh_pages: 2,
             text: b"0 root 0 0\n0 load 1 0 0\n0 put 1 0 7\n1 root 0 0\n1 load 1 0 0\n1 get 1 0\n",
         },
-        puts: 0,
         shown: &[Shown { line: 6, value: 7 }],
         fault: None,
         live_words: 4,
@@ -58,7 +55,6 @@ static ROWS: [Row; 10] = [
             fresh_pages: 0,
             text: b"0 root 0 0\n0 load 1 0 0\n0 put 1 0 7\n1 root 0 0\n1 load 1 0 0\n1 get 1 0\n",
         },
-        puts: 0,
         shown: &[Shown { line: 6, value: 7 }],
         fault: None,
         live_words: 4,
@@ -71,7 +67,6 @@ static ROWS: [Row; 10] = [
             fresh_pages: 2,
             text: b"0 root 0 0\n0 new 1 0 0 0\n0 store 0 0 1\n",
         },
-        puts: 0,
         shown: &[],
         fault: None,
         live_words: 5,
@@ -105,7 +100,6 @@ static ROWS: [Row; 10] = [
             fresh_pages: 0,
             text: b"",
         },
-        puts: 0,
         shown: &[],
         fault: None,
         live_words: 4,
@@ -118,7 +112,6 @@ static ROWS: [Row; 10] = [
             fresh_pages: 0,
             text: b"1 root 15 0\n1 load 3 15 0\n0 root 2 0\n0 load 4 2 0\n1 get 3 0\n0 put 4 0 9\n1 get 3 0\n",
         },
-        puts: 0,
         shown: &[Shown { line: 5, value: 11 }, Shown { line: 7, value: 9 }],
         fault: None,
         live_words: 4,
@@ -131,7 +124,6 @@ static ROWS: [Row; 10] = [
             fresh_pages: 0,
             text: b"0 nil 0\n0 get 0 0\n",
         },
-        puts: 0,
         shown: &[],
         fault: Some(TraceFault::Refused(2, Refusal::Null)),
         live_words: 4,
@@ -144,7 +136,6 @@ static ROWS: [Row; 10] = [
             fresh_pages: 0,
             text: b"0 root 0 0\n0 load 1 0 0\n0 get 1 0\n1 get 1 0\n0 get 1 0\n",
         },
-        puts: 0,
         shown: &[Shown { line: 3, value: 11 }],
         fault: Some(TraceFault::Refused(4, Refusal::Null)),
         live_words: 4,
@@ -157,22 +148,8 @@ static ROWS: [Row; 10] = [
             fresh_pages: 0,
             text: b"0 new 0 65535 65535 4294967295\n",
         },
-        puts: 0,
         shown: &[],
         fault: Some(TraceFault::Refused(1, Refusal::ObjectTooLarge)),
-        live_words: 4,
-        entries: &[],
-    },
-    Row {
-        case: Case {
-            name: "stops at a full journal",
-            mutators: 2,
-            fresh_pages: 0,
-            text: b"0 root 0 0\n0 load 1 0 0\n",
-        },
-        puts: 1_025,
-        shown: &[],
-        fault: Some(TraceFault::Refused(1_027, Refusal::JournalFull(0))),
         live_words: 4,
         entries: &[],
     },
@@ -183,13 +160,26 @@ static ROWS: [Row; 10] = [
             fresh_pages: 0,
             text: b"0 nil 0\n0 root 0 1\n",
         },
-        puts: 0,
         shown: &[],
         fault: Some(TraceFault::NoSuchRoot(2)),
         live_words: 4,
         entries: &[],
     },
 ];
+
+// Behind its text there are 1,025 lines `0 put 1 0 7`.
+static FULL: Row = Row {
+    case: Case {
+        name: "stops at a full journal",
+        mutators: 2,
+        fresh_pages: 0,
+        text: b"0 root 0 0\n0 load 1 0 0\n",
+    },
+    shown: &[],
+    fault: Some(TraceFault::Refused(1_027, Refusal::JournalFull(0))),
+    live_words: 4,
+    entries: &[],
+};
 
 /// The replay showed this, and stopped for this cause, if any.
 pub fn expect_replay(
@@ -199,11 +189,11 @@ pub fn expect_replay(
     shown: &[Shown],
     fault: Option<TraceFault>,
 ) {
-    let same = match run {
-        Ok(all) => all.as_slice() == shown && fault.is_none(),
-        Err(stopped) => stopped.shown.as_slice() == shown && fault == Some(stopped.fault),
+    let (all, cause) = match run {
+        Ok(all) => (all, None),
+        Err(stopped) => (&stopped.shown, Some(stopped.fault)),
     };
-    expect_so(rt, name, same, 0);
+    expect_so(rt, name, all.as_slice() == shown && cause == fault, 0);
 }
 
 // This page has just this entry.
@@ -223,29 +213,30 @@ fn expect_finished(rt: &impl Abort, row: &Row, finished: &Finished) {
     expect_so(rt, row.case.name, same, finished.live_words());
 }
 
-// The text of a row is replayed on the three objects, and the heap finished.
-fn replay_row(rt: &impl Abort, alloc: Global, plan: &Plan, row: &Row) {
-    let mut text = row.case.text.to_vec(alloc).expect(rt, row.case.name);
-    for _ in 0..row.puts {
-        text.extend_from_slice(b"0 put 1 0 7\n")
-            .expect(rt, row.case.name);
-    }
+// This text of a row is replayed on the three objects, and the heap finished.
+fn replay_row(rt: &impl Abort, alloc: Global, plan: &Plan, row: &Row, text: &[u8]) {
     let builder = plan_of(rt, alloc, three(alloc));
-    let case = Case {
-        text: &text,
-        ..row.case
-    };
+    let case = Case { text, ..row.case };
     let blank = Blank::new(u64::from(row.case.mutators));
     let (run, finished) = replayed::<Brand>(rt, alloc, blank, case, builder, plan);
     expect_replay(rt, row.case.name, &run, row.shown, row.fault);
     expect_finished(rt, row, &finished);
 }
 
-#[test]
-fn replays_on_three(rt: HostRuntime) {
-    let alloc = rt.alloc();
-    let plan = plan_of(&rt, alloc, three(alloc));
-    for row in &ROWS {
-        replay_row(&rt, alloc, &plan, row);
+// So many writes into one page that its journal is full.
+fn replay_full(rt: &impl Abort, alloc: Global, plan: &Plan) {
+    let mut text = FULL.case.text.to_vec(alloc).expect(rt, "a text");
+    for _ in 0..1_025 {
+        text.extend_from_slice(b"0 put 1 0 7\n")
+            .expect(rt, "a line");
     }
+    replay_row(rt, alloc, plan, &FULL, &text);
+}
+
+/// All rows on the three objects, whose plan this is.
+pub fn replay_rows(rt: &impl Abort, alloc: Global, plan: &Plan) {
+    for row in &ROWS {
+        replay_row(rt, alloc, plan, row, row.case.text);
+    }
+    replay_full(rt, alloc, plan);
 }
