@@ -2,7 +2,6 @@
 use crate::expected::expect;
 use crate::played::play_case;
 use comp_regions::refusal::SweepFault;
-use std::test::Fail;
 
 /// What goes on beside the sweep of a case.
 #[derive(Clone, Copy)]
@@ -122,10 +121,9 @@ const TEXTS: [(SweepFault, &str); 3] = [
 ];
 
 #[test]
-fn prints_refusals_of_sweeps(rt: HostRuntime) -> Result<(), Fail> {
+fn prints_refusals_of_sweeps(rt: HostRuntime) {
     for (fault, text) in &TEXTS {
-        let printed = fault.to_string(rt.alloc())?;
+        let printed = fault.to_string(rt.alloc()).expect(&rt, "memory for a text");
         expect(&rt, text, "as it is printed", printed.as_str() == *text);
     }
-    Ok(())
 }
