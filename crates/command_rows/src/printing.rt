@@ -1,93 +1,121 @@
-//! Words and plans of images in memory.
-use crate::places::{Image, Memory};
+//! What words, plans and audits of files in memory answer and print.
+use crate::places::Memory;
 use command_io::refusal::{Input, Refusal};
+use comp_dump::fault::DumpFault;
+use heap_commands::audit::print_audit;
 use heap_commands::plan::print_plan;
 use heap_commands::word::print_word;
 use heap_image::counted::Counted;
 use heap_layout::fault::LayoutFault;
+use std::alloc::Global;
 use std::process::Abort;
-use std::test::Fail;
-use worked_files::images::THREE_IMAGE;
-use worked_files::parts::bytes_of;
 
-/// A word that is asked for: its name, its image and its index, what is answered and printed.
-type Row = (
-    &'static str,
-    &'static str,
-    u64,
-    Result<(), Refusal>,
-    &'static str,
-);
+/// What a command is asked.
+#[derive(Clone, Copy)]
+pub enum Asked {
+    /// The word of an image at this index.
+    Word(&'static str, u64),
+    /// The plan of an image.
+    Plan(&'static str),
+    /// The audit of an image and a dump.
+    Audit(&'static str, &'static str),
+}
 
-static WORDS: [Row; 6] = [
-    ("a header", "three.img", 2, Ok(()), "12884901889\n"),
-    ("a reference", "three.img", 3, Ok(()), "8589934592\n"),
-    ("the last word", "three.img", 63, Ok(()), "0\n"),
-    ("no word", "three.img", 64, Err(Refusal::NoSuchWord(64)), ""),
+// What is asked, what is answered, and what is printed.
+type Row = (Asked, Result<(), Refusal>, &'static str);
+
+static ROWS: [Row; 13] = [
+    // Words of an image.
+    (Asked::Word("three.img", 2), Ok(()), "12884901889\n"),
+    (Asked::Word("three.img", 3), Ok(()), "8589934592\n"),
+    (Asked::Word("three.img", 63), Ok(()), "0\n"),
     (
-        "an empty image",
-        "empty.img",
-        2,
+        Asked::Word("three.img", 64),
+        Err(Refusal::NoSuchWord(64)),
+        "",
+    ),
+    (
+        Asked::Word("empty.img", 2),
         Err(Refusal::Layout(LayoutFault::Truncated)),
         "",
     ),
     (
-        "no image",
-        "",
-        2,
+        Asked::Word("", 2),
         Err(Refusal::CannotOpen(Input::Image)),
+        "",
+    ),
+    // The plan of the three objects.
+    (
+        Asked::Plan("three.img"),
+        Ok(()),
+        "live 4\npages 1\npage 0 first 0\nroot 0 8589934594\n",
+    ),
+    // True dumps.
+    (Asked::Audit("three.img", "fresh.dump"), Ok(()), "ok 5\n"),
+    (
+        Asked::Audit("twenty.img", "twenty.dump"),
+        Ok(()),
+        "ok 1280\n",
+    ),
+    // The image is read before the dump.
+    (
+        Asked::Audit("absent", "absent"),
+        Err(Refusal::CannotOpen(Input::Image)),
+        "",
+    ),
+    (
+        Asked::Audit("cut.img", "absent"),
+        Err(Refusal::Layout(LayoutFault::Truncated)),
+        "",
+    ),
+    (
+        Asked::Audit("three.img", "absent"),
+        Err(Refusal::CannotOpen(Input::Dump)),
+        "",
+    ),
+    (
+        Asked::Audit("three.img", "three.img"),
+        Err(Refusal::Dump(DumpFault::BadMagic)),
         "",
     ),
 ];
 
-/// This was answered, and just this printed.
-pub fn expect_printed(
-    rt: &impl Abort,
-    name: &str,
-    found: (Result<(), Refusal>, &[u8]),
-    wanted: (Result<(), Refusal>, &str),
-) {
-    let (answer, bytes) = found;
-    assert!(rt;
-        answer == wanted.0 && bytes == wanted.1.as_bytes(),
-        "{name}: {answer:?}"
-    );
-}
-
-// These words of images.
-fn expect_words<R: Abort + AllocGlobal>(rt: &R, memory: &Memory, words: &[Row]) {
-    for (name, image, index, answer, text) in words {
-        let mut bytes = Vec::new(rt.alloc());
-        let mut out = Counted::new(&mut bytes);
-        let found = print_word(rt.alloc(), memory, image, *index, &mut out);
-        expect_printed(rt, name, (found, &bytes), (*answer, text));
+// Answers what is asked.
+fn answer(
+    alloc: Global,
+    memory: &Memory,
+    asked: Asked,
+    printed: &mut Vec<u8>,
+) -> Result<(), Refusal> {
+    let mut out = Counted::new(printed);
+    match asked {
+        Asked::Word(image, index) => print_word(alloc, memory, image, index, &mut out),
+        Asked::Plan(image) => print_plan(alloc, memory, image, &mut out),
+        Asked::Audit(image, dump) => print_audit(alloc, memory, image, dump, &mut out),
     }
 }
 
-// The plan of the three objects.
-fn expect_plan<R: Abort + AllocGlobal>(rt: &R, memory: &Memory) {
-    let text = "live 4\npages 1\npage 0 first 0\nroot 0 8589934594\n";
-    let mut bytes = Vec::new(rt.alloc());
-    let mut out = Counted::new(&mut bytes);
-    let found = print_plan(rt.alloc(), memory, "three.img", &mut out);
-    expect_printed(rt, "a plan", (found, &bytes), (Ok(()), text));
+/// This is answered to what is asked, and just this printed.
+pub fn is_answered(
+    rt: &impl AllocGlobal,
+    memory: &Memory,
+    asked: Asked,
+    wanted: Result<(), Refusal>,
+    text: &str,
+) -> bool {
+    let mut printed = Vec::new(rt.alloc());
+    let found = answer(rt.alloc(), memory, asked, &mut printed);
+    found == wanted && printed.as_slice() == text.as_bytes()
 }
 
-/// Words and plans of images in memory.
-pub fn expect_words_and_plan<R: Abort + AllocGlobal>(rt: &R) -> Result<(), Fail> {
-    let bytes = bytes_of(rt.alloc(), &THREE_IMAGE)?;
-    let images = [
-        Image {
-            path: "empty.img",
-            bytes: b"",
-        },
-        Image {
-            path: "three.img",
-            bytes: bytes.as_slice(),
-        },
-    ];
-    let memory = Memory { images: &images };
-    expect_words(rt, &memory, &WORDS);
-    expect_plan(rt, &memory);
-    Ok(())
+// All rows.
+fn expect_rows(rt: &(impl Abort + AllocGlobal), memory: &Memory, rows: &[Row]) {
+    for (row, (asked, wanted, text)) in rows.iter().enumerate() {
+        assert!(rt; is_answered(rt, memory, *asked, *wanted, text), "row {row}");
+    }
+}
+
+/// Words, plans and audits of files in memory.
+pub fn expect_answers(rt: &(impl Abort + AllocGlobal), memory: &Memory) {
+    expect_rows(rt, memory, &ROWS);
 }

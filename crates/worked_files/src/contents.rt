@@ -2,7 +2,7 @@
 use crate::images::{
     BAD_ROOT_IMAGE, EMPTY_IMAGE, FRESH_DUMP, LATE_DUMP, THREE_IMAGE, TWENTY_IMAGE,
 };
-use crate::parts::push_parts;
+use crate::parts::bytes_of;
 use std::alloc::{AllocError, Global};
 
 /// What a file holds.
@@ -26,20 +26,13 @@ pub enum Content {
 
 /// The bytes of a file.
 pub fn bytes_in(alloc: Global, content: Content) -> Result<Vec<u8>, AllocError> {
-    let mut bytes = Vec::new(alloc);
-    push_content(&mut bytes, content)?;
-    Ok(bytes)
-}
-
-// Puts the bytes of a file behind others.
-fn push_content(bytes: &mut Vec<u8>, content: Content) -> Result<(), AllocError> {
     match content {
-        Content::Text(text) => bytes.extend_from_slice(text.as_bytes()),
-        Content::EmptyImage => push_parts(bytes, &EMPTY_IMAGE),
-        Content::ThreeImage => push_parts(bytes, &THREE_IMAGE),
-        Content::BadRootImage => push_parts(bytes, &BAD_ROOT_IMAGE),
-        Content::TwentyImage => push_parts(bytes, &TWENTY_IMAGE),
-        Content::FreshDump => push_parts(bytes, &FRESH_DUMP),
-        Content::LateDump => push_parts(bytes, &LATE_DUMP),
+        Content::Text(text) => text.as_bytes().to_vec(alloc),
+        Content::EmptyImage => bytes_of(alloc, &EMPTY_IMAGE),
+        Content::ThreeImage => bytes_of(alloc, &THREE_IMAGE),
+        Content::BadRootImage => bytes_of(alloc, &BAD_ROOT_IMAGE),
+        Content::TwentyImage => bytes_of(alloc, &TWENTY_IMAGE),
+        Content::FreshDump => bytes_of(alloc, &FRESH_DUMP),
+        Content::LateDump => bytes_of(alloc, &LATE_DUMP),
     }
 }

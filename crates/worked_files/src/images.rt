@@ -46,14 +46,14 @@ pub const FRESH_DUMP: [Part; 19] = [
     // page 0, and its entry
     Part::Bytes(&[1]),
     Part::Words(&[4_295_032_832, 11, 12_884_901_889, 8_589_934_656]),
-    Part::Zeros(60),
+    Part::Words(&[0; 60]),
     Part::Numbers(&[1]),
     Part::Words(&[1]),
     Part::Bytes(&[0, 1, 3]),
     Part::Words(&[8_589_934_656]),
     // page 1, and its entry
     Part::Bytes(&[1]),
-    Part::Zeros(64),
+    Part::Words(&[0; 64]),
     Part::Numbers(&[1]),
     Part::Words(&[0]),
     Part::Bytes(&[0, 0, 0]),
@@ -82,14 +82,14 @@ pub const LATE_DUMP: [Part; 19] = [
     // page 0, and its entry, the reference
     Part::Bytes(&[1]),
     Part::Words(&[4_295_032_832, 11, 12_884_901_889, 8_589_934_656]),
-    Part::Zeros(60),
+    Part::Words(&[0; 60]),
     Part::Numbers(&[1]),
     Part::Words(&[0]),
     Part::Bytes(&[0, 1, 3]),
     Part::Words(&[8_589_934_656]),
     // page 1, and its entry, the header
     Part::Bytes(&[1]),
-    Part::Zeros(64),
+    Part::Words(&[0; 64]),
     Part::Numbers(&[1]),
     Part::Words(&[1]),
     Part::Bytes(&[0, 0, 0]),

@@ -9,8 +9,6 @@ pub enum Part {
     Numbers(&'static [u32]),
     /// Words of 8 bytes each.
     Words(&'static [u64]),
-    /// So many words that are 0.
-    Zeros(u16),
     /// An object of 640 words without references, whose data words count from 1.
     Object,
     /// The ten pages of a dump that such an object fills, each with no entry.
@@ -24,8 +22,8 @@ pub fn bytes_of(alloc: Global, parts: &[Part]) -> Result<Vec<u8>, AllocError> {
     Ok(bytes)
 }
 
-/// Puts the bytes of these parts behind others.
-pub fn push_parts(bytes: &mut Vec<u8>, parts: &[Part]) -> Result<(), AllocError> {
+// Puts the bytes of these parts behind others.
+fn push_parts(bytes: &mut Vec<u8>, parts: &[Part]) -> Result<(), AllocError> {
     for part in parts {
         push_part(bytes, part)?;
     }
@@ -38,39 +36,23 @@ fn push_part(bytes: &mut Vec<u8>, part: &Part) -> Result<(), AllocError> {
         Part::Bytes(given) => bytes.extend_from_slice(given),
         Part::Numbers(numbers) => push_numbers(bytes, numbers),
         Part::Words(words) => push_words(bytes, words),
-        Part::Zeros(count) => push_zeros(bytes, *count),
         Part::Object => push_object_words(bytes, 0, 640),
         Part::Pages => push_pages(bytes),
     }
 }
 
-// A number of 4 bytes.
-fn push_number(bytes: &mut Vec<u8>, number: u32) -> Result<(), AllocError> {
-    bytes.extend_from_slice(&number.to_le_bytes())
-}
-
+// Numbers of 4 bytes.
 fn push_numbers(bytes: &mut Vec<u8>, numbers: &[u32]) -> Result<(), AllocError> {
     for number in numbers {
-        push_number(bytes, *number)?;
+        bytes.extend_from_slice(&number.to_le_bytes())?;
     }
     Ok(())
 }
 
-// A word of 8 bytes.
-fn push_word(bytes: &mut Vec<u8>, word: u64) -> Result<(), AllocError> {
-    bytes.extend_from_slice(&word.to_le_bytes())
-}
-
+// Words of 8 bytes.
 fn push_words(bytes: &mut Vec<u8>, words: &[u64]) -> Result<(), AllocError> {
     for word in words {
-        push_word(bytes, *word)?;
-    }
-    Ok(())
-}
-
-fn push_zeros(bytes: &mut Vec<u8>, count: u16) -> Result<(), AllocError> {
-    for _ in 0..count {
-        push_word(bytes, 0)?;
+        bytes.extend_from_slice(&word.to_le_bytes())?;
     }
     Ok(())
 }
@@ -78,7 +60,8 @@ fn push_zeros(bytes: &mut Vec<u8>, count: u16) -> Result<(), AllocError> {
 // Words of an object of 640 words: its header, and its data words, which count from 1.
 fn push_object_words(bytes: &mut Vec<u8>, from: u64, to: u64) -> Result<(), AllocError> {
     for at in from..to {
-        push_word(bytes, if at == 0 { 41_877_504 } else { at })?;
+        let word: u64 = if at == 0 { 41_877_504 } else { at };
+        bytes.extend_from_slice(&word.to_le_bytes())?;
     }
     Ok(())
 }
@@ -88,7 +71,7 @@ fn push_pages(bytes: &mut Vec<u8>) -> Result<(), AllocError> {
     for page in 0..10u64 {
         bytes.push(1)?;
         push_object_words(bytes, page * 64, page * 64 + 64)?;
-        push_number(bytes, 0)?;
+        bytes.extend_from_slice(&[0; 4])?;
     }
     Ok(())
 }

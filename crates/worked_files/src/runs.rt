@@ -36,16 +36,12 @@ pub fn words_of(alloc: Global, line: &str) -> Result<Vec<String>, AllocError> {
     Ok(words)
 }
 
-/// A run ended with this status, and left these bytes on its output and on standard error: it has to be so.
+/// A run ended with this status, and left these bytes on its output and on standard error: it has to be so, or the line is told.
 pub fn expect_ran(run: &Run, status: u8, out: &[u8], err: &[u8]) -> Result<(), Fail> {
-    let (printed, told) = (text_of(out), text_of(err));
-    if status == run.status && fits(printed, run.out) && fits(told, run.err) {
+    if status == run.status && fits(text_of(out), run.out) && fits(text_of(err), run.err) {
         return Ok(());
     }
-    Err(Fail::new(format_args!(
-        "{}: status {status}, printed {printed:?}, told {told:?}",
-        run.line
-    )))
+    Err(run.line.into())
 }
 
 // The text of these bytes.

@@ -1,60 +1,57 @@
 //! Which words ask what.
 use command_line::words::{VERSION_LINE, read_task};
-use std::alloc::{AllocError, Global};
 use std::process::Abort;
 use worked_files::runs::words_of;
 
-// A line, and the task that it asks, as `Debug` writes it.
-type Row = (&'static str, &'static str);
+// What is told of a line.
+#[derive(Clone, Copy)]
+enum Told<'a> {
+    // Just this task, as `Debug` writes it.
+    Task(&'a str),
+    // How the program is used.
+    Help,
+    // That the words are no command.
+    Error,
+}
 
-// The task that these words ask, as `Debug` writes it, or what is told of words that are no command.
-fn told(alloc: Global, words: &[String]) -> Result<String, AllocError> {
-    match read_task(alloc, words) {
-        Ok(task) => format!(in alloc; "{task:?}"),
-        Err(error) => format!(in alloc; "{error}"),
+// A text tells this.
+fn tells(text: &str, wanted: Told) -> bool {
+    match wanted {
+        Told::Task(task) => text == task,
+        Told::Help => text.starts_with("Help { text: ") && text.contains("Usage: compressor"),
+        Told::Error => text.starts_with("error: "),
     }
 }
 
-// The same of a line.
-fn told_of(rt: &(impl Abort + AllocGlobal), line: &str) -> String {
-    let Ok(words) = words_of(rt.alloc(), line) else {
-        panic!(rt; "memory for words");
+// The words of a line ask this, or are refused so.
+fn is_told(rt: &(impl Abort + AllocGlobal), line: &str, wanted: Told) -> bool {
+    let words = words_of(rt.alloc(), line).expect(rt, "memory for words");
+    let text = match read_task(rt.alloc(), &words) {
+        Ok(task) => format!(in rt.alloc(); "{task:?}"),
+        Err(error) => format!(in rt.alloc(); "{error}"),
     };
-    let Ok(text) = told(rt.alloc(), &words) else {
-        panic!(rt; "memory for a text");
-    };
-    text
+    tells(&text.expect(rt, "memory for a text"), wanted)
 }
 
-// Just this is told of a line.
-fn expect_text(rt: &impl Abort, line: &str, found: &str, wanted: &str) {
-    assert_eq!(rt; found, wanted, "{line}");
+// Of each of these lines this is told.
+fn expect_lines(rt: &(impl Abort + AllocGlobal), lines: &[&str], wanted: Told) {
+    for line in lines {
+        assert!(rt; is_told(rt, line, wanted), "{line}");
+    }
 }
 
-// What is told of a line begins so, and has this piece.
-fn expect_piece(rt: &impl Abort, line: &str, found: &str, begin: &str, piece: &str) {
-    assert!(rt;
-        found.starts_with(begin) && found.contains(piece),
-        "{line}: {found}"
-    );
-}
+// A line, and the task that it asks.
+type Row = (&'static str, &'static str);
 
 // Each of these lines asks its own.
 fn expect_rows(rt: &(impl Abort + AllocGlobal), rows: &[Row]) {
-    for (line, wanted) in rows {
-        expect_text(rt, line, &told_of(rt, line), wanted);
-    }
-}
-
-// What is told of each of these lines begins so, and has this piece.
-fn expect_lines(rt: &(impl Abort + AllocGlobal), lines: &[&str], begin: &str, piece: &str) {
-    for line in lines {
-        expect_piece(rt, line, &told_of(rt, line), begin, piece);
+    for (line, task) in rows {
+        assert!(rt; is_told(rt, line, Told::Task(task)), "{line}");
     }
 }
 
 // Lines, and the tasks that they ask.
-const TASKS: [Row; 20] = [
+static TASKS: [Row; 20] = [
     ("plan three.img", "Plan { image: \"three.img\" }"),
     ("plan -- --help", "Plan { image: \"--help\" }"),
     (
@@ -134,7 +131,7 @@ fn reads_what_the_words_ask(rt: HostRuntime) {
 }
 
 // Lines that ask for help.
-const HELPS: [&str; 15] = [
+static HELPS: [&str; 15] = [
     "--help",
     "-h",
     "-hx",
@@ -154,11 +151,11 @@ const HELPS: [&str; 15] = [
 
 #[test]
 fn answers_help_where_it_is_asked(rt: HostRuntime) {
-    expect_lines(&rt, &HELPS, "Help { text: ", "Usage: compressor");
+    expect_lines(&rt, &HELPS, Told::Help);
 }
 
 // Lines that ask for the version.
-const VERSIONS: [Row; 4] = [
+static VERSIONS: [Row; 4] = [
     ("--version", "Version"),
     ("-V", "Version"),
     ("-Vh", "Version"),
@@ -168,11 +165,11 @@ const VERSIONS: [Row; 4] = [
 #[test]
 fn answers_the_version_where_it_is_asked(rt: HostRuntime) {
     expect_rows(&rt, &VERSIONS);
-    expect_text(&rt, "the version", VERSION_LINE, "compressor 0.1.0\n");
+    assert!(rt; VERSION_LINE == "compressor 0.1.0\n");
 }
 
 // Lines that are no command.
-const NO_COMMANDS: [&str; 54] = [
+static NO_COMMANDS: [&str; 54] = [
     "",
     "--",
     "-- word three.img 2",
@@ -231,5 +228,5 @@ const NO_COMMANDS: [&str; 54] = [
 
 #[test]
 fn refuses_words_that_are_no_command(rt: HostRuntime) {
-    expect_lines(&rt, &NO_COMMANDS, "error: ", "");
+    expect_lines(&rt, &NO_COMMANDS, Told::Error);
 }

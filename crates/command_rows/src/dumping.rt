@@ -1,27 +1,35 @@
-//! Heaps in memory that are compacted: the dump and the line; and those that are not.
-use crate::places::{Image, Memory, Place};
-use crate::printing::expect_printed;
+//! Heaps in memory that are compacted or replayed: the dump and the line; and those that are not.
+use crate::dumps::{Dump, dump_of};
+use crate::places::{Memory, Place};
 use command_io::refusal::{Input, Refusal};
+use command_line::words::TraceRun;
 use comp_dump::fault::DumpFault;
 use compact_command::compact::{Compaction, print_compact};
 use heap_image::counted::Counted;
 use heap_layout::fault::LayoutFault;
 use std::process::Abort;
 use std::sync::Wait;
-use std::test::Fail;
 use std::thread::Threads;
-use worked_files::images::{ALL, TWENTY_IMAGE};
-use worked_files::parts::{Part, bytes_of};
+use trace_commands::replay::print_replay;
 use worked_files::writers::{Failure, Narrow};
 
-/// A compaction in memory, and what has to come of it.
+// What writes a dump.
+#[derive(Clone, Copy)]
+enum Writing {
+    // The heap is compacted, by so many workers.
+    Compact(u8),
+    // The trace that makes a new object is replayed, by one mutator.
+    Replay,
+}
+
+/// A command in memory that writes a dump, and what has to come of it.
 #[derive(Clone, Copy)]
 pub struct Row {
     name: &'static str,
+    writing: Writing,
     /// The path of the image, and that of the dump, which is to be `out`.
     image: &'static str,
     path: &'static str,
-    workers: u8,
     /// How many bytes the writer of the dump takes, and how it fails then.
     room: usize,
     failure: Failure,
@@ -29,52 +37,65 @@ pub struct Row {
     printable: usize,
     answer: Result<(), Refusal>,
     printed: &'static str,
-    /// The whole dump, where one was created; or nothing.
-    dump: &'static [Part],
+    /// The whole dump, where one was created.
+    dump: Dump,
     /// How many bytes of it are left. A dump is cut off only where it is refused.
     left: usize,
 }
 
-// Compacts as a row says.
-fn expect_row<R: Abort + AllocGlobal + Threads + Wait + Sync>(
+// Writes a dump as a row says.
+fn write_dump<R: Abort + AllocGlobal + Threads + Wait + Sync>(
     rt: &R,
+    memory: &Memory,
     row: &Row,
-) -> Result<(), Fail> {
-    let bytes = bytes_of(rt.alloc(), &TWENTY_IMAGE)?;
-    let whole = bytes_of(rt.alloc(), row.dump)?;
-    let images = [
-        Image {
-            path: "twenty.img",
-            bytes: bytes.as_slice(),
-        },
-        Image {
-            path: "cut.img",
-            bytes: b"COMPHEAP",
-        },
-    ];
-    expect_compacted(rt, &images, row, &whole);
-    Ok(())
-}
-
-/// Compacts as each of these rows says.
-pub fn expect_rows<R: Abort + AllocGlobal + Threads + Wait + Sync>(
-    rt: &R,
-    rows: &[Row],
-) -> Result<(), Fail> {
-    for row in rows {
-        expect_row(rt, row)?;
+    place: &mut Place,
+    out: &mut Narrow,
+) -> Result<(), Refusal> {
+    let mut counted = Counted::new(out);
+    match row.writing {
+        Writing::Compact(workers) => {
+            assert!(rt; 1 <= workers && workers <= 64);
+            let asked = Compaction {
+                image: row.image,
+                dump: row.path,
+                workers,
+            };
+            print_compact(rt.alloc(), rt, memory, place, asked, &mut counted)
+        }
+        Writing::Replay => {
+            let asked = TraceRun {
+                image: row.image,
+                trace: "fresh.trace",
+                dump: row.path,
+                mutators: 1,
+                fresh: 2,
+            };
+            print_replay(rt.alloc(), memory, memory, place, asked, &mut counted)
+        }
     }
-    Ok(())
 }
 
-// Compacts a heap in memory.
-fn expect_compacted<R: Abort + AllocGlobal + Threads + Wait + Sync>(
-    rt: &R,
-    images: &[Image],
+// This was answered and printed, a dump was created or was not, and so much of it is left.
+fn is_so(
     row: &Row,
+    found: (Result<(), Refusal>, &[u8]),
+    created: bool,
+    dumped: &[u8],
     whole: &[u8],
-) {
-    assert!(rt; 1 <= row.workers && row.workers <= 64);
+) -> bool {
+    let (answer, printed) = found;
+    let cut_off = answer == Err(Refusal::Dump(DumpFault::Device));
+    answer == row.answer
+        && printed == row.printed.as_bytes()
+        && created == !whole.is_empty()
+        && dumped.len() == row.left
+        && whole.starts_with(dumped)
+        && (cut_off || dumped.len() == whole.len())
+}
+
+// Just that comes of a row.
+fn expect_row<R: Abort + AllocGlobal + Threads + Wait + Sync>(rt: &R, memory: &Memory, row: &Row) {
+    let whole = dump_of(rt, row.dump);
     let mut dumped = Vec::new(rt.alloc());
     let mut printed = Vec::new(rt.alloc());
     let mut place = Place {
@@ -91,89 +112,43 @@ fn expect_compacted<R: Abort + AllocGlobal + Threads + Wait + Sync>(
         at_once: usize::MAX,
         failure: Failure::TakesNone,
     };
-    let answer = print_compact(
-        rt.alloc(),
-        rt,
-        &Memory { images },
-        &mut place,
-        Compaction {
-            image: row.image,
-            dump: row.path,
-            workers: row.workers,
-        },
-        &mut Counted::new(&mut out),
-    );
+    let answer = write_dump(rt, memory, row, &mut place, &mut out);
     let created = place.writer.is_none();
-    expect_printed(rt, row.name, (answer, &printed), (row.answer, row.printed));
-    expect_dump(rt, row, created, &dumped, whole);
+    assert!(rt;
+        is_so(row, (answer, &printed), created, &dumped, &whole),
+        "{}",
+        row.name
+    );
 }
 
-// A dump was created or was not, and these bytes of it are left.
-fn expect_dump(rt: &impl Abort, row: &Row, created: bool, dumped: &[u8], whole: &[u8]) {
-    let cut_off = row.answer == Err(Refusal::Dump(DumpFault::Device));
-    let created_so = created == !row.dump.is_empty();
-    let left_so = dumped.len() == row.left && whole.starts_with(dumped);
-    let whole_so = cut_off || dumped.len() == whole.len();
-    assert!(rt; created_so && left_so && whole_so, "{}", row.name);
+// All rows.
+fn expect_rows<R: Abort + AllocGlobal + Threads + Wait + Sync>(
+    rt: &R,
+    memory: &Memory,
+    rows: &[Row],
+) {
+    for row in rows {
+        expect_row(rt, memory, row);
+    }
 }
 
-// The dump of the twenty pages begins so, where one worker swept, or 2, 4 or 64; then come the lists of what they built.
-const BY_ONE: [Part; 7] = [
-    Part::Bytes(b"COMPDUMP"),
-    Part::Numbers(&[1, 1, 0, 20, 0]),
-    Part::Pages,
-    Part::Pages,
-    Part::Numbers(&[20]),
-    Part::Numbers(&ALL),
-    Part::Words(&[1_280]),
-];
-
-const BY_TWO: [Part; 7] = [
-    Part::Bytes(b"COMPDUMP"),
-    Part::Numbers(&[1, 2, 0, 20, 0]),
-    Part::Pages,
-    Part::Pages,
-    Part::Numbers(&[12, 0, 1, 2, 3, 4, 5, 6, 7, 16, 17, 18, 19]),
-    Part::Numbers(&[8, 8, 9, 10, 11, 12, 13, 14, 15]),
-    Part::Words(&[1_280]),
-];
-
-const BY_FOUR: [Part; 9] = [
-    Part::Bytes(b"COMPDUMP"),
-    Part::Numbers(&[1, 4, 0, 20, 0]),
-    Part::Pages,
-    Part::Pages,
-    Part::Numbers(&[8, 0, 1, 2, 3, 4, 5, 6, 7]),
-    Part::Numbers(&[8, 8, 9, 10, 11, 12, 13, 14, 15]),
-    Part::Numbers(&[4, 16, 17, 18, 19]),
-    Part::Numbers(&[0]),
-    Part::Words(&[1_280]),
-];
-
-const BY_SIXTY_FOUR: [Part; 9] = [
-    Part::Bytes(b"COMPDUMP"),
-    Part::Numbers(&[1, 64, 0, 20, 0]),
-    Part::Pages,
-    Part::Pages,
-    Part::Numbers(&[8, 0, 1, 2, 3, 4, 5, 6, 7]),
-    Part::Numbers(&[8, 8, 9, 10, 11, 12, 13, 14, 15]),
-    Part::Numbers(&[4, 16, 17, 18, 19]),
-    Part::Numbers(&[0; 61]),
-    Part::Words(&[1_280]),
-];
+/// Compactions and replays of heaps in memory.
+pub fn expect_dumps<R: Abort + AllocGlobal + Threads + Wait + Sync>(rt: &R, memory: &Memory) {
+    expect_rows(rt, memory, &ROWS);
+}
 
 // One worker compacts the twenty pages.
 const ALONE: Row = Row {
     name: "one worker",
+    writing: Writing::Compact(1),
     image: "twenty.img",
     path: "out",
-    workers: 1,
     room: 10_460,
     failure: Failure::Error,
     printable: 10,
     answer: Ok(()),
     printed: "live 1280\n",
-    dump: &BY_ONE,
+    dump: Dump::ByOne,
     left: 10_460,
 };
 
@@ -189,43 +164,57 @@ const UNFLUSHED: Row = Row {
 // An image that is cut off, by two workers.
 const CUT_IMAGE: Row = Row {
     name: "an image that is cut off",
+    writing: Writing::Compact(2),
     image: "cut.img",
     path: "out",
-    workers: 2,
     room: 4_096,
     failure: Failure::Error,
     printable: 10,
     answer: Err(Refusal::Layout(LayoutFault::Truncated)),
     printed: "",
-    dump: &[],
+    dump: Dump::None,
     left: 0,
 };
 
-/// All compactions.
-pub static ROWS: [Row; 14] = [
+// A replay whose dump is cut off.
+const UNWRITTEN: Row = Row {
+    name: "a replay, and no room",
+    writing: Writing::Replay,
+    image: "three.img",
+    path: "out",
+    room: 0,
+    failure: Failure::Error,
+    printable: 10,
+    answer: Err(Refusal::Dump(DumpFault::Device)),
+    printed: "",
+    dump: Dump::Fresh,
+    left: 0,
+};
+
+static ROWS: [Row; 18] = [
     // By some workers, with just enough room for the dump.
     ALONE,
     Row {
         name: "two workers",
-        workers: 2,
+        writing: Writing::Compact(2),
         room: 10_464,
-        dump: &BY_TWO,
+        dump: Dump::ByTwo,
         left: 10_464,
         ..ALONE
     },
     Row {
         name: "four workers",
-        workers: 4,
+        writing: Writing::Compact(4),
         room: 10_472,
-        dump: &BY_FOUR,
+        dump: Dump::ByFour,
         left: 10_472,
         ..ALONE
     },
     Row {
         name: "sixty-four workers",
-        workers: 64,
+        writing: Writing::Compact(64),
         room: 10_712,
-        dump: &BY_SIXTY_FOUR,
+        dump: Dump::BySixtyFour,
         left: 10_712,
         ..ALONE
     },
@@ -289,5 +278,28 @@ pub static ROWS: [Row; 14] = [
         answer: Err(Refusal::CannotPrint),
         printed: "liv",
         ..ALONE
+    },
+    // The dump of a replay is cut off behind so many bytes.
+    UNWRITTEN,
+    Row {
+        name: "a replay, and room for 600 bytes",
+        room: 600,
+        failure: Failure::TakesNone,
+        left: 600,
+        ..UNWRITTEN
+    },
+    Row {
+        name: "a replay, and room for 1128 bytes",
+        room: 1_128,
+        failure: Failure::Error,
+        left: 1_128,
+        ..UNWRITTEN
+    },
+    Row {
+        name: "a replay, and no flush",
+        room: 1_129,
+        failure: Failure::Flush,
+        left: 1_129,
+        ..UNWRITTEN
     },
 ];
