@@ -1,0 +1,119 @@
+//! A gate that is told of regions, and a builder that finds no memory.
+use crate::sweeping::cases::Beside;
+use crate::sweeping::expected::expect;
+use comp_sweep::gate::Gate;
+use heap_layout::fault::OutOfMemory;
+use heap_layout::page_words::PageWords;
+use page_plan::builder::Builder;
+use page_plan::plan::Plan;
+use std::alloc::Global;
+use std::process::Abort;
+use std::sync::atomic::{AtomicU64, Ordering};
+use worked_heaps::builders::met;
+
+/// The gate of a case. One that counts is told of three regions. One that holds counts the regions for which that was in vain.
+#[derive(Drop)]
+pub struct Watch {
+    beside: Beside,
+    begun: [AtomicU64; 3],
+    ended: [AtomicU64; 3],
+    missed: AtomicU64,
+}
+
+impl Watch {
+    /// Nothing was told yet.
+    pub fn new(beside: Beside) -> Watch {
+        Watch {
+            beside,
+            begun: [AtomicU64::new(0), AtomicU64::new(0), AtomicU64::new(0)],
+            ended: [AtomicU64::new(0), AtomicU64::new(0), AtomicU64::new(0)],
+            missed: AtomicU64::new(0),
+        }
+    }
+
+    // Waits until the regions 0 and 1 have both begun.
+    fn hold(&self, region: u64) {
+        let together = if region == 0 {
+            met(&self.begun[0], &self.begun[1])
+        } else {
+            met(&self.begun[1], &self.begun[0])
+        };
+        if !together {
+            self.missed.fetch_add(1, Ordering::SeqCst);
+        }
+    }
+
+    /// No region was held in vain. Where regions are counted, each was begun and ended once.
+    pub fn expect_told(&self, rt: &impl Abort, case: &'static str) {
+        let missed = self.missed.load(Ordering::SeqCst);
+        expect(rt, case, "regions that missed one another", missed == 0);
+        if matches!(self.beside, Beside::Counts) {
+            expect_once(rt, case, &self.begun);
+            expect_once(rt, case, &self.ended);
+        }
+    }
+}
+
+// Counts one call for this region.
+fn count(calls: &[AtomicU64], region: u64) {
+    if let Some(calls) = calls.get(region as usize) {
+        calls.fetch_add(1, Ordering::SeqCst);
+    }
+}
+
+// Each region was told once.
+fn expect_once(rt: &impl Abort, case: &'static str, calls: &[AtomicU64]) {
+    for calls in calls {
+        let once = calls.load(Ordering::SeqCst) == 1;
+        expect(rt, case, "each region once", once);
+    }
+}
+
+impl Gate for Watch {
+    fn before(&self, region: u64) {
+        match self.beside {
+            Beside::Counts => count(&self.begun, region),
+            Beside::Holds => self.hold(region),
+            _ => {}
+        }
+    }
+
+    fn after(&self, region: u64) {
+        if matches!(self.beside, Beside::Counts) {
+            count(&self.ended, region);
+        }
+    }
+}
+
+/// A plan whose first build of page 9 asks for more memory than there is.
+#[derive(Drop)]
+pub struct Greedy {
+    plan: Plan,
+    calls: AtomicU64,
+}
+
+impl Greedy {
+    /// Over a plan, with no build of page 9 asked for.
+    pub fn new(plan: Plan) -> Greedy {
+        Greedy {
+            plan,
+            calls: AtomicU64::new(0),
+        }
+    }
+}
+
+impl Builder for Greedy {
+    ghost heap = { λ greedy. greedy.plan };
+
+    fn plan(&self) -> &Plan {
+        &self.plan
+    }
+
+    fn build(&self, alloc: Global, p: u64) -> Result<PageWords, OutOfMemory> {
+        if p == 9 && self.calls.fetch_add(1, Ordering::SeqCst) == 0 {
+            let mut many: Vec<u64> = Vec::new(alloc);
+            many.reserve(1 << 60)?;
+        }
+        self.plan.build_page(alloc, p)
+    }
+}

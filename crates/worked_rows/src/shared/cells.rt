@@ -1,0 +1,165 @@
+//! Cells of pages with two passes, which work at once or by turns.
+ghost use Rattle.std.specs.Prelude.{All};
+ghost use Rattle.cell_steps.specs.Passes.{Rests};
+ghost use Rattle.page_cells.specs.Cells.{IsPassOf};
+
+use crate::shared::expected::{At, expect_so};
+use crate::shared::rows::{Row, at_once};
+use heap_layout::heap::MarkedHeap;
+use page_cells::Pass;
+use page_cells::cells::Cells;
+use page_cells::refusal::CellRefusal;
+use page_plan::builder::Builder;
+use page_plan::plan::Plan;
+use std::alloc::Global;
+use std::process::Abort;
+use std::sync::Arc;
+use std::test::Fail;
+use std::thread::Threads;
+use worked_heaps::builders::{Meeting, Refusing};
+use worked_heaps::heaps::{counting_heap, planned, three};
+
+// What two passes do at once: the rows of the first, and those of the second.
+type Round = (&'static [Row], &'static [Row]);
+
+// What two passes do, round by round, and how many pages both have built then.
+struct Case {
+    // What a failing test tells.
+    name: &'static str,
+    rounds: &'static [Round],
+    builds: usize,
+}
+
+/// New cells with two passes.
+pub(crate) fn opened<B: Builder>(
+    rt: &impl Abort,
+    alloc: Global,
+    builder: B,
+) -> (Cells<B>, Vec<Pass>)
+    ensures { All (λ pass. IsPassOf result.0 pass × Rests pass) result.1.items }
+{
+    let builder = Arc::new(alloc, builder).expect(rt, "memory for a builder");
+    let Ok(opened) = Cells::new(alloc, builder, 0, 2) else {
+        panic!(rt; "no memory for cells");
+    };
+    opened
+}
+
+// How many pages the passes have built.
+fn builds_of(passes: &[Pass]) -> usize {
+    let mut builds: usize = 0;
+    for pass in passes {
+        builds = builds.saturating_add(pass.builds().len());
+    }
+    builds
+}
+
+// The rounds of a case, one after another.
+fn play_rounds<B: Builder, R: Abort + Threads + Sync>(
+    rt: &R,
+    alloc: Global,
+    cells: &Cells<B>,
+    passes: &mut [Pass],
+    case: &Case,
+)
+    requires of { All (λ pass. IsPassOf cells.now pass × Rests pass) passes.old }
+{
+    for (round, (first, second)) in case.rounds.iter().enumerate() {
+        let at = At {
+            case: case.name,
+            round,
+            row: 0,
+        };
+        at_once(rt, alloc, cells, passes, at, first, second);
+    }
+    let end = At {
+        case: case.name,
+        round: case.rounds.len(),
+        row: 0,
+    };
+    expect_so(rt, end, builds_of(passes) == case.builds);
+}
+
+// A case, with this builder.
+fn play_case<B: Builder, R: Abort + Threads + Sync>(
+    rt: &R,
+    alloc: Global,
+    builder: B,
+    case: &Case,
+) {
+    let (cells, mut passes) = opened(rt, alloc, builder);
+    play_rounds(rt, alloc, &cells, &mut passes, case);
+}
+
+// What was made.
+fn made<T>(rt: &impl Abort, found: Result<T, Fail>) -> T {
+    match found {
+        Ok(value) => value,
+        Err(_) => panic!(rt; "a worked heap"),
+    }
+}
+
+// The plan of a worked heap.
+fn plan_of(rt: &impl Abort, alloc: Global, heap: Result<MarkedHeap, Fail>) -> Plan {
+    made(rt, planned(alloc, made(rt, heap)))
+}
+
+/// The plan of the heap of three objects.
+pub(crate) fn planned_three(rt: &impl Abort, alloc: Global) -> Plan {
+    plan_of(rt, alloc, three(alloc))
+}
+
+// The plan of a heap of one object of 255 data words.
+fn planned_four_pages(rt: &impl Abort, alloc: Global) -> Plan {
+    plan_of(rt, alloc, counting_heap(alloc, 255))
+}
+
+// The first pass writes; then the other one reads.
+const WRITTEN: Case = Case {
+    name: "reads a write of another pass",
+    rounds: &[(&[Row::WriteSeven], &[]), (&[], &[Row::FindSeven])],
+    builds: 1,
+};
+
+// Two passes that build one page at once.
+const RACE: Case = Case {
+    name: "builds a page once",
+    rounds: &[(&[Row::Race], &[Row::Race])],
+    builds: 1,
+};
+
+// The first build is refused.
+const REFUSED: Case = Case {
+    name: "builds after a refusal",
+    rounds: &[(
+        &[
+            Row::Visit(0, Err(CellRefusal::OutOfMemory)),
+            Row::Builds(0),
+            Row::Visit(0, Ok(())),
+            Row::Builds(1),
+        ],
+        &[],
+    )],
+    builds: 1,
+};
+
+// Two pages, whose builds wait for one another.
+const TWO_PAGES: Case = Case {
+    name: "builds two pages at once",
+    rounds: &[
+        (&[Row::Pages(4)], &[]),
+        (&[Row::Visit(0, Ok(()))], &[Row::Visit(1, Ok(()))]),
+    ],
+    builds: 2,
+};
+
+#[test]
+fn plays_cases(rt: HostRuntime) {
+    let alloc = rt.alloc();
+    play_case(&rt, alloc, planned_three(&rt, alloc), &WRITTEN);
+    play_case(&rt, alloc, planned_three(&rt, alloc), &RACE);
+    let refusing = Refusing::new(planned_three(&rt, alloc));
+    play_case(&rt, alloc, refusing, &REFUSED);
+    let meeting = Meeting::new(planned_four_pages(&rt, alloc));
+    play_case(&rt, alloc, meeting, &TWO_PAGES);
+}
