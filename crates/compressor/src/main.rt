@@ -1,9 +1,6 @@
 //! The program: reads its words, does what they ask, and tells what it refuses.
 #![tactic(auto)]
 
-#[cfg(test)]
-mod tests;
-
 ghost use Rattle.std.specs.Prelude.{◌≡◌, ◌≤◌, IfOk, IfErr};
 ghost use Rattle.command_io.specs.declared.refusal.Refusal.TheVariants as refusals;
 

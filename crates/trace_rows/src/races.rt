@@ -19,16 +19,14 @@ use trace_text::fault::Stop;
 use worked_heaps::builders::Meeting;
 use worked_heaps::heaps::{F, heap, three};
 
-// What a mutator is to show, if anything, and its line that is to be refused, if any.
-struct Wanted {
-    shown: Option<Seen>,
-    fault: Option<Stop>,
-}
-
-// A line, and two values of which it shows one.
-struct Seen {
-    line: u64,
-    values: (u64, u64),
+// What is to come of a mutator's run.
+enum Wanted {
+    // It comes to its end, and shows nothing.
+    Nothing,
+    // So it does, but this line shows one of two values.
+    Shows(u64, u64, u64),
+    // This line is refused so, and nothing is shown.
+    Refused(u64, Refusal),
 }
 
 // A text, and what is to come of it.
@@ -47,19 +45,7 @@ static ROWS: [Row; 5] = [
             fresh_pages: 0,
             text: b"0 root 0 0\n0 load 1 0 0\n0 put 1 0 7\n1 root 0 0\n1 load 1 0 0\n1 get 1 0\n",
         },
-        runs: &[
-            Wanted {
-                shown: None,
-                fault: None,
-            },
-            Wanted {
-                shown: Some(Seen {
-                    line: 6,
-                    values: (7, 11),
-                }),
-                fault: None,
-            },
-        ],
+        runs: &[Wanted::Nothing, Wanted::Shows(6, 7, 11)],
         live_words: 4,
     },
     Row {
@@ -69,19 +55,7 @@ static ROWS: [Row; 5] = [
             fresh_pages: 0,
             text: b"0 root 0 0\n0 load 1 0 0\n1 nil 3\n0 put 1 0 7\n0 get 1 0\n",
         },
-        runs: &[
-            Wanted {
-                shown: Some(Seen {
-                    line: 5,
-                    values: (7, 7),
-                }),
-                fault: None,
-            },
-            Wanted {
-                shown: None,
-                fault: None,
-            },
-        ],
+        runs: &[Wanted::Shows(5, 7, 7), Wanted::Nothing],
         live_words: 4,
     },
     Row {
@@ -91,19 +65,7 @@ static ROWS: [Row; 5] = [
             fresh_pages: 0,
             text: b"0 nil 0\n0 get 0 0\n0 root 0 0\n0 load 1 0 0\n0 get 1 0\n",
         },
-        runs: &[
-            Wanted {
-                shown: None,
-                fault: Some(Stop {
-                    line: 2,
-                    refusal: Refusal::Null,
-                }),
-            },
-            Wanted {
-                shown: None,
-                fault: None,
-            },
-        ],
+        runs: &[Wanted::Refused(2, Refusal::Null), Wanted::Nothing],
         live_words: 4,
     },
     Row {
@@ -113,19 +75,7 @@ static ROWS: [Row; 5] = [
             fresh_pages: 0,
             text: b"0 new 0 65535 65535 4294967295\n",
         },
-        runs: &[
-            Wanted {
-                shown: None,
-                fault: Some(Stop {
-                    line: 1,
-                    refusal: Refusal::ObjectTooLarge,
-                }),
-            },
-            Wanted {
-                shown: None,
-                fault: None,
-            },
-        ],
+        runs: &[Wanted::Refused(1, Refusal::ObjectTooLarge), Wanted::Nothing],
         live_words: 4,
     },
     Row {
@@ -135,10 +85,7 @@ static ROWS: [Row; 5] = [
             fresh_pages: 2,
             text: b"0 root 0 0\n0 new 1 0 0 0\n0 store 0 0 1\n0 load 2 0 0\n0 store 0 0 2\n",
         },
-        runs: &[Wanted {
-            shown: None,
-            fault: None,
-        }],
+        runs: &[Wanted::Nothing],
         live_words: 5,
     },
 ];
@@ -151,38 +98,33 @@ static SIDE_BY_SIDE: Row = Row {
         fresh_pages: 0,
         text: b"0 root 0 0\n0 get 0 0\n1 root 0 0\n1 get 0 63\n",
     },
-    runs: &[
-        Wanted {
-            shown: Some(Seen {
-                line: 2,
-                values: (0, 0),
-            }),
-            fault: None,
-        },
-        Wanted {
-            shown: Some(Seen {
-                line: 4,
-                values: (0, 0),
-            }),
-            fault: None,
-        },
-    ],
+    runs: &[Wanted::Shows(2, 0, 0), Wanted::Shows(4, 0, 0)],
     live_words: 256,
 };
 
-// The run showed one of the values that its line may show, or nothing, and its line was refused so.
-fn is_run(run: &Run, wanted: &Wanted) -> bool {
-    let is_shown = match (run.shown.first(), &wanted.shown) {
-        (None, None) => true,
-        (Some(shown), Some(seen)) => {
-            let (one, other) = seen.values;
+// The run showed just one of these values, by this line.
+fn is_shown(run: &Run, line: u64, one: u64, other: u64) -> bool {
+    match run.shown.first() {
+        Some(shown) => {
             run.shown.len() == 1
-                && shown.line == seen.line
+                && shown.line == line
                 && (shown.value == one || shown.value == other)
         }
-        _ => false,
-    };
-    is_shown && run.fault == wanted.fault
+        None => false,
+    }
+}
+
+// The run came to what is wanted.
+fn is_run(run: &Run, wanted: &Wanted) -> bool {
+    match *wanted {
+        Wanted::Nothing => run.shown.is_empty() && run.fault.is_none(),
+        Wanted::Shows(line, one, other) => {
+            is_shown(run, line, one, other) && run.fault.is_none()
+        }
+        Wanted::Refused(line, refusal) => {
+            run.shown.is_empty() && run.fault == Some(Stop { line, refusal })
+        }
+    }
 }
 
 // All runs are what the row wants, and so is the size of the heap.

@@ -1,7 +1,7 @@
 //! The tables of all runs: one test runs all of them, which costs its proof less than a test for each.
-use crate::tests::printing::{LINES, REMOVED, WRITTEN, expect_lines};
-use crate::tests::runs::take_steps;
-use crate::tests::{judging, programs, racing, replaying};
+use crate::printing::{LINES, REMOVED, WRITTEN, expect_lines};
+use crate::runs::take_steps;
+use crate::{judging, programs, racing, replaying};
 use std::rt::Files;
 use std::sync::Wait;
 use std::test::Fail;
