@@ -58,10 +58,7 @@ fn expect_drawn(
     run: &Result<Vec<Shown>, Stopped>,
     finished: &Finished,
 ) {
-    let fault = match drawn.stop {
-        Some(stop) => Some(TraceFault::from(stop)),
-        None => None,
-    };
+    let fault = drawn.stop.map(TraceFault::from);
     expect_replay(rt, &drawn.name, run, &drawn.run.shown, fault);
     expect_pages(rt, alloc, &drawn.name, finished, &drawn.run.objects);
 }

@@ -16,14 +16,16 @@ use trace_steps::shown::Shown;
 use trace_text::fault::TraceFault;
 use worked_heaps::heaps::three;
 
+// The only entry of a page, which mutator 0 wrote: the page's number, and the entry's stamp, kind, offset and value.
+struct Only(usize, u64, Kind, u8, u64);
+
 // A text, and what is to come of it.
 struct Row {
     case: Case<'static>,
     shown: &'static [Shown],
     fault: Option<TraceFault>,
     live_words: u64,
-    // the only entries of some pages
-    entries: &'static [(usize, Entry)],
+    entries: &'static [Only],
 }
 
 static ROWS: [Row; 9] = [
@@ -37,16 +39,7 @@ static ROWS: [Row; 9] = [
         shown: &[Shown { line: 6, value: 7 }],
         fault: None,
         live_words: 4,
-        entries: &[(
-            0,
-            Entry {
-                stamp: 0,
-                writer: 0,
-                kind: Kind::Data,
-                offset: 1,
-                value: 7,
-            },
-        )],
+        entries: &[Only(0, 0, Kind::Data, 1, 7)],
     },
     Row {
         case: Case {
@@ -71,26 +64,8 @@ static ROWS: [Row; 9] = [
         fault: None,
         live_words: 5,
         entries: &[
-            (
-                1,
-                Entry {
-                    stamp: 0,
-                    writer: 0,
-                    kind: Kind::Header,
-                    offset: 0,
-                    value: 0,
-                },
-            ),
-            (
-                0,
-                Entry {
-                    stamp: 1,
-                    writer: 0,
-                    kind: Kind::Reference,
-                    offset: 3,
-                    value: 8_589_934_656,
-                },
-            ),
+            Only(1, 0, Kind::Header, 0, 0),
+            Only(0, 1, Kind::Reference, 3, 8_589_934_656),
         ],
     },
     Row {
@@ -196,10 +171,18 @@ pub fn expect_replay(
     expect_so(rt, name, all.as_slice() == shown && cause == fault, 0);
 }
 
-// This page has just this entry.
-fn has_entry(finished: &Finished, p: usize, wanted: Entry) -> bool {
-    match finished.pages().get(p) {
-        Some(Some(page)) => page.journal() == [wanted].as_slice(),
+// The page has just this entry.
+fn has_only(finished: &Finished, only: &Only) -> bool {
+    let Only(page, stamp, kind, offset, value) = *only;
+    let entry = Entry {
+        stamp,
+        writer: 0,
+        kind,
+        offset,
+        value,
+    };
+    match finished.pages().get(page) {
+        Some(Some(page)) => page.journal() == [entry].as_slice(),
         _ => false,
     }
 }
@@ -207,8 +190,8 @@ fn has_entry(finished: &Finished, p: usize, wanted: Entry) -> bool {
 // The finished heap has so many words, and these entries.
 fn expect_finished(rt: &impl Abort, row: &Row, finished: &Finished) {
     let mut same = finished.live_words() == row.live_words;
-    for (p, wanted) in row.entries {
-        same = same && has_entry(finished, *p, *wanted);
+    for only in row.entries {
+        same = same && has_only(finished, only);
     }
     expect_so(rt, row.case.name, same, finished.live_words());
 }
