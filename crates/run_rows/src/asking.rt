@@ -200,7 +200,7 @@ static NO_COMMANDS: [&str; 54] = [
     "race --fresh -1 a t d",
     "race --fresh 2 a t d --fresh=2",
     "race --mutators a t d",
-    "race --seed 1 a t d",
+    "race --threads 1 a t d",
     "compact",
     "compact a",
     "compact a b c",
