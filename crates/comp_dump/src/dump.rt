@@ -6,7 +6,7 @@ use crate::page::DumpedPage;
 use std::marker::Model;
 
 /// What a cycle left: its pages with their journals, the roots, what each mutator built, and the live words. A dump of a finished heap borrows the pages
-/// from it; one that was read owns them.
+/// from it; one that was read owns them. The numbers of each are in range; of one that was read nothing else is known but that its bytes say so.
 #[derive(Drop)]
 pub struct Dump<'a> {
     mutators: u8,
@@ -79,7 +79,7 @@ impl<'a> Dump<'a> {
         self.fresh
     }
 
-    /// Where the roots of the heap led: to-space addresses, or 0.
+    /// Where the roots of the heap lead.
     pub fn roots(&self) -> &[u64]
         ensures { result.now ≡ self.now.roots }
     {

@@ -12,7 +12,7 @@ use heap_layout::fault::OutOfMemory;
 use std::alloc::Global;
 
 impl<'a> Dump<'a> {
-    /// The dump of a finished heap, which lends its pages. The counts are those of its flip.
+    /// The dump of a finished heap, which lends its pages. It asks that the counts are those of the heap's flip. Its one refusal is want of memory.
     pub fn of(
         alloc: Global,
         finished: &'a Finished,

@@ -85,8 +85,8 @@ impl<L: Named> Ledger<L> {
 
     /// Posts words with a share: those of objects that the share's owner made. It waits for the ledger's lock.
     ///
-    /// `OverCapacity` where the words at the start, all that were posted and these would pass the capacity; ledger and share are then unchanged. What was
-    /// posted with other shares no contract tells, so the answer can be foreseen of a share that is the only one.
+    /// Its one refusal is `OverCapacity`, and then nothing was posted with the share. It means that the words at the start, all that were posted and these would
+    /// pass the capacity. No contract tells what was posted with other shares, so a caller can foresee the answer of a share that is the only one.
     pub fn post<R: Wait>(&self, rt: &R, share: &mut Share<L>, words: u64) -> Result<(), LedgerFault>
         ensures number { number_of share.new ≡ number_of share.old }
 
@@ -103,7 +103,7 @@ impl<L: Named> Ledger<L> {
         self.posted.lock(rt).post(self.room, share, words)
     }
 
-    /// Ends the ledger: takes all shares back, posts the last words, `last[i]` with the i-th share given, and answers how many words there are in all.
+    /// Ends the ledger: takes all shares back, posts the last words, a number for each share given, and answers how many words there are in all.
     /// It owns the ledger, so it does not wait.
     ///
     /// `ShareMissing` tells the least missing number, and is tested first; `OverCapacity` comes where the words in all would pass the capacity. After

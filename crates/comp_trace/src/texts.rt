@@ -16,7 +16,7 @@ use trace_text::parsing::parse;
 
 /// Reads the text of a trace, and runs it over a space whose mutators have written nothing yet. There are `count` mutators and `roots` shared roots.
 ///
-/// The fault is that of the text, and no line has run, or the one for which the replay stopped.
+/// The fault is that of the text, and nothing is shown, or the one for which the replay stopped.
 pub fn replay_text<L: Ledger, B: Builder>(
     alloc: Global,
     text: &[u8],

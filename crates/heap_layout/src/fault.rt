@@ -4,7 +4,7 @@ ghost use Rattle.heap_layout.specs.declared.fault.LayoutFault.TheVariants as lay
 use std::alloc::AllocError;
 use thiserror::Error;
 
-/// A growth was refused. It is told of only where one was.
+/// A growth was refused. That one was no contract can say.
 #[derive(Clone, Copy, Debug, PartialEq, Eq, Error)]
 #[error("OutOfMemory")]
 pub struct OutOfMemory;

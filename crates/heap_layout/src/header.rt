@@ -34,6 +34,7 @@ impl Header {
         Header { word }
     }
 
+    /// The header's word.
     pub fn word(self) -> u64
         ensures { result ≡ self }
     {
@@ -54,6 +55,7 @@ impl Header {
         ((self.word >> 16) & 0xffff) as u16
     }
 
+    /// The object's tag.
     pub fn tag(self) -> u32
         ensures { result ≡ tag_of self }
     {

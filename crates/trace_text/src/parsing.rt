@@ -23,7 +23,7 @@ impl Trace {
 
 /// Reads the text of a trace: its lines, or the first thing that is wrong with it. There are `mutators` mutators and `roots` shared roots.
 ///
-/// A fault names its line, counted from 1. `OutOfMemory` is answered only where a growth was refused.
+/// A fault names its line, counted from 1, but for `OutOfMemory`: that a growth was refused.
 pub fn parse(alloc: Global, text: &[u8], mutators: u8, roots: u16) -> Result<Trace, TraceFault>
     ensures lines { IsReadAs lines_of result (trace_of mutators roots text.now) }
     ensures bounds { IfOk result (λ trace. (mutators_of trace ≡ mutators) × (roots_of trace ≡ roots)) }
