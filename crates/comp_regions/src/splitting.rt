@@ -20,7 +20,8 @@ fn empty_lists(alloc: Global, workers: usize) -> Result<Vec<Vec<u64>>, OutOfMemo
     Ok(lists)
 }
 
-/// The regions below `regions`, in a list for each worker: region q is in the list with number q modulo their number.
+/// The regions below `regions`, each once, in a list for each worker. Region q goes into the list with number q modulo their number, which no clause says. It asks for
+/// one worker at least.
 pub fn split(alloc: Global, regions: u64, workers: usize) -> Result<Vec<Vec<u64>>, OutOfMemory>
     requires { 0 < workers }
     ensures count { IfOk result (λ lists. length lists.items ≡ workers) }
