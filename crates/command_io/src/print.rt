@@ -1,4 +1,4 @@
-//! Printing to the program's output, whose failed calls are counted.
+//! Printing to the program's output, whose failed calls are counted. Each call asks that fewer than `u64::MAX` of them have failed.
 ghost use Rattle.std.specs.Prelude.{◌≡◌, ◌-◌, ◌^◌, ◌<◌, true, OnOk, OnErr, Err};
 ghost use Rattle.std.specs.Fmt.{decimal};
 ghost use Rattle.std.specs.Io.KnownBytes.{Appends, Keeps};

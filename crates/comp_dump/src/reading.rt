@@ -23,7 +23,7 @@ use std::io::Read;
 /// Reads a dump, all that the reader has left.
 ///
 /// Each field is judged as soon as it is there, whatever follows it. A call of the reader that answers an error ends the reading, an interrupted one too.
-/// After an Err the reader has lost what was read.
+/// After an Err the reader has lost what was read. It asks that fewer than `u64::MAX` calls of the reader have failed.
 pub fn read_dump<R: Read>(alloc: Global, r: &mut Counted<R>) -> Result<Dump<'static>, DumpFault>
     requires { failures_of r.old < 2 ^ 64 - 1 }
     ensures read { IfOk result (λ dump. IfSome (R.remaining (inner_of r.old)) (λ bytes. bytes ≡ dump_bytes dump)) }

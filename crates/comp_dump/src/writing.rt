@@ -251,7 +251,7 @@ fn write_parts<W: Write>(
 
 /// Writes a dump, and takes no memory. The first call of the writer that fails ends the writing, an interrupted one too; a beginning of the dump stays written.
 ///
-/// That it was sent on is not said: who writes a dump flushes it.
+/// That it was sent on is not said: who writes a dump flushes it. It asks that fewer than `u64::MAX` calls of the writer have failed.
 pub fn write_dump<W: Write>(dump: &Dump<'_>, w: &mut Counted<W>) -> Result<(), DumpFault>
     requires { failures_of w.old < 2 ^ 64 - 1 }
     ensures writes { Writes (W.contents (inner_of w.old)) (W.contents (inner_of w.new)) (dump_bytes dump.now) result }

@@ -147,8 +147,8 @@ fn parted<L: Ledger>(
 }
 
 /// Each mutator runs its own lines of a trace, in their order, in a thread of its own where one can be had, and waits for busy pages. A refused line ends its
-/// mutator's run. The mutators are all of the space's, in the order of their numbers. Room for all that the lines can show is asked for first: where it is refused,
-/// no line runs.
+/// mutator's run. The mutators are all of the space's, in the order of their numbers, and the trace was parsed for as many mutators and roots as there are. Room
+/// for all that the lines can show is asked for first: where it is refused, no line runs.
 pub fn race<L: Ledger + Send + Sync, B: Builder, R: Threads + Wait + Sync>(
     alloc: Global,
     rt: &R,

@@ -14,7 +14,8 @@ use std::sync::ledger::Ledger;
 use trace_steps::shown::Shown;
 use trace_text::parsing::parse;
 
-/// Reads the text of a trace, and runs it over a space whose mutators have written nothing yet. There are `count` mutators and `roots` shared roots.
+/// Reads the text of a trace, and runs it over a space whose mutators have written nothing yet. There are `count` mutators and `roots` shared
+/// roots; the mutators are all of the space's, in the order of their numbers.
 ///
 /// The fault is that of the text, and nothing is shown, or the one for which the replay stopped.
 pub fn replay_text<L: Ledger, B: Builder>(

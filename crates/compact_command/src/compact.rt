@@ -86,7 +86,7 @@ fn swept_at<R: Threads + Wait + Sync, I: Images>(
     swept_in(alloc, rt, &mut reader, workers)
 }
 
-/// The finished heap whose image is all that the reader has left, swept by so many workers.
+/// The finished heap whose image is all that the reader has left, swept by so many workers, 1 to 64.
 pub fn swept_in<S: Read, R: Threads + Wait + Sync>(
     alloc: Global,
     rt: &R,
@@ -105,7 +105,7 @@ pub fn swept_in<S: Read, R: Threads + Wait + Sync>(
     swept(alloc, rt, plan, workers)
 }
 
-/// The finished heap of a plan, swept by so many workers: each page of the slid words is there, and nobody wrote.
+/// The finished heap of a plan, swept by so many workers, 1 to 64: each page of the slid words is there, and nobody wrote.
 pub fn swept<R: Threads + Wait + Sync>(
     alloc: Global,
     rt: &R,

@@ -29,7 +29,8 @@ const PIECE: usize = 8_192;
 ///
 /// The magic is judged as soon as its 8 bytes are there, the version as soon as its 4 are, and the counts once all three are, whatever follows; then
 /// the numbers are read, then one byte more is asked for, and then the heap is judged as by `from_parts`. A call of the reader that answers an error
-/// ends the reading, an interrupted one too. After an Err the reader has lost what was read.
+/// ends the reading, an interrupted one too. After an Err the reader has lost what was read. It asks that fewer than `u64::MAX`
+/// calls of the reader have failed.
 pub fn read_image<R: Read>(alloc: Global, r: &mut Counted<R>) -> Result<MarkedHeap, LayoutFault>
     requires { failures_of r.old < 2 ^ 64 - 1 }
     ensures image { IfOk result (λ heap. IfSome (R.remaining (inner_of r.old)) (λ bytes. bytes ≡ encoding heap)) }

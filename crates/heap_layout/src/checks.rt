@@ -103,7 +103,7 @@ fn next_start(words: &[u64], mut start: usize, low: usize) -> usize
     start
 }
 
-/// Whether a reference is null or the address of a marked object.
+/// Whether a reference is null or the address of a marked object. The marks rise.
 pub fn is_target(marks: &[u32], reference: u64) -> bool
     requires { IsStrictlyIncreasing marks.now }
     ensures { result ≡ is_target marks.now reference }

@@ -138,7 +138,7 @@ impl Plan {
         Ok(places::places_of(alloc, self, self.heap.roots())?)
     }
 
-    /// Page `p`: its 64 words, with zeros behind the last live word.
+    /// Page `p`, which is below `pages()`: its 64 words, with zeros behind the last live word.
     pub fn build_page(&self, alloc: Global, p: u64) -> Result<PageWords, OutOfMemory>
         requires { p < pages (live self.now) }
         ensures page { IfOk result (λ words. words ≡ page (live self.now) p) }
@@ -154,7 +154,7 @@ impl Plan {
         Ok(page)
     }
 
-    /// What each of the 64 words of page `p` is; None behind the last live word. Takes no memory.
+    /// What each of the 64 words of page `p`, which is below `pages()`, is; None behind the last live word. Takes no memory.
     pub fn page_kinds(&self, p: u64) -> [Option<Kind>; 64]
         requires { p < pages (live self.now) }
         ensures { (offset : ℕ) → offset < 64 → slice_index_or result offset None ≡ kind (live self.now) (64 * p + offset) }

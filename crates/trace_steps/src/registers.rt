@@ -8,7 +8,7 @@ use comp_mutator::space::Space;
 use page_plan::builder::Builder;
 use std::sync::ledger::Ledger;
 
-/// What a register holds.
+/// What a register, one of 16, holds.
 pub fn held(registers: &[u64; 16], register: u8) -> u64
     requires { register < 16 }
     ensures { result ≡ slice_index registers.now register }
@@ -16,7 +16,7 @@ pub fn held(registers: &[u64; 16], register: u8) -> u64
     registers[usize::from(register)]
 }
 
-/// Where a root leads.
+/// Where a root of the space's heap leads.
 pub fn root_at<L: Ledger, B: Builder>(space: &Space<L, B>, root: u16) -> u64
     requires { root < length (setup_of space.now).heap.roots }
     ensures { forward (live (setup_of space.now).heap) (slice_index (setup_of space.now).heap.roots root) ≡ Some result }

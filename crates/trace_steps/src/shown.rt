@@ -11,7 +11,7 @@ pub struct Shown {
     pub value: u64,
 }
 
-/// Keeps what a line shows whose call answered this value.
+/// Keeps what a line shows whose call answered this value. Room for it is reserved.
 pub fn show(shown: &mut Vec<Shown>, line: u64, action: Action, value: u64)
     requires room { length shown.old.items + length (shown_at line action value) ≤ vec_capacity shown.old }
     ensures shown { shown.new.items ≡ shown.old.items ++ shown_at line action value }
