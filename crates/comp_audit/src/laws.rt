@@ -7,8 +7,8 @@ pub fn faultless_is_lawful()
     ensures { FaultlessIsLawful }
 {}
 
-/// Where the audit says yes of a dump in range, by an accepted heap, the dump is one that a compaction can have left: its entries have one history, which a single
-/// thread could have written, and each of its references is null or an object's start.
+/// Where the audit says yes of a dump in range, by an accepted heap, the dump is one that a compaction can have left: its entries have one history, which
+/// a single thread could have written, and each of its references is null or an object's start.
 pub fn yes_is_sound()
     ensures { YesIsSound }
 {}
