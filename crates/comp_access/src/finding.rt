@@ -1,16 +1,18 @@
 //! Fields, found by their objects.
-ghost use Rattle.std.specs.Prelude.{◌≡◌, ℕ, ◌+◌, ◌<◌, ◌≤◌, ◌^◌, IfOk, IfErr, IfSome, IfNone, IsErrOf};
+ghost use Rattle.std.specs.Prelude.{◌≡◌, ℕ, ◌+◌, ◌<◌, ◌≤◌, ◌^◌, IfOk, IfErr, IfSome, IfNone, IsErrOf, OnOk};
 ghost use Rattle.heap_layout.specs.Header.{size_of};
-ghost use Rattle.cell_steps.specs.Passes.{builds_of, did, Rests};
+ghost use Rattle.cell_steps.specs.Starts.{IsPlace};
+ghost use Rattle.cell_steps.specs.Passes.{builds_of, did, seen, HasSeenBuilt, MayRefer, Rests};
+ghost use Rattle.heap_layout.specs.declared.kind.Kind.TheVariants.{Reference};
 ghost use Rattle.page_cells.specs.Cells.{mutators_of, page_number, setup_of, Has, IsPassOf};
 ghost use Rattle.page_cells.specs.Calls.{Grows, WroteNothing};
 ghost use Rattle.comp_access.specs.Fields.{count_of, place_of, IsFreshObject};
-ghost use Rattle.comp_access.specs.Finds.{HoldsField, IsEarly, IsFound};
-ghost use Rattle.comp_access.specs.Reads.{FieldRefused};
+ghost use Rattle.comp_access.specs.Finds.{HoldsField, IsEarly, IsFound, IsFreshField};
+ghost use Rattle.comp_access.specs.Reads.{FieldRefused, KnowsBuilt, MayBuildTouched, Reads};
 ghost use Rattle.call_refusals.specs.declared.refusal.Refusal.TheVariants.{Busy};
 
 use crate::places::{offset_at, page_at};
-use crate::taking::take;
+use crate::taking::{load, take};
 use call_refusals::refusal::Refusal;
 use cell_steps::pass::Pass;
 use heap_layout::header::Header;
@@ -94,7 +96,39 @@ pub(crate) fn find<B: Builder>(
     }
 }
 
-/// Takes the page of a field of an object that an allocation made.
+/// Where the word of a field is of an object that an allocation made: by its header, which is loaded. The object's page is built, so this is never busy.
+pub(crate) fn fresh_field<B: Builder>(
+    alloc: Global,
+    cells: &Cells<B>,
+    pass: &mut Pass,
+    name: FieldName,
+) -> Result<u64, Refusal>
+    requires of { IsPassOf cells.now pass.old × Rests pass.old }
+    requires fresh { IsFreshObject (setup_of cells.now) pass.old name.object }
+    ensures of { IsPassOf cells.now pass.new × Rests pass.new }
+    ensures grows { Grows pass.old pass.new × (did pass.new ≡ did pass.old) }
+    ensures builds { builds_of pass.new ≡ builds_of pass.old }
+    ensures found { IfOk result (IsFreshField (setup_of cells.now) pass.new name.kind name.object name.field) }
+    ensures refused { IfErr result (FieldRefused (setup_of cells.now) pass.old pass.new name.kind name.object name.field) }
+    ensures early { IfErr result IsEarly }
+{
+    let word = match load(
+        alloc,
+        cells,
+        pass,
+        page_at(name.object),
+        offset_at(name.object),
+    ) {
+        Ok(word) => word,
+        Err(_) => unreachable!(),
+    };
+    match field_place(Header::from_word(word), name) {
+        Some(place) => Ok(place),
+        None => Err(Refusal::NoSuchField),
+    }
+}
+
+/// Takes the page of a field of an object that an allocation made. The field is found first.
 pub(crate) fn take_fresh<B: Builder>(
     alloc: Global,
     cells: &Cells<B>,
@@ -111,18 +145,12 @@ pub(crate) fn take_fresh<B: Builder>(
     ensures field { IfOk result (λ held. HoldsField (setup_of cells.now) pass.old pass.new name.kind name.object name.field (page_number held.taken) held.offset) }
     ensures refused { IfErr result (λ refusal. Rests pass.new × FieldRefused (setup_of cells.now) pass.old pass.new name.kind name.object name.field refusal) }
 {
-    let taken = take(alloc, cells, pass, page_at(name.object))?;
-    let header = cells.held_header(pass, &taken, name.object);
-    match field_place(header, name) {
-        Some(place) => Ok(Held {
-            taken,
-            offset: offset_at(place),
-        }),
-        None => {
-            cells.put_back(pass, taken);
-            Err(Refusal::NoSuchField)
-        }
-    }
+    let place = fresh_field(alloc, cells, pass, name)?;
+    let taken = take(alloc, cells, pass, page_at(place))?;
+    Ok(Held {
+        taken,
+        offset: offset_at(place),
+    })
 }
 
 /// Takes the page of a field that was found.
@@ -154,21 +182,35 @@ pub(crate) fn take_found<B: Builder>(
     }
 }
 
-/// Takes the page of a field.
-pub(crate) fn hold<B: Builder>(
+/// Loads the word of a field that was found.
+pub(crate) fn load_found<B: Builder>(
     alloc: Global,
     cells: &Cells<B>,
     pass: &mut Pass,
     name: FieldName,
-) -> Result<Held, Refusal>
-    requires { IsPassOf cells.now pass.old × Rests pass.old }
-    ensures of { IsPassOf cells.now pass.new }
+    found: Found,
+) -> Result<u64, Refusal>
+    requires of { IsPassOf cells.now pass.old × Rests pass.old }
+    requires found { IsFound (setup_of cells.now) pass.old name.kind name.object name.field found }
+    ensures of { IsPassOf cells.now pass.new × Rests pass.new }
     ensures grows { Grows pass.old pass.new × (did pass.new ≡ did pass.old) }
     ensures alone { mutators_of cells.now ≡ 1 → (q : ℕ) → IsErrOf result (Busy q) → ⊥ }
-    ensures held { IfOk result (λ held. Has cells.now pass.new held.taken × (held.offset < 64)) }
-    ensures field { IfOk result (λ held. HoldsField (setup_of cells.now) pass.old pass.new name.kind name.object name.field (page_number held.taken) held.offset) }
-    ensures refused { IfErr result (λ refusal. Rests pass.new × FieldRefused (setup_of cells.now) pass.old pass.new name.kind name.object name.field refusal) }
+    ensures read { IfOk result (Reads (setup_of cells.now) (seen pass.new) name.kind name.object name.field) }
+    ensures leads { name.kind ≡ Reference → IfOk result (MayRefer pass.new) }
+    ensures builds { OnOk result (MayBuildTouched (setup_of cells.now) pass.old pass.new name.kind name.object name.field) }
+    ensures free { (q : ℕ) → IsErrOf result (Busy q) → KnowsBuilt pass.old q → ⊥ }
+    ensures slid { (q : ℕ) → IsErrOf result (Busy q) → IsPlace (setup_of cells.now).heap name.object }
+    ensures unseen { (q : ℕ) → IsErrOf result (Busy q) → HasSeenBuilt pass.new q → ⊥ }
+    ensures refused { IfErr result (FieldRefused (setup_of cells.now) pass.old pass.new name.kind name.object name.field) }
 {
-    let found = find(cells, pass, name)?;
-    take_found(alloc, cells, pass, name, found)
+    match found {
+        Found::Slid(place) => load(alloc, cells, pass, page_at(place), offset_at(place)),
+        Found::Fresh => {
+            let place = fresh_field(alloc, cells, pass, name)?;
+            match load(alloc, cells, pass, page_at(place), offset_at(place)) {
+                Ok(word) => Ok(word),
+                Err(_) => unreachable!(),
+            }
+        }
+    }
 }

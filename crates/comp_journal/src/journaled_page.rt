@@ -1,8 +1,8 @@
-ghost use Rattle.std.specs.Prelude.{◌≡◌, ◌↔◌, ◌+◌, ◌-◌, ◌<◌, ◌≤◌, [], ◌∷◌, ◌++◌, length, OnOk, OnErr, IsErrOf};
+ghost use Rattle.std.specs.Prelude.{◌≡◌, ◌↔◌, ◌+◌, ◌-◌, ◌<◌, ◌≤◌, [], ◌∷◌, ◌++◌, length, min, vec_len, vec_capacity, OnOk, OnErr, IsErrOf};
 ghost use Rattle.comp_journal.specs.Journal.{replayed};
 ghost use Rattle.comp_journal.specs.declared.refusal.JournalRefusal.TheVariants.{JournalFull};
 
-use crate::base_words::{BaseWords, keep};
+use crate::base_words::keep;
 use crate::entry::Entry;
 use crate::refusal::JournalRefusal;
 use heap_layout::page_words::{PAGE_WORDS, PageWords};
@@ -16,7 +16,7 @@ pub const MOST_ENTRIES: usize = 1_024;
 #[derive(Debug, Drop)]
 pub struct JournaledPage {
     // Kept apart from the first reservation on; a page that has none has no journal, and begins with its words.
-    base: Option<BaseWords>,
+    base: Option<PageWords>,
     words: PageWords,
     journal: Vec<Entry>,
 }
@@ -40,12 +40,27 @@ impl Model for JournaledPage {
 impl JournaledPage {
     /// A page with an empty journal, which takes no memory. The journal will grow by `alloc`.
     pub fn new(alloc: Global, words: PageWords) -> JournaledPage
-        ensures { result.page ≡ record { base = words; journal = [] } }
+        ensures page { result.page ≡ record { base = words; journal = [] } }
+        ensures room { result.room ≡ 0 }
     {
         JournaledPage {
             base: None,
             words,
             journal: Vec::new(alloc),
+        }
+    }
+
+    /// A page of its parts.
+    pub(crate) fn of_parts(base: PageWords, words: PageWords, journal: Vec<Entry>) -> JournaledPage
+        requires words { words ≡ replayed base journal.items }
+        requires few { vec_len journal ≤ 1024 }
+        ensures page { result.page ≡ record { base = base; journal = journal.items } }
+        ensures room { result.room ≡ min (vec_capacity journal) 1024 - vec_len journal }
+    {
+        JournaledPage {
+            base: Some(base),
+            words,
+            journal,
         }
     }
 

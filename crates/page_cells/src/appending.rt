@@ -73,6 +73,8 @@ impl<B: Builder> Cells<B> {
     {
         let number = taken.number;
         let stamp = self.steps.draw_stamp(pass, number, &mut taken.page, draft);
+        let entry = Entry { stamp, ..draft };
+        self.steps.store_word(pass, number, entry);
         if let Kind::Header = draft.kind {
             self.steps.set_start(pass, number, draft.offset);
         }
