@@ -39,6 +39,9 @@ impl<L: Named> Ledger<L> {
 
     /// A ledger of `live` words at the start, which may become `capacity` words, and its `n` shares, with which nothing is posted: number k stands at
     /// place k. Its one refusal is want of memory.
+    ///
+    /// It asks for the blank of the ledger that `L` names, with a part for each share. There is at least one share, since the ledger ends with all
+    /// shares as one; and the words at the start are within the capacity.
     pub fn new(
         alloc: Global,
         blank: Blank,
@@ -108,6 +111,9 @@ impl<L: Named> Ledger<L> {
     ///
     /// `ShareMissing` tells the least missing number, and is tested first; `OverCapacity` comes where the words in all would pass the capacity. After
     /// either nothing is posted, and ledger and shares are handed back as they were.
+    ///
+    /// It asks for one of the last words with each share that is given, and that the ledger has as many shares as `L` has parts (`whole`). Who made the
+    /// ledger knows that from what `new` asked and answered. The type does not keep it: a ghost field beside a share of `L` may not speak of `L`.
     pub fn gather(self, shares: Vec<Share<L>>, last: &[u64]) -> Result<u64, NotGathered<L>>
         requires whole { share_count self ≡ L.parts }
         requires last { length last.now ≡ length shares.items }

@@ -6,4 +6,3 @@ pub mod ledger;
 mod posted;
 pub mod refusal;
 pub mod share;
-pub mod unposted;

@@ -21,6 +21,9 @@ use page_plan::builder::Builder;
 
 impl<B: Builder> Cells<B> {
     /// Writes one entry into the page that the pass has taken, and answers its stamp. After a header the start bit of the new object is set.
+    ///
+    /// It asks that the pass was made with these cells, for an offset below 64, that such an entry may follow those of the page (`Fits`), and that a reference
+    /// is null or a start that the pass knows.
     pub fn append(
         &self,
         pass: &mut Pass,
