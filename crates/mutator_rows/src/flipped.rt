@@ -14,7 +14,9 @@ use std::process::Abort;
 use std::sync::Arc;
 use std::sync::ledger::{Blank, Ledger as Named};
 use std::test::Fail;
-use worked_heaps::heaps::{counting_heap, empty, planned, seventeen_pages, smallest, three};
+use worked_heaps::heaps::{
+    counting_heap, empty, planned, seventeen_pages, smallest, three, zeros_heap,
+};
 
 /// The heap of a case.
 #[derive(Clone, Copy)]
@@ -29,6 +31,8 @@ pub enum Heap {
     Seventeen,
     /// An object without references and with as many data words, which count from 1.
     Counting(u16),
+    /// An object without references and with as many data words, which are 0.
+    Zeros(u16),
 }
 
 /// What was made.
@@ -47,6 +51,7 @@ pub fn plan_of(rt: &impl Abort, alloc: Global, heap: Heap) -> Plan {
         Heap::Three => three(alloc),
         Heap::Seventeen => seventeen_pages(alloc),
         Heap::Counting(data_words) => counting_heap(alloc, data_words),
+        Heap::Zeros(data_words) => zeros_heap(alloc, data_words),
     };
     made(rt, planned(alloc, made(rt, heap)))
 }

@@ -92,18 +92,20 @@ pub fn met(own: &AtomicU64, other: &AtomicU64) -> bool {
     false
 }
 
-/// A plan whose first build finds no memory.
+/// A plan whose first build of one page asks for more memory than there is, and hands the refusal on.
 #[derive(Drop)]
 pub struct Refusing {
     plan: Plan,
+    page: u64,
     calls: AtomicU64,
 }
 
 impl Refusing {
-    /// Over a plan, with no build asked for.
-    pub fn new(plan: Plan) -> Refusing {
+    /// Over a plan, with no build of this page asked for.
+    pub fn new(plan: Plan, page: u64) -> Refusing {
         Refusing {
             plan,
+            page,
             calls: AtomicU64::new(0),
         }
     }
@@ -117,8 +119,9 @@ impl Builder for Refusing {
     }
 
     fn build(&self, alloc: Global, p: u64) -> Result<PageWords, OutOfMemory> {
-        if self.calls.fetch_add(1, Ordering::SeqCst) == 0 {
-            return Err(OutOfMemory);
+        if p == self.page && self.calls.fetch_add(1, Ordering::SeqCst) == 0 {
+            let mut many: Vec<u64> = Vec::new(alloc);
+            many.reserve(1 << 60)?;
         }
         self.plan.build_page(alloc, p)
     }

@@ -66,6 +66,20 @@ pub fn counting_heap(alloc: Global, data_words: u16) -> Result<MarkedHeap, Fail>
     heap(alloc, &counting_object(alloc, data_words)?, &[0], &[])
 }
 
+/// An object without references, whose data words are 0.
+pub fn zeros_object(alloc: Global, data_words: u16) -> Result<Vec<u64>, AllocError> {
+    let mut words = vec![in alloc; Header::new(0, data_words, 0).word()]?;
+    for _ in 0..data_words {
+        words.push(0)?;
+    }
+    Ok(words)
+}
+
+/// Such an object alone in its heap, marked.
+pub fn zeros_heap(alloc: Global, data_words: u16) -> Result<MarkedHeap, Fail> {
+    heap(alloc, &zeros_object(alloc, data_words)?, &[0], &[])
+}
+
 /// The smallest heap: one object of one word, which is a root.
 pub fn smallest(alloc: Global) -> Result<MarkedHeap, Fail> {
     heap(alloc, &[30_064_771_072], &[0], &[F])

@@ -12,19 +12,28 @@ pub enum Beside {
     Counts,
     /// The gate lets each of the regions 0 and 1 begin only when the other one has begun.
     Holds,
-    /// The last mutator is no worker, and reads in a thread of its own.
-    Reader,
-    /// A sweep before it finds no memory for page 9.
+    /// The last mutator is no worker, and reads the last data word of the second object in a thread of its own: this one.
+    Reader(u64),
+    /// A sweep before it asks for more memory than there is for page 9.
     Refusal,
+}
+
+/// An object without references, with so many data words.
+#[derive(Clone, Copy)]
+pub enum Object {
+    /// Its data words are 0.
+    Zeros(u16),
+    /// Its data words count from 1.
+    Counting(u16),
 }
 
 /// A sweep of a heap of equal objects, which is swept by no worker then, and finished.
 pub struct Case {
     /// What a failing test tells.
     pub name: &'static str,
-    /// The data words of each object, which count from 1.
-    pub data_words: u16,
-    /// Where its objects begin, all of which are marked. They have no references.
+    /// Each of its objects.
+    pub object: Object,
+    /// Where they begin. All are marked.
     pub marks: &'static [u32],
     pub mutators: u32,
     pub beside: Beside,
@@ -34,10 +43,10 @@ pub struct Case {
     pub live_words: u64,
 }
 
-static CASES: [Case; 7] = [
+static CASES: [Case; 8] = [
     Case {
         name: "three regions, two workers",
-        data_words: 639,
+        object: Object::Zeros(639),
         marks: &[0, 640],
         mutators: 2,
         beside: Beside::Nothing,
@@ -47,7 +56,7 @@ static CASES: [Case; 7] = [
     },
     Case {
         name: "three regions, four workers",
-        data_words: 639,
+        object: Object::Zeros(639),
         marks: &[0, 640],
         mutators: 4,
         beside: Beside::Nothing,
@@ -57,7 +66,7 @@ static CASES: [Case; 7] = [
     },
     Case {
         name: "no object at all, two workers",
-        data_words: 0,
+        object: Object::Zeros(0),
         marks: &[],
         mutators: 2,
         beside: Beside::Nothing,
@@ -67,7 +76,7 @@ static CASES: [Case; 7] = [
     },
     Case {
         name: "a gate that counts",
-        data_words: 639,
+        object: Object::Zeros(639),
         marks: &[0, 640],
         mutators: 2,
         beside: Beside::Counts,
@@ -77,7 +86,7 @@ static CASES: [Case; 7] = [
     },
     Case {
         name: "two regions at once, one for each of two workers",
-        data_words: 1_023,
+        object: Object::Zeros(1_023),
         marks: &[0],
         mutators: 2,
         beside: Beside::Holds,
@@ -87,17 +96,27 @@ static CASES: [Case; 7] = [
     },
     Case {
         name: "beside a reader",
-        data_words: 639,
+        object: Object::Zeros(639),
         marks: &[0, 640],
         mutators: 3,
-        beside: Beside::Reader,
+        beside: Beside::Reader(0),
+        regions: &[&[0, 2], &[1]],
+        pages: 20,
+        live_words: 1_280,
+    },
+    Case {
+        name: "beside a reader, of words that count",
+        object: Object::Counting(639),
+        marks: &[0, 640],
+        mutators: 3,
+        beside: Beside::Reader(639),
         regions: &[&[0, 2], &[1]],
         pages: 20,
         live_words: 1_280,
     },
     Case {
         name: "after a refusal",
-        data_words: 639,
+        object: Object::Zeros(639),
         marks: &[0, 640],
         mutators: 2,
         beside: Beside::Refusal,

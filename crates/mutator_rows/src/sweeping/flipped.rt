@@ -2,7 +2,7 @@
 ghost use Rattle.std.specs.Prelude.{◌≡◌};
 ghost use Rattle.comp_mutator.specs.Mutators.{setup_of, AreMutatorsOf, IsMutatorOf};
 
-use crate::sweeping::cases::Case;
+use crate::sweeping::cases::{Case, Object};
 use comp_mutator::finishing::Finished;
 use comp_mutator::flipping::flip;
 use comp_mutator::mutator::Mutator;
@@ -13,19 +13,23 @@ use std::alloc::Global;
 use std::process::Abort;
 use std::sync::Arc;
 use std::sync::ledger::{Blank, Ledger as Named};
-use worked_heaps::heaps::{counting_object, judged};
+use worked_heaps::heaps::{counting_object, judged, zeros_object};
 
-// As many equal objects, one behind the other. They have no references, and so many data words, which count from 1.
-fn equal_objects(rt: &impl Abort, alloc: Global, data_words: u16, objects: usize) -> Vec<u64> {
-    let object = counting_object(alloc, data_words).expect(rt, "memory for an object");
-    object
+// As many equal objects, one behind the other.
+fn equal_objects(rt: &impl Abort, alloc: Global, object: Object, objects: usize) -> Vec<u64> {
+    let words = match object {
+        Object::Zeros(data_words) => zeros_object(alloc, data_words),
+        Object::Counting(data_words) => counting_object(alloc, data_words),
+    };
+    words
+        .expect(rt, "memory for an object")
         .repeat(alloc, objects)
         .expect(rt, "memory for a heap")
 }
 
 /// The plan of the heap of the case.
 pub fn plan_of(rt: &impl Abort, alloc: Global, case: &Case) -> Plan {
-    let words = equal_objects(rt, alloc, case.data_words, case.marks.len());
+    let words = equal_objects(rt, alloc, case.object, case.marks.len());
     let judged = judged(alloc, &words, case.marks, &[]).expect(rt, "memory for a heap");
     Plan::new(alloc, judged.expect(rt, "a heap")).expect(rt, "a plan")
 }

@@ -1,12 +1,7 @@
-//! A gate that is told of regions, and a builder that finds no memory.
+//! A gate that is told of regions.
 use crate::sweeping::cases::Beside;
 use crate::sweeping::expected::expect;
 use comp_sweep::gate::Gate;
-use heap_layout::fault::OutOfMemory;
-use heap_layout::page_words::PageWords;
-use page_plan::builder::Builder;
-use page_plan::plan::Plan;
-use std::alloc::Global;
 use std::process::Abort;
 use std::sync::atomic::{AtomicU64, Ordering};
 use worked_heaps::builders::met;
@@ -82,38 +77,5 @@ impl Gate for Watch {
         if matches!(self.beside, Beside::Counts) {
             count(&self.ended, region);
         }
-    }
-}
-
-/// A plan whose first build of page 9 asks for more memory than there is.
-#[derive(Drop)]
-pub struct Greedy {
-    plan: Plan,
-    calls: AtomicU64,
-}
-
-impl Greedy {
-    /// Over a plan, with no build of page 9 asked for.
-    pub fn new(plan: Plan) -> Greedy {
-        Greedy {
-            plan,
-            calls: AtomicU64::new(0),
-        }
-    }
-}
-
-impl Builder for Greedy {
-    ghost heap = { λ greedy. greedy.plan };
-
-    fn plan(&self) -> &Plan {
-        &self.plan
-    }
-
-    fn build(&self, alloc: Global, p: u64) -> Result<PageWords, OutOfMemory> {
-        if p == 9 && self.calls.fetch_add(1, Ordering::SeqCst) == 0 {
-            let mut many: Vec<u64> = Vec::new(alloc);
-            many.reserve(1 << 60)?;
-        }
-        self.plan.build_page(alloc, p)
     }
 }

@@ -17,7 +17,7 @@ use std::sync::Arc;
 use std::test::Fail;
 use std::thread::Threads;
 use worked_heaps::builders::{Meeting, Refusing};
-use worked_heaps::heaps::{counting_heap, planned, three};
+use worked_heaps::heaps::{planned, three, zeros_heap};
 
 // What two passes do at once: the rows of the first, and those of the second.
 type Round = (&'static [Row], &'static [Row]);
@@ -109,9 +109,9 @@ pub(crate) fn planned_three(rt: &impl Abort, alloc: Global) -> Plan {
     plan_of(rt, alloc, three(alloc))
 }
 
-// The plan of a heap of one object of 255 data words.
+// The plan of a heap of one object of 255 data words, which are 0.
 fn planned_four_pages(rt: &impl Abort, alloc: Global) -> Plan {
-    plan_of(rt, alloc, counting_heap(alloc, 255))
+    plan_of(rt, alloc, zeros_heap(alloc, 255))
 }
 
 // The first pass writes; then the other one reads.
@@ -128,7 +128,7 @@ const RACE: Case = Case {
     builds: 1,
 };
 
-// The first build is refused.
+// The first build asks for more memory than there is.
 const REFUSED: Case = Case {
     name: "builds after a refusal",
     rounds: &[(
@@ -158,7 +158,7 @@ fn plays_cases(rt: HostRuntime) {
     let alloc = rt.alloc();
     play_case(&rt, alloc, planned_three(&rt, alloc), &WRITTEN);
     play_case(&rt, alloc, planned_three(&rt, alloc), &RACE);
-    let refusing = Refusing::new(planned_three(&rt, alloc));
+    let refusing = Refusing::new(planned_three(&rt, alloc), 0);
     play_case(&rt, alloc, refusing, &REFUSED);
     let meeting = Meeting::new(planned_four_pages(&rt, alloc));
     play_case(&rt, alloc, meeting, &TWO_PAGES);
