@@ -4,68 +4,15 @@ use crate::printing::{Asked, is_answered};
 use audit_faults::fault::AuditFault;
 use command_io::refusal::Refusal;
 use comp_dump::fault::DumpFault;
-use std::alloc::AllocError;
 use std::process::Abort;
-
-// A change of a dump.
-enum Change {
-    // None at all.
-    None,
-    // At this place stands this byte.
-    Byte(usize, u8),
-    // At this place stands this word of 8 bytes.
-    Word(usize, u64),
-    // Only so many bytes are left.
-    Cut(usize),
-    // This byte is put behind it.
-    Push(u8),
-    // These numbers are the lists of builds.
-    Builds(&'static [u32]),
-}
-
-// Puts bytes at a place.
-fn put(rt: &impl Abort, bytes: &mut [u8], at: usize, new: &[u8]) {
-    let (_, rest) = bytes.split_at_mut_checked(at).expect(rt, "a place");
-    let (place, _) = rest.split_at_mut_checked(new.len()).expect(rt, "a place");
-    place.copy_from_slice(new);
-}
-
-// Puts lists of builds in place of those of a dump, and the live words behind them.
-fn put_builds(bytes: &mut Vec<u8>, numbers: &[u32]) -> Result<(), AllocError> {
-    bytes.truncate(BUILDS);
-    for number in numbers {
-        bytes.extend_from_slice(&number.to_le_bytes())?;
-    }
-    bytes.extend_from_slice(&LIVE_WORDS.to_le_bytes())
-}
-
-// Makes a change.
-fn make_change(rt: &impl Abort, bytes: &mut Vec<u8>, made: &Change) {
-    match made {
-        Change::None => (),
-        Change::Byte(at, new) => put(rt, bytes, *at, &[*new]),
-        Change::Word(at, new) => put(rt, bytes, *at, &new.to_le_bytes()),
-        Change::Cut(length) => bytes.truncate(*length),
-        Change::Push(new) => bytes.push(*new).expect(rt, "memory for a byte"),
-        Change::Builds(numbers) => put_builds(bytes, numbers).expect(rt, "memory for builds"),
-    }
-}
+use worked_files::changes::{
+    Change, FIRST_DATA, HEADER_OFFSET, HEADER_STAMP, LAST_PAGE, LAST_WORD, REFERENCE,
+    REFERENCE_STAMP, REFERENCE_VALUE, ROOT, TOTAL, VERSION,
+};
+use worked_files::contents::{Content, bytes_in};
 
 // A forged dump: its name, two changes, and what is refused.
 type Forgery = (&'static str, Change, Change, Refusal);
-
-// A dump with two changes.
-fn forged(
-    rt: &(impl Abort + AllocGlobal),
-    dump: &[u8],
-    first: &Change,
-    second: &Change,
-) -> Vec<u8> {
-    let mut bytes = dump.to_vec(rt.alloc()).expect(rt, "memory for a dump");
-    make_change(rt, &mut bytes, first);
-    make_change(rt, &mut bytes, second);
-    bytes
-}
 
 // A dump is refused so, where the heap of an image was compacted, and nothing is printed.
 fn is_refused(rt: &impl AllocGlobal, image: &[u8], dump: &[u8], refusal: Refusal) -> bool {
@@ -83,50 +30,19 @@ fn is_refused(rt: &impl AllocGlobal, image: &[u8], dump: &[u8], refusal: Refusal
     is_answered(rt, &Memory { files: &files }, asked, Err(refusal), "")
 }
 
-// All forgeries of a dump.
-fn expect_refused(
-    rt: &(impl Abort + AllocGlobal),
-    image: &[u8],
-    dump: &[u8],
-    forgeries: &[Forgery],
-) {
+// All these forgeries.
+fn expect_refused(rt: &(impl Abort + AllocGlobal), image: &[u8], forgeries: &[Forgery]) {
     for (name, first, second, refusal) in forgeries {
-        let left = forged(rt, dump, first, second);
+        let forged = Content::ForgedDump(*first, *second);
+        let left = bytes_in(rt.alloc(), forged).expect(rt, "memory for a dump");
         assert!(rt; is_refused(rt, image, &left, *refusal), "{name}");
     }
 }
 
 /// Forgeries of the dump behind the run that makes a new object in the heap of three objects.
-pub fn expect_forgeries(rt: &(impl Abort + AllocGlobal), three: &[u8], fresh: &[u8]) {
-    expect_refused(rt, three, fresh, &FORGED);
+pub fn expect_forgeries(rt: &(impl Abort + AllocGlobal), three: &[u8]) {
+    expect_refused(rt, three, &FORGED);
 }
-
-// Where its fields lie.
-const VERSION: usize = 8;
-
-const ROOT: usize = 28;
-
-const FIRST_DATA: usize = 45;
-
-const REFERENCE: usize = 61;
-
-const LAST_WORD: usize = 541;
-
-const REFERENCE_STAMP: usize = 553;
-
-const REFERENCE_VALUE: usize = 564;
-
-const HEADER_STAMP: usize = 1_089;
-
-const HEADER_OFFSET: usize = 1_099;
-
-const LAST_PAGE: usize = 1_108;
-
-const BUILDS: usize = 1_109;
-
-const TOTAL: usize = 1_121;
-
-const LIVE_WORDS: u64 = 5;
 
 const TRUNCATED: Refusal = Refusal::Dump(DumpFault::Truncated);
 

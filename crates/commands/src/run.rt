@@ -169,7 +169,7 @@ fn print_task<R: Threads + Wait + Sync, I: Images, T: Traces, D: Dumps, O: Write
 }
 
 // The status of a task; a refusal is told. There is nowhere left to tell that telling failed.
-fn told<E: Write>(outcome: Result<(), Refusal>, err: &mut E) -> u8
+pub(crate) fn told<E: Write>(outcome: Result<(), Refusal>, err: &mut E) -> u8
     ensures done { OnOk outcome (result ≡ 0) }
     ensures refused { OnErr outcome (result ≡ 1) }
 {

@@ -1,49 +1,33 @@
-//! The program: reads its words, does what they ask, and tells what it refuses.
+//! The program: fetches its words, and does what they ask.
 #![tactic(auto)]
 
-ghost use Rattle.std.specs.Prelude.{◌≡◌, ◌≤◌, IfOk, IfErr};
-ghost use Rattle.command_io.specs.declared.refusal.Refusal.TheVariants as refusals;
+ghost use Rattle.std.specs.Prelude.{◌≤◌};
 
-use command_io::refusal::Refusal;
-use commands::run::{REFUSED, run};
-use std::env;
-use std::io::{self, BufWriter, Write};
+use commands::run::run;
+use commands::starting::{tell_unstarted, fetch_words};
+use std::io::{self, BufWriter, ErrorKind, Write};
 use std::process::ExitCode;
 use std::rt::{Env, Files};
 use std::sync::Wait;
 use std::thread::Threads;
 
 fn main(rt: HostRuntime) -> ExitCode {
-    ExitCode::from(match start(&rt, &mut rt.stderr()) {
-        Ok(status) => status,
-        Err(error) => {
-            let _ = eprintln!(rt; "compressor: {error}");
-            REFUSED
-        }
-    })
+    ExitCode::from(start(&rt, &mut rt.stderr()))
 }
 
-// The words behind the program's name.
-fn words_of<R: Env + AllocGlobal>(rt: &R) -> Result<Vec<String>, Refusal>
-    ensures cause { IfErr result (λ refusal. refusal ≡ refusals.OutOfMemory) }
-{
-    let Ok(words) = env::args(rt) else {
-        return Err(Refusal::OutOfMemory);
-    };
-    Ok(words.skip(1).collect(rt.alloc())?)
-}
-
-// Fetches the words and sets up standard output, which is written through a buffer.
+// Fetches the words, and sets up standard output, which is written through a buffer; then does what they ask.
 fn start<R: Env + Files + Print + AllocGlobal + Threads + Wait + Sync, E: Write>(
     rt: &R,
     err: &mut E,
-) -> Result<u8, Refusal>
-    ensures status { IfOk result (λ status. status ≤ 2) }
-    ensures cause { IfErr result (λ refusal. refusal ≡ refusals.OutOfMemory) }
+) -> u8
+    ensures status { result ≤ 2 }
 {
-    let words = words_of(rt)?;
-    let Ok(mut out) = BufWriter::new(rt.alloc(), io::writer(rt)) else {
-        return Err(Refusal::OutOfMemory);
+    let words = match fetch_words(rt) {
+        Ok(words) => words,
+        Err(error) => return tell_unstarted(error.kind(), err),
     };
-    Ok(run(rt, words, &mut out, err))
+    let Ok(mut out) = BufWriter::new(rt.alloc(), io::writer(rt)) else {
+        return tell_unstarted(ErrorKind::OutOfMemory, err);
+    };
+    run(rt, words, &mut out, err)
 }

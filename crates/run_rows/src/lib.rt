@@ -16,4 +16,6 @@ mod replaying;
 #[cfg(test)]
 mod runs;
 #[cfg(test)]
+mod starting;
+#[cfg(test)]
 mod tables;

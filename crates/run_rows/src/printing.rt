@@ -59,9 +59,16 @@ fn expect_cut_off<R: Files + AllocGlobal + Threads + Wait + Sync>(
 }
 
 /// Lines, and how many bytes they print at least.
-pub const LINES: [(&str, usize); 4] = [
+pub const LINES: [(&str, usize); 8] = [
     ("word print.tests.img 2", 12),
     ("plan print.tests.img", 48),
+    (
+        "replay print.tests.img print.tests.trace print.tests.out",
+        11,
+    ),
+    ("race print.tests.img print.tests.trace print.tests.out", 11),
+    ("audit print.tests.img print.tests.dump", 5),
+    ("compact print.tests.img print.tests.out", 7),
     ("--help", 1),
     ("--version", 17),
 ];
@@ -77,8 +84,18 @@ pub fn expect_lines<R: Files + AllocGlobal + Threads + Wait + Sync>(
     Ok(())
 }
 
-/// The image that they read.
-pub const WRITTEN: &[Step] = &[Step::Write("print.tests.img", Content::ThreeImage)];
+/// The files that they read. Of the trace, a race shows 7, or 11 by one byte more.
+pub const WRITTEN: &[Step] = &[
+    Step::Write("print.tests.img", Content::ThreeImage),
+    Step::Write("print.tests.trace", Content::SeenTrace),
+    Step::Write("print.tests.dump", Content::FreshDump),
+];
 
-/// It is not needed any more.
-pub const REMOVED: &[Step] = &[Step::Remove("print.tests.img")];
+/// The last dump that they wrote is whole; then the files are not needed any more.
+pub const REMOVED: &[Step] = &[
+    Step::Length("print.tests.out", 573),
+    Step::Remove("print.tests.img"),
+    Step::Remove("print.tests.trace"),
+    Step::Remove("print.tests.dump"),
+    Step::Remove("print.tests.out"),
+];

@@ -85,9 +85,14 @@ pub const STEPS: &[Step] = &[
     Step::Remove("all.tests.out"),
     // The twenty pages, compacted by some workers; and what is refused then.
     Step::Write("run.tests.img", Content::TwentyImage),
-    Step::Prints("compact run.tests.img run.tests.out", "live 1280\n"),
+    Step::Prints(
+        "compact --workers 2 run.tests.img run.tests.out",
+        "live 1280\n",
+    ),
     Step::Length("run.tests.out", 10_464),
     Step::Prints("audit run.tests.img run.tests.out", "ok 1280\n"),
+    Step::Prints("compact run.tests.img run.tests.out", "live 1280\n"),
+    Step::Length("run.tests.out", 10_464),
     Step::Prints(
         "compact --workers 1 run.tests.img run.tests.out",
         "live 1280\n",

@@ -1,14 +1,7 @@
 //! Traces whose mutators race over heaps: the lines, the dump, and what refusals leave.
+use crate::replaying::KEPT;
 use worked_files::contents::Content;
 use worked_files::steps::Step;
-
-// A data field is written by mutator 0, and read by mutator 1: before that, or after it.
-const SEEN: Content = Content::Text(
-    "0 root 0 0\n0 load 1 0 0\n0 put 1 0 7\n1 root 0 0\n1 load 1 0 0\n1 get 1 0\n",
-);
-
-// A new object becomes the field of the root.
-const FRESH: Content = Content::Text("0 root 0 0\n0 new 1 0 0 0\n0 store 0 0 1\n");
 
 // Each of both mutators shows a value, and reads a field of null then: mutator 1 in line 7, and mutator 0 in line 9.
 const STOPPED: Content = Content::Text(
@@ -18,15 +11,15 @@ const STOPPED: Content = Content::Text(
 /// Races that come to their end.
 pub const RACED: &[Step] = &[
     Step::Write("race.tests.img", Content::ThreeImage),
-    Step::Write("race.tests.trace", SEEN),
+    Step::Write("race.tests.trace", Content::SeenTrace),
     Step::PrintsEither(
-        "race --mutators 2 --fresh 64 race.tests.img race.tests.trace race.tests.out",
+        "race race.tests.img race.tests.trace race.tests.out",
         "6 7\nlive 4\n",
         "6 11\nlive 4\n",
     ),
     Step::Length("race.tests.out", 656),
     Step::Prints("audit race.tests.img race.tests.out", "ok 4\n"),
-    Step::Write("race.tests.trace", FRESH),
+    Step::Write("race.tests.trace", Content::FreshTrace),
     Step::Prints(
         "race --mutators 1 --fresh 2 race.tests.img race.tests.trace race.tests.out",
         "live 5\n",
@@ -38,20 +31,32 @@ pub const RACED: &[Step] = &[
     Step::Remove("race.tests.out"),
 ];
 
-/// Races that are refused.
+// The race of the trace that was written last.
+const STOP: &str = "race stop.tests.img stop.tests.trace stop.tests.out";
+
+/// Races that are refused: no dump is there, and a file that was there stays as it was.
 pub const HALTED: &[Step] = &[
     Step::Write("stop.tests.img", Content::ThreeImage),
     Step::Write("stop.tests.trace", STOPPED),
+    Step::Refuses(STOP, "5 11\n6 11\n8 11\n", "T6 Refused(7, M1 Null)"),
+    Step::Absent("stop.tests.out"),
+    Step::Write("stop.tests.out", KEPT),
     Step::Refuses(
         "race --mutators 2 --fresh 0 stop.tests.img stop.tests.trace stop.tests.out",
         "5 11\n6 11\n8 11\n",
         "T6 Refused(7, M1 Null)",
     ),
+    Step::Holds("stop.tests.out", KEPT),
+    Step::Write("stop.tests.trace", Content::Text("0 nil 0\n2 nil 0\n")),
+    Step::Refuses(STOP, "", "T2 NoSuchMutator(2)"),
+    Step::Holds("stop.tests.out", KEPT),
     Step::Refuses(
-        "race --mutators 2 --fresh 0 stop.tests.img absent.trace stop.tests.out",
+        "race stop.tests.img absent.trace stop.tests.out",
         "",
         "P1 CannotOpen(trace)",
     ),
+    Step::Holds("stop.tests.out", KEPT),
     Step::Remove("stop.tests.img"),
     Step::Remove("stop.tests.trace"),
+    Step::Remove("stop.tests.out"),
 ];

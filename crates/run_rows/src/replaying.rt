@@ -2,25 +2,17 @@
 use worked_files::contents::Content;
 use worked_files::steps::Step;
 
-// A data field is written by mutator 0, and read by mutator 1.
-const SEEN: Content = Content::Text(
-    "0 root 0 0\n0 load 1 0 0\n0 put 1 0 7\n1 root 0 0\n1 load 1 0 0\n1 get 1 0\n",
-);
-
-// A new object becomes the field of the root.
-const FRESH: Content = Content::Text("0 root 0 0\n0 new 1 0 0 0\n0 store 0 0 1\n");
-
 /// Traces that are run to their end.
 pub const REPLAYED: &[Step] = &[
     Step::Write("rows.tests.img", Content::ThreeImage),
-    Step::Write("rows.tests.trace", SEEN),
+    Step::Write("rows.tests.trace", Content::SeenTrace),
     Step::Prints(
         "replay rows.tests.img rows.tests.trace rows.tests.out",
         "6 7\nlive 4\n",
     ),
     Step::Length("rows.tests.out", 656),
     Step::Prints("audit rows.tests.img rows.tests.out", "ok 4\n"),
-    Step::Write("rows.tests.trace", FRESH),
+    Step::Write("rows.tests.trace", Content::FreshTrace),
     Step::Prints(
         "replay --mutators 1 --fresh 2 rows.tests.img rows.tests.trace rows.tests.out",
         "live 5\n",
@@ -45,17 +37,19 @@ const HALTED: Content = Content::Text(
     "0 root 0 0\n0 load 1 0 0\n0 get 1 0\n0 get 1 9\n0 get 1 0\n",
 );
 
-// What the dumps were to take the place of.
-const KEPT: Content = Content::Text("kept");
+/// What the dumps were to take the place of.
+pub const KEPT: Content = Content::Text("kept");
 
 // The run of the trace that was written last.
 const HALT: &str = "replay halt.tests.img halt.tests.trace halt.tests.out";
 
-/// Traces that are refused: the dump stays as it was.
+/// Traces that are refused: no dump is there, and a file that was there stays as it was.
 pub const STOPPED: &[Step] = &[
     Step::Write("halt.tests.img", Content::ThreeImage),
-    Step::Write("halt.tests.out", KEPT),
     Step::Write("halt.tests.trace", HALTED),
+    Step::Refuses(HALT, "3 11\n", "T6 Refused(4, M3 NoSuchField)"),
+    Step::Absent("halt.tests.out"),
+    Step::Write("halt.tests.out", KEPT),
     Step::Refuses(HALT, "3 11\n", "T6 Refused(4, M3 NoSuchField)"),
     Step::Holds("halt.tests.out", KEPT),
     Step::Write(
@@ -87,7 +81,7 @@ pub const STOPPED: &[Step] = &[
 /// Files that are not there, and folders in place of files.
 pub const WRONG_FILES: &[Step] = &[
     Step::Write("file.tests.img", Content::ThreeImage),
-    Step::Write("file.tests.trace", SEEN),
+    Step::Write("file.tests.trace", Content::SeenTrace),
     Step::MakeFolder("file.tests"),
     Step::Refuses(
         "replay absent.img absent.trace out",

@@ -9,11 +9,12 @@ use std::thread::Threads;
 use worked_files::steps::Step;
 
 // All tables, the last of which writes the image that the lines print of. As a constant they would cost the proof of the test five times as much.
-fn tables() -> [&'static [Step]; 9] {
+fn tables() -> [&'static [Step]; 10] {
     [
         programs::STEPS,
         judging::PASSED,
         judging::JUDGED,
+        judging::FORGED,
         racing::RACED,
         racing::HALTED,
         replaying::REPLAYED,

@@ -73,30 +73,3 @@ pub const BAD_ROOT_IMAGE: [Part; 5] = [
     Part::Numbers(&[0, 5]),
     Part::Words(&[4_294_967_297]),
 ];
-
-/// The dump behind the run that makes a new object, whose header is stamped after the reference to it.
-pub const LATE_DUMP: [Part; 19] = [
-    Part::Bytes(b"COMPDUMP"),
-    Part::Numbers(&[1, 1, 2, 3, 1]),
-    Part::Words(&[8_589_934_594]),
-    // page 0, and its entry, the reference
-    Part::Bytes(&[1]),
-    Part::Words(&[4_295_032_832, 11, 12_884_901_889, 8_589_934_656]),
-    Part::Words(&[0; 60]),
-    Part::Numbers(&[1]),
-    Part::Words(&[0]),
-    Part::Bytes(&[0, 1, 3]),
-    Part::Words(&[8_589_934_656]),
-    // page 1, and its entry, the header
-    Part::Bytes(&[1]),
-    Part::Words(&[0; 64]),
-    Part::Numbers(&[1]),
-    Part::Words(&[1]),
-    Part::Bytes(&[0, 0, 0]),
-    Part::Words(&[0]),
-    // page 2
-    Part::Bytes(&[0]),
-    // how many pages the mutator built, and which; the live words
-    Part::Numbers(&[2, 1, 0]),
-    Part::Words(&[5]),
-];

@@ -9,7 +9,7 @@ pub enum Part {
     Numbers(&'static [u32]),
     /// Words of 8 bytes each.
     Words(&'static [u64]),
-    /// An object of 640 words without references, whose data words count from 1.
+    /// An object of 640 words without references, whose data words are zeros.
     Object,
     /// The ten pages of a dump that such an object fills, each with no entry.
     Pages,
@@ -57,10 +57,10 @@ fn push_words(bytes: &mut Vec<u8>, words: &[u64]) -> Result<(), AllocError> {
     Ok(())
 }
 
-// Words of an object of 640 words: its header, and its data words, which count from 1.
+// Words of an object of 640 words: its header, and its data words, which are zeros.
 fn push_object_words(bytes: &mut Vec<u8>, from: u64, to: u64) -> Result<(), AllocError> {
     for at in from..to {
-        let word: u64 = if at == 0 { 41_877_504 } else { at };
+        let word: u64 = if at == 0 { 41_877_504 } else { 0 };
         bytes.extend_from_slice(&word.to_le_bytes())?;
     }
     Ok(())

@@ -2,6 +2,7 @@
 use crate::contents::{Content, bytes_in};
 use crate::runs::{Run, Text};
 use std::fs;
+use std::io::ErrorKind;
 use std::rt::Files;
 use std::test::Fail;
 
@@ -25,6 +26,8 @@ pub enum Step {
     Holds(&'static str, Content),
     /// The file at this path has so many bytes.
     Length(&'static str, usize),
+    /// No file is at this path.
+    Absent(&'static str),
     /// A file is removed.
     Remove(&'static str),
     /// A folder is removed.
@@ -61,6 +64,7 @@ pub fn take_file_step<R: Files + AllocGlobal>(rt: &R, step: &Step) -> Result<(),
         Step::MakeFolder(path) => Ok(fs::create_dir(rt, path)?),
         Step::Holds(path, content) => expect_file(rt, path, *content),
         Step::Length(path, length) => expect_length(rt, path, *length),
+        Step::Absent(path) => expect_absent(rt, path),
         Step::Remove(path) => Ok(fs::remove_file(rt, path)?),
         Step::RemoveFolder(path) => Ok(fs::remove_dir(rt, path)?),
         _ => Err("a run".into()),
@@ -98,4 +102,12 @@ fn expect_length<R: Files + AllocGlobal>(rt: &R, path: &str, length: usize) -> R
         return Ok(());
     }
     Err(Fail::new(format_args!("{path} has {found} bytes")))
+}
+
+// No file is at a path.
+fn expect_absent<R: Files + AllocGlobal>(rt: &R, path: &str) -> Result<(), Fail> {
+    match fs::read(rt, path) {
+        Err(error) if error.kind() == ErrorKind::NotFound => Ok(()),
+        _ => Err(Fail::new(format_args!("{path} is there"))),
+    }
 }
