@@ -119,7 +119,7 @@ loop-j-preserved g c =
             λ none. next.2 (h.2 none),
             next.3 h.3,
           );
-      empty = λ none. absurd (omega (arith, none));
+      empty = λ none. absurd (omega (arith, none, lt));
       seen = λ some. e.seen;
     }
 
@@ -138,7 +138,7 @@ returns-clause-ran g c = λ start have.
     )
 
 pub returns-clause-empty : goal.returns-clause-empty
-returns-clause-empty g c = λ none. c.loop-j.invariant.empty (omega (arith, none))
+returns-clause-empty g c = c.loop-j.invariant.empty
 
 pub returns-in-Err-clause-later : goal.returns-in-Err-clause-later
 returns-in-Err-clause-later g c = later_then c.args.mutators.now c.loop-j.mutators c.run_line-ran.new.mutators c.loop-j.invariant.later c.in-Err.ensures.later

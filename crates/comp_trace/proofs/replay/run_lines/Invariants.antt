@@ -20,6 +20,6 @@ invariant-loop-j g l = record {
   stands : (start : Journals) → HaveAll l.fn.mutators start
       → (now : Moment) × StandsAt (setup_of l.space) (length l.fn.mutators) start (deeds_of l.fn.mutators) (deeds_of l.mutators) (take l.j l.lines) l.registers.items l.shown.items now
       × BuiltTo l.fn.mutators l.mutators now × HaveSeenBuilt l.mutators now.built;
-  empty : l.j ≡ 0 → RanNothing l.fn.mutators l.mutators l.shown.items;
+  empty : length l.lines ≡ 0 → RanNothing l.fn.mutators l.mutators l.shown.items;
   seen : 0 < l.j → HaveSeenAll l.mutators;
 }
