@@ -150,23 +150,26 @@ know_later a b h made j m at =
     let was = there_at a j (omega (arith, is_inside b j m at, h.count)) in
     (h.learn j was.0 m was.1 at).1 (made j was.0 was.1)
 
--- what was refused was refused to a mutator that had come there
+-- what was refused was refused to a mutator that had come there; and what held of it at the call holds still
 pub refused_since : {L : Type 0} (u : Setup) (i : ℕ) (first before after : List (Mutator L)) (journals : Journals) (action : Action) (registers : List ℕ) (refusal : Refusal) → AreLater first before
-    → IsTurnedDown u i before after journals action registers refusal → IsTurnedDown u i first after journals action registers refusal
-refused_since u i first before after journals action registers refusal later h = record {
-  old = h.old;
-  new = h.new;
-  wrote_none = h.wrote_none;
-  began = λ m at.
-      let now = there_at before i (omega (arith, is_inside first i m at, later.count)) in
-      grows_then (pass_of m) (pass_of now.0) h.old (later.learn i m now.0 at now.1).0 (h.began now.0 now.1);
-  did = h.did;
-  knows = h.knows;
-  starts = λ made. h.starts (know_later first before later made);
-  grows = h.grows;
-  refuses = h.refuses;
-  ends = h.ends;
-}
+    → (h : IsTurnedDown u i before after journals action registers refusal) → (Q : Pass → Type 0) → Q h.old → (t : IsTurnedDown u i first after journals action registers refusal) × Q t.old
+refused_since u i first before after journals action registers refusal later h Q q = (
+  record {
+    old = h.old;
+    new = h.new;
+    wrote_none = h.wrote_none;
+    began = λ m at.
+        let now = there_at before i (omega (arith, is_inside first i m at, later.count)) in
+        grows_then (pass_of m) (pass_of now.0) h.old (later.learn i m now.0 at now.1).0 (h.began now.0 now.1);
+    did = h.did;
+    knows = h.knows;
+    starts = λ made. h.starts (know_later first before later made);
+    grows = h.grows;
+    refuses = h.refuses;
+    ends = h.ends;
+  },
+  q,
+)
 
 -- mutators that have seen all that they did have seen what a replay had added when it stood there
 pub seen_there : {L : Type 0} (u : Setup) (start : Journals) (first deeds : Deeds) (lines : List Line) (items : List (List ℕ)) (shown : List Shown) (n : ℕ) (after : List (Mutator L)) (now : Moment)

@@ -1,10 +1,13 @@
-use Rattle.std.proofs.Common.{◌≡◌, ℕ, ◌<◌, ◌+◌, ◌++◌, ◌∷◌, [], List, length, get_or, take, take_all, drop, refl, sym, ap, subst, arith, ◌∙◌}
+use Rattle.std.proofs.Common.{◌≡◌, ℕ, ◌<◌, ◌+◌, ◌++◌, ◌∷◌, [], true, List, length, get_or, take, take_all, drop, refl, sym, ap, subst, arith, ◌∙◌}
 use Rattle.std.proofs.lemmas.List.{take_more, length-take-le, length-replicate}
 use native.Mathlib.Decide.{ℕ_discrete}
 use mathlib.Core.Logic.{dite}
+use Rattle.cell_steps.specs.Passes.{HasSeenBuilt}
+use Rattle.cell_steps.specs.declared.pass.Pass.{Pass}
 use Rattle.cell_steps.proofs.Sums.{there_at}
 use Rattle.comp_mutator.specs.Mutators.{setup_of}
 use Rattle.trace_steps.specs.Acting.{null_registers}
+use Rattle.trace_steps.specs.Builds.{is_built}
 use Rattle.trace_steps.specs.Deeds.{deeds_of}
 use Rattle.comp_trace.specs.Replays.{RanTo, StandsAt}
 use Rattle.comp_trace.specs.Runs.{beginning}
@@ -63,6 +66,8 @@ returns-in-Err-clause-stopped g c = λ start have.
     let cause = e.refused start (deeds_of olds) (take j lines) h.0 given in
     let inside : one.mutator < length c.loop-j.mutators = let fits = c.requires.lines j no_line lt in omega (arith, fits.0, i.later.count, c.requires.all.count) in
     let m = there_at c.loop-j.mutators one.mutator inside in
+    let since = refused_since u one.mutator olds c.loop-j.mutators news (with_entries start h.0.added) one.action (h.0.registers one.mutator) c.in-Err.refusal i.later cause
+    (λ (x : Pass). (p : ℕ) → is_built h.0.built p ≡ true → HasSeenBuilt x p) (λ p there. (cause.began m.0 m.1).built p (h.3 p there one.mutator m.0 m.1)) in
     let ran = ran_to u n start (deeds_of olds) (deeds_of c.loop-j.mutators) (deeds_of news) (take j lines) c.loop-j.shown.items h.0 h.1.ran (λ k le. e.did.0 k (omega (arith, le, i.later.count))) in
     record {
       count = j;
@@ -71,8 +76,8 @@ returns-in-Err-clause-stopped g c = λ start have.
       there = at_or lines j no_line lt;
       end = h.0;
       ran = subst (λ (l : List Shown). RanTo u n start (deeds_of olds) (deeds_of news) (take j lines) l h.0) (sym e.did.1) ran;
-      cause = refused_since u one.mutator olds c.loop-j.mutators news (with_entries start h.0.added) one.action (h.0.registers one.mutator) c.in-Err.refusal i.later cause;
-      built = λ p there. (cause.began m.0 m.1).built p (h.3 p there one.mutator m.0 m.1);
+      cause = since.0;
+      built = since.1;
       seen = seen_there u start (deeds_of olds) (deeds_of c.loop-j.mutators) (take j lines) c.loop-j.registers.items c.loop-j.shown.items n news h.0 e.seen (e.later.count ∙ i.later.count)
           (λ k le. e.did.0 k (omega (arith, le, i.later.count))) h.1;
     }
@@ -128,8 +133,7 @@ returns-clause-ran g c = λ start have.
     let u = setup_of c.args.space.now in
     let olds = c.args.mutators.now in
     let h = c.loop-j.invariant.stands start have in
-    let all : take c.loop-j.j c.args.lines.now ≡ c.args.lines.now = take_all c.loop-j.j c.args.lines.now c.loop-j-test.false in
-    (
+    let all : take c.loop-j.j c.args.lines.now ≡ c.args.lines.now = take_all c.loop-j.j c.args.lines.now c.loop-j-test.false in (
       h.0,
       subst (λ (ls : List Line). RanTo u (length olds) start (deeds_of olds) (deeds_of c.loop-j.mutators) ls c.loop-j.shown.items h.0) all h.1.ran,
       h.2,
@@ -139,6 +143,12 @@ returns-clause-ran g c = λ start have.
 
 pub returns-clause-empty : goal.returns-clause-empty
 returns-clause-empty g c = c.loop-j.invariant.empty
+
+pub returns-in_default-clause-later : goal.returns-in_default-clause-later
+returns-in_default-clause-later g c = later_none c.args.mutators.now
+
+pub returns-in_default-all_null-clause-later : goal.returns-in_default-all_null-clause-later
+returns-in_default-all_null-clause-later g c = later_none c.args.mutators.now
 
 pub returns-in-Err-clause-later : goal.returns-in-Err-clause-later
 returns-in-Err-clause-later g c = later_then c.args.mutators.now c.loop-j.mutators c.run_line-ran.new.mutators c.loop-j.invariant.later c.in-Err.ensures.later
