@@ -122,8 +122,9 @@ fn race_and_finish<L: Ledger + Send + Sync, R: Threads + Wait + Sync>(
     let Ok(room) = Vec::with_capacity(alloc, lines.len()) else {
         return Err(unshown(alloc, Refusal::Trace(TraceFault::OutOfMemory)));
     };
-    let Ok(raced) = race(alloc, rt, trace, &space, mutators) else {
-        return Err(unshown(alloc, Refusal::Trace(TraceFault::OutOfMemory)));
+    let raced = match race(alloc, rt, trace, &space, mutators) {
+        Ok(raced) => raced,
+        Err(not) => return Err(unshown(alloc, Refusal::Trace(not.fault))),
     };
     let runs: &[Run] = &raced.runs;
     let shown = by_line(lines, runs, room);
