@@ -1,4 +1,4 @@
-//! Which worker has which region at first.
+//! The regions of a heap, dealt to the workers.
 ghost use Rattle.std.specs.Prelude.{◌≡◌, ℕ, ◌<◌, ◌≤◌, length, vec_capacity, OnOk, IfOk};
 ghost use Rattle.comp_regions.specs.Lots.{AreDealt, standings, taken_in};
 
@@ -20,7 +20,7 @@ fn empty_lots(alloc: Global, room: usize, workers: usize) -> Result<Vec<Lot>, Ou
     Ok(lots)
 }
 
-/// The regions below `regions` are put into the lots: region q into that with number q modulo their number, which no clause says.
+/// Puts the regions below `regions` into the lots: region q into that with number q modulo their number, which no clause says.
 fn put_all(lots: &mut Vec<Lot>, regions: u64) -> Result<(), OutOfMemory>
     requires some { 0 < length lots.old.items }
     requires dealt { AreDealt 0 (standings lots.old.items) }
@@ -36,7 +36,7 @@ fn put_all(lots: &mut Vec<Lot>, regions: u64) -> Result<(), OutOfMemory>
     Ok(())
 }
 
-/// A lot for each of so many workers: region q is in that with the number q modulo their number, and each has a way to each other.
+/// A lot for each worker, with the regions below `regions`, each in one of them, and with ways to all others. It asks for one worker at least.
 pub fn deal(alloc: Global, regions: u64, workers: usize) -> Result<Vec<Lot>, OutOfMemory>
     requires { 0 < workers }
     ensures count { IfOk result (λ lots. length lots.items ≡ workers) }
