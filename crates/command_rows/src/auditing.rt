@@ -5,6 +5,7 @@ use audit_faults::fault::AuditFault;
 use command_io::refusal::Refusal;
 use comp_dump::fault::DumpFault;
 use std::process::Abort;
+use std::thread::Threads;
 use worked_files::changes::{
     Change, FIRST_DATA, HEADER_OFFSET, HEADER_STAMP, LAST_PAGE, LAST_WORD, REFERENCE,
     REFERENCE_STAMP, REFERENCE_VALUE, ROOT, TOTAL, VERSION,
@@ -15,7 +16,12 @@ use worked_files::contents::{Content, bytes_in};
 type Forgery = (&'static str, Change, Change, Refusal);
 
 // A dump is refused so, where the heap of an image was compacted, and nothing is printed.
-fn is_refused(rt: &impl AllocGlobal, image: &[u8], dump: &[u8], refusal: Refusal) -> bool {
+fn is_refused(
+    rt: &(impl AllocGlobal + Threads + Sync),
+    image: &[u8],
+    dump: &[u8],
+    refusal: Refusal,
+) -> bool {
     let files = [
         File {
             path: "heap.img",
@@ -31,7 +37,11 @@ fn is_refused(rt: &impl AllocGlobal, image: &[u8], dump: &[u8], refusal: Refusal
 }
 
 // All these forgeries.
-fn expect_refused(rt: &(impl Abort + AllocGlobal), image: &[u8], forgeries: &[Forgery]) {
+fn expect_refused(
+    rt: &(impl Abort + AllocGlobal + Threads + Sync),
+    image: &[u8],
+    forgeries: &[Forgery],
+) {
     for (name, first, second, refusal) in forgeries {
         let forged = Content::ForgedDump(*first, *second);
         let left = bytes_in(rt.alloc(), forged).expect(rt, "memory for a dump");
@@ -40,7 +50,7 @@ fn expect_refused(rt: &(impl Abort + AllocGlobal), image: &[u8], forgeries: &[Fo
 }
 
 /// Forgeries of the dump behind the run that makes a new object in the heap of three objects.
-pub fn expect_forgeries(rt: &(impl Abort + AllocGlobal), three: &[u8]) {
+pub fn expect_forgeries(rt: &(impl Abort + AllocGlobal + Threads + Sync), three: &[u8]) {
     expect_refused(rt, three, &FORGED);
 }
 

@@ -142,9 +142,9 @@ fn print_task<R: Threads + Wait + Sync, I: Images, T: Traces, D: Dumps, O: Write
     ensures unprinted { StopsUnprinted (O.contents (inner_of out.old).now) (O.contents (inner_of out.new).now) result }
 {
     match task {
-        Task::Plan { image } => print_plan(alloc, images, image, out),
-        Task::Word { image, index } => print_word(alloc, images, image, index, out),
-        Task::Replay(run) => print_replay(alloc, images, traces, dumps, run, out),
+        Task::Plan { image } => print_plan(alloc, rt, images, image, out),
+        Task::Word { image, index } => print_word(alloc, rt, images, image, index, out),
+        Task::Replay(run) => print_replay(alloc, rt, images, traces, dumps, run, out),
         Task::Race(run) => print_race(alloc, rt, images, traces, dumps, run, out),
         Task::Compact {
             image,
@@ -162,7 +162,7 @@ fn print_task<R: Threads + Wait + Sync, I: Images, T: Traces, D: Dumps, O: Write
             },
             out,
         ),
-        Task::Audit { image, dump } => print_audit(alloc, images, image, dump, out),
+        Task::Audit { image, dump } => print_audit(alloc, rt, images, image, dump, out),
         Task::Help { text } => print_help(&text, out),
         Task::Version => print_text(VERSION_LINE, out),
     }

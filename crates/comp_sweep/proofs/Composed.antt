@@ -1,5 +1,5 @@
 -- What a worker does, call by call.
-use Rattle.std.proofs.Common.{◌≡◌, ℕ, ◌<◌, List, [], ◌∷◌, ◌++◌, All, Option, Result, Ok, refl, sym, ap, ◌∙◌, arith, append_assoc}
+use Rattle.std.proofs.Common.{◌≡◌, ℕ, ◌<◌, [], ◌∷◌, ◌++◌, Option, Result, Ok, refl, sym, ap, ◌∙◌, arith, append_assoc}
 use Rattle.std.proofs.lemmas.List.{append-nil}
 use Rattle.std.proofs.lemmas.List.Elements.{All-append, All-cons, All-nil}
 use Rattle.page_plan.specs.declared.builder.Builder.{Ghosts}
@@ -23,7 +23,7 @@ use Rattle.comp_sweep.specs.Regions.{SeesRegion}
 use Rattle.comp_sweep.specs.Sweeps.{BuildsMore, Sweeps}
 use Rattle.comp_sweep.specs.Workers.{WhyStopped}
 use Rattle.comp_sweep.specs.declared.working.Stop.{Stop}
-use Rattle.comp_sweep.specs.declared.working.Stop.TheVariants.{Told, Wants}
+use Rattle.comp_sweep.specs.declared.working.Stop.TheVariants.{Full, Told, Wants}
 
 -- a page that was waited for is refused for want of memory
 pub memory_wanted : (p : ℕ) (a b : Pass) (refusal : Refusal) → ((q : ℕ) → refusal ≡ Busy q → ⊥) → PageRefused p a b refusal → KnowsBuilt a p → ⊥
@@ -91,6 +91,7 @@ module _ {L B : Type 0} {g : Ghosts B} (space : Space L B g) where
     -- why a worker stops, after calls before
     pub stopped_then : {A : Type 0} (compacted : ℕ) (known : Option A) (stop : Stop) → WhyStopped compacted (pass_of b) known stop → WhyStopped compacted (pass_of a) known stop
     stopped_then compacted known Told w = w
+    stopped_then compacted known Full w = tt
     stopped_then compacted known (Wants p) w = (w.0, λ k. w.1 (known_more (pass_of a) (pass_of b) h.grows p k))
 
   module _ (a b : Mutator L) (h : Sweeps space a b) where

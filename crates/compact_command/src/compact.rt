@@ -101,7 +101,7 @@ pub fn swept_in<S: Read, R: Threads + Wait + Sync>(
     ensures reads { CountsRead (failures_of r.old) (failures_of r.new) result }
 {
     let heap = read_image(alloc, r)?;
-    let plan = Plan::new(alloc, heap)?;
+    let plan = Plan::new(alloc, rt, heap)?;
     swept(alloc, rt, plan, workers)
 }
 

@@ -18,6 +18,7 @@ use std::marker::Brand;
 use std::process::Abort;
 use std::sync::Arc;
 use std::sync::ledger::{Blank, Ledger as Named};
+use std::thread::Threads;
 
 /// A call of a mutator.
 pub enum Call {
@@ -125,7 +126,7 @@ fn expect_rows<L: Named>(
 }
 
 // This dump of what a run left is what it has to be.
-fn expect_left(rt: &impl Abort, alloc: Global, run: &Run, dump: &Dump<'_>) {
+fn expect_left(rt: &(impl Abort + Threads + Sync), alloc: Global, run: &Run, dump: &Dump<'_>) {
     let plan = plan_of(rt, alloc, &run.heap);
     let wanted = encoded(rt, alloc, &run.parts);
     expect_so(rt, run.name, 0, wanted.len() == run.length);
@@ -134,7 +135,7 @@ fn expect_left(rt: &impl Abort, alloc: Global, run: &Run, dump: &Dump<'_>) {
 
 // Finishes with all mutators. The dump of what the run left is what it has to be.
 fn expect_finish<L: Named>(
-    rt: &impl Abort,
+    rt: &(impl Abort + Threads + Sync),
     alloc: Global,
     run: &Run,
     space: Space<L, Plan>,
@@ -153,7 +154,12 @@ fn expect_finish<L: Named>(
     expect_left(rt, alloc, run, &dump);
 }
 
-fn expect_run_of<L: Named>(rt: &impl Abort, alloc: Global, blank: Blank, run: &Run)
+fn expect_run_of<L: Named>(
+    rt: &(impl Abort + Threads + Sync),
+    alloc: Global,
+    blank: Blank,
+    run: &Run,
+)
     requires name { blank.name ≡ L.name }
     requires parts { blank.parts ≡ L.parts }
     requires count { blank.parts ≡ run.now.mutators }
@@ -166,7 +172,7 @@ fn expect_run_of<L: Named>(rt: &impl Abort, alloc: Global, blank: Blank, run: &R
 }
 
 /// The calls of a run are answered as they have to be, and so is the dump of what it left.
-pub fn expect_run(rt: &impl Abort, alloc: Global, run: &Run) {
+pub fn expect_run(rt: &(impl Abort + Threads + Sync), alloc: Global, run: &Run) {
     let blank = Blank::new(u64::from(run.mutators));
     expect_run_of::<Brand>(rt, alloc, blank, run);
 }

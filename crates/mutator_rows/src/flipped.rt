@@ -14,6 +14,7 @@ use std::process::Abort;
 use std::sync::Arc;
 use std::sync::ledger::{Blank, Ledger as Named};
 use std::test::Fail;
+use std::thread::Threads;
 use worked_heaps::heaps::{
     counting_heap, empty, planned, seventeen_pages, smallest, three, zeros_heap,
 };
@@ -44,7 +45,7 @@ pub fn made<T>(rt: &impl Abort, found: Result<T, Fail>) -> T {
 }
 
 /// The plan of this heap.
-pub fn plan_of(rt: &impl Abort, alloc: Global, heap: Heap) -> Plan {
+pub fn plan_of(rt: &(impl Abort + Threads + Sync), alloc: Global, heap: Heap) -> Plan {
     let heap = match heap {
         Heap::Empty => empty(alloc),
         Heap::Smallest => smallest(alloc),
@@ -53,7 +54,7 @@ pub fn plan_of(rt: &impl Abort, alloc: Global, heap: Heap) -> Plan {
         Heap::Counting(data_words) => counting_heap(alloc, data_words),
         Heap::Zeros(data_words) => zeros_heap(alloc, data_words),
     };
-    made(rt, planned(alloc, made(rt, heap)))
+    made(rt, planned(alloc, rt, made(rt, heap)))
 }
 
 /// The builder, to be shared.

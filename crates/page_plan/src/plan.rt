@@ -14,6 +14,7 @@ use heap_layout::page_words::PageWords;
 use mark_tables::tables::Tables;
 use std::alloc::Global;
 use std::marker::Model;
+use std::thread::Threads;
 
 /// The plan of a compaction by sliding (Kermany and Petrank, 2006): where each live object goes, and each page of the result by itself. To-space word
 /// `i` has the address `2^33 + i`.
@@ -37,10 +38,14 @@ impl Model for Plan {
 
 impl Plan {
     /// The plan for this heap.
-    pub fn new(alloc: Global, heap: MarkedHeap) -> Result<Plan, OutOfMemory>
+    pub fn new(
+        alloc: Global,
+        rt: &(impl Threads + Sync),
+        heap: MarkedHeap,
+    ) -> Result<Plan, OutOfMemory>
         ensures { IfOk result (λ plan. plan ≡ heap) }
     {
-        let tables = Tables::build(alloc, &heap)?;
+        let tables = Tables::build(alloc, rt, &heap)?;
         let first_objects = first_objects::first_objects(alloc, &heap)?;
         Ok(Plan {
             heap,

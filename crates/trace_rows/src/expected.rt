@@ -4,6 +4,7 @@ use page_plan::plan::Plan;
 use std::alloc::Global;
 use std::process::Abort;
 use std::test::Fail;
+use std::thread::Threads;
 use worked_heaps::heaps::planned;
 
 /// It is so. Where it is not, the test ends, and tells its name and a number: of a page, a mutator, a stamp or words.
@@ -12,9 +13,13 @@ pub fn expect_so(rt: &impl Abort, name: &str, so: bool, number: u64) {
 }
 
 /// The plan of the heap that was made.
-pub fn plan_of(rt: &impl Abort, alloc: Global, made: Result<MarkedHeap, Fail>) -> Plan {
+pub fn plan_of(
+    rt: &(impl Abort + Threads + Sync),
+    alloc: Global,
+    made: Result<MarkedHeap, Fail>,
+) -> Plan {
     match made {
-        Ok(heap) => expect_plan(rt, planned(alloc, heap)),
+        Ok(heap) => expect_plan(rt, planned(alloc, rt, heap)),
         Err(_fail) => rt.panic("no heap"),
     }
 }

@@ -64,10 +64,16 @@ fn expect_drawn(
 }
 
 // The trace, replayed by one thread, and the finished heap.
-fn replay_drawn(rt: &impl Abort, alloc: Global, plan: &Plan, n: u8, drawn: &Drawn) {
+fn replay_drawn(
+    rt: &(impl Abort + Threads + Sync),
+    alloc: Global,
+    plan: &Plan,
+    n: u8,
+    drawn: &Drawn,
+) {
     let case = case_of(drawn, n);
     let blank = Blank::new(u64::from(case.mutators));
-    let builder = expect_plan(rt, two_live(alloc));
+    let builder = expect_plan(rt, two_live(alloc, rt));
     let (run, finished) = replayed::<Brand>(rt, alloc, blank, case, builder, plan);
     expect_drawn(rt, alloc, drawn, &run, &finished);
 }
@@ -114,6 +120,6 @@ fn run_all<R: Abort + Threads + Wait + Sync>(rt: &R, alloc: Global, plan: &Plan)
 #[test]
 fn replays_as_plain_objects_do_and_races_to_one_history(rt: HostRuntime) {
     let alloc = rt.alloc();
-    let plan = expect_plan(&rt, two_live(alloc));
+    let plan = expect_plan(&rt, two_live(alloc, &rt));
     run_all(&rt, alloc, &plan);
 }

@@ -12,6 +12,7 @@ use std::alloc::Global;
 use std::marker::Brand;
 use std::process::Abort;
 use std::sync::ledger::Blank;
+use std::thread::Threads;
 use trace_steps::shown::Shown;
 use trace_text::fault::TraceFault;
 use worked_heaps::heaps::three;
@@ -197,7 +198,13 @@ fn expect_finished(rt: &impl Abort, row: &Row, finished: &Finished) {
 }
 
 // This text of a row is replayed on the three objects, and the heap finished.
-fn replay_row(rt: &impl Abort, alloc: Global, plan: &Plan, row: &Row, text: &[u8]) {
+fn replay_row(
+    rt: &(impl Abort + Threads + Sync),
+    alloc: Global,
+    plan: &Plan,
+    row: &Row,
+    text: &[u8],
+) {
     let builder = plan_of(rt, alloc, three(alloc));
     let case = Case { text, ..row.case };
     let blank = Blank::new(u64::from(row.case.mutators));
@@ -207,7 +214,7 @@ fn replay_row(rt: &impl Abort, alloc: Global, plan: &Plan, row: &Row, text: &[u8
 }
 
 // So many writes into one page that its journal is full.
-fn replay_full(rt: &impl Abort, alloc: Global, plan: &Plan) {
+fn replay_full(rt: &(impl Abort + Threads + Sync), alloc: Global, plan: &Plan) {
     let mut text = FULL.case.text.to_vec(alloc).expect(rt, "a text");
     for _ in 0..1_025 {
         text.extend_from_slice(b"0 put 1 0 7\n")
@@ -217,7 +224,7 @@ fn replay_full(rt: &impl Abort, alloc: Global, plan: &Plan) {
 }
 
 /// All rows on the three objects, whose plan this is.
-pub fn replay_rows(rt: &impl Abort, alloc: Global, plan: &Plan) {
+pub fn replay_rows(rt: &(impl Abort + Threads + Sync), alloc: Global, plan: &Plan) {
     for row in &ROWS {
         replay_row(rt, alloc, plan, row, row.case.text);
     }

@@ -83,8 +83,13 @@ impl Builder for Meeting {
 /// Says that one of two has begun, and waits until the other has: not for ever, so that the answer is whether it has.
 pub fn met(own: &AtomicU64, other: &AtomicU64) -> bool {
     own.store(1, Ordering::SeqCst);
+    both(own, other)
+}
+
+/// Waits until both have come: not for ever, so that the answer is whether they have.
+pub fn both(one: &AtomicU64, other: &AtomicU64) -> bool {
     for _ in 0..TURNS {
-        if other.load(Ordering::SeqCst) == 1 {
+        if one.load(Ordering::SeqCst) == 1 && other.load(Ordering::SeqCst) == 1 {
             return true;
         }
         hint::spin_loop();

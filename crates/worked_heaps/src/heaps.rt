@@ -5,6 +5,7 @@ use heap_layout::heap::MarkedHeap;
 use page_plan::plan::Plan;
 use std::alloc::{AllocError, Global};
 use std::test::Fail;
+use std::thread::Threads;
 
 /// The address of from-space word 0.
 pub const F: u64 = 4_294_967_296;
@@ -98,6 +99,6 @@ pub fn seventeen_pages(alloc: Global) -> Result<MarkedHeap, Fail> {
 }
 
 /// The plan of a heap.
-pub fn planned(alloc: Global, heap: MarkedHeap) -> Result<Plan, Fail> {
-    Ok(Plan::new(alloc, heap)?)
+pub fn planned(alloc: Global, rt: &(impl Threads + Sync), heap: MarkedHeap) -> Result<Plan, Fail> {
+    Ok(Plan::new(alloc, rt, heap)?)
 }

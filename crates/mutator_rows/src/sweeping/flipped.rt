@@ -13,6 +13,7 @@ use std::alloc::Global;
 use std::process::Abort;
 use std::sync::Arc;
 use std::sync::ledger::{Blank, Ledger as Named};
+use std::thread::Threads;
 use worked_heaps::heaps::{counting_object, judged, zeros_object};
 
 // As many equal objects, one behind the other.
@@ -28,10 +29,10 @@ fn equal_objects(rt: &impl Abort, alloc: Global, object: Object, objects: usize)
 }
 
 /// The plan of the heap of the case.
-pub fn plan_of(rt: &impl Abort, alloc: Global, case: &Case) -> Plan {
+pub fn plan_of(rt: &(impl Abort + Threads + Sync), alloc: Global, case: &Case) -> Plan {
     let words = equal_objects(rt, alloc, case.object, case.marks.len());
     let judged = judged(alloc, &words, case.marks, &[]).expect(rt, "memory for a heap");
-    Plan::new(alloc, judged.expect(rt, "a heap")).expect(rt, "a plan")
+    Plan::new(alloc, rt, judged.expect(rt, "a heap")).expect(rt, "a plan")
 }
 
 /// A flipped heap and its mutators. There is no fresh page.

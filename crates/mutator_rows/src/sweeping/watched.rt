@@ -4,7 +4,7 @@ use crate::sweeping::expected::expect;
 use comp_sweep::gate::Gate;
 use std::process::Abort;
 use std::sync::atomic::{AtomicU64, Ordering};
-use worked_heaps::builders::met;
+use worked_heaps::builders::{both, met};
 
 /// The gate of a case. One that counts is told of three regions. One that holds counts the regions for which that was in vain.
 #[derive(Drop)]
@@ -38,10 +38,17 @@ impl Watch {
         }
     }
 
+    // Waits until the regions 1 and 2 have both ended.
+    fn wait(&self) {
+        if !both(&self.ended[1], &self.ended[2]) {
+            self.missed.fetch_add(1, Ordering::SeqCst);
+        }
+    }
+
     /// No region was held in vain. Where regions are counted, each was begun and ended once.
     pub fn expect_told(&self, rt: &impl Abort, case: &'static str) {
         let missed = self.missed.load(Ordering::SeqCst);
-        expect(rt, case, "regions that missed one another", missed == 0);
+        expect(rt, case, "no region held in vain", missed == 0);
         if matches!(self.beside, Beside::Counts) {
             expect_once(rt, case, &self.begun);
             expect_once(rt, case, &self.ended);
@@ -69,12 +76,13 @@ impl Gate for Watch {
         match self.beside {
             Beside::Counts => count(&self.begun, region),
             Beside::Holds => self.hold(region),
+            Beside::Steals if region == 0 => self.wait(),
             _ => {}
         }
     }
 
     fn after(&self, region: u64) {
-        if matches!(self.beside, Beside::Counts) {
+        if matches!(self.beside, Beside::Counts | Beside::Steals) {
             count(&self.ended, region);
         }
     }

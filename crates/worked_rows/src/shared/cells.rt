@@ -100,17 +100,21 @@ fn made<T>(rt: &impl Abort, found: Result<T, Fail>) -> T {
 }
 
 // The plan of a worked heap.
-fn plan_of(rt: &impl Abort, alloc: Global, heap: Result<MarkedHeap, Fail>) -> Plan {
-    made(rt, planned(alloc, made(rt, heap)))
+fn plan_of(
+    rt: &(impl Abort + Threads + Sync),
+    alloc: Global,
+    heap: Result<MarkedHeap, Fail>,
+) -> Plan {
+    made(rt, planned(alloc, rt, made(rt, heap)))
 }
 
 /// The plan of the heap of three objects.
-pub(crate) fn planned_three(rt: &impl Abort, alloc: Global) -> Plan {
+pub(crate) fn planned_three(rt: &(impl Abort + Threads + Sync), alloc: Global) -> Plan {
     plan_of(rt, alloc, three(alloc))
 }
 
 // The plan of a heap of one object of 255 data words, which are 0.
-fn planned_four_pages(rt: &impl Abort, alloc: Global) -> Plan {
+fn planned_four_pages(rt: &(impl Abort + Threads + Sync), alloc: Global) -> Plan {
     plan_of(rt, alloc, zeros_heap(alloc, 255))
 }
 

@@ -1,0 +1,28 @@
+-- What a worker takes and lists, one region more at a time.
+use Rattle.std.proofs.Common.{◌≡◌, ℕ, ◌+◌, List, [], ◌∷◌, ◌++◌, All, refl, sym, subst, ◌∙◌, arith}
+use Rattle.std.proofs.lemmas.List.Elements.{All-append, All-cons, All-nil}
+use Rattle.cell_steps.specs.Setup.{Setup}
+use Rattle.cell_steps.specs.Lists.{only}
+use Rattle.cell_steps.specs.declared.pass.Pass.{Pass}
+use Rattle.comp_regions.specs.Lots.{taken, SameLot}
+use Rattle.comp_regions.specs.declared.lots.Lot.{Lot}
+use Rattle.comp_regions.proofs.Tallies.{times_more}
+use Rattle.comp_sweep.specs.Regions.{SeesRegion}
+use Rattle.comp_sweep.specs.Workers.{Listed}
+
+pub lot_then : (a b c : Lot) → SameLot a b → SameLot b c → SameLot a c
+lot_then a b c h k = k ∙ h
+
+module _ (u : Setup) where
+  -- nothing was taken
+  pub listed_none : (pass : Pass) (lot : Lot) (regions : List ℕ) → All (SeesRegion u pass) regions → Listed u pass lot lot regions regions
+  listed_none pass lot regions seen = record { seen = seen; tally = λ x. refl }
+
+  -- a region more
+  pub listed_next : (pass next : Pass) (first old new : Lot) (before after more : List ℕ) (q : ℕ) → ((region : ℕ) → SeesRegion u pass region → SeesRegion u next region) → SeesRegion u next q
+      → ((x : ℕ) → taken x new ≡ taken x old + only x q) → more ≡ after ++ q ∷ [] → Listed u pass first old before after → Listed u next first new before more
+  listed_next pass next first old new before after more q keeps here tally e h = record {
+    seen = subst (All (SeesRegion u next)) (sym e)
+        (All-append (SeesRegion u next) after (q ∷ []) (λ k d lt. keeps _ (h.seen k d lt)) (All-cons (SeesRegion u next) q [] here (All-nil _)));
+    tally = λ x. omega (arith, times_more x q after more e, h.tally x, tally x);
+  }
