@@ -1,4 +1,4 @@
-use Rattle.std.proofs.Common.{List, length, refl, set, subst, sym, arith, length-set}
+use Rattle.std.proofs.Common.{set, arith, length-set}
 use Rattle.heap_layout.specs.declared.kind.Kind.TheVariants.{Data}
 use Rattle.page_cells.proofs.Rows.{at_value}
 use Rattle.comp_mutator.specs.Mutators.{setup_of}
