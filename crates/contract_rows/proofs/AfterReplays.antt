@@ -1,5 +1,5 @@
 -- What is known at the end of a read that was made before a trace was replayed.
-use Rattle.std.proofs.Common.{◌≡◌, ℕ, ◌<◌, List, length, get_or, map, set, sym, ap, subst, ◌∙◌, ⊎_elim, arith, length-set}
+use Rattle.std.proofs.Common.{◌≡◌, ℕ, ◌<◌, List, length, map, set, sym, ap, subst, ◌∙◌, ⊎_elim, arith, get_or-set_same, length-set}
 use mathlib.Core.Option.{some}
 use lib.ListN.{get_elem?}
 use Rattle.heap_layout.specs.declared.kind.Kind.{Kind}
@@ -24,14 +24,18 @@ use Rattle.trace_steps.proofs.Elements.{at_or}
 use Rattle.trace_steps.proofs.MetPairs.{each_set}
 use Rattle.contract_rows.specs.Histories.{StandsInHistory}
 
+-- what was put at a place stands there
+pub set_there : {A : Type 0} (l : List A) (k : ℕ) (x : A) → k < length l → get_elem? (set l k x) k ≡ some x
+set_there l k x lt = at_or (set l k x) k x (omega (arith, length-set l k x, lt)) ∙ ap some (get_or-set_same l k x x lt)
+
 -- they are all mutators still, where one of them made a call
-pub all_set : {L : Type 0} {B : Type 0} {g : Ghosts B} (space : Space L B g) (mutators : List (Mutator L)) (k : ℕ) (d new : Mutator L) → AreAll space mutators → k < length mutators
-    → IsMutatorOf space new → number_of_mutator new ≡ number_of_mutator (get_or mutators k d) → AreAll space (set mutators k new)
-all_set space mutators k d new all lt of same = record {
+pub all_set : {L : Type 0} {B : Type 0} {g : Ghosts B} (space : Space L B g) (mutators : List (Mutator L)) (k : ℕ) (old new : Mutator L) → AreAll space mutators → get_elem? mutators k ≡ some old
+    → IsMutatorOf space new → number_of_mutator new ≡ number_of_mutator old → AreAll space (set mutators k new)
+all_set space mutators k old new all there of same = record {
   of = each_set (IsMutatorOf space) mutators k new all.of of;
   count = length-set mutators k new ∙ all.count;
   numbers = λ j m at. ⊎_elim
-      (λ here. ap number_of_mutator (sym here.1) ∙ same ∙ all.numbers k (get_or mutators k d) (at_or mutators k d lt) ∙ sym here.0)
+      (λ here. ap number_of_mutator (sym here.1) ∙ same ∙ all.numbers k old there ∙ sym here.0)
       (λ other. all.numbers j m other.1)
       (at_set mutators k j new m at);
 }
