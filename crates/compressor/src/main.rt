@@ -4,7 +4,7 @@
 ghost use Rattle.std.specs.Prelude.{◌≤◌};
 
 use commands::run::run;
-use commands::starting::{tell_unstarted, fetch_words};
+use commands::starting::{fetch_words, tell_unstarted};
 use std::io::{self, BufWriter, ErrorKind, Write};
 use std::process::ExitCode;
 use std::rt::{Env, Files};
