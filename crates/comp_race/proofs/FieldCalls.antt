@@ -1,5 +1,5 @@
 -- Calls of lines that answer: they met no busy page.
-use Rattle.std.proofs.Common.{◌≡◌, ℕ, IsErrOf, Ok}
+use Rattle.std.proofs.Common.{ℕ, IsErrOf, Ok}
 use Rattle.call_refusals.specs.declared.refusal.Refusal.{Refusal}
 use Rattle.call_refusals.specs.declared.refusal.Refusal.TheVariants.{Busy}
 

@@ -28,14 +28,15 @@ abbrev pub own_lines : ℕ → List (ℕ × Line) → List (ℕ × Line)
 own_lines k [] = []
 own_lines k (line ∷ lines) = cond (line.1.mutator == k) (line ∷ own_lines k lines) (own_lines k lines)
 
--- The lines ran well, one after the other, over these registers: what the mutator had seen is a beginning of what it has seen after each.
+-- The lines ran well, one after the other, over these registers: what the mutator had seen is a beginning of what it has seen after each, and each built no page but
+-- the one that it touched, which the mutator has then seen built.
 abbrev pub Went : Setup → List (ℕ × Line) → List ℕ → Pass → List Shown → List ℕ → Pass → Type 0
 Went u [] registers old shown after new = (after ≡ registers) × (new ≡ old) × (shown ≡ [])
 Went u (line ∷ lines) registers old shown after new =
     (middle : Pass) × (answer : ℕ) × (rest : List Shown) × Steps u line.1.action registers old middle answer × (shown ≡ shown_at line.0 line.1.action answer ++ rest)
     × Went u lines (registers_after line.1.action registers answer) middle rest after new
 
--- The line after the first `count` was refused; the mutator wrote nothing in it.
+-- The line after the first `count` was refused. The mutator, which is the one that ran those, wrote nothing in it, and forgot nothing.
 pub record Stops (u : Setup) (lines : List (ℕ × Line)) (count : ℕ) (registers : List ℕ) (old new : Pass) (stop : Stop) : Type 0 where
   pub line : ℕ × Line
   pub there : get_elem? lines count ≡ some line

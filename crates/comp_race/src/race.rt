@@ -21,7 +21,7 @@ use std::sync::ledger::Ledger;
 use std::thread;
 use std::thread::Threads;
 use trace_steps::shown::Shown;
-use trace_text::fault::Stop;
+use trace_text::fault::{Stop, TraceFault};
 use trace_text::line::Line;
 use trace_text::trace::Trace;
 
@@ -39,10 +39,22 @@ pub struct Raced<L: Ledger> {
     pub runs: Vec<Run>,
 }
 
-/// A race that did not begin, for want of memory, and its mutators.
+/// A race that did not begin, its mutators, as they were handed in, and why: for want of memory.
 #[derive(Drop)]
 pub struct NotRaced<L: Ledger> {
+    pub fault: TraceFault,
     pub mutators: Vec<Mutator<L>>,
+}
+
+/// The race did not begin for want of memory.
+fn not_raced<L: Ledger>(mutators: Vec<Mutator<L>>) -> NotRaced<L>
+    ensures fault { result.fault ≡ TraceFault.OutOfMemory }
+    ensures back { result.mutators ≡ mutators }
+{
+    NotRaced {
+        fault: TraceFault::OutOfMemory,
+        mutators,
+    }
 }
 
 /// How many lines a mutator has.
@@ -148,7 +160,7 @@ fn parted<L: Ledger>(
 
 /// Each mutator runs its own lines of a trace, in their order, in a thread of its own where one can be had, and waits for busy pages. A refused line ends its
 /// mutator's run. The mutators are all of the space's, in the order of their numbers, and the trace was parsed for as many mutators and roots as there are. Room
-/// for all that the lines can show is asked for first: where it is refused, no line runs.
+/// for all that the lines can show is asked for first: where it is refused, the fault is `OutOfMemory`, and no line runs.
 pub fn race<L: Ledger + Send + Sync, B: Builder, R: Threads + Wait + Sync>(
     alloc: Global,
     rt: &R,
@@ -159,20 +171,21 @@ pub fn race<L: Ledger + Send + Sync, B: Builder, R: Threads + Wait + Sync>(
     requires all { AreAll space.now mutators.items }
     requires parsed { IsParsedFor (setup_of space.now) trace.now }
     ensures raced { IfOk result (λ raced. HaveRaced space.now (lines_of trace.now) mutators.items raced.mutators.items raced.runs.items) }
+    ensures fault { IfErr result (λ not. not.fault ≡ TraceFault.OutOfMemory) }
     ensures back { IfErr result (λ not. not.mutators ≡ mutators) }
 {
     let lines = trace.lines();
     let Ok(rooms) = rooms(alloc, lines, &mutators) else {
-        return Err(NotRaced { mutators });
+        return Err(not_raced(mutators));
     };
     let Ok(runners) = Vec::with_capacity(alloc, mutators.len()) else {
-        return Err(NotRaced { mutators });
+        return Err(not_raced(mutators));
     };
     let Ok(raced) = Vec::with_capacity(alloc, mutators.len()) else {
-        return Err(NotRaced { mutators });
+        return Err(not_raced(mutators));
     };
     let Ok(runs) = Vec::with_capacity(alloc, mutators.len()) else {
-        return Err(NotRaced { mutators });
+        return Err(not_raced(mutators));
     };
     let mut runners = readied(mutators, rooms, runners);
     run_all(alloc, rt, space, lines, &mut runners);

@@ -4,13 +4,18 @@ use mathlib.Core.Option.{some, some-ne-none}
 use lib.ListN.{get_elem?}
 use Rattle.heap_image.specs.Encoding.{ImagesDiffer}
 use Rattle.heap_layout.specs.Heap.{Heap}
+use Rattle.page_plan.specs.declared.builder.Builder.{Ghosts}
 use Rattle.comp_journal.specs.declared.entry.Entry.{Entry}
 use Rattle.cell_steps.specs.Lists.{on}
 use Rattle.cell_steps.specs.Setup.{Setup}
-use Rattle.cell_steps.proofs.Sums.{is_inside, read_at}
+use Rattle.cell_steps.specs.Passes.{number_of, view_of}
+use Rattle.cell_steps.proofs.Sums.{is_inside, read_at, there_at}
 use Rattle.comp_history.specs.Merged.{written_by}
+use Rattle.comp_mutator.specs.Mutators.{pass_of, setup_of, IsMutatorOf}
 use Rattle.comp_mutator.specs.declared.mutator.Mutator.{Mutator}
+use Rattle.comp_mutator.specs.declared.space.Space.{Space}
 use Rattle.comp_trace.specs.Bytes.{flipped, no_entries, Interrupts, Shows, ShowOnce}
+use Rattle.trace_steps.specs.AllMutators.{AreAll}
 use Rattle.trace_steps.specs.Deeds.{deeds_of, DidNothingYet, HaveAll, KnowTheirs}
 use Rattle.trace_text.specs.Grammar.{parts, trace_of}
 use Rattle.comp_trace.specs.Replays.{HaveReplayed, HaveStopped}
@@ -59,12 +64,32 @@ line_inside : (ms rs : ℕ) (text : List ℕ) (lines : List Line) (j : ℕ) (lin
 line_inside ms rs text lines j line e there =
     subst (λ (l : Line). l.mutator < ms) (read_at lines j line line there) (read_inside ms rs 1 (parts 10 text) lines e j line (is_inside lines j line there))
 
-pub interrupts_of : {L : Type 0} (u : Setup) (before after : List (Mutator L)) (text : List ℕ) (lines : List Line) (shown : List Shown) (fault : TraceFault) → length before ≡ u.mutators
+-- All mutators of some space that is about this heap, by their numbers.
+pub record AreOf {L : Type 0} (u : Setup) (mutators : List (Mutator L)) : Type 0 where
+  pub count : length mutators ≡ u.mutators
+  pub numbers : (k : ℕ) (m : Mutator L) → get_elem? mutators k ≡ some m → number_of (pass_of m) ≡ k
+  pub about : (k : ℕ) (m : Mutator L) → get_elem? mutators k ≡ some m → (view_of (pass_of m)).about ≡ u
+
+pub are_of : {L : Type 0} {B : Type 0} {g : Ghosts B} (space : Space L B g) (mutators : List (Mutator L)) → AreAll space mutators → AreOf (setup_of space) mutators
+are_of {L} space mutators all = record {
+  count = all.count;
+  numbers = all.numbers;
+  about = λ k m at. (subst (IsMutatorOf space) (read_at mutators k m m at) (all.of k m (is_inside mutators k m at))).of.about;
+}
+
+pub interrupts_of : {L : Type 0} (u : Setup) (before after : List (Mutator L)) (text : List ℕ) (lines : List Line) (shown : List Shown) (fault : TraceFault) → AreOf u before
     → DidNothingYet before → trace_of u.mutators (length u.heap.roots) text ≡ Ok lines → HaveStopped u before after lines shown fault → Interrupts u text shown fault
-interrupts_of u before after text lines shown (Refused number refusal) counted none text_is stopped =
+interrupts_of u before after text lines shown (Refused number refusal) all none text_is stopped =
     let h = stopped no_entries (have_none before none) in
-    let inside : h.line.mutator < length before = omega (arith, counted, line_inside u.mutators (length u.heap.roots) text lines h.count h.line text_is h.there) in
+    let inside : h.line.mutator < length before = omega (arith, all.count, line_inside u.mutators (length u.heap.roots) text lines h.count h.line text_is h.there) in
+    let m = there_at before h.line.mutator inside in
+    let began = h.cause.began m.0 m.1 in
     record {
+      numbered = began.number ∙ all.numbers h.line.mutator m.0 m.1;
+      about = began.about ∙ all.about h.line.mutator m.0 m.1;
+      wrote_none = h.cause.wrote_none;
+      built = h.built;
+      grows = h.cause.grows;
       did = h.cause.did ∙ h.ran.did h.line.mutator inside ∙ ap (λ (l : List (ℕ × Entry)). l ++ written_by h.line.mutator h.end.added) (deeds_none before none h.line.mutator);
       lines = lines;
       text_is = text_is;
@@ -81,9 +106,9 @@ interrupts_of u before after text lines shown (Refused number refusal) counted n
       starts = h.cause.starts (know_none before none);
       refuses = h.cause.refuses;
     }
-interrupts_of u before after text lines shown OutOfMemory counted none text_is h = h.0
-interrupts_of u before after text lines shown (BadLine number) counted none text_is h = absurd h
-interrupts_of u before after text lines shown (NoSuchMutator number) counted none text_is h = absurd h
-interrupts_of u before after text lines shown (NoSuchRegister number) counted none text_is h = absurd h
-interrupts_of u before after text lines shown (NumberTooLarge number) counted none text_is h = absurd h
-interrupts_of u before after text lines shown (NoSuchRoot number) counted none text_is h = absurd h
+interrupts_of u before after text lines shown OutOfMemory all none text_is h = h.0
+interrupts_of u before after text lines shown (BadLine number) all none text_is h = absurd h
+interrupts_of u before after text lines shown (NoSuchMutator number) all none text_is h = absurd h
+interrupts_of u before after text lines shown (NoSuchRegister number) all none text_is h = absurd h
+interrupts_of u before after text lines shown (NumberTooLarge number) all none text_is h = absurd h
+interrupts_of u before after text lines shown (NoSuchRoot number) all none text_is h = absurd h

@@ -18,8 +18,8 @@ use Rattle.comp_mutator.specs.Mutators.{pass_of}
 use Rattle.comp_mutator.specs.declared.mutator.Mutator.{Mutator}
 use Rattle.call_refusals.specs.declared.refusal.Refusal.{Refusal}
 use Rattle.trace_steps.specs.Acting.{null_registers, registers_after, shown_at}
-use Rattle.trace_steps.specs.Builds.{built_after, touched, BuildOn, HaveBuilt}
-use Rattle.trace_steps.specs.Deeds.{deeds_of, AreMerged, Deeds, HaveStart, IsMerged, KnowTheirs}
+use Rattle.trace_steps.specs.Builds.{built_after, touched, BuildOn, HaveBuilt, HaveSeenBuilt, SeeBuiltOn}
+use Rattle.trace_steps.specs.Deeds.{deeds_of, AreMerged, Deeds, HaveSeen, HaveSeenAll, HaveStart, IsMerged, KnowTheirs}
 use Rattle.comp_trace.specs.Replays.{CannotGoOn, GoesOn, RanTo, StandsAt}
 use Rattle.trace_steps.specs.Rounds.{Advances, AreLater, DidNothing, IsTurnedDown, Learns, RanLine, WasTurnedDown}
 use Rattle.comp_trace.specs.Runs.{beginning, Does, Moment, Runs}
@@ -106,15 +106,16 @@ module _ {L : Type 0} (u : Setup) (before after : List (Mutator L)) (line : Line
     is_there = is ∙ ap (λ (k : ℕ). get_or items k []) at
 
     pub goes_on : (number answer : ℕ) (registers : List ℕ) (shown showing : List Shown) → RanLine u i before after line.action own answer → registers ≡ registers_after line.action own answer
-        → showing ≡ shown ++ shown_at number line.action answer → BuildOn i (touched u line.action own answer) before after
+        → showing ≡ shown ++ shown_at number line.action answer → BuildOn i (touched u line.action own answer) before after → SeeBuiltOn i (touched u line.action own answer) before after
         → GoesOn u line number before after items (set items i registers) shown showing
-    goes_on number answer registers shown showing ran set_is shows builds start first lines now counted stands =
+    goes_on number answer registers shown showing ran set_is shows builds sees start first lines now counted stands =
         let n = length before in
         let one = line_stands u n start first (deeds_of before) now lines line items shown own inside wide is_there stands (deeds_of after) number answer registers showing counted
         (λ journals merged. subst (λ (k : ℕ). Advances u n k (deeds_of before) (deeds_of after) journals line.action own answer) at (ran journals merged)) set_is shows in (
           one.0,
           subst (λ (k : ℕ). StandsAt u n start first (deeds_of after) (lines ++ line ∷ []) (set items k registers) showing one.0) (sym at) one.1,
           λ built. subst (HaveBuilt after) (ap (λ (k : ℕ). built_after now.built k (touched u line.action own answer)) at ∙ sym one.2) (builds now.built built),
+          λ known. subst (HaveSeenBuilt after) (ap (λ (k : ℕ). built_after now.built k (touched u line.action own answer)) at ∙ sym one.2) (sees now.built known),
         )
 
     pub cannot_go_on : (shown : List Shown) (refusal : Refusal) → WasTurnedDown u i before after line.action own refusal → CannotGoOn u line before after items shown refusal
@@ -149,22 +150,34 @@ know_later a b h made j m at =
     let was = there_at a j (omega (arith, is_inside b j m at, h.count)) in
     (h.learn j was.0 m was.1 at).1 (made j was.0 was.1)
 
--- what was refused was refused to a mutator that had come there
+-- what was refused was refused to a mutator that had come there; and what held of it at the call holds still
 pub refused_since : {L : Type 0} (u : Setup) (i : ℕ) (first before after : List (Mutator L)) (journals : Journals) (action : Action) (registers : List ℕ) (refusal : Refusal) → AreLater first before
-    → IsTurnedDown u i before after journals action registers refusal → IsTurnedDown u i first after journals action registers refusal
-refused_since u i first before after journals action registers refusal later h = record {
-  old = h.old;
-  new = h.new;
-  began = λ m at.
-      let now = there_at before i (omega (arith, is_inside first i m at, later.count)) in
-      grows_then (pass_of m) (pass_of now.0) h.old (later.learn i m now.0 at now.1).0 (h.began now.0 now.1);
-  did = h.did;
-  knows = h.knows;
-  starts = λ made. h.starts (know_later first before later made);
-  grows = h.grows;
-  refuses = h.refuses;
-  ends = h.ends;
-}
+    → (h : IsTurnedDown u i before after journals action registers refusal) → (Q : Pass → Type 0) → Q h.old → (t : IsTurnedDown u i first after journals action registers refusal) × Q t.old
+refused_since u i first before after journals action registers refusal later h Q q = (
+  record {
+    old = h.old;
+    new = h.new;
+    wrote_none = h.wrote_none;
+    began = λ m at.
+        let now = there_at before i (omega (arith, is_inside first i m at, later.count)) in
+        grows_then (pass_of m) (pass_of now.0) h.old (later.learn i m now.0 at now.1).0 (h.began now.0 now.1);
+    did = h.did;
+    knows = h.knows;
+    starts = λ made. h.starts (know_later first before later made);
+    grows = h.grows;
+    refuses = h.refuses;
+    ends = h.ends;
+  },
+  q,
+)
+
+-- mutators that have seen all that they did have seen what a replay had added when it stood there
+pub seen_there : {L : Type 0} (u : Setup) (start : Journals) (first deeds : Deeds) (lines : List Line) (items : List (List ℕ)) (shown : List Shown) (n : ℕ) (after : List (Mutator L)) (now : Moment)
+    → HaveSeenAll after → length after ≡ n → ((k : ℕ) → k < n → deeds_of after k ≡ deeds k) → StandsAt u n start first deeds lines items shown now
+    → HaveSeen after (with_entries start now.added)
+seen_there u start first deeds lines items shown n after now seen long same h = seen (with_entries start now.added) (λ p.
+    merged_by (length after) deeds (deeds_of after) p (with_entries start now.added p) (λ k lt. sym (same k (omega (arith, lt, long))))
+    (subst (λ (c : ℕ). IsMerged c deeds p (with_entries start now.added p)) (sym long) (h.merged p)))
 
 -- it ran to that moment, whatever the mutators learnt since
 pub ran_to : (u : Setup) (n : ℕ) (start : Journals) (first deeds later : Deeds) (lines : List Line) (shown : List Shown) (now : Moment) → RanTo u n start first deeds lines shown now

@@ -1,18 +1,20 @@
 -- What a replay shows, by the bytes of an image and the text of a trace.
-use Rattle.std.specs.Prelude.{◌≡◌, ◌⊎◌, ℕ, ◌+◌, List, [], Ok, Err, length, take}
+use Rattle.std.specs.Prelude.{◌≡◌, ◌⊎◌, ℕ, ◌+◌, true, List, [], Ok, Err, length, take}
 use mathlib.Core.Option.{some}
 use lib.ListN.{get_elem?}
 use Rattle.heap_image.specs.Encoding.{encoding, AreCounted}
 use Rattle.heap_layout.specs.Heap.{live, Heap, IsStored}
 use Rattle.page_plan.specs.Sliding.{pages}
 use Rattle.cell_steps.specs.Locks.{Journals}
-use Rattle.cell_steps.specs.Passes.{did, seen, KnowsFresh}
+use Rattle.cell_steps.specs.Passes.{did, number_of, seen, view_of, HasSeenBuilt, KnowsFresh}
 use Rattle.cell_steps.specs.Setup.{Setup}
 use Rattle.cell_steps.specs.declared.pass.Pass.{Pass}
+use Rattle.page_cells.specs.Calls.{Grows}
 use Rattle.page_cells.specs.Objects.{HasHeader}
 use Rattle.comp_history.specs.Merged.{written_by}
 use Rattle.call_refusals.specs.declared.refusal.Refusal.{Refusal}
 use Rattle.trace_steps.specs.Acting.{Refuses}
+use Rattle.trace_steps.specs.Builds.{is_built}
 use Rattle.trace_text.specs.Grammar.{trace_of, IsReadAs}
 use Rattle.comp_trace.specs.Runs.{beginning, Moment, Runs}
 use Rattle.trace_steps.specs.Lines.{with_entries}
@@ -33,8 +35,8 @@ pub record Shows (u : Setup) (text : List ℕ) (shown : List Shown) : Type 0 whe
   pub runs : Runs u no_entries 1 lines beginning end
   pub shown_is : shown ≡ end.shown
 
--- The text is a trace, whose run from no entries at all shows these values before the line of this number. The call of that line was refused to a mutator that knew
--- all entries, and all objects.
+-- The text is a trace, whose run from no entries at all shows these values before the line of this number. The call of that line was refused to the line's mutator of
+-- this very heap, which had done just what the run says of it, and knew all entries, all objects, and each page that was built. It wrote nothing, and forgot nothing.
 pub record ShowsUntil (u : Setup) (text : List ℕ) (shown : List Shown) (number : ℕ) (refusal : Refusal) : Type 0 where
   pub lines : List Line
   pub text_is : trace_of u.mutators (length u.heap.roots) text ≡ Ok lines
@@ -47,9 +49,14 @@ pub record ShowsUntil (u : Setup) (text : List ℕ) (shown : List Shown) (number
   pub shown_is : shown ≡ end.shown
   pub old : Pass
   pub new : Pass
+  pub numbered : number_of old ≡ line.mutator
+  pub about : (view_of old).about ≡ u
+  pub wrote_none : did new ≡ did old
   pub did : did old ≡ written_by line.mutator end.added
   pub knows : (p : ℕ) → seen old p ≡ with_entries no_entries end.added p
   pub starts : (p offset header : ℕ) → HasHeader (with_entries no_entries end.added p) offset header → KnowsFresh old p offset
+  pub built : (p : ℕ) → is_built end.built p ≡ true → HasSeenBuilt old p
+  pub grows : Grows old new
   pub refuses : Refuses u line.action (end.registers line.mutator) old new refusal
 
 -- the run stopped: before its first line, for want of memory, or at a refused line

@@ -2,9 +2,9 @@
 ghost use Rattle.std.specs.Prelude.{◌≡◌, ◌<◌, ◌≤◌, ◌+◌, length, replicate, vec_capacity, IfErr, IfOk, OnErr, OnOk};
 ghost use Rattle.comp_mutator.specs.Mutators.{setup_of};
 ghost use Rattle.trace_steps.specs.Acting.{null_registers, Fits};
-ghost use Rattle.trace_steps.specs.Deeds.{HaveStart};
+ghost use Rattle.trace_steps.specs.Deeds.{HaveSeenAll, HaveStart};
 ghost use Rattle.trace_steps.specs.AllMutators.{AreAll};
-ghost use Rattle.comp_trace.specs.Replays.{CannotGoOn, GoesOn, HaveReplayed, HaveStopped, IsRefusal};
+ghost use Rattle.comp_trace.specs.Replays.{CannotGoOn, GoesOn, HaveReplayed, HaveStopped, IsRefusal, RanNothing};
 ghost use Rattle.trace_steps.specs.Rounds.{AreLater, DidNothing};
 ghost use Rattle.trace_steps.specs.Traces.{AllFit, IsParsedFor};
 ghost use Rattle.trace_text.specs.Traces.{lines_of};
@@ -44,6 +44,7 @@ fn run_line<L: Ledger, B: Builder>(
     requires room { length shown.old.items < vec_capacity shown.old }
     ensures all { AreAll space.now mutators.new }
     ensures later { AreLater mutators.old mutators.new }
+    ensures seen { HaveSeenAll mutators.new }
     ensures start { HaveStart (setup_of space.now) mutators.old }
     ensures ran { OnOk result (GoesOn (setup_of space.now) line number mutators.old mutators.new registers.old registers.new shown.old.items shown.new.items) }
     ensures room { (vec_capacity shown.new ≡ vec_capacity shown.old) × (length shown.new.items ≤ length shown.old.items + 1) }
@@ -84,6 +85,8 @@ fn run_lines<L: Ledger, B: Builder>(
     requires all { AreAll space.now mutators.old }
     requires lines { AllFit (setup_of space.now) lines.now }
     ensures all { AreAll space.now mutators.new }
+    ensures later { AreLater mutators.old mutators.new }
+    ensures empty { length lines.now ≡ 0 → IfOk result (λ shown. RanNothing mutators.old mutators.new shown.items) }
     ensures start { 0 < length lines.now → OnOk result (HaveStart (setup_of space.now) mutators.old) }
     ensures started { IfErr result (λ stopped. IsRefusal stopped.fault → HaveStart (setup_of space.now) mutators.old) }
     ensures ran { IfOk result (λ shown. HaveReplayed (setup_of space.now) mutators.old mutators.new lines.now shown.items) }
@@ -128,6 +131,9 @@ fn run_lines<L: Ledger, B: Builder>(
 /// Runs the lines of a trace in their order by one thread, each call once. The mutators are all of the space's, in the order of their numbers. Before and after each
 /// line its mutator meets all others, so each line sees all that was done before it. The values are those that `get` lines show.
 ///
+/// What the mutators had seen, built and known does not shrink, whatever is answered. Once a line was run, each of them has seen all that was there at the start, and
+/// all that the run added. A trace without lines shows nothing, and leaves the mutators as they were.
+///
 /// Where a line's call is refused, the lines before it stand, and the fault is `Refused` with its number, counted from 1, and the cause. Room for all that the lines can
 /// show is asked for first: where it is refused, the fault is `OutOfMemory`, and no line has run.
 pub fn replay<L: Ledger, B: Builder>(
@@ -139,6 +145,8 @@ pub fn replay<L: Ledger, B: Builder>(
     requires all { AreAll space.now mutators.old.items }
     requires parsed { IsParsedFor (setup_of space.now) trace.now }
     ensures all { AreAll space.now mutators.new.items }
+    ensures later { AreLater mutators.old.items mutators.new.items }
+    ensures empty { length (lines_of trace.now) ≡ 0 → IfOk result (λ shown. RanNothing mutators.old.items mutators.new.items shown.items) }
     ensures start { 0 < length (lines_of trace.now) → OnOk result (HaveStart (setup_of space.now) mutators.old.items) }
     ensures started { IfErr result (λ stopped. IsRefusal stopped.fault → HaveStart (setup_of space.now) mutators.old.items) }
     ensures ran { IfOk result (λ shown. HaveReplayed (setup_of space.now) mutators.old.items mutators.new.items (lines_of trace.now) shown.items) }

@@ -1,7 +1,8 @@
-//! What callers conclude from the contracts of the calls of mutators and of the sweep, and from the laws, and from nothing else.
+//! What callers conclude from the contracts of the calls of mutators, of the sweep and of replays, and from the laws, and from nothing else.
 #![tactic(auto)]
 
 pub mod alone;
 pub mod copied;
 pub mod meetings;
+pub mod replayed;
 pub mod swept;

@@ -51,7 +51,7 @@ fn expect_rows(rt: &(impl Abort + AllocGlobal), rows: &[Row]) {
 }
 
 // Lines, and the tasks that they ask.
-static TASKS: [Row; 20] = [
+static TASKS: [Row; 21] = [
     ("plan three.img", "Plan { image: \"three.img\" }"),
     ("plan -- --help", "Plan { image: \"--help\" }"),
     (
@@ -77,6 +77,10 @@ static TASKS: [Row; 20] = [
     (
         "replay -- --fresh 0 1",
         "Replay(TraceRun { image: \"--fresh\", trace: \"0\", dump: \"1\", mutators: 2, fresh: 64 })",
+    ),
+    (
+        "race three.img t19 out",
+        "Race(TraceRun { image: \"three.img\", trace: \"t19\", dump: \"out\", mutators: 2, fresh: 64 })",
     ),
     (
         "race --mutators 1 --fresh 2 three.img t18 out",

@@ -65,6 +65,10 @@ module _ (table : Steps) (n i : ℕ) (inside : i < n) (first met acted last : �
       strangers = λ k le. none_last k p le;
     }
 
+    -- then all have seen just what they all did
+    pub seen_all : (journals : Journals) → AreMerged n (dids last) journals → (k p : ℕ) → k < n → seen (last k) p ≡ journals p
+    seen_all journals merged k p lt = all_seen k p lt ∙ merged_once n (dids last) p (seen (acted i) p) (journals p) (known_after p) (merged p)
+
     -- all that the mutators did before it
     pub known_before : ((k : ℕ) → k < n → k ≢ i → did (last k) ≡ did (first k)) → did (met i) ≡ did (first i) → AreMerged n (dids first) (seen (met i))
     known_before same mine p = record {

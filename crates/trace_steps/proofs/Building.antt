@@ -1,6 +1,6 @@
 -- Pages that a line touches, and who has built them.
 use Rattle.std.proofs.Common.{◌≡◌, ◌≢◌, ℕ, ◌<◌, ◌==◌, Bool, true, false, cond, List, [], ◌∷◌, ◌++◌, Option, Some, None, map, filter, refl, sym, ap, subst, ◌∙◌, arith, inl, inr, eqb-true, eq-eqb, ne_eqb}
-use Rattle.std.specs.Prelude.{◌⊎◌, ◌||◌, option_map, IfOk, OnOk, Result, Ok, Err}
+use Rattle.std.specs.Prelude.{◌⊎◌, ◌||◌, option_map}
 use Rattle.std.proofs.lemmas.List.{append-nil, map-append}
 use Rattle.std.proofs.lemmas.List.Elements.{filter-append}
 use Rattle.std.proofs.lemmas.List.Folds.{list_any-append}
@@ -19,7 +19,6 @@ use Rattle.page_cells.specs.Objects.{page_at}
 use Rattle.comp_access.specs.Allocations.{own_page, used, Allocates}
 use Rattle.comp_access.specs.Fields.{place_of}
 use Rattle.comp_access.specs.Reads.{BuildsNothing, BuildsPage, MayBuild, MayBuildTouched}
-use Rattle.call_refusals.specs.declared.refusal.Refusal.{Refusal}
 use Rattle.trace_steps.specs.Builds.{built_after, built_by, is_built, slid_page, BuildsTouched}
 use Rattle.trace_steps.specs.Rounds.{Met}
 
@@ -37,12 +36,6 @@ field_touched u old new kind object field (p, inr fresh, seen) =
     let page : ℕ → ℕ = λ header. page_at (place_of kind object header field) in
     let none = none_there (shape_at (live u.heap) object) (λ header is. fresh.0.0.apart (header, is)) in
     subst (λ (t : Option ℕ). BuildsTouched t old new) (sym (ap (option_map page) none)) fresh.1
-
--- the same of a call that answered, or was refused
-pub call_touched : (u : Setup) (old new : Pass) (kind : Kind) (object field : ℕ) (r : Result ℕ Refusal) → OnOk r (MayBuildTouched u old new kind object field)
-    → IfOk r (λ answer. BuildsTouched (slid_page u kind object field) old new)
-call_touched u old new kind object field (Ok answer) h = field_touched u old new kind object field h
-call_touched u old new kind object field (Err refusal) h = tt
 
 on_page : (p o : ℕ) → o < 64 → page_at (address p o) ≡ p
 on_page p o lt = omega (arith, lt)
@@ -98,10 +91,14 @@ is_built_more built m p q h = split (is_built built q) (sym (list_any-append (λ
 
 -- ---- passes by their numbers
 
+-- n passes have seen these pages built
+abbrev pub SeeTheirs : ℕ → (ℕ → Pass) → List (ℕ × ℕ) → Type 0
+SeeTheirs n passes built = (p k : ℕ) → is_built built p ≡ true → k < n → HasSeenBuilt (passes k) p
+
 -- n passes built just these pages, and all of them know it
 pub record BuiltTheirs (n : ℕ) (passes : ℕ → Pass) (built : List (ℕ × ℕ)) : Type 0 where
   pub own : (k : ℕ) → k < n → builds_of (passes k) ≡ built_by k built
-  pub known : (p k : ℕ) → is_built built p ≡ true → k < n → HasSeenBuilt (passes k) p
+  pub known : SeeTheirs n passes built
 
 -- there is a page that all of them have seen built, and that none of them built
 abbrev pub HaveStrange : ℕ → (ℕ → Pass) → Type 0
@@ -133,6 +130,18 @@ module _ (n i : ℕ) (inside : i < n) (first met acted last : ℕ → Pass) (bef
       known = λ p k there lt. kept k k p lt lt (h.known p k there lt);
     }
 
+    -- a page that was touched, all have seen built then
+    touch_seen : (p : ℕ) → HasSeenBuilt (acted i) p → (built : List (ℕ × ℕ)) → SeeTheirs n first built → SeeTheirs n last (built ++ (i, p) ∷ [])
+    touch_seen p seen built h q k there lt =
+        ⊎_elim (λ was. kept k k q lt lt (h q k was lt)) (λ is. subst (HasSeenBuilt (last k)) is (after.told_built k p lt seen)) (is_built_more built i p q there)
+
+    pub see_built_on : (page : Option ℕ) → BuildsTouched page (met i) (acted i) → (built : List (ℕ × ℕ)) → SeeTheirs n first built → SeeTheirs n last (built_after built i page)
+    see_built_on None same built h = λ p k there lt. kept k k p lt lt (h p k there lt)
+    see_built_on (Some p) call built h = elim (is_built built p) as (λ t. SeeTheirs n last (cond t built (built ++ (i, p) ∷ []))) [
+      | true ↦ λ q k there lt. kept k k q lt lt (h q k there lt)
+      | false ↦ touch_seen p call.1 built h
+    ]
+
     module _ (p : ℕ) (seen : HasSeenBuilt (acted i) p) (built : List (ℕ × ℕ)) (h : BuiltTheirs n first built) where
       -- the page was built now, for the first time
       one_more : BuildsPage p (met i) (acted i) → BuiltTheirs n last (built ++ (i, p) ∷ [])
@@ -142,7 +151,7 @@ module _ (n i : ℕ) (inside : i < n) (first met acted last : ℕ → Pass) (bef
             (builds_one p page ∙ ap (λ (l : List ℕ). l ++ p ∷ []) (h.own i inside) ∙ ap (λ (l : List ℕ). built_by i built ++ l) (sym (built_own i p)) ∙ sym (built_by_append i built ((i, p) ∷ []))))
             (λ not. builds_others k lt not ∙ h.own k lt ∙ sym (append-nil (built_by k built)) ∙ ap (λ (l : List ℕ). built_by k built ++ l) (sym (built_other k i p (λ is. not (sym is))))
             ∙ sym (built_by_append k built ((i, p) ∷ [])));
-        known = λ q k there lt. ⊎_elim (λ was. kept k k q lt lt (h.known q k was lt)) (λ is. subst (HasSeenBuilt (last k)) is (after.told_built k p lt seen)) (is_built_more built i p q there);
+        known = touch_seen p seen built h.known;
       }
 
       -- nobody had built the page, nor was it built now

@@ -28,7 +28,7 @@ use Rattle.trace_steps.specs.Rounds.{Advances, Learns, Met}
 use Rattle.trace_steps.specs.Lines.{used_by, with_entries, Acts, IsAboveAll, IsOneEntry, MakesObject, WritesField}
 use Rattle.trace_text.specs.declared.line.Action.{Action}
 use Rattle.trace_text.specs.declared.line.Action.TheVariants.{Root, Load, Get, Store, Put, New, Nil}
-use Rattle.trace_steps.proofs.BetweenRounds.{dids, known_before, reads_all, writes_all, IsCrew}
+use Rattle.trace_steps.proofs.BetweenRounds.{dids, known_before, reads_all, seen_all, writes_all, IsCrew}
 use Rattle.trace_steps.proofs.EarlierFields.{field_before}
 use Rattle.trace_steps.proofs.MadeObjects.{made_same, made_whose}
 use Rattle.trace_steps.proofs.Merging.{merged_by, merged_more, merged_once, merged_still, IsOneMore}
@@ -65,6 +65,11 @@ module _ (table : Steps) (n i : ℕ) (first met acted last : ℕ → Pass) (line
   reads_known same u kind object field word read journals merged =
       subst (λ (js : Journals). Reads u js kind object field word)
       (same_journals (seen (acted i)) journals (reads_all table n i line.inside first met acted last line.crew line.crew_met line.crew_last line.before line.after line.others line.learns.0.seen journals merged (same_deeds same))) read
+
+  -- after the line all have seen all that the mutators did
+  pub all_seen_last : (journals : Journals) → AreMerged n (dids last) journals → (k p : ℕ) → k < n → seen (last k) p ≡ journals p
+  all_seen_last journals merged k p lt =
+      seen_all table n i line.inside first met acted last line.crew line.crew_met line.crew_last line.before line.after line.others line.learns.0.seen journals merged k p lt
 
   -- only mutator i acts
   pub others_same : (k : ℕ) → k < n → k ≢ i → did (last k) ≡ did (first k)

@@ -16,14 +16,14 @@ use Rattle.comp_history.specs.Merged.{written_by}
 use Rattle.comp_mutator.specs.Mutators.{cells_of, pass_of, setup_of, AreMutatorsOf}
 use Rattle.comp_mutator.specs.declared.mutator.Mutator.{Mutator}
 use Rattle.comp_mutator.specs.declared.space.Space.{Space}
-use Rattle.trace_steps.specs.Builds.{built_by, HaveBuilt}
+use Rattle.trace_steps.specs.Builds.{built_by, HaveBuilt, HaveSeenBuilt}
 use Rattle.trace_steps.specs.Deeds.{deeds_of, AreMerged, Deeds, HaveAll}
 use Rattle.trace_steps.specs.Lines.{with_entries}
 use Rattle.trace_steps.specs.AllMutators.{AreAll}
 use Rattle.trace_steps.specs.Rounds.{row, Advances, AreLater, DidNothing, Learns}
 use Rattle.trace_text.specs.declared.line.Action.{Action}
 use Rattle.trace_steps.proofs.BetweenRounds.{dids, IsCrew}
-use Rattle.trace_steps.proofs.Building.{BuiltTheirs, HaveStrange}
+use Rattle.trace_steps.proofs.Building.{BuiltTheirs, HaveStrange, SeeTheirs}
 use Rattle.trace_steps.proofs.Merging.{merged_by}
 use Rattle.trace_steps.proofs.Elements.{at_or}
 
@@ -89,12 +89,19 @@ later_by old new d long h = record {
 pub nothing_by : {L : Type 0} (old new : List (Mutator L)) (d : Mutator L) → length new ≡ length old → ((k : ℕ) → k < length old → did (row d new k) ≡ did (row d old k)) → DidNothing old new
 nothing_by old new d long h k lt = deeds_at new d k (omega (arith, lt, long)) ∙ h k lt ∙ sym (deeds_at old d k lt)
 
+-- what all have seen built, by places
+pub rows_seen_built : {L : Type 0} (mutators : List (Mutator L)) (d : Mutator L) (built : List (ℕ × ℕ)) → HaveSeenBuilt mutators built → SeeTheirs (length mutators) (row d mutators) built
+rows_seen_built mutators d built h = λ p k there lt. h p there k (get_or mutators k d) (at_or mutators k d lt)
+
+pub have_seen_built : {L : Type 0} (mutators : List (Mutator L)) (d : Mutator L) (built : List (ℕ × ℕ)) → SeeTheirs (length mutators) (row d mutators) built → HaveSeenBuilt mutators built
+have_seen_built mutators d built h = λ p there k m at. subst (λ (x : Pass). HasSeenBuilt x p) (row_at mutators d m k at) (h p k there (is_inside mutators k m at))
+
 -- what was built, by places
 pub rows_built : {L : Type 0} (mutators : List (Mutator L)) (d : Mutator L) (built : List (ℕ × ℕ)) → HaveBuilt mutators built
     → BuiltTheirs (length mutators) (row d mutators) built ⊎ HaveStrange (length mutators) (row d mutators)
 rows_built mutators d built (inl h) = inl (record {
   own = λ k lt. h.own k (get_or mutators k d) (at_or mutators k d lt);
-  known = λ p k there lt. h.known p there k (get_or mutators k d) (at_or mutators k d lt);
+  known = rows_seen_built mutators d built h.known;
 })
 rows_built mutators d built (inr (p, h)) = inr (p, λ k lt. h k (get_or mutators k d) (at_or mutators k d lt))
 
@@ -102,7 +109,7 @@ pub have_built : {L : Type 0} (mutators : List (Mutator L)) (d : Mutator L) (bui
     → HaveBuilt mutators built
 have_built mutators d built (inl h) = inl (record {
   own = λ k m at. subst (λ (x : Pass). builds_of x ≡ built_by k built) (row_at mutators d m k at) (h.own k (is_inside mutators k m at));
-  known = λ p there k m at. subst (λ (x : Pass). HasSeenBuilt x p) (row_at mutators d m k at) (h.known p k there (is_inside mutators k m at));
+  known = have_seen_built mutators d built h.known;
 })
 have_built mutators d built (inr (p, h)) =
     inr (p, λ k m at. subst (λ (x : Pass). HasSeenBuilt x p × (times p (builds_of x) ≡ 0)) (row_at mutators d m k at) (h k (is_inside mutators k m at)))

@@ -8,6 +8,7 @@ use Rattle.cell_steps.specs.Locks.{Journals}
 use Rattle.cell_steps.specs.Passes.{did, number_of, seen}
 use Rattle.cell_steps.specs.Setup.{Setup}
 use Rattle.cell_steps.specs.declared.pass.Pass.{Pass}
+use Rattle.cell_steps.proofs.Sums.{is_inside}
 use Rattle.page_cells.specs.Calls.{Grows}
 use Rattle.page_cells.specs.Cells.{steps_of}
 use Rattle.comp_mutator.specs.Mutators.{cells_of, pass_of, setup_of, AreMutatorsOf}
@@ -15,16 +16,16 @@ use Rattle.comp_mutator.specs.declared.mutator.Mutator.{Mutator}
 use Rattle.call_refusals.specs.declared.refusal.Refusal.{Refusal}
 use Rattle.comp_mutator.specs.declared.space.Space.{Space}
 use Rattle.trace_steps.specs.Acting.{Answers, Refuses}
-use Rattle.trace_steps.specs.Builds.{built_after, BuildOn, BuildsTouched}
-use Rattle.trace_steps.specs.Deeds.{deeds_of, HaveAll, HaveStart}
+use Rattle.trace_steps.specs.Builds.{built_after, BuildOn, BuildsTouched, SeeBuiltOn}
+use Rattle.trace_steps.specs.Deeds.{deeds_of, AreMerged, HaveAll, HaveSeenAll, HaveStart}
 use Rattle.trace_steps.specs.AllMutators.{AreAll}
 use Rattle.trace_steps.specs.Rounds.{row, AreLater, DidNothing, HasMetAll, IsTurnedDown, Learns, Met, RanLine}
 use Rattle.trace_text.specs.declared.line.Action.{Action}
 use Rattle.trace_steps.proofs.BetweenRounds.{dids, IsCrew}
-use Rattle.trace_steps.proofs.Building.{builds_on, BuiltTheirs, HaveStrange}
-use Rattle.trace_steps.proofs.LineRuns.{advances, known, knows, knows_starts, learnt, same_deeds, IsBetween}
+use Rattle.trace_steps.proofs.Building.{builds_on, see_built_on, BuiltTheirs, HaveStrange, SeeTheirs}
+use Rattle.trace_steps.proofs.LineRuns.{advances, all_seen_last, known, knows, knows_starts, learnt, same_deeds, IsBetween}
 use Rattle.trace_steps.proofs.Elements.{at_or}
-use Rattle.trace_steps.proofs.RowLists.{advances_by, all_later, crew_later, crew_of, deeds_at, have_all, have_built, later_by, nothing_by, row_at, rows_built, rows_have}
+use Rattle.trace_steps.proofs.RowLists.{advances_by, all_later, crew_later, crew_of, deeds_at, have_all, have_built, have_seen_built, later_by, nothing_by, row_at, rows_built, rows_have, rows_seen_built}
 
 module _ {L : Type 0} {B : Type 0} {g : Ghosts B} (space : Space L B g) (i : ℕ) (first met last : List (Mutator L)) (m new : Mutator L)
     (all : AreAll space first) (inside : i < length first) (is : m ≡ get_or met i m)
@@ -91,6 +92,11 @@ module _ {L : Type 0} {B : Type 0} {g : Ghosts B} (space : Space L B g) (i : ℕ
     pub later_last : AreLater first last
     later_last = later_by first last m long (learnt _ n i _ _ _ _ line)
 
+    pub seen_last : HaveSeenAll last
+    seen_last journals have k x at p =
+        let merged : AreMerged n (dids (row m last)) journals = subst (λ (c : ℕ). AreMerged c (dids (row m last)) journals) long (rows_have last m journals have) in
+        subst (λ (y : Pass). seen y p ≡ journals p) (row_at last m x k at) (all_seen_last _ n i _ _ _ _ line journals merged k p (omega (arith, is_inside last k x at, long)))
+
     pub has_start : HaveStart u first
     has_start = (seen (row m met i), have_all first m (seen (row m met i)) (known _ n i _ _ _ _ line), λ p. ((line.crew_met.works i inside).remembers p).lawful)
 
@@ -113,6 +119,12 @@ module _ {L : Type 0} {B : Type 0} {g : Ghosts B} (space : Space L B g) (i : ℕ
         (subst (λ (x : Pass). BuildsTouched page (row m met i) x) (sym acted_is) touched) built (rows_built first m built have) in
         have_built last m (built_after built i page) (subst (λ (k : ℕ). BuiltTheirs k (row m last) (built_after built i page) ⊎ HaveStrange k (row m last)) (sym long) then)
 
+    pub see_built_last : (page : Option ℕ) → BuildsTouched page (pass_of (get_or met i m)) (pass_of new) → SeeBuiltOn i page first last
+    see_built_last page touched built have =
+        let then = see_built_on n i inside (row m first) (row m met) (row m acted) (row m last) line.before line.after call.0 others page
+        (subst (λ (x : Pass). BuildsTouched page (row m met i) x) (sym acted_is) touched) built (rows_seen_built first m built have) in
+        have_seen_built last m (built_after built i page) (subst (λ (k : ℕ). SeeTheirs k (row m last) (built_after built i page)) (sym long) then)
+
     pub was_turned_down : (action : Action) (registers : List ℕ) (refusal : Refusal) → did (pass_of new) ≡ did (pass_of (get_or met i m))
         → Refuses u action registers (pass_of (get_or met i m)) (pass_of new) refusal → (journals : Journals) → HaveAll first journals → IsTurnedDown u i first last journals action registers refusal
     was_turned_down action registers refusal same h journals have =
@@ -121,6 +133,7 @@ module _ {L : Type 0} {B : Type 0} {g : Ghosts B} (space : Space L B g) (i : ℕ
           old = row m met i;
           new = row m acted i;
           began = λ x at. subst (λ (y : Pass). Grows y (row m met i)) (row_at first m x i at) ((before m).grows i inside);
+          wrote_none = did_same same;
           did = sym (did_same same) ∙ sym (second.did i inside) ∙ sym (deeds_at last m i (omega (arith, inside, long)));
           knows = knows _ n i _ _ _ _ line journals merged;
           starts = λ made p offset header at. knows_starts _ n i _ _ _ _ line u journals merged (λ k lt. made k (get_or first k m) (at_or first k m lt)) p offset header at;

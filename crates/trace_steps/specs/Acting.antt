@@ -14,6 +14,7 @@ use Rattle.comp_access.specs.Writes.{DataRefused, ReferenceRefused, Writes}
 use Rattle.call_refusals.specs.declared.refusal.Refusal.{Refusal}
 use Rattle.trace_text.specs.declared.line.Action.{Action}
 use Rattle.trace_text.specs.declared.line.Action.TheVariants.{Root, Load, Get, Store, Put, New, Nil}
+use Rattle.trace_steps.specs.Builds.{touched, BuildsTouched}
 use Rattle.trace_steps.specs.declared.shown.Shown.{Shown}
 
 -- the line's registers are there, and its root is
@@ -74,7 +75,9 @@ Refuses u (Put object field value) registers old new refusal = DataRefused u old
 Refuses u (New to refs data_words tag) registers old new refusal = AllocationRefused u old new (size_of (header_word refs data_words tag)) refusal
 Refuses u (Nil to) registers old new refusal = ⊥
 
--- One line ran well. What the mutator had seen is a beginning of what it has then seen.
+-- One line ran well. What the mutator had seen is a beginning of what it has then seen. It built no page but the one that the line touched, and has then seen that
+-- one built.
 pub record Steps (u : Setup) (action : Action) (registers : List ℕ) (old new : Pass) (answer : ℕ) : Type 0 where
   pub grows : Grows old new
   pub answers : Answers u action registers old new answer
+  pub builds : BuildsTouched (touched u action registers answer) old new

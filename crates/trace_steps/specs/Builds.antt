@@ -51,10 +51,14 @@ abbrev pub BuildsTouched : Option ℕ → Pass → Pass → Type 0
 BuildsTouched None old new = BuildsNothing old new
 BuildsTouched (Some p) old new = MayBuild p old new × HasSeenBuilt new p
 
+-- all of them have seen these pages built
+abbrev pub HaveSeenBuilt : {L : Type 0} → List (Mutator L) → List (ℕ × ℕ) → Type 0
+HaveSeenBuilt {L} mutators built = (p : ℕ) → is_built built p ≡ true → Each mutators (λ (m : Mutator L). HasSeenBuilt (pass_of m) p)
+
 -- The mutators built just these pages, each its own in this order, and all of them know it.
 pub record BuiltJust {L : Type 0} (mutators : List (Mutator L)) (built : List (ℕ × ℕ)) : Type 0 where
   pub own : (k : ℕ) (m : Mutator L) → get_elem? mutators k ≡ some m → builds_of (pass_of m) ≡ built_by k built
-  pub known : (p : ℕ) → is_built built p ≡ true → Each mutators (λ (m : Mutator L). HasSeenBuilt (pass_of m) p)
+  pub known : HaveSeenBuilt mutators built
 
 -- there is a page that all of them have seen built, and that none of them built: where the mutators are all of a space's, it has none such in the end
 abbrev pub HaveStrangePage : {L : Type 0} → List (Mutator L) → Type 0
@@ -67,3 +71,7 @@ HaveBuilt mutators built = BuiltJust mutators built ⊎ HaveStrangePage mutators
 -- the mutator at place i touched this page
 abbrev pub BuildOn : {L : Type 0} → ℕ → Option ℕ → List (Mutator L) → List (Mutator L) → Type 0
 BuildOn i page before after = (built : List (ℕ × ℕ)) → HaveBuilt before built → HaveBuilt after (built_after built i page)
+
+-- the same of what all of them have seen built, whoever built it
+abbrev pub SeeBuiltOn : {L : Type 0} → ℕ → Option ℕ → List (Mutator L) → List (Mutator L) → Type 0
+SeeBuiltOn i page before after = (built : List (ℕ × ℕ)) → HaveSeenBuilt before built → HaveSeenBuilt after (built_after built i page)

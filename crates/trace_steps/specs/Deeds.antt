@@ -5,7 +5,7 @@ use Rattle.cell_steps.specs.Setup.{Setup}
 use Rattle.cell_steps.specs.Lawful.{IsLawful}
 use Rattle.cell_steps.specs.Lists.{by, on, Each, Rises}
 use Rattle.cell_steps.specs.Locks.{Journals}
-use Rattle.cell_steps.specs.Passes.{did, KnowsFresh}
+use Rattle.cell_steps.specs.Passes.{did, seen, KnowsFresh}
 use Rattle.cell_steps.specs.declared.pass.Pass.{Pass}
 use Rattle.page_cells.specs.Objects.{HasHeader}
 use Rattle.comp_mutator.specs.Mutators.{pass_of}
@@ -33,6 +33,14 @@ AreMerged n deeds journals = (p : ℕ) → IsMerged n deeds p (journals p)
 -- the journals have just what these mutators did
 abbrev pub HaveAll : {L : Type 0} → List (Mutator L) → Journals → Type 0
 HaveAll mutators journals = AreMerged (length mutators) (deeds_of mutators) journals
+
+-- each of these mutators has seen these journals, and no more
+abbrev pub HaveSeen : {L : Type 0} → List (Mutator L) → Journals → Type 0
+HaveSeen {L} mutators journals = Each mutators (λ (m : Mutator L). (p : ℕ) → seen (pass_of m) p ≡ journals p)
+
+-- each of these mutators has seen all that they did, and nothing else
+abbrev pub HaveSeenAll : {L : Type 0} → List (Mutator L) → Type 0
+HaveSeenAll mutators = (journals : Journals) → HaveAll mutators journals → HaveSeen mutators journals
 
 -- there are lawful journals that have just what these mutators did
 abbrev pub HaveStart : {L : Type 0} → Setup → List (Mutator L) → Type 0

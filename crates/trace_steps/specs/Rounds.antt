@@ -81,7 +81,8 @@ pub record IsTurnedDown {L : Type 0} (u : Setup) (i : ℕ) (before after : List 
   pub old : Pass
   pub new : Pass
   pub began : (m : Mutator L) → get_elem? before i ≡ some m → Grows (pass_of m) old
-  -- it wrote nothing since
+  -- it wrote nothing in the call, nor since
+  pub wrote_none : did new ≡ did old
   pub did : did old ≡ deeds_of after i
   pub knows : (p : ℕ) → seen old p ≡ journals p
   -- and each object that was made, where each mutator knew what it made

@@ -4,7 +4,6 @@ ghost use Rattle.cell_steps.specs.Passes.{did};
 ghost use Rattle.page_cells.specs.Calls.{Grows};
 ghost use Rattle.comp_mutator.specs.Mutators.{pass_of, setup_of, IsMutatorOf};
 ghost use Rattle.trace_steps.specs.Acting.{registers_after, Fits, Refuses, Steps};
-ghost use Rattle.trace_steps.specs.Builds.{touched, BuildsTouched};
 
 use crate::registers::{held, root_at};
 use call_refusals::refusal::Refusal;
@@ -27,7 +26,6 @@ pub(crate) fn act<L: Ledger, B: Builder>(
     requires fits { Fits (setup_of space.now) action }
     ensures of { IsMutatorOf space.now m.new }
     ensures went { IfOk result (Steps (setup_of space.now) action registers.old (pass_of m.old) (pass_of m.new)) }
-    ensures builds { IfOk result (λ answer. BuildsTouched (touched (setup_of space.now) action registers.old answer) (pass_of m.old) (pass_of m.new)) }
     ensures registers { IfOk result (λ answer. registers.new ≡ registers_after action registers.old answer) }
     ensures grows { OnErr result (Grows (pass_of m.old) (pass_of m.new)) }
     ensures did { OnErr result ((did (pass_of m.new) ≡ did (pass_of m.old)) × (registers.new ≡ registers.old)) }

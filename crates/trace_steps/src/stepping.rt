@@ -2,8 +2,8 @@
 ghost use Rattle.std.specs.Prelude.{◌≡◌, ◌≢◌, ◌<◌, length, IfErr, IfOk, OnErr};
 ghost use Rattle.comp_mutator.specs.Mutators.{setup_of, AreMutatorsOf};
 ghost use Rattle.trace_steps.specs.Acting.{registers_after, Fits};
-ghost use Rattle.trace_steps.specs.Builds.{touched, BuildOn};
-ghost use Rattle.trace_steps.specs.Deeds.{HaveStart};
+ghost use Rattle.trace_steps.specs.Builds.{touched, BuildOn, SeeBuiltOn};
+ghost use Rattle.trace_steps.specs.Deeds.{HaveSeenAll, HaveStart};
 ghost use Rattle.trace_steps.specs.AllMutators.{AreAll};
 ghost use Rattle.trace_steps.specs.Rounds.{AreLater, DidNothing, HasMetAll, HaveMet, RanLine, WasTurnedDown};
 
@@ -66,11 +66,13 @@ pub fn step<L: Ledger, B: Builder>(
     requires fits { Fits (setup_of space.now) action }
     ensures all { AreAll space.now mutators.new }
     ensures later { AreLater mutators.old mutators.new }
+    ensures seen { HaveSeenAll mutators.new }
     ensures start { HaveStart (setup_of space.now) mutators.old }
     ensures did { OnErr result (DidNothing mutators.old mutators.new) }
     ensures kept { OnErr result (registers.new ≡ registers.old) }
     ensures registers { IfOk result (λ answer. registers.new ≡ registers_after action registers.old answer) }
     ensures builds { IfOk result (λ answer. BuildOn i (touched (setup_of space.now) action registers.old answer) mutators.old mutators.new) }
+    ensures built { IfOk result (λ answer. SeeBuiltOn i (touched (setup_of space.now) action registers.old answer) mutators.old mutators.new) }
     ensures ran { IfOk result (RanLine (setup_of space.now) i mutators.old mutators.new action registers.old) }
     ensures refused { IfErr result (WasTurnedDown (setup_of space.now) i mutators.old mutators.new action registers.old) }
 {

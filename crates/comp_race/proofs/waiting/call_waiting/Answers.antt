@@ -14,12 +14,12 @@ use Rattle.comp_race.proofs.waiting.call_waiting.Goals as goal
 pub returns-in-Root-clause-went : goal.returns-in-Root-clause-went
 returns-in-Root-clause-went g c =
     let old = pass_of c.args.m.now in
-    subst (λ (a : Action). Steps (setup_of c.args.space.now) a c.args.registers.now old old c.root_at.result) (sym c.in-Root.is) (record { grows = grows_none old; answers = (refl, c.root_at.ensures) })
+    subst (λ (a : Action). Steps (setup_of c.args.space.now) a c.args.registers.now old old c.root_at.result) (sym c.in-Root.is) (record { grows = grows_none old; answers = (refl, c.root_at.ensures); builds = refl })
 
 pub returns-in-Nil-clause-went : goal.returns-in-Nil-clause-went
 returns-in-Nil-clause-went g c =
     let old = pass_of c.args.m.now in
-    subst (λ (a : Action). Steps (setup_of c.args.space.now) a c.args.registers.now old old 0) (sym c.in-Nil.is) (record { grows = grows_none old; answers = (refl, refl) })
+    subst (λ (a : Action). Steps (setup_of c.args.space.now) a c.args.registers.now old old 0) (sym c.in-Nil.is) (record { grows = grows_none old; answers = (refl, refl); builds = refl })
 
 pub returns-in-Load-clause-went : goal.returns-in-Load-clause-went
 returns-in-Load-clause-went g c =
@@ -27,7 +27,8 @@ returns-in-Load-clause-went g c =
     let old = pass_of c.args.m.now in
     let new = pass_of c.read_ref.new.m in
     subst (λ (a : Action). IfOk c.read_ref.result (Steps u a c.args.registers.now old new)) (sym c.in-Load.is)
-    (loaded u _ c.in-Load.object c.in-Load.field c.args.registers.now old new c.held.result c.read_ref.result c.held.ensures c.read_ref.ensures.grows c.read_ref.ensures.read c.read_ref.ensures.known)
+    (loaded u _ c.in-Load.object c.in-Load.field c.args.registers.now old new c.held.result c.read_ref.result c.held.ensures c.read_ref.ensures.grows c.read_ref.ensures.read c.read_ref.ensures.known
+    c.read_ref.ensures.builds)
 
 pub returns-in-Get-clause-went : goal.returns-in-Get-clause-went
 returns-in-Get-clause-went g c =
@@ -35,7 +36,8 @@ returns-in-Get-clause-went g c =
     let old = pass_of c.args.m.now in
     let new = pass_of c.read_data.new.m in
     subst (λ (a : Action). IfOk c.read_data.result (Steps u a c.args.registers.now old new)) (sym c.in-Get.is)
-    (got u c.in-Get.object c.in-Get.field c.args.registers.now old new c.held-in-Get.result c.read_data.result c.held-in-Get.ensures c.read_data.ensures.grows c.read_data.ensures.read)
+    (got u c.in-Get.object c.in-Get.field c.args.registers.now old new c.held-in-Get.result c.read_data.result c.held-in-Get.ensures c.read_data.ensures.grows c.read_data.ensures.read
+    c.read_data.ensures.builds)
 
 pub returns-in-Store-clause-went : goal.returns-in-Store-clause-went
 returns-in-Store-clause-went g c =
@@ -44,7 +46,7 @@ returns-in-Store-clause-went g c =
     let new = pass_of c.write_ref.new.m in
     subst (λ (a : Action). IfOk c.write_ref.result (Steps u a c.args.registers.now old new)) (sym c.in-Store.is)
     (stored u c.in-Store.object c.in-Store.field c.in-Store.value c.args.registers.now old new c.held-in-Store.result c.held-value.result c.write_ref.result c.held-in-Store.ensures c.held-value.ensures
-    c.write_ref.ensures.grows c.write_ref.ensures.wrote c.write_ref.ensures.target)
+    c.write_ref.ensures.grows c.write_ref.ensures.wrote c.write_ref.ensures.target c.write_ref.ensures.builds)
 
 pub returns-in-Put-clause-went : goal.returns-in-Put-clause-went
 returns-in-Put-clause-went g c =
@@ -52,7 +54,8 @@ returns-in-Put-clause-went g c =
     let old = pass_of c.args.m.now in
     let new = pass_of c.write_data.new.m in
     subst (λ (a : Action). IfOk c.write_data.result (Steps u a c.args.registers.now old new)) (sym c.in-Put.is)
-    (put u c.in-Put.object c.in-Put.field c.in-Put.value c.args.registers.now old new c.held-in-Put.result c.write_data.result c.held-in-Put.ensures c.write_data.ensures.grows c.write_data.ensures.wrote)
+    (put u c.in-Put.object c.in-Put.field c.in-Put.value c.args.registers.now old new c.held-in-Put.result c.write_data.result c.held-in-Put.ensures c.write_data.ensures.grows c.write_data.ensures.wrote
+    c.write_data.ensures.builds)
 
 pub returns-in-New-clause-went : goal.returns-in-New-clause-went
 returns-in-New-clause-went g c =

@@ -1,10 +1,11 @@
-use Rattle.std.proofs.Common.{◌<◌, List, length, sym, ap, subst, arith}
+use Rattle.std.proofs.Common.{◌≡◌, ◌<◌, List, length, sym, ap, subst, arith}
 use Rattle.std.specs.Prelude.{IfErr, IfOk, OnOk}
 use Rattle.comp_mutator.specs.Mutators.{setup_of}
 use Rattle.comp_mutator.specs.declared.mutator.Mutator.{Mutator}
 use Rattle.trace_steps.specs.Deeds.{HaveStart}
 use Rattle.trace_steps.specs.AllMutators.{AreAll}
-use Rattle.comp_trace.specs.Replays.{HaveReplayed, HaveStopped, IsRefusal}
+use Rattle.trace_steps.specs.Rounds.{AreLater}
+use Rattle.comp_trace.specs.Replays.{HaveReplayed, HaveStopped, IsRefusal, RanNothing}
 use Rattle.trace_steps.specs.Traces.{AllFit}
 use Rattle.trace_text.specs.declared.line.Line.{Line}
 use Rattle.trace_steps.proofs.Fitting.{lines_fit}
@@ -58,3 +59,19 @@ returns-clause-stopped g c =
     let Says : List (Mutator g.row.L.Denot) → List (Mutator g.row.L.Denot) → List Line → Type 0 = λ olds news ls. IfErr c.run_lines.result (λ stopped. HaveStopped u olds news ls stopped.shown.items stopped.fault) in
     subst (λ (l : List (Mutator g.row.L.Denot)). Says old.items l c.args.trace.now.lines.items) (sym back)
     (subst (λ (ls : List Line). Says old.items new ls) c.lines.ensures.lines (subst (λ (l : List (Mutator g.row.L.Denot)). Says l new c.lines.result.now) c.deref_mut.ensures.value c.run_lines.ensures.stopped))
+
+pub returns-clause-later : goal.returns-clause-later
+returns-clause-later g c =
+    let new = c.run_lines.new.mutators in
+    let old = c.args.mutators.now in
+    let back = written_back old.len new old.items (omega (arith, c.run_lines.auto.mutators, ap length c.deref_mut.ensures.value, old.ok.0)) in
+    subst (λ (l : List (Mutator g.row.L.Denot)). AreLater old.items l) (sym back) (subst (λ (l : List (Mutator g.row.L.Denot)). AreLater l new) c.deref_mut.ensures.value c.run_lines.ensures.later)
+
+pub returns-clause-empty : goal.returns-clause-empty
+returns-clause-empty g c =
+    let new = c.run_lines.new.mutators in
+    let old = c.args.mutators.now in
+    let back = written_back old.len new old.items (omega (arith, c.run_lines.auto.mutators, ap length c.deref_mut.ensures.value, old.ok.0)) in
+    let Says : List (Mutator g.row.L.Denot) → List (Mutator g.row.L.Denot) → List Line → Type 0 = λ olds news ls. length ls ≡ 0 → IfOk c.run_lines.result (λ shown. RanNothing olds news shown.items) in
+    subst (λ (l : List (Mutator g.row.L.Denot)). Says old.items l c.args.trace.now.lines.items) (sym back)
+    (subst (λ (ls : List Line). Says old.items new ls) c.lines.ensures.lines (subst (λ (l : List (Mutator g.row.L.Denot)). Says l new c.lines.result.now) c.deref_mut.ensures.value c.run_lines.ensures.empty))

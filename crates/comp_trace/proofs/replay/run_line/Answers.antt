@@ -12,7 +12,7 @@ pub returns-in-Ok-clause-ran : goal.returns-in-Ok-clause-ran
 returns-in-Ok-clause-ran g c =
     let e = c.in-Ok.ensures in
     goes_on (setup_of c.args.space.now) c.args.mutators.now c.step-answer.new.mutators c.args.line c.args.registers.now _ c.from-i.result c.from-i.ensures c.requires.line.0 c.requires.wide refl
-    c.args.number c.in-Ok.value c.step-answer.new.registers c.args.shown.now.items c.show.new.shown.items e.ran e.registers c.show.ensures.shown e.builds
+    c.args.number c.in-Ok.value c.step-answer.new.registers c.args.shown.now.items c.show.new.shown.items e.ran e.registers c.show.ensures.shown e.builds e.built
 
 pub returns-in-Ok-clause-room : goal.returns-in-Ok-clause-room
 returns-in-Ok-clause-room g c =

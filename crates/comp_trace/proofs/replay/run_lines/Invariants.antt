@@ -1,9 +1,10 @@
 use Rattle.std.proofs.Common.{◌≡◌, ◌<◌, ◌≤◌, length, take, vec_capacity}
 use Rattle.cell_steps.specs.Locks.{Journals}
 use Rattle.comp_mutator.specs.Mutators.{setup_of}
-use Rattle.trace_steps.specs.Deeds.{deeds_of, HaveAll, HaveStart}
+use Rattle.trace_steps.specs.Builds.{HaveSeenBuilt}
+use Rattle.trace_steps.specs.Deeds.{deeds_of, HaveAll, HaveSeenAll, HaveStart}
 use Rattle.trace_steps.specs.AllMutators.{AreAll}
-use Rattle.comp_trace.specs.Replays.{BuiltTo, StandsAt}
+use Rattle.comp_trace.specs.Replays.{BuiltTo, RanNothing, StandsAt}
 use Rattle.trace_steps.specs.Rounds.{AreLater, DidNothing}
 use Rattle.comp_trace.specs.Runs.{Moment}
 use Rattle.comp_trace.proofs.replay.run_lines.Given as goal
@@ -18,5 +19,7 @@ invariant-loop-j g l = record {
   room : (length l.shown.items ≤ l.j) × (length l.lines ≤ vec_capacity l.shown);
   stands : (start : Journals) → HaveAll l.fn.mutators start
       → (now : Moment) × StandsAt (setup_of l.space) (length l.fn.mutators) start (deeds_of l.fn.mutators) (deeds_of l.mutators) (take l.j l.lines) l.registers.items l.shown.items now
-      × BuiltTo l.fn.mutators l.mutators now;
+      × BuiltTo l.fn.mutators l.mutators now × HaveSeenBuilt l.mutators now.built;
+  empty : length l.lines ≡ 0 → RanNothing l.fn.mutators l.mutators l.shown.items;
+  seen : 0 < l.j → HaveSeenAll l.mutators;
 }

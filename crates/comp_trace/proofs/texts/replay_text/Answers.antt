@@ -3,7 +3,7 @@ use Rattle.std.proofs.lemmas.Result.{IfErr-weaker, IfOk-weaker}
 use Rattle.comp_mutator.specs.Mutators.{setup_of}
 use Rattle.trace_text.specs.Grammar.{trace_of, IsReadAs}
 use Rattle.trace_text.specs.declared.line.Line.{Line}
-use Rattle.comp_trace.proofs.Bytes.{interrupts_of, shows_of}
+use Rattle.comp_trace.proofs.Bytes.{are_of, interrupts_of, shows_of}
 use Rattle.comp_trace.proofs.texts.replay_text.Goals as goal
 
 pub returns-in-Ok-clause-shows : goal.returns-in-Ok-clause-shows
@@ -21,7 +21,7 @@ returns-in-Ok-clause-stopped g c =
     let u = setup_of c.args.space.now in
     let lines = c.in-Ok.trace.lines.items in
     IfErr-weaker c.replay.result _ _
-    (λ stopped h. inr (interrupts_of u c.args.mutators.now.items c.replay.new.mutators.items c.args.text.now lines stopped.shown.items stopped.fault c.requires.all.count c.requires.new
+    (λ stopped h. inr (interrupts_of u c.args.mutators.now.items c.replay.new.mutators.items c.args.text.now lines stopped.shown.items stopped.fault (are_of c.args.space.now c.args.mutators.now.items c.requires.all) c.requires.new
     (subst (λ (m : ℕ). trace_of m (length u.heap.roots) c.args.text.now ≡ Ok lines) c.requires.counts.0
     (subst (λ (r : ℕ). trace_of c.args.count r c.args.text.now ≡ Ok lines) c.requires.counts.1 c.in-Ok.ensures.lines)) h))
     c.replay.ensures.stopped

@@ -1,6 +1,5 @@
 use Rattle.std.proofs.Common.{◌≡◌, ◌<◌, ◌∙◌, Ok, IfErr, IfOk, ℕ, ap, get_or, refl, set, sym, subst}
 use Rattle.std.proofs.lemmas.Result.{IfOk-from_err, on_err_weaker}
-use Rattle.heap_layout.specs.Header.{header_word}
 use Rattle.heap_layout.specs.declared.kind.Kind.TheVariants.{Reference, Data}
 use Rattle.cell_steps.specs.Passes.{did}
 use Rattle.page_cells.specs.Calls.{Grows}
@@ -8,10 +7,8 @@ use Rattle.comp_access.specs.Reads.{FieldRefused}
 use Rattle.comp_access.specs.Writes.{DataRefused, ReferenceRefused}
 use Rattle.comp_access.proofs.Answering.{err_anyway}
 use Rattle.trace_steps.specs.Acting.{registers_after, Fits, Refuses, Steps}
-use Rattle.trace_steps.specs.Builds.{slid_page, touched, BuildsTouched}
 use Rattle.trace_text.specs.declared.line.Action.{Action}
 use Rattle.comp_mutator.specs.Mutators.{pass_of, setup_of}
-use Rattle.trace_steps.proofs.Building.{call_touched, field_touched, made_touched}
 use Rattle.trace_steps.proofs.OneLine.{got, loaded, made, nulled, on_err, on_ok, put, rooted, stored}
 use Rattle.trace_steps.proofs.acting.act.Goals as goal
 
@@ -33,7 +30,6 @@ returns-in-Root g c =
     record {
       of = c.requires.of;
       went = subst (λ (a : Action). Steps u a registers old old place) is (rooted u c.in-Root.to c.in-Root.root registers old place c.root_at-place.ensures);
-      builds = subst (λ (a : Action). BuildsTouched (touched u a registers place) old old) is refl;
       registers = ap (λ to. set registers to place) c.from.ensures ∙ ap (λ (a : Action). registers_after a registers place) is;
       grows = tt;
       did = tt;
@@ -49,7 +45,6 @@ returns-in-Nil g c =
     record {
       of = c.requires.of;
       went = subst (λ (a : Action). Steps u a registers old old 0) is (nulled u c.in-Nil.to registers old);
-      builds = subst (λ (a : Action). BuildsTouched (touched u a registers 0) old old) is refl;
       registers = ap (λ to. set registers to 0) c.from-in-Nil.ensures ∙ ap (λ (a : Action). registers_after a registers 0) is;
       grows = tt;
       did = tt;
@@ -67,9 +62,7 @@ returns-in-Ok g c =
     let is = sym c.in-Load.is in
     record {
       of = told.of;
-      went = subst (λ (a : Action). Steps u a registers old new word) is (loaded u c.in-Load.to c.in-Load.object c.in-Load.field registers old new c.held.result (Ok word) c.held.ensures told.grows c.in-Ok.ensures.read c.in-Ok.ensures.known);
-      builds = subst (λ (a : Action). BuildsTouched (touched u a registers word) old new) is
-          (subst (λ (o : ℕ). BuildsTouched (slid_page u Reference o c.in-Load.field) old new) c.held.ensures (field_touched u old new Reference c.held.result c.in-Load.field c.in-Ok.ensures.builds));
+      went = subst (λ (a : Action). Steps u a registers old new word) is (loaded u c.in-Load.to c.in-Load.object c.in-Load.field registers old new c.held.result (Ok word) c.held.ensures told.grows c.in-Ok.ensures.read c.in-Ok.ensures.known c.in-Ok.ensures.builds);
       registers = ap (λ to. set registers to word) c.from-in-Ok.ensures ∙ ap (λ (a : Action). registers_after a registers word) is;
       grows = tt;
       did = tt;
@@ -84,12 +77,10 @@ returns-in_ok-place-in-New g c =
     let new = pass_of c.try_alloc.new.m in
     let place = c.in_ok-place-in-New.place in
     let allocated = c.in_ok-place-in-New.ensures.allocated in
-    let header = header_word c.in-New.refs c.in-New.data_words c.in-New.tag in
     let is = sym c.in-New.is in
     record {
       of = c.try_alloc.ensures.of;
       went = subst (λ (a : Action). Steps u a registers old new place) is (made u c.in-New.to c.in-New.refs c.in-New.data_words c.in-New.tag registers old new (Ok place) c.try_alloc.ensures.grows allocated);
-      builds = subst (λ (a : Action). BuildsTouched (touched u a registers place) old new) is (made_touched u old new header place allocated);
       registers = ap (λ to. set registers to place) c.from-in-New.ensures ∙ ap (λ (a : Action). registers_after a registers place) is;
       grows = tt;
       did = tt;
@@ -109,9 +100,7 @@ returns-in-Get g c =
     let is = sym c.in-Get.is in
     record {
       of = told.of;
-      went = subst (λ (a : Action). IfOk r (Steps u a registers old new)) is (got u c.in-Get.object field registers old new object.result r object.ensures told.grows told.read);
-      builds = subst (λ (a : Action). IfOk r (λ answer. BuildsTouched (touched u a registers answer) old new)) is
-          (subst (λ (o : ℕ). IfOk r (λ answer. BuildsTouched (slid_page u Data o field) old new)) object.ensures (call_touched u old new Data object.result field r told.builds));
+      went = subst (λ (a : Action). IfOk r (Steps u a registers old new)) is (got u c.in-Get.object field registers old new object.result r object.ensures told.grows told.read told.builds);
       registers = on_ok r (λ answer. registers ≡ registers_after c.args.action registers answer) (λ answer. ap (λ (a : Action). registers_after a registers answer) is);
       grows = on_err r (Grows old new) told.grows.0;
       did = on_err r ((did new ≡ did old) × (registers ≡ registers)) (told.grows.1, refl);
@@ -132,9 +121,7 @@ returns-in-Store g c =
     let is = sym c.in-Store.is in
     record {
       of = told.of;
-      went = subst (λ (a : Action). IfOk r (Steps u a registers old new)) is (stored u c.in-Store.object field c.in-Store.value registers old new object.result c.held-value.result r object.ensures c.held-value.ensures told.grows told.wrote told.target);
-      builds = subst (λ (a : Action). IfOk r (λ answer. BuildsTouched (touched u a registers answer) old new)) is
-          (subst (λ (o : ℕ). IfOk r (λ answer. BuildsTouched (slid_page u Reference o field) old new)) object.ensures (call_touched u old new Reference object.result field r told.builds));
+      went = subst (λ (a : Action). IfOk r (Steps u a registers old new)) is (stored u c.in-Store.object field c.in-Store.value registers old new object.result c.held-value.result r object.ensures c.held-value.ensures told.grows told.wrote told.target told.builds);
       registers = on_ok r (λ answer. registers ≡ registers_after c.args.action registers answer) (λ answer. ap (λ (a : Action). registers_after a registers answer) is);
       grows = on_err r (Grows old new) told.grows;
       did = on_err_weaker r (λ same. (same, refl)) told.did;
@@ -156,9 +143,7 @@ returns-in-Put g c =
     let is = sym c.in-Put.is in
     record {
       of = told.of;
-      went = subst (λ (a : Action). IfOk r (Steps u a registers old new)) is (put u c.in-Put.object field c.in-Put.value registers old new object.result r object.ensures told.grows told.wrote);
-      builds = subst (λ (a : Action). IfOk r (λ answer. BuildsTouched (touched u a registers answer) old new)) is
-          (subst (λ (o : ℕ). IfOk r (λ answer. BuildsTouched (slid_page u Data o field) old new)) object.ensures (call_touched u old new Data object.result field r told.builds));
+      went = subst (λ (a : Action). IfOk r (Steps u a registers old new)) is (put u c.in-Put.object field c.in-Put.value registers old new object.result r object.ensures told.grows told.wrote told.builds);
       registers = on_ok r (λ answer. registers ≡ registers_after c.args.action registers answer) (λ answer. ap (λ (a : Action). registers_after a registers answer) is);
       grows = on_err r (Grows old new) told.grows;
       did = on_err_weaker r (λ same. (same, refl)) told.did;
@@ -179,7 +164,6 @@ returns-in_err-place-in-New g c =
     record {
       of = c.try_alloc.ensures.of;
       went = IfOk-from_err back _ none;
-      builds = IfOk-from_err back _ none;
       registers = IfOk-from_err back _ none;
       grows = on_err back (Grows old new) c.try_alloc.ensures.grows;
       did = on_err back ((did new ≡ did old) × (registers ≡ registers)) (why.did.0, refl);

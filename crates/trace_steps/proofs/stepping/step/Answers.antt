@@ -4,7 +4,7 @@ use Rattle.comp_mutator.specs.Mutators.{pass_of, setup_of, IsMutatorOf}
 use Rattle.trace_steps.specs.Rounds.{Learns}
 use Rattle.trace_steps.proofs.MadeObjects.{learns_by}
 use Rattle.trace_steps.proofs.MetPairs.{each_set}
-use Rattle.trace_steps.proofs.StepLists.{all_last, builds_last, err_with, has_start, later_last, nothing_done, ran_line, was_turned_down}
+use Rattle.trace_steps.proofs.StepLists.{all_last, builds_last, err_with, has_start, later_last, nothing_done, ran_line, see_built_last, seen_last, was_turned_down}
 use Rattle.trace_steps.proofs.stepping.step.Given as given
 use Rattle.trace_steps.proofs.stepping.step.Goals as goal
 
@@ -26,6 +26,11 @@ returns-clause-all g c =
 pub returns-clause-later : goal.returns-clause-later
 returns-clause-later g c =
     later_last c.args.space.now c.args.i c.args.mutators.now c.meet_others.new.mutators c.meet_others-2.new.mutators c.index-mutators-i.result c.act-answer.new.m
+    c.requires.all c.requires.inside c.index-mutators-i.is c.meet_others.ensures.of c.meet_others.auto.mutators c.meet_others.ensures.met (learns g c) c.meet_others-2.ensures.of c.meet_others-2.auto.mutators c.meet_others-2.ensures.met
+
+pub returns-clause-seen : goal.returns-clause-seen
+returns-clause-seen g c =
+    seen_last c.args.space.now c.args.i c.args.mutators.now c.meet_others.new.mutators c.meet_others-2.new.mutators c.index-mutators-i.result c.act-answer.new.m
     c.requires.all c.requires.inside c.index-mutators-i.is c.meet_others.ensures.of c.meet_others.auto.mutators c.meet_others.ensures.met (learns g c) c.meet_others-2.ensures.of c.meet_others-2.auto.mutators c.meet_others-2.ensures.met
 
 pub returns-clause-start : goal.returns-clause-start
@@ -51,10 +56,18 @@ returns-clause-ran g c =
 pub returns-clause-builds : goal.returns-clause-builds
 returns-clause-builds g c =
     IfOk-weaker c.act-answer.result _ _
-    (λ answer touches. builds_last c.args.space.now c.args.i c.args.mutators.now c.meet_others.new.mutators c.meet_others-2.new.mutators c.index-mutators-i.result c.act-answer.new.m
+    (λ answer went. builds_last c.args.space.now c.args.i c.args.mutators.now c.meet_others.new.mutators c.meet_others-2.new.mutators c.index-mutators-i.result c.act-answer.new.m
     c.requires.all c.requires.inside c.index-mutators-i.is c.meet_others.ensures.of c.meet_others.auto.mutators c.meet_others.ensures.met (learns g c) c.meet_others-2.ensures.of c.meet_others-2.auto.mutators c.meet_others-2.ensures.met
-    _ touches)
-    c.act-answer.ensures.builds
+    _ went.builds)
+    c.act-answer.ensures.went
+
+pub returns-clause-built : goal.returns-clause-built
+returns-clause-built g c =
+    IfOk-weaker c.act-answer.result _ _
+    (λ answer went. see_built_last c.args.space.now c.args.i c.args.mutators.now c.meet_others.new.mutators c.meet_others-2.new.mutators c.index-mutators-i.result c.act-answer.new.m
+    c.requires.all c.requires.inside c.index-mutators-i.is c.meet_others.ensures.of c.meet_others.auto.mutators c.meet_others.ensures.met (learns g c) c.meet_others-2.ensures.of c.meet_others-2.auto.mutators c.meet_others-2.ensures.met
+    _ went.builds)
+    c.act-answer.ensures.went
 
 pub returns-clause-refused : goal.returns-clause-refused
 returns-clause-refused g c =

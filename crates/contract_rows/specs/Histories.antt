@@ -1,0 +1,15 @@
+-- Reads in the history of a finished heap.
+use Rattle.std.specs.Prelude.{ℕ}
+use Rattle.heap_layout.specs.declared.kind.Kind.{Kind}
+use Rattle.cell_steps.specs.Lists.{on, StartsWith}
+use Rattle.cell_steps.specs.Locks.{Journals}
+use Rattle.cell_steps.specs.Setup.{Setup}
+use Rattle.comp_access.specs.Reads.{Reads}
+use Rattle.comp_history.specs.Finishes.{history_of}
+use Rattle.comp_history.specs.declared.finished.Finished.{Finished}
+
+-- The word is the one of the object's field where each page has a beginning of what the one history writes to it.
+pub record StandsInHistory (u : Setup) (f : Finished) (kind : Kind) (object field word : ℕ) : Type 0 where
+  pub seen : Journals
+  pub begins : (p : ℕ) → StartsWith (on p (history_of u f)) (seen p)
+  pub reads : Reads u seen kind object field word
