@@ -1,19 +1,21 @@
 use thiserror::Error;
 
-/// Why a call of a mutator was refused. Of several causes the first counts, in the order of this list; but the cause of a refused reference, which
-/// is `NotAStart` too, counts behind `NoSuchField`. The header of an object that an allocation made stands on its own page, and `Busy` counts
-/// before `NoSuchField` there.
+/// Why a call of a mutator was refused. Of several causes the first counts, in the order of this list; but the cause of a refused value, which
+/// is `NotAStart` too, counts behind `NoSuchField`.
 #[derive(Clone, Copy, Debug, PartialEq, Eq, Error)]
 pub enum Refusal {
     /// The object is null.
     #[error("M1 Null")]
     Null,
-    /// No object is known to start at this address, which was given as the object or as the reference to be written.
+    /// No object is known to start at this address, which was given as the object, or as the reference or weak word to be written.
     #[error("M2 NotAStart({0})")]
     NotAStart(u64),
     /// The object has no such field of that kind.
     #[error("M3 NoSuchField")]
     NoSuchField,
+    /// The heap's edition has no such header: edition one has no weak words, edition two no tag of 2^16 or more.
+    #[error("M11 NotInEdition")]
+    NotInEdition,
     /// The object would have more than 64 words.
     #[error("M4 ObjectTooLarge")]
     ObjectTooLarge,

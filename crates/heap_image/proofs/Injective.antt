@@ -5,8 +5,11 @@ use Rattle.std.specs.List.{flat_map}
 use Rattle.std.proofs.lemmas.List.{take_at, drop_at, append_cancel_left, append-nil}
 use Rattle.std.proofs.lemmas.List.Elements.{All-head, All-tail}
 use Rattle.std.proofs.lemmas.Nat.{from_le_bytes-to_le_bytes_4, from_le_bytes-to_le_bytes_8}
+use Rattle.heap_layout.specs.declared.edition.Edition.{Edition}
+use Rattle.heap_layout.specs.declared.edition.Edition.TheVariants.{One, Two}
 use Rattle.heap_layout.specs.Heap.{Heap, IsStored}
-use Rattle.heap_image.specs.Encoding.{four_bytes, eight_bytes, preamble, counts, head, encoding, body_len, AreCounted}
+use Rattle.heap_image.specs.Versions.{version_of}
+use Rattle.heap_image.specs.Encoding.{four_bytes, eight_bytes, magic, version, counts, head, encoding, body_len, AreCounted}
 use Rattle.heap_image.proofs.Numbers.{length-pieces}
 
 -- two lists with the same bytes and fronts of one length have the same front and the same rest
@@ -59,25 +62,45 @@ length-body heap =
     simp length-append (omega arith)
 
 -- the image is the head and then the body
-pub encoding_is : (heap : Heap) → encoding heap ≡ head (length heap.words) (length heap.marks) (length heap.roots) ++ body heap
+pub encoding_is : (heap : Heap) → encoding heap ≡ head heap.edition (length heap.words) (length heap.marks) (length heap.roots) ++ body heap
 encoding_is heap =
-    let front = head (length heap.words) (length heap.marks) (length heap.roots) in
+    let front = head heap.edition (length heap.words) (length heap.marks) (length heap.roots) in
     let words = flat_map eight_bytes heap.words in
     let marks = flat_map four_bytes heap.marks in
     let roots = flat_map eight_bytes heap.roots in
     ap (λ (bytes : List ℕ). bytes ++ roots) (append_assoc front words marks) ∙ append_assoc front (words ++ marks) roots
 
--- a heap is its three lists
-heap_same : (one other : Heap) → one.words ≡ other.words → one.marks ≡ other.marks → one.roots ≡ other.roots → one ≡ other
-heap_same one other words marks roots =
-    let heap : List ℕ → List ℕ → List ℕ → Heap = λ a b c. record { words = a; marks = b; roots = c } in
-    ap (λ (x : List ℕ). heap x one.marks one.roots) words ∙ ap (λ (x : List ℕ). heap other.words x one.roots) marks ∙ ap (λ (x : List ℕ). heap other.words other.marks x) roots
+-- a heap is its edition and its three lists
+heap_same : (one other : Heap) → one.edition ≡ other.edition → one.words ≡ other.words → one.marks ≡ other.marks → one.roots ≡ other.roots → one ≡ other
+heap_same one other edition words marks roots =
+    let heap : Edition → List ℕ → List ℕ → List ℕ → Heap = λ e a b c. record { edition = e; words = a; marks = b; roots = c } in
+    ap (λ (e : Edition). heap e one.words one.marks one.roots) edition
+    ∙ ap (λ (x : List ℕ). heap other.edition x one.marks one.roots) words
+    ∙ ap (λ (x : List ℕ). heap other.edition other.words x one.roots) marks
+    ∙ ap (λ (x : List ℕ). heap other.edition other.words other.marks x) roots
+
+-- a version is of one edition
+edition_same : (one other : Edition) → version_of one ≡ version_of other → one ≡ other
+edition_same One One same = refl
+edition_same One Two same = absurd (omega (arith, same))
+edition_same Two One same = absurd (omega (arith, same))
+edition_same Two Two same = refl
+
+small_version : (edition : Edition) → version_of edition < 2 ^ 32
+small_version One = omega arith
+small_version Two = omega arith
+
+-- versions with the same bytes are of the same edition
+pub version_same : (one other : Edition) (x y : List ℕ) → version one ++ x ≡ version other ++ y → (one ≡ other) × (x ≡ y)
+version_same one other x y same =
+    let parts = append_same (version one) (version other) x y refl same in
+    (edition_same one other (four_bytes_same (version_of one) (version_of other) (small_version one) (small_version other) parts.0), parts.1)
 
 -- two bodies of one make with the same bytes are of one heap, and the same follows
-pub bodies_same : (one other : Heap) (x y : List ℕ) → IsStored one → IsStored other
+pub bodies_same : (one other : Heap) (x y : List ℕ) → IsStored one → IsStored other → one.edition ≡ other.edition
     → length one.words ≡ length other.words → length one.marks ≡ length other.marks → length one.roots ≡ length other.roots
     → body one ++ x ≡ body other ++ y → (one ≡ other) × (x ≡ y)
-bodies_same one other x y stored other_stored words marks roots same =
+bodies_same one other x y stored other_stored edition words marks roots same =
     let one_words = flat_map eight_bytes one.words in
     let one_marks = flat_map four_bytes one.marks in
     let one_roots = flat_map eight_bytes one.roots in
@@ -93,7 +116,7 @@ bodies_same one other x y stored other_stored words marks roots same =
     let whole = append_same (body one) (body other) x y long same in
     let both = append_same (one_words ++ one_marks) (other_words ++ other_marks) one_roots other_roots long_both whole.0 in
     let each = append_same one_words other_words one_marks other_marks long_words both.0 in (
-      heap_same one other
+      heap_same one other edition
           (pieces_same eight_bytes 8 (2 ^ 64) (λ _. refl) eight_bytes_same one.words other.words stored.words other_stored.words words each.0)
           (pieces_same four_bytes 4 (2 ^ 32) (λ _. refl) four_bytes_same one.marks other.marks stored.marks other_stored.marks marks each.1)
           (pieces_same eight_bytes 8 (2 ^ 64) (λ _. refl) eight_bytes_same one.roots other.roots stored.roots other_stored.roots roots both.1),
@@ -103,11 +126,11 @@ bodies_same one other x y stored other_stored words marks roots same =
 -- two heaps with one image are one heap
 pub images_same : (one other : Heap) → IsStored one → IsStored other → AreCounted one → AreCounted other → encoding one ≡ encoding other → one ≡ other
 images_same one other stored other_stored counted other_counted same =
-    let bytes : preamble ++ (counts (length one.words) (length one.marks) (length one.roots) ++ body one)
-    ≡ preamble ++ (counts (length other.words) (length other.marks) (length other.roots) ++ body other) =
-    sym (encoding_is one) ∙ same ∙ encoding_is other in
-    let behind = append_cancel_left preamble _ _ bytes in
+    let one_behind = counts (length one.words) (length one.marks) (length one.roots) ++ body one in
+    let other_behind = counts (length other.words) (length other.marks) (length other.roots) ++ body other in
+    let bytes : magic ++ (version one.edition ++ one_behind) ≡ magic ++ (version other.edition ++ other_behind) = sym (encoding_is one) ∙ same ∙ encoding_is other in
+    let behind = version_same one.edition other.edition one_behind other_behind (append_cancel_left magic _ _ bytes) in
     let found = counts_same (length one.words) (length one.marks) (length one.roots) (length other.words) (length other.marks) (length other.roots) (body one) (body other)
-    counted.words counted.marks counted.roots other_counted.words other_counted.marks other_counted.roots behind in
+    counted.words counted.marks counted.roots other_counted.words other_counted.marks other_counted.roots behind.1 in
     let bodies : body one ++ [] ≡ body other ++ [] = append-nil (body one) ∙ found.3 ∙ sym (append-nil (body other)) in
-    (bodies_same one other [] [] stored other_stored found.0 found.1 found.2 bodies).0
+    (bodies_same one other [] [] stored other_stored behind.0 found.0 found.1 found.2 bodies).0

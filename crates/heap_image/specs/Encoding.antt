@@ -1,6 +1,6 @@
--- The bytes of a heap image, version 1. All numbers are little-endian; nothing is padded.
+-- The bytes of a heap image. All numbers are little-endian; nothing is padded.
 --     magic      8 bytes, `COMPHEAP`
---     version    4 bytes, 1
+--     version    4 bytes: 1 in edition one, 2 in edition two
 --     counts     4 bytes each: words, marks, roots
 --     words      8 bytes each, index 0 first
 --     marks      4 bytes each
@@ -8,10 +8,12 @@
 use Rattle.std.specs.Prelude.{◌≡◌, ◌≢◌, ℕ, ◌+◌, ◌*◌, ◌^◌, ◌<◌, ◌≤◌, ◌⊎◌, List, ◌++◌, length, take, codes}
 use Rattle.std.specs.Int.{w32, w64, to_le_bytes}
 use Rattle.std.specs.List.{flat_map}
+use Rattle.heap_layout.specs.declared.edition.Edition.{Edition}
 use Rattle.heap_layout.specs.Heap.{Heap, IsStored}
 use Rattle.heap_layout.specs.Faults.{faults, IsFirst, IsAccepted}
+use Rattle.heap_image.specs.Versions.{version_of}
 use Rattle.heap_layout.specs.declared.fault.LayoutFault.{LayoutFault}
-use Rattle.heap_layout.specs.declared.fault.LayoutFault.TheVariants.{TooLarge, ObjectPastEnd, ObjectTooLong, MarkNotStart, MarksNotRising, BadRoot, UnmarkedTarget, Truncated, TrailingBytes, BadMagic, OutOfMemory, Device}
+use Rattle.heap_layout.specs.declared.fault.LayoutFault.TheVariants.{TooLarge, ObjectPastEnd, ObjectTooLong, MarkNotStart, MarksNotRising, BadRoot, UnmarkedTarget, BadWeak, Truncated, TrailingBytes, BadMagic, OutOfMemory, Device}
 
 abbrev pub four_bytes : ℕ → List ℕ
 four_bytes n = to_le_bytes w32 n
@@ -22,21 +24,25 @@ eight_bytes n = to_le_bytes w64 n
 abbrev pub magic : List ℕ
 magic = codes "COMPHEAP"
 
+-- the version, in 4 bytes
+abbrev pub version : Edition → List ℕ
+version edition = four_bytes (version_of edition)
+
 -- the magic and the version
-abbrev pub preamble : List ℕ
-preamble = magic ++ four_bytes 1
+abbrev pub preamble : Edition → List ℕ
+preamble edition = magic ++ version edition
 
 abbrev pub counts : ℕ → ℕ → ℕ → List ℕ
 counts words marks roots = four_bytes words ++ four_bytes marks ++ four_bytes roots
 
 -- all that stands before the words
-abbrev pub head : ℕ → ℕ → ℕ → List ℕ
-head words marks roots = preamble ++ counts words marks roots
+abbrev pub head : Edition → ℕ → ℕ → ℕ → List ℕ
+head edition words marks roots = preamble edition ++ counts words marks roots
 
 -- the image of a heap
 abbrev pub encoding : Heap → List ℕ
 encoding heap =
-    head (length heap.words) (length heap.marks) (length heap.roots)
+    head heap.edition (length heap.words) (length heap.marks) (length heap.roots)
     ++ flat_map eight_bytes heap.words
     ++ flat_map four_bytes heap.marks
     ++ flat_map eight_bytes heap.roots
@@ -76,22 +82,22 @@ abbrev pub EndsInVersion : List ℕ → Type 0
 EndsInVersion bytes = Behind magic (λ rest. length rest < 4) bytes
 
 abbrev pub EndsInCounts : List ℕ → Type 0
-EndsInCounts bytes = Behind preamble (λ rest. length rest < 12) bytes
+EndsInCounts bytes = (edition : Edition) × Behind (preamble edition) (λ rest. length rest < 12) bytes
 
 abbrev pub EndsInBody : List ℕ → Type 0
 EndsInBody bytes =
-    (words marks roots : ℕ) × AreWithin words marks roots × Behind (head words marks roots) (λ rest. length rest < body_len words marks roots) bytes
+    (edition : Edition) × (words marks roots : ℕ) × AreWithin words marks roots × Behind (head edition words marks roots) (λ rest. length rest < body_len words marks roots) bytes
 
 -- there are other bytes where the magic stands, or other ones where the version does
 abbrev pub HasOtherMagic : List ℕ → Type 0
 HasOtherMagic bytes = (8 ≤ length bytes) × (take 8 bytes ≢ magic)
 
 abbrev pub HasOtherVersion : List ℕ → Type 0
-HasOtherVersion bytes = Behind magic (λ rest. (4 ≤ length rest) × (take 4 rest ≢ four_bytes 1)) bytes
+HasOtherVersion bytes = Behind magic (λ rest. (4 ≤ length rest) × ((edition : Edition) → take 4 rest ≢ version edition)) bytes
 
 -- a count is past its limit, whatever follows
 abbrev pub HasLargeCount : List ℕ → Type 0
-HasLargeCount bytes = (words marks roots : ℕ) × IsOver words marks roots × Behind (head words marks roots) (λ _. Unit {0}) bytes
+HasLargeCount bytes = (edition : Edition) × (words marks roots : ℕ) × IsOver words marks roots × Behind (head edition words marks roots) (λ _. Unit {0}) bytes
 
 -- a whole image, and at least one byte more
 abbrev pub HasMore : List ℕ → Type 0
@@ -111,6 +117,7 @@ Refuses (MarkNotStart i) bytes = HasHeapWith (MarkNotStart i) bytes
 Refuses (MarksNotRising i) bytes = HasHeapWith (MarksNotRising i) bytes
 Refuses (BadRoot k) bytes = HasHeapWith (BadRoot k) bytes
 Refuses (UnmarkedTarget i) bytes = HasHeapWith (UnmarkedTarget i) bytes
+Refuses (BadWeak i) bytes = HasHeapWith (BadWeak i) bytes
 Refuses Truncated bytes = EndsInMagic bytes ⊎ EndsInVersion bytes ⊎ EndsInCounts bytes ⊎ EndsInBody bytes
 Refuses TrailingBytes bytes = HasMore bytes
 Refuses BadMagic bytes = HasOtherMagic bytes ⊎ HasOtherVersion bytes

@@ -9,8 +9,10 @@ ghost use Rattle.heap_layout.specs.Heap.{IsStored};
 
 use crate::counted::Counted;
 use crate::parts::{Cut, fill};
+use crate::versions::edition_of;
 use byteorder::{ByteOrder, LittleEndian};
 use heap_layout::checks::check_sizes;
+use heap_layout::edition::Edition;
 use heap_layout::fault::LayoutFault;
 use heap_layout::heap::MarkedHeap;
 use std::alloc::Global;
@@ -19,16 +21,13 @@ use std::io::Read;
 /// The first bytes of an image.
 pub const MAGIC: [u8; 8] = *b"COMPHEAP";
 
-/// The version of the image format.
-pub const VERSION: u32 = 1;
-
 /// How many numbers are fetched at once.
 const PIECE: usize = 8_192;
 
 /// Reads the image of a heap, all that the reader has left, and answers the heap, or why there is none.
 ///
 /// The magic is judged as soon as its 8 bytes are there, the version as soon as its 4 are, and the counts once all three are, whatever follows; then
-/// the numbers are read, then one byte more is asked for, and then the heap is judged as by `from_parts`. A call of the reader that answers an error
+/// the numbers are read, then one byte more is asked for, and then the heap is judged as by `from_parts_of`. A call of the reader that answers an error
 /// ends the reading, an interrupted one too. After an Err the reader has lost what was read. It asks that fewer than `u64::MAX`
 /// calls of the reader have failed.
 pub fn read_image<R: Read>(alloc: Global, r: &mut Counted<R>) -> Result<MarkedHeap, LayoutFault>
@@ -39,13 +38,13 @@ pub fn read_image<R: Read>(alloc: Global, r: &mut Counted<R>) -> Result<MarkedHe
     ensures cause { IfErr result (λ fault. IfSome (R.remaining (inner_of r.old)) (Refuses fault)) }
     ensures counts { CountsFailure (failures_of r.old) (failures_of r.new) result }
 {
-    read_magic(r)?;
+    let edition = read_magic(r)?;
     let counts = read_counts(r)?;
     let words = read_words(alloc, r, counts.words as usize)?;
     let marks = read_marks(alloc, r, counts.marks as usize)?;
     let roots = read_words(alloc, r, counts.roots as usize)?;
     expect_end(r)?;
-    MarkedHeap::from_parts(words, marks, roots)
+    MarkedHeap::from_parts_of(edition, words, marks, roots)
 }
 
 // How many words, marks and roots an image has.
@@ -71,10 +70,10 @@ fn read_part<R: Read>(r: &mut Counted<R>, buf: &mut [u8]) -> Result<(), LayoutFa
     }
 }
 
-// The magic and the version.
-fn read_magic<R: Read>(r: &mut Counted<R>) -> Result<(), LayoutFault>
+// The magic and the version, which tells the edition.
+fn read_magic<R: Read>(r: &mut Counted<R>) -> Result<Edition, LayoutFault>
     requires { failures_of r.old < 2 ^ 64 - 1 }
-    ensures read { OnOk result (Consumes (R.remaining (inner_of r.old)) (R.remaining (inner_of r.new)) preamble) }
+    ensures read { IfOk result (λ edition. Consumes (R.remaining (inner_of r.old)) (R.remaining (inner_of r.new)) (preamble edition)) }
     ensures cause { IfErr result (λ fault. IfSome (R.remaining (inner_of r.old)) (Refuses fault)) }
     ensures counts { CountsFailure (failures_of r.old) (failures_of r.new) result }
 {
@@ -85,10 +84,10 @@ fn read_magic<R: Read>(r: &mut Counted<R>) -> Result<(), LayoutFault>
     }
     let mut version = [0; 4];
     read_part(r, &mut version)?;
-    if LittleEndian::read_u32(&version) != VERSION {
-        return Err(LayoutFault::BadMagic);
+    match edition_of(LittleEndian::read_u32(&version)) {
+        Some(edition) => Ok(edition),
+        None => Err(LayoutFault::BadMagic),
     }
-    Ok(())
 }
 
 // The three counts, within their limits.

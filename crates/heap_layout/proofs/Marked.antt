@@ -1,5 +1,5 @@
 -- Marks, roots and references of a heap without faults.
-use Rattle.std.proofs.Common.{◌≡◌, ℕ, zero, suc, ◌+◌, ◌-◌, ◌<◌, ◌≤◌, ◌^◌, Bool, true, false, eqb, List, [], ◌∷◌, ◌++◌, inl, inr, All, length, get_or, slice_range, drop, Result, Ok, Err, MatchResult, is_ok, sym, ap, subst, ◌∙◌, arith}
+use Rattle.std.proofs.Common.{◌≡◌, ℕ, zero, suc, ◌+◌, ◌-◌, ◌<◌, ◌≤◌, ◌^◌, Bool, true, false, eqb, List, [], ◌∷◌, ◌++◌, inl, inr, All, length, get_or, slice_range, take, drop, Result, Ok, Err, MatchResult, is_ok, sym, refl, ap, subst, ◌∙◌, arith}
 use Rattle.std.specs.List.{flat_map, enumerate_from}
 use Rattle.std.specs.List.Sorted.{IsStrictlyIncreasing, IsBinarySearchResult}
 use Rattle.std.specs.Ordering.{nat_cmp}
@@ -8,11 +8,16 @@ use Rattle.std.proofs.lemmas.List.Folds.{list_any_none, list_any_at}
 use Rattle.std.proofs.lemmas.List.Sorted.{searched}
 use Rattle.std.proofs.lemmas.List.{at_drop_more, get_or_default}
 use Rattle.std.proofs.lemmas.Bool.{leb-true, eq-eqb, ne_eqb, or_from, or_right, cases_lt}
-use Rattle.heap_layout.specs.Header.{refs_of}
-use Rattle.heap_layout.specs.Heap.{Heap, object_at, objects, words_of, starts, is_start, is_target, from_address, IsTarget, IsPlaced, IsClosed}
-use Rattle.heap_layout.specs.Faults.{unless, size_faults, object_faults, mark_faults, root_faults, reference_faults, target_faults, reference_faults_by, target_faults_by, IsAccepted, IsFirst}
+use Rattle.heap_layout.specs.declared.edition.Edition.{Edition}
+use Rattle.heap_layout.specs.declared.edition.Edition.TheVariants.{One}
+use Rattle.heap_layout.specs.declared.kind.Kind.{Kind}
+use Rattle.heap_layout.specs.declared.kind.Kind.TheVariants.{Header, Reference, Weak, Data}
+use Rattle.heap_layout.specs.Header.{Head, weak_of, data_of}
+use Rattle.heap_layout.specs.Kinds.{count_of, first_of}
+use Rattle.heap_layout.specs.Heap.{Heap, header_at, object_at, fields_of, objects, words_of, starts, is_start, is_target, from_address, IsTarget, IsPlaced, IsClosed}
+use Rattle.heap_layout.specs.Faults.{unless, size_faults, object_faults, mark_faults, root_faults, target_faults, weak_faults, misled, reference_faults_by, field_faults_by, IsAccepted, IsFirst}
 use Rattle.heap_layout.specs.declared.fault.LayoutFault.{LayoutFault}
-use Rattle.heap_layout.specs.declared.fault.LayoutFault.TheVariants.{UnmarkedTarget, BadRoot}
+use Rattle.heap_layout.specs.declared.fault.LayoutFault.TheVariants.{BadRoot}
 use Rattle.heap_layout.proofs.Rows.{append-none, unless-none, placed-start, reached-first, starts-apart, words-from}
 
 -- a mark without a fault is not too low, an object starts there, and the marks behind it have no fault
@@ -94,24 +99,40 @@ numbered-targets fault marks first (reference ∷ references) none =
     let parts = append-none (unless (is_target marks reference) (fault first)) (numbered_faults fault marks (first + 1) references) none in
     All-cons (IsTarget marks) reference references (unless-none _ _ parts.0) (numbered-targets fault marks (first + 1) references parts.1)
 
--- the faults of the marked objects that are left are those of the first of them, whose references are read as a range of the words, and of the rest
-pub targets-next : (test : ℕ → Bool) (words marks : List ℕ) (k header refs : ℕ) → k < length marks → header ≡ get_or words (get_or marks k 0) 0 → refs ≡ refs_of header
-    → reference_faults_by test (get_or marks k 0 + 1) (slice_range words (get_or marks k 0 + 1) (get_or marks k 0 + 1 + refs))
-    ++ target_faults_by test words (drop (k + 1) marks) ≡ target_faults_by test words (drop k marks)
-targets-next test words marks k header refs within read same =
-    let first = get_or marks k 0 + 1 in
-    let count : first + refs - first ≡ refs_of (get_or words (get_or marks k 0) 0) = omega (arith, same ∙ ap refs_of read) in
-    rw count (sym (at_drop_more (target_faults_by test words) marks k 0 within))
+-- the fields of a kind are a range of the words
+fields-at : (kind : Kind) (edition : Edition) (words : List ℕ) (i : ℕ) → fields_of kind (object_at edition words i)
+    ≡ take (count_of kind (header_at edition words i)) (drop (i + first_of kind (header_at edition words i)) words)
+fields-at Header edition words i = refl
+fields-at Reference edition words i = refl
+fields-at Weak edition words i = ap (λ at. take (weak_of (header_at edition words i)) (drop at words)) (omega arith)
+fields-at Data edition words i = ap (λ at. take (data_of (header_at edition words i)) (drop at words)) (omega arith)
 
--- marked objects without a fault lead to targets
-pub referred-targets : (words all_marks marks : List ℕ) → target_faults words all_marks marks ≡ []
-    → All (λ mark. All (IsTarget all_marks) (object_at words mark).references) marks
-referred-targets words all_marks [] none = All-nil (λ mark. All (IsTarget all_marks) (object_at words mark).references)
-referred-targets words all_marks (mark ∷ marks) none =
-    let references = (object_at words mark).references in
-    let parts = append-none (reference_faults all_marks (mark + 1) references) (target_faults words all_marks marks) none in
-    All-cons (λ k. All (IsTarget all_marks) (object_at words k).references) mark marks
-    (numbered-targets (λ k. UnmarkedTarget k) all_marks (mark + 1) references parts.0) (referred-targets words all_marks marks parts.1)
+-- the faults of the marked objects that are left are those of the first of them, whose fields are read as a range of the words, and of the rest
+pub fields-next : (kind : Kind) (edition : Edition) (test : ℕ → Bool) (words marks : List ℕ) (k : ℕ) (header : Head) (first count : ℕ) → k < length marks
+    → header ≡ header_at edition words (get_or marks k 0) → first ≡ first_of kind header → count ≡ count_of kind header
+    → reference_faults_by kind test (get_or marks k 0 + first) (slice_range words (get_or marks k 0 + first) (get_or marks k 0 + first + count))
+    ++ field_faults_by kind edition test words (drop (k + 1) marks) ≡ field_faults_by kind edition test words (drop k marks)
+fields-next kind edition test words marks k header first count within read same_first same_count =
+    let mark = get_or marks k 0 in
+    let first_is : first ≡ first_of kind (header_at edition words mark) = same_first ∙ ap (first_of kind) read in
+    let count_is : mark + first + count - (mark + first) ≡ count_of kind (header_at edition words mark) = omega (arith, same_count ∙ ap (count_of kind) read) in
+    rw (count_is, first_is, sym (fields-at kind edition words mark)) (sym (at_drop_more (field_faults_by kind edition test words) marks k 0 within))
+
+-- objects of edition one have no weak words
+pub weak-none : (words marks : List ℕ) → weak_faults One words marks ≡ []
+weak-none words [] = refl
+weak-none words (mark ∷ marks) = weak-none words marks
+
+-- the fields of marked objects without a fault are targets
+pub field-targets : (kind : Kind) (edition : Edition) (words row marks : List ℕ) → field_faults_by kind edition (is_target row) words marks ≡ []
+    → All (λ mark. All (IsTarget row) (fields_of kind (object_at edition words mark))) marks
+field-targets kind edition words row [] none = All-nil (λ mark. All (IsTarget row) (fields_of kind (object_at edition words mark)))
+field-targets kind edition words row (mark ∷ marks) none =
+    let first = mark + first_of kind (header_at edition words mark) in
+    let fields = fields_of kind (object_at edition words mark) in
+    let parts = append-none (reference_faults_by kind (is_target row) first fields) (field_faults_by kind edition (is_target row) words marks) none in
+    All-cons (λ k. All (IsTarget row) (fields_of kind (object_at edition words k))) mark marks
+    (numbered-targets (misled kind) row first fields parts.0) (field-targets kind edition words row marks parts.1)
 
 -- of faults that are some and then more, the first is the first of some
 pub first-told : (some more whole : List LayoutFault) (fault : LayoutFault) → some ++ more ≡ whole → IsFirst some fault → IsFirst whole fault
@@ -125,22 +146,25 @@ rest-told some more whole same none = sym (ap (λ (list : List LayoutFault). lis
 -- a heap that is accepted passes each test
 pub record Passed (heap : Heap) : Type 0 where
   pub sizes : size_faults (length heap.words) (length heap.marks) (length heap.roots) ≡ []
-  pub row : flat_map (object_faults heap.words) (starts heap.words) ≡ []
-  pub marks : mark_faults (starts heap.words) 0 heap.marks ≡ []
+  pub row : flat_map (object_faults heap.edition heap.words) (starts heap.edition heap.words) ≡ []
+  pub marks : mark_faults (starts heap.edition heap.words) 0 heap.marks ≡ []
   pub roots : root_faults heap.marks heap.roots ≡ []
-  pub targets : target_faults heap.words heap.marks heap.marks ≡ []
+  pub targets : target_faults heap.edition heap.words heap.marks heap.marks ≡ []
+  pub weak : weak_faults heap.edition heap.words heap.marks ≡ []
 
 pub passed : (heap : Heap) → IsAccepted heap → Passed heap
 passed heap accepted =
     let sizes = size_faults (length heap.words) (length heap.marks) (length heap.roots) in
-    let row = flat_map (object_faults heap.words) (starts heap.words) in
-    let marks = mark_faults (starts heap.words) 0 heap.marks in
+    let row = flat_map (object_faults heap.edition heap.words) (starts heap.edition heap.words) in
+    let marks = mark_faults (starts heap.edition heap.words) 0 heap.marks in
     let roots = root_faults heap.marks heap.roots in
-    let four = append-none (sizes ++ row ++ marks ++ roots) (target_faults heap.words heap.marks heap.marks) accepted in
+    let targets = target_faults heap.edition heap.words heap.marks heap.marks in
+    let five = append-none (sizes ++ row ++ marks ++ roots ++ targets) (weak_faults heap.edition heap.words heap.marks) accepted in
+    let four = append-none (sizes ++ row ++ marks ++ roots) targets five.0 in
     let three = append-none (sizes ++ row ++ marks) roots four.0 in
     let two = append-none (sizes ++ row) marks three.0 in
     let one = append-none sizes row two.0 in
-    record { sizes = one.0; row = one.1; marks = two.1; roots = three.1; targets = four.1 }
+    record { sizes = one.0; row = one.1; marks = two.1; roots = three.1; targets = four.1; weak = five.1 }
 
 -- sizes without a fault are few enough
 pub sizes-few : (words marks roots : ℕ) → size_faults words marks roots ≡ [] → (words ≤ 2 ^ 20) × (marks ≤ 2 ^ 20) × (roots ≤ 2 ^ 12)
@@ -150,33 +174,34 @@ sizes-few words marks roots none =
     (leb-true _ _ (unless-none _ _ one.0), leb-true _ _ (unless-none _ _ one.1), leb-true _ _ (unless-none _ _ two.1))
 
 -- marks without a fault are placed, in a row without faults
-pub marks-placed : (words marks : List ℕ) → flat_map (object_faults words) (starts words) ≡ [] → mark_faults (starts words) 0 marks ≡ []
-    → All (IsPlaced words) marks
-marks-placed words marks row none k d within = placed-start words (starts words) _ row (marks-started (starts words) 0 marks none k d within)
+pub marks-placed : (edition : Edition) (words marks : List ℕ) → flat_map (object_faults edition words) (starts edition words) ≡ [] → mark_faults (starts edition words) 0 marks ≡ []
+    → All (IsPlaced edition words) marks
+marks-placed edition words marks row none k d within = placed-start edition words (starts edition words) _ row (marks-started (starts edition words) 0 marks none k d within)
 
 -- what acceptance means
 pub closed : (heap : Heap) → IsAccepted heap → IsClosed heap
 closed heap accepted =
     let parts = passed heap accepted in
     let few = sizes-few _ _ _ parts.sizes in
-    let started = marks-started (starts heap.words) 0 heap.marks parts.marks in
-    let rising = marks-rising (starts heap.words) 0 heap.marks parts.marks in
+    let started = marks-started (starts heap.edition heap.words) 0 heap.marks parts.marks in
+    let rising = marks-rising (starts heap.edition heap.words) 0 heap.marks parts.marks in
     record {
       few_words = few.0;
       few_marks = few.1;
       few_roots = few.2;
       started = started;
-      placed = marks-placed heap.words heap.marks parts.row parts.marks;
-      apart = λ k within. starts-apart (length heap.words) heap.words 0 _ _ (reached-first heap.words parts.row) (omega arith) (omega arith)
+      placed = marks-placed heap.edition heap.words heap.marks parts.row parts.marks;
+      apart = λ k within. starts-apart heap.edition (length heap.words) heap.words 0 _ _ (reached-first heap.edition heap.words parts.row) (omega arith) (omega arith)
           (rising k within) (started k 0 (omega arith)) (started (k + 1) 0 within);
       roots = numbered-targets (λ k. BadRoot k) heap.marks 0 heap.roots parts.roots;
-      references = referred-targets heap.words heap.marks heap.marks parts.targets;
+      references = field-targets Reference heap.edition heap.words heap.marks heap.marks parts.targets;
+      weak = field-targets Weak heap.edition heap.words (starts heap.edition heap.words) heap.marks parts.weak;
     }
 
 -- the marks of an accepted heap rise
 pub rising : (heap : Heap) → IsAccepted heap → IsStrictlyIncreasing heap.marks
-rising heap accepted = marks-rising (starts heap.words) 0 heap.marks (passed heap accepted).marks
+rising heap accepted = marks-rising (starts heap.edition heap.words) 0 heap.marks (passed heap accepted).marks
 
 -- the words of an accepted heap are those of its objects, object by object
 pub row : (heap : Heap) → IsAccepted heap → heap.words ≡ flat_map words_of (objects heap)
-row heap accepted = sym (words-from (length heap.words) heap.words 0 (reached-first heap.words (passed heap accepted).row) (omega arith))
+row heap accepted = sym (words-from heap.edition (length heap.words) heap.words 0 (reached-first heap.edition heap.words (passed heap accepted).row) (omega arith))

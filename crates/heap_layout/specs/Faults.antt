@@ -1,11 +1,15 @@
 -- Why a heap is refused. The faults of a heap stand in one list, in the order in which they count: a heap is accepted where the list is empty, and
 -- else its first one is the answer.
-use Rattle.std.specs.Prelude.{◌≡◌, ℕ, ◌+◌, ◌^◌, ◌≤◌, Bool, nat_le, List, [], ◌∷◌, ◌++◌, length, slice_index, if◌then◌else◌, Result, Ok, Err}
+use Rattle.std.specs.Prelude.{◌≡◌, ℕ, ◌+◌, ◌^◌, ◌≤◌, Bool, nat_le, List, [], ◌∷◌, ◌++◌, length, if◌then◌else◌, Result, Ok, Err}
 use Rattle.std.specs.List.{flat_map, enumerate_from}
 use Rattle.heap_layout.specs.Header.{size_of}
-use Rattle.heap_layout.specs.Heap.{Heap, object_at, starts, starts_at, is_start, is_target}
+use Rattle.heap_layout.specs.Kinds.{first_of}
+use Rattle.heap_layout.specs.Heap.{Heap, header_at, object_at, fields_of, starts, starts_at, is_start, is_target}
+use Rattle.heap_layout.specs.declared.edition.Edition.{Edition}
+use Rattle.heap_layout.specs.declared.kind.Kind.{Kind}
+use Rattle.heap_layout.specs.declared.kind.Kind.TheVariants.{Reference, Weak}
 use Rattle.heap_layout.specs.declared.fault.LayoutFault.{LayoutFault}
-use Rattle.heap_layout.specs.declared.fault.LayoutFault.TheVariants.{TooLarge, ObjectPastEnd, ObjectTooLong, MarkNotStart, MarksNotRising, BadRoot, UnmarkedTarget}
+use Rattle.heap_layout.specs.declared.fault.LayoutFault.TheVariants.{TooLarge, ObjectPastEnd, ObjectTooLong, MarkNotStart, MarksNotRising, BadRoot, UnmarkedTarget, BadWeak}
 
 -- the fault, where the test fails
 abbrev pub unless : Bool → LayoutFault → List LayoutFault
@@ -17,16 +21,16 @@ size_faults words marks roots =
     unless (nat_le words (2 ^ 20)) TooLarge ++ unless (nat_le marks (2 ^ 20)) TooLarge ++ unless (nat_le roots (2 ^ 12)) TooLarge
 
 -- the object at i is too long, or ends past the words
-abbrev pub object_faults : List ℕ → ℕ → List LayoutFault
-object_faults words i =
-    let size = size_of (slice_index words i) in
+abbrev pub object_faults : Edition → List ℕ → ℕ → List LayoutFault
+object_faults edition words i =
+    let size = size_of (header_at edition words i) in
     unless (nat_le size 1024) (ObjectTooLong i) ++ unless (nat_le (i + size) (length words)) (ObjectPastEnd i)
 
 -- object by object one comes to index i: the objects from there on have no fault, and they are what the whole row has from there on
-pub record IsReached (words : List ℕ) (i : ℕ) : Type 0 where
+pub record IsReached (edition : Edition) (words : List ℕ) (i : ℕ) : Type 0 where
   pub within : i ≤ length words
-  pub sound : flat_map (object_faults words) (starts_at words i) ≡ []
-  pub same : (k : ℕ) → i ≤ k → is_start (starts words) k ≡ is_start (starts_at words i) k
+  pub sound : flat_map (object_faults edition words) (starts_at edition words i) ≡ []
+  pub same : (k : ℕ) → i ≤ k → is_start (starts edition words) k ≡ is_start (starts_at edition words i) k
 
 -- of marks, of which the next has to be at least `low`: each has to rise, and to be where an object of the row starts
 abbrev pub mark_faults : List ℕ → ℕ → List ℕ → List LayoutFault
@@ -38,33 +42,40 @@ mark_faults row low (mark ∷ marks) =
 abbrev pub root_faults_by : (ℕ → Bool) → List ℕ → List LayoutFault
 root_faults_by test roots = flat_map (λ root. unless (test root.1) (BadRoot root.0)) (enumerate_from 0 roots)
 
--- each of the references, the first of which stands at index `first`, likewise; a fault names the reference's index
-abbrev pub reference_faults_by : (ℕ → Bool) → ℕ → List ℕ → List LayoutFault
-reference_faults_by test first references = flat_map (λ reference. unless (test reference.1) (UnmarkedTarget reference.0)) (enumerate_from first references)
+-- a word of this kind, at index i, leads nowhere
+abbrev pub misled : Kind → ℕ → LayoutFault
+misled Weak i = BadWeak i
+misled _ i = UnmarkedTarget i
 
--- the references of each marked object likewise
-abbrev pub target_faults_by : (ℕ → Bool) → List ℕ → List ℕ → List LayoutFault
-target_faults_by test words marks = flat_map (λ mark. reference_faults_by test (mark + 1) (object_at words mark).references) marks
+-- each of the words of a kind, the first of which stands at index `first`, likewise; a fault names the word's index
+abbrev pub reference_faults_by : Kind → (ℕ → Bool) → ℕ → List ℕ → List LayoutFault
+reference_faults_by kind test first references = flat_map (λ reference. unless (test reference.1) (misled kind reference.0)) (enumerate_from first references)
+
+-- the fields of a kind of each marked object likewise
+abbrev pub field_faults_by : Kind → Edition → (ℕ → Bool) → List ℕ → List ℕ → List LayoutFault
+field_faults_by kind edition test words marks =
+    flat_map (λ mark. reference_faults_by kind test (mark + first_of kind (header_at edition words mark)) (fields_of kind (object_at edition words mark))) marks
 
 -- each root is null or a marked object's address
 abbrev pub root_faults : List ℕ → List ℕ → List LayoutFault
 root_faults marks roots = root_faults_by (is_target marks) roots
 
--- each of the references likewise
-abbrev pub reference_faults : List ℕ → ℕ → List ℕ → List LayoutFault
-reference_faults marks first references = reference_faults_by (is_target marks) first references
+-- each reference of a marked object likewise
+abbrev pub target_faults : Edition → List ℕ → List ℕ → List ℕ → List LayoutFault
+target_faults edition words all_marks marks = field_faults_by Reference edition (is_target all_marks) words marks
 
--- the references of each marked object likewise
-abbrev pub target_faults : List ℕ → List ℕ → List ℕ → List LayoutFault
-target_faults words all_marks marks = target_faults_by (is_target all_marks) words marks
+-- each weak word of a marked object is null or an object's address
+abbrev pub weak_faults : Edition → List ℕ → List ℕ → List LayoutFault
+weak_faults edition words marks = field_faults_by Weak edition (is_target (starts edition words)) words marks
 
 abbrev pub faults : Heap → List LayoutFault
 faults heap =
     size_faults (length heap.words) (length heap.marks) (length heap.roots)
-    ++ flat_map (object_faults heap.words) (starts heap.words)
-    ++ mark_faults (starts heap.words) 0 heap.marks
+    ++ flat_map (object_faults heap.edition heap.words) (starts heap.edition heap.words)
+    ++ mark_faults (starts heap.edition heap.words) 0 heap.marks
     ++ root_faults heap.marks heap.roots
-    ++ target_faults heap.words heap.marks heap.marks
+    ++ target_faults heap.edition heap.words heap.marks heap.marks
+    ++ weak_faults heap.edition heap.words heap.marks
 
 abbrev pub IsAccepted : Heap → Type 0
 IsAccepted heap = faults heap ≡ []

@@ -4,10 +4,12 @@ ghost use Rattle.std.specs.List.Sorted.{IsStrictlyIncreasing};
 ghost use Rattle.std.specs.List.{flat_map};
 ghost use Rattle.heap_layout.specs.Heap.{starts, is_start, is_target, IsPlaced};
 ghost use Rattle.heap_layout.specs.Bits.{leads};
-ghost use Rattle.heap_layout.specs.Faults.{IsReached, size_faults, object_faults, mark_faults, root_faults_by, reference_faults_by, target_faults_by, faults, Tells};
+ghost use Rattle.heap_layout.specs.Faults.{IsReached, size_faults, object_faults, mark_faults, root_faults_by, misled, reference_faults_by, field_faults_by, weak_faults, faults, Tells};
 
+use crate::edition::Edition;
 use crate::fault::LayoutFault;
 use crate::header::Header;
+use crate::kind::Kind;
 use crate::targets::Targets;
 
 /// The most words of a heap.
@@ -26,15 +28,21 @@ pub const MOST_OBJECT_WORDS: usize = 1_024;
 pub const FROM_SPACE: u64 = 4_294_967_296;
 
 /// Ok where a heap of these parts is accepted, and else its first fault.
-pub fn check(words: &[u64], marks: &[u32], roots: &[u64]) -> Result<(), LayoutFault>
-    ensures { Tells (faults (record { words = words.now; marks = marks.now; roots = roots.now })) result }
+pub fn check(
+    edition: Edition,
+    words: &[u64],
+    marks: &[u32],
+    roots: &[u64],
+) -> Result<(), LayoutFault>
+    ensures { Tells (faults (record { edition = edition; words = words.now; marks = marks.now; roots = roots.now })) result }
 {
     check_sizes(words.len(), marks.len(), roots.len())?;
-    check_row(words)?;
-    check_marks(words, marks)?;
+    check_row(edition, words)?;
+    check_marks(edition, words, marks)?;
     let targets = Targets::from_marks(marks);
     check_roots(&targets, roots)?;
-    check_targets(&targets, words, marks)
+    check_fields(&targets, Kind::Reference, edition, words, marks)?;
+    check_weak(edition, words, marks)
 }
 
 /// Whether there are few enough words, marks and roots.
@@ -49,13 +57,13 @@ pub fn check_sizes(words: usize, marks: usize, roots: usize) -> Result<(), Layou
 }
 
 // Object by object: none is too long, or ends past the words.
-fn check_row(words: &[u64]) -> Result<(), LayoutFault>
+fn check_row(edition: Edition, words: &[u64]) -> Result<(), LayoutFault>
     requires { length words.now ≤ 2 ^ 20 }
-    ensures { Tells (flat_map (object_faults words.now) (starts words.now)) result }
+    ensures { Tells (flat_map (object_faults edition words.now) (starts edition words.now)) result }
 {
     let mut start = 0;
     while start < words.len() {
-        let size = Header::from_word(words[start]).size() as usize;
+        let size = Header::from_word_of(edition, words[start]).size() as usize;
         if size > MOST_OBJECT_WORDS {
             return Err(LayoutFault::ObjectTooLong(start as u64));
         }
@@ -68,10 +76,10 @@ fn check_row(words: &[u64]) -> Result<(), LayoutFault>
 }
 
 // Mark by mark: each is above the one before it, and an object of the row starts there.
-fn check_marks(words: &[u64], marks: &[u32]) -> Result<(), LayoutFault>
+fn check_marks(edition: Edition, words: &[u64], marks: &[u32]) -> Result<(), LayoutFault>
     requires few { length words.now ≤ 2 ^ 20 }
-    requires row { flat_map (object_faults words.now) (starts words.now) ≡ [] }
-    ensures { Tells (mark_faults (starts words.now) 0 marks.now) result }
+    requires row { flat_map (object_faults edition words.now) (starts edition words.now) ≡ [] }
+    ensures { Tells (mark_faults (starts edition words.now) 0 marks.now) result }
 {
     let mut low = 0;
     let mut start = 0;
@@ -80,7 +88,7 @@ fn check_marks(words: &[u64], marks: &[u32]) -> Result<(), LayoutFault>
         if mark < low {
             return Err(LayoutFault::MarksNotRising(mark as u64));
         }
-        start = next_start(words, start, mark);
+        start = next_start(edition, words, start, mark);
         if start != mark || mark >= words.len() {
             return Err(LayoutFault::MarkNotStart(mark as u64));
         }
@@ -90,20 +98,20 @@ fn check_marks(words: &[u64], marks: &[u32]) -> Result<(), LayoutFault>
 }
 
 // From the object at `start` on, the first start that is not below `low`, or the end of the row.
-fn next_start(words: &[u64], mut start: usize, low: usize) -> usize
+fn next_start(edition: Edition, words: &[u64], mut start: usize, low: usize) -> usize
     requires few { length words.now ≤ 2 ^ 20 }
-    requires reached { IsReached words.now start }
+    requires reached { IsReached edition words.now start }
     requires order { start ≤ low }
-    ensures reached { IsReached words.now result }
-    ensures found { is_start (starts words.now) low ≡ (result == low && nat_lt low (length words.now)) }
+    ensures reached { IsReached edition words.now result }
+    ensures found { is_start (starts edition words.now) low ≡ (result == low && nat_lt low (length words.now)) }
 {
     while start < low && start < words.len() {
-        start += Header::from_word(words[start]).size() as usize;
+        start += Header::from_word_of(edition, words[start]).size() as usize;
     }
     start
 }
 
-/// Whether a reference is null or the address of a marked object. The marks rise.
+/// Whether a word is null or the address of a marked object. The marks rise.
 pub fn is_target(marks: &[u32], reference: u64) -> bool
     requires { IsStrictlyIncreasing marks.now }
     ensures { result ≡ is_target marks.now reference }
@@ -132,29 +140,67 @@ fn check_roots(targets: &Targets, roots: &[u64]) -> Result<(), LayoutFault>
     Ok(())
 }
 
-// Each reference of each marked object is null or a marked object's address.
-fn check_targets(targets: &Targets, words: &[u64], marks: &[u32]) -> Result<(), LayoutFault>
+// Each weak word of each marked object is null or an object's address.
+fn check_weak(edition: Edition, words: &[u64], marks: &[u32]) -> Result<(), LayoutFault>
     requires few { length words.now ≤ 2 ^ 20 }
-    requires placed { All (IsPlaced words.now) marks.now }
-    ensures { Tells (target_faults_by (leads targets.now) words.now marks.now) result }
+    requires row { flat_map (object_faults edition words.now) (starts edition words.now) ≡ [] }
+    requires placed { All (IsPlaced edition words.now) marks.now }
+    ensures { Tells (weak_faults edition words.now marks.now) result }
+{
+    match edition {
+        Edition::One => Ok(()),
+        Edition::Two => {
+            let targets = Targets::from_row(edition, words);
+            check_fields(&targets, Kind::Weak, edition, words, marks)
+        }
+    }
+}
+
+// Each field of a kind of each marked object passes.
+fn check_fields(
+    targets: &Targets,
+    kind: Kind,
+    edition: Edition,
+    words: &[u64],
+    marks: &[u32],
+) -> Result<(), LayoutFault>
+    requires few { length words.now ≤ 2 ^ 20 }
+    requires placed { All (IsPlaced edition words.now) marks.now }
+    ensures { Tells (field_faults_by kind edition (leads targets.now) words.now marks.now) result }
 {
     for &mark in marks {
-        let first = mark as usize + 1;
-        let refs = Header::from_word(words[mark as usize]).refs() as usize;
-        check_references(targets, first as u64, &words[first..first + refs])?;
+        let header = Header::from_word_of(edition, words[mark as usize]);
+        let first = mark as usize + header.first(kind) as usize;
+        let count = header.count(kind) as usize;
+        check_references(targets, kind, first as u64, &words[first..first + count])?;
     }
     Ok(())
 }
 
-// Each of the references, the first of which stands at index `first`, likewise.
-fn check_references(targets: &Targets, first: u64, references: &[u64]) -> Result<(), LayoutFault>
+// Each of the words of a kind, the first of which stands at index `first`, passes.
+fn check_references(
+    targets: &Targets,
+    kind: Kind,
+    first: u64,
+    references: &[u64],
+) -> Result<(), LayoutFault>
     requires { first + length references.now ≤ 2 ^ 32 }
-    ensures { Tells (reference_faults_by (leads targets.now) first references.now) result }
+    ensures { Tells (reference_faults_by kind (leads targets.now) first references.now) result }
 {
     for (i, &reference) in references.iter().enumerate() {
         if !targets.has(reference) {
-            return Err(LayoutFault::UnmarkedTarget(first + i as u64));
+            return Err(misled(kind, first + i as u64));
         }
     }
     Ok(())
+}
+
+// What is wrong with a word of this kind that leads nowhere.
+fn misled(kind: Kind, i: u64) -> LayoutFault
+    ensures { result ≡ misled kind i }
+{
+    match kind {
+        Kind::Weak => LayoutFault::BadWeak(i),
+        _ => LayoutFault::UnmarkedTarget(i),
+    }
 }

@@ -16,8 +16,8 @@ impl From<AllocError> for OutOfMemory {
 }
 
 /// Why a heap, or the image of one, is refused. Of several causes the first counts, in this order: the size; then object by object its length and
-/// its end; then mark by mark its order and its place; then the roots; then the references. While an image is read, its ending, its magic and its
-/// length come before.
+/// its end; then mark by mark its order and its place; then the roots; then the references; then the weak words. While an image is read, its ending, its
+/// magic and its length come before.
 #[derive(Clone, Copy, Debug, PartialEq, Eq, Error)]
 pub enum LayoutFault {
     /// More than 1,048,576 words, 1,048,576 marks or 4,096 roots.
@@ -56,6 +56,9 @@ pub enum LayoutFault {
     /// A call of the reader or writer answered an error, an interrupted one too.
     #[error("H12 Device")]
     Device,
+    /// The weak word at this index, of a marked object, is neither null nor an object's address, marked or not.
+    #[error("H13 BadWeak({0})")]
+    BadWeak(u64),
 }
 
 impl From<AllocError> for LayoutFault {

@@ -1,42 +1,92 @@
-ghost use Rattle.std.specs.Prelude.{◌≡◌, ℕ};
-ghost use Rattle.heap_layout.specs.Header.{refs_of, data_of, tag_of, size_of, header_word};
+ghost use Rattle.std.specs.Prelude.{◌≡◌, ◌+◌, ◌≤◌, IfSome};
+ghost use Rattle.heap_layout.specs.declared.edition.Edition.TheVariants.{One, Two};
+ghost use Rattle.heap_layout.specs.Header.{refs_of, weak_of, data_of, tag_of, size_of, header_of, header_with, header_word, weak_header_word};
+ghost use Rattle.heap_layout.specs.Kinds.{count_of, first_of};
 
+use crate::edition::Edition;
+use crate::kind::Kind;
 use std::marker::Model;
 
-/// The header of an object: how many reference words and data words follow it, and a tag. Every word is one.
+/// A word, and the edition by which it is read as a header: how many words of each kind follow it, and a tag. Every word is one, in either edition;
+/// headers of one word and two editions differ.
 #[derive(Clone, Copy, Debug, PartialEq, Eq)]
 pub struct Header {
+    edition: Edition,
     word: u64,
 }
 
 impl Model for Header {
-    ghost Value = { ℕ };
+    ghost use Rattle.heap_layout.specs.Header.{Head};
 
-    ghost view = { λ header. header.word };
+    ghost Value = { Head };
 
-    ghost inverse = { λ word. record { word = word } };
+    ghost view = { λ header. record { edition = header.edition; word = header.word } };
+
+    ghost inverse = { λ head. record { edition = head.edition; word = head.word } };
 }
 
 impl Header {
-    /// The header of an object of `refs` references and `data_words` words of data.
+    /// In edition one, the header of an object of `refs` references and `data_words` words of data, with this tag.
     pub fn new(refs: u16, data_words: u16, tag: u32) -> Header
-        ensures { result ≡ header_word refs data_words tag }
+        ensures { result ≡ header_of One (header_word refs data_words tag) }
     {
         Header {
+            edition: Edition::One,
             word: u64::from(refs) + (u64::from(data_words) << 16) + (u64::from(tag) << 32),
         }
     }
 
-    /// The header that a word is.
-    pub fn from_word(word: u64) -> Header
-        ensures { result ≡ word }
+    /// In edition two, the header of an object of `refs` references, `weak` weak words and `data_words` words of data, with this tag.
+    pub fn new_weak(refs: u16, weak: u16, data_words: u16, tag: u16) -> Header
+        ensures { result ≡ header_of Two (weak_header_word refs weak data_words tag) }
     {
-        Header { word }
+        Header {
+            edition: Edition::Two,
+            word: u64::from(refs)
+                + (u64::from(data_words) << 16)
+                + (u64::from(weak) << 32)
+                + (u64::from(tag) << 48),
+        }
+    }
+
+    /// The header of an object of `refs` references, `weak` weak words and `data_words` words of data, with this tag. None where the edition has none:
+    /// edition one has no weak words, edition two no tag of 2^16 or more.
+    pub fn of_counts(
+        edition: Edition,
+        refs: u16,
+        weak: u16,
+        data_words: u16,
+        tag: u32,
+    ) -> Option<Header>
+        ensures header { result ≡ header_with edition refs weak data_words tag }
+        ensures edition { IfSome result (λ header. header.edition ≡ edition) }
+    {
+        match edition {
+            Edition::One if weak == 0 => Some(Header::new(refs, data_words, tag)),
+            Edition::Two if tag < 65_536 => {
+                Some(Header::new_weak(refs, weak, data_words, tag as u16))
+            }
+            _ => None,
+        }
+    }
+
+    /// The header that a word is in edition one.
+    pub fn from_word(word: u64) -> Header
+        ensures { result ≡ header_of One word }
+    {
+        Header::from_word_of(Edition::One, word)
+    }
+
+    /// The header that a word is in an edition.
+    pub fn from_word_of(edition: Edition, word: u64) -> Header
+        ensures { result ≡ header_of edition word }
+    {
+        Header { edition, word }
     }
 
     /// The header's word.
     pub fn word(self) -> u64
-        ensures { result ≡ self }
+        ensures { result ≡ self.word }
     {
         self.word
     }
@@ -48,24 +98,62 @@ impl Header {
         (self.word & 0xffff) as u16
     }
 
-    /// How many data words follow the references.
+    /// How many weak words follow the references: none in edition one.
+    pub fn weak(self) -> u16
+        ensures { result ≡ weak_of self }
+    {
+        match self.edition {
+            Edition::One => 0,
+            Edition::Two => ((self.word >> 32) & 0xffff) as u16,
+        }
+    }
+
+    /// How many data words follow the weak words.
     pub fn data_words(self) -> u16
         ensures { result ≡ data_of self }
     {
         ((self.word >> 16) & 0xffff) as u16
     }
 
-    /// The object's tag.
+    /// The tag: 32 bits in edition one, 16 in edition two.
     pub fn tag(self) -> u32
         ensures { result ≡ tag_of self }
     {
-        (self.word >> 32) as u32
+        match self.edition {
+            Edition::One => (self.word >> 32) as u32,
+            Edition::Two => (self.word >> 48) as u32,
+        }
     }
 
-    /// The words of the object, its header among them: 1 to 131,071.
+    /// How many fields of a kind the object has: none of kind Header.
+    pub fn count(self, kind: Kind) -> u16
+        ensures count { result ≡ count_of kind self }
+        ensures inside { first_of kind self + result ≤ size_of self }
+    {
+        match kind {
+            Kind::Header => 0,
+            Kind::Reference => self.refs(),
+            Kind::Weak => self.weak(),
+            Kind::Data => self.data_words(),
+        }
+    }
+
+    /// Which word of the object the first field of a kind is, or would be: the header is word 0.
+    pub fn first(self, kind: Kind) -> u32
+        ensures { result ≡ first_of kind self }
+    {
+        match kind {
+            Kind::Header => 0,
+            Kind::Reference => 1,
+            Kind::Weak => 1 + u32::from(self.refs()),
+            Kind::Data => 1 + u32::from(self.refs()) + u32::from(self.weak()),
+        }
+    }
+
+    /// The words of the object, its header among them: 1 to 131,071 in edition one, to 196,606 in edition two.
     pub fn size(self) -> u32
         ensures { result ≡ size_of self }
     {
-        1 + u32::from(self.refs()) + u32::from(self.data_words())
+        1 + u32::from(self.refs()) + u32::from(self.weak()) + u32::from(self.data_words())
     }
 }

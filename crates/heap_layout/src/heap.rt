@@ -1,16 +1,21 @@
-ghost use Rattle.std.specs.Prelude.{◌≡◌, IfOk, IfErr};
+ghost use Rattle.std.specs.Prelude.{◌≡◌, ◌<◌, length, IfOk, IfErr};
 ghost use Rattle.std.specs.List.{flat_map};
-ghost use Rattle.heap_layout.specs.Heap.{objects, words_of, is_target, IsStored, IsClosed};
+ghost use Rattle.heap_layout.specs.Heap.{header_at, objects, words_of, is_target, IsStored, IsClosed};
 ghost use Rattle.heap_layout.specs.Faults.{faults, IsAccepted, IsFirst};
+ghost use Rattle.heap_layout.specs.declared.edition.Edition.TheVariants.{One};
 
 use crate::checks;
+use crate::edition::Edition;
 use crate::fault::LayoutFault;
+use crate::header::Header;
 use std::marker::Model;
 
 /// A heap as a marking phase left it: from-space words that are a row of objects without gaps, the rising indices of the marked objects, and roots.
-/// Every root, and every reference of a marked object, is null or a marked object's address. From-space word `i` has the address `2^32 + i`.
+/// Every root, and every reference of a marked object, is null or a marked object's address, and every weak word of one null or an object's address.
+/// From-space word `i` has the address `2^32 + i`.
 #[derive(Debug, Drop)]
 pub struct MarkedHeap {
+    edition: Edition,
     words: Vec<u64>,
     marks: Vec<u32>,
     roots: Vec<u64>,
@@ -22,30 +27,54 @@ impl Model for MarkedHeap {
 
     ghost Value = { Heap };
 
-    ghost view = { λ heap. record { words = heap.words.items; marks = heap.marks.items; roots = heap.roots.items } };
+    ghost view = { λ heap. record { edition = heap.edition; words = heap.words.items; marks = heap.marks.items; roots = heap.roots.items } };
 
-    ghost invariant = { λ heap. IsAccepted (record { words = heap.words.items; marks = heap.marks.items; roots = heap.roots.items }) };
+    ghost invariant = { λ heap. IsAccepted (record { edition = heap.edition; words = heap.words.items; marks = heap.marks.items; roots = heap.roots.items }) };
 }
 
 impl MarkedHeap {
-    /// The heap of these words, marks and roots, where it is accepted, and else its first fault. It takes no memory.
+    /// The heap of edition one of these words, marks and roots, as by `from_parts_of`.
     pub fn from_parts(
         words: Vec<u64>,
         marks: Vec<u32>,
         roots: Vec<u64>,
     ) -> Result<MarkedHeap, LayoutFault>
-        ensures made { IfOk result (λ heap. heap ≡ record { words = words.items; marks = marks.items; roots = roots.items }) }
+        ensures made { IfOk result (λ heap. heap ≡ record { edition = One; words = words.items; marks = marks.items; roots = roots.items }) }
         ensures accepted { IfOk result IsAccepted }
         ensures stored { IfOk result IsStored }
         ensures fault { IfErr result
-            (IsFirst (faults (record { words = words.items; marks = marks.items; roots = roots.items }))) }
+            (IsFirst (faults (record { edition = One; words = words.items; marks = marks.items; roots = roots.items }))) }
     {
-        checks::check(&words, &marks, &roots)?;
+        MarkedHeap::from_parts_of(Edition::One, words, marks, roots)
+    }
+
+    /// The heap of this edition, of these words, marks and roots, where it is accepted, and else its first fault. It takes no memory.
+    pub fn from_parts_of(
+        edition: Edition,
+        words: Vec<u64>,
+        marks: Vec<u32>,
+        roots: Vec<u64>,
+    ) -> Result<MarkedHeap, LayoutFault>
+        ensures made { IfOk result (λ heap. heap ≡ record { edition = edition; words = words.items; marks = marks.items; roots = roots.items }) }
+        ensures accepted { IfOk result IsAccepted }
+        ensures stored { IfOk result IsStored }
+        ensures fault { IfErr result
+            (IsFirst (faults (record { edition = edition; words = words.items; marks = marks.items; roots = roots.items }))) }
+    {
+        checks::check(edition, &words, &marks, &roots)?;
         Ok(MarkedHeap {
+            edition,
             words,
             marks,
             roots,
         })
+    }
+
+    /// By which layout the objects are read.
+    pub fn edition(&self) -> Edition
+        ensures { result ≡ self.now.edition }
+    {
+        self.edition
     }
 
     /// The from-space words, index 0 first: the words of all objects, object by object.
@@ -55,6 +84,14 @@ impl MarkedHeap {
         ensures closed { IsClosed self.now }
     {
         &self.words
+    }
+
+    /// The word at an index, read as a header. It asks for an index of a word.
+    pub fn header_at(&self, i: usize) -> Header
+        requires { i < length self.now.words }
+        ensures { result ≡ header_at self.now.edition self.now.words i }
+    {
+        Header::from_word_of(self.edition, self.words[i])
     }
 
     /// The indices of the marked objects, rising.
@@ -73,7 +110,7 @@ impl MarkedHeap {
         &self.roots
     }
 
-    /// Whether a reference is null or a marked object's address.
+    /// Whether a word is null or a marked object's address.
     pub fn is_target(&self, reference: u64) -> bool
         ensures target { result ≡ is_target self.now.marks reference }
         ensures closed { IsClosed self.now }

@@ -1,19 +1,23 @@
-//! The references that lead to marked objects, each told in constant time.
-ghost use Rattle.std.specs.Prelude.{◌≡◌, ℕ, ◌^◌, ◌<◌, false, All};
+//! The words that lead to some objects, each told in constant time.
+ghost use Rattle.std.specs.Prelude.{◌≡◌, ℕ, ◌^◌, ◌<◌, ◌≤◌, false, [], All, length};
+ghost use Rattle.std.specs.List.{flat_map};
 ghost use Rattle.heap_layout.specs.Bits.{bit, leads};
-ghost use Rattle.heap_layout.specs.Heap.{is_target};
+ghost use Rattle.heap_layout.specs.Heap.{is_target, starts};
+ghost use Rattle.heap_layout.specs.Faults.{object_faults};
 
 use crate::bits::{is_set, set};
 use crate::checks::{FROM_SPACE, MOST_WORDS};
+use crate::edition::Edition;
+use crate::header::Header;
 use std::marker::Model;
 
 // Blocks of 64 bits, one bit for each word of the largest heap.
 const BLOCKS: usize = MOST_WORDS / 64;
 
-/// For each from-space word whether a marked object starts there.
+/// For each from-space word whether one of the objects starts there.
 #[derive(Drop)]
 pub struct Targets {
-    marked: [u64; BLOCKS],
+    starts: [u64; BLOCKS],
 }
 
 impl Model for Targets {
@@ -21,23 +25,38 @@ impl Model for Targets {
 
     ghost Value = { List ℕ };
 
-    ghost view = { λ targets. targets.marked };
+    ghost view = { λ targets. targets.starts };
 }
 
 impl Targets {
-    /// The targets of these marks.
+    /// The objects at these marks, as targets. It asks for marks below 2^20.
     pub fn from_marks(marks: &[u32]) -> Targets
         requires { All (λ mark. mark < 2 ^ 20) marks.now }
         ensures { leads result ≡ is_target marks.now }
     {
-        let mut marked = zeros();
+        let mut starts = zeros();
         for &mark in marks {
-            set(&mut marked, mark as usize);
+            set(&mut starts, mark as usize);
         }
-        Targets { marked }
+        Targets { starts }
     }
 
-    /// Whether a reference is null or the address of a marked object.
+    /// All objects of a row, as targets. It asks for at most 2^20 words, which are objects without gaps.
+    pub fn from_row(edition: Edition, words: &[u64]) -> Targets
+        requires few { length words.now ≤ 2 ^ 20 }
+        requires row { flat_map (object_faults edition words.now) (starts edition words.now) ≡ [] }
+        ensures { leads result ≡ is_target (starts edition words.now) }
+    {
+        let mut starts = zeros();
+        let mut start = 0;
+        while start < words.len() {
+            set(&mut starts, start);
+            start += Header::from_word_of(edition, words[start]).size() as usize;
+        }
+        Targets { starts }
+    }
+
+    /// Whether a word is null or the address of one of the objects.
     pub fn has(&self, reference: u64) -> bool
         ensures { result ≡ leads self.now reference }
     {
@@ -48,7 +67,7 @@ impl Targets {
             return false;
         }
         let i = reference - FROM_SPACE;
-        i < MOST_WORDS as u64 && is_set(&self.marked, i as usize)
+        i < MOST_WORDS as u64 && is_set(&self.starts, i as usize)
     }
 }
 

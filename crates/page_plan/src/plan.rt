@@ -122,7 +122,7 @@ impl Plan {
             return None;
         }
         let start = self.heap.marks()[cursor.number];
-        Some(Header::from_word(self.heap.words()[start as usize]))
+        Some(self.heap.header_at(start as usize))
     }
 
     /// Where a reference leads after sliding: 0 for 0, the to-space address for a live object's address, None for all else.

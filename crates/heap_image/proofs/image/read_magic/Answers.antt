@@ -1,4 +1,4 @@
-use Rattle.std.proofs.Common.{◌≡◌, ◌≢◌, take, refl, sym, ap, ◌∙◌, subst, arith}
+use Rattle.std.proofs.Common.{◌≡◌, ◌≢◌, ◌^◌, ◌<◌, ℕ, List, length, get_or, take, refl, sym, ap, ◌∙◌, subst, arith}
 use Rattle.std.specs.Io.KnownBytes.{Consumes}
 use Rattle.std.proofs.KnownBytes.{Consumes-trans}
 use Rattle.std.proofs.lemmas.Bool.{not-true, not-false}
@@ -6,7 +6,10 @@ use Rattle.std.proofs.lemmas.Bool.Decides.{not_from_Decides}
 use Rattle.std.proofs.lemmas.List.{take_all}
 use Rattle.std.proofs.lemmas.Slice.Eq.{bytes_eq-Decides}
 use Rattle.byteorder.specs.Endian.{little_number}
-use Rattle.heap_image.specs.Encoding.{magic, four_bytes}
+use Rattle.heap_image.specs.Encoding.{magic, four_bytes, version}
+use Rattle.heap_image.specs.Versions.{version_of}
+use Rattle.heap_layout.specs.declared.edition.Edition.{Edition}
+use Rattle.heap_layout.specs.declared.edition.Edition.TheVariants.{One, Two}
 use Rattle.heap_image.proofs.Numbers.{four_bytes-read}
 use Rattle.heap_image.proofs.Reading.{cut_in_magic, cut_in_version, other_magic, other_version, handed_on, failure_handed_on}
 use Rattle.heap_image.proofs.image.read_magic.Goals as goal
@@ -33,19 +36,27 @@ pub returns-in_err-read_part-2-clause-counts : goal.returns-in_err-read_part-2-c
 returns-in_err-read_part-2-clause-counts g c =
     failure_handed_on _ _ _ _ _ c.from_residual-in_err-read_part-2.ensures.1 c.in_ok-read_part.ensures.counts c.in_err-read_part-2.ensures.counts
 
-pub returns-then-read_u32-ne-VERSION-clause-cause : goal.returns-then-read_u32-ne-VERSION-clause-cause
-returns-then-read_u32-ne-VERSION-clause-cause g c =
-    let same : c.read_part.new.buf ≡ magic = (bytes_eq-Decides c.read_part.new.buf magic).0 (not-false _ (sym c.ne.ensures ∙ c.if-ne.false)) in
-    let read = c.read_part-2.new.buf in
-    let other : read ≢ four_bytes 1 = λ is. c.if-read_u32-ne-VERSION.true (c.read_u32.ensures ∙ ap (little_number 4) is) in
-    other_version _ _ _ read (subst (Consumes _ _) same c.in_ok-read_part.ensures.read) c.in_ok-read_part-2.ensures.read (omega arith) other
+-- the bytes of a version are those of its number
+version_bytes : (bytes : List ℕ) (n : ℕ) → length bytes ≡ 4 → ((i : ℕ) → get_or bytes i 0 < 2 ^ 8) → n ≡ little_number 4 bytes → bytes ≡ four_bytes n
+version_bytes bytes n long small read =
+    let whole : take 4 bytes ≡ bytes = take_all 4 bytes (omega arith) in
+    sym whole ∙ sym (four_bytes-read bytes 0 4 n small (omega arith) (omega arith) (read ∙ ap (little_number 4) (sym whole)))
 
-pub returns-clause-read : goal.returns-clause-read
-returns-clause-read g c =
+-- bytes of another number than the versions are of none
+not_version : (bytes : List ℕ) (n : ℕ) → n ≡ little_number 4 bytes → ((edition : Edition) → version_of edition ≢ n) → (edition : Edition) → bytes ≢ version edition
+not_version bytes n read none One is = none One (sym (read ∙ ap (little_number 4) is))
+not_version bytes n read none Two is = none Two (sym (read ∙ ap (little_number 4) is))
+
+pub returns-in-Some-clause-read : goal.returns-in-Some-clause-read
+returns-in-Some-clause-read g c =
+    let same : c.read_part.new.buf ≡ magic = (bytes_eq-Decides c.read_part.new.buf magic).0 (not-false _ (sym c.ne.ensures ∙ c.if-ne.false)) in
+    let bytes = version_bytes c.read_part-2.new.buf c.read_u32.result (omega arith) c.read_part-2.ensures.small c.read_u32.ensures in
+    let told : c.read_part-2.new.buf ≡ version c.in-Some.edition = bytes ∙ ap four_bytes (sym c.in-Some.ensures.found) in
+    Consumes-trans _ _ _ magic (version c.in-Some.edition) (subst (Consumes _ _) same c.in_ok-read_part.ensures.read) (subst (Consumes _ _) told c.in_ok-read_part-2.ensures.read)
+
+pub returns-in-None-clause-cause : goal.returns-in-None-clause-cause
+returns-in-None-clause-cause g c =
     let same : c.read_part.new.buf ≡ magic = (bytes_eq-Decides c.read_part.new.buf magic).0 (not-false _ (sym c.ne.ensures ∙ c.if-ne.false)) in
     let read = c.read_part-2.new.buf in
-    let whole : take 4 read ≡ read = take_all 4 read (omega arith) in
-    let number : c.read_u32.result ≡ little_number 4 (take 4 read) = c.read_u32.ensures ∙ ap (little_number 4) (sym whole) in
-    let version : read ≡ four_bytes 1 =
-    sym whole ∙ sym (four_bytes-read read 0 4 _ c.read_part-2.ensures.small (omega arith) (omega arith) number) ∙ ap four_bytes c.if-read_u32-ne-VERSION.false in
-    Consumes-trans _ _ _ magic (four_bytes 1) (subst (Consumes _ _) same c.in_ok-read_part.ensures.read) (subst (Consumes _ _) version c.in_ok-read_part-2.ensures.read)
+    other_version _ _ _ read (subst (Consumes _ _) same c.in_ok-read_part.ensures.read) c.in_ok-read_part-2.ensures.read (omega arith)
+    (not_version read c.read_u32.result c.read_u32.ensures c.in-None.ensures.none)

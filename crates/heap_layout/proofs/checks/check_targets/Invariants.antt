@@ -1,8 +1,0 @@
-use Rattle.std.proofs.Common.{◌≡◌, drop}
-use Rattle.heap_layout.specs.Bits.{leads}
-use Rattle.heap_layout.specs.Faults.{target_faults_by}
-use Rattle.heap_layout.proofs.checks.check_targets.Given as goal
-
--- the marked objects that are left have the faults of all
-abbrev pub invariant-loop-mark : goal.invariant-loop-mark
-invariant-loop-mark l = target_faults_by (leads l.targets) l.words (drop l.mark-index l.marks) ≡ target_faults_by (leads l.targets) l.words l.marks
