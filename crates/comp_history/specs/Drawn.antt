@@ -4,6 +4,7 @@ use Rattle.heap_layout.specs.Header.{header_word}
 use Rattle.heap_layout.specs.Heap.{Heap, from_address}
 use Rattle.heap_layout.specs.declared.kind.Kind.{Kind}
 use Rattle.heap_layout.specs.declared.kind.Kind.TheVariants.{Header, Reference, Data}
+use Rattle.heap_layout.specs.declared.edition.Edition.TheVariants.{One}
 use Rattle.page_plan.specs.Sliding.{to_address}
 use Rattle.comp_journal.specs.declared.entry.Entry.{Entry}
 use Rattle.cell_steps.specs.Setup.{Setup}
@@ -14,6 +15,7 @@ use Rattle.comp_history.specs.OneThread.{OneThreadHeap, first_heap, result_of}
 -- | h(0,1,1) 11 | h(1,1,2) 0 22 | h(1,0,3) F |, of which the first and the third object are marked
 abbrev pub three_objects : Heap
 three_objects = record {
+  edition = One;
   words = header_word 0 1 1 ∷ 11 ∷ header_word 1 1 2 ∷ 0 ∷ 22 ∷ header_word 1 0 3 ∷ from_address 0 ∷ [];
   marks = 0 ∷ 5 ∷ [];
   roots = from_address 5 ∷ [];

@@ -4,18 +4,21 @@ use Rattle.std.specs.Prelude.{◌≡◌, ℕ, ◌+◌, ◌<◌, ◌≤◌, ◌�
 use Rattle.std.specs.List.{range_with_len}
 use mathlib.Core.Option.{some}
 use lib.ListN.{get_elem?}
-use Rattle.heap_layout.specs.Header.{refs_of, data_of, size_of}
+use Rattle.heap_layout.specs.Header.{Head, header_of, size_of}
 use Rattle.heap_layout.specs.Heap.{live}
 use Rattle.heap_layout.specs.declared.kind.Kind.{Kind}
-use Rattle.heap_layout.specs.declared.kind.Kind.TheVariants.{Header, Reference, Data}
+use Rattle.heap_layout.specs.declared.kind.Kind.TheVariants.{Header, Reference, Weak, Data}
+use Rattle.heap_layout.specs.Kinds.{count_of, first_of}
+use Rattle.heap_layout.specs.declared.edition.Edition.{Edition}
 use Rattle.page_plan.specs.Sliding.{place}
 use Rattle.comp_journal.specs.declared.entry.Entry.{Entry}
 use Rattle.cell_steps.specs.Setup.{Setup, address, base_of}
 use Rattle.cell_steps.specs.Lists.{but}
 use Rattle.page_cells.specs.Objects.{page_at, offset_at}
 
--- the word at an object's start is its header
+-- the word at an object's start, read by the edition, is its header
 pub record OneThreadHeap : Type 0 where
+  pub edition : Edition
   pub word : ℕ → ℕ
   pub starts : List ℕ
 
@@ -26,45 +29,44 @@ HasStart heap a = (i : ℕ) × (get_elem? heap.starts i ≡ some a)
 -- at first: each page as sliding compaction makes it, or zeros where it is fresh, and the slid objects
 abbrev pub first_heap : Setup → OneThreadHeap
 first_heap u = record {
+  edition = u.heap.edition;
   word = λ a. slice_index (base_of u (page_at a)) (offset_at a);
   starts = map (place (live u.heap)) (range_with_len 0 (length (live u.heap)));
 }
 
--- The word at the address is a reference of an object of the heap.
-pub record IsReference (heap : OneThreadHeap) (a : ℕ) : Type 0 where
-  pub object : ℕ
-  pub field : ℕ
-  pub there : HasStart heap object
-  pub inside : field < refs_of (heap.word object)
-  pub at : a ≡ object + 1 + field
+-- the header of the object that starts at an address
+abbrev pub header_in : OneThreadHeap → ℕ → Head
+header_in heap a = header_of heap.edition (heap.word a)
 
--- The word at the address is a data word of an object of the heap.
-pub record IsData (heap : OneThreadHeap) (a : ℕ) : Type 0 where
+-- The word at the address is a field of this kind, of an object of the heap.
+pub record IsFieldIn (heap : OneThreadHeap) (k : Kind) (a : ℕ) : Type 0 where
   pub object : ℕ
   pub field : ℕ
   pub there : HasStart heap object
-  pub inside : field < data_of (heap.word object)
-  pub at : a ≡ object + 1 + refs_of (heap.word object) + field
+  pub inside : field < count_of k (header_in heap object)
+  pub at : a ≡ object + first_of k (header_in heap object) + field
 
 -- no object has a word among the `size` words from the address on
 abbrev pub IsFree : OneThreadHeap → ℕ → ℕ → Type 0
-IsFree heap a size = (object : ℕ) → HasStart heap object → (object + size_of (heap.word object) ≤ a) ⊎ (a + size ≤ object)
+IsFree heap a size = (object : ℕ) → HasStart heap object → (object + size_of (header_in heap object) ≤ a) ⊎ (a + size ≤ object)
 
 -- null, or the start of an object of the heap
 abbrev pub IsNullOrStart : OneThreadHeap → ℕ → Type 0
 IsNullOrStart heap value = (value ≡ 0) ⊎ HasStart heap value
 
--- The value may be written at the address: a header, where all words of the new object are free; a reference, into a reference, where it is null or leads
--- to an object that is there already; a data word, into a data word.
+-- The value may be written at the address: a header, where all words of the new object are free; a reference or weak word, into one, where it is null or
+-- leads to an object that is there already; a data word, into a data word.
 abbrev pub MayWrite : OneThreadHeap → Kind → ℕ → ℕ → Type 0
-MayWrite heap Header a value = IsFree heap a (size_of value)
-MayWrite heap Reference a value = IsReference heap a × IsNullOrStart heap value
-MayWrite heap Data a value = IsData heap a
+MayWrite heap Header a value = IsFree heap a (size_of (header_of heap.edition value))
+MayWrite heap Reference a value = IsFieldIn heap Reference a × IsNullOrStart heap value
+MayWrite heap Weak a value = IsFieldIn heap Weak a × IsNullOrStart heap value
+MayWrite heap Data a value = IsFieldIn heap Data a
 
 -- the starts once a word of this kind was written: a header makes an object
 abbrev pub starts_after : Kind → ℕ → List ℕ → List ℕ
 starts_after Header a starts = a ∷ starts
 starts_after Reference a starts = starts
+starts_after Weak a starts = starts
 starts_after Data a starts = starts
 
 -- the address at which an entry of a page was written
@@ -73,7 +75,7 @@ address_of x = address x.0 x.1.offset
 
 -- the heap once the entry was written
 abbrev pub after : OneThreadHeap → ℕ × Entry → OneThreadHeap
-after heap x = record { word = but heap.word (address_of x) x.1.value; starts = starts_after x.1.kind (address_of x) heap.starts }
+after heap x = record { edition = heap.edition; word = but heap.word (address_of x) x.1.value; starts = starts_after x.1.kind (address_of x) heap.starts }
 
 -- one thread may write these entries, one after the other
 abbrev pub IsLegal : OneThreadHeap → List (ℕ × Entry) → Type 0

@@ -1,11 +1,15 @@
 //! Laws of the merged history, each the contract of a function that does nothing.
 ghost use Rattle.std.specs.Prelude.{◌≡◌, ℕ, ◌*◌, ◌<◌, ◌≤◌, List, []};
 ghost use Rattle.heap_layout.specs.Heap.{IsClosed};
+ghost use Rattle.heap_layout.specs.declared.edition.Edition.TheVariants.{Two};
+ghost use Rattle.heap_layout.specs.declared.kind.Kind.TheVariants.{Weak};
 ghost use Rattle.comp_journal.specs.declared.entry.Entry.{Entry as Written};
 ghost use Rattle.cell_steps.specs.Lists.{below, by, total, StartsWith};
 ghost use Rattle.cell_steps.specs.Locks.{Journals};
 ghost use Rattle.cell_steps.specs.Setup.{pages, Setup};
-ghost use Rattle.page_cells.specs.Objects.{ReferencesAreStarts};
+ghost use Rattle.page_cells.specs.Objects.{AreLawful, ReferencesAreStarts};
+ghost use mathlib.Core.Option.{some};
+ghost use lib.ListN.{get_elem?};
 ghost use Rattle.comp_history.specs.Merged.{history, written_by, AreOwn, CanMerge, IsOneHistory, IsPoint};
 ghost use Rattle.comp_history.specs.Shares.{allocated};
 
@@ -41,11 +45,17 @@ pub fn writers_add_up()
 /// The objects that entries make fit the fresh pages.
 pub fn objects_fit()
     ensures { (u : Setup) (journals : Journals) → CanMerge u journals
-        → allocated (history u journals) ≤ 64 * u.fresh }
+        → allocated u.heap.edition (history u journals) ≤ 64 * u.fresh }
 {}
 
-/// Each reference word of each page is null or an object's start.
+/// Each reference and each weak word of each page is null or an object's start.
 pub fn merged_references_are_starts()
     ensures { (u : Setup) (journals : Journals) → CanMerge u journals
         → ReferencesAreStarts u journals }
+{}
+
+/// In an accepted heap of edition one no entry of a lawful journal writes a weak word.
+pub fn weak_entries_are_of_edition_two()
+    ensures { (u : Setup) (journals : Journals) → IsClosed u.heap → AreLawful u journals
+        → (p i : ℕ) (e : Written) → get_elem? (journals p) i ≡ some e → e.kind ≡ Weak → u.heap.edition ≡ Two }
 {}

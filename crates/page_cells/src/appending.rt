@@ -1,6 +1,7 @@
-ghost use Rattle.std.specs.Prelude.{◌≡◌, ◌↔◌, ℕ, ◌+◌, ◌<◌, [], ◌∷◌, ◌++◌, length, slice_index, All, IfOk, OnOk, OnErr, IsErrOf};
-ghost use Rattle.heap_layout.specs.declared.kind.Kind.TheVariants.{Header, Reference};
-ghost use Rattle.heap_layout.specs.Header.{size_of};
+ghost use Rattle.std.specs.Prelude.{◌≡◌, ◌↔◌, ℕ, ◌+◌, ◌<◌, [], ◌∷◌, ◌++◌, length, slice_index, All, IfOk, OnOk, OnErr, IsErrOf, true};
+ghost use Rattle.heap_layout.specs.declared.kind.Kind.TheVariants.{Header};
+ghost use Rattle.heap_layout.specs.Header.{size_of, header_of};
+ghost use Rattle.heap_layout.specs.Kinds.{refers};
 ghost use Rattle.comp_journal.specs.declared.entry.Entry.{Entry as Written};
 ghost use Rattle.comp_journal.specs.declared.refusal.JournalRefusal.TheVariants.{JournalFull};
 ghost use Rattle.cell_steps.specs.Lawful.{Fits, FitsEntry};
@@ -22,8 +23,8 @@ use page_plan::builder::Builder;
 impl<B: Builder> Cells<B> {
     /// Writes one entry into the page that the pass has taken, and answers its stamp. After a header the start bit of the new object is set.
     ///
-    /// It asks that the pass was made with these cells, for an offset below 64, that such an entry may follow those of the page (`Fits`), and that a reference
-    /// is null or a start that the pass knows.
+    /// It asks that the pass was made with these cells, for an offset below 64, that such an entry may follow those of the page (`Fits`), and that what is
+    /// written into a reference or a weak field is null or a start that the pass knows.
     pub fn append(
         &self,
         pass: &mut Pass,
@@ -36,7 +37,7 @@ impl<B: Builder> Cells<B> {
         requires has { Has self.now pass.old taken.old }
         requires offset { offset < 64 }
         requires fits { Fits (setup_of self.now) (page_number taken.old) (journal_of taken.old) kind (number_of pass.old) offset value }
-        requires leads { kind ≡ Reference → MayRefer pass.old value }
+        requires leads { refers kind ≡ true → MayRefer pass.old value }
         ensures of { IsPassOf self.now pass.new × Has self.now pass.new taken.new }
         ensures grows { Grows pass.old pass.new × (builds_of pass.new ≡ builds_of pass.old) }
         ensures page { page_number taken.new ≡ page_number taken.old }
@@ -45,7 +46,7 @@ impl<B: Builder> Cells<B> {
         ensures did { IfOk result (λ stamp. did pass.new ≡ did pass.old ++ (page_number taken.old, record { stamp = stamp; writer = number_of pass.old; kind = kind; offset = offset; value = value }) ∷ []) }
         ensures above { IfOk result (λ stamp. (q : ℕ) → All (λ (entry : Written). entry.stamp < stamp) (seen pass.old q)) }
         ensures start { OnOk result (kind ≡ Header → KnowsFresh pass.new (page_number taken.old) offset) }
-        ensures zeros { OnOk result (kind ≡ Header → (o : ℕ) → offset < o → o < offset + size_of value → slice_index (words_of taken.new) o ≡ 0) }
+        ensures zeros { OnOk result (kind ≡ Header → (o : ℕ) → offset < o → o < offset + size_of (header_of (setup_of self.now).heap.edition value) → slice_index (words_of taken.new) o ≡ 0) }
         ensures refused { OnErr result (IsSame pass.old pass.new × (page_of taken.new ≡ page_of taken.old)) }
     {
         prove!(taken.page.journal().len() <= MOST_ENTRIES);
@@ -67,7 +68,7 @@ impl<B: Builder> Cells<B> {
         requires room { (0 < taken.old.page.room) × (length (journal_of taken.old) < 1024) }
         requires draft { (draft.writer ≡ number_of pass.old) × (draft.offset < 64) }
         requires fits { FitsEntry (setup_of self.now) (page_number taken.old) (journal_of taken.old) draft }
-        requires leads { draft.kind ≡ Reference → MayRefer pass.old draft.value }
+        requires leads { refers draft.kind ≡ true → MayRefer pass.old draft.value }
         ensures of { IsPassOf self.now pass.new × (number_of pass.new ≡ number_of pass.old) }
         ensures holds { Holds (page_number taken.old) pass.new }
         ensures writes { WritesEntry (page_number taken.old) (stamped draft result) (view_of pass.old) (view_of pass.new) }
