@@ -1,12 +1,12 @@
 //! Fields, found by their objects.
-ghost use Rattle.std.specs.Prelude.{◌≡◌, ℕ, ◌+◌, ◌<◌, ◌≤◌, ◌^◌, IfOk, IfErr, IfSome, IfNone, IsErrOf, OnOk};
+ghost use Rattle.std.specs.Prelude.{◌≡◌, ℕ, ◌+◌, ◌<◌, ◌≤◌, ◌^◌, IfOk, IfErr, IfSome, IfNone, IsErrOf, OnOk, true};
 ghost use Rattle.heap_layout.specs.Header.{size_of};
+ghost use Rattle.heap_layout.specs.Kinds.{count_of, refers};
 ghost use Rattle.cell_steps.specs.Starts.{IsPlace};
 ghost use Rattle.cell_steps.specs.Passes.{builds_of, did, seen, HasSeenBuilt, MayRefer, Rests};
-ghost use Rattle.heap_layout.specs.declared.kind.Kind.TheVariants.{Reference};
 ghost use Rattle.page_cells.specs.Cells.{mutators_of, page_number, setup_of, Has, IsPassOf};
 ghost use Rattle.page_cells.specs.Calls.{Grows, WroteNothing};
-ghost use Rattle.comp_access.specs.Fields.{count_of, place_of, IsFreshObject};
+ghost use Rattle.comp_access.specs.Fields.{place_of, IsFreshObject};
 ghost use Rattle.comp_access.specs.Finds.{HoldsField, IsEarly, IsFound, IsFreshField};
 ghost use Rattle.comp_access.specs.Reads.{FieldRefused, KnowsBuilt, MayBuildTouched, Reads};
 ghost use Rattle.call_refusals.specs.declared.refusal.Refusal.TheVariants.{Busy};
@@ -56,12 +56,10 @@ fn field_place(header: Header, name: FieldName) -> Option<u64>
         field,
         kind,
     } = name;
-    match kind {
-        Kind::Reference if field < header.refs() => Some(object + 1 + u64::from(field)),
-        Kind::Data if field < header.data_words() => {
-            Some(object + 1 + u64::from(header.refs()) + u64::from(field))
-        }
-        _ => None,
+    if field < header.count(kind) {
+        Some(object + u64::from(header.first(kind)) + u64::from(field))
+    } else {
+        None
     }
 }
 
@@ -122,7 +120,7 @@ pub(crate) fn fresh_field<B: Builder>(
         Ok(word) => word,
         Err(_) => unreachable!(),
     };
-    match field_place(Header::from_word(word), name) {
+    match field_place(Header::from_word_of(cells.edition(), word), name) {
         Some(place) => Ok(place),
         None => Err(Refusal::NoSuchField),
     }
@@ -196,7 +194,7 @@ pub(crate) fn load_found<B: Builder>(
     ensures grows { Grows pass.old pass.new × (did pass.new ≡ did pass.old) }
     ensures alone { mutators_of cells.now ≡ 1 → (q : ℕ) → IsErrOf result (Busy q) → ⊥ }
     ensures read { IfOk result (Reads (setup_of cells.now) (seen pass.new) name.kind name.object name.field) }
-    ensures leads { name.kind ≡ Reference → IfOk result (MayRefer pass.new) }
+    ensures leads { refers name.kind ≡ true → IfOk result (MayRefer pass.new) }
     ensures builds { OnOk result (MayBuildTouched (setup_of cells.now) pass.old pass.new name.kind name.object name.field) }
     ensures free { (q : ℕ) → IsErrOf result (Busy q) → KnowsBuilt pass.old q → ⊥ }
     ensures slid { (q : ℕ) → IsErrOf result (Busy q) → IsPlace (setup_of cells.now).heap name.object }

@@ -4,7 +4,7 @@ use Rattle.std.proofs.lemmas.List.{append-nil}
 use Rattle.std.proofs.lemmas.List.Elements.{All-append, All-cons, All-nil}
 use Rattle.page_plan.specs.declared.builder.Builder.{Ghosts}
 use Rattle.cell_steps.specs.Setup.{Setup}
-use Rattle.cell_steps.specs.Passes.{builds_of}
+use Rattle.cell_steps.specs.Passes.{did, builds_of}
 use Rattle.cell_steps.specs.declared.pass.Pass.{Pass}
 use Rattle.page_cells.specs.Calls.{Grows, WroteNothing}
 use Rattle.page_cells.proofs.Growing.{grows_none, grows_then, wrote_then}
@@ -14,7 +14,7 @@ use Rattle.comp_access.specs.Copies.{builds_after, PageRefused}
 use Rattle.comp_access.specs.declared.pages.Touched.{Touched}
 use Rattle.comp_access.specs.declared.pages.Touched.TheVariants.{Built, AlreadyBuilt}
 use Rattle.call_refusals.specs.declared.refusal.Refusal.{Refusal}
-use Rattle.call_refusals.specs.declared.refusal.Refusal.TheVariants.{Null, NotAStart, NoSuchField, ObjectTooLarge, OutOfPages, Busy, JournalFull, OutOfMemory}
+use Rattle.call_refusals.specs.declared.refusal.Refusal.TheVariants.{Null, NotAStart, NoSuchField, NotInEdition, ObjectTooLarge, OutOfPages, Busy, JournalFull, OutOfMemory}
 use Rattle.comp_history.specs.Shares.{allocated}
 use Rattle.comp_mutator.specs.declared.space.Space.{Space}
 use Rattle.comp_mutator.specs.declared.mutator.Mutator.{Mutator}
@@ -24,12 +24,14 @@ use Rattle.comp_sweep.specs.Sweeps.{BuildsMore, Sweeps}
 use Rattle.comp_sweep.specs.Workers.{WhyStopped}
 use Rattle.comp_sweep.specs.declared.working.Stop.{Stop}
 use Rattle.comp_sweep.specs.declared.working.Stop.TheVariants.{Full, Told, Wants}
+use Rattle.heap_layout.specs.declared.edition.Edition.{Edition}
 
 -- a page that was waited for is refused for want of memory
 pub memory_wanted : (p : ℕ) (a b : Pass) (refusal : Refusal) → ((q : ℕ) → refusal ≡ Busy q → ⊥) → PageRefused p a b refusal → KnowsBuilt a p → ⊥
 memory_wanted p a b Null waited r = absurd r
 memory_wanted p a b (NotAStart x) waited r = absurd r
 memory_wanted p a b NoSuchField waited r = absurd r
+memory_wanted p a b NotInEdition waited r = absurd r
 memory_wanted p a b ObjectTooLarge waited r = absurd r
 memory_wanted p a b OutOfPages waited r = absurd r
 memory_wanted p a b (Busy q) waited r = absurd (waited q refl)
@@ -48,7 +50,7 @@ module _ {L B : Type 0} {g : Ghosts B} (space : Space L B g) where
     builds = ([], sym (append-nil _), All-nil _);
   }
 
-  module _ (a b : Mutator L) (of : IsMutatorOf space b) (grows : Grows (pass_of a) (pass_of b) × WroteNothing (pass_of a) (pass_of b)) (unposted : unposted_of b ≡ unposted_of a) where
+  module _ (a b : Mutator L) (was : IsMutatorOf space a) (of : IsMutatorOf space b) (grows : Grows (pass_of a) (pass_of b) × WroteNothing (pass_of a) (pass_of b)) (unposted : unposted_of b ≡ unposted_of a) where
     -- a call that wrote nothing
     sweeps_of : BuildsMore (setup_of space).compacted (pass_of a) (pass_of b) → Sweeps space a b
     sweeps_of builds = record {
@@ -56,7 +58,12 @@ module _ {L B : Type 0} {g : Ghosts B} (space : Space L B g) where
       grows = grows.0;
       wrote = grows.1;
       unposted = unposted;
-      posted = omega (arith, unposted, a.counted, b.counted, ap allocated grows.1.did);
+      posted =
+          let e = (setup_of space).heap.edition in
+          let edition = λ (u : Setup). u.heap.edition in
+          let before = a.counted ∙ ap (λ (x : Edition). allocated x (did (pass_of a))) (ap edition was.of.about) in
+          let after = b.counted ∙ ap (λ (x : Edition). allocated x (did (pass_of b))) (ap edition of.of.about) in
+          omega (arith, unposted, before, after, ap (allocated e) grows.1.did);
       builds = builds;
     }
 

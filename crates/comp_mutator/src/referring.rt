@@ -1,0 +1,150 @@
+//! The calls of a mutator on fields that refer, by their kind. That those return which repeat is not promised.
+ghost use Rattle.std.specs.Prelude.{◌≡◌, ℕ, ◌<◌, true, IfErr, IfOk, IsErrOf, OnErr, OnOk};
+ghost use Rattle.heap_layout.specs.Kinds.{refers};
+ghost use Rattle.cell_steps.specs.Starts.{IsPlace};
+ghost use Rattle.cell_steps.specs.Passes.{did, seen, HasSeenBuilt, MayRefer};
+ghost use Rattle.page_cells.specs.Calls.{Grows};
+ghost use Rattle.comp_mutator.specs.Mutators.{pass_of, setup_of, unposted_of, IsMutatorOf};
+ghost use Rattle.comp_access.specs.Reads.{FieldRefused, KnowsBuilt, MayBuildTouched, Reads};
+ghost use Rattle.comp_access.specs.Writes.{ReferenceRefused, Writes};
+ghost use Rattle.call_refusals.specs.declared.refusal.Refusal.TheVariants.{Busy};
+
+use crate::mutator::{Hand, Mutator};
+use crate::space::Space;
+use crate::waiting::is_busy;
+use call_refusals::refusal::Refusal;
+use comp_access::{reading, writing};
+use heap_layout::kind::Kind;
+use page_plan::builder::Builder;
+use std::alloc::Global;
+use std::sync::Wait;
+use std::sync::ledger::Ledger as Named;
+
+impl<L: Named, B: Builder> Space<L, B> {
+    /// Reads a field of a kind that refers: null, or a start that the mutator then knows. It asks that the mutator was made with this space, and for such a
+    /// kind.
+    pub fn try_read_referring(
+        &self,
+        alloc: Global,
+        m: &mut Mutator<L>,
+        kind: Kind,
+        object: u64,
+        field: u16,
+    ) -> Result<u64, Refusal>
+        requires of { IsMutatorOf self.now m.old }
+        requires refers { refers kind ≡ true }
+        ensures of { IsMutatorOf self.now m.new }
+        ensures grows { Grows (pass_of m.old) (pass_of m.new) × (did (pass_of m.new) ≡ did (pass_of m.old)) }
+        ensures unposted { unposted_of m.new ≡ unposted_of m.old }
+        ensures alone { (setup_of self.now).mutators ≡ 1 → (q : ℕ) → IsErrOf result (Busy q) → ⊥ }
+        ensures read { IfOk result (Reads (setup_of self.now) (seen (pass_of m.new)) kind object field) }
+        ensures known { IfOk result (MayRefer (pass_of m.new)) }
+        ensures builds { OnOk result (MayBuildTouched (setup_of self.now) (pass_of m.old) (pass_of m.new) kind object field) }
+        ensures free { (q : ℕ) → IsErrOf result (Busy q) → KnowsBuilt (pass_of m.old) q → ⊥ }
+        ensures slid { (q : ℕ) → IsErrOf result (Busy q) → IsPlace (setup_of self.now).heap object }
+        ensures unseen { (q : ℕ) → IsErrOf result (Busy q) → HasSeenBuilt (pass_of m.new) q → ⊥ }
+        ensures refused { IfErr result (FieldRefused (setup_of self.now) (pass_of m.old) (pass_of m.new) kind object field) }
+    {
+        let Mutator { hand, share: _ } = m;
+        let Hand {
+            pass,
+            fills: _,
+            unposted: _,
+        } = hand;
+        reading::try_read_referring(alloc, &self.cells, pass, kind, object, field)
+    }
+
+    /// As `try_read_referring`, which it repeats while the page is busy; it asks the same.
+    pub fn read_referring(
+        &self,
+        alloc: Global,
+        rt: &impl Wait,
+        m: &mut Mutator<L>,
+        kind: Kind,
+        object: u64,
+        field: u16,
+    ) -> Result<u64, Refusal>
+        requires of { IsMutatorOf self.now m.old }
+        requires refers { refers kind ≡ true }
+        ensures of { IsMutatorOf self.now m.new }
+        ensures grows { Grows (pass_of m.old) (pass_of m.new) × (did (pass_of m.new) ≡ did (pass_of m.old)) }
+        ensures unposted { unposted_of m.new ≡ unposted_of m.old }
+        ensures busy { (q : ℕ) → IsErrOf result (Busy q) → ⊥ }
+        ensures read { IfOk result (Reads (setup_of self.now) (seen (pass_of m.new)) kind object field) }
+        ensures known { IfOk result (MayRefer (pass_of m.new)) }
+        ensures builds { OnOk result (MayBuildTouched (setup_of self.now) (pass_of m.old) (pass_of m.new) kind object field) }
+        ensures refused { IfErr result (FieldRefused (setup_of self.now) (pass_of m.old) (pass_of m.new) kind object field) }
+    {
+        for _ in rt.forever() {
+            let answer = self.try_read_referring(alloc, m, kind, object, field);
+            if !is_busy(&answer) {
+                return answer;
+            }
+        }
+        unreachable!()
+    }
+
+    /// Writes a field of a kind that refers, and answers the entry's stamp. The value is null, or a start that the mutator knows; any other is refused. It
+    /// asks that the mutator was made with this space, and for such a kind.
+    pub fn try_write_referring(
+        &self,
+        alloc: Global,
+        m: &mut Mutator<L>,
+        kind: Kind,
+        object: u64,
+        field: u16,
+        value: u64,
+    ) -> Result<u64, Refusal>
+        requires of { IsMutatorOf self.now m.old }
+        requires refers { refers kind ≡ true }
+        ensures of { IsMutatorOf self.now m.new }
+        ensures grows { Grows (pass_of m.old) (pass_of m.new) }
+        ensures unposted { unposted_of m.new ≡ unposted_of m.old }
+        ensures alone { (setup_of self.now).mutators ≡ 1 → (q : ℕ) → IsErrOf result (Busy q) → ⊥ }
+        ensures wrote { IfOk result (Writes (setup_of self.now) (pass_of m.old) (pass_of m.new) kind object field value) }
+        ensures target { OnOk result (MayRefer (pass_of m.new) value) }
+        ensures builds { OnOk result (MayBuildTouched (setup_of self.now) (pass_of m.old) (pass_of m.new) kind object field) }
+        ensures did { OnErr result (did (pass_of m.new) ≡ did (pass_of m.old)) }
+        ensures refused { IfErr result (ReferenceRefused (setup_of self.now) (pass_of m.old) (pass_of m.new) kind object field value) }
+    {
+        let Mutator { hand, share: _ } = m;
+        let Hand {
+            pass,
+            fills: _,
+            unposted: _,
+        } = hand;
+        writing::try_write_referring(alloc, &self.cells, pass, kind, object, field, value)
+    }
+
+    /// As `try_write_referring`, which it repeats while the page is busy; it asks the same.
+    pub fn write_referring(
+        &self,
+        alloc: Global,
+        rt: &impl Wait,
+        m: &mut Mutator<L>,
+        kind: Kind,
+        object: u64,
+        field: u16,
+        value: u64,
+    ) -> Result<u64, Refusal>
+        requires of { IsMutatorOf self.now m.old }
+        requires refers { refers kind ≡ true }
+        ensures of { IsMutatorOf self.now m.new }
+        ensures grows { Grows (pass_of m.old) (pass_of m.new) }
+        ensures unposted { unposted_of m.new ≡ unposted_of m.old }
+        ensures busy { (q : ℕ) → IsErrOf result (Busy q) → ⊥ }
+        ensures wrote { IfOk result (Writes (setup_of self.now) (pass_of m.old) (pass_of m.new) kind object field value) }
+        ensures target { OnOk result (MayRefer (pass_of m.new) value) }
+        ensures builds { OnOk result (MayBuildTouched (setup_of self.now) (pass_of m.old) (pass_of m.new) kind object field) }
+        ensures did { OnErr result (did (pass_of m.new) ≡ did (pass_of m.old)) }
+        ensures refused { IfErr result (ReferenceRefused (setup_of self.now) (pass_of m.old) (pass_of m.new) kind object field value) }
+    {
+        for _ in rt.forever() {
+            let answer = self.try_write_referring(alloc, m, kind, object, field, value);
+            if !is_busy(&answer) {
+                return answer;
+            }
+        }
+        unreachable!()
+    }
+}
