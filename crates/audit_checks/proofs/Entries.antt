@@ -1,6 +1,7 @@
 -- All entries of a dump, page by page: what one page more and one entry more add.
 use Rattle.std.proofs.Common.{◌≡◌, ℕ, suc, ◌+◌, ◌<◌, ◌≤◌, ⊎_elim, List, [], ◌∷◌, ◌++◌, length, map, take, get_or, Option, Some, None, refl, sym, ap, subst, ◌∙◌, arith}
 use Rattle.std.proofs.lemmas.List.{map-append, take_more, get_or_default}
+use Rattle.heap_layout.specs.declared.edition.Edition.{Edition}
 use Rattle.comp_journal.specs.declared.entry.Entry.{Entry}
 use Rattle.cell_steps.specs.Lists.{total}
 use Rattle.comp_history.specs.Merged.{entries_below, stamp_of, with_page}
@@ -53,25 +54,25 @@ stamps_next records p kept j old new inside is same before more =
     ∙ ap (map stamp_of) (sym (page_more records p kept inside is))
 
 -- the words of the objects that a page's entries make
-words_with : (p : ℕ) (j : List Entry) → allocated (with_page p j) ≡ total (λ (e : Entry). words_by e.kind e.value) j
-words_with p [] = refl
-words_with p (e ∷ es) = let rest = words_with p es in omega (arith, rest)
+words_with : (edition : Edition) (p : ℕ) (j : List Entry) → allocated edition (with_page p j) ≡ total (λ (e : Entry). words_by edition e.kind e.value) j
+words_with edition p [] = refl
+words_with edition p (e ∷ es) = let rest = words_with edition p es in omega (arith, rest)
 
-pub words_more : (all : List (ℕ × Entry)) (p : ℕ) (j : List Entry) → allocated (all ++ with_page p j) ≡ allocated all + total (λ (e : Entry). words_by e.kind e.value) j
-words_more all p j =
-    let parts = total_append (λ (x : ℕ × Entry). words_by x.1.kind x.1.value) all (with_page p j) in
-    let here = words_with p j in
+pub words_more : (edition : Edition) (all : List (ℕ × Entry)) (p : ℕ) (j : List Entry) → allocated edition (all ++ with_page p j) ≡ allocated edition all + total (λ (e : Entry). words_by edition e.kind e.value) j
+words_more edition all p j =
+    let parts = total_append (λ (x : ℕ × Entry). words_by edition x.1.kind x.1.value) all (with_page p j) in
+    let here = words_with edition p j in
     omega (arith, parts, here)
 
-pub words_next : (records : List (Option BuiltPage)) (p : ℕ) (kept : Option BuiltPage) (j : List Entry) (old new : ℕ) → p < length records → kept ≡ get_or records p kept
-    → j ≡ journal_of kept → old ≡ allocated (entries_below (journals_in records) p) → new ≡ old + total (λ (e : Entry). words_by e.kind e.value) j
-    → new ≡ allocated (entries_below (journals_in records) (p + 1))
-words_next records p kept j old new inside is same before more =
+pub words_next : (edition : Edition) (records : List (Option BuiltPage)) (p : ℕ) (kept : Option BuiltPage) (j : List Entry) (old new : ℕ) → p < length records → kept ≡ get_or records p kept
+    → j ≡ journal_of kept → old ≡ allocated edition (entries_below (journals_in records) p) → new ≡ old + total (λ (e : Entry). words_by edition e.kind e.value) j
+    → new ≡ allocated edition (entries_below (journals_in records) (p + 1))
+words_next edition records p kept j old new inside is same before more =
     more
-    ∙ ap (λ (n : ℕ). n + total (λ (e : Entry). words_by e.kind e.value) j) before
-    ∙ sym (words_more (entries_below (journals_in records) p) p j)
-    ∙ ap (λ (l : List Entry). allocated (entries_below (journals_in records) p ++ with_page p l)) same
-    ∙ ap allocated (sym (page_more records p kept inside is))
+    ∙ ap (λ (n : ℕ). n + total (λ (e : Entry). words_by edition e.kind e.value) j) before
+    ∙ sym (words_more edition (entries_below (journals_in records) p) p j)
+    ∙ ap (λ (l : List Entry). allocated edition (entries_below (journals_in records) p ++ with_page p l)) same
+    ∙ ap (allocated edition) (sym (page_more records p kept inside is))
 
 -- the stamp of an entry that stands in a list is below what is above all of the list's stamps
 in_below_all : (all : List (ℕ × Entry)) (x : ℕ × Entry) → In x all → stamp_of x < above (map stamp_of all)

@@ -1,9 +1,9 @@
 -- What the tests of entries mean in the cells' words: a journal without a fault is lawful, and its stamps rise.
 use Rattle.std.proofs.Common.{◌≡◌, ℕ, ◌+◌, ◌-◌, ◌%◌, Bool, true, false, eqb, ltb, leb, ◌&&◌, List, [], ◌∷◌, ◌++◌, Option, Some, refl, sym, ap, ◌∙◌, arith}
 use Rattle.std.proofs.lemmas.Bool.{le-leb, lt-ltb, leb-true, ltb-true, eqb-true, eq-eqb}
-use Rattle.heap_layout.specs.Header.{size_of}
+use Rattle.heap_layout.specs.Header.{header_of, size_of}
 use Rattle.heap_layout.specs.declared.kind.Kind.{Kind}
-use Rattle.heap_layout.specs.declared.kind.Kind.TheVariants.{Header, Reference, Data}
+use Rattle.heap_layout.specs.declared.kind.Kind.TheVariants.{Header, Reference, Weak, Data}
 use Rattle.comp_journal.specs.declared.entry.Entry.{Entry}
 use Rattle.cell_steps.specs.Lists.{Rises}
 use Rattle.cell_steps.specs.Setup.{Setup, pages}
@@ -24,12 +24,14 @@ true_and a b p q = rw (p, q) refl
 pub kind_means : (k : Kind) (o : Option Kind) → is_kind k o ≡ true → o ≡ Some k
 kind_means Header (Some Header) h = refl
 kind_means Reference (Some Reference) h = refl
+kind_means Weak (Some Weak) h = refl
 kind_means Data (Some Data) h = refl
 kind_means k o h = absurd cc
 
 pub kind_tested : (k : Kind) (o : Option Kind) → o ≡ Some k → is_kind k o ≡ true
 kind_tested Header o e = rw e refl
 kind_tested Reference o e = rw e refl
+kind_tested Weak o e = rw e refl
 kind_tested Data o e = rw e refl
 
 field_means : (u : Setup) (p : ℕ) (before : List Entry) (k : Kind) (offset : ℕ) → (ltb offset 64 && is_kind k (kind_at u p before offset)) ≡ true → IsField u p before k offset
@@ -45,8 +47,8 @@ field_tested u p before k offset is =
 pub fits_means : (u : Setup) (p : ℕ) (before : List Entry) (k : Kind) (writer offset value : ℕ) → fits u p before k writer offset value ≡ true
     → Fits u p before k writer offset value
 fits_means u p before Header writer offset value h =
-    let at = eqb offset (filled before) in
-    let ends = leb (offset + size_of value) 64 in
+    let at = eqb offset (filled u.heap.edition before) in
+    let ends = leb (offset + size_of (header_of u.heap.edition value)) 64 in
     let a = and_true (is_fresh_of u writer p && at) ends h in
     let b = and_true (is_fresh_of u writer p) at a.0 in
     let c = and_true (leb u.compacted p && ltb p (pages u)) (eqb writer ((p - u.compacted) % u.mutators)) b.0 in
@@ -59,6 +61,7 @@ fits_means u p before Header writer offset value h =
       ends = leb-true _ _ a.1;
     }
 fits_means u p before Reference writer offset value h = field_means u p before Reference offset h
+fits_means u p before Weak writer offset value h = field_means u p before Weak offset h
 fits_means u p before Data writer offset value h = field_means u p before Data offset h
 
 -- and one that may follow them passes
@@ -70,9 +73,10 @@ fits_tested u p before Header writer offset value is =
     let its : writer ≡ (p - u.compacted) % u.mutators = is.page.3 ∙ ap (λ (k : ℕ). k % u.mutators) (sym number) in
     let inside = true_and (leb u.compacted p) (ltb p (pages u)) (le-leb _ _ (omega (arith, is.page.2))) (lt-ltb _ _ (omega (arith, is.page.1, is.page.2))) in
     let own = true_and (leb u.compacted p && ltb p (pages u)) (eqb writer ((p - u.compacted) % u.mutators)) inside (eq-eqb _ _ its) in
-    let there = true_and (is_fresh_of u writer p) (eqb offset (filled before)) own (eq-eqb _ _ is.place) in
-    true_and (is_fresh_of u writer p && eqb offset (filled before)) (leb (offset + size_of value) 64) there (le-leb _ _ is.ends)
+    let there = true_and (is_fresh_of u writer p) (eqb offset (filled u.heap.edition before)) own (eq-eqb _ _ is.place) in
+    true_and (is_fresh_of u writer p && eqb offset (filled u.heap.edition before)) (leb (offset + size_of (header_of u.heap.edition value)) 64) there (le-leb _ _ is.ends)
 fits_tested u p before Reference writer offset value is = field_tested u p before Reference offset is
+fits_tested u p before Weak writer offset value is = field_tested u p before Weak offset is
 fits_tested u p before Data writer offset value is = field_tested u p before Data offset is
 
 unless_none : (b : Bool) (fault : AuditFault) (others : List AuditFault) → unless b fault ++ others ≡ [] → (b ≡ true) × (others ≡ [])

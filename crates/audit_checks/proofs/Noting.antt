@@ -4,7 +4,7 @@ use Rattle.std.specs.List.{list_any}
 use Rattle.std.proofs.lemmas.Bool.{cases_lt, cases_eq, lt-ltb, le-ltb, eq-eqb, ne_eqb}
 use Rattle.std.proofs.lemmas.List.Folds.{list_any-append}
 use Rattle.heap_layout.specs.declared.kind.Kind.{Kind}
-use Rattle.heap_layout.specs.declared.kind.Kind.TheVariants.{Header, Reference, Data}
+use Rattle.heap_layout.specs.declared.kind.Kind.TheVariants.{Header, Reference, Weak, Data}
 use Rattle.comp_journal.specs.declared.entry.Entry.{Entry}
 use Rattle.page_plan.specs.Sliding.{to_address}
 use Rattle.cell_steps.specs.Setup.{Setup, pages, address}
@@ -22,6 +22,7 @@ use Rattle.audit_checks.proofs.Meanings.{true_and, kind_tested}
 kind_other : (k : Kind) → k ≢ Header → is_kind Header (Some k) ≡ false
 kind_other Header ne = absurd (ne refl)
 kind_other Reference ne = refl
+kind_other Weak ne = refl
 kind_other Data ne = refl
 
 -- a header is written at its own address
@@ -31,7 +32,7 @@ makes_here x head =
     (eq-eqb (address_of x) (address_of x) refl)
 
 -- and nowhere else
-and_false : (a b : Bool) → b ≡ false → (a && b) ≡ false
+pub and_false : (a b : Bool) → b ≡ false → (a && b) ≡ false
 and_false true b e = e
 and_false false b e = refl
 

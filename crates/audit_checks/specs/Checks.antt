@@ -2,10 +2,13 @@
 -- stamp. Its tests are what can be computed of the cells' words; of an entry `Faultless` says what they mean there.
 use Rattle.std.specs.Prelude.{ℕ, ◌+◌, ◌-◌, ◌%◌, ◌==◌, ◌&&◌, ◌||◌, max, not, is_some, Bool, true, false, nat_lt, nat_le, bytes_eq, List, [], ◌∷◌, ◌++◌, length, map, slice_index, slice_index_or, Option, Some, None, if◌then◌else◌}
 use Rattle.std.specs.List.{flat_map, enumerate_from, list_any, range_with_len}
-use Rattle.heap_layout.specs.Header.{size_of}
+use Rattle.heap_layout.specs.Header.{header_of, size_of}
+use Rattle.heap_layout.specs.Kinds.{refers}
 use Rattle.heap_layout.specs.Heap.{Heap, live}
+use Rattle.heap_layout.specs.declared.edition.Edition.{Edition}
+use Rattle.heap_layout.specs.declared.edition.Edition.TheVariants.{One, Two}
 use Rattle.heap_layout.specs.declared.kind.Kind.{Kind}
-use Rattle.heap_layout.specs.declared.kind.Kind.TheVariants.{Header, Reference, Data}
+use Rattle.heap_layout.specs.declared.kind.Kind.TheVariants.{Header, Reference, Weak, Data}
 use Rattle.page_plan.specs.Sliding as sliding
 use Rattle.page_plan.specs.Sliding.{live_words, forwarded, shape_at}
 use Rattle.comp_journal.specs.Journal.{replayed}
@@ -55,9 +58,16 @@ of_built faults (p, Some page) = faults p page
 abbrev pub each_built : (ℕ → BuiltPage → List AuditFault) → List (Option BuiltPage) → List AuditFault
 each_built faults records = flat_map (of_built faults) (enumerate_from 0 records)
 
--- 1. There is a place for each compacted page and each fresh one, and the roots lead where the plan forwards them.
-abbrev pub head_faults : Setup → List ℕ → List (Option BuiltPage) → List AuditFault
-head_faults u roots records = unless ((length records == pages u) && bytes_eq roots (map (forwarded (live u.heap)) u.heap.roots)) WrongHead
+-- two editions are one
+abbrev pub is_edition : Edition → Edition → Bool
+is_edition One One = true
+is_edition Two Two = true
+is_edition edition other = false
+
+-- 1. The dump is of the heap's edition, there is a place for each compacted page and each fresh one, and the roots lead where the plan forwards them.
+abbrev pub head_faults : Setup → Edition → List ℕ → List (Option BuiltPage) → List AuditFault
+head_faults u edition roots records =
+    unless (is_edition edition u.heap.edition && ((length records == pages u) && bytes_eq roots (map (forwarded (live u.heap)) u.heap.roots))) WrongHead
 
 -- 2. A page that was built stands in the lists of builds once, and no other page does.
 abbrev pub is_claimed : List (List ℕ) → ℕ × Option BuiltPage → Bool
@@ -71,6 +81,7 @@ build_faults builds records = flat_map (λ place. unless (is_claimed builds plac
 abbrev pub is_kind : Kind → Option Kind → Bool
 is_kind Header (Some Header) = true
 is_kind Reference (Some Reference) = true
+is_kind Weak (Some Weak) = true
 is_kind Data (Some Data) = true
 is_kind kind found = false
 
@@ -80,8 +91,9 @@ is_fresh_of u writer p = nat_le u.compacted p && nat_lt p (pages u) && (writer =
 
 -- an entry of this kind, writer, offset and value may follow these entries of page p
 abbrev pub fits : Setup → ℕ → List Entry → Kind → ℕ → ℕ → ℕ → Bool
-fits u p before Header writer offset value = is_fresh_of u writer p && (offset == filled before) && nat_le (offset + size_of value) 64
+fits u p before Header writer offset value = is_fresh_of u writer p && (offset == filled u.heap.edition before) && nat_le (offset + size_of (header_of u.heap.edition value)) 64
 fits u p before Reference writer offset value = nat_lt offset 64 && is_kind Reference (kind_at u p before offset)
+fits u p before Weak writer offset value = nat_lt offset 64 && is_kind Weak (kind_at u p before offset)
 fits u p before Data writer offset value = nat_lt offset 64 && is_kind Data (kind_at u p before offset)
 
 -- of entries of page p, the first of which is number k, stands behind others and needs a stamp of at least `low`
@@ -101,7 +113,12 @@ same_words right p words = flat_map (λ word. unless (word.1 == slice_index righ
 abbrev pub word_faults : Setup → ℕ → BuiltPage → List AuditFault
 word_faults u p page = same_words (replayed (base_of u p) page.journal) p page.words
 
--- 5. Each reference is null, or leads to a start: of a slid object, or where a header was written.
+-- a word of this kind refers, if there is a word
+abbrev pub some_refers : Option Kind → Bool
+some_refers None = false
+some_refers (Some k) = refers k
+
+-- 5. Each reference and weak word is null, or leads to a start: of a slid object, or where a header was written.
 abbrev pub is_place : Heap → ℕ → Bool
 is_place heap a = is_some (shape_at (live heap) a)
 
@@ -112,13 +129,13 @@ makes a x = is_kind Header (Some x.1.kind) && (address_of x == a)
 abbrev pub is_start : Heap → List (ℕ × Entry) → ℕ → Bool
 is_start heap all a = is_place heap a || list_any (makes a) all
 
--- of the words of page p that are references, those that are not null and lead nowhere
+-- of the words of page p that refer, those that are not null and lead nowhere
 abbrev pub loose_faults : (ℕ → Bool) → (ℕ → Bool) → ℕ → List ℕ → List AuditFault
 loose_faults is_reference leads p words =
     flat_map (λ word. unless (not (is_reference word.0) || (word.1 == 0) || leads word.1) (LooseReference (address p word.0))) (enumerate_from 0 words)
 
 abbrev pub reference_faults : (ℕ → Bool) → Setup → ℕ → BuiltPage → List AuditFault
-reference_faults leads u p page = loose_faults (λ offset. is_kind Reference (kind_at u p page.journal offset)) leads p page.words
+reference_faults leads u p page = loose_faults (λ offset. some_refers (kind_at u p page.journal offset)) leads p page.words
 
 -- one more than the greatest of some numbers, or 0
 abbrev pub above : List ℕ → ℕ
@@ -133,12 +150,12 @@ repeat_faults stamps = flat_map (λ s. unless (nat_le (times s stamps) 1) (Stamp
 abbrev pub missing_faults : List ℕ → List AuditFault
 missing_faults stamps = flat_map (λ s. unless (nat_le 1 (times s stamps)) (StampMissing s)) (range_with_len 0 (length stamps))
 
--- 8. A reference that was written is null, or leads to a slid object, or to where a header was written with a smaller stamp.
+-- 8. A reference or weak word that was written is null, or leads to a slid object, or to where a header was written with a smaller stamp.
 abbrev pub is_made_before : List (ℕ × Entry) → ℕ → ℕ → Bool
 is_made_before all a n = list_any (λ (x : ℕ × Entry). makes a x && nat_lt (stamp_of x) n) all
 
 abbrev pub is_led : Heap → (ℕ → ℕ → Bool) → Entry → Bool
-is_led heap is_before e = not (is_kind Reference (Some e.kind)) || (e.value == 0) || is_place heap e.value || is_before e.value e.stamp
+is_led heap is_before e = not (refers e.kind) || (e.value == 0) || is_place heap e.value || is_before e.value e.stamp
 
 -- of the entries of a page those of stamp s that fail the test
 abbrev pub late_on : (Entry → Bool) → ℕ → ℕ → List Entry → List AuditFault
@@ -153,4 +170,4 @@ late_faults test records = flat_map (late_with test records) (range_with_len 0 (
 
 -- 9. The total is that of the words that slid and of all objects that were made.
 abbrev pub total_faults : Heap → ℕ → List (Option BuiltPage) → List AuditFault
-total_faults heap total records = unless (total == live_words (live heap) + allocated (all_entries records)) WrongTotal
+total_faults heap total records = unless (total == live_words (live heap) + allocated heap.edition (all_entries records)) WrongTotal

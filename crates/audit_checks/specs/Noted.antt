@@ -1,4 +1,4 @@
--- What the audit keeps beside the dump: the starts of new objects, each with the least stamp of a header there; and of late references the earliest so far.
+-- What the audit keeps beside the dump: the starts of new objects, each with the least stamp of a header there; and of late entries the earliest so far.
 use Rattle.std.specs.Prelude.{◌≡◌, ℕ, ◌-◌, ◌<◌, ◌||◌, Bool, false, cond, nat_lt, is_some, List, [], length, Option, Some, None, slice_index_or}
 use Rattle.std.specs.List.{list_any}
 use Rattle.heap_layout.specs.Heap.{Heap}

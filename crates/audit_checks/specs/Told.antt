@@ -1,5 +1,6 @@
 -- What the checks tell. The faults of a dump stand in one list, in the order of the checks.
 use Rattle.std.specs.Prelude.{◌≡◌, ℕ, List, [], ◌∷◌, ◌++◌, Option, Result, Ok, Err}
+use Rattle.heap_layout.specs.declared.edition.Edition.{Edition}
 use Rattle.cell_steps.specs.Setup.{Setup}
 use Rattle.comp_dump.specs.Dumped.{BuiltPage}
 use Rattle.audit_checks.specs.Checks.{all_entries, all_stamps, each_built, head_faults, build_faults, journal_faults, word_faults, is_start, reference_faults, repeat_faults, missing_faults, is_made_before, is_led, late_faults, total_faults}
@@ -22,10 +23,10 @@ history_faults u records =
     ++ (missing_faults (all_stamps records)
     ++ late_faults (is_led u.heap (is_made_before (all_entries records))) records))
 
--- of a dump with these roots, lists of builds, pages and total
-abbrev pub faults_for : Setup → List ℕ → List (List ℕ) → List (Option BuiltPage) → ℕ → List AuditFault
-faults_for u roots builds records total =
-    head_faults u roots records
+-- of a dump of this edition, with these roots, lists of builds, pages and total
+abbrev pub faults_for : Setup → Edition → List ℕ → List (List ℕ) → List (Option BuiltPage) → ℕ → List AuditFault
+faults_for u edition roots builds records total =
+    head_faults u edition roots records
     ++ (page_faults u builds records
     ++ (history_faults u records
     ++ total_faults u.heap total records))

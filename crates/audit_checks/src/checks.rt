@@ -22,7 +22,8 @@ use crate::totals::check_total;
 use comp_dump::page::DumpedPage;
 use std::alloc::Global;
 
-/// All checks of a dump with these roots, lists of builds, pages and total: each tells its first fault, in the order in which their faults count.
+/// All checks of a dump of the setting's edition, with these roots, lists of builds, pages and total: each tells its first fault, in the order in which
+/// their faults count.
 pub fn check(
     alloc: Global,
     setting: Setting<'_>,
@@ -33,9 +34,9 @@ pub fn check(
 ) -> Result<(), Stop>
     requires some { 0 < setting.mutators }
     requires few { length records.now ≤ 20480 }
-    requires pages { All (IsStoredRecord setting.mutators) records.now }
+    requires pages { All (IsStoredRecord setting.edition setting.mutators) records.now }
     requires builds { All (IsStoredList (length records.now)) (items_of builds.now) }
-    ensures { Tells (faults_for (setup_at setting.entry) roots.now (items_of builds.now) records.now total) result }
+    ensures { Tells (faults_for (setup_at setting.entry) setting.entry.edition roots.now (items_of builds.now) records.now total) result }
 {
     check_head(alloc, setting, roots, records)?;
     check_pages(alloc, setting, builds, records)?;
@@ -53,7 +54,7 @@ fn check_pages(
     requires some { 0 < setting.mutators }
     requires few { length records.now ≤ 20480 }
     requires places { length records.now ≡ pages (setup_at setting) }
-    requires pages { All (IsStoredRecord setting.mutators) records.now }
+    requires pages { All (IsStoredRecord setting.edition setting.mutators) records.now }
     requires builds { All (IsStoredList (length records.now)) (items_of builds.now) }
     ensures { Tells (page_faults (setup_at setting.entry) (items_of builds.now) records.now) result }
 {
@@ -62,7 +63,7 @@ fn check_pages(
     check_words(alloc, setting, records)
 }
 
-/// The checks between pages: where references lead, the stamps, and whether what is referred to was there already.
+/// The checks between pages: where references and weak words lead, the stamps, and whether what they lead to was there already.
 fn check_history(
     alloc: Global,
     setting: Setting<'_>,
@@ -70,7 +71,7 @@ fn check_history(
 ) -> Result<(), Stop>
     requires few { length records.now ≤ 20480 }
     requires places { length records.now ≡ pages (setup_at setting) }
-    requires pages { All (IsStoredRecord setting.mutators) records.now }
+    requires pages { All (IsStoredRecord setting.edition setting.mutators) records.now }
     requires lawful { AreLawful (setup_at setting) (journals_in records.now) }
     ensures { Tells (history_faults (setup_at setting.entry) records.now) result }
 {

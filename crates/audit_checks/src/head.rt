@@ -1,7 +1,7 @@
-//! The first check: how many pages there are, and where the roots lead.
+//! The first check: the edition, how many pages there are, and where the roots lead.
 ghost use Rattle.std.specs.Prelude.{◌≡◌, ◌≤◌, OnOk, length};
 ghost use Rattle.cell_steps.specs.Setup.{pages};
-ghost use Rattle.audit_checks.specs.Checks.{head_faults};
+ghost use Rattle.audit_checks.specs.Checks.{head_faults, is_edition};
 ghost use Rattle.audit_checks.specs.Told.{Tells};
 ghost use Rattle.audit_checks.specs.Noted.{setup_at};
 
@@ -9,9 +9,10 @@ use crate::fault::Stop;
 use crate::setting::Setting;
 use audit_faults::fault::AuditFault;
 use comp_dump::page::DumpedPage;
+use heap_layout::edition::Edition;
 use std::alloc::Global;
 
-/// There is a place for each compacted page and each fresh one, and the roots lead where the plan forwards them.
+/// The dump is of the plan's edition, there is a place for each compacted page and each fresh one, and the roots lead where the plan forwards them.
 pub fn check_head(
     alloc: Global,
     setting: Setting<'_>,
@@ -19,10 +20,13 @@ pub fn check_head(
     records: &[Option<DumpedPage<'_>>],
 ) -> Result<(), Stop>
     requires { length records.now ≤ 20480 }
-    ensures told { Tells (head_faults (setup_at setting.entry) roots.now records.now) result }
+    ensures told { Tells (head_faults (setup_at setting.entry) setting.entry.edition roots.now records.now) result }
     ensures places { OnOk result (length records.now ≡ pages (setup_at setting.entry)) }
 {
     let plan = setting.plan;
+    if !is_edition(setting.edition, plan.heap().edition()) {
+        return Err(Stop::Fault(AuditFault::WrongHead));
+    }
     if records.len() as u64 != plan.pages() + u64::from(setting.fresh) {
         return Err(Stop::Fault(AuditFault::WrongHead));
     }
@@ -31,4 +35,14 @@ pub fn check_head(
         return Err(Stop::Fault(AuditFault::WrongHead));
     }
     Ok(())
+}
+
+/// Whether two editions are one.
+fn is_edition(edition: Edition, other: Edition) -> bool
+    ensures { result ≡ is_edition edition other }
+{
+    matches!(
+        (edition, other),
+        (Edition::One, Edition::One) | (Edition::Two, Edition::Two)
+    )
 }

@@ -16,6 +16,7 @@ use crate::setting::Setting;
 use audit_faults::fault::AuditFault;
 use comp_dump::page::DumpedPage;
 use comp_journal::entry::Entry;
+use heap_layout::edition::Edition;
 use heap_layout::header::Header;
 use heap_layout::kind::Kind;
 use std::alloc::Global;
@@ -29,7 +30,7 @@ pub fn check_journals(
     requires some { 0 < setting.mutators }
     requires few { length records.now ≤ 20480 }
     requires places { length records.now ≡ pages (setup_at setting) }
-    requires pages { All (IsStoredRecord setting.mutators) records.now }
+    requires pages { All (IsStoredRecord setting.edition setting.mutators) records.now }
     ensures { Tells (each_built (journal_faults (setup_at setting.entry)) records.now) result }
 {
     for (p, place) in records.iter().enumerate() {
@@ -44,7 +45,7 @@ pub fn check_journals(
 fn check_journal(alloc: Global, setting: Setting<'_>, p: u64, journal: &[Entry]) -> Result<(), Stop>
     requires some { 0 < setting.mutators }
     requires inside { p < pages (setup_at setting) }
-    requires stored { All (IsStoredEntry setting.mutators) journal.now }
+    requires stored { All (IsStoredEntry setting.edition setting.mutators) journal.now }
     ensures { Tells (entry_faults (setup_at setting.entry) p 0 0 [] journal.now) result }
 {
     let compacted = setting.plan.pages();
@@ -58,7 +59,7 @@ fn check_journal(alloc: Global, setting: Setting<'_>, p: u64, journal: &[Entry])
 /// The same, of a compacted page.
 fn check_compacted(setting: Setting<'_>, p: u64, journal: &[Entry]) -> Result<(), Stop>
     requires compacted { p < (setup_at setting).compacted }
-    requires stored { All (IsStoredEntry setting.mutators) journal.now }
+    requires stored { All (IsStoredEntry setting.edition setting.mutators) journal.now }
     ensures { Tells (entry_faults (setup_at setting.entry) p 0 0 [] journal.now) result }
 {
     let kinds = setting.plan.page_kinds(p);
@@ -81,7 +82,10 @@ fn may_change(kinds: &[Option<Kind>; 64], entry: Entry) -> bool
 {
     match entry.kind {
         Kind::Header => false,
-        Kind::Reference | Kind::Data => is_word_of(kinds[entry.offset as usize], entry.kind),
+        Kind::Reference | Kind::Weak | Kind::Data => is_word_of(
+            kinds[entry.offset as usize],
+            entry.kind,
+        ),
     }
 }
 
@@ -96,36 +100,39 @@ fn check_fresh(
     requires some { 0 < setting.mutators }
     requires number { p ≡ fresh_page (setup_at setting) number }
     requires fresh { number < setting.fresh }
-    requires stored { All (IsStoredEntry setting.mutators) journal.now }
+    requires stored { All (IsStoredEntry setting.edition setting.mutators) journal.now }
     ensures { Tells (entry_faults (setup_at setting.entry) p 0 0 [] journal.now) result }
 {
+    let edition = setting.plan.heap().edition();
     let mut kinds = Vec::with_capacity(alloc, 64)?;
     let mut low = 0;
     for (k, &entry) in journal.iter().enumerate() {
-        if u128::from(entry.stamp) < low || !may_follow(&kinds, number, entry, setting.mutators) {
+        if u128::from(entry.stamp) < low
+            || !may_follow(&kinds, edition, number, entry, setting.mutators)
+        {
             return Err(Stop::Fault(AuditFault::BadEntry(p, k as u64)));
         }
-        add_kinds(&mut kinds, entry);
+        add_kinds(&mut kinds, edition, entry);
         low = u128::from(entry.stamp) + 1;
     }
     Ok(())
 }
 
 /// Whether an entry may follow those that have given these words of fresh page `number` to objects.
-fn may_follow(kinds: &[Kind], number: u32, entry: Entry, mutators: u8) -> bool
+fn may_follow(kinds: &[Kind], edition: Edition, number: u32, entry: Entry, mutators: u8) -> bool
     requires some { 0 < mutators }
     requires few { length kinds.now ≤ 64 }
     requires inside { entry.offset < 64 }
-    ensures room { result ≡ true → length kinds.now + length (kinds_by entry.kind entry.value) ≤ 64 }
-    ensures fits { (heap : Heap) (fresh : ℕ) (before : List Entry) → number < fresh → kinds_in before ≡ kinds.now
+    ensures room { result ≡ true → length kinds.now + length (kinds_by edition entry.kind entry.value) ≤ 64 }
+    ensures fits { (heap : Heap) (fresh : ℕ) (before : List Entry) → heap.edition ≡ edition → number < fresh → kinds_in heap.edition before ≡ kinds.now
         → result ≡ fits (setup_for heap fresh mutators) (fresh_page (setup_for heap fresh mutators) number) before entry.kind entry.writer entry.offset entry.value }
 {
     match entry.kind {
         Kind::Header => {
             u32::from(entry.writer) == number % u32::from(mutators)
                 && entry.offset as usize == kinds.len()
-                && kinds.len() + Header::from_word(entry.value).size() as usize <= 64
+                && kinds.len() + Header::from_word_of(edition, entry.value).size() as usize <= 64
         }
-        Kind::Reference | Kind::Data => is_of(kinds, entry.offset, entry.kind),
+        Kind::Reference | Kind::Weak | Kind::Data => is_of(kinds, entry.offset, entry.kind),
     }
 }

@@ -2,11 +2,12 @@
 ghost use Rattle.std.specs.Prelude.{◌≡◌, ℕ, ◌+◌, ◌<◌, ◌≤◌, ◌++◌, IfOk, length, replicate, slice_get, slice_index_or, vec_capacity, vec_len, None};
 ghost use Rattle.cell_steps.specs.Lawful.{filled, kind_at, kinds_by, kinds_in, kinds_of_header, IsLawful};
 ghost use Rattle.cell_steps.specs.Setup.{pages};
-ghost use Rattle.audit_checks.specs.Checks.{is_kind};
+ghost use Rattle.audit_checks.specs.Checks.{is_kind, some_refers};
 ghost use Rattle.audit_checks.specs.Noted.{setup_at};
 
 use crate::setting::Setting;
 use comp_journal::entry::Entry;
+use heap_layout::edition::Edition;
 use heap_layout::header::Header;
 use heap_layout::kind::Kind;
 use std::alloc::{AllocError, Global};
@@ -25,19 +26,19 @@ pub fn kinds_on(
     if p < setting.plan.pages() {
         Ok(setting.plan.page_kinds(p))
     } else {
-        let kinds = kinds_made(alloc, journal)?;
+        let kinds = kinds_made(alloc, setting.plan.heap().edition(), journal)?;
         Ok(spread(&kinds))
     }
 }
 
 /// What the words are that a journal has given to objects, which have room on a page.
-fn kinds_made(alloc: Global, journal: &[Entry]) -> Result<Vec<Kind>, AllocError>
-    requires { filled journal.now ≤ 64 }
-    ensures { IfOk result (λ kinds. kinds.items ≡ kinds_in journal.now) }
+fn kinds_made(alloc: Global, edition: Edition, journal: &[Entry]) -> Result<Vec<Kind>, AllocError>
+    requires { filled edition journal.now ≤ 64 }
+    ensures { IfOk result (λ kinds. kinds.items ≡ kinds_in edition journal.now) }
 {
     let mut kinds = Vec::with_capacity(alloc, 64)?;
     for &entry in journal {
-        add_kinds(&mut kinds, entry);
+        add_kinds(&mut kinds, edition, entry);
     }
     Ok(kinds)
 }
@@ -55,14 +56,15 @@ fn spread(kinds: &[Kind]) -> [Option<Kind>; 64]
 }
 
 /// Adds the words that an entry gives to an object; there is room.
-pub fn add_kinds(kinds: &mut Vec<Kind>, entry: Entry)
-    requires { vec_len kinds.old + length (kinds_by entry.kind entry.value) ≤ vec_capacity kinds.old }
-    ensures items { kinds.new.items ≡ kinds.old.items ++ kinds_by entry.kind entry.value }
+pub fn add_kinds(kinds: &mut Vec<Kind>, edition: Edition, entry: Entry)
+    requires { vec_len kinds.old + length (kinds_by edition entry.kind entry.value) ≤ vec_capacity kinds.old }
+    ensures items { kinds.new.items ≡ kinds.old.items ++ kinds_by edition entry.kind entry.value }
     ensures capacity { vec_capacity kinds.new ≡ vec_capacity kinds.old }
 {
     match entry.kind {
-        Kind::Header => push_object(kinds, Header::from_word(entry.value)),
+        Kind::Header => push_object(kinds, Header::from_word_of(edition, entry.value)),
         Kind::Reference => (),
+        Kind::Weak => (),
         Kind::Data => (),
     }
 }
@@ -75,6 +77,7 @@ fn push_object(kinds: &mut Vec<Kind>, header: Header)
 {
     kinds.push_reserved(Kind::Header);
     push_kinds(kinds, header.refs(), Kind::Reference);
+    push_kinds(kinds, header.weak(), Kind::Weak);
     push_kinds(kinds, header.data_words(), Kind::Data);
 }
 
@@ -94,6 +97,16 @@ pub fn is_word_of(found: Option<Kind>, kind: Kind) -> bool
     ensures { result ≡ is_kind kind found }
 {
     found == Some(kind)
+}
+
+/// Whether a word, if there is one, refers.
+pub fn refers(found: Option<Kind>) -> bool
+    ensures { result ≡ some_refers found }
+{
+    match found {
+        Some(kind) => kind.refers(),
+        None => false,
+    }
 }
 
 /// Whether the word at an offset is of this kind.

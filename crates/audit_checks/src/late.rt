@@ -1,4 +1,4 @@
-//! The eighth check: each reference that was written is null, or leads to an object that was there already.
+//! The eighth check: each reference and weak word that was written is null, or leads to an object that was there already.
 ghost use Rattle.std.specs.Prelude.{◌≡◌, ℕ, List, ◌==◌, ◌<◌, ◌≤◌, ◌++◌, not, length, Some};
 ghost use Rattle.audit_checks.specs.Checks.{is_led, late_faults, late_on, late_with, unless};
 ghost use Rattle.audit_checks.specs.Told.{Tells};
@@ -12,10 +12,9 @@ use crate::starts::Starts;
 use audit_faults::fault::AuditFault;
 use comp_dump::page::DumpedPage;
 use comp_journal::entry::Entry;
-use heap_layout::kind::Kind;
 use page_plan::plan::Plan;
 
-/// An entry that is a reference to what was not there: its stamp, its page, and its number on that page.
+/// An entry that is a reference or weak word and leads to what was not there: its stamp, its page, and its number on that page.
 #[derive(Clone, Copy)]
 pub struct Late {
     pub stamp: u64,
@@ -23,7 +22,7 @@ pub struct Late {
     pub number: u64,
 }
 
-/// Each reference that was written is null, or leads to a slid object, or to a new one whose header has a smaller stamp.
+/// Each reference and weak word that was written is null, or leads to a slid object, or to a new one whose header has a smaller stamp.
 pub fn check_late(
     plan: &Plan,
     starts: &Starts,
@@ -87,11 +86,11 @@ fn earlier(found: Option<Late>, late: Late) -> Late
     }
 }
 
-/// Whether an entry, if it is a reference, is null or leads to what was there.
+/// Whether an entry, if it is a reference or weak word, is null or leads to what was there.
 fn is_led(plan: &Plan, starts: &Starts, entry: Entry) -> bool
     ensures { result ≡ is_led plan.now (is_noted_before starts.now) entry }
 {
-    entry.kind != Kind::Reference
+    !entry.kind.refers()
         || entry.value == 0
         || plan.shape_at(entry.value).is_some()
         || starts.is_before(entry.value, entry.stamp)

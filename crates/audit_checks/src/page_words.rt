@@ -24,7 +24,7 @@ pub fn check_words(
     records: &[Option<DumpedPage<'_>>],
 ) -> Result<(), Stop>
     requires few { length records.now ≤ 20480 }
-    requires pages { All (IsStoredRecord setting.mutators) records.now }
+    requires pages { All (IsStoredRecord setting.edition setting.mutators) records.now }
     ensures { Tells (each_built (word_faults (setup_at setting.entry)) records.now) result }
 {
     for (p, place) in records.iter().enumerate() {
@@ -43,7 +43,7 @@ fn check_page(
     page: &DumpedPage<'_>,
 ) -> Result<(), Stop>
     requires inside { p < 20480 }
-    requires stored { IsStoredPage setting.mutators page.now }
+    requires stored { IsStoredPage setting.edition setting.mutators page.now }
     ensures { Tells (word_faults (setup_at setting.entry) p page.now) result }
 {
     let mut right = base(alloc, setting, p)?;

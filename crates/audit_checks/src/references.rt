@@ -1,16 +1,15 @@
-//! The fifth check: each reference is null, or leads to the start of an object.
+//! The fifth check: each reference and weak word is null, or leads to the start of an object.
 ghost use Rattle.std.specs.Prelude.{◌≡◌, ◌<◌, ◌≤◌, All, length, slice_index_or, None};
-ghost use Rattle.heap_layout.specs.declared.kind.Kind.TheVariants as sorts;
 ghost use Rattle.cell_steps.specs.Lawful.{IsLawful};
 ghost use Rattle.cell_steps.specs.Setup.{pages};
 ghost use Rattle.page_cells.specs.Objects.{AreLawful};
-ghost use Rattle.audit_checks.specs.Checks.{each_built, is_kind, journals_in, loose_faults, reference_faults};
+ghost use Rattle.audit_checks.specs.Checks.{each_built, some_refers, journals_in, loose_faults, reference_faults};
 ghost use Rattle.comp_dump.specs.Dumped.{IsStoredPage, IsStoredRecord};
 ghost use Rattle.audit_checks.specs.Told.{Tells};
 ghost use Rattle.audit_checks.specs.Noted.{leads, setup_at};
 
 use crate::fault::Stop;
-use crate::kinds::{is_word_of, kinds_on};
+use crate::kinds::{kinds_on, refers};
 use crate::setting::Setting;
 use crate::starts::Starts;
 use audit_faults::fault::AuditFault;
@@ -20,7 +19,7 @@ use page_plan::TO_SPACE;
 use page_plan::plan::Plan;
 use std::alloc::Global;
 
-/// Each reference of each page that was built is null, or leads to a start.
+/// Each reference and weak word of each page that was built is null, or leads to a start.
 pub fn check_references(
     alloc: Global,
     setting: Setting<'_>,
@@ -29,7 +28,7 @@ pub fn check_references(
 ) -> Result<(), Stop>
     requires few { length records.now ≤ 20480 }
     requires places { length records.now ≡ pages (setup_at setting) }
-    requires pages { All (IsStoredRecord setting.mutators) records.now }
+    requires pages { All (IsStoredRecord setting.edition setting.mutators) records.now }
     requires lawful { AreLawful (setup_at setting) (journals_in records.now) }
     ensures { Tells (each_built (reference_faults (leads setting.entry.plan.now starts.now) (setup_at setting.entry)) records.now) result }
 {
@@ -51,7 +50,7 @@ fn check_page(
 ) -> Result<(), Stop>
     requires few { p < 20480 }
     requires inside { p < pages (setup_at setting) }
-    requires stored { IsStoredPage setting.mutators page.now }
+    requires stored { IsStoredPage setting.edition setting.mutators page.now }
     requires lawful { IsLawful (setup_at setting) p page.now.journal }
     ensures { Tells (reference_faults (leads setting.entry.plan.now starts.now) (setup_at setting.entry) p page.now) result }
 {
@@ -59,7 +58,7 @@ fn check_page(
     check_loose(setting.plan, starts, &kinds, p, page.words())
 }
 
-/// Each reference among the words of page `p`, which are of these kinds, is null, or leads to a start.
+/// Each reference and weak word among the words of page `p`, which are of these kinds, is null, or leads to a start.
 fn check_loose(
     plan: &Plan,
     starts: &Starts,
@@ -69,10 +68,10 @@ fn check_loose(
 ) -> Result<(), Stop>
     requires inside { p < 20480 }
     requires long { length words.now ≡ 64 }
-    ensures { Tells (loose_faults (λ offset. is_kind sorts.Reference (slice_index_or kinds.now offset None)) (leads plan.now starts.now) p words.now) result }
+    ensures { Tells (loose_faults (λ offset. some_refers (slice_index_or kinds.now offset None)) (leads plan.now starts.now) p words.now) result }
 {
     for (offset, &word) in words.iter().enumerate() {
-        if is_word_of(kinds[offset], Kind::Reference) && word != 0 && !starts.leads(plan, word) {
+        if refers(kinds[offset]) && word != 0 && !starts.leads(plan, word) {
             let address = TO_SPACE + 64 * p + offset as u64;
             return Err(Stop::Fault(AuditFault::LooseReference(address)));
         }

@@ -106,7 +106,7 @@ pub fn starts_of(
 ) -> Result<Starts, AllocError>
     requires few { length records.now ≤ 20480 }
     requires places { length records.now ≡ pages (setup_at setting) }
-    requires pages { All (IsStoredRecord setting.mutators) records.now }
+    requires pages { All (IsStoredRecord setting.edition setting.mutators) records.now }
     requires lawful { AreLawful (setup_at setting) (journals_in records.now) }
     ensures { IfOk result (λ starts. Notes starts (all_entries records.now)) }
 {
@@ -140,6 +140,7 @@ fn note_entry(starts: &mut Starts, p: u64, entry: Entry)
     match entry.kind {
         Kind::Header => starts.note(TO_SPACE + 64 * p + u64::from(entry.offset), entry.stamp),
         Kind::Reference => (),
+        Kind::Weak => (),
         Kind::Data => (),
     }
 }

@@ -12,6 +12,7 @@ use crate::record::journal_of;
 use audit_faults::fault::AuditFault;
 use comp_dump::page::DumpedPage;
 use comp_journal::entry::Entry;
+use heap_layout::edition::Edition;
 use heap_layout::header::Header;
 use heap_layout::kind::Kind;
 use page_plan::plan::Plan;
@@ -22,47 +23,48 @@ pub fn check_total(plan: &Plan, total: u64, records: &[Option<DumpedPage<'_>>]) 
     requires pages { All HasFewEntries records.now }
     ensures { Tells (total_faults plan.now total records.now) result }
 {
-    if total != plan.live_words() + all_words(records) {
+    if total != plan.live_words() + all_words(plan.heap().edition(), records) {
         return Err(Stop::Fault(AuditFault::WrongTotal));
     }
     Ok(())
 }
 
 /// How many words the objects have that all entries make.
-fn all_words(records: &[Option<DumpedPage<'_>>]) -> u64
+fn all_words(edition: Edition, records: &[Option<DumpedPage<'_>>]) -> u64
     requires few { length records.now ≤ 20480 }
     requires pages { All HasFewEntries records.now }
-    ensures words { result ≡ allocated (all_entries records.now) }
-    ensures few { result ≤ 2 ^ 42 }
+    ensures words { result ≡ allocated edition (all_entries records.now) }
+    ensures few { result ≤ 2 ^ 43 }
 {
     let mut words = 0;
     for place in records {
-        words += words_on(journal_of(place));
+        words += words_on(edition, journal_of(place));
     }
     words
 }
 
 /// How many words the objects have that a page's entries make.
-fn words_on(journal: &[Entry]) -> u64
+fn words_on(edition: Edition, journal: &[Entry]) -> u64
     requires { length journal.now ≤ 1024 }
-    ensures words { result ≡ added (λ (e : Entry). words_by e.kind e.value) journal.now }
-    ensures few { result ≤ 2 ^ 27 }
+    ensures words { result ≡ added (λ (e : Entry). words_by edition e.kind e.value) journal.now }
+    ensures few { result ≤ 2 ^ 28 }
 {
     let mut words = 0;
     for entry in journal {
-        words += words_made(*entry);
+        words += words_made(edition, *entry);
     }
     words
 }
 
 /// How many words the object has that an entry makes.
-fn words_made(entry: Entry) -> u64
-    ensures words { result ≡ words_by entry.kind entry.value }
-    ensures few { result < 2 ^ 17 }
+fn words_made(edition: Edition, entry: Entry) -> u64
+    ensures words { result ≡ words_by edition entry.kind entry.value }
+    ensures few { result < 2 ^ 18 }
 {
     match entry.kind {
-        Kind::Header => u64::from(Header::from_word(entry.value).size()),
+        Kind::Header => u64::from(Header::from_word_of(edition, entry.value).size()),
         Kind::Reference => 0,
+        Kind::Weak => 0,
         Kind::Data => 0,
     }
 }

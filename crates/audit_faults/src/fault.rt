@@ -6,10 +6,10 @@ pub enum AuditFault {
     /// The word at this address is not what the page's journal makes of its base.
     #[error("A1 WrongWord({0})")]
     WrongWord(u64),
-    /// The reference at this address is neither null nor the start of an object.
+    /// The reference or weak word at this address is neither null nor the start of an object.
     #[error("A2 LooseReference({0})")]
     LooseReference(u64),
-    /// On this page the entry of this number may not follow those before it; or it is a reference to an object that is not older.
+    /// On this page the entry of this number may not follow those before it; or it is a reference or weak word that leads to an object that is not older.
     #[error("A3 BadEntry({0}, {1})")]
     BadEntry(u64, u64),
     /// Two entries have this stamp.
@@ -24,7 +24,7 @@ pub enum AuditFault {
     /// This page is there and does not stand in the lists of builds just once, or it stands there and was never built.
     #[error("A7 BuildUnclaimed({0})")]
     BuildUnclaimed(u64),
-    /// The pages are not as many as the plan and the fresh pages ask for, or the roots are not those of the plan.
+    /// The edition is not the heap's, or the pages are not as many as the plan and the fresh pages ask for, or the roots are not those of the plan.
     #[error("A8 WrongHead")]
     WrongHead,
 }

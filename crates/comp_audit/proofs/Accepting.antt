@@ -8,8 +8,10 @@ use Rattle.std.proofs.lemmas.List.{get_or_default}
 use mathlib.Core.Option as maybe
 use lib.ListN.{get_elem?}
 use Rattle.heap_layout.specs.Heap.{live}
+use Rattle.heap_layout.specs.declared.edition.Edition.{Edition}
+use Rattle.heap_layout.specs.declared.edition.Edition.TheVariants.{One, Two}
+use Rattle.heap_layout.specs.Kinds.{refers}
 use Rattle.heap_layout.specs.declared.kind.Kind.{Kind}
-use Rattle.heap_layout.specs.declared.kind.Kind.TheVariants.{Header, Reference, Data}
 use Rattle.page_plan.specs.Sliding.{forwarded, live_words}
 use Rattle.comp_journal.specs.Journal.{replayed}
 use Rattle.comp_journal.specs.declared.entry.Entry.{Entry}
@@ -32,10 +34,10 @@ use Rattle.comp_history.specs.Finishes.{named}
 use Rattle.comp_dump.specs.Dumped.{BuiltPage, Dumped}
 use Rattle.audit_faults.specs.declared.fault.AuditFault.{AuditFault}
 use Rattle.audit_faults.specs.declared.fault.AuditFault.TheVariants.{WrongHead, WrongWord, WrongTotal, BuildUnclaimed, BadEntry, LooseReference, StampRepeated, StampMissing}
-use Rattle.audit_checks.specs.Checks.{setup_for, unless, all_stamps, journal_of, journals_in, above, head_faults, is_claimed, build_faults, journal_faults, same_words, word_faults, each_built, is_kind, makes, is_start, is_made_before, is_led, reference_faults, late_on, late_with, late_faults, repeat_faults, missing_faults, total_faults}
+use Rattle.audit_checks.specs.Checks.{setup_for, unless, all_stamps, journal_of, journals_in, above, is_edition, head_faults, is_claimed, build_faults, journal_faults, same_words, word_faults, each_built, some_refers, makes, is_start, is_made_before, is_led, reference_faults, late_on, late_with, late_faults, repeat_faults, missing_faults, total_faults}
 use Rattle.comp_audit.specs.Meant.{built_count, page_of, IsLawfulDump, LawfulIsYes}
 use Rattle.audit_checks.proofs.Telling.{both_pass, none_items}
-use Rattle.audit_checks.proofs.Meanings.{true_and, kind_means, faultless_is_lawful}
+use Rattle.audit_checks.proofs.Meanings.{true_and, faultless_is_lawful}
 use Rattle.audit_checks.proofs.Noting.{makes_here}
 use Rattle.audit_checks.proofs.Ranges.{none_in_range}
 use Rattle.audit_checks.proofs.Built.{none_built}
@@ -82,16 +84,17 @@ any_in test (y ∷ ys) x i h = ⊎_elim
     (λ t. right_holds (test y) (list_any test ys) (any_in test ys x t h))
     i
 
-is_kind_or_not : (o : Option Kind) → (is_kind Reference o ≡ true) ⊎ (is_kind Reference o ≡ false)
-is_kind_or_not (Some Header) = inr refl
-is_kind_or_not (Some Reference) = inl refl
-is_kind_or_not (Some Data) = inr refl
-is_kind_or_not None = inr refl
+holds_or_not : (b : Bool) → (b ≡ true) ⊎ (b ≡ false)
+holds_or_not true = inl refl
+holds_or_not false = inr refl
 
-reference_or_not : (k : Kind) → (k ≡ Reference) ⊎ (not (is_kind Reference (Some k)) ≡ true)
-reference_or_not Header = inr refl
-reference_or_not Reference = inl refl
-reference_or_not Data = inr refl
+refers_means : (o : Option Kind) → some_refers o ≡ true → (k : Kind) × (refers k ≡ true) × (o ≡ Some k)
+refers_means None h = absurd cc
+refers_means (Some k) h = (k, h, refl)
+
+edition_same : (e : Edition) → is_edition e e ≡ true
+edition_same One = refl
+edition_same Two = refl
 
 module _ (u : Setup) (journals : Journals) where
   abbrev all : List (ℕ × Entry)
@@ -119,33 +122,33 @@ module _ (u : Setup) (journals : Journals) where
   place_found a place = left_holds _ (list_any (makes a) all) (ap is_some place.1)
 
   -- a reference that leads to what is older passes its test
-  led_tested : (e : Entry) → (e.kind ≡ Reference → LeadsToOlder u journals e.stamp e.value) → is_led u.heap (is_made_before all) e ≡ true
+  led_tested : (e : Entry) → (refers e.kind ≡ true → LeadsToOlder u journals e.stamp e.value) → is_led u.heap (is_made_before all) e ≡ true
   led_tested e leads =
       let before = is_made_before all e.value e.stamp in
       ⊎_elim
-      (λ (reference : e.kind ≡ Reference). ⊎_elim
-      (λ (null : e.value ≡ 0). left_holds _ before (left_holds _ _ (right_holds (not (is_kind Reference (Some e.kind))) (eqb e.value 0) (eq-eqb _ _ null))))
+      (λ (reference : refers e.kind ≡ true). ⊎_elim
+      (λ (null : e.value ≡ 0). left_holds _ before (left_holds _ _ (right_holds (not (refers e.kind)) (eqb e.value 0) (eq-eqb _ _ null))))
       (λ start. ⊎_elim
-      (λ (place : IsPlace u.heap e.value). left_holds _ before (right_holds (not (is_kind Reference (Some e.kind)) || eqb e.value 0) _ (ap is_some place.1)))
+      (λ (place : IsPlace u.heap e.value). left_holds _ before (right_holds (not (refers e.kind) || eqb e.value 0) _ (ap is_some place.1)))
       (λ (made : IsMadeBefore u journals e.stamp e.value). right_holds _ before (older_found e.value e.stamp made))
       start)
       (leads reference))
-      (λ (other : not (is_kind Reference (Some e.kind)) ≡ true). left_holds _ before (left_holds _ _ (left_holds _ (eqb e.value 0) other)))
-      (reference_or_not e.kind)
+      (λ (other : refers e.kind ≡ false). left_holds _ before (left_holds _ _ (left_holds _ (eqb e.value 0) (ap not other))))
+      (holds_or_not (refers e.kind))
 
   -- a word that is null or leads to an object, if it is a reference
-  start_tested : (o : Option Kind) (a : ℕ) → (o ≡ Some Reference → LeadsToObject u journals a) → ((not (is_kind Reference o) || eqb a 0) || is_start u.heap all a) ≡ true
+  start_tested : (o : Option Kind) (a : ℕ) → ((k : Kind) → refers k ≡ true → o ≡ Some k → LeadsToObject u journals a) → ((not (some_refers o) || eqb a 0) || is_start u.heap all a) ≡ true
   start_tested o a leads =
       ⊎_elim
-      (λ (reference : is_kind Reference o ≡ true). ⊎_elim
-      (λ (null : a ≡ 0). left_holds _ (is_start u.heap all a) (right_holds (not (is_kind Reference o)) (eqb a 0) (eq-eqb _ _ null)))
-      (λ start. right_holds (not (is_kind Reference o) || eqb a 0) (is_start u.heap all a) (⊎_elim
+      (λ (reference : some_refers o ≡ true). ⊎_elim
+      (λ (null : a ≡ 0). left_holds _ (is_start u.heap all a) (right_holds (not (some_refers o)) (eqb a 0) (eq-eqb _ _ null)))
+      (λ start. right_holds (not (some_refers o) || eqb a 0) (is_start u.heap all a) (⊎_elim
       (λ place. place_found a place)
       (λ made. right_holds _ (list_any (makes a) all) (start_found a made))
       start))
-      (leads (kind_means Reference o reference)))
-      (λ (other : is_kind Reference o ≡ false). left_holds _ (is_start u.heap all a) (left_holds _ (eqb a 0) (ap not other)))
-      (is_kind_or_not o)
+      (let r = refers_means o reference in leads r.0 r.1 r.2))
+      (λ (other : some_refers o ≡ false). left_holds _ (is_start u.heap all a) (left_holds _ (eqb a 0) (ap not other)))
+      (holds_or_not (some_refers o))
 
 -- what a lawful dump has
 module _ (u : Setup) (dump : Dumped) (lawful : IsLawfulDump u dump)
@@ -174,7 +177,7 @@ module _ (u : Setup) (dump : Dumped) (lawful : IsLawfulDump u dump)
   closed = each_leads u journals can.lawful (older_closed u journals can.references)
 
   loose_at : (p : ℕ) (page : BuiltPage) → get_or records p None ≡ Some page → (i k x : ℕ) → i < length page.words → k ≡ 0 + i → x ≡ get_or page.words i x
-      → ((not (is_kind Reference (kind_at u p page.journal k)) || eqb x 0) || is_start u.heap (entries_below journals (pages u)) x) ≡ true
+      → ((not (some_refers (kind_at u p page.journal k)) || eqb x 0) || is_start u.heap (entries_below journals (pages u)) x) ≡ true
   loose_at p page at i k x inside number is =
       let same = journal_is p page at in
       let place : i ≡ k = omega (arith, number) in
@@ -182,8 +185,8 @@ module _ (u : Setup) (dump : Dumped) (lawful : IsLawfulDump u dump)
       let value : get_or (replayed (base_of u p) (journals p)) k 0 ≡ x =
       ap (λ (j : List Entry). get_or (replayed (base_of u p) j) k 0) same ∙ ap (λ (l : List ℕ). get_or l k 0) (sym (lawful.words p page at))
       ∙ ap (λ (j : ℕ). get_or page.words j 0) (sym place) ∙ get_or_default page.words i 0 x inside ∙ sym is in
-      start_tested u journals (kind_at u p page.journal k) x (λ reference.
-      subst (LeadsToObject u journals) value (closed p k (record {
+      start_tested u journals (kind_at u p page.journal k) x (λ kind referring reference.
+      subst (LeadsToObject u journals) value (closed p k kind referring (record {
         inside = few;
         kind_is = ap (λ (j : List Entry). kind_at u p j k) same ∙ reference;
       })))
@@ -233,19 +236,21 @@ lawful_is_yes heap dump stored lawful =
     let u = setup_for heap dump.fresh dump.mutators in
     let records = dump.pages in
     let right = map (forwarded (live heap)) heap.roots in
-    let long : (p : ℕ) (page : BuiltPage) → page_of dump p ≡ Some page → length page.words ≡ 64 = λ p page at. page_long dump.mutators records p page stored.pages at in
+    let long : (p : ℕ) (page : BuiltPage) → page_of dump p ≡ Some page → length page.words ≡ 64 = λ p page at. page_long dump.edition dump.mutators records p page stored.pages at in
     let here : pages u ≡ length records = sym lawful.places in
     let all = entries_below (journals_in records) in
-    let head : head_faults u dump.roots records ≡ [] =
-    both_pass (eqb (length records) (pages u)) (bytes_eq dump.roots right) WrongHead (eq-eqb _ _ lawful.places) ((bytes_eq-Decides dump.roots right).1 lawful.roots) in
+    let head : head_faults u dump.edition dump.roots records ≡ [] =
+    both_pass (is_edition dump.edition heap.edition) (eqb (length records) (pages u) && bytes_eq dump.roots right) WrongHead
+    (ap (λ (e : Edition). is_edition dump.edition e) (sym lawful.edition) ∙ edition_same dump.edition)
+    (true_and (eqb (length records) (pages u)) (bytes_eq dump.roots right) (eq-eqb _ _ lawful.places) ((bytes_eq-Decides dump.roots right).1 lawful.roots)) in
     let builds : build_faults dump.builds records ≡ [] = no_claims dump.builds records (λ p lt. lawful.claims p (omega (arith, lt, lawful.places))) in
     let loose = ap (λ (n : ℕ). each_built (reference_faults (is_start heap (all n)) u) records) (sym here) ∙ no_loose u dump lawful long in
     let repeats = ap (λ (n : ℕ). repeat_faults (map stamp_of (all n))) (sym here) ∙ no_repeats u dump lawful long in
     let missing = ap (λ (n : ℕ). missing_faults (map stamp_of (all n))) (sym here) ∙ no_missing u dump lawful long in
     let late = ap (λ (n : ℕ). late_faults (is_led heap (is_made_before (all n))) records) (sym here) ∙ no_late u dump lawful long in
-    let sum : dump.total ≡ live_words (live heap) + allocated (all (length records)) =
-    lawful.total ∙ ap (λ (n : ℕ). live_words (live heap) + n) (total_merged u (journals_in records) ∙ ap (λ (n : ℕ). allocated (all n)) here) in
-    let total : total_faults heap dump.total records ≡ [] = holds (eqb dump.total (live_words (live heap) + allocated (all (length records)))) WrongTotal (eq-eqb _ _ sum) in
+    let sum : dump.total ≡ live_words (live heap) + allocated heap.edition (all (length records)) =
+    lawful.total ∙ ap (λ (n : ℕ). live_words (live heap) + n) (total_merged u (journals_in records) ∙ ap (λ (n : ℕ). allocated heap.edition (all n)) here) in
+    let total : total_faults heap dump.total records ≡ [] = holds (eqb dump.total (live_words (live heap) + allocated heap.edition (all (length records)))) WrongTotal (eq-eqb _ _ sum) in
     join _ _ head
     (join _ _ (join _ _ builds (join _ _ (no_entries u dump lawful long) (no_wrong_words u dump lawful long)))
     (join _ _ (join _ _ loose (join _ _ repeats (join _ _ missing late))) total))

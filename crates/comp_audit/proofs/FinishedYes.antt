@@ -57,12 +57,13 @@ module _ (mutators fresh : ℕ) (f : Finished) (of : IsOfFlip mutators fresh f) 
 
   lawful : IsLawfulDump u dump
   lawful = record {
+    edition = is.edition_is ∙ of.finished.edition;
     places = ap length is.pages ∙ length-map (pages_of f) record_of ∙ of.finished.pages.places;
     roots = is.roots ∙ are_forwarded (forward (live u.heap)) (finished.roots_of f) u.heap.roots of.finished.roots;
     claims = λ p lt. ap (named p) is.builds ∙ of.finished.pages.once p ∙ sym (ap built_count (page_is p) ∙ record_built (page_at (pages_of f) p));
     words = λ p page at. record_words u p page (page_at (pages_of f) p) (of.finished.pages.bases p) (sym (page_is p) ∙ at);
     merges = subst (λ (j : ℕ → List Entry). CanMerge u j) (sym journals_are) of.finished.history.merges;
-    total = is.total ∙ of.finished.balances.made ∙ ap (λ (j : ℕ → List Entry). live_words (live u.heap) + allocated (history u j)) (sym journals_are);
+    total = is.total ∙ of.finished.balances.made ∙ ap (λ (j : ℕ → List Entry). live_words (live u.heap) + allocated u.heap.edition (history u j)) (sym journals_are);
   }
 
   pub finished_lawful : IsLawfulDump (setup_for u.heap dump.fresh dump.mutators) dump

@@ -10,8 +10,12 @@ use mathlib.Core.Option as maybe
 use mathlib.Core.Option.{some-ne-none}
 use lib.ListN.{get_elem?}
 use Rattle.heap_layout.specs.Heap.{live}
+use Rattle.heap_layout.specs.declared.edition.Edition.{Edition}
+use Rattle.heap_layout.specs.declared.edition.Edition.TheVariants.{One, Two}
+use Rattle.heap_layout.specs.Header.{Head}
+use Rattle.heap_layout.specs.Kinds.{refers}
 use Rattle.heap_layout.specs.declared.kind.Kind.{Kind}
-use Rattle.heap_layout.specs.declared.kind.Kind.TheVariants.{Header, Reference}
+use Rattle.heap_layout.specs.declared.kind.Kind.TheVariants.{Header}
 use Rattle.page_plan.specs.Sliding.{forwarded, live_words, shape_at}
 use Rattle.comp_journal.specs.Journal.{replayed}
 use Rattle.comp_journal.specs.declared.entry.Entry.{Entry}
@@ -35,7 +39,7 @@ use Rattle.comp_history.proofs.Legal.{one_history}
 use Rattle.comp_history.specs.Finishes.{named}
 use Rattle.comp_dump.specs.Dumped.{BuiltPage, IsStoredRecord}
 use Rattle.audit_faults.specs.declared.fault.AuditFault.TheVariants.{WrongHead, WrongWord, WrongTotal, BuildUnclaimed, BadEntry}
-use Rattle.audit_checks.specs.Checks.{setup_for, unless, all_entries, all_stamps, journal_of, journals_in, above, head_faults, is_claimed, build_faults, journal_faults, same_words, word_faults, each_built, is_kind, makes, is_place, is_made_before, is_led, late_on, late_with, late_faults, repeat_faults, missing_faults}
+use Rattle.audit_checks.specs.Checks.{setup_for, unless, all_entries, all_stamps, journal_of, journals_in, above, is_edition, head_faults, is_claimed, build_faults, journal_faults, same_words, word_faults, each_built, is_kind, makes, is_place, is_made_before, is_led, late_on, late_with, late_faults, repeat_faults, missing_faults}
 use Rattle.comp_audit.specs.Meant.{built_count, journals_of, IsLawfulDump, YesIsSound}
 use Rattle.audit_checks.proofs.Telling.{none_both, unless_holds, item_none}
 use Rattle.audit_checks.proofs.Meanings.{and_true, kind_means}
@@ -44,12 +48,19 @@ use Rattle.comp_audit.proofs.Clock.{stamps_counted, stamps_long, stamps_once, st
 use Rattle.audit_checks.proofs.Entries.{stamp_below}
 
 -- the head
-head_means : (u : Setup) (roots : List ℕ) (records : List (Option BuiltPage)) → head_faults u roots records ≡ []
-    → (length records ≡ pages u) × (roots ≡ map (forwarded (live u.heap)) u.heap.roots)
-head_means u roots records none =
+edition_means : (a b : Edition) → is_edition a b ≡ true → a ≡ b
+edition_means One One h = refl
+edition_means One Two h = absurd cc
+edition_means Two One h = absurd cc
+edition_means Two Two h = refl
+
+head_means : (u : Setup) (edition : Edition) (roots : List ℕ) (records : List (Option BuiltPage)) → head_faults u edition roots records ≡ []
+    → (edition ≡ u.heap.edition) × (length records ≡ pages u) × (roots ≡ map (forwarded (live u.heap)) u.heap.roots)
+head_means u edition roots records none =
     let right = map (forwarded (live u.heap)) u.heap.roots in
-    let both = and_true (eqb (length records) (pages u)) (bytes_eq roots right) (unless_holds _ WrongHead none) in
-    (eqb-true _ _ both.0, (bytes_eq-Decides roots right).0 both.1)
+    let all = and_true (is_edition edition u.heap.edition) (eqb (length records) (pages u) && bytes_eq roots right) (unless_holds _ WrongHead none) in
+    let both = and_true (eqb (length records) (pages u)) (bytes_eq roots right) all.1 in
+    (edition_means edition u.heap.edition all.0, eqb-true _ _ both.0, (bytes_eq-Decides roots right).0 both.1)
 
 -- who built the pages
 claim_by : (builds : List (List ℕ)) (p : ℕ) (kept : Option BuiltPage) → is_claimed builds (p, kept) ≡ true → named p builds ≡ built_count kept
@@ -69,10 +80,10 @@ words_mean right words p long as_long none =
     eqb-true _ _ (unless_holds (eqb (get_or words i 0) (get_or right i 0)) (WrongWord (address p i))
     (item_none (λ word. unless (eqb word.1 (get_or right word.0 0)) (WrongWord (address p word.0))) 0 words i i 0 lt (omega arith) none)))
 
-pub page_long : (mutators : ℕ) (records : List (Option BuiltPage)) (p : ℕ) (page : BuiltPage) → ((k : ℕ) (d : Option BuiltPage) → k < length records → IsStoredRecord mutators (get_or records k d))
+pub page_long : (edition : Edition) (mutators : ℕ) (records : List (Option BuiltPage)) (p : ℕ) (page : BuiltPage) → ((k : ℕ) (d : Option BuiltPage) → k < length records → IsStoredRecord edition mutators (get_or records k d))
     → get_or records p None ≡ Some page → length page.words ≡ 64
-page_long mutators records p page stored at =
-    let here : IsStoredRecord mutators (Some page) = subst (IsStoredRecord mutators) at (stored p None (built_inside records p page at)) in
+page_long edition mutators records p page stored at =
+    let here : IsStoredRecord edition mutators (Some page) = subst (IsStoredRecord edition mutators) at (stored p None (built_inside records p page at)) in
     here.long
 
 -- where references lead
@@ -94,7 +105,7 @@ any_has test (x ∷ xs) h = ⊎_elim
 some_kind : (a b : Kind) → Some a ≡ Some b → a ≡ b
 some_kind a b e = cc
 
-some_header : (o : Option ℕ) → is_some o ≡ true → (header : ℕ) × (o ≡ Some header)
+some_header : (o : Option Head) → is_some o ≡ true → (header : Head) × (o ≡ Some header)
 some_header None h = absurd cc
 some_header (Some header) h = (header, refl)
 
@@ -122,13 +133,13 @@ module _ (u : Setup) (journals : Journals) (lawful : AreLawful u journals) where
         made = subst (λ (q : ℕ). HasHeadBefore (journals q) x.1.offset n) page (at.0, x.1, at.1, head, refl, ltb-true _ _ both.1);
       }
 
-  led_means : (e : Entry) → e.kind ≡ Reference → is_led u.heap (is_made_before all) e ≡ true → LeadsToOlder u journals e.stamp e.value
+  led_means : (e : Entry) → refers e.kind ≡ true → is_led u.heap (is_made_before all) e ≡ true → LeadsToOlder u journals e.stamp e.value
   led_means e reference h =
-      let is_reference = not (is_kind Reference (Some e.kind)) in
+      let is_reference = not (refers e.kind) in
       let null = eqb e.value 0 in
       let place = is_place u.heap e.value in
       let before = is_made_before all e.value e.stamp in
-      let not_other : is_reference ≡ false = ap (λ (k : Kind). not (is_kind Reference (Some k))) reference in
+      let not_other : is_reference ≡ false = ap not reference in
       ⊎_elim
       (λ (front : ((is_reference || null) || place) ≡ true). ⊎_elim
       (λ (first : (is_reference || null) ≡ true). inl (eqb-true _ _ (or_right is_reference null not_other first)))
@@ -180,9 +191,9 @@ module _ (u : Setup) (records : List (Option BuiltPage)) (places : length record
         no_more = λ s le. sym (counted s) ∙ stamps_no_more (all_stamps records) there s (omega (arith, long, le));
       }
 
-pub total_merged : (u : Setup) (journals : Journals) → allocated (history u journals) ≡ allocated (entries_below journals (pages u))
+pub total_merged : (u : Setup) (journals : Journals) → allocated u.heap.edition (history u journals) ≡ allocated u.heap.edition (entries_below journals (pages u))
 unfolding history
-total_merged u journals = total_sorted (λ (x : ℕ × Entry). words_by x.1.kind x.1.value) (entries_below journals (pages u))
+total_merged u journals = total_sorted (λ (x : ℕ × Entry). words_by u.heap.edition x.1.kind x.1.value) (entries_below journals (pages u))
 
 pub yes_is_sound : YesIsSound
 unfolding history
@@ -197,17 +208,18 @@ yes_is_sound heap dump closed stored none =
     let references = none_both _ _ between.0 in
     let repeats = none_both _ _ references.1 in
     let missing_late = none_both _ _ repeats.1 in
-    let front = head_means u dump.roots records head.0 in
-    let can = merges u records front.0 refl entries_words.0 repeats.0 missing_late.0 missing_late.1 in
+    let front = head_means u dump.edition dump.roots records head.0 in
+    let can = merges u records front.1 refl entries_words.0 repeats.0 missing_late.0 missing_late.1 in
     let lawful : IsLawfulDump u dump = record {
-      places = front.0;
-      roots = front.1;
-      claims = λ p lt. claims_mean dump.builds records builds.0 p (omega (arith, lt, front.0));
+      edition = front.0;
+      places = front.1;
+      roots = front.2;
+      claims = λ p lt. claims_mean dump.builds records builds.0 p (omega (arith, lt, front.1));
       words = λ p page at. words_mean (replayed (base_of u p) page.journal) page.words p (replayed_long (base_of u p) page.journal ∙ base_long u p)
-          (page_long dump.mutators records p page stored.pages at) (built_none (word_faults u) records p page entries_words.1 at);
+          (page_long dump.edition dump.mutators records p page stored.pages at) (built_none (word_faults u) records p page entries_words.1 at);
       merges = can;
-      total = eqb-true _ _ (unless_holds (eqb dump.total (live_words (live heap) + allocated (all_entries records))) WrongTotal between.1)
-          ∙ ap (λ (n : ℕ). live_words (live heap) + allocated (entries_below (journals_in records) n)) front.0
+      total = eqb-true _ _ (unless_holds (eqb dump.total (live_words (live heap) + allocated heap.edition (all_entries records))) WrongTotal between.1)
+          ∙ ap (λ (n : ℕ). live_words (live heap) + allocated heap.edition (entries_below (journals_in records) n)) front.1
           ∙ ap (λ (n : ℕ). live_words (live heap) + n) (sym (total_merged u (journals_in records)));
     } in
     record {

@@ -10,7 +10,7 @@ use Rattle.comp_audit.specs.declared.verdict.Verdict.TheVariants.{Yes, No}
 
 -- all faults of a dump, where this heap was compacted
 abbrev pub faults : Heap → Dumped → List AuditFault
-faults heap dump = faults_for (setup_for heap dump.fresh dump.mutators) dump.roots dump.builds dump.pages dump.total
+faults heap dump = faults_for (setup_for heap dump.fresh dump.mutators) dump.edition dump.roots dump.builds dump.pages dump.total
 
 -- the verdict is yes where there is no fault, and else it tells the first
 abbrev pub Judges : List AuditFault → Verdict → Type 0

@@ -8,7 +8,7 @@ use Rattle.cell_steps.specs.Setup.{Setup, pages, base_of}
 use Rattle.page_cells.specs.Objects.{ReferencesAreStarts}
 use Rattle.comp_history.specs.Merged.{history, CanMerge, IsOneHistory}
 use Rattle.comp_history.specs.Shares.{allocated}
-use Rattle.comp_history.specs.Finishes.{builds_in, live_of, named, pages_of, roots_of, IsOfFlip}
+use Rattle.comp_history.specs.Finishes.{builds_in, edition_in, live_of, named, pages_of, roots_of, IsOfFlip}
 use Rattle.comp_history.specs.declared.finished.Finished.{Finished}
 use Rattle.comp_dump.specs.Dumped.{BuiltPage, Dumped, IsStored}
 use Rattle.comp_dump.specs.Lent.{record_of}
@@ -30,6 +30,8 @@ journals_of dump = journals_in dump.pages
 
 -- A dump that a compaction can have left.
 pub record IsLawfulDump (u : Setup) (dump : Dumped) : Type 0 where
+  -- it is of the heap's edition
+  pub edition : dump.edition ≡ u.heap.edition
   -- there is a place for each page
   pub places : length dump.pages ≡ pages u
   -- the roots lead where the objects slid
@@ -41,9 +43,9 @@ pub record IsLawfulDump (u : Setup) (dump : Dumped) : Type 0 where
   -- the journals can be merged
   pub merges : CanMerge u (journals_of dump)
   -- the total is that of the words that slid and of the objects that the merged history makes
-  pub total : dump.total ≡ live_words (live u.heap) + allocated (history u (journals_of dump))
+  pub total : dump.total ≡ live_words (live u.heap) + allocated u.heap.edition (history u (journals_of dump))
 
--- Where the audit says yes, the dump is lawful, its pages have one history, and each of their references is null or an object's start.
+-- Where the audit says yes, the dump is lawful, its pages have one history, and each of their references and weak words is null or an object's start.
 pub record IsSound (u : Setup) (dump : Dumped) : Type 0 where
   pub lawful : IsLawfulDump u dump
   pub one : IsOneHistory u (journals_of dump) (history u (journals_of dump))
@@ -58,6 +60,7 @@ LawfulIsYes = (heap : Heap) (dump : Dumped) → IsStored dump → IsLawfulDump (
 
 -- what the dump of a finished heap has
 pub record IsDumpOf (mutators fresh : ℕ) (f : Finished) (dump : Dumped) : Type 0 where
+  pub edition_is : dump.edition ≡ edition_in f
   pub mutators_are : dump.mutators ≡ mutators
   pub fresh_are : dump.fresh ≡ fresh
   pub roots : dump.roots ≡ roots_of f

@@ -14,14 +14,15 @@ use std::alloc::Global;
 
 /// Whether a dump is what a compaction by this plan can have left: yes, or the first fault.
 ///
-/// A no is told by check, in this order: the head, the builds, each entry by itself, the words, the references, the stamps, the age of what references lead
-/// to, and the total; within a check it is the least page, entry, address or stamp. Its one refusal is want of memory.
+/// A no is told by check, in this order: the head (edition, pages, roots), the builds, each entry by itself, the words, the references and weak words, the
+/// stamps, the age of what those lead to, and the total; within a check it is the least page, entry, address or stamp. Its one refusal is want of memory.
 pub fn audit(alloc: Global, plan: &Plan, dump: &Dump<'_>) -> Result<Verdict, OutOfMemory>
     ensures { IfOk result (Judges (faults plan.now dump.now)) }
 {
     dump_is_stored(dump);
     let setting = Setting {
         plan,
+        edition: dump.edition(),
         fresh: dump.fresh_pages(),
         mutators: dump.mutators(),
     };

@@ -8,7 +8,7 @@ pub fn faultless_is_lawful()
 {}
 
 /// Where the audit says yes of a dump in range, by an accepted heap, the dump is one that a compaction can have left: its entries have one history, which
-/// a single thread could have written, and each of its references is null or an object's start.
+/// a single thread could have written, and each of its references and weak words is null or an object's start.
 pub fn yes_is_sound()
     ensures { YesIsSound }
 {}

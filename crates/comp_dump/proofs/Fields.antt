@@ -1,19 +1,24 @@
 -- Lemmas on the numbers of a dump: how they are read, and why they are not.
-use Rattle.std.proofs.Common.{◌≡◌, ℕ, ◌-◌, ◌^◌, ◌<◌, ◌≤◌, ◌⊎◌, inl, inr, Bool, true, false, ltb, ◌||◌, List, [], ◌∷◌, ◌++◌, length, slice_index, drop, Option, Some, None, IfSome, Err, refl, ap, subst, ◌∙◌, arith, length-append, All}
+use Rattle.std.proofs.Common.{◌≡◌, ◌≢◌, ℕ, ◌-◌, ◌^◌, ◌<◌, ◌≤◌, ◌⊎◌, inl, inr, ◌==◌, Bool, true, false, ltb, ◌||◌, List, [], ◌∷◌, ◌++◌, length, slice_index, drop, Option, Some, None, IfSome, Err, refl, sym, ap, subst, ◌∙◌, arith, ne_eqb, length-append, All}
 use Rattle.std.specs.Io.KnownBytes.{Consumes}
 use Rattle.std.proofs.lemmas.Bool.{le-ltb, lt-ltb}
 use Rattle.std.proofs.lemmas.List.{drop_at}
 use Rattle.std.proofs.lemmas.Nat.{le_bytes_4, le_bytes_8}
 use Rattle.byteorder.specs.Endian.{little_number, little_bytes}
 use Rattle.byteorder.specs.Numbers.{little_number-reads_back, length-bytes_low_first, little_from-append}
+use Rattle.heap_layout.specs.declared.edition.Edition.{Edition}
+use Rattle.heap_layout.specs.declared.edition.Edition.TheVariants.{One, Two}
 use Rattle.heap_layout.specs.declared.kind.Kind.{Kind}
-use Rattle.heap_layout.specs.declared.kind.Kind.TheVariants.{Header, Reference, Data}
+use Rattle.heap_layout.specs.declared.kind.Kind.TheVariants.{Header, Reference, Weak, Data}
 use Rattle.comp_journal.specs.declared.entry.Entry.{Entry}
 use Rattle.comp_dump.specs.Dumped.{BuiltPage, IsStoredEntry, IsStoredPage, IsStoredRecord, IsStoredList}
-use Rattle.comp_dump.specs.DumpEncoding.{kind_code, one_byte, four_bytes, eight_bytes, entry_bytes, built_bytes, page_bytes, builds_bytes}
+use Rattle.heap_image.specs.Versions.{version_of}
+use Rattle.comp_dump.specs.Codes.{kind_code, last_code}
+use Rattle.comp_dump.specs.DumpEncoding.{one_byte, four_bytes, eight_bytes, entry_bytes, built_bytes, page_bytes, builds_bytes}
 use Rattle.comp_dump.specs.declared.fault.DumpFault.{DumpFault}
-use Rattle.comp_dump.specs.declared.fault.DumpFault.TheVariants.{Truncated, BadField, Device}
-use Rattle.comp_dump.specs.DumpReading.{done, number, word, kind, kind_of, entry, built, page, page_behind, builds, EndsBefore, Fails, Stops}
+use Rattle.comp_dump.specs.declared.fault.DumpFault.TheVariants.{Truncated, BadMagic, BadField, Device}
+use Rattle.comp_dump.specs.DumpReading as reading
+use Rattle.comp_dump.specs.DumpReading.{number, word, kind, kind_of, entry, built, page, page_behind, builds, EndsBefore, Fails, Stops}
 use Rattle.comp_dump.proofs.Readings.{Spells, AllSpell, all_spell, spells_then, spells_last, spells_done, spells_times}
 
 -- the bytes end in the number
@@ -80,26 +85,72 @@ one_read [] n small long is = absurd (omega arith)
 one_read (b ∷ []) n small long is = ap (λ (k : ℕ). k ∷ []) (omega (arith, is, small 0))
 one_read (b ∷ c ∷ bytes) n small long is = absurd (omega arith)
 
-pub spells_kind : (k : Kind) → Spells kind (one_byte (kind_code k)) k
-unfolding kind
-spells_kind Header = spells_then (number 1 0 2) (λ code. done (kind_of code)) (one_byte 0) [] 0 Header (spells_number 1 0 2 0 (omega arith) (omega arith) (omega arith)) (spells_done Header)
-spells_kind Reference = spells_then (number 1 0 2) (λ code. done (kind_of code)) (one_byte 1) [] 1 Reference (spells_number 1 0 2 1 (omega arith) (omega arith) (omega arith)) (spells_done Reference)
-spells_kind Data = spells_then (number 1 0 2) (λ code. done (kind_of code)) (one_byte 2) [] 2 Data (spells_number 1 0 2 2 (omega arith) (omega arith) (omega arith)) (spells_done Data)
-
 pub spells_small : (high n : ℕ) → n < 256 → n ≤ high → Spells (number 1 0 high) (one_byte n) n
 spells_small high n small below = spells_number 1 0 high n small (omega arith) below
 
-pub spells_entry : (mutators : ℕ) (e : Entry) → mutators ≤ 256 → IsStoredEntry mutators e → Spells (entry mutators) (entry_bytes e) e
+spells_code : (edition : Edition) (n : ℕ) (k : Kind) → n < 256 → n ≤ last_code edition → kind_of n ≡ k → Spells (kind edition) (one_byte n) k
+unfolding kind
+spells_code edition n k fits below is = spells_last _ _ _ _ _ (spells_small (last_code edition) n fits below) is
+
+pub spells_kind : (edition : Edition) (k : Kind) → kind_code k ≤ last_code edition → Spells (kind edition) (one_byte (kind_code k)) k
+spells_kind edition Header h = spells_code edition 0 Header (omega arith) h refl
+spells_kind edition Reference h = spells_code edition 1 Reference (omega arith) h refl
+spells_kind edition Data h = spells_code edition 2 Data (omega arith) h refl
+spells_kind edition Weak h = spells_code edition 3 Weak (omega arith) h refl
+
+-- the version is read again
+pub spells_edition : (e : Edition) → Spells reading.edition (four_bytes (version_of e)) e
+unfolding reading.edition
+spells_edition One = record {
+  again = λ rest.
+      let front = four_bytes (version_of One) in
+      let whole : ltb (length (front ++ rest)) 4 ≡ false = le-ltb _ _ (omega (arith, length-append front rest)) in
+      rw whole refl;
+}
+spells_edition Two = record {
+  again = λ rest.
+      let front = four_bytes (version_of Two) in
+      let whole : ltb (length (front ++ rest)) 4 ≡ false = le-ltb _ _ (omega (arith, length-append front rest)) in
+      rw whole refl;
+}
+
+edition_short : (bytes : List ℕ) (fault : DumpFault) → EndsBefore 4 fault bytes → Fails fault (reading.edition bytes)
+unfolding reading.edition
+edition_short bytes Truncated h = rw (lt-ltb _ _ h) refl
+edition_short bytes Device h = tt
+edition_short bytes _ h = absurd h
+
+pub stops_edition : (a : Option (List ℕ)) (fault : DumpFault) → IfSome a (EndsBefore 4 fault) → Stops reading.edition a fault
+stops_edition None fault h = tt
+stops_edition (Some bytes) fault h = edition_short bytes fault h
+
+-- the bytes begin with a number that is no edition's version
+other_version : (front rest : List ℕ) → length front ≡ 4 → ((e : Edition) → version_of e ≢ little_number 4 front) → reading.edition (front ++ rest) ≡ Err BadMagic
+unfolding reading.edition
+other_version front rest long none =
+    let whole : ltb (length (front ++ rest)) 4 ≡ false = le-ltb _ _ (omega (arith, length-append front rest)) in
+    let same : little_number 4 (front ++ rest) ≡ little_number 4 front = little_from-append 4 front rest (omega arith) in
+    let test : (e : Edition) → (little_number 4 front == version_of e) ≡ false = λ e. ne_eqb _ _ (λ is. none e (sym is)) in
+    rw (whole, same, test One, test Two) refl
+
+pub stops_version : (n : ℕ) (a b : Option (List ℕ)) (front : List ℕ) → Consumes a b front → length front ≡ 4 → n ≡ little_number 4 front
+    → ((e : Edition) → version_of e ≢ n) → Stops reading.edition a BadMagic
+stops_version n None b front read long is none = tt
+stops_version n (Some xs) None front read long is none = absurd read
+stops_version n (Some xs) (Some ys) front read long is none =
+    ap reading.edition read ∙ other_version front ys long (subst (λ (k : ℕ). (e : Edition) → version_of e ≢ k) is none)
+
+pub spells_entry : (edition : Edition) (mutators : ℕ) (e : Entry) → mutators ≤ 256 → IsStoredEntry edition mutators e → Spells (entry edition mutators) (entry_bytes e) e
 unfolding entry entry_bytes
-spells_entry mutators e few stored =
+spells_entry edition mutators e few stored =
     spells_then _ _ _ _ _ _ (spells_word e.stamp stored.stamp)
     (spells_then _ _ _ _ _ _ (spells_small (mutators - 1) e.writer (omega (arith, stored.writer)) (omega (arith, stored.writer)))
-    (spells_then _ _ _ _ _ _ (spells_kind e.kind)
+    (spells_then _ _ _ _ _ _ (spells_kind edition e.kind stored.kind)
     (spells_then _ _ _ _ _ _ (spells_small 63 e.offset (omega (arith, stored.offset)) (omega (arith, stored.offset)))
     (spells_last _ _ _ _ _ (spells_word e.value stored.value) refl))))
 
-pub entries_spell : (mutators : ℕ) (es : List Entry) → mutators ≤ 256 → All (IsStoredEntry mutators) es → AllSpell (entry mutators) entry_bytes es
-entries_spell mutators es few = all_spell (entry mutators) entry_bytes (IsStoredEntry mutators) (λ e. spells_entry mutators e few) es
+pub entries_spell : (edition : Edition) (mutators : ℕ) (es : List Entry) → mutators ≤ 256 → All (IsStoredEntry edition mutators) es → AllSpell (entry edition mutators) entry_bytes es
+entries_spell edition mutators es few = all_spell (entry edition mutators) entry_bytes (IsStoredEntry edition mutators) (λ e. spells_entry edition mutators e few) es
 
 pub spells_four : (low high n : ℕ) → n < 2 ^ 32 → low ≤ n → n ≤ high → Spells (number 4 low high) (four_bytes n) n
 spells_four low high n fits above below = spells_number 4 low high n fits above below
@@ -119,22 +170,22 @@ spells_builds pages list few stored =
     spells_then _ _ _ _ _ _ (spells_four 0 pages (length list) (omega (arith, stored.few)) (omega arith) stored.few)
     (spells_times (number 4 0 (pages - 1)) four_bytes (length list) list refl (numbers_spell pages list few stored.below))
 
-pub spells_built : (mutators : ℕ) (page : BuiltPage) → mutators ≤ 256 → IsStoredPage mutators page → Spells (built mutators) (built_bytes page) page
+pub spells_built : (edition : Edition) (mutators : ℕ) (page : BuiltPage) → mutators ≤ 256 → IsStoredPage edition mutators page → Spells (built edition mutators) (built_bytes page) page
 unfolding built built_bytes
-spells_built mutators page few stored =
+spells_built edition mutators page few stored =
     spells_then _ _ _ _ _ _ (spells_times word eight_bytes 64 page.words stored.long (words_spell page.words stored.words))
     (spells_then _ _ _ _ _ _ (spells_four 0 1024 (length page.journal) (omega (arith, stored.few_entries)) (omega arith) stored.few_entries)
-    (spells_last _ _ _ _ _ (spells_times (entry mutators) entry_bytes (length page.journal) page.journal refl (entries_spell mutators page.journal few stored.entries)) refl))
+    (spells_last _ _ _ _ _ (spells_times (entry edition mutators) entry_bytes (length page.journal) page.journal refl (entries_spell edition mutators page.journal few stored.entries)) refl))
 
-pub spells_page : (mutators : ℕ) (its_page : Option BuiltPage) → mutators ≤ 256 → IsStoredRecord mutators its_page → Spells (page mutators) (page_bytes its_page) its_page
+pub spells_page : (edition : Edition) (mutators : ℕ) (its_page : Option BuiltPage) → mutators ≤ 256 → IsStoredRecord edition mutators its_page → Spells (page edition mutators) (page_bytes its_page) its_page
 unfolding page
-spells_page mutators None few stored = spells_then (number 1 0 1) (page_behind mutators) (one_byte 0) [] 0 None (spells_small 1 0 (omega arith) (omega arith)) (spells_done None)
-spells_page mutators (Some its_page) few stored =
-    spells_then (number 1 0 1) (page_behind mutators) (one_byte 1) (built_bytes its_page) 1 (Some its_page) (spells_small 1 1 (omega arith) (omega arith))
-    (spells_last _ _ _ _ _ (spells_built mutators its_page few stored) refl)
+spells_page edition mutators None few stored = spells_then (number 1 0 1) (page_behind edition mutators) (one_byte 0) [] 0 None (spells_small 1 0 (omega arith) (omega arith)) (spells_done None)
+spells_page edition mutators (Some its_page) few stored =
+    spells_then (number 1 0 1) (page_behind edition mutators) (one_byte 1) (built_bytes its_page) 1 (Some its_page) (spells_small 1 1 (omega arith) (omega arith))
+    (spells_last _ _ _ _ _ (spells_built edition mutators its_page few stored) refl)
 
-pub pages_spell : (mutators : ℕ) (list : List (Option BuiltPage)) → mutators ≤ 256 → All (IsStoredRecord mutators) list → AllSpell (page mutators) page_bytes list
-pages_spell mutators list few = all_spell (page mutators) page_bytes (IsStoredRecord mutators) (λ p. spells_page mutators p few) list
+pub pages_spell : (edition : Edition) (mutators : ℕ) (list : List (Option BuiltPage)) → mutators ≤ 256 → All (IsStoredRecord edition mutators) list → AllSpell (page edition mutators) page_bytes list
+pages_spell edition mutators list few = all_spell (page edition mutators) page_bytes (IsStoredRecord edition mutators) (λ p. spells_page edition mutators p few) list
 
 pub lists_spell : (pages : ℕ) (lists : List (List ℕ)) → pages < 2 ^ 32 → All (IsStoredList pages) lists → AllSpell (builds pages) builds_bytes lists
 lists_spell pages lists few = all_spell (builds pages) builds_bytes (IsStoredList pages) (λ list. spells_builds pages list few) lists

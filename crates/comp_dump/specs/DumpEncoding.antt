@@ -1,6 +1,6 @@
--- The bytes of a dump, version 1. All numbers are little-endian; nothing is padded.
+-- The bytes of a dump. All numbers are little-endian; nothing is padded.
 --     magic        8 bytes, `COMPDUMP`
---     version      4 bytes, 1
+--     version      4 bytes: 1 in edition one, 2 in edition two
 --     counts       4 bytes each: mutators, fresh pages, all pages, roots
 --     roots        8 bytes each
 --     pages        each a byte 0, or a byte 1, its 64 words of 8 bytes, 4 bytes that count its entries, and the entries
@@ -10,9 +10,10 @@
 use Rattle.std.specs.Prelude.{ℕ, List, ◌++◌, length, codes, Option, Some, None}
 use Rattle.std.specs.List.{flat_map}
 use Rattle.byteorder.specs.Endian.{little_bytes}
-use Rattle.heap_layout.specs.declared.kind.Kind.{Kind}
-use Rattle.heap_layout.specs.declared.kind.Kind.TheVariants.{Header, Reference, Data}
+use Rattle.heap_layout.specs.declared.edition.Edition.{Edition}
 use Rattle.comp_journal.specs.declared.entry.Entry.{Entry}
+use Rattle.heap_image.specs.Versions.{version_of}
+use Rattle.comp_dump.specs.Codes.{kind_code}
 use Rattle.comp_dump.specs.Dumped.{Dumped, BuiltPage}
 
 abbrev pub four_bytes : ℕ → List ℕ
@@ -28,13 +29,8 @@ abbrev pub magic : List ℕ
 magic = codes "COMPDUMP"
 
 -- what stands before the roots
-unfoldable pub head : ℕ → ℕ → ℕ → ℕ → List ℕ
-head mutators fresh pages roots = magic ++ (four_bytes 1 ++ (four_bytes mutators ++ (four_bytes fresh ++ (four_bytes pages ++ four_bytes roots))))
-
-abbrev pub kind_code : Kind → ℕ
-kind_code Header = 0
-kind_code Reference = 1
-kind_code Data = 2
+unfoldable pub head : Edition → ℕ → ℕ → ℕ → ℕ → List ℕ
+head edition mutators fresh pages roots = magic ++ (four_bytes (version_of edition) ++ (four_bytes mutators ++ (four_bytes fresh ++ (four_bytes pages ++ four_bytes roots))))
 
 unfoldable pub entry_bytes : Entry → List ℕ
 entry_bytes e = eight_bytes e.stamp ++ (one_byte e.writer ++ (one_byte (kind_code e.kind) ++ (one_byte e.offset ++ eight_bytes e.value)))
@@ -57,9 +53,9 @@ abbrev pub builds_bytes : List ℕ → List ℕ
 builds_bytes list = counted four_bytes list
 
 -- what stands before the build lists
-unfoldable pub front_bytes : ℕ → ℕ → List ℕ → List (Option BuiltPage) → List ℕ
-front_bytes mutators fresh roots pages = head mutators fresh (length pages) (length roots) ++ (flat_map eight_bytes roots ++ flat_map page_bytes pages)
+unfoldable pub front_bytes : Edition → ℕ → ℕ → List ℕ → List (Option BuiltPage) → List ℕ
+front_bytes edition mutators fresh roots pages = head edition mutators fresh (length pages) (length roots) ++ (flat_map eight_bytes roots ++ flat_map page_bytes pages)
 
 -- the bytes of a dump
 unfoldable pub dump_bytes : Dumped → List ℕ
-dump_bytes dump = front_bytes dump.mutators dump.fresh dump.roots dump.pages ++ (flat_map builds_bytes dump.builds ++ eight_bytes dump.total)
+dump_bytes dump = front_bytes dump.edition dump.mutators dump.fresh dump.roots dump.pages ++ (flat_map builds_bytes dump.builds ++ eight_bytes dump.total)

@@ -1,12 +1,16 @@
 -- How a dump is read: field by field, from left to right. A field that the bytes end in is `Truncated`; a number outside its range is `BadField`, whatever
 -- follows it.
-use Rattle.std.specs.Prelude.{◌≡◌, ℕ, zero, suc, ◌+◌, ◌-◌, ◌^◌, ◌<◌, ◌||◌, nat_lt, bytes_eq, List, [], ◌∷◌, length, take, drop, Option, Some, None, Result, Ok, Err, if◌then◌else◌}
+use Rattle.std.specs.Prelude.{◌≡◌, ℕ, zero, suc, ◌+◌, ◌-◌, ◌^◌, ◌<◌, ◌||◌, ◌==◌, nat_lt, bytes_eq, List, [], ◌∷◌, length, take, drop, Option, Some, None, Result, Ok, Err, if◌then◌else◌}
 use Rattle.byteorder.specs.Endian.{little_number}
+use Rattle.heap_layout.specs.declared.edition.Edition.{Edition}
+use Rattle.heap_layout.specs.declared.edition.Edition.TheVariants.{One, Two}
 use Rattle.heap_layout.specs.declared.kind.Kind.{Kind}
-use Rattle.heap_layout.specs.declared.kind.Kind.TheVariants.{Header, Reference, Data}
+use Rattle.heap_layout.specs.declared.kind.Kind.TheVariants.{Header, Reference, Weak, Data}
 use Rattle.comp_journal.specs.declared.entry.Entry.{Entry}
+use Rattle.heap_image.specs.Versions.{version_of}
 use Rattle.comp_dump.specs.Dumped.{Dumped, BuiltPage}
-use Rattle.comp_dump.specs.DumpEncoding.{magic, four_bytes}
+use Rattle.comp_dump.specs.Codes.{last_code}
+use Rattle.comp_dump.specs.DumpEncoding.{magic}
 use Rattle.comp_dump.specs.declared.fault.DumpFault.{DumpFault}
 use Rattle.comp_dump.specs.declared.fault.DumpFault.TheVariants.{Truncated, TrailingBytes, BadMagic, BadField, OutOfMemory, Device}
 
@@ -46,40 +50,41 @@ word = number 8 0 (2 ^ 64 - 1)
 abbrev pub kind_of : ℕ → Kind
 kind_of zero = Header
 kind_of (suc zero) = Reference
-kind_of (suc (suc _)) = Data
+kind_of (suc (suc zero)) = Data
+kind_of (suc (suc (suc _))) = Weak
 
-unfoldable pub kind : Reading Kind
-kind = do
-  code ← number 1 0 2
+unfoldable pub kind : Edition → Reading Kind
+kind edition = do
+  code ← number 1 0 (last_code edition)
   done (kind_of code)
 
-unfoldable pub entry : ℕ → Reading Entry
-entry mutators = do
+unfoldable pub entry : Edition → ℕ → Reading Entry
+entry edition mutators = do
   stamp ← word
   writer ← number 1 0 (mutators - 1)
-  its_kind ← kind
+  its_kind ← kind edition
   offset ← number 1 0 63
   value ← word
   done (record { stamp = stamp; writer = writer; kind = its_kind; offset = offset; value = value })
 
-unfoldable pub built : ℕ → Reading BuiltPage
-built mutators = do
+unfoldable pub built : Edition → ℕ → Reading BuiltPage
+built edition mutators = do
   words ← times_read 64 word
   entries ← number 4 0 1024
-  journal ← times_read entries (entry mutators)
+  journal ← times_read entries (entry edition mutators)
   done (record { words = words; journal = journal })
 
 -- a 0 for a page that was never built, or a 1 and the page
-abbrev pub page_behind : ℕ → ℕ → Reading (Option BuiltPage)
-page_behind mutators zero = done None
-page_behind mutators (suc _) = do
-  its_page ← built mutators
+abbrev pub page_behind : Edition → ℕ → ℕ → Reading (Option BuiltPage)
+page_behind edition mutators zero = done None
+page_behind edition mutators (suc _) = do
+  its_page ← built edition mutators
   done (Some its_page)
 
-unfoldable pub page : ℕ → Reading (Option BuiltPage)
-page mutators = do
+unfoldable pub page : Edition → ℕ → Reading (Option BuiltPage)
+page edition mutators = do
   is_built ← number 1 0 1
-  page_behind mutators is_built
+  page_behind edition mutators is_built
 
 unfoldable pub builds : ℕ → Reading (List ℕ)
 builds pages = do
@@ -93,8 +98,17 @@ expected wanted bytes =
     else if bytes_eq (take (length wanted) bytes) wanted then Ok (wanted, drop (length wanted) bytes)
     else Err BadMagic
 
--- how many mutators, fresh pages, pages and roots
+-- the version, and which edition it tells
+unfoldable pub edition : Reading Edition
+edition bytes =
+    if nat_lt (length bytes) 4 then Err Truncated
+    else if little_number 4 bytes == version_of One then Ok (One, drop 4 bytes)
+    else if little_number 4 bytes == version_of Two then Ok (Two, drop 4 bytes)
+    else Err BadMagic
+
+-- the edition, and how many mutators, fresh pages, pages and roots
 pub record Counts : Type 0 where
+  pub edition : Edition
   pub mutators : ℕ
   pub fresh : ℕ
   pub pages : ℕ
@@ -104,22 +118,22 @@ pub record Counts : Type 0 where
 unfoldable pub head : Reading Counts
 head = do
   magic_bytes ← expected magic
-  version_bytes ← expected (four_bytes 1)
+  its_edition ← edition
   mutators ← number 4 1 64
   fresh ← number 4 0 4096
   pages ← number 4 fresh 20480
   roots ← number 4 0 4096
-  done (record { mutators = mutators; fresh = fresh; pages = pages; roots = roots })
+  done (record { edition = its_edition; mutators = mutators; fresh = fresh; pages = pages; roots = roots })
 
 -- a dump, with whatever is behind it
 unfoldable pub dump : Reading Dumped
 dump = do
   counts ← head
   roots ← times_read counts.roots word
-  pages ← times_read counts.pages (page counts.mutators)
+  pages ← times_read counts.pages (page counts.edition counts.mutators)
   lists ← times_read counts.mutators (builds counts.pages)
   total ← word
-  done (record { mutators = counts.mutators; fresh = counts.fresh; roots = roots; pages = pages; builds = lists; total = total })
+  done (record { edition = counts.edition; mutators = counts.mutators; fresh = counts.fresh; roots = roots; pages = pages; builds = lists; total = total })
 
 -- nothing may stand behind it
 abbrev pub ended : {A : Type 0} → A → List ℕ → Result A DumpFault

@@ -3,12 +3,15 @@ ghost use Rattle.page_cells.specs.Ends.{lists as items_of};
 ghost use Rattle.comp_dump.specs.Dumped.{IsStored};
 
 use crate::page::DumpedPage;
+use heap_layout::edition::Edition;
 use std::marker::Model;
 
-/// What a cycle left: its pages with their journals, the roots, what each mutator built, and the live words. A dump of a finished heap borrows the pages
-/// from it; one that was read owns them. The numbers of each are in range; of one that was read nothing else is known but that its bytes say so.
+/// What a cycle left: the edition of the heap, its pages with their journals, the roots, what each mutator built, and the live words. A dump of a finished
+/// heap borrows the pages from it; one that was read owns them. The numbers of each are in range; of one that was read nothing else is known but that its
+/// bytes say so.
 #[derive(Drop)]
 pub struct Dump<'a> {
+    edition: Edition,
     mutators: u8,
     fresh: u32,
     roots: Vec<u64>,
@@ -24,6 +27,7 @@ impl<'a> Model for Dump<'a> {
     ghost Value = { Dumped };
 
     ghost view = { λ dump. record {
+      edition = dump.edition;
       mutators = dump.mutators;
       fresh = dump.fresh;
       roots = dump.roots.items;
@@ -33,6 +37,7 @@ impl<'a> Model for Dump<'a> {
     } };
 
     ghost invariant = { λ dump. IsStored (record {
+      edition = dump.edition;
       mutators = dump.mutators;
       fresh = dump.fresh;
       roots = dump.roots.items;
@@ -45,6 +50,7 @@ impl<'a> Model for Dump<'a> {
 impl<'a> Dump<'a> {
     /// A dump of these parts.
     pub(crate) fn from_parts(
+        edition: Edition,
         mutators: u8,
         fresh: u32,
         roots: Vec<u64>,
@@ -52,10 +58,11 @@ impl<'a> Dump<'a> {
         builds: Vec<Vec<u32>>,
         total: u64,
     ) -> Dump<'a>
-        requires { IsStored (record { mutators = mutators; fresh = fresh; roots = roots.items; pages = pages.items; builds = items_of builds.items; total = total }) }
-        ensures { result ≡ record { mutators = mutators; fresh = fresh; roots = roots.items; pages = pages.entry.items; builds = items_of builds.items; total = total } }
+        requires { IsStored (record { edition = edition; mutators = mutators; fresh = fresh; roots = roots.items; pages = pages.items; builds = items_of builds.items; total = total }) }
+        ensures { result ≡ record { edition = edition; mutators = mutators; fresh = fresh; roots = roots.items; pages = pages.entry.items; builds = items_of builds.items; total = total } }
     {
         Dump {
+            edition,
             mutators,
             fresh,
             roots,
@@ -63,6 +70,13 @@ impl<'a> Dump<'a> {
             builds,
             total,
         }
+    }
+
+    /// The edition of the heap; of a dump that was read, the one that its version tells.
+    pub fn edition(&self) -> Edition
+        ensures { result ≡ self.now.edition }
+    {
+        self.edition
     }
 
     /// How many mutators there were, 1 to 64.

@@ -1,7 +1,7 @@
 //! Dumps of finished heaps.
 ghost use Rattle.std.specs.Prelude.{◌≡◌, ◌^◌, ◌<◌, All, IfOk, map};
 ghost use Rattle.page_cells.specs.Ends.{lists as items_of};
-ghost use Rattle.comp_history.specs.Finishes.{builds_in, live_of, pages_of, roots_of, IsOfFlip};
+ghost use Rattle.comp_history.specs.Finishes.{edition_in, builds_in, live_of, pages_of, roots_of, IsOfFlip};
 ghost use Rattle.comp_dump.specs.Lent.{record_of, IsTypedRecord};
 
 use crate::dump::Dump;
@@ -20,6 +20,7 @@ impl<'a> Dump<'a> {
         fresh_pages: u32,
     ) -> Result<Dump<'a>, OutOfMemory>
         requires { IsOfFlip mutators fresh_pages finished.now }
+        ensures edition { IfOk result (λ dump. dump.edition ≡ edition_in finished.now) }
         ensures mutators { IfOk result (λ dump. dump.mutators ≡ mutators) }
         ensures fresh { IfOk result (λ dump. dump.fresh ≡ fresh_pages) }
         ensures roots { IfOk result (λ dump. dump.roots ≡ roots_of finished.now) }
@@ -31,6 +32,7 @@ impl<'a> Dump<'a> {
         let pages = lent(alloc, finished.pages())?;
         let builds = all_shortened(alloc, finished.builds())?;
         Ok(Dump::from_parts(
+            finished.edition(),
             mutators as u8,
             fresh_pages,
             roots,

@@ -14,16 +14,18 @@ mod pages;
 
 use crate::dump::Dump;
 use crate::fault::DumpFault;
-use crate::reading::fields::{MAGIC, VERSION, expect, expect_end, read_eight, read_four};
+use crate::reading::fields::{MAGIC, expect, expect_end, read_edition, read_eight, read_four};
 use crate::reading::pages::read_pages;
 use heap_image::counted::Counted;
+use heap_layout::edition::Edition;
 use std::alloc::Global;
 use std::io::Read;
 
 /// Reads a dump, all that the reader has left.
 ///
-/// Each field is judged as soon as it is there, whatever follows it. A call of the reader that answers an error ends the reading, an interrupted one too.
-/// After an Err the reader has lost what was read. It asks that fewer than `u64::MAX` calls of the reader have failed.
+/// Each field is judged as soon as it is there, whatever follows it. The version tells the edition, and the edition tells the kinds that an entry may have.
+/// A call of the reader that answers an error ends the reading, an interrupted one too. After an Err the reader has lost what was read. It asks that fewer
+/// than `u64::MAX` calls of the reader have failed.
 pub fn read_dump<R: Read>(alloc: Global, r: &mut Counted<R>) -> Result<Dump<'static>, DumpFault>
     requires { failures_of r.old < 2 ^ 64 - 1 }
     ensures read { IfOk result (λ dump. IfSome (R.remaining (inner_of r.old)) (λ bytes. bytes ≡ dump_bytes dump)) }
@@ -46,15 +48,24 @@ fn read_parts<R: Read>(alloc: Global, r: &mut Counted<R>) -> Result<Dump<'static
 {
     let head = read_head(r)?;
     let roots = read_roots(alloc, r, head.roots)?;
-    let pages = read_pages(alloc, r, head.mutators, head.pages)?;
+    let pages = read_pages(alloc, r, head.edition, head.mutators, head.pages)?;
     let builds = read_all_builds(alloc, r, head.pages, head.mutators)?;
     let total = read_eight(r)?;
-    Ok(Dump::from_parts(head.mutators, head.fresh, roots, pages, builds, total))
+    Ok(Dump::from_parts(
+        head.edition,
+        head.mutators,
+        head.fresh,
+        roots,
+        pages,
+        builds,
+        total,
+    ))
 }
 
-/// The counts of a dump.
+/// The edition and the counts of a dump.
 #[derive(Clone, Copy)]
 struct Head {
+    edition: Edition,
     mutators: u8,
     fresh: u32,
     pages: u32,
@@ -65,18 +76,19 @@ struct Head {
 fn read_head<R: Read>(r: &mut Counted<R>) -> Result<Head, DumpFault>
     requires { failures_of r.old < 2 ^ 64 - 1 }
     ensures read { IfOk result (λ found. Consumes (R.remaining (inner_of r.old)) (R.remaining (inner_of r.new))
-        (head found.mutators found.fresh found.pages found.roots)) }
+        (head found.edition found.mutators found.fresh found.pages found.roots)) }
     ensures within { IfOk result (λ found. AreCounts found.mutators found.fresh found.pages found.roots) }
     ensures cause { IfErr result (Stops reading.head (R.remaining (inner_of r.old))) }
     ensures counts { CountsFailure (failures_of r.old) (failures_of r.new) result }
 {
     expect(r, &MAGIC)?;
-    expect(r, &VERSION)?;
+    let edition = read_edition(r)?;
     let mutators = read_four(r, 1, 64)?;
     let fresh = read_four(r, 0, 4_096)?;
     let pages = read_four(r, fresh, 20_480)?;
     let roots = read_four(r, 0, 4_096)?;
     Ok(Head {
+        edition,
         mutators: mutators as u8,
         fresh,
         pages,

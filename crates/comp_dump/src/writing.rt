@@ -3,20 +3,24 @@ ghost use Rattle.std.specs.Prelude.{◌≡◌, ℕ, ◌-◌, ◌^◌, ◌<◌, �
 ghost use Rattle.std.specs.Io.KnownBytes.{Appends};
 ghost use Rattle.std.specs.List.{flat_map};
 ghost use Rattle.heap_image.specs.Counted.{inner_of, failures_of, is_flushed_of};
+ghost use Rattle.heap_image.specs.Versions.{version_of};
 ghost use Rattle.page_cells.specs.Ends.{lists as items_of};
+ghost use Rattle.comp_dump.specs.Codes.{kind_code};
 ghost use Rattle.comp_dump.specs.Dumped.{HasFewEntries, IsWritable};
-ghost use Rattle.comp_dump.specs.DumpEncoding.{builds_bytes, dump_bytes, eight_bytes, entry_bytes, four_bytes, head, kind_code, one_byte, page_bytes};
+ghost use Rattle.comp_dump.specs.DumpEncoding.{builds_bytes, dump_bytes, eight_bytes, entry_bytes, four_bytes, head, one_byte, page_bytes};
 ghost use Rattle.comp_dump.specs.DumpReading.{CountsFailure};
 ghost use Rattle.comp_dump.specs.DumpWriting.{Writes, CountsOne};
 
 use crate::dump::Dump;
 use crate::fault::DumpFault;
 use crate::page::DumpedPage;
-use crate::reading::fields::{MAGIC, VERSION};
+use crate::reading::fields::MAGIC;
 use byteorder::{ByteOrder, LittleEndian};
 use comp_journal::entry::Entry;
 use heap_image::counted::Counted;
 use heap_image::parts::write_whole;
+use heap_image::versions::version_of;
+use heap_layout::edition::Edition;
 use heap_layout::kind::Kind;
 use std::io::Write;
 
@@ -71,6 +75,7 @@ fn kind_byte(kind: Kind) -> u8
         Kind::Header => 0,
         Kind::Reference => 1,
         Kind::Data => 2,
+        Kind::Weak => 3,
     }
 }
 
@@ -208,19 +213,28 @@ fn write_all_builds<W: Write>(w: &mut Counted<W>, lists: &[Vec<u32>]) -> Result<
     Ok(())
 }
 
+/// The version that tells the edition.
+fn write_version<W: Write>(w: &mut Counted<W>, edition: Edition) -> Result<(), DumpFault>
+    ensures writes { Writes (W.contents (inner_of w.old)) (W.contents (inner_of w.new)) (four_bytes (version_of edition)) result }
+    ensures counts { CountsOne (failures_of w.old) (failures_of w.new) result }
+{
+    write_four(w, version_of(edition))
+}
+
 /// All that stands before the roots.
 fn write_head<W: Write>(
     w: &mut Counted<W>,
+    edition: Edition,
     mutators: u8,
     fresh: u32,
     pages: u32,
     roots: u32,
 ) -> Result<(), DumpFault>
-    ensures writes { Writes (W.contents (inner_of w.old)) (W.contents (inner_of w.new)) (head mutators fresh pages roots) result }
+    ensures writes { Writes (W.contents (inner_of w.old)) (W.contents (inner_of w.new)) (head edition mutators fresh pages roots) result }
     ensures counts { CountsOne (failures_of w.old) (failures_of w.new) result }
 {
     write_part(w, &MAGIC)?;
-    write_part(w, &VERSION)?;
+    write_version(w, edition)?;
     write_small(w, mutators)?;
     write_four(w, fresh)?;
     write_four(w, pages)?;
@@ -230,6 +244,7 @@ fn write_head<W: Write>(
 /// A dump of these parts.
 fn write_parts<W: Write>(
     w: &mut Counted<W>,
+    edition: Edition,
     mutators: u8,
     fresh: u32,
     roots: &[u64],
@@ -237,12 +252,19 @@ fn write_parts<W: Write>(
     builds: &[Vec<u32>],
     total: u64,
 ) -> Result<(), DumpFault>
-    requires { IsWritable (record { mutators = mutators; fresh = fresh; roots = roots.now; pages = pages.now; builds = items_of builds.now; total = total }) }
+    requires { IsWritable (record { edition = edition; mutators = mutators; fresh = fresh; roots = roots.now; pages = pages.now; builds = items_of builds.now; total = total }) }
     ensures writes { Writes (W.contents (inner_of w.old)) (W.contents (inner_of w.new))
-        (dump_bytes (record { mutators = mutators; fresh = fresh; roots = roots.now; pages = pages.now; builds = items_of builds.now; total = total })) result }
+        (dump_bytes (record { edition = edition; mutators = mutators; fresh = fresh; roots = roots.now; pages = pages.now; builds = items_of builds.now; total = total })) result }
     ensures counts { CountsOne (failures_of w.old) (failures_of w.new) result }
 {
-    write_head(w, mutators, fresh, pages.len() as u32, roots.len() as u32)?;
+    write_head(
+        w,
+        edition,
+        mutators,
+        fresh,
+        pages.len() as u32,
+        roots.len() as u32,
+    )?;
     write_words(w, roots)?;
     write_pages(w, pages)?;
     write_all_builds(w, builds)?;
@@ -259,6 +281,7 @@ pub fn write_dump<W: Write>(dump: &Dump<'_>, w: &mut Counted<W>) -> Result<(), D
 {
     write_parts(
         w,
+        dump.edition(),
         dump.mutators(),
         dump.fresh_pages(),
         dump.roots(),

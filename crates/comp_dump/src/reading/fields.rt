@@ -3,19 +3,21 @@ ghost use Rattle.std.specs.Prelude.{◌≡◌, ℕ, ◌-◌, ◌^◌, ◌<◌, �
 ghost use Rattle.std.specs.Io.KnownBytes.{Consumes, IsAtEnd};
 ghost use Rattle.byteorder.specs.Endian.{little_bytes};
 ghost use Rattle.heap_image.specs.Counted.{inner_of, failures_of};
+ghost use Rattle.heap_image.specs.Versions.{version_of};
+ghost use Rattle.comp_dump.specs.DumpEncoding.{four_bytes};
+ghost use Rattle.comp_dump.specs.DumpReading as reading;
 ghost use Rattle.comp_dump.specs.DumpReading.{expected, number, word, CountsFailure, EndsBefore, RefusesEnd, Stops};
 
 use crate::fault::DumpFault;
 use byteorder::{ByteOrder, LittleEndian};
 use heap_image::counted::Counted;
 use heap_image::parts::{Cut, fill};
+use heap_image::versions::edition_of;
+use heap_layout::edition::Edition;
 use std::io::Read;
 
 /// The first bytes of a dump.
 pub(crate) const MAGIC: [u8; 8] = *b"COMPDUMP";
-
-/// The version of the format, 1, as it stands in a dump.
-pub(crate) const VERSION: [u8; 4] = [1, 0, 0, 0];
 
 // Fills the buffer.
 fn read_part<R: Read>(r: &mut Counted<R>, buf: &mut [u8]) -> Result<(), DumpFault>
@@ -93,6 +95,21 @@ pub(crate) fn expect<R: Read>(r: &mut Counted<R>, wanted: &[u8]) -> Result<(), D
         return Err(DumpFault::BadMagic);
     }
     Ok(())
+}
+
+/// The version, and the edition that it tells.
+pub(crate) fn read_edition<R: Read>(r: &mut Counted<R>) -> Result<Edition, DumpFault>
+    requires { failures_of r.old < 2 ^ 64 - 1 }
+    ensures read { IfOk result (λ edition. Consumes (R.remaining (inner_of r.old)) (R.remaining (inner_of r.new)) (four_bytes (version_of edition))) }
+    ensures cause { IfErr result (Stops reading.edition (R.remaining (inner_of r.old))) }
+    ensures counts { CountsFailure (failures_of r.old) (failures_of r.new) result }
+{
+    let mut bytes = [0; 4];
+    read_part(r, &mut bytes)?;
+    match edition_of(LittleEndian::read_u32(&bytes)) {
+        Some(edition) => Ok(edition),
+        None => Err(DumpFault::BadMagic),
+    }
 }
 
 /// The reader has no byte left.

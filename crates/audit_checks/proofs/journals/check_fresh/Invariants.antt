@@ -10,7 +10,7 @@ invariant-loop-k l =
     let u = setup_at l.setting in
     record {
       left : entry_faults u l.p l.k l.low (take l.k l.journal) (drop l.k l.journal) ≡ entry_faults u l.p 0 0 [] l.journal;
-      kinds : kinds_in (take l.k l.journal) ≡ l.kinds.items;
+      kinds : kinds_in u.heap.edition (take l.k l.journal) ≡ l.kinds.items;
       few : length l.kinds.items ≤ 64;
       room : 64 ≤ vec_capacity l.kinds;
     }

@@ -12,7 +12,7 @@ no_entry = record { stamp = 0; writer = 0; kind = Header; offset = 0; value = 0 
 
 pub add_kinds-requires : goal.add_kinds-requires
 add_kinds-requires c =
-    let few = filled_front c.args.journal.now c.loop-entry.entry-index no_entry c.loop-entry-test.true in
+    let few = filled_front c.args.edition c.args.journal.now c.loop-entry.entry-index no_entry c.loop-entry-test.true in
     omega (arith, few, ap length c.loop-entry.invariant.made, c.loop-entry.invariant.room, c.requires)
 
 pub loop-entry-preserved : goal.loop-entry-preserved
@@ -22,6 +22,6 @@ loop-entry-preserved c =
     let k = c.loop-entry.entry-index in
     let e = get_or j k no_entry in
     record {
-      made = c.add_kinds.ensures.items ∙ ap (λ (front : List Kind). front ++ kinds_by e.kind e.value) i.made ∙ sym (kinds_more j k no_entry c.loop-entry-test.true);
+      made = c.add_kinds.ensures.items ∙ ap (λ (front : List Kind). front ++ kinds_by c.args.edition e.kind e.value) i.made ∙ sym (kinds_more c.args.edition j k no_entry c.loop-entry-test.true);
       room = omega (arith, c.add_kinds.ensures.capacity, i.room);
     }

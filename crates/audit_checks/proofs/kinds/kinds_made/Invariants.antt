@@ -4,6 +4,6 @@ use Rattle.audit_checks.proofs.kinds.kinds_made.Given as goal
 
 abbrev pub invariant-loop-entry : goal.invariant-loop-entry
 invariant-loop-entry l = record {
-  made : l.kinds.items ≡ kinds_in (take l.entry-index l.journal);
+  made : l.kinds.items ≡ kinds_in l.edition (take l.entry-index l.journal);
   room : 64 ≤ vec_capacity l.kinds;
 }

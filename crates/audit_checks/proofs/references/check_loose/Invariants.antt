@@ -1,9 +1,8 @@
 use Rattle.std.proofs.Common.{◌≡◌, ◌==◌, ◌||◌, not, drop, None}
 use Rattle.std.specs.Prelude.{slice_index_or}
 use Rattle.std.specs.List.{flat_map, enumerate_from}
-use Rattle.heap_layout.specs.declared.kind.Kind.TheVariants as sorts
 use Rattle.cell_steps.specs.Setup.{address}
-use Rattle.audit_checks.specs.Checks.{unless, is_kind, loose_faults}
+use Rattle.audit_checks.specs.Checks.{unless, some_refers, loose_faults}
 use Rattle.audit_checks.specs.Noted.{leads}
 use Rattle.audit_faults.specs.declared.fault.AuditFault.TheVariants.{LooseReference}
 use Rattle.audit_checks.proofs.references.check_loose.Given as goal
@@ -12,6 +11,6 @@ use Rattle.audit_checks.proofs.references.check_loose.Given as goal
 abbrev pub invariant-loop-offset : goal.invariant-loop-offset
 invariant-loop-offset l =
     flat_map
-    (λ word. unless (not (is_kind sorts.Reference (slice_index_or l.kinds word.0 None)) || (word.1 == 0) || leads l.plan l.starts word.1) (LooseReference (address l.p word.0)))
+    (λ word. unless (not (some_refers (slice_index_or l.kinds word.0 None)) || (word.1 == 0) || leads l.plan l.starts word.1) (LooseReference (address l.p word.0)))
     (enumerate_from l.offset (drop l.offset l.words))
-    ≡ loose_faults (λ offset. is_kind sorts.Reference (slice_index_or l.kinds offset None)) (leads l.plan l.starts) l.p l.words
+    ≡ loose_faults (λ offset. some_refers (slice_index_or l.kinds offset None)) (leads l.plan l.starts) l.p l.words

@@ -1,12 +1,11 @@
 use Rattle.std.proofs.Common.{◌≡◌, ◌∙◌, ◌==◌, ◌||◌, ℕ, Option, List, not, ap, subst, arith, None}
 use Rattle.std.specs.Prelude.{slice_index_or}
 use Rattle.heap_layout.specs.declared.kind.Kind.{Kind}
-use Rattle.heap_layout.specs.declared.kind.Kind.TheVariants as sorts
 use Rattle.cell_steps.specs.Lawful.{kind_at}
 use Rattle.cell_steps.specs.Setup.{address}
 use Rattle.audit_faults.specs.declared.fault.AuditFault.{AuditFault}
 use Rattle.audit_faults.specs.declared.fault.AuditFault.TheVariants.{LooseReference}
-use Rattle.audit_checks.specs.Checks.{is_kind, loose_faults, reference_faults, unless}
+use Rattle.audit_checks.specs.Checks.{some_refers, loose_faults, reference_faults, unless}
 use Rattle.audit_checks.specs.Told.{Tells}
 use Rattle.audit_checks.specs.Noted.{leads, setup_at}
 use Rattle.audit_checks.proofs.Telling.{same_items}
@@ -17,11 +16,11 @@ returns c =
     let u = setup_at c.args.setting in
     let page = c.args.page.now in
     let leading = leads c.args.setting.plan.now c.args.starts.now in
-    let test = λ (o : Option Kind) (word : ℕ × ℕ). unless (not (is_kind sorts.Reference o) || (word.1 == 0) || leading word.1) (LooseReference (address c.args.p word.0)) in
+    let test = λ (o : Option Kind) (word : ℕ × ℕ). unless (not (some_refers o) || (word.1 == 0) || leading word.1) (LooseReference (address c.args.p word.0)) in
     let words : c.words.result.now ≡ page.words = c.words.ensures in
-    let same : loose_faults (λ offset. is_kind sorts.Reference (slice_index_or c.in_ok-kinds.kinds offset None)) leading c.args.p page.words ≡ reference_faults leading u c.args.p page =
+    let same : loose_faults (λ offset. some_refers (slice_index_or c.in_ok-kinds.kinds offset None)) leading c.args.p page.words ≡ reference_faults leading u c.args.p page =
     same_items (λ (word : ℕ × ℕ). test (slice_index_or c.in_ok-kinds.kinds word.0 None) word) (λ (word : ℕ × ℕ). test (kind_at u c.args.p page.journal word.0) word) 0 page.words
     (λ k x lt. ap (λ (o : Option Kind). test o (k, x)) (c.in_ok-kinds.ensures k (omega (arith, lt, c.requires.stored.long)) ∙ ap (λ (j : List _). kind_at u c.args.p j k) c.journal.ensures)) in
     subst (λ (l : List AuditFault). Tells l c.check_loose.result) same
-    (subst (λ (ys : List ℕ). Tells (loose_faults (λ offset. is_kind sorts.Reference (slice_index_or c.in_ok-kinds.kinds offset None)) leading c.args.p ys) c.check_loose.result) words
+    (subst (λ (ys : List ℕ). Tells (loose_faults (λ offset. some_refers (slice_index_or c.in_ok-kinds.kinds offset None)) leading c.args.p ys) c.check_loose.result) words
     c.check_loose.ensures)

@@ -11,6 +11,10 @@ pub returns-in-Reference-clause-noted : goal.returns-in-Reference-clause-noted
 returns-in-Reference-clause-noted c = λ all notes.
     notes_other c.args.starts.now all (c.args.p, c.args.entry) (λ e. absurd (cc)) notes
 
+pub returns-in-Weak-clause-noted : goal.returns-in-Weak-clause-noted
+returns-in-Weak-clause-noted c = λ all notes.
+    notes_other c.args.starts.now all (c.args.p, c.args.entry) (λ e. absurd (cc)) notes
+
 pub returns-in-Data-clause-noted : goal.returns-in-Data-clause-noted
 returns-in-Data-clause-noted c = λ all notes.
     notes_other c.args.starts.now all (c.args.p, c.args.entry) (λ e. absurd (cc)) notes

@@ -6,6 +6,6 @@ use Rattle.audit_checks.proofs.totals.all_words.Given as goal
 
 abbrev pub invariant-loop-place : goal.invariant-loop-place
 invariant-loop-place l = record {
-  words : l.words ≡ allocated (entries_below (journals_in l.records) l.place-index);
-  few : l.words ≤ 2 ^ 27 * l.place-index;
+  words : l.words ≡ allocated l.edition (entries_below (journals_in l.records) l.place-index);
+  few : l.words ≤ 2 ^ 28 * l.place-index;
 }
