@@ -14,7 +14,7 @@ use page_plan::builder::Builder;
 use std::alloc::Global;
 use std::sync::Wait;
 use std::sync::ledger::Ledger;
-use trace_steps::registers::{held, root_at};
+use trace_steps::registers::{held, kind_if, root_at};
 use trace_text::line::Action;
 
 /// Does what a line says, and answers what its call does: 0 for a register that becomes null.
@@ -63,19 +63,27 @@ fn call_waiting<L: Ledger, B: Builder>(
 {
     match action {
         Action::Root { root, .. } => Ok(root_at(space, root)),
-        Action::Load { object, field, .. } => {
-            space.read_ref(alloc, rt, m, held(registers, object), field)
+        Action::Load {
+            weak,
+            object,
+            field,
+            ..
+        } => {
+            let kind = kind_if(weak);
+            space.read_referring(alloc, rt, m, kind, held(registers, object), field)
         }
         Action::Get { object, field } => {
             space.read_data(alloc, rt, m, held(registers, object), field)
         }
         Action::Store {
+            weak,
             object,
             field,
             value,
         } => {
             let value = held(registers, value);
-            space.write_ref(alloc, rt, m, held(registers, object), field, value)
+            let kind = kind_if(weak);
+            space.write_referring(alloc, rt, m, kind, held(registers, object), field, value)
         }
         Action::Put {
             object,
@@ -84,10 +92,11 @@ fn call_waiting<L: Ledger, B: Builder>(
         } => space.write_data(alloc, rt, m, held(registers, object), field, value),
         Action::New {
             refs,
+            weak,
             data_words,
             tag,
             ..
-        } => space.alloc(alloc, rt, m, refs, data_words, tag),
+        } => space.alloc_weak(alloc, rt, m, refs, weak, data_words, tag),
         Action::Nil { .. } => Ok(0),
     }
 }

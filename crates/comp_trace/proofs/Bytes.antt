@@ -52,7 +52,7 @@ pub have_none : {L : Type 0} (mutators : List (Mutator L)) → DidNothingYet mut
 have_none mutators none p = record { rises = (0, omega arith); own = λ k lt. sym (ap (on p) (deeds_none mutators none k)); strangers = λ k le. refl }
 
 know_none : {L : Type 0} (mutators : List (Mutator L)) → DidNothingYet mutators → KnowTheirs mutators
-know_none mutators none k m at p offset header there = absurd (some-ne-none there.1 (sym (ap (λ (l : List (ℕ × Entry)). get_elem? (on p l) there.0) (sym (none k m at)) ∙ there.2)))
+know_none mutators none k m at p offset there = absurd (some-ne-none there.1 (sym (ap (λ (l : List (ℕ × Entry)). get_elem? (on p l) there.0) (sym (none k m at)) ∙ there.2)))
 
 pub shows_of : {L : Type 0} (u : Setup) (before after : List (Mutator L)) (text : List ℕ) (lines : List Line) (shown : List Shown) → DidNothingYet before
     → trace_of u.mutators (length u.heap.roots) text ≡ Ok lines → HaveReplayed u before after lines shown → Shows u text shown

@@ -1,5 +1,5 @@
 -- A run is determined but for stamps.
-use Rattle.std.proofs.Common.{◌≡◌, ◌≢◌, ℕ, zero, suc, ◌+◌, ◌%◌, ◌<◌, ◌≤◌, ◌==◌, Bool, cond, true, false, List, [], ◌∷◌, ◌++◌, Some, None, length, map, slice_index, refl, sym, ap, subst, ◌∙◌, arith, inl, inr, append_assoc, length-append, eq-eqb, ne_eqb}
+use Rattle.std.proofs.Common.{◌≡◌, ◌≢◌, ℕ, zero, suc, ◌+◌, ◌%◌, ◌<◌, ◌≤◌, ◌==◌, Bool, cond, true, false, List, [], ◌∷◌, ◌++◌, Option, Some, None, length, map, slice_index, refl, sym, ap, subst, ◌∙◌, arith, inl, inr, append_assoc, length-append, eq-eqb, ne_eqb}
 use Rattle.std.proofs.lemmas.List.{append-nil}
 use Rattle.std.proofs.lemmas.Bool.{cases_lt}
 use Rattle.std.proofs.lemmas.List.Elements.{All-head, All-tail}
@@ -9,9 +9,10 @@ use native.Mathlib.Decide.{ℕ_discrete}
 use mathlib.Core.Logic.{dite}
 use lib.ListN.{get_elem?}
 use Rattle.heap_layout.specs.Heap.{live}
-use Rattle.heap_layout.specs.Header.{header_word}
+use Rattle.heap_layout.specs.Header.{header_of, header_with, size_of, Head}
+use Rattle.heap_layout.specs.declared.edition.Edition.{Edition}
 use Rattle.heap_layout.specs.declared.kind.Kind.{Kind}
-use Rattle.heap_layout.specs.declared.kind.Kind.TheVariants.{Header, Reference, Data}
+use Rattle.heap_layout.specs.declared.kind.Kind.TheVariants.{Header, Reference, Weak, Data}
 use Rattle.page_plan.specs.Sliding as sliding
 use Rattle.page_plan.specs.Sliding.{to_address}
 use Rattle.page_plan.proofs.Shapes.{shape-behind}
@@ -26,11 +27,12 @@ use Rattle.page_cells.proofs.Rows.{at_map, at_map_back}
 use Rattle.comp_access.specs.Allocations.{own_page}
 use Rattle.comp_access.specs.Fields.{place_of, IsFieldOf}
 use Rattle.comp_access.specs.Reads.{Reads}
-use Rattle.comp_access.proofs.OwnPages.{filled_append, on_append, own_fresh}
+use Rattle.comp_access.proofs.OwnPages.{filled_append, on_append, own_fresh, read_back}
 use Rattle.trace_steps.specs.Acting.{registers_after, shown_at}
-use Rattle.trace_steps.specs.Builds.{built_after, touched}
+use Rattle.trace_steps.specs.Builds.{built_after, kind_if, touched}
+use Rattle.trace_steps.proofs.MadeObjects.{no_header}
 use Rattle.comp_trace.specs.Runs.{beginning, unstamped, unstamped_on, AreAlike, Does, IsDetermined, Moment, Runs}
-use Rattle.trace_steps.specs.Lines.{used_by, with_entries, Acts, IsOneEntry, MakesObject, WritesField}
+use Rattle.trace_steps.specs.Lines.{used_by, with_entries, Acts, IsOneEntry, MakesAsked, MakesObject, WritesField}
 use Rattle.trace_text.specs.declared.line.Action.{Action}
 use Rattle.trace_text.specs.declared.line.Action.TheVariants.{Root, Load, Get, Store, Put, New, Nil}
 use Rattle.trace_text.specs.declared.line.Line.{Line}
@@ -47,9 +49,9 @@ others e es k h = ap (λ (t : Bool). cond t (e ∷ by k es) (by k es)) (ne_eqb e
 abbrev bare : List Entry → List Entry
 bare j = map unstamped j
 
-kinds_bare : (j : List Entry) → kinds_in (map unstamped j) ≡ kinds_in j
-kinds_bare [] = refl
-kinds_bare (e ∷ es) = ap (λ (l : List Kind). kinds_by e.kind e.value ++ l) (kinds_bare es)
+kinds_bare : (edition : Edition) (j : List Entry) → kinds_in edition (map unstamped j) ≡ kinds_in edition j
+kinds_bare edition [] = refl
+kinds_bare edition (e ∷ es) = ap (λ (l : List Kind). kinds_by edition e.kind e.value ++ l) (kinds_bare edition es)
 
 replayed_bare : (base : List ℕ) (j : List Entry) → replayed base (map unstamped j) ≡ replayed base j
 replayed_bare base [] = refl
@@ -84,21 +86,22 @@ words_same u js ls same a =
     ap (λ (l : List ℕ). slice_index l (offset_at a)) (sym (replayed_bare (base_of u p) (js p)) ∙ ap (replayed (base_of u p)) (same p) ∙ replayed_bare (base_of u p) (ls p))
 
 -- the same headers
-header_same : (j l : List Entry) (offset header : ℕ) → map unstamped j ≡ map unstamped l → HasHeader l offset header → HasHeader j offset header
-header_same j l offset header same h =
+header_same : (edition : Edition) (j l : List Entry) (offset : ℕ) (header : Head) → map unstamped j ≡ map unstamped l → HasHeader edition l offset header → HasHeader edition j offset header
+header_same edition j l offset header same h =
     let there = ap (λ (x : List Entry). get_elem? x h.0) same ∙ at_map unstamped l h.0 h.1 h.2 in
     let back = at_map_back unstamped j h.0 (unstamped h.1) there in
-    (h.0, back.0, back.1, ap (λ (e : Entry). e.kind) back.2 ∙ h.3, ap (λ (e : Entry). e.offset) back.2 ∙ h.4, ap (λ (e : Entry). e.value) back.2 ∙ h.5)
+    (h.0, back.0, back.1, ap (λ (e : Entry). e.kind) back.2 ∙ h.3, ap (λ (e : Entry). e.offset) back.2 ∙ h.4, ap (λ (e : Entry). header_of edition e.value) back.2 ∙ h.5)
 
-shape_same : (u : Setup) (js ls : Journals) (a header : ℕ) → Same js ls → HasShape u ls a header → HasShape u js a header
+shape_same : (u : Setup) (js ls : Journals) (a : ℕ) (header : Head) → Same js ls → HasShape u ls a header → HasShape u js a header
 shape_same u js ls a header same (inl slid) = inl slid
-shape_same u js ls a header same (inr h) = inr (h.0, h.1, header_same (js (page_at a)) (ls (page_at a)) (offset_at a) header (same (page_at a)) h.2)
+shape_same u js ls a header same (inr h) = inr (h.0, h.1, header_same u.heap.edition (js (page_at a)) (ls (page_at a)) (offset_at a) header (same (page_at a)) h.2)
 
 used_same : (u : Setup) (js ls : Journals) (m index : ℕ) → Same js ls → used_by u js m index ≡ used_by u ls m index
 used_same u js ls m index same =
     let p = own_page u m index in
-    let one : (j : List Entry) → filled (by m (map unstamped j)) ≡ filled (by m j) = λ j. ap filled (by_bare m j) ∙ ap (λ (l : List Kind). length l) (kinds_bare (by m j)) in
-    sym (one (js p)) ∙ ap (λ (l : List Entry). filled (by m l)) (same p) ∙ one (ls p)
+    let edition = u.heap.edition in
+    let one : (j : List Entry) → filled edition (by m (map unstamped j)) ≡ filled edition (by m j) = λ j. ap (filled edition) (by_bare m j) ∙ ap (λ (l : List Kind). length l) (kinds_bare edition (by m j)) in
+    sym (one (js p)) ∙ ap (λ (l : List Entry). filled edition (by m l)) (same p) ∙ one (ls p)
 
 -- ---- an object has one header
 -- each header stands behind the objects that were made before it, on a page of its writer's
@@ -115,30 +118,30 @@ heads_more u p before [] x h next = (λ is. subst (λ (l : List Entry). IsNext u
 heads_more u p before (e ∷ es) x h next =
     (h.0, heads_more u p (before ++ e ∷ []) es x h.1 (λ is. subst (λ (l : List Entry). IsNext u p l x.writer x.offset x.value) (sym (append_assoc before (e ∷ []) es)) (next is)))
 
-kinds_of_head : (e : Entry) → e.kind ≡ Header → length (kinds_by e.kind e.value) ≡ length (kinds_of_header e.value)
-kinds_of_head e is = ap (λ (k : Kind). length (kinds_by k e.value)) is
+kinds_of_head : (edition : Edition) (e : Entry) → e.kind ≡ Header → length (kinds_by edition e.kind e.value) ≡ length (kinds_of_header (header_of edition e.value))
+kinds_of_head edition e is = ap (λ (k : Kind). length (kinds_by edition k e.value)) is
 
-filled_head : (before : List Entry) (e : Entry) → e.kind ≡ Header → filled before + 1 ≤ filled (before ++ e ∷ [])
-filled_head before e is =
-    omega (arith, filled_append before (e ∷ []), length-append (kinds_by e.kind e.value) [], kinds_of_head e is)
+filled_head : (edition : Edition) (before : List Entry) (e : Entry) → e.kind ≡ Header → filled edition before + 1 ≤ filled edition (before ++ e ∷ [])
+filled_head edition before e is =
+    omega (arith, filled_append edition before (e ∷ []), length-append (kinds_by edition e.kind e.value) [], kinds_of_head edition e is)
 
-filled_grows : (before : List Entry) (e : Entry) → filled before ≤ filled (before ++ e ∷ [])
-filled_grows before e = omega (arith, filled_append before (e ∷ []))
+filled_grows : (edition : Edition) (before : List Entry) (e : Entry) → filled edition before ≤ filled edition (before ++ e ∷ [])
+filled_grows edition before e = omega (arith, filled_append edition before (e ∷ []))
 
 -- a header behind what was there
-head_behind : (u : Setup) (p : ℕ) (before j : List Entry) → HeadsAfter u p before j → (i : ℕ) (e : Entry) → get_elem? j i ≡ maybe.some e → e.kind ≡ Header → filled before ≤ e.offset
+head_behind : (u : Setup) (p : ℕ) (before j : List Entry) → HeadsAfter u p before j → (i : ℕ) (e : Entry) → get_elem? j i ≡ maybe.some e → e.kind ≡ Header → filled u.heap.edition before ≤ e.offset
 head_behind u p before [] h i e at is = absurd (maybe.some-ne-none e (sym at))
 head_behind u p before (x ∷ xs) h zero e at is =
     let same = maybe.some-injective x e at in
     omega (arith, (h.0 (ap (λ (y : Entry). y.kind) same ∙ is)).place, ap (λ (y : Entry). y.offset) same)
-head_behind u p before (x ∷ xs) h (suc i) e at is = omega (arith, filled_grows before x, head_behind u p (before ++ x ∷ []) xs h.1 i e at is)
+head_behind u p before (x ∷ xs) h (suc i) e at is = omega (arith, filled_grows u.heap.edition before x, head_behind u p (before ++ x ∷ []) xs h.1 i e at is)
 
 module _ (u : Setup) (p : ℕ) where
   apart : (before : List Entry) (x : Entry) (xs : List Entry) → HeadsAfter u p before (x ∷ xs) → (i : ℕ) (e f : Entry) → x ≡ e → get_elem? xs i ≡ maybe.some f → e.kind ≡ Header → f.kind ≡ Header
       → e.offset ≡ f.offset → ⊥
   apart before x xs h i e f same at is is' equal =
       let first : x.kind ≡ Header = ap (λ (y : Entry). y.kind) same ∙ is in
-      omega (arith, (h.0 first).place, ap (λ (y : Entry). y.offset) same, equal, filled_head before x first, head_behind u p (before ++ x ∷ []) xs h.1 i f at is')
+      omega (arith, (h.0 first).place, ap (λ (y : Entry). y.offset) same, equal, filled_head u.heap.edition before x first, head_behind u p (before ++ x ∷ []) xs h.1 i f at is')
 
   one_entry : (before j : List Entry) → HeadsAfter u p before j → (i k : ℕ) (e f : Entry) → get_elem? j i ≡ maybe.some e → get_elem? j k ≡ maybe.some f → e.kind ≡ Header → f.kind ≡ Header
       → e.offset ≡ f.offset → e ≡ f
@@ -148,20 +151,20 @@ module _ (u : Setup) (p : ℕ) where
   one_entry before (x ∷ xs) h (suc i) zero e f at at' is is' equal = absurd (apart before x xs h i f e (maybe.some-injective x f at') at is' is (sym equal))
   one_entry before (x ∷ xs) h (suc i) (suc k) e f at at' is is' equal = one_entry (before ++ x ∷ []) xs h.1 i k e f at at' is is' equal
 
-  one_header : (j : List Entry) → HeadsAfter u p [] j → (offset g h : ℕ) → HasHeader j offset g → HasHeader j offset h → g ≡ h
-  one_header j heads offset g h a b = sym a.5 ∙ ap (λ (e : Entry). e.value) (one_entry [] j heads a.0 b.0 a.1 b.1 a.2 b.2 a.3 b.3 (a.4 ∙ sym b.4)) ∙ b.5
+  one_header : (j : List Entry) → HeadsAfter u p [] j → (offset : ℕ) (g h : Head) → HasHeader u.heap.edition j offset g → HasHeader u.heap.edition j offset h → g ≡ h
+  one_header j heads offset g h a b = sym a.5 ∙ ap (λ (e : Entry). header_of u.heap.edition e.value) (one_entry [] j heads a.0 b.0 a.1 b.1 a.2 b.2 a.3 b.3 (a.4 ∙ sym b.4)) ∙ b.5
 
 abbrev Headed : Setup → Journals → Type 0
 Headed u js = (p : ℕ) → HeadsAfter u p [] (js p)
 
-slid_before : (u : Setup) (a header : ℕ) → u.compacted ≡ sliding.pages (live u.heap) → HasSlid u a header → u.compacted ≤ page_at a → to_address 0 ≤ a → ⊥
+slid_before : (u : Setup) (a : ℕ) (header : Head) → u.compacted ≡ sliding.pages (live u.heap) → HasSlid u a header → u.compacted ≤ page_at a → to_address 0 ≤ a → ⊥
 slid_before u a header slid at le begins =
     maybe_none (sym at ∙ shape-behind u.heap a (omega (arith, slid, le, begins)))
   where
     maybe_none : Some header ≡ None → ⊥
     maybe_none e = cc
 
-one_shape : (u : Setup) (js : Journals) → u.compacted ≡ sliding.pages (live u.heap) → Headed u js → (a g h : ℕ) → HasShape u js a g → HasShape u js a h → g ≡ h
+one_shape : (u : Setup) (js : Journals) → u.compacted ≡ sliding.pages (live u.heap) → Headed u js → (a : ℕ) (g h : Head) → HasShape u js a g → HasShape u js a h → g ≡ h
 one_shape u js slid heads a g h (inl x) (inl y) = let e : Some g ≡ Some h = sym x ∙ y in cc
 one_shape u js slid heads a g h (inl x) (inr y) = absurd (slid_before u a g slid x y.1 y.0)
 one_shape u js slid heads a g h (inr x) (inl y) = absurd (slid_before u a h slid y x.1 x.0)
@@ -172,7 +175,7 @@ module _ (u : Setup) (js ls : Journals) (slid : u.compacted ≡ sliding.pages (l
   fields_once : (kind : Kind) (object field a b : ℕ) → IsFieldOf u js kind object field a → IsFieldOf u ls kind object field b → a ≡ b
   fields_once kind object field a b x y =
       let header = one_shape u js slid heads object x.header y.header x.shape (shape_same u js ls object y.header same y.shape) in
-      x.place_is ∙ ap (λ (h : ℕ). place_of kind object h field) header ∙ sym y.place_is
+      x.place_is ∙ ap (λ (h : Head). place_of kind object h field) header ∙ sym y.place_is
 
   reads_once : (kind : Kind) (object field a b : ℕ) → Reads u js kind object field a → Reads u ls kind object field b → a ≡ b
   reads_once kind object field a b x y =
@@ -190,7 +193,7 @@ module _ (u : Setup) (js ls : Journals) (slid : u.compacted ≡ sliding.pages (l
       let place = fields_once kind object field x.place y.place x.field_of y.field_of in
       entries_once m (page_at x.place) (page_at y.place) kind (offset_at x.place) (offset_at y.place) value s t xs ys (ap page_at place) (ap offset_at place) x.entry y.entry
 
-  lowest_once : (m header : ℕ) (xs ys : List (ℕ × Entry)) (a b : ℕ) (x : MakesObject u js m header xs a) (y : MakesObject u ls m header ys b) → x.index ≡ y.index
+  lowest_once : (m : ℕ) (header : Head) (xs ys : List (ℕ × Entry)) (a b : ℕ) (x : MakesObject u js m header xs a) (y : MakesObject u ls m header ys b) → x.index ≡ y.index
   lowest_once m header xs ys a b x y = elim (cases_lt x.index y.index) [
     | inl lt ↦ absurd (omega (arith, y.lower x.index lt, x.room, used_same u js ls m x.index same))
     | inr le ↦ elim (cases_lt y.index x.index) [
@@ -199,13 +202,17 @@ module _ (u : Setup) (js ls : Journals) (slid : u.compacted ≡ sliding.pages (l
     ]
   ]
 
-  makes_once : (m header : ℕ) (xs ys : List (ℕ × Entry)) (a b : ℕ) → MakesObject u js m header xs a → MakesObject u ls m header ys b → (a ≡ b) × (map unstamped_on xs ≡ map unstamped_on ys)
+  makes_once : (m : ℕ) (header : Head) (xs ys : List (ℕ × Entry)) (a b : ℕ) → MakesObject u js m header xs a → MakesObject u ls m header ys b → (a ≡ b) × (map unstamped_on xs ≡ map unstamped_on ys)
   makes_once m header xs ys a b x y =
       let index = lowest_once m header xs ys a b x y in
       let used : used_by u js m x.index ≡ used_by u ls m y.index = ap (used_by u js m) index ∙ used_same u js ls m y.index same in (
         x.place_is ∙ ap (λ i. address (own_page u m i) (used_by u js m x.index)) index ∙ ap (λ n. address (own_page u m y.index) n) used ∙ sym y.place_is,
-        entries_once m (own_page u m x.index) (own_page u m y.index) Header (used_by u js m x.index) (used_by u ls m y.index) header x.stamp y.stamp xs ys (ap (own_page u m) index) used x.entry y.entry,
+        entries_once m (own_page u m x.index) (own_page u m y.index) Header (used_by u js m x.index) (used_by u ls m y.index) header.word x.stamp y.stamp xs ys (ap (own_page u m) index) used x.entry y.entry,
       )
+
+  asked_once : (m : ℕ) (asked : Option Head) (xs ys : List (ℕ × Entry)) (a b : ℕ) → MakesAsked u js m asked xs a → MakesAsked u ls m asked ys b → (a ≡ b) × (map unstamped_on xs ≡ map unstamped_on ys)
+  asked_once m None xs ys a b x y = absurd x
+  asked_once m (Some header) xs ys a b x y = makes_once m header xs ys a b x y
 
   -- What a line leaves, but for stamps.
   record OneOutcome (action : Action) (registers : List ℕ) (xs ys : List (ℕ × Entry)) (a b : ℕ) : Type 0 where
@@ -219,23 +226,24 @@ module _ (u : Setup) (js ls : Journals) (slid : u.compacted ≡ sliding.pages (l
 
   acts_once : (m : ℕ) (action : Action) (registers : List ℕ) (xs ys : List (ℕ × Entry)) (a b : ℕ) → Acts u js m action registers xs a → Acts u ls m action registers ys b → OneOutcome action registers xs ys a b
   acts_once m (Root to root) registers xs ys a b x y = by_answer (Root to root) registers xs ys a b (let e : Some a ≡ Some b = sym x.1 ∙ y.1 in cc) (ap (map unstamped_on) (x.0 ∙ sym y.0))
-  acts_once m (Load to object field) registers xs ys a b x y =
-      by_answer (Load to object field) registers xs ys a b (reads_once Reference (slice_index registers object) field a b x.1 y.1) (ap (map unstamped_on) (x.0 ∙ sym y.0))
+  acts_once m (Load weak to object field) registers xs ys a b x y =
+      by_answer (Load weak to object field) registers xs ys a b (reads_once (kind_if weak) (slice_index registers object) field a b x.1 y.1) (ap (map unstamped_on) (x.0 ∙ sym y.0))
   acts_once m (Get object field) registers xs ys a b x y =
       by_answer (Get object field) registers xs ys a b (reads_once Data (slice_index registers object) field a b x.1 y.1) (ap (map unstamped_on) (x.0 ∙ sym y.0))
-  acts_once m (Store object field value) registers xs ys a b x y =
-      record { after = refl; shown = λ n. refl; touches = refl; added = writes_once m Reference (slice_index registers object) field (slice_index registers value) xs ys a b x y }
+  acts_once m (Store weak object field value) registers xs ys a b x y =
+      record { after = refl; shown = λ n. refl; touches = refl; added = writes_once m (kind_if weak) (slice_index registers object) field (slice_index registers value) xs ys a b x y }
   acts_once m (Put object field value) registers xs ys a b x y =
       record { after = refl; shown = λ n. refl; touches = refl; added = writes_once m Data (slice_index registers object) field value xs ys a b x y }
-  acts_once m (New to refs data_words tag) registers xs ys a b x y =
-      let once = makes_once m (header_word refs data_words tag) xs ys a b x y in by_answer (New to refs data_words tag) registers xs ys a b once.0 once.1
+  acts_once m (New to refs weak data_words tag) registers xs ys a b x y =
+      let once = asked_once m (header_with u.heap.edition refs weak data_words tag) xs ys a b x y in by_answer (New to refs weak data_words tag) registers xs ys a b once.0 once.1
   acts_once m (Nil to) registers xs ys a b x y = by_answer (Nil to) registers xs ys a b (x.1 ∙ sym y.1) (ap (map unstamped_on) (x.0 ∙ sym y.0))
 
 -- ---- the headers stay in order
-adds_none : (kind : Kind) (value : ℕ) → (kind ≡ Header → ⊥) → kinds_by kind value ≡ []
-adds_none Header value h = absurd (h refl)
-adds_none Reference value h = refl
-adds_none Data value h = refl
+adds_none : (edition : Edition) (kind : Kind) (value : ℕ) → (kind ≡ Header → ⊥) → kinds_by edition kind value ≡ []
+adds_none edition Header value h = absurd (h refl)
+adds_none edition Reference value h = refl
+adds_none edition Weak value h = refl
+adds_none edition Data value h = refl
 
 -- two mutators have no page in common
 one_owner : (u : Setup) (a b p : ℕ) → IsFreshOf u a p → IsFreshOf u b p → a ≡ b
@@ -244,13 +252,14 @@ one_owner u a b p h k =
     let same : h.0 ≡ k.0 = omega arith in
     h.3 ∙ ap (λ j. j % u.mutators) same ∙ sym k.3
 
-by_owner : (u : Setup) (m p : ℕ) → IsFreshOf u m p → (before j : List Entry) → HeadsAfter u p before j → filled (by m j) ≡ filled j
+by_owner : (u : Setup) (m p : ℕ) → IsFreshOf u m p → (before j : List Entry) → HeadsAfter u p before j → filled u.heap.edition (by m j) ≡ filled u.heap.edition j
 by_owner u m p own before [] h = refl
 by_owner u m p own before (e ∷ es) h =
+    let edition = u.heap.edition in
     let rest = by_owner u m p own (before ++ e ∷ []) es h.1 in
     dite (ℕ_discrete e.writer m)
-    (λ is. ap filled (mine e es m is) ∙ omega (arith, rest, length-append (kinds_by e.kind e.value) (kinds_in (by m es)), length-append (kinds_by e.kind e.value) (kinds_in es)))
-    (λ not. ap filled (others e es m not) ∙ rest ∙ ap (λ (l : List Kind). length (l ++ kinds_in es)) (sym (adds_none e.kind e.value (λ head. not (one_owner u e.writer m p (h.0 head).page own)))))
+    (λ is. ap (filled edition) (mine e es m is) ∙ omega (arith, rest, length-append (kinds_by edition e.kind e.value) (kinds_in edition (by m es)), length-append (kinds_by edition e.kind e.value) (kinds_in edition es)))
+    (λ not. ap (filled edition) (others e es m not) ∙ rest ∙ ap (λ (l : List Kind). length (l ++ kinds_in edition es)) (sym (adds_none edition e.kind e.value (λ head. not (one_owner u e.writer m p (h.0 head).page own)))))
 
 one_more : (u : Setup) (js : Journals) (m p : ℕ) (kind : Kind) (offset value stamp : ℕ) (xs : List (ℕ × Entry)) → Headed u js → IsOneEntry js m p kind offset value stamp xs
     → (kind ≡ Header → IsNext u p (js p) m offset value) → Headed u (with_entries js xs)
@@ -272,18 +281,25 @@ one_more u js m p kind offset value stamp xs heads one next q =
 none_more : (u : Setup) (js : Journals) (xs : List (ℕ × Entry)) → Headed u js → xs ≡ [] → Headed u (with_entries js xs)
 none_more u js xs heads none q = subst (λ (l : List (ℕ × Entry)). HeadsAfter u q [] (js q ++ on q l)) (sym none) (subst (HeadsAfter u q []) (sym (append-nil (js q))) (heads q))
 
+asked_heads : (u : Setup) (js : Journals) (m : ℕ) → m < u.mutators → Headed u js → (asked : Option Head) (xs : List (ℕ × Entry)) (a : ℕ) → MakesAsked u js m asked xs a
+    → Headed u (with_entries js xs)
+asked_heads u js m lt heads None xs a x = absurd x
+asked_heads u js m lt heads (Some header) xs a x =
+    let p = own_page u m x.index in
+    let own = own_fresh u m x.index lt x.there in
+    one_more u js m p Header (used_by u js m x.index) header.word x.stamp xs heads x.entry
+    (λ is. record { page = own; place = by_owner u m p own [] (js p) (heads p); ends = subst (λ (h : Head). used_by u js m x.index + size_of h ≤ 64) (sym (read_back u.heap.edition header x.edition)) x.room })
+
 acts_heads : (u : Setup) (js : Journals) (m : ℕ) → m < u.mutators → Headed u js → (action : Action) (registers : List ℕ) (xs : List (ℕ × Entry)) (a : ℕ) → Acts u js m action registers xs a
     → Headed u (with_entries js xs)
 acts_heads u js m lt heads (Root to root) registers xs a x = none_more u js xs heads x.0
-acts_heads u js m lt heads (Load to object field) registers xs a x = none_more u js xs heads x.0
+acts_heads u js m lt heads (Load weak to object field) registers xs a x = none_more u js xs heads x.0
 acts_heads u js m lt heads (Get object field) registers xs a x = none_more u js xs heads x.0
-acts_heads u js m lt heads (Store object field value) registers xs a x =
-    one_more u js m (page_at x.place) Reference (offset_at x.place) (slice_index registers value) a xs heads x.entry (λ is. absurd cc)
+acts_heads u js m lt heads (Store weak object field value) registers xs a x =
+    one_more u js m (page_at x.place) (kind_if weak) (offset_at x.place) (slice_index registers value) a xs heads x.entry (λ is. absurd (no_header weak is))
 acts_heads u js m lt heads (Put object field value) registers xs a x = one_more u js m (page_at x.place) Data (offset_at x.place) value a xs heads x.entry (λ is. absurd cc)
-acts_heads u js m lt heads (New to refs data_words tag) registers xs a x =
-    let p = own_page u m x.index in
-    let own = own_fresh u m x.index lt x.there in
-    one_more u js m p Header (used_by u js m x.index) (header_word refs data_words tag) x.stamp xs heads x.entry (λ is. record { page = own; place = by_owner u m p own [] (js p) (heads p); ends = x.room })
+acts_heads u js m lt heads (New to refs weak data_words tag) registers xs a x =
+    asked_heads u js m lt heads (header_with u.heap.edition refs weak data_words tag) xs a x
 acts_heads u js m lt heads (Nil to) registers xs a x = none_more u js xs heads x.0
 
 -- ---- line after line

@@ -10,7 +10,7 @@ use Rattle.cell_steps.specs.Passes.{did, number_of, seen, view_of, HasSeenBuilt,
 use Rattle.cell_steps.specs.Setup.{Setup}
 use Rattle.cell_steps.specs.declared.pass.Pass.{Pass}
 use Rattle.page_cells.specs.Calls.{Grows}
-use Rattle.page_cells.specs.Objects.{HasHeader}
+use Rattle.cell_steps.specs.Lawful.{HasHead}
 use Rattle.comp_history.specs.Merged.{written_by}
 use Rattle.call_refusals.specs.declared.refusal.Refusal.{Refusal}
 use Rattle.trace_steps.specs.Acting.{Refuses}
@@ -54,7 +54,7 @@ pub record ShowsUntil (u : Setup) (text : List ℕ) (shown : List Shown) (number
   pub wrote_none : did new ≡ did old
   pub did : did old ≡ written_by line.mutator end.added
   pub knows : (p : ℕ) → seen old p ≡ with_entries no_entries end.added p
-  pub starts : (p offset header : ℕ) → HasHeader (with_entries no_entries end.added p) offset header → KnowsFresh old p offset
+  pub starts : (p offset : ℕ) → HasHead (with_entries no_entries end.added p) offset → KnowsFresh old p offset
   pub built : (p : ℕ) → is_built end.built p ≡ true → HasSeenBuilt old p
   pub grows : Grows old new
   pub refuses : Refuses u line.action (end.registers line.mutator) old new refusal

@@ -8,6 +8,7 @@ use native.Mathlib.Decide.{ℕ_discrete}
 use mathlib.Core.Logic.{dite, ⊎_elim}
 use Rattle.heap_layout.specs.Heap.{live}
 use Rattle.heap_layout.specs.declared.kind.Kind.{Kind}
+use Rattle.heap_layout.specs.Header.{Head}
 use Rattle.page_plan.specs.Sliding.{shape_at}
 use Rattle.cell_steps.specs.Lists.{only, times}
 use Rattle.cell_steps.specs.Passes.{builds_of, number_of, HasSeenBuilt}
@@ -24,23 +25,23 @@ use Rattle.trace_steps.specs.Rounds.{Met}
 
 -- ---- the page that a call touched
 
-none_there : (found : Option ℕ) → ((header : ℕ) → found ≡ Some header → ⊥) → found ≡ None
+none_there : (found : Option Head) → ((header : Head) → found ≡ Some header → ⊥) → found ≡ None
 none_there None h = refl
 none_there (Some header) h = absurd (h header refl)
 
 pub field_touched : (u : Setup) (old new : Pass) (kind : Kind) (object field : ℕ) → MayBuildTouched u old new kind object field → BuildsTouched (slid_page u kind object field) old new
 field_touched u old new kind object field (p, inl slid, seen) =
-    let page : ℕ → ℕ = λ header. page_at (place_of kind object header field) in
+    let page : Head → ℕ = λ header. page_at (place_of kind object header field) in
     subst (λ (t : Option ℕ). BuildsTouched t old new) (sym (ap (option_map page) slid.0.slid)) (subst (λ (q : ℕ). MayBuild q old new × HasSeenBuilt new q) slid.0.page_is (slid.1, seen))
 field_touched u old new kind object field (p, inr fresh, seen) =
-    let page : ℕ → ℕ = λ header. page_at (place_of kind object header field) in
+    let page : Head → ℕ = λ header. page_at (place_of kind object header field) in
     let none = none_there (shape_at (live u.heap) object) (λ header is. fresh.0.0.apart (header, is)) in
     subst (λ (t : Option ℕ). BuildsTouched t old new) (sym (ap (option_map page) none)) fresh.1
 
 on_page : (p o : ℕ) → o < 64 → page_at (address p o) ≡ p
 on_page p o lt = omega (arith, lt)
 
-pub made_touched : (u : Setup) (old new : Pass) (header place : ℕ) → Allocates u old new header place → BuildsTouched (Some (page_at place)) old new
+pub made_touched : (u : Setup) (old new : Pass) (header : Head) (place : ℕ) → Allocates u old new header place → BuildsTouched (Some (page_at place)) old new
 made_touched u old new header place h =
     let p = own_page u (number_of old) h.index in
     let is : page_at place ≡ p = ap page_at h.place_is ∙ on_page p (used u old h.index) (let room = h.lowest.room in omega (arith, room)) in

@@ -7,6 +7,8 @@ use native.Mathlib.Decide.{ℕ_discrete}
 use lib.ListN.{get_elem?}
 use Rattle.heap_layout.specs.declared.kind.Kind.{Kind}
 use Rattle.heap_layout.specs.declared.kind.Kind.TheVariants.{Header}
+use Rattle.heap_layout.specs.Header.{Head}
+use Rattle.heap_layout.specs.declared.edition.Edition.{Edition}
 use Rattle.comp_journal.specs.declared.entry.Entry.{Entry}
 use Rattle.cell_steps.specs.Lists.{on}
 use Rattle.cell_steps.specs.Locks.{Journals}
@@ -21,14 +23,14 @@ at_before [] (suc i) e x at not is = at
 at_before (y ∷ ys) zero e x at not is = at
 at_before (y ∷ ys) (suc i) e x at not is = at_before ys i e x at not is
 
-header_before : (j : List Entry) (p q : ℕ) (x : Entry) (offset header : ℕ) → (x.kind ≡ Header → ⊥) → HasHeader (j ++ on q ((p, x) ∷ [])) offset header → HasHeader j offset header
-header_before j p q x offset header not h = dite (ℕ_discrete p q)
+header_before : (edition : Edition) (j : List Entry) (p q : ℕ) (x : Entry) (offset : ℕ) (header : Head) → (x.kind ≡ Header → ⊥) → HasHeader edition (j ++ on q ((p, x) ∷ [])) offset header → HasHeader edition j offset header
+header_before edition j p q x offset header not h = dite (ℕ_discrete p q)
     (λ is. (h.0, h.1, at_before j h.0 h.1 x (ap (λ (t : Bool). get_elem? (j ++ cond t (x ∷ []) []) h.0) (sym (eq-eqb p q is)) ∙ h.2) not h.3, h.3, h.4, h.5))
     (λ other. (h.0, h.1, ap (λ (l : List Entry). get_elem? l h.0) (sym (ap (λ (t : Bool). j ++ cond t (x ∷ []) []) (ne_eqb p q other) ∙ append-nil j)) ∙ h.2, h.3, h.4, h.5))
 
-shape_before : (u : Setup) (journals : Journals) (p : ℕ) (x : Entry) (a header : ℕ) → (x.kind ≡ Header → ⊥) → HasShape u (with_entries journals ((p, x) ∷ [])) a header → HasShape u journals a header
+shape_before : (u : Setup) (journals : Journals) (p : ℕ) (x : Entry) (a : ℕ) (header : Head) → (x.kind ≡ Header → ⊥) → HasShape u (with_entries journals ((p, x) ∷ [])) a header → HasShape u journals a header
 shape_before u journals p x a header not (inl slid) = inl slid
-shape_before u journals p x a header not (inr h) = inr (h.0, h.1, header_before (journals (page_at a)) p (page_at a) x (offset_at a) header not h.2)
+shape_before u journals p x a header not (inr h) = inr (h.0, h.1, header_before u.heap.edition (journals (page_at a)) p (page_at a) x (offset_at a) header not h.2)
 
 pub field_before : (u : Setup) (journals : Journals) (p : ℕ) (x : Entry) (kind : Kind) (object field place : ℕ) → (x.kind ≡ Header → ⊥) → IsFieldOf u (with_entries journals ((p, x) ∷ [])) kind object field place
     → IsFieldOf u journals kind object field place

@@ -23,11 +23,11 @@ and_both false b h = absurd cc
 
 fits_action : (u : Setup) (rs : ℕ) (action : Action) → rs ≡ length u.heap.roots → list_any (nat_le 16) (registers_of action) ≡ false → list_any (nat_le rs) (roots_of action) ≡ false → Fits u action
 fits_action u rs (Root to root) e h k = (leb-false 16 to (or_parts _ _ h).0, omega (arith, e, leb-false rs root (or_parts _ _ k).0))
-fits_action u rs (Load to object field) e h k = let p = or_parts _ _ h in (leb-false 16 to p.0, leb-false 16 object (or_parts _ _ p.1).0)
+fits_action u rs (Load weak to object field) e h k = let p = or_parts _ _ h in (leb-false 16 to p.0, leb-false 16 object (or_parts _ _ p.1).0)
 fits_action u rs (Get object field) e h k = leb-false 16 object (or_parts _ _ h).0
-fits_action u rs (Store object field value) e h k = let p = or_parts _ _ h in (leb-false 16 object p.0, leb-false 16 value (or_parts _ _ p.1).0)
+fits_action u rs (Store weak object field value) e h k = let p = or_parts _ _ h in (leb-false 16 object p.0, leb-false 16 value (or_parts _ _ p.1).0)
 fits_action u rs (Put object field value) e h k = leb-false 16 object (or_parts _ _ h).0
-fits_action u rs (New to refs data_words tag) e h k = leb-false 16 to (or_parts _ _ h).0
+fits_action u rs (New to refs weak data_words tag) e h k = leb-false 16 to (or_parts _ _ h).0
 fits_action u rs (Nil to) e h k = leb-false 16 to (or_parts _ _ h).0
 
 pub line_fits : (u : Setup) (ms rs : ℕ) (line : Line) → rs ≡ length u.heap.roots → is_within ms rs line ≡ true → (line.mutator < ms) × Fits u line.action

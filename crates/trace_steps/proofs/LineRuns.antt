@@ -1,36 +1,37 @@
 -- A line that one mutator runs, between two rounds of meetings.
 use Rattle.std.proofs.Common.{◌≡◌, ◌≢◌, ℕ, ◌+◌, ◌*◌, ◌<◌, ◌≤◌, Bool, cond, List, [], ◌∷◌, ◌++◌, refl, sym, ap, subst, ◌∙◌, eq-eqb, ne_eqb}
-use Rattle.std.specs.Prelude.{slice_index}
+use Rattle.std.specs.Prelude.{Option, None, Some, slice_index}
 use Rattle.std.proofs.lemmas.List.{append-nil}
 use native.Mathlib.Decide.{ℕ_discrete}
 use mathlib.Core.Logic.{dite}
-use Rattle.heap_layout.specs.Header.{header_word, size_of}
+use Rattle.heap_layout.specs.Header.{header_with, size_of, Head}
 use Rattle.heap_layout.specs.declared.kind.Kind.{Kind}
-use Rattle.heap_layout.specs.declared.kind.Kind.TheVariants.{Header, Reference, Data}
+use Rattle.heap_layout.specs.declared.kind.Kind.TheVariants.{Header, Data}
 use Rattle.comp_journal.specs.declared.entry.Entry.{Entry}
 use Rattle.cell_steps.specs.Setup.{Setup, address}
-use Rattle.cell_steps.specs.Lawful.{filled}
+use Rattle.cell_steps.specs.Lawful.{filled, HasHead}
 use Rattle.cell_steps.specs.Lists.{on}
 use Rattle.cell_steps.specs.Locks.{Journals}
 use Rattle.cell_steps.specs.Passes.{did, number_of, seen, KnowsFresh}
 use Rattle.cell_steps.specs.declared.pass.Pass.{Pass}
 use Rattle.cell_steps.specs.declared.steps.Steps.{Steps}
-use Rattle.page_cells.specs.Objects.{page_at, offset_at, HasHeader}
+use Rattle.page_cells.specs.Objects.{page_at, offset_at}
 use Rattle.page_cells.proofs.Growing.{grows_none, grows_then}
 use Rattle.comp_history.specs.Merged.{written_by}
 use Rattle.comp_access.specs.Fields.{IsFieldOf}
 use Rattle.comp_access.specs.Reads.{Reads}
 use Rattle.comp_access.specs.Writes.{entry_by, Adds, Writes}
-use Rattle.comp_access.specs.Allocations.{own_page, used, Allocates}
+use Rattle.comp_access.specs.Allocations.{own_page, used, Allocates, AllocatesAsked}
 use Rattle.trace_steps.specs.Acting.{Answers}
 use Rattle.trace_steps.specs.Deeds.{AreMerged, KnowsMade}
 use Rattle.trace_steps.specs.Rounds.{Advances, Learns, Met}
-use Rattle.trace_steps.specs.Lines.{used_by, with_entries, Acts, IsAboveAll, IsOneEntry, MakesObject, WritesField}
+use Rattle.trace_steps.specs.Lines.{used_by, with_entries, Acts, IsAboveAll, IsOneEntry, MakesAsked, MakesObject, WritesField}
+use Rattle.trace_steps.specs.Builds.{kind_if}
 use Rattle.trace_text.specs.declared.line.Action.{Action}
 use Rattle.trace_text.specs.declared.line.Action.TheVariants.{Root, Load, Get, Store, Put, New, Nil}
 use Rattle.trace_steps.proofs.BetweenRounds.{dids, known_before, reads_all, seen_all, writes_all, IsCrew}
 use Rattle.trace_steps.proofs.EarlierFields.{field_before}
-use Rattle.trace_steps.proofs.MadeObjects.{made_same, made_whose}
+use Rattle.trace_steps.proofs.MadeObjects.{made_same, made_whose, no_header}
 use Rattle.trace_steps.proofs.Merging.{merged_by, merged_more, merged_once, merged_still, IsOneMore}
 
 -- an entry of mutator i
@@ -144,18 +145,19 @@ module _ (table : Steps) (n i : ℕ) (first met acted last : ℕ → Pass) (line
     used_is : (index : ℕ) → used u (met i) index ≡ used_by u journals i index
     used_is index =
         let p = own_page u i index in
-        ap (λ (k : ℕ). filled (on (own_page u k index) (did (met i)))) (line.crew_met.numbers i line.inside)
-        ∙ ap (λ (l : List (ℕ × Entry)). filled (on p l)) (line.before.did i line.inside) ∙ ap filled (sym ((merged p).own i line.inside))
+        ap (λ (k : ℕ). filled u.heap.edition (on (own_page u k index) (did (met i)))) (line.crew_met.numbers i line.inside)
+        ∙ ap (λ (l : List (ℕ × Entry)). filled u.heap.edition (on p l)) (line.before.did i line.inside) ∙ ap (filled u.heap.edition) (sym ((merged p).own i line.inside))
 
-    made : (header place : ℕ) (h : Allocates u (met i) (acted i) header place)
-        → MakesObject u journals i header ((own_page u (number_of (met i)) h.index, entry_of i h.stamp Header (used u (met i) h.index) header) ∷ []) place
+    made : (header : Head) (place : ℕ) (h : Allocates u (met i) (acted i) header place)
+        → MakesObject u journals i header ((own_page u (number_of (met i)) h.index, entry_of i h.stamp Header (used u (met i) h.index) header.word) ∷ []) place
     made header place h =
         let k = number_of (met i) in
         let number : k ≡ i = line.crew_met.numbers i line.inside in
         let there = h.lowest.there in
         let size = size_of header in
-        let entry = one_entry (own_page u k h.index) Header (used u (met i) h.index) header h.stamp h.adds in
+        let entry = one_entry (own_page u k h.index) Header (used u (met i) h.index) header.word h.stamp h.adds in
         record {
+          edition = h.edition;
           index = h.index;
           there = subst (λ (y : ℕ). y + h.index * u.mutators < u.fresh) number there;
           room = subst (λ (y : ℕ). y + size ≤ 64) (used_is h.index) h.lowest.room;
@@ -164,31 +166,38 @@ module _ (table : Steps) (n i : ℕ) (first met acted last : ℕ → Pass) (line
           stamp = h.stamp;
           entry = record {
             above = entry.above;
-            added_is = ap (λ (y : ℕ). (own_page u y h.index, entry_of i h.stamp Header (used u (met i) h.index) header) ∷ []) number
-                ∙ ap (λ (y : ℕ). (own_page u i h.index, entry_of i h.stamp Header y header) ∷ []) (used_is h.index);
+            added_is = ap (λ (y : ℕ). (own_page u y h.index, entry_of i h.stamp Header (used u (met i) h.index) header.word) ∷ []) number
+                ∙ ap (λ (y : ℕ). (own_page u i h.index, entry_of i h.stamp Header y header.word) ∷ []) (used_is h.index);
           };
         }
+
+    -- the object that was asked for
+    makes : (asked : Option Head) (action : Action) (registers : List ℕ) (answer : ℕ) → AllocatesAsked u (met i) (acted i) asked answer
+        → ((added : List (ℕ × Entry)) → MakesAsked u journals i asked added answer → Acts u journals i action registers added answer)
+        → Advances u n i (dids first) (dids last) journals action registers answer
+    makes None action registers answer h acts = absurd h
+    makes (Some header) action registers answer h acts =
+        some (own_page u (number_of (met i)) h.index) Header (used u (met i) h.index) header.word h.stamp h.adds action registers answer (acts _ (made header answer h))
 
     -- what a line's call answers is what the run says
     pub advances : (action : Action) (registers : List ℕ) (answer : ℕ) → Answers u action registers (met i) (acted i) answer → Advances u n i (dids first) (dids last) journals action registers answer
     advances (Root to root) registers answer h = none (Root to root) registers answer (ap did h.0) (refl, h.1)
-    advances (Load to object field) registers answer h = none (Load to object field) registers answer h.0 (refl, read Reference (slice_index registers object) field answer h.0 h.1)
+    advances (Load weak to object field) registers answer h = none (Load weak to object field) registers answer h.0 (refl, read (kind_if weak) (slice_index registers object) field answer h.0 h.1)
     advances (Get object field) registers answer h = none (Get object field) registers answer h.0 (refl, read Data (slice_index registers object) field answer h.0 h.1)
-    advances (Store object field value) registers answer h =
-        let w = h.0 in some (page_at w.place) Reference (offset_at w.place) (slice_index registers value) answer w.adds (Store object field value) registers answer
-        (wrote Reference (slice_index registers object) field (slice_index registers value) answer (λ is. absurd cc) w)
+    advances (Store weak object field value) registers answer h =
+        let w = h.0 in some (page_at w.place) (kind_if weak) (offset_at w.place) (slice_index registers value) answer w.adds (Store weak object field value) registers answer
+        (wrote (kind_if weak) (slice_index registers object) field (slice_index registers value) answer (no_header weak) w)
     advances (Put object field value) registers answer h =
         some (page_at h.place) Data (offset_at h.place) value answer h.adds (Put object field value) registers answer (wrote Data (slice_index registers object) field value answer (λ is. absurd cc) h)
-    advances (New to refs data_words tag) registers answer h =
-        let header = header_word refs data_words tag in
-        some (own_page u (number_of (met i)) h.index) Header (used u (met i) h.index) header h.stamp h.adds (New to refs data_words tag) registers answer (made header answer h)
+    advances (New to refs weak data_words tag) registers answer h =
+        makes (header_with u.heap.edition refs weak data_words tag) (New to refs weak data_words tag) registers answer h (λ added acts. acts)
     advances (Nil to) registers answer h = none (Nil to) registers answer (ap did h.0) (refl, h.1)
 
     -- at its call it knows each object that was made, where each mutator knew what it made
-    pub knows_starts : ((k : ℕ) → k < n → KnowsMade (first k)) → (p offset header : ℕ) → HasHeader (journals p) offset header → KnowsFresh (met i) p offset
-    knows_starts made p offset header there =
-        let whose = made_whose n (dids first) p (journals p) (merged p) offset header there in
-        line.before.starts whose.0 p offset whose.1 (made whose.0 whose.1 p offset header whose.2)
+    pub knows_starts : ((k : ℕ) → k < n → KnowsMade (first k)) → (p offset : ℕ) → HasHead (journals p) offset → KnowsFresh (met i) p offset
+    knows_starts made p offset there =
+        let whose = made_whose n (dids first) p (journals p) (merged p) offset there in
+        line.before.starts whose.0 p offset whose.1 (made whose.0 whose.1 p offset whose.2)
 
   -- each knows no less after the line, nor does it forget what it made
   pub learnt : (k : ℕ) → k < n → Learns (first k) (last k)

@@ -1,5 +1,5 @@
 -- What a pass knows of the objects that it made.
-use Rattle.std.proofs.Common.{◌≡◌, ℕ, zero, suc, ◌<◌, Bool, cond, List, [], ◌∷◌, ◌++◌, sym, ap, subst, ◌∙◌, inl, inr, Result, Ok, Err, IfOk, eq-eqb, ne_eqb}
+use Rattle.std.proofs.Common.{◌≡◌, ℕ, zero, suc, ◌<◌, Bool, true, false, cond, Option, Some, None, List, [], ◌∷◌, ◌++◌, sym, ap, subst, ◌∙◌, inl, inr, Result, Ok, Err, IfOk, eq-eqb, ne_eqb}
 use Rattle.std.specs.Prelude.{◌⊎◌, OnErr}
 use Rattle.std.proofs.lemmas.Bool.{cases_lt}
 use Rattle.std.proofs.lemmas.List.{append-nil}
@@ -14,8 +14,11 @@ use Rattle.cell_steps.specs.Setup.{Setup}
 use Rattle.cell_steps.specs.declared.pass.Pass.{Pass}
 use Rattle.cell_steps.specs.Passes.{did, KnowsFresh}
 use Rattle.page_cells.specs.Calls.{Grows}
-use Rattle.page_cells.specs.Objects.{HasHeader}
+use Rattle.cell_steps.specs.Lawful.{HasHead}
 use Rattle.comp_access.proofs.OwnPages.{on_append}
+use Rattle.comp_access.specs.Allocations.{AllocatesAsked}
+use Rattle.heap_layout.specs.Header.{header_with, Head}
+use Rattle.trace_steps.specs.Builds.{kind_if}
 use Rattle.call_refusals.specs.declared.refusal.Refusal.{Refusal}
 use Rattle.trace_steps.specs.Acting.{Answers, Steps}
 use Rattle.trace_steps.specs.Deeds.{Deeds, IsMerged, KnowsMade}
@@ -26,7 +29,7 @@ use Rattle.trace_steps.proofs.Merging.{mine, others}
 
 -- what did the same, and knows no less, knows what it made
 pub made_same : (old new : Pass) → did new ≡ did old → Grows old new → KnowsMade old → KnowsMade new
-made_same old new same grows made p offset header h = grows.starts p offset (made p offset header (subst (λ (l : List (ℕ × Entry)). HasHeader (on p l) offset header) same h))
+made_same old new same grows made p offset h = grows.starts p offset (made p offset (subst (λ (l : List (ℕ × Entry)). HasHead (on p l) offset) same h))
 
 at_last : (j : List Entry) (i : ℕ) (e x : Entry) → get_elem? (j ++ x ∷ []) i ≡ maybe.some e → (get_elem? j i ≡ maybe.some e) ⊎ (x ≡ e)
 at_last [] zero e x at = inr (maybe.some-injective x e at)
@@ -36,22 +39,31 @@ at_last (y ∷ ys) (suc i) e x at = at_last ys i e x at
 
 -- an entry more
 made_more : (old new : Pass) (p : ℕ) (e : Entry) → did new ≡ did old ++ (p, e) ∷ [] → Grows old new → (e.kind ≡ Header → KnowsFresh new p e.offset) → KnowsMade old → KnowsMade new
-made_more old new p e one grows known made q offset header h =
+made_more old new p e one grows known made q offset h =
     let at : get_elem? (on q (did old) ++ on q ((p, e) ∷ [])) h.0 ≡ maybe.some h.1 = ap (λ (l : List Entry). get_elem? l h.0) (sym (ap (on q) one ∙ on_append q (did old) ((p, e) ∷ []))) ∙ h.2 in
     dite (ℕ_discrete p q)
     (λ is. ⊎_elim
-    (λ before. grows.starts q offset (made q offset header (h.0, h.1, before, h.3, h.4, h.5)))
+    (λ before. grows.starts q offset (made q offset (h.0, h.1, before, h.3, h.4)))
     (λ last. subst (λ (x : ℕ). KnowsFresh new x offset) is (subst (λ (o : ℕ). KnowsFresh new p o) (ap (λ (x : Entry). x.offset) last ∙ h.4) (known (ap (λ (x : Entry). x.kind) last ∙ h.3))))
     (at_last (on q (did old)) h.0 h.1 e (ap (λ (t : Bool). get_elem? (on q (did old) ++ cond t (e ∷ []) []) h.0) (sym (eq-eqb p q is)) ∙ at)))
-    (λ not. grows.starts q offset (made q offset header (h.0, h.1, ap (λ (l : List Entry). get_elem? l h.0) (sym (ap (λ (t : Bool). on q (did old) ++ cond t (e ∷ []) []) (ne_eqb p q not) ∙ append-nil (on q (did old)))) ∙ at, h.3, h.4, h.5)))
+    (λ not. grows.starts q offset (made q offset (h.0, h.1, ap (λ (l : List Entry). get_elem? l h.0) (sym (ap (λ (t : Bool). on q (did old) ++ cond t (e ∷ []) []) (ne_eqb p q not) ∙ append-nil (on q (did old)))) ∙ at, h.3, h.4)))
+
+-- a field that a load or a store names is no header
+pub no_header : (weak : Bool) → kind_if weak ≡ Header → ⊥
+no_header true is = cc
+no_header false is = cc
+
+asked_by : (u : Setup) (asked : Option Head) (old new : Pass) (answer : ℕ) → AllocatesAsked u old new asked answer → Grows old new → KnowsMade old → KnowsMade new
+asked_by u None old new answer h grows = absurd h
+asked_by u (Some header) old new answer h grows = made_more old new _ _ h.adds.did grows (λ is. h.known)
 
 made_by : (u : Setup) (action : Action) (registers : List ℕ) (old new : Pass) (answer : ℕ) → Answers u action registers old new answer → Grows old new → KnowsMade old → KnowsMade new
 made_by u (Root to root) registers old new answer h grows = made_same old new (ap did h.0) grows
-made_by u (Load to object field) registers old new answer h grows = made_same old new h.0 grows
+made_by u (Load weak to object field) registers old new answer h grows = made_same old new h.0 grows
 made_by u (Get object field) registers old new answer h grows = made_same old new h.0 grows
-made_by u (Store object field value) registers old new answer h grows = made_more old new _ _ h.0.adds.did grows (λ is. absurd cc)
+made_by u (Store weak object field value) registers old new answer h grows = made_more old new _ _ h.0.adds.did grows (λ is. absurd (no_header weak is))
 made_by u (Put object field value) registers old new answer h grows = made_more old new _ _ h.adds.did grows (λ is. absurd cc)
-made_by u (New to refs data_words tag) registers old new answer h grows = made_more old new _ _ h.adds.did grows (λ is. h.known)
+made_by u (New to refs weak data_words tag) registers old new answer h grows = asked_by u (header_with u.heap.edition refs weak data_words tag) old new answer h grows
 made_by u (Nil to) registers old new answer h grows = made_same old new (ap did h.0) grows
 
 -- whatever a call answered
@@ -73,10 +85,10 @@ header_by (x ∷ xs) (suc i) e at =
     (λ not. (rest.0, ap (λ (l : List Entry). get_elem? l rest.0) (others x xs e.writer not) ∙ rest.1))
 
 -- an object of merged journals was made by one of the mutators
-pub made_whose : (n : ℕ) (deeds : Deeds) (p : ℕ) (journal : List Entry) → IsMerged n deeds p journal → (offset header : ℕ) → HasHeader journal offset header → (k : ℕ) × (k < n) × HasHeader (on p (deeds k)) offset header
-made_whose n deeds p journal merged offset header h =
+pub made_whose : (n : ℕ) (deeds : Deeds) (p : ℕ) (journal : List Entry) → IsMerged n deeds p journal → (offset : ℕ) → HasHead journal offset → (k : ℕ) × (k < n) × HasHead (on p (deeds k)) offset
+made_whose n deeds p journal merged offset h =
     let own = header_by journal h.0 h.1 h.2 in
     elim (cases_lt h.1.writer n) [
-      | inl lt ↦ (h.1.writer, lt, (own.0, h.1, ap (λ (l : List Entry). get_elem? l own.0) (sym (merged.own h.1.writer lt)) ∙ own.1, h.3, h.4, h.5))
+      | inl lt ↦ (h.1.writer, lt, (own.0, h.1, ap (λ (l : List Entry). get_elem? l own.0) (sym (merged.own h.1.writer lt)) ∙ own.1, h.3, h.4))
       | inr le ↦ absurd (maybe.some-ne-none h.1 (sym (ap (λ (l : List Entry). get_elem? l own.0) (sym (merged.strangers h.1.writer le)) ∙ own.1)))
     ]

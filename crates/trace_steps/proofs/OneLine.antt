@@ -1,26 +1,27 @@
 -- A line: what it stores, what it shows, and where its root leads.
-use Rattle.std.proofs.Common.{◌≡◌, ℕ, ◌<◌, ◌≤◌, List, length, map, get_or, IfOk, Result, Ok, Err, Some, refl, sym, ap, ◌∙◌, arith, subst}
+use Rattle.std.proofs.Common.{◌≡◌, ℕ, ◌<◌, ◌≤◌, List, length, map, get_or, IfErr, IfOk, Result, Ok, Err, Some, refl, sym, ap, ◌∙◌, arith, subst}
 use mathlib.Core.Option.{some}
 use lib.ListN.{get_elem?}
 use Rattle.cell_steps.proofs.Sums.{is_inside, read_at}
 use Rattle.page_cells.proofs.Rows.{at_map, at_map_back}
-use Rattle.std.specs.Prelude.{Option, OnErr, OnOk}
+use Rattle.std.specs.Prelude.{Bool, Option, None, OnErr, OnOk}
 use Rattle.heap_layout.specs.Heap.{live}
-use Rattle.heap_layout.specs.Header.{header_word}
+use Rattle.heap_layout.specs.Header.{header_with, Head}
 use Rattle.page_plan.specs.Sliding.{forward}
 use Rattle.heap_layout.specs.declared.kind.Kind.{Kind}
-use Rattle.heap_layout.specs.declared.kind.Kind.TheVariants.{Data, Reference}
+use Rattle.heap_layout.specs.declared.kind.Kind.TheVariants.{Data}
 use Rattle.cell_steps.specs.Setup.{Setup}
 use Rattle.cell_steps.specs.Passes.{did, seen, MayRefer}
 use Rattle.cell_steps.specs.declared.pass.Pass.{Pass}
 use Rattle.page_cells.specs.Calls.{Grows}
+use Rattle.page_cells.specs.Objects.{page_at}
 use Rattle.page_cells.proofs.Growing.{grows_none}
-use Rattle.comp_access.specs.Allocations.{Allocates}
-use Rattle.comp_access.specs.Reads.{MayBuildTouched, Reads}
-use Rattle.comp_access.specs.Writes.{Writes}
+use Rattle.comp_access.specs.Allocations.{AllocatesAsked}
+use Rattle.comp_access.specs.Reads.{FieldRefused, MayBuildTouched, Reads}
+use Rattle.comp_access.specs.Writes.{ReferenceRefused, Writes}
 use Rattle.call_refusals.specs.declared.refusal.Refusal.{Refusal}
 use Rattle.trace_steps.specs.Acting.{shown_at, Steps}
-use Rattle.trace_steps.specs.Builds.{slid_page, BuildsTouched}
+use Rattle.trace_steps.specs.Builds.{kind_if, slid_page, BuildsTouched}
 use Rattle.trace_text.specs.declared.line.Action.{Action}
 use Rattle.trace_text.specs.declared.line.Action.TheVariants.{Root, Load, Get, Store, Put, New, Nil}
 use Rattle.trace_steps.proofs.Building.{field_touched, made_touched}
@@ -31,16 +32,26 @@ touch_of : (u : Setup) (kind : Kind) (object field : ℕ) (registers : List ℕ)
     → BuildsTouched (slid_page u kind (get_or registers object 0) field) old new
 touch_of u kind object field registers old new o e builds = subst (λ x. BuildsTouched (slid_page u kind x field) old new) e (field_touched u old new kind o field builds)
 
--- a reference was stored
-pub stored : (u : Setup) (object field value : ℕ) (registers : List ℕ) (old new : Pass) (o v : ℕ) (r : Result ℕ Refusal) → o ≡ get_or registers object 0 → v ≡ get_or registers value 0
-    → Grows old new → IfOk r (Writes u old new Reference o field v) → OnOk r (MayRefer new v) → OnOk r (MayBuildTouched u old new Reference o field)
-    → IfOk r (Steps u (Store object field value) registers old new)
-stored u object field value registers old new o v (Ok a) eo ev grows wrote target builds = record {
-  grows = grows;
-  builds = touch_of u Reference object field registers old new o eo builds;
-  answers = (subst (λ x. Writes u old new Reference x field (get_or registers value 0) a) eo (subst (λ x. Writes u old new Reference o field x a) ev wrote), subst (MayRefer new) ev target);
-}
-stored u object field value registers old new o v (Err e) eo ev grows wrote target builds = tt
+-- a field that refers was written
+pub stored : (u : Setup) (weak : Bool) (object field value : ℕ) (registers : List ℕ) (old new : Pass) (kind : Kind) (o v : ℕ) (r : Result ℕ Refusal) → kind ≡ kind_if weak
+    → o ≡ get_or registers object 0 → v ≡ get_or registers value 0 → Grows old new → IfOk r (Writes u old new kind o field v) → OnOk r (MayRefer new v)
+    → OnOk r (MayBuildTouched u old new kind o field) → IfOk r (Steps u (Store weak object field value) registers old new)
+stored u weak object field value registers old new kind o v (Ok a) ek eo ev grows wrote target builds =
+    let there : Writes u old new (kind_if weak) o field v a = subst (λ (k : Kind). Writes u old new k o field v a) ek wrote in
+    record {
+      grows = grows;
+      builds = touch_of u (kind_if weak) object field registers old new o eo (subst (λ (k : Kind). MayBuildTouched u old new k o field) ek builds);
+      answers = (subst (λ x. Writes u old new (kind_if weak) x field (get_or registers value 0) a) eo (subst (λ x. Writes u old new (kind_if weak) o field x a) ev there), subst (MayRefer new) ev target);
+    }
+stored u weak object field value registers old new kind o v (Err e) ek eo ev grows wrote target builds = tt
+
+-- why one was not
+pub unstored : (u : Setup) (weak : Bool) (object field value : ℕ) (registers : List ℕ) (old new : Pass) (kind : Kind) (o v : ℕ) (r : Result ℕ Refusal) → kind ≡ kind_if weak
+    → o ≡ get_or registers object 0 → v ≡ get_or registers value 0 → IfErr r (ReferenceRefused u old new kind o field v)
+    → IfErr r (ReferenceRefused u old new (kind_if weak) (get_or registers object 0) field (get_or registers value 0))
+unstored u weak object field value registers old new kind o v r ek eo ev h =
+    subst (λ (x : ℕ). IfErr r (ReferenceRefused u old new (kind_if weak) x field (get_or registers value 0))) eo
+    (subst (λ (x : ℕ). IfErr r (ReferenceRefused u old new (kind_if weak) o field x)) ev (subst (λ (k : Kind). IfErr r (ReferenceRefused u old new k o field v)) ek h))
 
 -- a data word was read
 pub got : (u : Setup) (object field : ℕ) (registers : List ℕ) (old new : Pass) (o : ℕ) (r : Result ℕ Refusal) → o ≡ get_or registers object 0 → Grows old new × (did new ≡ did old)
@@ -62,23 +73,36 @@ put u object field value registers old new o (Ok a) e grows wrote builds = recor
 }
 put u object field value registers old new o (Err refusal) e grows wrote builds = tt
 
--- a reference was read
-pub loaded : (u : Setup) (to object field : ℕ) (registers : List ℕ) (old new : Pass) (o : ℕ) (r : Result ℕ Refusal) → o ≡ get_or registers object 0 → Grows old new × (did new ≡ did old)
-    → IfOk r (Reads u (seen new) Reference o field) → IfOk r (MayRefer new) → OnOk r (MayBuildTouched u old new Reference o field)
-    → IfOk r (Steps u (Load to object field) registers old new)
-loaded u to object field registers old new o (Ok a) e grows read known builds = record {
-  grows = grows.0;
-  answers = (grows.1, subst (λ x. Reads u (seen new) Reference x field a) e read, known);
-  builds = touch_of u Reference object field registers old new o e builds;
-}
-loaded u to object field registers old new o (Err refusal) e grows read known builds = tt
+-- a field that refers was read
+pub loaded : (u : Setup) (weak : Bool) (to object field : ℕ) (registers : List ℕ) (old new : Pass) (kind : Kind) (o : ℕ) (r : Result ℕ Refusal) → kind ≡ kind_if weak
+    → o ≡ get_or registers object 0 → Grows old new × (did new ≡ did old) → IfOk r (Reads u (seen new) kind o field) → IfOk r (MayRefer new)
+    → OnOk r (MayBuildTouched u old new kind o field) → IfOk r (Steps u (Load weak to object field) registers old new)
+loaded u weak to object field registers old new kind o (Ok a) ek eo grows read known builds =
+    let there : Reads u (seen new) (kind_if weak) o field a = subst (λ (k : Kind). Reads u (seen new) k o field a) ek read in
+    record {
+      grows = grows.0;
+      answers = (grows.1, subst (λ x. Reads u (seen new) (kind_if weak) x field a) eo there, known);
+      builds = touch_of u (kind_if weak) object field registers old new o eo (subst (λ (k : Kind). MayBuildTouched u old new k o field) ek builds);
+    }
+loaded u weak to object field registers old new kind o (Err refusal) ek eo grows read known builds = tt
+
+-- why one was not
+pub unloaded : (u : Setup) (weak : Bool) (object field : ℕ) (registers : List ℕ) (old new : Pass) (kind : Kind) (o : ℕ) (r : Result ℕ Refusal) → kind ≡ kind_if weak
+    → o ≡ get_or registers object 0 → IfErr r (FieldRefused u old new kind o field) → IfErr r (FieldRefused u old new (kind_if weak) (get_or registers object 0) field)
+unloaded u weak object field registers old new kind o r ek eo h =
+    subst (λ (x : ℕ). IfErr r (FieldRefused u old new (kind_if weak) x field)) eo (subst (λ (k : Kind). IfErr r (FieldRefused u old new k o field)) ek h)
+
+-- the page on which an object was made
+asked_touched : (u : Setup) (old new : Pass) (asked : Option Head) (place : ℕ) → AllocatesAsked u old new asked place → BuildsTouched (Some (page_at place)) old new
+asked_touched u old new None place h = absurd h
+asked_touched u old new (Some header) place h = made_touched u old new header place h
 
 -- an object was made
-pub made : (u : Setup) (to refs data_words tag : ℕ) (registers : List ℕ) (old new : Pass) (r : Result ℕ Refusal) → Grows old new
-    → IfOk r (Allocates u old new (header_word refs data_words tag)) → IfOk r (Steps u (New to refs data_words tag) registers old new)
-made u to refs data_words tag registers old new (Ok a) grows allocated =
-    record { grows = grows; answers = allocated; builds = made_touched u old new (header_word refs data_words tag) a allocated }
-made u to refs data_words tag registers old new (Err refusal) grows allocated = tt
+pub made : (u : Setup) (to refs weak data_words tag : ℕ) (registers : List ℕ) (old new : Pass) (r : Result ℕ Refusal) → Grows old new
+    → IfOk r (AllocatesAsked u old new (header_with u.heap.edition refs weak data_words tag)) → IfOk r (Steps u (New to refs weak data_words tag) registers old new)
+made u to refs weak data_words tag registers old new (Ok a) grows allocated =
+    record { grows = grows; answers = allocated; builds = asked_touched u old new (header_with u.heap.edition refs weak data_words tag) a allocated }
+made u to refs weak data_words tag registers old new (Err refusal) grows allocated = tt
 
 -- a root was taken
 pub rooted : (u : Setup) (to root : ℕ) (registers : List ℕ) (pass : Pass) (place : ℕ) → forward (live u.heap) (get_or u.heap.roots root 0) ≡ Some place
@@ -102,11 +126,11 @@ on_err (Err refusal) P h = h
 -- a line shows one value at most
 pub shows_one : (number : ℕ) (action : Action) (answer : ℕ) → length (shown_at number action answer) ≤ 1
 shows_one number (Root to root) answer = omega arith
-shows_one number (Load to object field) answer = omega arith
+shows_one number (Load weak to object field) answer = omega arith
 shows_one number (Get object field) answer = omega arith
-shows_one number (Store object field value) answer = omega arith
+shows_one number (Store weak object field value) answer = omega arith
 shows_one number (Put object field value) answer = omega arith
-shows_one number (New to refs data_words tag) answer = omega arith
+shows_one number (New to refs weak data_words tag) answer = omega arith
 shows_one number (Nil to) answer = omega arith
 
 -- where a root leads

@@ -136,7 +136,7 @@ module _ {L : Type 0} {B : Type 0} {g : Ghosts B} (space : Space L B g) (i : ℕ
           wrote_none = did_same same;
           did = sym (did_same same) ∙ sym (second.did i inside) ∙ sym (deeds_at last m i (omega (arith, inside, long)));
           knows = knows _ n i _ _ _ _ line journals merged;
-          starts = λ made p offset header at. knows_starts _ n i _ _ _ _ line u journals merged (λ k lt. made k (get_or first k m) (at_or first k m lt)) p offset header at;
+          starts = λ made p offset at. knows_starts _ n i _ _ _ _ line u journals merged (λ k lt. made k (get_or first k m) (at_or first k m lt)) p offset at;
           grows = call.0;
           refuses = subst (λ (x : Pass). Refuses u action registers (row m met i) x refusal) (sym acted_is) h;
           ends = λ x at. subst (λ (y : Pass). Grows (row m acted i) y) (row_at last m x i at) (second.grows i inside);

@@ -1,30 +1,30 @@
 -- What a line's call does to the mutator that runs it: in a replay and in a race alike.
 use Rattle.std.specs.Prelude.{◌≡◌, ℕ, ◌<◌, List, [], ◌∷◌, length, replicate, slice_index, slice_set, Some}
 use Rattle.heap_layout.specs.Heap.{live}
-use Rattle.heap_layout.specs.Header.{header_word, size_of}
+use Rattle.heap_layout.specs.Header.{header_with}
 use Rattle.heap_layout.specs.declared.kind.Kind.TheVariants as kinds
 use Rattle.page_plan.specs.Sliding.{forward}
 use Rattle.cell_steps.specs.Setup.{Setup}
 use Rattle.cell_steps.specs.Passes.{did, seen, MayRefer}
 use Rattle.cell_steps.specs.declared.pass.Pass.{Pass}
 use Rattle.page_cells.specs.Calls.{Grows}
-use Rattle.comp_access.specs.Allocations.{AllocationRefused, Allocates}
+use Rattle.comp_access.specs.Allocations.{AllocatesAsked, AskedRefused}
 use Rattle.comp_access.specs.Reads.{FieldRefused, Reads}
 use Rattle.comp_access.specs.Writes.{DataRefused, ReferenceRefused, Writes}
 use Rattle.call_refusals.specs.declared.refusal.Refusal.{Refusal}
 use Rattle.trace_text.specs.declared.line.Action.{Action}
 use Rattle.trace_text.specs.declared.line.Action.TheVariants.{Root, Load, Get, Store, Put, New, Nil}
-use Rattle.trace_steps.specs.Builds.{touched, BuildsTouched}
+use Rattle.trace_steps.specs.Builds.{kind_if, touched, BuildsTouched}
 use Rattle.trace_steps.specs.declared.shown.Shown.{Shown}
 
 -- the line's registers are there, and its root is
 abbrev pub Fits : Setup → Action → Type 0
 Fits u (Root to root) = (to < 16) × (root < length u.heap.roots)
-Fits u (Load to object field) = (to < 16) × (object < 16)
+Fits u (Load weak to object field) = (to < 16) × (object < 16)
 Fits u (Get object field) = object < 16
-Fits u (Store object field value) = (object < 16) × (value < 16)
+Fits u (Store weak object field value) = (object < 16) × (value < 16)
 Fits u (Put object field value) = object < 16
-Fits u (New to refs data_words tag) = to < 16
+Fits u (New to refs weak data_words tag) = to < 16
 Fits u (Nil to) = to < 16
 
 -- a mutator's registers at the start
@@ -34,45 +34,45 @@ null_registers = replicate 16 0
 -- a mutator's registers after a line whose call answered this
 abbrev pub registers_after : Action → List ℕ → ℕ → List ℕ
 registers_after (Root to root) registers answer = slice_set registers to answer
-registers_after (Load to object field) registers answer = slice_set registers to answer
+registers_after (Load weak to object field) registers answer = slice_set registers to answer
 registers_after (Get object field) registers answer = registers
-registers_after (Store object field value) registers answer = registers
+registers_after (Store weak object field value) registers answer = registers
 registers_after (Put object field value) registers answer = registers
-registers_after (New to refs data_words tag) registers answer = slice_set registers to answer
+registers_after (New to refs weak data_words tag) registers answer = slice_set registers to answer
 registers_after (Nil to) registers answer = slice_set registers to answer
 
 -- what line n shows whose call answered this
 abbrev pub shown_at : ℕ → Action → ℕ → List Shown
 shown_at n (Root to root) answer = []
-shown_at n (Load to object field) answer = []
+shown_at n (Load weak to object field) answer = []
 shown_at n (Get object field) answer = record { line = n; value = answer } ∷ []
-shown_at n (Store object field value) answer = []
+shown_at n (Store weak object field value) answer = []
 shown_at n (Put object field value) answer = []
-shown_at n (New to refs data_words tag) answer = []
+shown_at n (New to refs weak data_words tag) answer = []
 shown_at n (Nil to) answer = []
 
 -- What a line's call answers, which takes the mutator from `old` to `new`: a read what the journals then seen make of the pages, a write the stamp of its one
 -- entry, an allocation the new object. A root answers where it leads, and is no call.
 abbrev pub Answers : Setup → Action → List ℕ → Pass → Pass → ℕ → Type 0
 Answers u (Root to root) registers old new answer = (new ≡ old) × (forward (live u.heap) (slice_index u.heap.roots root) ≡ Some answer)
-Answers u (Load to object field) registers old new answer =
-    (did new ≡ did old) × Reads u (seen new) kinds.Reference (slice_index registers object) field answer × MayRefer new answer
+Answers u (Load weak to object field) registers old new answer =
+    (did new ≡ did old) × Reads u (seen new) (kind_if weak) (slice_index registers object) field answer × MayRefer new answer
 Answers u (Get object field) registers old new answer = (did new ≡ did old) × Reads u (seen new) kinds.Data (slice_index registers object) field answer
-Answers u (Store object field value) registers old new answer =
-    Writes u old new kinds.Reference (slice_index registers object) field (slice_index registers value) answer × MayRefer new (slice_index registers value)
+Answers u (Store weak object field value) registers old new answer =
+    Writes u old new (kind_if weak) (slice_index registers object) field (slice_index registers value) answer × MayRefer new (slice_index registers value)
 Answers u (Put object field value) registers old new answer = Writes u old new kinds.Data (slice_index registers object) field value answer
-Answers u (New to refs data_words tag) registers old new answer = Allocates u old new (header_word refs data_words tag) answer
+Answers u (New to refs weak data_words tag) registers old new answer = AllocatesAsked u old new (header_with u.heap.edition refs weak data_words tag) answer
 Answers u (Nil to) registers old new answer = (new ≡ old) × (answer ≡ 0)
 
 -- Why a line's call is refused.
 abbrev pub Refuses : Setup → Action → List ℕ → Pass → Pass → Refusal → Type 0
 Refuses u (Root to root) registers old new refusal = ⊥
-Refuses u (Load to object field) registers old new refusal = FieldRefused u old new kinds.Reference (slice_index registers object) field refusal
+Refuses u (Load weak to object field) registers old new refusal = FieldRefused u old new (kind_if weak) (slice_index registers object) field refusal
 Refuses u (Get object field) registers old new refusal = FieldRefused u old new kinds.Data (slice_index registers object) field refusal
-Refuses u (Store object field value) registers old new refusal =
-    ReferenceRefused u old new kinds.Reference (slice_index registers object) field (slice_index registers value) refusal
+Refuses u (Store weak object field value) registers old new refusal =
+    ReferenceRefused u old new (kind_if weak) (slice_index registers object) field (slice_index registers value) refusal
 Refuses u (Put object field value) registers old new refusal = DataRefused u old new kinds.Data (slice_index registers object) field refusal
-Refuses u (New to refs data_words tag) registers old new refusal = AllocationRefused u old new (size_of (header_word refs data_words tag)) refusal
+Refuses u (New to refs weak data_words tag) registers old new refusal = AskedRefused u old new (header_with u.heap.edition refs weak data_words tag) refusal
 Refuses u (Nil to) registers old new refusal = ⊥
 
 -- One line ran well. What the mutator had seen is a beginning of what it has then seen. It built no page but the one that the line touched, and has then seen that

@@ -5,7 +5,8 @@ use mathlib.Core.Option.{some}
 use lib.ListN.{get_elem?}
 use Rattle.heap_layout.specs.Heap.{live}
 use Rattle.heap_layout.specs.declared.kind.Kind.{Kind}
-use Rattle.heap_layout.specs.declared.kind.Kind.TheVariants.{Reference, Data}
+use Rattle.heap_layout.specs.declared.kind.Kind.TheVariants.{Reference, Weak, Data}
+use Rattle.heap_layout.specs.Header.{Head}
 use Rattle.page_plan.specs.Sliding.{shape_at}
 use Rattle.cell_steps.specs.Lists.{times, Each}
 use Rattle.cell_steps.specs.Passes.{builds_of, HasSeenBuilt}
@@ -19,18 +20,22 @@ use Rattle.comp_mutator.specs.declared.mutator.Mutator.{Mutator}
 use Rattle.trace_text.specs.declared.line.Action.{Action}
 use Rattle.trace_text.specs.declared.line.Action.TheVariants.{Root, Load, Get, Store, Put, New, Nil}
 
+-- the kind of the field that a load or a store names
+abbrev pub kind_if : Bool → Kind
+kind_if weak = cond weak Weak Reference
+
 -- the page of a slid object's field; an object that a line made lies on a page that was built then
 abbrev pub slid_page : Setup → Kind → ℕ → ℕ → Option ℕ
-slid_page u kind object field = option_map (λ (header : ℕ). page_at (place_of kind object header field)) (shape_at (live u.heap) object)
+slid_page u kind object field = option_map (λ (header : Head). page_at (place_of kind object header field)) (shape_at (live u.heap) object)
 
 -- the page that a line may have to build whose call answered this, where there is one: that of a slid object's field, or that of the object which it makes
 abbrev pub touched : Setup → Action → List ℕ → ℕ → Option ℕ
 touched u (Root to root) registers answer = None
-touched u (Load to object field) registers answer = slid_page u Reference (slice_index registers object) field
+touched u (Load weak to object field) registers answer = slid_page u (kind_if weak) (slice_index registers object) field
 touched u (Get object field) registers answer = slid_page u Data (slice_index registers object) field
-touched u (Store object field value) registers answer = slid_page u Reference (slice_index registers object) field
+touched u (Store weak object field value) registers answer = slid_page u (kind_if weak) (slice_index registers object) field
 touched u (Put object field value) registers answer = slid_page u Data (slice_index registers object) field
-touched u (New to refs data_words tag) registers answer = Some (page_at answer)
+touched u (New to refs weak data_words tag) registers answer = Some (page_at answer)
 touched u (Nil to) registers answer = None
 
 -- the page is among those that were built, each of which stands with the mutator that built it

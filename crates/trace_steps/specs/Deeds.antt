@@ -2,12 +2,11 @@
 use Rattle.std.specs.Prelude.{◌≡◌, ℕ, zero, suc, ◌<◌, ◌≤◌, List, [], ◌∷◌, length}
 use Rattle.comp_journal.specs.declared.entry.Entry.{Entry}
 use Rattle.cell_steps.specs.Setup.{Setup}
-use Rattle.cell_steps.specs.Lawful.{IsLawful}
+use Rattle.cell_steps.specs.Lawful.{HasHead, IsLawful}
 use Rattle.cell_steps.specs.Lists.{by, on, Each, Rises}
 use Rattle.cell_steps.specs.Locks.{Journals}
 use Rattle.cell_steps.specs.Passes.{did, seen, KnowsFresh}
 use Rattle.cell_steps.specs.declared.pass.Pass.{Pass}
-use Rattle.page_cells.specs.Objects.{HasHeader}
 use Rattle.comp_mutator.specs.Mutators.{pass_of}
 use Rattle.comp_mutator.specs.declared.mutator.Mutator.{Mutator}
 
@@ -48,7 +47,7 @@ HaveStart u mutators = (start : Journals) × HaveAll mutators start × ((p : ℕ
 
 -- the pass knows each object that it made
 abbrev pub KnowsMade : Pass → Type 0
-KnowsMade pass = (p offset header : ℕ) → HasHeader (on p (did pass)) offset header → KnowsFresh pass p offset
+KnowsMade pass = (p offset : ℕ) → HasHead (on p (did pass)) offset → KnowsFresh pass p offset
 
 -- each of these mutators knows what it made
 abbrev pub KnowTheirs : {L : Type 0} → List (Mutator L) → Type 0

@@ -1,10 +1,10 @@
 -- What a line of a trace answers by the journals of all pages, and the entries that it adds.
-use Rattle.std.specs.Prelude.{◌≡◌, ℕ, ◌+◌, ◌*◌, ◌<◌, ◌≤◌, List, [], ◌∷◌, ◌++◌, All, Some, slice_index}
-use Rattle.heap_layout.specs.Header.{header_word, size_of}
+use Rattle.std.specs.Prelude.{◌≡◌, ℕ, ◌+◌, ◌*◌, ◌<◌, ◌≤◌, List, [], ◌∷◌, ◌++◌, All, Option, None, Some, slice_index}
+use Rattle.heap_layout.specs.Header.{header_with, size_of, Head}
 use Rattle.heap_layout.specs.Heap.{live}
 use Rattle.page_plan.specs.Sliding as sliding
 use Rattle.heap_layout.specs.declared.kind.Kind.{Kind}
-use Rattle.heap_layout.specs.declared.kind.Kind.TheVariants.{Header, Reference, Data}
+use Rattle.heap_layout.specs.declared.kind.Kind.TheVariants.{Header, Data}
 use Rattle.comp_journal.specs.declared.entry.Entry.{Entry}
 use Rattle.cell_steps.specs.Setup.{Setup, address}
 use Rattle.cell_steps.specs.Lists.{by, on}
@@ -14,6 +14,7 @@ use Rattle.page_cells.specs.Objects.{page_at, offset_at}
 use Rattle.comp_access.specs.Fields.{IsFieldOf}
 use Rattle.comp_access.specs.Reads.{Reads}
 use Rattle.comp_access.specs.Allocations.{own_page}
+use Rattle.trace_steps.specs.Builds.{kind_if}
 use Rattle.trace_text.specs.declared.line.Action.{Action}
 use Rattle.trace_text.specs.declared.line.Action.TheVariants.{Root, Load, Get, Store, Put, New, Nil}
 
@@ -38,25 +39,32 @@ pub record WritesField (u : Setup) (journals : Journals) (m : ℕ) (kind : Kind)
 
 -- how many words of a page the objects have that the mutator made there
 abbrev pub used_by : Setup → Journals → ℕ → ℕ → ℕ
-used_by u journals m index = filled (by m (journals (own_page u m index)))
+used_by u journals m index = filled u.heap.edition (by m (journals (own_page u m index)))
 
 -- An object was made behind the objects on the lowest page of the mutator that has room.
-pub record MakesObject (u : Setup) (journals : Journals) (m header : ℕ) (added : List (ℕ × Entry)) (place : ℕ) : Type 0 where
+pub record MakesObject (u : Setup) (journals : Journals) (m : ℕ) (header : Head) (added : List (ℕ × Entry)) (place : ℕ) : Type 0 where
+  -- the header is one of the heap's edition
+  pub edition : header.edition ≡ u.heap.edition
   pub index : ℕ
   pub there : m + index * u.mutators < u.fresh
   pub room : used_by u journals m index + size_of header ≤ 64
   pub lower : (i : ℕ) → i < index → 64 < used_by u journals m i + size_of header
   pub place_is : place ≡ address (own_page u m index) (used_by u journals m index)
   pub stamp : ℕ
-  pub entry : IsOneEntry journals m (own_page u m index) Header (used_by u journals m index) header stamp added
+  pub entry : IsOneEntry journals m (own_page u m index) Header (used_by u journals m index) header.word stamp added
+
+-- the object with the header that was asked for was made; there is one
+abbrev pub MakesAsked : Setup → Journals → ℕ → Option Head → List (ℕ × Entry) → ℕ → Type 0
+MakesAsked u journals m None added place = ⊥
+MakesAsked u journals m (Some header) added place = MakesObject u journals m header added place
 
 -- What a line of mutator m answers, where its registers hold this and the pages have these journals, and the entries that it adds.
 abbrev pub Acts : Setup → Journals → ℕ → Action → List ℕ → List (ℕ × Entry) → ℕ → Type 0
 Acts u journals m (Root to root) registers added answer = (added ≡ []) × (sliding.forward (live u.heap) (slice_index u.heap.roots root) ≡ Some answer)
-Acts u journals m (Load to object field) registers added answer = (added ≡ []) × Reads u journals Reference (slice_index registers object) field answer
+Acts u journals m (Load weak to object field) registers added answer = (added ≡ []) × Reads u journals (kind_if weak) (slice_index registers object) field answer
 Acts u journals m (Get object field) registers added answer = (added ≡ []) × Reads u journals Data (slice_index registers object) field answer
-Acts u journals m (Store object field value) registers added answer =
-    WritesField u journals m Reference (slice_index registers object) field (slice_index registers value) added answer
+Acts u journals m (Store weak object field value) registers added answer =
+    WritesField u journals m (kind_if weak) (slice_index registers object) field (slice_index registers value) added answer
 Acts u journals m (Put object field value) registers added answer = WritesField u journals m Data (slice_index registers object) field value added answer
-Acts u journals m (New to refs data_words tag) registers added answer = MakesObject u journals m (header_word refs data_words tag) added answer
+Acts u journals m (New to refs weak data_words tag) registers added answer = MakesAsked u journals m (header_with u.heap.edition refs weak data_words tag) added answer
 Acts u journals m (Nil to) registers added answer = (added ≡ []) × (answer ≡ 0)

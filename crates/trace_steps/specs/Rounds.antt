@@ -4,12 +4,12 @@ use mathlib.Core.Option.{some}
 use lib.ListN.{get_elem?, get_or}
 use Rattle.comp_journal.specs.declared.entry.Entry.{Entry}
 use Rattle.cell_steps.specs.Setup.{Setup}
+use Rattle.cell_steps.specs.Lawful.{HasHead}
 use Rattle.cell_steps.specs.Locks.{Journals}
 use Rattle.cell_steps.specs.Lists.{StartsWith}
 use Rattle.cell_steps.specs.Passes.{builds_of, did, seen, HasSeenBuilt, KnowsFresh}
 use Rattle.cell_steps.specs.declared.pass.Pass.{Pass}
 use Rattle.page_cells.specs.Calls.{Grows, Meets}
-use Rattle.page_cells.specs.Objects.{HasHeader}
 use Rattle.comp_history.specs.Merged.{written_by}
 use Rattle.comp_mutator.specs.Mutators.{pass_of}
 use Rattle.comp_mutator.specs.declared.mutator.Mutator.{Mutator}
@@ -86,7 +86,7 @@ pub record IsTurnedDown {L : Type 0} (u : Setup) (i : ℕ) (before after : List 
   pub did : did old ≡ deeds_of after i
   pub knows : (p : ℕ) → seen old p ≡ journals p
   -- and each object that was made, where each mutator knew what it made
-  pub starts : KnowTheirs before → (p offset header : ℕ) → HasHeader (journals p) offset header → KnowsFresh old p offset
+  pub starts : KnowTheirs before → (p offset : ℕ) → HasHead (journals p) offset → KnowsFresh old p offset
   pub grows : Grows old new
   pub refuses : Refuses u action registers old new refusal
   pub ends : (m : Mutator L) → get_elem? after i ≡ some m → Grows new (pass_of m)

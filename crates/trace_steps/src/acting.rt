@@ -5,7 +5,7 @@ ghost use Rattle.page_cells.specs.Calls.{Grows};
 ghost use Rattle.comp_mutator.specs.Mutators.{pass_of, setup_of, IsMutatorOf};
 ghost use Rattle.trace_steps.specs.Acting.{registers_after, Fits, Refuses, Steps};
 
-use crate::registers::{held, root_at};
+use crate::registers::{held, kind_if, root_at};
 use call_refusals::refusal::Refusal;
 use comp_mutator::mutator::Mutator;
 use comp_mutator::space::Space;
@@ -37,8 +37,14 @@ pub(crate) fn act<L: Ledger, B: Builder>(
             registers[usize::from(to)] = place;
             Ok(place)
         }
-        Action::Load { to, object, field } => {
-            let answer = space.try_read_ref(alloc, m, held(registers, object), field);
+        Action::Load {
+            weak,
+            to,
+            object,
+            field,
+        } => {
+            let kind = kind_if(weak);
+            let answer = space.try_read_referring(alloc, m, kind, held(registers, object), field);
             if let Ok(word) = answer {
                 registers[usize::from(to)] = word;
             }
@@ -48,12 +54,14 @@ pub(crate) fn act<L: Ledger, B: Builder>(
             space.try_read_data(alloc, m, held(registers, object), field)
         }
         Action::Store {
+            weak,
             object,
             field,
             value,
         } => {
             let value = held(registers, value);
-            space.try_write_ref(alloc, m, held(registers, object), field, value)
+            let kind = kind_if(weak);
+            space.try_write_referring(alloc, m, kind, held(registers, object), field, value)
         }
         Action::Put {
             object,
@@ -63,10 +71,11 @@ pub(crate) fn act<L: Ledger, B: Builder>(
         Action::New {
             to,
             refs,
+            weak,
             data_words,
             tag,
         } => {
-            let place = space.try_alloc(alloc, m, refs, data_words, tag)?;
+            let place = space.try_alloc_weak(alloc, m, refs, weak, data_words, tag)?;
             registers[usize::from(to)] = place;
             Ok(place)
         }

@@ -1,10 +1,13 @@
-//! Registers, and the roots that they take.
-ghost use Rattle.std.specs.Prelude.{◌≡◌, ◌<◌, Some, length, slice_index};
+//! Registers, the roots that they take, and the kind of the field that a load or a store names.
+ghost use Rattle.std.specs.Prelude.{◌≡◌, ◌<◌, Some, true, length, slice_index};
+ghost use Rattle.heap_layout.specs.Kinds.{refers};
 ghost use Rattle.heap_layout.specs.Heap.{live};
 ghost use Rattle.page_plan.specs.Sliding.{forward};
 ghost use Rattle.comp_mutator.specs.Mutators.{setup_of};
+ghost use Rattle.trace_steps.specs.Builds.{kind_if};
 
 use comp_mutator::space::Space;
+use heap_layout::kind::Kind;
 use page_plan::builder::Builder;
 use std::sync::ledger::Ledger;
 
@@ -22,4 +25,12 @@ pub fn root_at<L: Ledger, B: Builder>(space: &Space<L, B>, root: u16) -> u64
     ensures { forward (live (setup_of space.now).heap) (slice_index (setup_of space.now).heap.roots root) ≡ Some result }
 {
     space.roots()[usize::from(root)]
+}
+
+/// The kind of the field that a load or a store names: weak where `weak` holds, and else a reference. Either refers.
+pub fn kind_if(weak: bool) -> Kind
+    ensures kind { result ≡ kind_if weak }
+    ensures refers { refers result ≡ true }
+{
+    if weak { Kind::Weak } else { Kind::Reference }
 }

@@ -72,12 +72,12 @@ nil : (ms rs n m a : ℕ) → IsBound ms → judged ms rs n (Some (with (clipped
 nil ms rs n m a ms-bound = judged_alike ms rs n m (Nil (clipped a)) (Nil a) ms-bound (one 16 a (omega arith)) refl refl
     (λ r l o. rw (small 16 a (omega arith) r) refl)
 
-load : (ms rs n m a b c : ℕ) → IsBound ms → judged ms rs n (Some (with (clipped m) (Load (clipped a) (clipped b) (clipped c)))) ≡ judged ms rs n (Some (with m (Load a b c)))
-load ms rs n m a b c ms-bound = judged_alike ms rs n m (Load (clipped a) (clipped b) (clipped c)) (Load a b c) ms-bound (two 16 a b (omega arith)) (le (2 ^ 16) c (omega arith)) refl
+load : (w : Bool) (ms rs n m a b c : ℕ) → IsBound ms → judged ms rs n (Some (with (clipped m) (Load w (clipped a) (clipped b) (clipped c)))) ≡ judged ms rs n (Some (with m (Load w a b c)))
+load w ms rs n m a b c ms-bound = judged_alike ms rs n m (Load w (clipped a) (clipped b) (clipped c)) (Load w a b c) ms-bound (two 16 a b (omega arith)) (le (2 ^ 16) c (omega arith)) refl
     (λ r l o. let parts = both 16 a b (omega arith) r in rw (parts.0, parts.1, same (2 ^ 16) c (omega arith) l) refl)
 
-store : (ms rs n m a b c : ℕ) → IsBound ms → judged ms rs n (Some (with (clipped m) (Store (clipped a) (clipped b) (clipped c)))) ≡ judged ms rs n (Some (with m (Store a b c)))
-store ms rs n m a b c ms-bound = judged_alike ms rs n m (Store (clipped a) (clipped b) (clipped c)) (Store a b c) ms-bound (two 16 a c (omega arith)) (le (2 ^ 16) b (omega arith)) refl
+store : (w : Bool) (ms rs n m a b c : ℕ) → IsBound ms → judged ms rs n (Some (with (clipped m) (Store w (clipped a) (clipped b) (clipped c)))) ≡ judged ms rs n (Some (with m (Store w a b c)))
+store w ms rs n m a b c ms-bound = judged_alike ms rs n m (Store w (clipped a) (clipped b) (clipped c)) (Store w a b c) ms-bound (two 16 a c (omega arith)) (le (2 ^ 16) b (omega arith)) refl
     (λ r l o. let parts = both 16 a c (omega arith) r in rw (parts.0, parts.1, same (2 ^ 16) b (omega arith) l) refl)
 
 put : (ms rs n m a b c : ℕ) → IsBound ms → judged ms rs n (Some (with (clipped m) (Put (clipped a) (clipped b) (clipped c)))) ≡ judged ms rs n (Some (with m (Put a b c)))
@@ -85,11 +85,11 @@ put ms rs n m a b c ms-bound = judged_alike ms rs n m (Put (clipped a) (clipped 
     (rw (le (2 ^ 16) b (omega arith), le (2 ^ 64) c (omega arith)) refl) refl
     (λ r l o. let parts = or_parts _ _ l in rw (small 16 a (omega arith) r, same (2 ^ 16) b (omega arith) parts.0, same (2 ^ 64) c (omega arith) parts.1) refl)
 
-new : (ms rs n m a b c d : ℕ) → IsBound ms → judged ms rs n (Some (with (clipped m) (New (clipped a) (clipped b) (clipped c) (clipped d)))) ≡ judged ms rs n (Some (with m (New a b c d)))
-new ms rs n m a b c d ms-bound = judged_alike ms rs n m (New (clipped a) (clipped b) (clipped c) (clipped d)) (New a b c d) ms-bound (one 16 a (omega arith))
-    (rw (le (2 ^ 16) b (omega arith), le (2 ^ 16) c (omega arith), le (2 ^ 32) d (omega arith)) refl) refl
-    (λ r l o. let parts = or_parts _ _ l in let more = or_parts _ _ parts.1 in
-    rw (small 16 a (omega arith) r, same (2 ^ 16) b (omega arith) parts.0, same (2 ^ 16) c (omega arith) more.0, same (2 ^ 32) d (omega arith) more.1) refl)
+new : (ms rs n m a b c d e : ℕ) → IsBound ms → judged ms rs n (Some (with (clipped m) (New (clipped a) (clipped b) (clipped c) (clipped d) (clipped e)))) ≡ judged ms rs n (Some (with m (New a b c d e)))
+new ms rs n m a b c d e ms-bound = judged_alike ms rs n m (New (clipped a) (clipped b) (clipped c) (clipped d) (clipped e)) (New a b c d e) ms-bound (one 16 a (omega arith))
+    (rw (le (2 ^ 16) b (omega arith), le (2 ^ 16) c (omega arith), le (2 ^ 16) d (omega arith), le (2 ^ 32) e (omega arith)) refl) refl
+    (λ r l o. let parts = or_parts _ _ l in let more = or_parts _ _ parts.1 in let last = or_parts _ _ more.1 in
+    rw (small 16 a (omega arith) r, same (2 ^ 16) b (omega arith) parts.0, same (2 ^ 16) c (omega arith) more.0, same (2 ^ 16) d (omega arith) last.0, same (2 ^ 32) e (omega arith) last.1) refl)
 
 -- the same where a name chooses the line
 abbrev Alike : ℕ → ℕ → ℕ → ℕ → Option Action → Option Action → Type 0
@@ -114,10 +114,15 @@ told_apart ms rs n m name (a ∷ b ∷ []) x y =
     (one_name ms rs n m g (Get (clipped a) (clipped b)) (Get a b) (get ms rs n m a b (omega arith)))
 told_apart ms rs n m name (a ∷ b ∷ c ∷ []) u v =
     let l = bytes_eq name (codes "load") in let s = bytes_eq name (codes "store") in let p = bytes_eq name (codes "put") in
+    let weak_l = bytes_eq name (codes "wload") in let weak_s = bytes_eq name (codes "wstore") in
     let x = clipped a in let y = clipped b in let z = clipped c in
-    other_name ms rs n m l (Load x y z) (Load a b c) (cond s (Some (Store x y z)) (cond p (Some (Put x y z)) None)) (cond s (Some (Store a b c)) (cond p (Some (Put a b c)) None)) (load ms rs n m a b c (omega arith))
-    (other_name ms rs n m s (Store x y z) (Store a b c) (cond p (Some (Put x y z)) None) (cond p (Some (Put a b c)) None) (store ms rs n m a b c (omega arith))
-    (one_name ms rs n m p (Put x y z) (Put a b c) (put ms rs n m a b c (omega arith))))
+    other_name ms rs n m l (Load false x y z) (Load false a b c) _ _ (load false ms rs n m a b c (omega arith))
+    (other_name ms rs n m s (Store false x y z) (Store false a b c) _ _ (store false ms rs n m a b c (omega arith))
+    (other_name ms rs n m p (Put x y z) (Put a b c) _ _ (put ms rs n m a b c (omega arith))
+    (other_name ms rs n m weak_l (Load true x y z) (Load true a b c) _ _ (load true ms rs n m a b c (omega arith))
+    (one_name ms rs n m weak_s (Store true x y z) (Store true a b c) (store true ms rs n m a b c (omega arith))))))
 told_apart ms rs n m name (a ∷ b ∷ c ∷ d ∷ []) x y =
-    one_name ms rs n m (bytes_eq name (codes "new")) (New (clipped a) (clipped b) (clipped c) (clipped d)) (New a b c d) (new ms rs n m a b c d (omega arith))
-told_apart ms rs n m name (a ∷ b ∷ c ∷ d ∷ e ∷ ns) x y = refl
+    one_name ms rs n m (bytes_eq name (codes "new")) (New (clipped a) (clipped b) 0 (clipped c) (clipped d)) (New a b 0 c d) (new ms rs n m a b 0 c d (omega arith))
+told_apart ms rs n m name (a ∷ b ∷ c ∷ d ∷ e ∷ []) x y =
+    one_name ms rs n m (bytes_eq name (codes "wnew")) (New (clipped a) (clipped b) (clipped c) (clipped d) (clipped e)) (New a b c d e) (new ms rs n m a b c d e (omega arith))
+told_apart ms rs n m name (a ∷ b ∷ c ∷ d ∷ e ∷ f ∷ ns) x y = refl

@@ -1,5 +1,5 @@
 -- What the text of a trace says, line by line.
-use Rattle.std.specs.Prelude.{◌≡◌, ℕ, ◌+◌, ◌-◌, ◌^◌, ◌==◌, ◌&&◌, ◌||◌, Bool, false, List, [], ◌∷◌, Option, None, Some, Result, Ok, Err, length, min, is_ok, nat_le, nat_lt, slice_index, codes, option_map, option_and_then, if◌then◌else◌}
+use Rattle.std.specs.Prelude.{◌≡◌, ℕ, ◌+◌, ◌-◌, ◌^◌, ◌==◌, ◌&&◌, ◌||◌, Bool, true, false, List, [], ◌∷◌, Option, None, Some, Result, Ok, Err, length, min, is_ok, nat_le, nat_lt, slice_index, codes, option_map, option_and_then, if◌then◌else◌}
 use Rattle.std.specs.List.{slice_split, list_all, list_any}
 use Rattle.std.specs.Str.{bytes_eq}
 use Rattle.std.specs.Char.{is_ascii_digit}
@@ -38,10 +38,13 @@ action_of name (a ∷ b ∷ []) =
     if bytes_eq name (codes "root") then Some (Root a b)
     else (if bytes_eq name (codes "get") then Some (Get a b) else None)
 action_of name (a ∷ b ∷ c ∷ []) =
-    if bytes_eq name (codes "load") then Some (Load a b c)
-    else (if bytes_eq name (codes "store") then Some (Store a b c)
-    else (if bytes_eq name (codes "put") then Some (Put a b c) else None))
-action_of name (a ∷ b ∷ c ∷ d ∷ []) = if bytes_eq name (codes "new") then Some (New a b c d) else None
+    if bytes_eq name (codes "load") then Some (Load false a b c)
+    else (if bytes_eq name (codes "store") then Some (Store false a b c)
+    else (if bytes_eq name (codes "put") then Some (Put a b c)
+    else (if bytes_eq name (codes "wload") then Some (Load true a b c)
+    else (if bytes_eq name (codes "wstore") then Some (Store true a b c) else None))))
+action_of name (a ∷ b ∷ c ∷ d ∷ []) = if bytes_eq name (codes "new") then Some (New a b 0 c d) else None
+action_of name (a ∷ b ∷ c ∷ d ∷ e ∷ []) = if bytes_eq name (codes "wnew") then Some (New a b c d e) else None
 action_of name _ = None
 
 -- the line of this mutator's number, name and numbers
@@ -57,31 +60,31 @@ line_of _ = None
 -- the registers that a line names
 abbrev pub registers_of : Action → List ℕ
 registers_of (Root to root) = to ∷ []
-registers_of (Load to object field) = to ∷ object ∷ []
+registers_of (Load weak to object field) = to ∷ object ∷ []
 registers_of (Get object field) = object ∷ []
-registers_of (Store object field value) = object ∷ value ∷ []
+registers_of (Store weak object field value) = object ∷ value ∷ []
 registers_of (Put object field value) = object ∷ []
-registers_of (New to refs data_words tag) = to ∷ []
+registers_of (New to refs weak data_words tag) = to ∷ []
 registers_of (Nil to) = to ∷ []
 
 -- a number of the line is past its type
 abbrev pub is_too_large : Action → Bool
 is_too_large (Root to root) = false
-is_too_large (Load to object field) = nat_le (2 ^ 16) field
+is_too_large (Load weak to object field) = nat_le (2 ^ 16) field
 is_too_large (Get object field) = nat_le (2 ^ 16) field
-is_too_large (Store object field value) = nat_le (2 ^ 16) field
+is_too_large (Store weak object field value) = nat_le (2 ^ 16) field
 is_too_large (Put object field value) = nat_le (2 ^ 16) field || nat_le (2 ^ 64) value
-is_too_large (New to refs data_words tag) = nat_le (2 ^ 16) refs || (nat_le (2 ^ 16) data_words || nat_le (2 ^ 32) tag)
+is_too_large (New to refs weak data_words tag) = nat_le (2 ^ 16) refs || (nat_le (2 ^ 16) weak || (nat_le (2 ^ 16) data_words || nat_le (2 ^ 32) tag))
 is_too_large (Nil to) = false
 
 -- the roots that a line names
 abbrev pub roots_of : Action → List ℕ
 roots_of (Root to root) = root ∷ []
-roots_of (Load to object field) = []
+roots_of (Load weak to object field) = []
 roots_of (Get object field) = []
-roots_of (Store object field value) = []
+roots_of (Store weak object field value) = []
 roots_of (Put object field value) = []
-roots_of (New to refs data_words tag) = []
+roots_of (New to refs weak data_words tag) = []
 roots_of (Nil to) = []
 
 -- what follows from a result that is Ok, or the fault

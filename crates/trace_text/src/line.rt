@@ -6,8 +6,9 @@ pub enum Action {
         to: u8,
         root: u16,
     },
-    /// A register becomes a reference field of the object in another.
+    /// A register becomes a reference field of the object in another, or, where `weak` holds, a weak one.
     Load {
+        weak: bool,
         to: u8,
         object: u8,
         field: u16,
@@ -17,8 +18,9 @@ pub enum Action {
         object: u8,
         field: u16,
     },
-    /// A reference field of the object in a register becomes what another holds.
+    /// A reference field of the object in a register, or, where `weak` holds, a weak one, becomes what another holds.
     Store {
+        weak: bool,
         object: u8,
         field: u16,
         value: u8,
@@ -29,10 +31,11 @@ pub enum Action {
         field: u16,
         value: u64,
     },
-    /// A register becomes a fresh object.
+    /// A register becomes a fresh object, with so many references, weak words and data words, and a tag. A line `new` has no weak words.
     New {
         to: u8,
         refs: u16,
+        weak: u16,
         data_words: u16,
         tag: u32,
     },

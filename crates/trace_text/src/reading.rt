@@ -78,15 +78,17 @@ fn root_line(mutator: u128, to: u128, root: u128, by: Limits) -> Result<Line, Tr
 
 fn load_line(
     mutator: u128,
+    weak: bool,
     to: u128,
     object: u128,
     field: u128,
     by: Limits,
 ) -> Result<Line, TraceFault>
-    ensures { result ≡ judged by.mutators by.roots by.n (Some (record { mutator = mutator; action = actions.Load to object field })) }
+    ensures { result ≡ judged by.mutators by.roots by.n (Some (record { mutator = mutator; action = actions.Load weak to object field })) }
 {
     let mutator = mutator_number(mutator, by.mutators, by.n)?;
     let action = Action::Load {
+        weak,
         to: register(to, by.n)?,
         object: register(object, by.n)?,
         field: read_field(field, by.n)?,
@@ -107,15 +109,17 @@ fn get_line(mutator: u128, object: u128, field: u128, by: Limits) -> Result<Line
 
 fn store_line(
     mutator: u128,
+    weak: bool,
     object: u128,
     field: u128,
     value: u128,
     by: Limits,
 ) -> Result<Line, TraceFault>
-    ensures { result ≡ judged by.mutators by.roots by.n (Some (record { mutator = mutator; action = actions.Store object field value })) }
+    ensures { result ≡ judged by.mutators by.roots by.n (Some (record { mutator = mutator; action = actions.Store weak object field value })) }
 {
     let mutator = mutator_number(mutator, by.mutators, by.n)?;
     let action = Action::Store {
+        weak,
         object: register(object, by.n)?,
         value: register(value, by.n)?,
         field: read_field(field, by.n)?,
@@ -145,16 +149,18 @@ fn new_line(
     mutator: u128,
     to: u128,
     refs: u128,
+    weak: u128,
     data_words: u128,
     tag: u128,
     by: Limits,
 ) -> Result<Line, TraceFault>
-    ensures { result ≡ judged by.mutators by.roots by.n (Some (record { mutator = mutator; action = actions.New to refs data_words tag })) }
+    ensures { result ≡ judged by.mutators by.roots by.n (Some (record { mutator = mutator; action = actions.New to refs weak data_words tag })) }
 {
     let mutator = mutator_number(mutator, by.mutators, by.n)?;
     let action = Action::New {
         to: register(to, by.n)?,
         refs: read_field(refs, by.n)?,
+        weak: read_field(weak, by.n)?,
         data_words: read_field(data_words, by.n)?,
         tag: read_tag(tag, by.n)?,
     };
@@ -213,11 +219,15 @@ fn line_of_three(
     ensures { result ≡ judged by.mutators by.roots by.n (line_with mutator name.now (first ∷ second ∷ third ∷ [])) }
 {
     if name == b"load".as_slice() {
-        load_line(mutator, first, second, third, by)
+        load_line(mutator, false, first, second, third, by)
     } else if name == b"store".as_slice() {
-        store_line(mutator, first, second, third, by)
+        store_line(mutator, false, first, second, third, by)
     } else if name == b"put".as_slice() {
         put_line(mutator, first, second, third, by)
+    } else if name == b"wload".as_slice() {
+        load_line(mutator, true, first, second, third, by)
+    } else if name == b"wstore".as_slice() {
+        store_line(mutator, true, first, second, third, by)
     } else {
         Err(TraceFault::BadLine(by.n))
     }
@@ -236,7 +246,27 @@ fn line_of_four(
     ensures { result ≡ judged by.mutators by.roots by.n (line_with mutator name.now (to ∷ refs ∷ data_words ∷ tag ∷ [])) }
 {
     if name == b"new".as_slice() {
-        new_line(mutator, to, refs, data_words, tag, by)
+        new_line(mutator, to, refs, 0, data_words, tag, by)
+    } else {
+        Err(TraceFault::BadLine(by.n))
+    }
+}
+
+/// The same of five numbers.
+fn line_of_five(
+    mutator: u128,
+    name: &[u8],
+    to: u128,
+    refs: u128,
+    weak: u128,
+    data_words: u128,
+    tag: u128,
+    by: Limits,
+) -> Result<Line, TraceFault>
+    ensures { result ≡ judged by.mutators by.roots by.n (line_with mutator name.now (to ∷ refs ∷ weak ∷ data_words ∷ tag ∷ [])) }
+{
+    if name == b"wnew".as_slice() {
+        new_line(mutator, to, refs, weak, data_words, tag, by)
     } else {
         Err(TraceFault::BadLine(by.n))
     }
@@ -252,6 +282,9 @@ fn judge(mutator: u128, name: &[u8], numbers: &[u128], by: Limits) -> Result<Lin
         [first, second, third] => line_of_three(mutator, name, *first, *second, *third, by),
         [to, refs, data_words, tag] => {
             line_of_four(mutator, name, *to, *refs, *data_words, *tag, by)
+        }
+        [to, refs, weak, data_words, tag] => {
+            line_of_five(mutator, name, *to, *refs, *weak, *data_words, *tag, by)
         }
         _ => Err(TraceFault::BadLine(by.n)),
     }

@@ -1,24 +1,26 @@
-use Rattle.std.proofs.Common.{◌≡◌, ◌<◌, ◌∙◌, Ok, IfErr, IfOk, ℕ, ap, get_or, refl, set, sym, subst}
+use Rattle.std.proofs.Common.{◌≡◌, ◌<◌, ◌∙◌, Ok, IfErr, IfOk, ℕ, ap, refl, set, sym, subst}
 use Rattle.std.proofs.lemmas.Result.{IfOk-from_err, on_err_weaker}
-use Rattle.heap_layout.specs.declared.kind.Kind.TheVariants.{Reference, Data}
+use Rattle.heap_layout.specs.declared.kind.Kind.TheVariants.{Data}
 use Rattle.cell_steps.specs.Passes.{did}
 use Rattle.page_cells.specs.Calls.{Grows}
 use Rattle.comp_access.specs.Reads.{FieldRefused}
-use Rattle.comp_access.specs.Writes.{DataRefused, ReferenceRefused}
+use Rattle.comp_access.specs.Writes.{DataRefused}
 use Rattle.comp_access.proofs.Answering.{err_anyway}
 use Rattle.trace_steps.specs.Acting.{registers_after, Fits, Refuses, Steps}
 use Rattle.trace_text.specs.declared.line.Action.{Action}
 use Rattle.comp_mutator.specs.Mutators.{pass_of, setup_of}
-use Rattle.trace_steps.proofs.OneLine.{got, loaded, made, nulled, on_err, on_ok, put, rooted, stored}
+use Rattle.trace_steps.proofs.OneLine.{got, loaded, made, nulled, on_err, on_ok, put, rooted, stored, unloaded, unstored}
 use Rattle.trace_steps.proofs.acting.act.Goals as goal
 
 pub returns-in_default-clause-refused : goal.returns-in_default-clause-refused
 returns-in_default-clause-refused g c =
     let u = setup_of c.args.space.now in
     let old = pass_of c.args.m.now in
-    let new = pass_of c.try_read_ref-answer.new.m in
-    subst (λ (a : Action). IfErr c.try_read_ref-answer.result (Refuses u a c.args.registers.now old new)) (sym c.in-Load.is)
-    (subst (λ (o : ℕ). IfErr c.try_read_ref-answer.result (FieldRefused u old new Reference o c.in-Load.field)) c.held.ensures c.try_read_ref-answer.ensures.refused)
+    let call = c.try_read_referring-answer in
+    let new = pass_of call.new.m in
+    let registers = c.args.registers.now in
+    subst (λ (a : Action). IfErr call.result (Refuses u a registers old new)) (sym c.in-Load.is)
+    (unloaded u c.in-Load.weak c.in-Load.object c.in-Load.field registers old new c.kind_if-kind.result c.held.result call.result c.kind_if-kind.ensures.kind c.held.ensures call.ensures.refused)
 
 pub returns-in-Root : goal.returns-in-Root
 returns-in-Root g c =
@@ -56,13 +58,15 @@ returns-in-Ok g c =
     let u = setup_of c.args.space.now in
     let old = pass_of c.args.m.now in
     let registers = c.args.registers.now in
-    let new = pass_of c.try_read_ref-answer.new.m in
-    let told = c.try_read_ref-answer.ensures in
+    let new = pass_of c.try_read_referring-answer.new.m in
+    let told = c.try_read_referring-answer.ensures in
     let word = c.in-Ok.word in
+    let kind = c.kind_if-kind in
     let is = sym c.in-Load.is in
     record {
       of = told.of;
-      went = subst (λ (a : Action). Steps u a registers old new word) is (loaded u c.in-Load.to c.in-Load.object c.in-Load.field registers old new c.held.result (Ok word) c.held.ensures told.grows c.in-Ok.ensures.read c.in-Ok.ensures.known c.in-Ok.ensures.builds);
+      went = subst (λ (a : Action). Steps u a registers old new word) is (loaded u c.in-Load.weak c.in-Load.to c.in-Load.object c.in-Load.field registers old new kind.result c.held.result (Ok word) kind.ensures.kind c.held.ensures told.grows
+          c.in-Ok.ensures.read c.in-Ok.ensures.known c.in-Ok.ensures.builds);
       registers = ap (λ to. set registers to word) c.from-in-Ok.ensures ∙ ap (λ (a : Action). registers_after a registers word) is;
       grows = tt;
       did = tt;
@@ -74,13 +78,13 @@ returns-in_ok-place-in-New g c =
     let u = setup_of c.args.space.now in
     let old = pass_of c.args.m.now in
     let registers = c.args.registers.now in
-    let new = pass_of c.try_alloc.new.m in
+    let new = pass_of c.try_alloc_weak.new.m in
     let place = c.in_ok-place-in-New.place in
     let allocated = c.in_ok-place-in-New.ensures.allocated in
     let is = sym c.in-New.is in
     record {
-      of = c.try_alloc.ensures.of;
-      went = subst (λ (a : Action). Steps u a registers old new place) is (made u c.in-New.to c.in-New.refs c.in-New.data_words c.in-New.tag registers old new (Ok place) c.try_alloc.ensures.grows allocated);
+      of = c.try_alloc_weak.ensures.of;
+      went = subst (λ (a : Action). Steps u a registers old new place) is (made u c.in-New.to c.in-New.refs c.in-New.weak c.in-New.data_words c.in-New.tag registers old new (Ok place) c.try_alloc_weak.ensures.grows allocated);
       registers = ap (λ to. set registers to place) c.from-in-New.ensures ∙ ap (λ (a : Action). registers_after a registers place) is;
       grows = tt;
       did = tt;
@@ -113,21 +117,23 @@ returns-in-Store g c =
     let u = setup_of c.args.space.now in
     let old = pass_of c.args.m.now in
     let registers = c.args.registers.now in
-    let new = pass_of c.try_write_ref.new.m in
-    let r = c.try_write_ref.result in
-    let told = c.try_write_ref.ensures in
+    let new = pass_of c.try_write_referring.new.m in
+    let r = c.try_write_referring.result in
+    let told = c.try_write_referring.ensures in
     let object = c.held-in-Store in
     let field = c.in-Store.field in
+    let value = c.held-value in
+    let kind = c.kind_if-kind-in-Store in
     let is = sym c.in-Store.is in
     record {
       of = told.of;
-      went = subst (λ (a : Action). IfOk r (Steps u a registers old new)) is (stored u c.in-Store.object field c.in-Store.value registers old new object.result c.held-value.result r object.ensures c.held-value.ensures told.grows told.wrote told.target told.builds);
+      went = subst (λ (a : Action). IfOk r (Steps u a registers old new)) is (stored u c.in-Store.weak c.in-Store.object field c.in-Store.value registers old new kind.result object.result value.result r
+          kind.ensures.kind object.ensures value.ensures told.grows told.wrote told.target told.builds);
       registers = on_ok r (λ answer. registers ≡ registers_after c.args.action registers answer) (λ answer. ap (λ (a : Action). registers_after a registers answer) is);
       grows = on_err r (Grows old new) told.grows;
       did = on_err_weaker r (λ same. (same, refl)) told.did;
       refused = subst (λ (a : Action). IfErr r (Refuses u a registers old new)) is
-          (subst (λ (o : ℕ). IfErr r (ReferenceRefused u old new Reference o field (get_or registers c.in-Store.value 0))) object.ensures
-          (subst (λ (x : ℕ). IfErr r (ReferenceRefused u old new Reference object.result field x)) c.held-value.ensures told.refused));
+          (unstored u c.in-Store.weak c.in-Store.object field c.in-Store.value registers old new kind.result object.result value.result r kind.ensures.kind object.ensures value.ensures told.refused);
     }
 
 pub returns-in-Put : goal.returns-in-Put
@@ -155,17 +161,17 @@ pub returns-in_err-place-in-New : goal.returns-in_err-place-in-New
 returns-in_err-place-in-New g c =
     let u = setup_of c.args.space.now in
     let old = pass_of c.args.m.now in
-    let new = pass_of c.try_alloc.new.m in
+    let new = pass_of c.try_alloc_weak.new.m in
     let registers = c.args.registers.now in
     let back = c.from_residual.result in
     let none = c.from_residual.ensures.0 in
     let same = c.from_residual.ensures.1 in
     let why = c.in_err-place-in-New.ensures in
     record {
-      of = c.try_alloc.ensures.of;
+      of = c.try_alloc_weak.ensures.of;
       went = IfOk-from_err back _ none;
       registers = IfOk-from_err back _ none;
-      grows = on_err back (Grows old new) c.try_alloc.ensures.grows;
+      grows = on_err back (Grows old new) c.try_alloc_weak.ensures.grows;
       did = on_err back ((did new ≡ did old) × (registers ≡ registers)) (why.did.0, refl);
       refused = subst (λ (a : Action). IfErr back (Refuses u a registers old new)) (sym c.in-New.is) (err_anyway back _ c.in_err-place-in-New.field-0.0 same why.refused);
     }
@@ -200,17 +206,23 @@ bounds-registers-from-in-New g c = subst (λ n. n < 16) (sym c.from-in-New.ensur
 pub bounds-registers-from-in-Nil : goal.bounds-registers-from-in-Nil
 bounds-registers-from-in-Nil g c = subst (λ n. n < 16) (sym c.from-in-Nil.ensures) (subst (Fits (setup_of c.args.space.now)) c.in-Nil.is c.requires.fits)
 
-pub try_read_ref-answer-requires-after_bounds : goal.try_read_ref-answer-requires-after_bounds
-try_read_ref-answer-requires-after_bounds g c κs within = c.requires.of
+pub try_read_referring-answer-requires-clause-of : goal.try_read_referring-answer-requires-clause-of
+try_read_referring-answer-requires-clause-of g c κs within = c.requires.of
+
+pub try_read_referring-answer-requires-clause-refers : goal.try_read_referring-answer-requires-clause-refers
+try_read_referring-answer-requires-clause-refers g c κs within = c.kind_if-kind.ensures.refers
 
 pub try_read_data-requires-after_bounds : goal.try_read_data-requires-after_bounds
 try_read_data-requires-after_bounds g c κs within = c.requires.of
 
-pub try_write_ref-requires-after_bounds : goal.try_write_ref-requires-after_bounds
-try_write_ref-requires-after_bounds g c κs within = c.requires.of
+pub try_write_referring-requires-clause-of : goal.try_write_referring-requires-clause-of
+try_write_referring-requires-clause-of g c κs within = c.requires.of
+
+pub try_write_referring-requires-clause-refers : goal.try_write_referring-requires-clause-refers
+try_write_referring-requires-clause-refers g c κs within = c.kind_if-kind-in-Store.ensures.refers
 
 pub try_write_data-requires-after_bounds : goal.try_write_data-requires-after_bounds
 try_write_data-requires-after_bounds g c κs within = c.requires.of
 
-pub try_alloc-requires-after_bounds : goal.try_alloc-requires-after_bounds
-try_alloc-requires-after_bounds g c κs within = c.requires.of
+pub try_alloc_weak-requires-after_bounds : goal.try_alloc_weak-requires-after_bounds
+try_alloc_weak-requires-after_bounds g c κs within = c.requires.of
