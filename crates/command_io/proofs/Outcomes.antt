@@ -1,6 +1,7 @@
 -- What refusals leave of the output and of the dump; and dumps that have the same parts.
 use Rattle.std.proofs.Common.{◌≡◌, ℕ, List, Option, Result, Ok, Err, OnErr, refl, sym, subst}
 use Rattle.std.proofs.KnownBytes.{Keeps-refl}
+use Rattle.heap_layout.specs.declared.edition.Edition.{Edition}
 use Rattle.comp_dump.specs.Dumped.{BuiltPage, Dumped}
 use Rattle.command_io.specs.Dumps.{IsOfDumping, RefusedUncreated}
 use Rattle.command_io.specs.Printing.{CountsPrint, RefusedUnprinted}
@@ -78,8 +79,8 @@ created_line before after (Err refusal) h =
     subst (λ (r : Refusal). RefusedUncreated {T = Unit {0}} before after (Err r)) (sym is) tt
 
 -- dumps that have the same parts are the same
-pub same_parts : (m m' n n' t t' : ℕ) (r r' : List ℕ) (p p' : List (Option BuiltPage)) (b b' : List (List ℕ))
-    → m ≡ m' → n ≡ n' → r ≡ r' → p ≡ p' → b ≡ b' → t ≡ t'
-    → (let one : Dumped = record { mutators = m; fresh = n; roots = r; pages = p; builds = b; total = t } in
-    let other : Dumped = record { mutators = m'; fresh = n'; roots = r'; pages = p'; builds = b'; total = t' } in one ≡ other)
-same_parts m m' n n' t t' r r' p p' b b' em en er ep eb et = cc
+pub same_parts : (e e' : Edition) (m m' n n' t t' : ℕ) (r r' : List ℕ) (p p' : List (Option BuiltPage)) (b b' : List (List ℕ))
+    → e ≡ e' → m ≡ m' → n ≡ n' → r ≡ r' → p ≡ p' → b ≡ b' → t ≡ t'
+    → (let one : Dumped = record { edition = e; mutators = m; fresh = n; roots = r; pages = p; builds = b; total = t } in
+    let other : Dumped = record { edition = e'; mutators = m'; fresh = n'; roots = r'; pages = p'; builds = b'; total = t' } in one ≡ other)
+same_parts e e' m m' n n' t t' r r' p p' b b' ee em en er ep eb et = cc

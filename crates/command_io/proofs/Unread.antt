@@ -1,5 +1,5 @@
 -- Texts that were not read whole.
-use Rattle.std.proofs.Common.{◌≡◌, ℕ, [], List, Option, None, Some, refl, sym, subst}
+use Rattle.std.proofs.Common.{ℕ, [], List, Option, None, Some, refl, sym, subst}
 use Rattle.trace_text.specs.declared.fault.TraceFault.{TraceFault}
 use Rattle.trace_text.specs.declared.fault.TraceFault.TheVariants as traces
 use Rattle.command_io.specs.Texts.{IsOfReading, RefusesText}

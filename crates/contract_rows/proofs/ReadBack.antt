@@ -1,15 +1,20 @@
 -- What a mutator that is alone reads.
-use Rattle.std.proofs.Common.{◌≡◌, ℕ, ◌+◌, ◌<◌, List, [], ◌∷◌, ◌++◌, get_or, Result, Ok, Err, IfOk, ap, ◌∙◌, arith}
-use Rattle.heap_layout.specs.Header.{header_word}
+use Rattle.std.proofs.Common.{◌≡◌, ℕ, ◌+◌, ◌<◌, ◌==◌, Bool, true, false, cond, List, [], ◌∷◌, ◌++◌, get_or, Some, None, Result, Ok, Err, IfOk, refl, sym, ap, ◌∙◌, arith, eqb-true}
+use Rattle.std.specs.Prelude.{◌^◌, nat_lt}
+use Rattle.heap_layout.specs.Header.{data_of, header_of, header_with, header_word, refs_of, size_of, weak_header_word, weak_of, Head}
+use Rattle.heap_layout.specs.Kinds.{count_of, first_of}
+use Rattle.heap_layout.specs.declared.edition.Edition.{Edition}
+use Rattle.heap_layout.specs.declared.edition.Edition.TheVariants.{One, Two}
 use Rattle.heap_layout.specs.declared.kind.Kind.{Kind}
-use Rattle.heap_layout.specs.declared.kind.Kind.TheVariants.{Reference, Data}
+use Rattle.heap_layout.specs.declared.kind.Kind.TheVariants.{Header, Reference, Weak, Data}
+use Rattle.page_plan.proofs.Shapes.{field-inside}
 use Rattle.comp_journal.specs.Journal.{replayed}
 use Rattle.comp_journal.specs.declared.entry.Entry.{Entry}
 use Rattle.cell_steps.specs.Setup.{Setup, base_of}
 use Rattle.cell_steps.specs.Passes.{number_of, seen}
 use Rattle.cell_steps.specs.declared.pass.Pass.{Pass}
 use Rattle.page_cells.specs.Objects.{page_at, offset_at, word_at, HasShape}
-use Rattle.comp_access.specs.Allocations.{own_page, used, Allocates}
+use Rattle.comp_access.specs.Allocations.{own_page, used, Allocates, AllocatesAsked}
 use Rattle.comp_access.specs.Fields.{IsFieldOf}
 use Rattle.comp_access.specs.Reads.{Reads}
 use Rattle.comp_access.specs.Writes.{entry_by, Writes}
@@ -30,33 +35,67 @@ abbrev pub IsLastWritten : Setup → Type 0
 IsLastWritten u = (p : ℕ) (journal : List Entry) (e : Entry) → e.offset < 64 → get_or (replayed (base_of u p) (journal ++ e ∷ [])) e.offset 0 ≡ e.value
 
 -- what is read once nothing more was seen is what was written
-pub reads_back : (u : Setup) (old wrote read : Pass) (object field value stamp word : ℕ) → ((p : ℕ) → seen read p ≡ seen wrote p) → HaveOnePlace u wrote read Data object field
-    → IsLastWritten u → Writes u old wrote Data object field value stamp → Reads u (seen read) Data object field word → word ≡ value
-reads_back u old wrote read object field value stamp word same one last w r =
+pub reads_back : (u : Setup) (old wrote read : Pass) (kind : Kind) (object field value stamp word : ℕ) → ((p : ℕ) → seen read p ≡ seen wrote p) → HaveOnePlace u wrote read kind object field
+    → IsLastWritten u → Writes u old wrote kind object field value stamp → Reads u (seen read) kind object field word → word ≡ value
+reads_back u old wrote read kind object field value stamp word same one last w r =
     let p = page_at w.place in
-    let e = entry_by old stamp Data (offset_at w.place) value in
+    let e = entry_by old stamp kind (offset_at w.place) value in
     r.word_is ∙ ap (word_at u (seen read)) (one w.place r.place w.field_of r.field_of)
     ∙ ap (λ journal. get_or (replayed (base_of u p) journal) (offset_at w.place) 0) (same p ∙ w.adds.seen) ∙ last p w.adds.journal e (omega arith)
 
-module _ (u : Setup) (old made read : Pass) (tag object : ℕ) (same : (p : ℕ) → seen read p ≡ seen made p) (a : Allocates u old made (header_word 1 1 tag) object) where
-  -- each of the two words behind the header of a new object is 0
-  word_behind : (distance place word : ℕ) → 0 < distance → distance < 3 → place ≡ object + distance → word ≡ word_at u (seen read) place → word ≡ 0
-  word_behind distance place word more less at is =
+-- An object was made that has so many words of each kind.
+pub record IsMade (u : Setup) (old made : Pass) (refs weak data_words object : ℕ) : Type 0 where
+  pub header : Head
+  pub refs_are : refs_of header ≡ refs
+  pub weak_are : weak_of header ≡ weak
+  pub data_are : data_of header ≡ data_words
+  pub allocates : Allocates u old made header object
+
+where_so : (u : Setup) (old made : Pass) (refs weak data_words object : ℕ) (header : Head) (b : Bool) → (b ≡ true → (refs_of header ≡ refs) × (weak_of header ≡ weak) × (data_of header ≡ data_words))
+    → AllocatesAsked u old made (cond b (Some header) None) object → IsMade u old made refs weak data_words object
+where_so u old made refs weak data_words object header true counts h =
+    let are = counts refl in
+    record { header = header; refs_are = are.0; weak_are = are.1; data_are = are.2; allocates = h }
+where_so u old made refs weak data_words object header false counts h = absurd h
+
+-- one that was asked for has the words that were asked for
+pub is_made : (u : Setup) (old made : Pass) (edition : Edition) (refs weak data_words tag object : ℕ) → refs < 2 ^ 16 → weak < 2 ^ 16 → data_words < 2 ^ 16
+    → AllocatesAsked u old made (header_with edition refs weak data_words tag) object → IsMade u old made refs weak data_words object
+is_made u old made One refs weak data_words tag object r w d h =
+    where_so u old made refs weak data_words object (header_of One (header_word refs data_words tag)) (weak == 0)
+    (λ none. (omega (arith, r, d), sym (eqb-true weak 0 none), omega (arith, r, d))) h
+is_made u old made Two refs weak data_words tag object r w d h =
+    where_so u old made refs weak data_words object (header_of Two (weak_header_word refs weak data_words tag)) (nat_lt tag (2 ^ 16))
+    (λ small. (omega (arith, r, w, d), omega (arith, r, w, d), omega (arith, r, w, d))) h
+
+-- where there is one field, there is the first
+pub first_there : (n : ℕ) → n ≡ 1 → 0 < n
+first_there n one = omega (arith, one)
+
+-- a field stands behind the header
+behind : (kind : Kind) (header : Head) (field : ℕ) → field < count_of kind header → 0 < first_of kind header + field
+behind Header header field inside = absurd (omega arith)
+behind Reference header field inside = omega arith
+behind Weak header field inside = omega arith
+behind Data header field inside = omega arith
+
+module _ (u : Setup) (old made read : Pass) (refs weak data_words object : ℕ) (same : (p : ℕ) → seen read p ≡ seen made p) (is : IsMade u old made refs weak data_words object) where
+  -- each word behind the header of a new object is 0
+  word_behind : (distance place word : ℕ) → 0 < distance → distance < size_of is.header → place ≡ object + distance → word ≡ word_at u (seen read) place → word ≡ 0
+  word_behind distance place word more less at word_is =
+      let a = is.allocates in
       let p = own_page u (number_of old) a.index in
       let offset = used u old a.index in
       let room = a.lowest.room in
-      let page : page_at place ≡ p = omega (arith, a.place_is, at, room) in
-      let there : offset_at place ≡ offset + distance = omega (arith, a.place_is, at, room) in
-      is ∙ ap (λ q. get_or (replayed (base_of u q) (seen read q)) (offset_at place) 0) page ∙ ap (λ o. get_or (replayed (base_of u p) (seen read p)) o 0) there
-      ∙ ap (λ journal. get_or (replayed (base_of u p) journal) (offset + distance) 0) (same p) ∙ a.zero (offset + distance) (omega arith) (omega arith)
+      let page : page_at place ≡ p = omega (arith, a.place_is, at, room, less) in
+      let there : offset_at place ≡ offset + distance = omega (arith, a.place_is, at, room, less) in
+      word_is ∙ ap (λ q. get_or (replayed (base_of u q) (seen read q)) (offset_at place) 0) page ∙ ap (λ o. get_or (replayed (base_of u p) (seen read p)) o 0) there
+      ∙ ap (λ journal. get_or (replayed (base_of u p) journal) (offset + distance) 0) (same p) ∙ a.zero (offset + distance) (omega (arith, more)) (omega (arith, less))
 
-  module _ (shape : HasShape u (seen made) object (header_word 1 1 tag)) where
-    -- its reference is null
-    pub new_reference : (word : ℕ) → HaveOnePlace u made read Reference object 0 → Reads u (seen read) Reference object 0 word → word ≡ 0
-    new_reference word one r = word_behind 1 r.place word (omega arith) (omega arith)
-        (one (object + 1) r.place record { header = header_word 1 1 tag; shape = shape; inside = omega arith; place_is = omega arith } r.field_of) r.word_is
-
-    -- its data word is 0
-    pub new_data : (word : ℕ) → HaveOnePlace u made read Data object 0 → Reads u (seen read) Data object 0 word → word ≡ 0
-    new_data word one r = word_behind 2 r.place word (omega arith) (omega arith)
-        (one (object + 2) r.place record { header = header_word 1 1 tag; shape = shape; inside = omega arith; place_is = omega arith } r.field_of) r.word_is
+  -- each field of a new object is null, or 0
+  pub new_field : HasShape u (seen made) object is.header → (kind : Kind) (field word : ℕ) → field < count_of kind is.header → HaveOnePlace u made read kind object field
+      → Reads u (seen read) kind object field word → word ≡ 0
+  new_field shape kind field word inside one r =
+      let header = is.header in
+      let place = one (object + first_of kind header + field) r.place record { header = header; shape = shape; inside = inside; place_is = refl } r.field_of in
+      word_behind (first_of kind header + field) r.place word (behind kind header field inside) (field-inside kind header field inside) (omega (arith, place)) r.word_is

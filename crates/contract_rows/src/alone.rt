@@ -32,6 +32,27 @@ pub fn write_and_read<L: Named, B: Builder>(
     (stamp, word)
 }
 
+/// Writes null or a start into a weak field and reads the field: where both are done, the word is what was written.
+pub fn write_weak_and_read<L: Named, B: Builder>(
+    alloc: Global,
+    space: &Space<L, B>,
+    m: &mut Mutator<L>,
+    object: u64,
+    field: u16,
+    value: u64,
+) -> (Result<u64, Refusal>, Result<u64, Refusal>)
+    requires of { IsMutatorOf space.now m.old }
+    requires alone { (setup_of space.now).mutators ≡ 1 }
+    ensures read { IfOk result.0 (λ stamp. IfOk result.1 (λ word. word ≡ value)) }
+{
+    let stamp = space.try_write_weak(alloc, m, object, field, value);
+    let word = space.try_read_weak(alloc, m, object, field);
+    laws::alone_sees_its_own(space);
+    laws::places_are_one(space);
+    pages::last_written();
+    (stamp, word)
+}
+
 /// Writes 7 into a data field and reads the field: where both are done, the word is 7.
 pub fn write_seven_and_read<L: Named, B: Builder>(
     alloc: Global,
@@ -68,4 +89,23 @@ pub fn make_and_read<L: Named, B: Builder>(
     laws::places_are_one(space);
     laws::made_objects_start(space);
     Ok((reference, data))
+}
+
+/// Makes an object of one weak word and reads it: where it is read, it is null.
+pub fn make_weak_and_read<L: Named, B: Builder>(
+    alloc: Global,
+    space: &Space<L, B>,
+    m: &mut Mutator<L>,
+    tag: u32,
+) -> Result<Result<u64, Refusal>, Refusal>
+    requires of { IsMutatorOf space.now m.old }
+    requires alone { (setup_of space.now).mutators ≡ 1 }
+    ensures null { IfOk result (λ weak. IfOk weak (λ word. word ≡ 0)) }
+{
+    let object = space.try_alloc_weak(alloc, m, 0, 1, 0, tag)?;
+    let weak = space.try_read_weak(alloc, m, object, 0);
+    laws::alone_sees_its_own(space);
+    laws::places_are_one(space);
+    laws::made_objects_start(space);
+    Ok(weak)
 }

@@ -44,5 +44,5 @@ returns g c =
     let one = c.places_are_one.ensures (seen wrote) (seen read) grows (λ p. (r.ensures.of.remembers p).lawful) Data object field in
     record {
       read = both_ok w.result r.result (Writes u old wrote Data object field c.args.value) (Reads u (seen read) Data object field) (λ word. word ≡ c.args.value) w.ensures.wrote r.ensures.read
-          (λ stamp word. reads_back u old wrote read object field c.args.value stamp word same one (c.last_written.ensures u));
+          (λ stamp word. reads_back u old wrote read Data object field c.args.value stamp word same one (c.last_written.ensures u));
     }
