@@ -8,7 +8,7 @@ use std::process::Abort;
 use std::thread::Threads;
 use worked_files::changes::{
     Change, FIRST_DATA, HEADER_OFFSET, HEADER_STAMP, LAST_PAGE, LAST_WORD, REFERENCE,
-    REFERENCE_STAMP, REFERENCE_VALUE, ROOT, TOTAL, VERSION,
+    REFERENCE_KIND, REFERENCE_STAMP, REFERENCE_VALUE, ROOT, TOTAL, VERSION,
 };
 use worked_files::contents::{Content, bytes_in};
 
@@ -57,12 +57,24 @@ pub fn expect_forgeries(rt: &(impl Abort + AllocGlobal + Threads + Sync), three:
 const TRUNCATED: Refusal = Refusal::Dump(DumpFault::Truncated);
 
 // All forged dumps.
-static FORGED: [Forgery; 25] = [
+static FORGED: [Forgery; 28] = [
     // Each dump has a second fault, which is not told.
     (
         "a root",
         Change::Word(ROOT, 0),
         Change::Word(TOTAL, 6),
+        Refusal::Audit(AuditFault::WrongHead),
+    ),
+    (
+        "the edition",
+        Change::Byte(VERSION, 2),
+        Change::Word(TOTAL, 6),
+        Refusal::Audit(AuditFault::WrongHead),
+    ),
+    (
+        "the edition, and an entry of a weak word",
+        Change::Byte(VERSION, 2),
+        Change::Byte(REFERENCE_KIND, 3),
         Refusal::Audit(AuditFault::WrongHead),
     ),
     (
@@ -159,6 +171,12 @@ static FORGED: [Forgery; 25] = [
         Change::Byte(VERSION, 9),
         Change::None,
         Refusal::Dump(DumpFault::BadMagic),
+    ),
+    (
+        "an entry of a weak word",
+        Change::Byte(REFERENCE_KIND, 3),
+        Change::Word(TOTAL, 6),
+        Refusal::Dump(DumpFault::BadField),
     ),
     (
         "the last page",

@@ -19,8 +19,8 @@ use worked_files::writers::{Failure, Narrow};
 enum Writing {
     // The heap is compacted, by so many workers.
     Compact(u8),
-    // The trace that makes a new object is replayed, by one mutator.
-    Replay,
+    // The trace at this path is replayed, by one mutator and with so many fresh pages.
+    Replay(&'static str, u32),
 }
 
 /// A command in memory that writes a dump, and what has to come of it.
@@ -63,13 +63,14 @@ fn write_dump<R: Abort + AllocGlobal + Threads + Wait + Sync>(
             };
             print_compact(rt.alloc(), rt, memory, place, asked, &mut counted)
         }
-        Writing::Replay => {
+        Writing::Replay(trace, fresh) => {
+            assert!(rt; fresh <= 4_096);
             let asked = TraceRun {
                 image: row.image,
-                trace: "fresh.trace",
+                trace,
                 dump: row.path,
                 mutators: 1,
-                fresh: 2,
+                fresh,
             };
             print_replay(rt.alloc(), rt, memory, memory, place, asked, &mut counted)
         }
@@ -234,7 +235,7 @@ const CUT_IMAGE: Row = Row {
 // A replay whose dump is cut off.
 const UNWRITTEN: Row = Row {
     name: "a replay, and no room",
-    writing: Writing::Replay,
+    writing: Writing::Replay("fresh.trace", 2),
     image: "three.img",
     path: "out",
     room: 0,
@@ -246,7 +247,22 @@ const UNWRITTEN: Row = Row {
     left: 0,
 };
 
-static ROWS: [Row; 18] = [
+// A weak word is written, which leads to a new object.
+const WEAK: Row = Row {
+    name: "weak words",
+    writing: Writing::Replay("weak.trace", 1),
+    image: "weak.img",
+    path: "out",
+    room: 1_128,
+    failure: Failure::Error,
+    printable: 11,
+    answer: Ok(()),
+    printed: "6 9\nlive 8\n",
+    dump: Dump::Weak,
+    left: 1_128,
+};
+
+static ROWS: [Row; 21] = [
     // By some workers, with just enough room for the dump.
     ALONE,
     Row {
@@ -356,5 +372,25 @@ static ROWS: [Row; 18] = [
         failure: Failure::Flush,
         left: 1_129,
         ..UNWRITTEN
+    },
+    // Objects that have weak words, compacted and replayed, with just enough room for the dump and the lines, and with less.
+    WEAK,
+    Row {
+        name: "weak words, and room for 570 bytes",
+        room: 570,
+        answer: Err(Refusal::Dump(DumpFault::Device)),
+        printed: "",
+        left: 570,
+        ..WEAK
+    },
+    Row {
+        name: "weak words that slide",
+        writing: Writing::Compact(1),
+        room: 569,
+        printable: 7,
+        printed: "live 6\n",
+        dump: Dump::WeakSwept,
+        left: 569,
+        ..WEAK
     },
 ];

@@ -36,6 +36,12 @@ pub enum Call {
     WriteData(u64, u16, u64),
     /// A new object of one word with tag 0, whose address is the answer.
     Alloc,
+    /// A read of a weak field: the object and the field.
+    ReadWeak(u64, u16),
+    /// A write of a weak field, whose answer is the entry's stamp: the object, the field and the value.
+    WriteWeak(u64, u16, u64),
+    /// A new object of one weak word with tag 5, whose address is the answer.
+    AllocWeak,
 }
 
 /// The mutator of this number makes this call, and this is the answer.
@@ -83,6 +89,11 @@ fn answer<L: Named>(
             space.try_write_data(alloc, m, *object, *field, *value)
         }
         Call::Alloc => space.try_alloc(alloc, m, 0, 0, 0),
+        Call::ReadWeak(object, field) => space.try_read_weak(alloc, m, *object, *field),
+        Call::WriteWeak(object, field, value) => {
+            space.try_write_weak(alloc, m, *object, *field, *value)
+        }
+        Call::AllocWeak => space.try_alloc_weak(alloc, m, 0, 1, 0, 5),
     }
 }
 

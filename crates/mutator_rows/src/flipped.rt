@@ -16,7 +16,7 @@ use std::sync::ledger::{Blank, Ledger as Named};
 use std::test::Fail;
 use std::thread::Threads;
 use worked_heaps::heaps::{
-    counting_heap, empty, planned, seventeen_pages, smallest, three, zeros_heap,
+    counting_heap, empty, planned, seventeen_pages, smallest, three, weak, zeros_heap,
 };
 
 /// The heap of a case.
@@ -28,6 +28,8 @@ pub enum Heap {
     Smallest,
     /// Three objects, of which the first and the last are marked, with the last as root.
     Three,
+    /// Three objects of edition two, of which the first, which has two weak words, and the last are marked, with the last as root.
+    Weak,
     /// An object of one word and one of 1,024.
     Seventeen,
     /// An object without references and with as many data words, which count from 1.
@@ -50,6 +52,7 @@ pub fn plan_of(rt: &(impl Abort + Threads + Sync), alloc: Global, heap: Heap) ->
         Heap::Empty => empty(alloc),
         Heap::Smallest => smallest(alloc),
         Heap::Three => three(alloc),
+        Heap::Weak => weak(alloc),
         Heap::Seventeen => seventeen_pages(alloc),
         Heap::Counting(data_words) => counting_heap(alloc, data_words),
         Heap::Zeros(data_words) => zeros_heap(alloc, data_words),

@@ -19,3 +19,5 @@ mod runs;
 mod starting;
 #[cfg(test)]
 mod tables;
+#[cfg(test)]
+mod weak;

@@ -1,4 +1,4 @@
-//! A thousand traces that look random, replayed by one thread: just as objects kept plainly have it. Such traces are raced as well.
+//! A thousand traces of each edition that look random, replayed by one thread: just as objects kept plainly have it. Such traces are raced as well.
 use crate::drawn::{Drawn, draw_trace};
 use crate::expected::expect_plan;
 use crate::finished::expect_pages;
@@ -9,6 +9,7 @@ use crate::replays::expect_replay;
 use crate::texts::expect_lines;
 use comp_mutator::finishing::Finished;
 use comp_trace::replay::Stopped;
+use heap_layout::edition::Edition;
 use page_plan::plan::Plan;
 use plain_objects::two_live::two_live;
 use std::alloc::Global;
@@ -27,7 +28,7 @@ enum Way {
     Raced,
 }
 
-// A number of mutators, how many traces of theirs are drawn, and what is done with each.
+// A number of mutators, how many traces of theirs are drawn in each edition, and what is done with each.
 struct Draws(u8, u64, Way);
 
 static DRAWS: [Draws; 7] = [
@@ -73,7 +74,7 @@ fn replay_drawn(
 ) {
     let case = case_of(drawn, n);
     let blank = Blank::new(u64::from(case.mutators));
-    let builder = expect_plan(rt, two_live(alloc, rt));
+    let builder = expect_plan(rt, two_live(alloc, rt, drawn.run.objects.edition));
     let (run, finished) = replayed::<Brand>(rt, alloc, blank, case, builder, plan);
     expect_drawn(rt, alloc, drawn, &run, &finished);
 }
@@ -100,19 +101,21 @@ fn run_seed<R: Abort + Threads + Wait + Sync>(
     rt: &R,
     alloc: Global,
     plan: &Plan,
+    edition: Edition,
     n: u8,
     seed: u64,
     way: Way,
 ) {
-    let drawn = draw_trace(rt, alloc, n, seed);
+    let drawn = draw_trace(rt, alloc, edition, n, seed);
     run_drawn(rt, alloc, plan, n, &drawn, way);
 }
 
-// All traces.
-fn run_all<R: Abort + Threads + Wait + Sync>(rt: &R, alloc: Global, plan: &Plan) {
+// All traces on the two live objects of an edition.
+fn run_all<R: Abort + Threads + Wait + Sync>(rt: &R, alloc: Global, edition: Edition) {
+    let plan = expect_plan(rt, two_live(alloc, rt, edition));
     for Draws(n, count, way) in &DRAWS {
         for seed in 0..*count {
-            run_seed(rt, alloc, plan, *n, seed, *way);
+            run_seed(rt, alloc, &plan, edition, *n, seed, *way);
         }
     }
 }
@@ -120,6 +123,6 @@ fn run_all<R: Abort + Threads + Wait + Sync>(rt: &R, alloc: Global, plan: &Plan)
 #[test]
 fn replays_as_plain_objects_do_and_races_to_one_history(rt: HostRuntime) {
     let alloc = rt.alloc();
-    let plan = expect_plan(&rt, two_live(alloc, &rt));
-    run_all(&rt, alloc, &plan);
+    run_all(&rt, alloc, Edition::One);
+    run_all(&rt, alloc, Edition::Two);
 }

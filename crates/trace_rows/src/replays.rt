@@ -15,7 +15,7 @@ use std::sync::ledger::Blank;
 use std::thread::Threads;
 use trace_steps::shown::Shown;
 use trace_text::fault::TraceFault;
-use worked_heaps::heaps::three;
+use worked_heaps::heaps::{three, weak};
 
 // The only entry of a page, which mutator 0 wrote: the page's number, and the entry's stamp, kind, offset and value.
 struct Only(usize, u64, Kind, u8, u64);
@@ -29,7 +29,7 @@ struct Row {
     entries: &'static [Only],
 }
 
-static ROWS: [Row; 9] = [
+static ROWS: [Row; 11] = [
     Row {
         case: Case {
             name: "shows what another mutator wrote, and leaves it to the words that slid",
@@ -131,6 +131,30 @@ static ROWS: [Row; 9] = [
     },
     Row {
         case: Case {
+            name: "stops at an object with a weak word, which edition one has not",
+            mutators: 1,
+            fresh_pages: 0,
+            text: b"0 wnew 0 65535 1 65535 4294967295\n",
+        },
+        shown: &[],
+        fault: Some(TraceFault::Refused(1, Refusal::NotInEdition)),
+        live_words: 4,
+        entries: &[],
+    },
+    Row {
+        case: Case {
+            name: "stops at a weak field, which no object of edition one has",
+            mutators: 1,
+            fresh_pages: 1,
+            text: b"0 root 0 0\n0 load 1 0 0\n0 wnew 2 0 0 1 65536\n0 get 2 0\n0 wstore 1 0 2\n0 get 1 0\n",
+        },
+        shown: &[Shown { line: 4, value: 0 }],
+        fault: Some(TraceFault::Refused(5, Refusal::NoSuchField)),
+        live_words: 6,
+        entries: &[Only(1, 0, Kind::Header, 0, 281_474_976_776_192)],
+    },
+    Row {
+        case: Case {
             name: "stops at a text that is none",
             mutators: 2,
             fresh_pages: 0,
@@ -142,6 +166,65 @@ static ROWS: [Row; 9] = [
         entries: &[],
     },
 ];
+
+// On the three objects of edition two.
+static WEAK_ROWS: [Row; 4] = [
+    Row {
+        case: Case {
+            name: "writes a weak word that leads to a new object, and reads it",
+            mutators: 1,
+            fresh_pages: 1,
+            text: WEAK_TEXT,
+        },
+        shown: &[Shown { line: 6, value: 9 }],
+        fault: None,
+        live_words: 8,
+        entries: &[
+            Only(1, 0, Kind::Header, 0, 1_407_379_178_520_576),
+            Only(0, 1, Kind::Weak, 1, 8_589_934_656),
+        ],
+    },
+    Row {
+        case: Case {
+            name: "reads a weak word that is null since its object did not slide",
+            mutators: 2,
+            fresh_pages: 0,
+            text: b"1 root 0 0\n1 load 1 0 0\n1 wload 2 1 1\n1 wload 3 1 0\n1 load 4 2 0\n1 get 4 0\n1 get 3 0\n",
+        },
+        shown: &[Shown { line: 6, value: 9 }],
+        fault: Some(TraceFault::Refused(7, Refusal::Null)),
+        live_words: 6,
+        entries: &[],
+    },
+    Row {
+        case: Case {
+            name: "stops at a weak field that is not there",
+            mutators: 1,
+            fresh_pages: 0,
+            text: b"0 root 0 0\n0 load 1 0 0\n0 get 1 0\n0 wload 2 1 2\n0 get 1 0\n",
+        },
+        shown: &[Shown { line: 3, value: 9 }],
+        fault: Some(TraceFault::Refused(4, Refusal::NoSuchField)),
+        live_words: 6,
+        entries: &[],
+    },
+    Row {
+        case: Case {
+            name: "stops at a tag of 17 bits",
+            mutators: 1,
+            fresh_pages: 0,
+            text: b"0 wnew 0 65535 65535 65535 65536\n",
+        },
+        shown: &[],
+        fault: Some(TraceFault::Refused(1, Refusal::NotInEdition)),
+        live_words: 6,
+        entries: &[],
+    },
+];
+
+/// An object is made that has a weak word, a weak word of the first object is to lead there, it is read, and so is the data word behind it.
+pub const WEAK_TEXT: &[u8] =
+    b"0 root 0 0\n0 load 1 0 0\n0 wnew 2 0 1 0 5\n0 wstore 1 0 2\n0 wload 3 1 0\n0 get 1 0\n";
 
 // Behind its text there are 1,025 lines `0 put 1 0 7`.
 static FULL: Row = Row {
@@ -197,15 +280,8 @@ fn expect_finished(rt: &impl Abort, row: &Row, finished: &Finished) {
     expect_so(rt, row.case.name, same, finished.live_words());
 }
 
-// This text of a row is replayed on the three objects, and the heap finished.
-fn replay_row(
-    rt: &(impl Abort + Threads + Sync),
-    alloc: Global,
-    plan: &Plan,
-    row: &Row,
-    text: &[u8],
-) {
-    let builder = plan_of(rt, alloc, three(alloc));
+// This text of a row is replayed on the heap of this builder, which this plan compacted, and the heap finished.
+fn replay_row(rt: &impl Abort, alloc: Global, builder: Plan, plan: &Plan, row: &Row, text: &[u8]) {
     let case = Case { text, ..row.case };
     let blank = Blank::new(u64::from(row.case.mutators));
     let (run, finished) = replayed::<Brand>(rt, alloc, blank, case, builder, plan);
@@ -220,13 +296,29 @@ fn replay_full(rt: &(impl Abort + Threads + Sync), alloc: Global, plan: &Plan) {
         text.extend_from_slice(b"0 put 1 0 7\n")
             .expect(rt, "a line");
     }
-    replay_row(rt, alloc, plan, &FULL, &text);
+    replay_row(
+        rt,
+        alloc,
+        plan_of(rt, alloc, three(alloc)),
+        plan,
+        &FULL,
+        &text,
+    );
 }
 
 /// All rows on the three objects, whose plan this is.
 pub fn replay_rows(rt: &(impl Abort + Threads + Sync), alloc: Global, plan: &Plan) {
     for row in &ROWS {
-        replay_row(rt, alloc, plan, row, row.case.text);
+        let builder = plan_of(rt, alloc, three(alloc));
+        replay_row(rt, alloc, builder, plan, row, row.case.text);
     }
     replay_full(rt, alloc, plan);
+}
+
+/// All rows on the three objects of edition two, whose plan this is.
+pub fn replay_weak_rows(rt: &(impl Abort + Threads + Sync), alloc: Global, plan: &Plan) {
+    for row in &WEAK_ROWS {
+        let builder = plan_of(rt, alloc, weak(alloc));
+        replay_row(rt, alloc, builder, plan, row, row.case.text);
+    }
 }

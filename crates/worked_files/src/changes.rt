@@ -1,7 +1,7 @@
-//! Changes of the dump behind the run that makes a new object, and where its fields lie.
+//! Changes of files: of the dump behind the run that makes a new object, where its fields lie, and of those with weak words.
 use std::alloc::AllocError;
 
-/// A change of that dump.
+/// A change of a file.
 #[derive(Clone, Copy)]
 pub enum Change {
     /// None at all.
@@ -14,7 +14,7 @@ pub enum Change {
     Cut(usize),
     /// This byte is put behind it.
     Push(u8),
-    /// These numbers are the lists of builds.
+    /// These numbers are the lists of builds of that dump.
     Builds(&'static [u32]),
 }
 
@@ -36,6 +36,9 @@ pub const LAST_WORD: usize = 541;
 /// Where the stamp of the reference's entry stands.
 pub const REFERENCE_STAMP: usize = 553;
 
+/// Where the kind of the reference's entry stands.
+pub const REFERENCE_KIND: usize = 562;
+
 /// Where the value of the reference's entry stands.
 pub const REFERENCE_VALUE: usize = 564;
 
@@ -50,6 +53,12 @@ pub const LAST_PAGE: usize = 1_108;
 
 /// Where its live words stand.
 pub const TOTAL: usize = 1_121;
+
+/// Where the first weak word stands in the image of the objects that have some.
+pub const WEAK_WORD: usize = 32;
+
+/// Where it stands in a dump of them. The entry of page 0 lies where that of the reference does.
+pub const SLID_WEAK_WORD: usize = 45;
 
 // Where the lists of builds begin.
 const BUILDS: usize = 1_109;

@@ -1,7 +1,10 @@
 //! What the files of tests hold, by name: a table that names it costs the proof of a test less than one that holds it.
-use crate::changes::{Change, make_change};
-use crate::images::{BAD_ROOT_IMAGE, EMPTY_IMAGE, FRESH_DUMP, THREE_IMAGE, TWENTY_IMAGE};
-use crate::parts::bytes_of;
+use crate::changes::{Change, WEAK_WORD, make_change};
+use crate::images::{
+    BAD_ROOT_IMAGE, EMPTY_IMAGE, FRESH_DUMP, THREE_IMAGE, TWENTY_IMAGE, WEAK_DUMP, WEAK_IMAGE,
+    WEAK_SWEPT_DUMP,
+};
+use crate::parts::{Part, bytes_of};
 use std::alloc::{AllocError, Global};
 
 /// What a file holds.
@@ -13,6 +16,8 @@ pub enum Content {
     SeenTrace,
     /// The trace that makes a new object, which becomes the field of the root.
     FreshTrace,
+    /// The trace that makes an object with a weak word, lets a weak word of the first object lead there, reads it, and shows the data word behind it.
+    WeakTrace,
     /// The image of no object at all.
     EmptyImage,
     /// The image of three objects.
@@ -21,10 +26,20 @@ pub enum Content {
     BadRootImage,
     /// The image of two objects of 640 words.
     TwentyImage,
+    /// The image of three objects of edition two, of which the first has two weak words.
+    WeakImage,
+    /// The same, whose first weak word is this.
+    BadWeakImage(u64),
     /// The dump behind the run that makes a new object.
     FreshDump,
     /// The same, with two changes.
     ForgedDump(Change, Change),
+    /// The dump behind the run that writes a weak word.
+    WeakDump,
+    /// The same, with two changes.
+    ForgedWeakDump(Change, Change),
+    /// The dump of the three objects of edition two where one worker alone swept them.
+    WeakSweptDump,
 }
 
 const SEEN_TRACE: &[u8] =
@@ -32,24 +47,45 @@ const SEEN_TRACE: &[u8] =
 
 const FRESH_TRACE: &[u8] = b"0 root 0 0\n0 new 1 0 0 0\n0 store 0 0 1\n";
 
+const WEAK_TRACE: &[u8] =
+    b"0 root 0 0\n0 load 1 0 0\n0 wnew 2 0 1 0 5\n0 wstore 1 0 2\n0 wload 3 1 0\n0 get 1 0\n";
+
 /// The bytes of a file.
 pub fn bytes_in(alloc: Global, content: Content) -> Result<Vec<u8>, AllocError> {
     match content {
         Content::Text(text) => text.as_bytes().to_vec(alloc),
         Content::SeenTrace => SEEN_TRACE.to_vec(alloc),
         Content::FreshTrace => FRESH_TRACE.to_vec(alloc),
+        Content::WeakTrace => WEAK_TRACE.to_vec(alloc),
         Content::EmptyImage => bytes_of(alloc, &EMPTY_IMAGE),
         Content::ThreeImage => bytes_of(alloc, &THREE_IMAGE),
         Content::BadRootImage => bytes_of(alloc, &BAD_ROOT_IMAGE),
         Content::TwentyImage => bytes_of(alloc, &TWENTY_IMAGE),
+        Content::WeakImage => bytes_of(alloc, &WEAK_IMAGE),
+        Content::BadWeakImage(word) => {
+            changed(
+                alloc,
+                &WEAK_IMAGE,
+                Change::Word(WEAK_WORD, word),
+                Change::None,
+            )
+        }
         Content::FreshDump => bytes_of(alloc, &FRESH_DUMP),
-        Content::ForgedDump(first, second) => forged_dump(alloc, first, second),
+        Content::ForgedDump(first, second) => changed(alloc, &FRESH_DUMP, first, second),
+        Content::WeakDump => bytes_of(alloc, &WEAK_DUMP),
+        Content::ForgedWeakDump(first, second) => changed(alloc, &WEAK_DUMP, first, second),
+        Content::WeakSweptDump => bytes_of(alloc, &WEAK_SWEPT_DUMP),
     }
 }
 
-// The dump behind the run that makes a new object, with two changes.
-fn forged_dump(alloc: Global, first: Change, second: Change) -> Result<Vec<u8>, AllocError> {
-    let mut bytes = bytes_of(alloc, &FRESH_DUMP)?;
+// The bytes of these parts, with two changes.
+fn changed(
+    alloc: Global,
+    parts: &[Part],
+    first: Change,
+    second: Change,
+) -> Result<Vec<u8>, AllocError> {
+    let mut bytes = bytes_of(alloc, parts)?;
     make_change(&mut bytes, first)?;
     make_change(&mut bytes, second)?;
     Ok(bytes)

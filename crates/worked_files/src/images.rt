@@ -65,6 +65,63 @@ pub const FRESH_DUMP: [Part; 19] = [
     Part::Words(&[5]),
 ];
 
+/// The image of three objects of edition two, of which the first and the last are marked, and a root that leads to the last. The first has two weak words, which lead
+/// to the others.
+pub const WEAK_IMAGE: [Part; 5] = [
+    Part::Bytes(b"COMPHEAP"),
+    Part::Numbers(&[2, 7, 2, 1]),
+    Part::Words(&[
+        281_483_566_710_784,
+        4_294_967_300,
+        4_294_967_301,
+        9,
+        562_949_953_421_312,
+        844_424_930_131_969,
+        4_294_967_296,
+    ]),
+    Part::Numbers(&[0, 5]),
+    Part::Words(&[4_294_967_301]),
+];
+
+/// The dump of these objects where one worker alone swept them.
+pub const WEAK_SWEPT_DUMP: [Part; 9] = [
+    Part::Bytes(b"COMPDUMP"),
+    Part::Numbers(&[2, 1, 0, 1, 1]),
+    Part::Words(&[8_589_934_596]),
+    Part::Bytes(&[1]),
+    Part::Words(&[281_483_566_710_784, 0, 8_589_934_596, 9]),
+    Part::Words(&[844_424_930_131_969, 8_589_934_592]),
+    Part::Words(&[0; 58]),
+    Part::Numbers(&[0, 1, 0]),
+    Part::Words(&[6]),
+];
+
+/// The dump behind the run that writes a weak word of these objects: one mutator, which built page 0 and then page 1. Page 0 has the words of the objects that slid,
+/// and the entry of the weak word; page 1 has a new object with one weak word, which is null, and its entry.
+pub const WEAK_DUMP: [Part; 20] = [
+    Part::Bytes(b"COMPDUMP"),
+    Part::Numbers(&[2, 1, 1, 2, 1]),
+    Part::Words(&[8_589_934_596]),
+    Part::Bytes(&[1]),
+    Part::Words(&[281_483_566_710_784, 8_589_934_656, 8_589_934_596, 9]),
+    Part::Words(&[844_424_930_131_969, 8_589_934_592]),
+    Part::Words(&[0; 58]),
+    Part::Numbers(&[1]),
+    Part::Words(&[1]),
+    Part::Bytes(&[0, 3, 1]),
+    Part::Words(&[8_589_934_656]),
+    Part::Bytes(&[1]),
+    Part::Words(&[1_407_379_178_520_576]),
+    Part::Words(&[0; 63]),
+    Part::Numbers(&[1]),
+    Part::Words(&[0]),
+    Part::Bytes(&[0, 0, 0]),
+    Part::Words(&[1_407_379_178_520_576]),
+    // how many pages the mutator built, and which; the live words
+    Part::Numbers(&[2, 0, 1]),
+    Part::Words(&[8]),
+];
+
 /// The image of the three objects, with a root that leads to none of them.
 pub const BAD_ROOT_IMAGE: [Part; 5] = [
     Part::Bytes(b"COMPHEAP"),

@@ -1,4 +1,5 @@
 //! The heaps of the tests, written by a second hand.
+use heap_layout::edition::Edition;
 use heap_layout::fault::LayoutFault;
 use heap_layout::header::Header;
 use heap_layout::heap::MarkedHeap;
@@ -24,14 +25,28 @@ pub const THREE: [u64; 7] = [
     4_294_967_296,
 ];
 
+/// Three objects of edition two, of which the first and the last are marked: the first has two weak words, which lead to the other two, and a data word, and
+/// the last refers to the first.
+pub const WEAK: [u64; 7] = [
+    281_483_566_710_784,
+    4_294_967_300,
+    4_294_967_301,
+    9,
+    562_949_953_421_312,
+    844_424_930_131_969,
+    4_294_967_296,
+];
+
 /// The heap of these parts, or its fault.
 pub fn judged(
     alloc: Global,
+    edition: Edition,
     words: &[u64],
     marks: &[u32],
     roots: &[u64],
 ) -> Result<Result<MarkedHeap, LayoutFault>, AllocError> {
-    Ok(MarkedHeap::from_parts(
+    Ok(MarkedHeap::from_parts_of(
+        edition,
         words.to_vec(alloc)?,
         marks.to_vec(alloc)?,
         roots.to_vec(alloc)?,
@@ -39,18 +54,34 @@ pub fn judged(
 }
 
 /// The heap of these parts, which is accepted.
+pub fn heap_of(
+    alloc: Global,
+    edition: Edition,
+    words: &[u64],
+    marks: &[u32],
+    roots: &[u64],
+) -> Result<MarkedHeap, Fail> {
+    Ok(judged(alloc, edition, words, marks, roots)??)
+}
+
+/// The heap of edition one of these parts, which is accepted.
 pub fn heap(
     alloc: Global,
     words: &[u64],
     marks: &[u32],
     roots: &[u64],
 ) -> Result<MarkedHeap, Fail> {
-    Ok(judged(alloc, words, marks, roots)??)
+    heap_of(alloc, Edition::One, words, marks, roots)
 }
 
 /// The three objects, with the last as root.
 pub fn three(alloc: Global) -> Result<MarkedHeap, Fail> {
     heap(alloc, &THREE, &[0, 5], &[F + 5])
+}
+
+/// The three objects of edition two, with the last as root.
+pub fn weak(alloc: Global) -> Result<MarkedHeap, Fail> {
+    heap_of(alloc, Edition::Two, &WEAK, &[0, 5], &[F + 5])
 }
 
 /// An object without references, whose data words count from 1.

@@ -7,6 +7,7 @@ use comp_mutator::finishing::Finished;
 use comp_mutator::flipping::flip;
 use comp_mutator::mutator::Mutator;
 use comp_mutator::space::Space;
+use heap_layout::edition::Edition;
 use page_plan::builder::Builder;
 use page_plan::plan::Plan;
 use std::alloc::Global;
@@ -31,7 +32,10 @@ fn equal_objects(rt: &impl Abort, alloc: Global, object: Object, objects: usize)
 /// The plan of the heap of the case.
 pub fn plan_of(rt: &(impl Abort + Threads + Sync), alloc: Global, case: &Case) -> Plan {
     let words = equal_objects(rt, alloc, case.object, case.marks.len());
-    let judged = judged(alloc, &words, case.marks, &[]).expect(rt, "memory for a heap");
+    let judged = judged(alloc, Edition::One, &words, case.marks, &[]).expect(
+        rt,
+        "memory for a heap",
+    );
     Plan::new(alloc, rt, judged.expect(rt, "a heap")).expect(rt, "a plan")
 }
 

@@ -1,0 +1,339 @@
+//! Dumps of edition two with some fields changed, dumps of the other edition, and what is told of them.
+use crate::encoded::{Change, Whole};
+use crate::judged::{Row, Told};
+use audit_faults::fault::AuditFault;
+use comp_audit::verdict::Verdict;
+use comp_dump::fault::DumpFault;
+use worked_heaps::heaps::{F, T};
+
+// Where fields of the dump lie.
+const VERSION: usize = 8;
+
+const ROOT: usize = 28;
+
+const WORD_1: usize = 45;
+
+const WORD_2: usize = 53;
+
+const WORD_5: usize = 77;
+
+const STAMP: usize = 553;
+
+const KIND: usize = 562;
+
+const OFFSET: usize = 563;
+
+const VALUE: usize = 564;
+
+const MADE: usize = 573;
+
+const MADE_WEAK: usize = 581;
+
+const MADE_BEHIND: usize = 589;
+
+const HEADER_STAMP: usize = 1_089;
+
+const HEADER: usize = 1_100;
+
+const MADE_STAMP: usize = 1_108;
+
+const MADE_KIND: usize = 1_117;
+
+const MADE_VALUE: usize = 1_119;
+
+const BUILD: usize = 1_131;
+
+const TOTAL: usize = 1_139;
+
+// The dump is lawful, or has this fault.
+const YES: Told = Ok(Verdict::Yes);
+
+const WRONG_HEAD: Told = Ok(Verdict::No(AuditFault::WrongHead));
+
+const BAD_SLID: Told = Ok(Verdict::No(AuditFault::BadEntry(0, 0)));
+
+const BAD_HEADER: Told = Ok(Verdict::No(AuditFault::BadEntry(1, 0)));
+
+const BAD_MADE: Told = Ok(Verdict::No(AuditFault::BadEntry(1, 1)));
+
+const WRONG_WORD_1: Told = Ok(Verdict::No(AuditFault::WrongWord(8_589_934_593)));
+
+const WRONG_WORD_2: Told = Ok(Verdict::No(AuditFault::WrongWord(8_589_934_594)));
+
+const WRONG_WORD_65: Told = Ok(Verdict::No(AuditFault::WrongWord(8_589_934_657)));
+
+const WRONG_WORD_66: Told = Ok(Verdict::No(AuditFault::WrongWord(8_589_934_658)));
+
+const LOOSE_1: Told = Ok(Verdict::No(AuditFault::LooseReference(8_589_934_593)));
+
+const LOOSE_65: Told = Ok(Verdict::No(AuditFault::LooseReference(8_589_934_657)));
+
+const REPEATED: Told = Ok(Verdict::No(AuditFault::StampRepeated(0)));
+
+const MISSING: Told = Ok(Verdict::No(AuditFault::StampMissing(2)));
+
+const WRONG_TOTAL: Told = Ok(Verdict::No(AuditFault::WrongTotal));
+
+const NO_FIELD: Told = Err(DumpFault::BadField);
+
+const NO_VERSION: Told = Err(DumpFault::BadMagic);
+
+/// Where the three objects of edition two were compacted.
+pub static WEAK_FORGED: [Row; 49] = [
+    // No change.
+    Row(Whole::WeakLinked, &[], YES),
+    // The dump of edition one has no weak word.
+    Row(Whole::WeakLinked, &[Change(VERSION, 4, 4, 1)], NO_FIELD),
+    // No version.
+    Row(Whole::WeakLinked, &[Change(VERSION, 4, 4, 3)], NO_VERSION),
+    // The dump of edition one, entries of references in place of weak words.
+    Row(
+        Whole::WeakLinked,
+        &[
+            Change(VERSION, 4, 4, 1),
+            Change(KIND, 1, 1, 1),
+            Change(MADE_KIND, 1, 1, 1),
+        ],
+        WRONG_HEAD,
+    ),
+    // The same and a wrong build, and the same and a wrong total.
+    Row(
+        Whole::WeakLinked,
+        &[
+            Change(VERSION, 4, 4, 1),
+            Change(KIND, 1, 1, 1),
+            Change(MADE_KIND, 1, 1, 1),
+            Change(BUILD, 4, 4, 0),
+        ],
+        WRONG_HEAD,
+    ),
+    Row(
+        Whole::WeakLinked,
+        &[
+            Change(VERSION, 4, 4, 1),
+            Change(KIND, 1, 1, 1),
+            Change(MADE_KIND, 1, 1, 1),
+            Change(TOTAL, 8, 8, 6),
+        ],
+        WRONG_HEAD,
+    ),
+    // The root is null.
+    Row(Whole::WeakLinked, &[Change(ROOT, 8, 8, 0)], WRONG_HEAD),
+    // An entry of a header, of a reference and of data at a weak word.
+    Row(Whole::WeakLinked, &[Change(KIND, 1, 1, 0)], BAD_SLID),
+    Row(Whole::WeakLinked, &[Change(KIND, 1, 1, 1)], BAD_SLID),
+    Row(Whole::WeakLinked, &[Change(KIND, 1, 1, 2)], BAD_SLID),
+    // An entry of a weak word at a header, at data, at a reference, and behind all objects.
+    Row(Whole::WeakLinked, &[Change(OFFSET, 1, 1, 0)], BAD_SLID),
+    Row(Whole::WeakLinked, &[Change(OFFSET, 1, 1, 3)], BAD_SLID),
+    Row(Whole::WeakLinked, &[Change(OFFSET, 1, 1, 5)], BAD_SLID),
+    Row(Whole::WeakLinked, &[Change(OFFSET, 1, 1, 6)], BAD_SLID),
+    // At the other weak word.
+    Row(Whole::WeakLinked, &[Change(OFFSET, 1, 1, 2)], WRONG_WORD_1),
+    // The reference was written in place of the weak word, by an entry of a weak word and by one of a reference.
+    Row(
+        Whole::WeakLinked,
+        &[
+            Change(WORD_1, 8, 8, 0),
+            Change(WORD_5, 8, 8, T + 64),
+            Change(OFFSET, 1, 1, 5),
+        ],
+        BAD_SLID,
+    ),
+    Row(
+        Whole::WeakLinked,
+        &[
+            Change(WORD_1, 8, 8, 0),
+            Change(WORD_5, 8, 8, T + 64),
+            Change(KIND, 1, 1, 1),
+            Change(OFFSET, 1, 1, 5),
+        ],
+        YES,
+    ),
+    // The same at the new object, which has one weak word.
+    Row(Whole::WeakLinked, &[Change(MADE_KIND, 1, 1, 1)], BAD_MADE),
+    Row(Whole::WeakLinked, &[Change(MADE_KIND, 1, 1, 2)], BAD_MADE),
+    // The new object has a reference in place of it, and data.
+    Row(
+        Whole::WeakLinked,
+        &[
+            Change(MADE, 8, 8, 1_407_374_883_553_281),
+            Change(HEADER, 8, 8, 1_407_374_883_553_281),
+        ],
+        BAD_MADE,
+    ),
+    Row(
+        Whole::WeakLinked,
+        &[
+            Change(MADE, 8, 8, 1_407_374_883_553_281),
+            Change(HEADER, 8, 8, 1_407_374_883_553_281),
+            Change(MADE_KIND, 1, 1, 1),
+        ],
+        YES,
+    ),
+    Row(
+        Whole::WeakLinked,
+        &[
+            Change(MADE, 8, 8, 1_407_374_883_618_816),
+            Change(HEADER, 8, 8, 1_407_374_883_618_816),
+        ],
+        BAD_MADE,
+    ),
+    Row(
+        Whole::WeakLinked,
+        &[
+            Change(MADE, 8, 8, 1_407_374_883_618_816),
+            Change(HEADER, 8, 8, 1_407_374_883_618_816),
+            Change(MADE_KIND, 1, 1, 2),
+        ],
+        YES,
+    ),
+    // The new object has 63 weak words, and 64.
+    Row(
+        Whole::WeakLinked,
+        &[
+            Change(MADE, 8, 8, 1_407_645_466_492_928),
+            Change(HEADER, 8, 8, 1_407_645_466_492_928),
+            Change(TOTAL, 8, 8, 70),
+        ],
+        YES,
+    ),
+    Row(
+        Whole::WeakLinked,
+        &[
+            Change(MADE, 8, 8, 1_407_645_466_492_928),
+            Change(HEADER, 8, 8, 1_407_645_466_492_928),
+        ],
+        WRONG_TOTAL,
+    ),
+    Row(
+        Whole::WeakLinked,
+        &[
+            Change(MADE, 8, 8, 1_407_649_761_460_224),
+            Change(HEADER, 8, 8, 1_407_649_761_460_224),
+            Change(TOTAL, 8, 8, 71),
+        ],
+        BAD_HEADER,
+    ),
+    // A weak word is not what its entry says, nor what slid.
+    Row(Whole::WeakLinked, &[Change(WORD_1, 8, 8, 0)], WRONG_WORD_1),
+    Row(Whole::WeakLinked, &[Change(WORD_2, 8, 8, 0)], WRONG_WORD_2),
+    Row(
+        Whole::WeakLinked,
+        &[Change(MADE_WEAK, 8, 8, 0)],
+        WRONG_WORD_65,
+    ),
+    Row(
+        Whole::WeakLinked,
+        &[Change(MADE_BEHIND, 8, 8, 1)],
+        WRONG_WORD_66,
+    ),
+    // A weak word leads into an object, behind all objects, to a fresh page, and to from-space, there to an object that did not slide.
+    Row(
+        Whole::WeakLinked,
+        &[Change(WORD_1, 8, 8, T + 1), Change(VALUE, 8, 8, T + 1)],
+        LOOSE_1,
+    ),
+    Row(
+        Whole::WeakLinked,
+        &[Change(WORD_1, 8, 8, T + 6), Change(VALUE, 8, 8, T + 6)],
+        LOOSE_1,
+    ),
+    Row(
+        Whole::WeakLinked,
+        &[Change(WORD_1, 8, 8, T + 65), Change(VALUE, 8, 8, T + 65)],
+        LOOSE_1,
+    ),
+    Row(
+        Whole::WeakLinked,
+        &[Change(WORD_1, 8, 8, F + 4), Change(VALUE, 8, 8, F + 4)],
+        LOOSE_1,
+    ),
+    // That of the new object leads into it.
+    Row(
+        Whole::WeakLinked,
+        &[
+            Change(MADE_WEAK, 8, 8, T + 65),
+            Change(MADE_VALUE, 8, 8, T + 65),
+        ],
+        LOOSE_65,
+    ),
+    // A weak word becomes null, leads to either object that slid, and that of the new object to itself.
+    Row(
+        Whole::WeakLinked,
+        &[Change(WORD_1, 8, 8, 0), Change(VALUE, 8, 8, 0)],
+        YES,
+    ),
+    Row(
+        Whole::WeakLinked,
+        &[Change(WORD_1, 8, 8, T), Change(VALUE, 8, 8, T)],
+        YES,
+    ),
+    Row(
+        Whole::WeakLinked,
+        &[Change(WORD_1, 8, 8, T + 4), Change(VALUE, 8, 8, T + 4)],
+        YES,
+    ),
+    Row(
+        Whole::WeakLinked,
+        &[
+            Change(MADE_WEAK, 8, 8, T + 64),
+            Change(MADE_VALUE, 8, 8, T + 64),
+        ],
+        YES,
+    ),
+    // A weak word leads to what was made later.
+    Row(
+        Whole::WeakLinked,
+        &[Change(STAMP, 8, 8, 0), Change(HEADER_STAMP, 8, 8, 1)],
+        BAD_SLID,
+    ),
+    // Stamps 0, 0 and 2; 1, 0 and 3; and 2, 0 and 1.
+    Row(Whole::WeakLinked, &[Change(STAMP, 8, 8, 0)], REPEATED),
+    Row(Whole::WeakLinked, &[Change(MADE_STAMP, 8, 8, 3)], MISSING),
+    Row(
+        Whole::WeakLinked,
+        &[Change(STAMP, 8, 8, 2), Change(MADE_STAMP, 8, 8, 1)],
+        YES,
+    ),
+    // Total: the words that slid, and one more than there are.
+    Row(Whole::WeakLinked, &[Change(TOTAL, 8, 8, 6)], WRONG_TOTAL),
+    Row(Whole::WeakLinked, &[Change(TOTAL, 8, 8, 9)], WRONG_TOTAL),
+    // A page that was touched alone: a dump of edition one differs by the version alone.
+    Row(Whole::WeakTouched, &[], YES),
+    Row(Whole::WeakTouched, &[Change(VERSION, 4, 4, 1)], WRONG_HEAD),
+    // Dumps of other heaps.
+    Row(Whole::Linked, &[], WRONG_HEAD),
+    Row(Whole::Linked, &[Change(VERSION, 4, 4, 2)], WRONG_HEAD),
+];
+
+/// Where the three objects of edition one were compacted.
+pub static OTHER_EDITION: [Row; 8] = [
+    // The dump of edition two differs by the version alone, and has a null root, a wrong build, an entry of a weak word, or a wrong total as well.
+    Row(Whole::Linked, &[Change(VERSION, 4, 4, 2)], WRONG_HEAD),
+    Row(
+        Whole::Linked,
+        &[Change(VERSION, 4, 4, 2), Change(ROOT, 8, 8, 0)],
+        WRONG_HEAD,
+    ),
+    Row(
+        Whole::Linked,
+        &[Change(VERSION, 4, 4, 2), Change(1_113, 4, 4, 0)],
+        WRONG_HEAD,
+    ),
+    Row(
+        Whole::Linked,
+        &[Change(VERSION, 4, 4, 2), Change(KIND, 1, 1, 3)],
+        WRONG_HEAD,
+    ),
+    Row(
+        Whole::Linked,
+        &[Change(VERSION, 4, 4, 2), Change(1_121, 8, 8, 6)],
+        WRONG_HEAD,
+    ),
+    // In edition one there is no entry of a weak word.
+    Row(Whole::Linked, &[Change(KIND, 1, 1, 3)], NO_FIELD),
+    // Dumps of other heaps.
+    Row(Whole::WeakLinked, &[], WRONG_HEAD),
+    Row(Whole::WeakTouched, &[], WRONG_HEAD),
+];
