@@ -2,7 +2,7 @@
 use Rattle.std.proofs.Common.{◌≡◌, ℕ, suc, ◌+◌, ◌<◌, min, List, drop, length, get_or, sym, ap, ◌∙◌, arith}
 use Rattle.std.proofs.Math.Seq.{drop-cons}
 use Rattle.cell_steps.specs.Lists.{times}
-use Rattle.comp_history.specs.Finishes.{named}
+use Rattle.comp_history.specs.Builds.{named}
 
 -- one list more was counted
 pub list_counted : (p : ℕ) (lists : List (List ℕ)) (i : ℕ) (d list : List ℕ) (old new all : ℕ) → i < length lists → list ≡ get_or lists i d

@@ -20,7 +20,7 @@ use Rattle.cell_steps.specs.Lawful.{kind_at, filled}
 use Rattle.comp_history.specs.Merged.{entries_below, stamp_of}
 use Rattle.comp_history.specs.OneThread.{address_of}
 use Rattle.comp_history.specs.Shares.{allocated}
-use Rattle.comp_history.specs.Finishes.{named}
+use Rattle.comp_history.specs.Builds.{named}
 use Rattle.comp_dump.specs.Dumped.{BuiltPage}
 use Rattle.audit_faults.specs.declared.fault.AuditFault.{AuditFault}
 use Rattle.audit_faults.specs.declared.fault.AuditFault.TheVariants.{WrongWord, LooseReference, BadEntry, StampRepeated, StampMissing, WrongTotal, BuildUnclaimed, WrongHead}

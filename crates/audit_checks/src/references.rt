@@ -9,11 +9,12 @@ ghost use Rattle.audit_checks.specs.Told.{Tells};
 ghost use Rattle.audit_checks.specs.Noted.{leads, setup_at};
 
 use crate::fault::Stop;
-use crate::kinds::{kinds_on, refers};
+use crate::kinds::refers;
 use crate::setting::Setting;
 use crate::starts::Starts;
 use audit_faults::fault::AuditFault;
 use comp_dump::page::DumpedPage;
+use comp_history::kinds::kinds_on;
 use heap_layout::kind::Kind;
 use page_plan::TO_SPACE;
 use page_plan::plan::Plan;
@@ -54,7 +55,7 @@ fn check_page(
     requires lawful { IsLawful (setup_at setting) p page.now.journal }
     ensures { Tells (reference_faults (leads setting.entry.plan.now starts.now) (setup_at setting.entry) p page.now) result }
 {
-    let kinds = kinds_on(alloc, setting, p, page.journal())?;
+    let kinds = kinds_on(alloc, setting.plan, p, page.journal())?;
     check_loose(setting.plan, starts, &kinds, p, page.words())
 }
 

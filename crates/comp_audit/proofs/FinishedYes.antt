@@ -12,9 +12,10 @@ use Rattle.cell_steps.specs.View.{Slot}
 use Rattle.cell_steps.specs.Closing.{journal_in, page_at, HasBase}
 use Rattle.comp_history.specs.Merged.{history, CanMerge}
 use Rattle.comp_history.specs.Shares.{allocated}
-use Rattle.comp_history.specs.Finishes as finished
-use Rattle.comp_history.specs.Finishes.{pages_of, named, there, IsOfFlip}
-use Rattle.comp_history.specs.declared.finished.Finished.{Finished}
+use Rattle.comp_cycles.specs.Finishes as finished
+use Rattle.comp_history.specs.Builds.{named}
+use Rattle.comp_cycles.specs.Finishes.{pages_of, there, IsOfFlip}
+use Rattle.comp_cycles.specs.declared.finished.Finished.{Finished}
 use Rattle.comp_dump.specs.Dumped.{BuiltPage, Dumped}
 use Rattle.comp_dump.specs.Lent.{record_of, built_of}
 use Rattle.audit_checks.specs.Checks.{setup_for, journal_of}

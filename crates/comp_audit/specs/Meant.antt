@@ -8,8 +8,9 @@ use Rattle.cell_steps.specs.Setup.{Setup, pages, base_of}
 use Rattle.page_cells.specs.Objects.{ReferencesAreStarts}
 use Rattle.comp_history.specs.Merged.{history, CanMerge, IsOneHistory}
 use Rattle.comp_history.specs.Shares.{allocated}
-use Rattle.comp_history.specs.Finishes.{builds_in, edition_in, live_of, named, pages_of, roots_of, IsOfFlip}
-use Rattle.comp_history.specs.declared.finished.Finished.{Finished}
+use Rattle.comp_history.specs.Builds.{named}
+use Rattle.comp_cycles.specs.Finishes.{builds_in, edition_in, live_of, pages_of, roots_of, IsOfFlip}
+use Rattle.comp_cycles.specs.declared.finished.Finished.{Finished}
 use Rattle.comp_dump.specs.Dumped.{BuiltPage, Dumped, IsStored}
 use Rattle.comp_dump.specs.Lent.{record_of}
 use Rattle.audit_checks.specs.Checks.{setup_for, journals_in}

@@ -12,7 +12,7 @@ use Rattle.cell_steps.specs.declared.pass.Pass.{Pass}
 use Rattle.cell_steps.proofs.Sums.{total-set}
 use Rattle.page_cells.specs.Ends.{lists}
 use Rattle.page_cells.proofs.Rows.{at_map, at_set, at_value}
-use Rattle.comp_history.specs.Finishes.{named}
+use Rattle.comp_history.specs.Builds.{named}
 use Rattle.comp_access.proofs.Growing.{known_more}
 use Rattle.comp_mutator.specs.Mutators.{pass_of, IsMutatorOf}
 use Rattle.comp_mutator.specs.declared.space.Space.{Space}

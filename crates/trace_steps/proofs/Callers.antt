@@ -7,7 +7,7 @@ use Rattle.page_plan.specs.declared.builder.Builder.{Ghosts}
 use Rattle.cell_steps.specs.declared.steps.Steps.{Steps}
 use Rattle.page_cells.specs.Cells.{steps_of, AreNew}
 use Rattle.page_cells.proofs.Rows.{at_map}
-use Rattle.comp_history.specs.Forwarded.{AreForwarded}
+use Rattle.comp_cycles.specs.Forwarded.{AreForwarded}
 use Rattle.comp_mutator.specs.Mutators.{cells_of, pass_of, setup_of, AreMutatorsOf}
 use Rattle.comp_mutator.specs.declared.mutator.Mutator.{Mutator}
 use Rattle.comp_mutator.specs.declared.space.Space.{Space}

@@ -1,6 +1,6 @@
 use Rattle.std.proofs.Common.{ℕ, ◌≡◌, ◌+◌, ◌≤◌, min, drop, length, slice_index}
 use Rattle.page_cells.specs.Ends.{lists as items_of}
-use Rattle.comp_history.specs.Finishes.{named}
+use Rattle.comp_history.specs.Builds.{named}
 use Rattle.audit_checks.proofs.claims.count_lists.Given as goal
 
 abbrev pub invariant-loop-list : goal.invariant-loop-list

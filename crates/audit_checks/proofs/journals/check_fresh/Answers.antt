@@ -12,7 +12,8 @@ use Rattle.audit_checks.specs.Noted.{setup_at}
 use Rattle.audit_checks.specs.Told.{IsFirst}
 use Rattle.audit_faults.specs.declared.fault.AuditFault.{AuditFault}
 use Rattle.audit_faults.specs.declared.fault.AuditFault.TheVariants.{BadEntry}
-use Rattle.audit_checks.proofs.EntryByEntry.{entry_bad, entry_next, kinds_more}
+use Rattle.comp_history.proofs.JournalKinds.{kinds_more}
+use Rattle.audit_checks.proofs.EntryByEntry.{entry_bad, entry_next}
 use Rattle.audit_checks.proofs.journals.check_fresh.Goals.{then-from-low-via-then-from-low, then-from-low-via-else-from-low+then-not-may_follow}
 use Rattle.audit_checks.proofs.journals.check_fresh.Goals as goal
 

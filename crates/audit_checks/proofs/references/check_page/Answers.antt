@@ -1,8 +1,10 @@
-use Rattle.std.proofs.Common.{◌≡◌, ◌∙◌, ◌==◌, ◌||◌, ℕ, Option, List, not, ap, subst, arith, None}
+use Rattle.std.proofs.Common.{◌≡◌, ◌≤◌, ◌∙◌, ◌==◌, ◌||◌, ℕ, Option, List, [], not, refl, sym, ap, subst, arith, None}
 use Rattle.std.specs.Prelude.{slice_index_or}
 use Rattle.heap_layout.specs.declared.kind.Kind.{Kind}
-use Rattle.cell_steps.specs.Lawful.{kind_at}
+use Rattle.comp_journal.specs.declared.entry.Entry.{Entry}
+use Rattle.cell_steps.specs.Lawful.{filled, kind_at}
 use Rattle.cell_steps.specs.Setup.{address}
+use Rattle.comp_history.proofs.JournalKinds.{room_on}
 use Rattle.audit_faults.specs.declared.fault.AuditFault.{AuditFault}
 use Rattle.audit_faults.specs.declared.fault.AuditFault.TheVariants.{LooseReference}
 use Rattle.audit_checks.specs.Checks.{some_refers, loose_faults, reference_faults, unless}
@@ -10,6 +12,11 @@ use Rattle.audit_checks.specs.Told.{Tells}
 use Rattle.audit_checks.specs.Noted.{leads, setup_at}
 use Rattle.audit_checks.proofs.Telling.{same_items}
 use Rattle.audit_checks.proofs.references.check_page.Goals as goal
+
+pub kinds_on-requires : goal.kinds_on-requires
+kinds_on-requires c =
+    let u = setup_at c.args.setting in
+    subst (λ (journal : List Entry). filled u.heap.edition journal ≤ 64) (sym c.journal.ensures) (room_on u c.args.p [] c.args.page.now.journal (omega arith) c.requires.lawful)
 
 pub returns : goal.returns
 returns c =
@@ -20,7 +27,7 @@ returns c =
     let words : c.words.result.now ≡ page.words = c.words.ensures in
     let same : loose_faults (λ offset. some_refers (slice_index_or c.in_ok-kinds.kinds offset None)) leading c.args.p page.words ≡ reference_faults leading u c.args.p page =
     same_items (λ (word : ℕ × ℕ). test (slice_index_or c.in_ok-kinds.kinds word.0 None) word) (λ (word : ℕ × ℕ). test (kind_at u c.args.p page.journal word.0) word) 0 page.words
-    (λ k x lt. ap (λ (o : Option Kind). test o (k, x)) (c.in_ok-kinds.ensures k (omega (arith, lt, c.requires.stored.long)) ∙ ap (λ (j : List _). kind_at u c.args.p j k) c.journal.ensures)) in
+    (λ k x lt. ap (λ (o : Option Kind). test o (k, x)) (c.in_ok-kinds.ensures u refl refl k (omega (arith, lt, c.requires.stored.long)) ∙ ap (λ (j : List _). kind_at u c.args.p j k) c.journal.ensures)) in
     subst (λ (l : List AuditFault). Tells l c.check_loose.result) same
     (subst (λ (ys : List ℕ). Tells (loose_faults (λ offset. some_refers (slice_index_or c.in_ok-kinds.kinds offset None)) leading c.args.p ys) c.check_loose.result) words
     c.check_loose.ensures)

@@ -1,0 +1,287 @@
+-- At the end of a cycle: the objects that are kept are those of the next heap.
+use Rattle.std.proofs.Common.{◌≡◌, ℕ, zero, suc, ◌+◌, ◌-◌, ◌*◌, ◌<◌, ◌≤◌, Bool, true, false, cond, eqb, ◌==◌, Some, List, [], ◌∷◌, length, get_or, map, refl, sym, ap, ap₂, ◌∙◌, inl, inr, ⊎_elim, subst, arith}
+use Rattle.std.specs.List.{list_any}
+use Rattle.std.proofs.lemmas.Bool.{cases_lt, cases_Bool, both_ways, or_right}
+use Rattle.std.proofs.lemmas.List.{length-map, get_or-map}
+use Rattle.std.proofs.lemmas.Grind.{same_number_lists}
+use mathlib.Core.Option.{some}
+use lib.ListN.{get_elem?}
+use Rattle.heap_layout.specs.Header.{Head, header_of, refs_of, size_of}
+use Rattle.heap_layout.specs.Kinds.{count_of, first_of}
+use Rattle.heap_layout.specs.Heap.{Heap, header_at, object_at, from_address, is_target, IsTarget, IsClosed}
+use Rattle.heap_layout.specs.declared.kind.Kind.{Kind}
+use Rattle.heap_layout.specs.declared.kind.Kind.TheVariants.{Header, Reference, Weak, Data}
+use Rattle.page_plan.specs.Sliding.{to_address}
+use Rattle.page_plan.proofs.Objects.{reference-target}
+use Rattle.page_plan.proofs.Owners.{objects_stand}
+use Rattle.page_plan.proofs.Shapes.{field-inside}
+use Rattle.cell_steps.specs.Setup.{Setup, pages}
+use Rattle.cell_steps.specs.Locks.{Journals}
+use Rattle.cell_steps.specs.Starts.{IsPlace}
+use Rattle.page_cells.specs.Objects.{IsObjectAt, IsMadeAt}
+use Rattle.page_cells.proofs.Rows.{at_map_back, at_below, read_at}
+use Rattle.comp_history.specs.Merged.{CanMerge}
+use Rattle.comp_history.specs.OneThread.{OneThreadHeap, HasStart, IsNullOrStart, header_in}
+use Rattle.comp_cycles.specs.Stable.{StableHeap, Keeps, IsAmong, IsNullOrAmong, MayKeep, is_among, left_word, left_words, head_of, stepped}
+use Rattle.comp_cycles.specs.Told.{Names, number_at, names_in, pointers_of, told_object, told_word, IsToldAs}
+use Rattle.comp_cycles.specs.NextHeap.{word_in, kind_in, lowered, lowered_as, next_heap}
+use Rattle.comp_cycles.proofs.Living.{told_reference, told_other, header_is, Agrees}
+use Rattle.comp_cycles.proofs.Leaving.{among_is, none_among, left_other, left_weak, left_long, left_at}
+use Rattle.comp_cycles.proofs.Targets.{object_long, object_word, target_cases, target_mark, marks_once, named_mark, named_null, named_none}
+use Rattle.comp_cycles.proofs.Finals.{head_in, stands, StandsAt}
+use Rattle.comp_cycles.proofs.Rows.{next_kind}
+
+-- an element stands where it is read
+pub there_is : (xs : List ℕ) (i : ℕ) → i < length xs → get_elem? xs i ≡ some (get_or xs i 0)
+there_is [] i lt = absurd (omega (arith, lt))
+there_is (x ∷ xs) zero lt = refl
+there_is (x ∷ xs) (suc i) lt = there_is xs i (omega (arith, lt))
+
+-- two lists made of one, element by element the same
+map_same : {A : Type 0} {B : Type 0} (F : A → List ℕ) (f : ℕ → A) (G : B → List ℕ) (g : ℕ → B) (xs : List ℕ) → ((k : ℕ) → k < length xs → F (f (get_or xs k 0)) ≡ G (g (get_or xs k 0))) → map F (map f xs) ≡ map G (map g xs)
+map_same F f G g [] same = refl
+map_same F f G g (x ∷ xs) same = ap (λ l. F (f x) ∷ l) (map_same F f G g xs (λ k lt. same (suc k) (omega (arith, lt)))) ∙ ap (λ y. y ∷ map G (map g xs)) (same 0 (omega arith))
+
+-- a number that may be replaced by 0 and is 0
+zero_either : (b : Bool) (n : ℕ) → n ≡ 0 → cond b n 0 ≡ 0
+zero_either true n e = e
+zero_either false n e = refl
+
+module _ (u : Setup) (journals : Journals) (closed_before : IsClosed u.heap) (can : CanMerge u journals) (names : Names) (heap : OneThreadHeap) (stable : StableHeap)
+    (h : Agrees names heap stable) (null : number_at names 0 ≡ 0) (edition_is : heap.edition ≡ u.heap.edition)
+    (word_is : (i : ℕ) → i < 64 * pages u → heap.word (to_address i) ≡ word_in u journals i) (object_is : (a : ℕ) → HasStart heap a → IsObjectAt u journals a)
+    (roots marks : List ℕ) (closed : IsClosed (next_heap u journals roots marks)) (started : (k : ℕ) → k < length marks → HasStart heap (to_address (get_or marks k 0)))
+  where
+    abbrev next : Heap
+    next = next_heap u journals roots marks
+
+    abbrev mark : ℕ → ℕ
+    mark k = get_or marks k 0
+
+    -- the object at the k-th mark, in to-space
+    abbrev at : ℕ → ℕ
+    at k = to_address (mark k)
+
+    abbrev header : ℕ → Head
+    header k = header_in heap (at k)
+
+    -- the numbers of all of them
+    abbrev pub kept : List ℕ
+    kept = map (λ i. number_at names (to_address i)) marks
+
+    abbrev name : Names
+    name = names_in next kept
+
+    kept_long : length kept ≡ length marks
+    kept_long = length-map marks (λ i. number_at names (to_address i))
+
+    kept_is : (k : ℕ) → k < length marks → get_or kept k 0 ≡ number_at names (at k)
+    kept_is k lt = get_or-map (λ i. number_at names (to_address i)) marks k 0 0 lt
+
+    -- objects lie in to-space
+    high : (a : ℕ) → HasStart heap a → to_address 0 ≤ a
+    high a s = ⊎_elim
+        (λ (slid : IsPlace u.heap a). ((objects_stand u.heap closed_before).stands a slid.0 slid.1).above)
+        (λ (m : IsMadeAt u journals a). omega (arith, m.at))
+        (object_is a s)
+
+    object : (k : ℕ) → k < length marks → StandsAt u journals (mark k)
+    object k lt = stands u journals closed_before can (mark k) (object_is (at k) (started k lt))
+
+    inside : (k : ℕ) → k < length marks → mark k + size_of (head_in u journals (mark k)) ≤ 64 * pages u
+    inside k lt = (object k lt).ends
+
+    head : (k : ℕ) → k < length marks → header k ≡ head_in u journals (mark k)
+    head k lt = ap₂ header_of edition_is (word_is (mark k) (let e = inside k lt in omega (arith, e)))
+
+    -- its header word in the next heap
+    next_first : (k : ℕ) → k < length marks → get_or next.words (mark k) 0 ≡ heap.word (at k)
+    next_first k lt =
+        let few : mark k < 64 * pages u = let e = inside k lt in omega (arith, e) in
+        next_kind u journals closed_before can roots marks (mark k) (Some Header) few (object k lt).first ∙ sym (word_is (mark k) few)
+
+    next_head : (k : ℕ) → k < length marks → header_at u.heap.edition next.words (mark k) ≡ header k
+    next_head k lt = ap₂ header_of (sym edition_is) (next_first k lt)
+
+    -- word j of the k-th object in to-space
+    word_of : (k j : ℕ) → k < length marks → j < size_of (header k) → heap.word (at k + j) ≡ word_in u journals (mark k + j)
+    word_of k j lt few =
+        let e = inside k lt in
+        let s = ap size_of (head k lt) in
+        ap heap.word (let z : at k + j ≡ to_address (mark k + j) = omega arith in z) ∙ word_is (mark k + j) (omega (arith, e, s, few))
+
+    room : (k j : ℕ) → k < length marks → j < size_of (header k) → mark k + j < 64 * pages u
+    room k j lt few = let e = inside k lt in let s = ap size_of (head k lt) in omega (arith, e, s, few)
+
+    -- a field of the k-th object in the next heap
+    next_field : (k : ℕ) (c : Kind) (f j : ℕ) → k < length marks → f < count_of c (header k) → first_of c (header k) + f ≡ j
+        → get_or next.words (mark k + j) 0 ≡ lowered_as (Some c) (heap.word (at k + j))
+    next_field k c f j lt few place =
+        let is = head k lt in
+        let first = ap (first_of c) is in
+        let small : j < size_of (header k) = let within = field-inside c (header k) f few in omega (arith, within, place) in
+        let kind : kind_in u journals (mark k + j) ≡ Some c =
+        ap (kind_in u journals) (let z : mark k + j ≡ mark k + first_of c (head_in u journals (mark k)) + f = omega (arith, place, first) in z)
+        ∙ (object k lt).fields c f (subst (λ x. f < count_of c x) is few) in
+        next_kind u journals closed_before can roots marks (mark k + j) (Some c) (room k j lt small) kind ∙ ap (lowered_as (Some c)) (sym (word_of k j lt small))
+
+    -- its references and weak words are lowered
+    next_pointer : (k j : ℕ) → k < length marks → 1 ≤ j → j ≤ pointers_of (header k) → get_or next.words (mark k + j) 0 ≡ lowered (heap.word (at k + j))
+    next_pointer k j lt low few =
+        let refs = refs_of (header k) in
+        ⊎_elim
+        (λ (weak : refs < j). next_field k Weak (j - (1 + refs)) j lt (omega (arith, weak, few)) (omega (arith, weak)))
+        (λ (strong : j ≤ refs). next_field k Reference (j - 1) j lt (omega (arith, low, strong)) (omega (arith, low)))
+        (cases_lt refs j)
+
+    -- and all else is as it was
+    next_other : (k j : ℕ) → k < length marks → (1 ≤ j → pointers_of (header k) < j) → j < size_of (header k) → get_or next.words (mark k + j) 0 ≡ heap.word (at k + j)
+    next_other k zero lt behind few = ap (λ n. get_or next.words n 0) (let z : mark k + 0 ≡ mark k = omega arith in z) ∙ next_first k lt ∙ ap heap.word (let z : at k ≡ at k + 0 = omega arith in z)
+    next_other k (suc j) lt behind few =
+        let past = behind (omega arith) in
+        next_field k Data (j - pointers_of (header k)) (suc j) lt (omega (arith, few, past)) (omega (arith, past))
+
+    -- where a reference of the next heap leads
+    pub leads : (w : ℕ) → IsNullOrStart heap w → IsTarget marks (lowered w) → (number_at name (lowered w) ≡ number_at names w) × IsNullOrAmong kept (number_at names w)
+    leads w from target = ⊎_elim
+        (λ (none : lowered w ≡ 0). ⊎_elim
+        (λ (zero_is : w ≡ 0). (ap (number_at name) none ∙ named_null next closed kept ∙ sym (ap (number_at names) zero_is ∙ null), inl (ap (number_at names) zero_is ∙ null)))
+        (λ (s : HasStart heap w). let up = high w s in absurd (omega (arith, up, none)))
+        from)
+        (λ (found : (l : ℕ) × (l < length marks) × (from_address (get_or marks l 0) ≡ lowered w)).
+        let l = found.0 in
+        ⊎_elim
+        (λ (zero_is : w ≡ 0). let e = found.2 in absurd (omega (arith, e, zero_is)))
+        (λ (s : HasStart heap w).
+        let up = high w s in
+        let e = found.2 in
+        let here : at l ≡ w = omega (arith, e, up) in
+        let n : get_or kept l 0 ≡ number_at names w = kept_is l found.1 ∙ ap (number_at names) here in (
+          ap (number_at name) (sym e) ∙ named_mark next closed kept l kept_long found.1 ∙ n,
+          inr (l, there_is kept l (omega (arith, kept_long, found.1)) ∙ ap some n),
+        ))
+        from)
+        (target_cases marks (lowered w) target)
+
+    target_of : (k j : ℕ) → k < length marks → 1 ≤ j → j ≤ refs_of (header k) → IsTarget marks (lowered (heap.word (at k + j)))
+    target_of k j lt low few =
+        let is = ap refs_of (next_head k lt) in
+        subst (IsTarget marks) (next_pointer k j lt low (omega (arith, few))) (reference-target next closed k j lt low (omega (arith, is, few)))
+
+    leads_of : (k j : ℕ) → k < length marks → 1 ≤ j → j ≤ refs_of (header k) → (number_at name (lowered (heap.word (at k + j))) ≡ number_at names (heap.word (at k + j))) × IsNullOrAmong kept (number_at names (heap.word (at k + j)))
+    leads_of k j lt low few = leads (heap.word (at k + j)) (h.leads (at k) j (started k lt) low (omega (arith, few))) (target_of k j lt low few)
+
+    -- a number that is kept is that of a marked object
+    kept_at : (n : ℕ) → IsAmong kept n → (k : ℕ) × (k < length marks) × (number_at names (at k) ≡ n)
+    kept_at n (i, e) =
+        let back = at_map_back (λ m. number_at names (to_address m)) marks i n e in
+        (i, at_below marks i back.0 back.1, ap (λ m. number_at names (to_address m)) (read_at marks i back.0 0 back.1) ∙ back.2)
+
+    -- what becomes of a weak word: where it leads to an object that is kept it names it, and else it is null
+    weak_leads : (w : ℕ) → IsNullOrStart heap w → cond (is_among kept (number_at names w)) (number_at names w) 0 ≡ number_at name (lowered w)
+    weak_leads w from =
+        let n = number_at names w in
+        ⊎_elim
+        (λ (target : is_target marks (lowered w) ≡ true).
+        let to = leads w from target in
+        ⊎_elim
+        (λ (none : n ≡ 0). zero_either (is_among kept n) n none ∙ sym none ∙ sym to.0)
+        (λ (among : IsAmong kept n). ap (λ b. cond b n 0) (among_is kept n among.0 among.1) ∙ sym to.0)
+        to.1)
+        (λ (no_target : is_target marks (lowered w) ≡ false).
+        let gone : number_at name (lowered w) ≡ 0 = named_none next closed kept (lowered w) no_target in
+        ⊎_elim
+        (λ (zero_is : w ≡ 0). zero_either (is_among kept n) n (ap (number_at names) zero_is ∙ null) ∙ sym gone)
+        (λ (s : HasStart heap w).
+        ap (λ b. cond b n 0)
+        (none_among kept n
+        (λ i e.
+        let k = kept_at n (i, e) in
+        let same : at k.0 ≡ w = h.told.one (at k.0) w (started k.0 k.1) s k.2 in
+        let found = target_mark marks (lowered w) k.0 k.1 (omega (arith, same)) in
+        both_ways (is_target marks (lowered w)) no_target (or_right (eqb (lowered w) 0) (list_any (λ m. from_address m == lowered w) marks) found)))
+        ∙ sym gone)
+        from)
+        (cases_Bool (is_target marks (lowered w)))
+
+    -- the k-th object is the same in both heaps, once weak words that named what is not kept are null
+    same_object : (k : ℕ) → k < length marks → left_words (head_of stable (number_at names (at k))) kept 0 (stable.words (number_at names (at k))) ≡ told_object name (object_at u.heap.edition next.words (mark k))
+    same_object k lt =
+        let n = number_at names (at k) in
+        let p = pointers_of (header k) in
+        let refs = refs_of (header k) in
+        let s = started k lt in
+        let placed = closed.placed k 0 lt in
+        let is = next_head k lt in
+        let long = h.told.long (at k) s in
+        let other_long = object_long name u.heap.edition next.words (mark k) placed in
+        let sizes = ap size_of is in
+        let words = stable.words n in
+        let same_head = header_is names heap stable h (at k) s in
+        ap (λ x. left_words x kept 0 words) same_head
+        ∙ same_number_lists (left_words (header k) kept 0 words) (told_object name (object_at u.heap.edition next.words (mark k)))
+        (left_long (header k) kept 0 words ∙ long ∙ sym sizes ∙ sym other_long)
+        (λ j few.
+        let all = left_long (header k) kept 0 words in
+        let small : j < size_of (header k) = omega (arith, few, all, long) in
+        let w = heap.word (at k + j) in
+        let v = get_or next.words (mark k + j) 0 in
+        let read : get_or (left_words (header k) kept 0 words) j 0 ≡ left_word (header k) kept j (told_word names p j w) =
+        left_at (header k) kept 0 words j (omega (arith, small, long))
+        ∙ ap (λ i. left_word (header k) kept i (get_or words j 0)) (let z : 0 + j ≡ j = omega arith in z)
+        ∙ ap (left_word (header k) kept j) (h.told.words (at k) j s small) in
+        let to : get_or (told_object name (object_at u.heap.edition next.words (mark k))) j 0 ≡ told_word name p j v =
+        object_word name u.heap.edition next.words (mark k) j placed (omega (arith, small, sizes)) ∙ ap (λ x. told_word name (pointers_of x) j v) is in
+        let stays : (1 ≤ j → p < j) → left_word (header k) kept j (told_word names p j w) ≡ told_word name p j v =
+        λ behind.
+        left_other (header k) kept j (told_word names p j w) (λ low. let past = behind (omega (arith, low)) in omega (arith, past))
+        ∙ told_other names p j w behind ∙ sym (told_other name p j v behind ∙ next_other k j lt behind small) in
+        read
+        ∙ ⊎_elim
+        (λ (first : j < 1). stays (λ low. absurd (omega (arith, first, low))))
+        (λ (low : 1 ≤ j). ⊎_elim
+        (λ (past : p < j). stays (λ _. past))
+        (λ (within : j ≤ p).
+        let from = ap (left_word (header k) kept j) (told_reference names p j w low within) in
+        let pointer = told_reference name p j v low within ∙ ap (number_at name) (next_pointer k j lt low within) in
+        ⊎_elim
+        (λ (weak : refs < j).
+        from ∙ left_weak (header k) kept j (number_at names w) (omega (arith, weak)) (omega (arith, within)) ∙ weak_leads w (h.leads (at k) j s low within) ∙ sym pointer)
+        (λ (strong : j ≤ refs).
+        from ∙ left_other (header k) kept j (number_at names w) (λ past. absurd (omega (arith, past, strong))) ∙ sym (leads_of k j lt low strong).0 ∙ sym pointer)
+        (cases_lt refs j))
+        (cases_lt p j))
+        (cases_lt j 1)
+        ∙ sym to)
+
+    pub may_keep : MayKeep stable kept
+    may_keep = record {
+      there = λ n among. let k = kept_at n among in subst (IsAmong stable.there) k.2 (h.told.there (at k.0) (started k.0 k.1));
+      closed = λ n field among few.
+          let k = kept_at n among in
+          let s = started k.0 k.1 in
+          let is : head_of stable n ≡ header k.0 = ap (head_of stable) (sym k.2) ∙ header_is names heap stable h (at k.0) s in
+          let small : field < refs_of (header k.0) = subst (λ x. field < refs_of x) is few in
+          let p = pointers_of (header k.0) in
+          let read : get_or (stable.words n) (1 + field) 0 ≡ number_at names (heap.word (at k.0 + (1 + field))) =
+          ap (λ x. get_or (stable.words x) (1 + field) 0) (sym k.2) ∙ h.told.words (at k.0) (1 + field) s (omega (arith, small))
+          ∙ told_reference names p (1 + field) (heap.word (at k.0 + (1 + field))) (omega arith) (omega (arith, small)) in
+          subst (IsNullOrAmong kept) (sym read) (leads_of k.0 (1 + field) k.1 (omega arith) (omega (arith, small))).1;
+    }
+
+    pub told_next : IsToldAs next kept (stepped stable (Keeps kept))
+    told_next = record {
+      edition = h.told.edition ∙ edition_is;
+      there = refl;
+      words = map_same (stepped stable (Keeps kept)).words (λ i. number_at names (to_address i)) (told_object name) (object_at u.heap.edition next.words) marks (λ k lt. same_object k lt);
+      given = λ i lt.
+          let inside : i < length marks = omega (arith, lt, kept_long) in
+          let g = h.given (at i) (started i inside) in
+          let e = kept_is i inside in
+          (let low = g.0 in omega (arith, low, e), let up = g.1 in omega (arith, up, e));
+      once = λ i j lt lt2 e.
+          let first : i < length marks = omega (arith, lt, kept_long) in
+          let second : j < length marks = omega (arith, lt2, kept_long) in
+          let same = h.told.one (at i) (at j) (started i first) (started j second) (sym (kept_is i first) ∙ e ∙ kept_is j second) in
+          marks_once next closed i j first second (omega (arith, same));
+    }

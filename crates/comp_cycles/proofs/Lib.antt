@@ -1,0 +1,16 @@
+pub mod Naming
+pub mod ObjectWords
+pub mod Living
+pub mod Lives
+pub mod FreshZeros
+pub mod Targets
+pub mod Begun
+pub mod Leaving
+pub mod Finals
+pub mod Rows
+pub mod WeakWords
+pub mod Kept
+pub mod Chapters
+pub mod Marks
+pub mod MovedWords
+pub mod Refusals

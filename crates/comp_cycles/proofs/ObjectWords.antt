@@ -1,0 +1,88 @@
+-- The words of an object of a row, whose references and weak words are changed by one function, and whose header and data words stay.
+use Rattle.std.proofs.Common.{◌≡◌, ℕ, zero, suc, ◌+◌, ◌-◌, ◌<◌, ◌≤◌, List, ◌∷◌, ◌++◌, length, get_or, take, drop, map, sym, ap, ◌∙◌, arith, length-append, length-drop, length-take, drop-drop}
+use Rattle.std.proofs.Math.Seq.{take-add}
+use Rattle.std.proofs.lemmas.List.{length-map, map-append, get_or-map, get_or-take, get_or-drop, get_or_append_left, get_or-append_right}
+use Rattle.heap_layout.specs.Header.{refs_of, weak_of, data_of, size_of}
+use Rattle.heap_layout.specs.declared.edition.Edition.{Edition}
+use Rattle.heap_layout.specs.Heap.{Object, header_at, object_at, IsPlaced}
+
+-- the words, where g says what becomes of a reference and of a weak word
+abbrev pub words_by : (ℕ → ℕ) → Object → List ℕ
+words_by g object = object.header.word ∷ (map g object.references ++ map g object.weak ++ object.data_words)
+
+-- words that are changed, and words that stay, side by side
+length-parts : (words : List ℕ) (g : ℕ → ℕ) (i refs more : ℕ) → i + (1 + refs + more) ≤ length words
+    → length (map g (take refs (drop (i + 1) words)) ++ take more (drop (i + 1 + refs) words)) ≡ refs + more
+length-parts words g i refs more within = simp (length-append, length-map, length-take, length-drop) (omega arith)
+
+at-reference : (words : List ℕ) (g : ℕ → ℕ) (i refs more f : ℕ) → i + (1 + refs + more) ≤ length words → f < refs
+    → get_or (map g (take refs (drop (i + 1) words)) ++ take more (drop (i + 1 + refs) words)) f 0 ≡ g (get_or words (i + 1 + f) 0)
+at-reference words g i refs more f within lt =
+    let references = take refs (drop (i + 1) words) in
+    let long : length references ≡ refs = simp (length-take, length-drop) (omega arith) in
+    get_or_append_left (map g references) _ 0 f (omega (arith, length-map references g))
+    ∙ get_or-map g references f 0 0 (omega arith)
+    ∙ ap g (get_or-take refs (drop (i + 1) words) f 0 lt ∙ get_or-drop (i + 1) words f 0)
+
+at-data : (words : List ℕ) (g : ℕ → ℕ) (i refs more f : ℕ) → i + (1 + refs + more) ≤ length words → refs ≤ f → f < refs + more
+    → get_or (map g (take refs (drop (i + 1) words)) ++ take more (drop (i + 1 + refs) words)) f 0 ≡ get_or words (i + 1 + f) 0
+at-data words g i refs more f within above lt =
+    let references = take refs (drop (i + 1) words) in
+    let long : length (map g references) ≡ refs = simp (length-map, length-take, length-drop) (omega arith) in
+    let same : i + 1 + refs + (f - refs) ≡ i + 1 + f = omega arith in
+    get_or-append_right (map g references) _ refs f 0 long above
+    ∙ get_or-take more (drop (i + 1 + refs) words) (f - refs) 0 (omega arith)
+    ∙ get_or-drop (i + 1 + refs) words (f - refs) 0
+    ∙ ap (λ (k : ℕ). get_or words k 0) same
+
+module _ (edition : Edition) (g : ℕ → ℕ) (words : List ℕ) (i : ℕ) where
+  abbrev refs : ℕ
+  refs = refs_of (header_at edition words i)
+
+  abbrev weak : ℕ
+  weak = weak_of (header_at edition words i)
+
+  abbrev more : ℕ
+  more = data_of (header_at edition words i)
+
+  -- the words that are changed are a range of the row
+  changed-words : map g (object_at edition words i).references ++ map g (object_at edition words i).weak ≡ map g (take (refs + weak) (drop (i + 1) words))
+  changed-words =
+      let behind = drop (i + 1) words in
+      let dropped : drop refs behind ≡ drop (i + 1 + refs) words = drop-drop refs (i + 1) words in
+      let whole : take (refs + weak) behind ≡ take refs behind ++ take weak (drop (i + 1 + refs) words) =
+      take-add refs weak behind ∙ ap (λ (xs : List ℕ). take refs behind ++ take weak xs) dropped in
+      sym (ap (map g) whole ∙ map-append g (take refs behind) (take weak (drop (i + 1 + refs) words)))
+
+  -- so all words are the header, that range changed, and the data words
+  all-words : words_by g (object_at edition words i) ≡ get_or words i 0 ∷ (map g (take (refs + weak) (drop (i + 1) words)) ++ take more (drop (i + 1 + (refs + weak)) words))
+  all-words =
+      let at : i + 1 + refs + weak ≡ i + 1 + (refs + weak) = omega arith in
+      ap (λ (xs : List ℕ). get_or words i 0 ∷ (xs ++ (object_at edition words i).data_words)) changed-words
+      ∙ ap (λ (n : ℕ). get_or words i 0 ∷ (map g (take (refs + weak) (drop (i + 1) words)) ++ take more (drop n words))) at
+
+  -- there are as many of them as before
+  pub words-length : IsPlaced edition words i → length (words_by g (object_at edition words i)) ≡ size_of (header_at edition words i)
+  words-length placed =
+      let within : i + (1 + (refs + weak) + more) ≤ length words = omega (arith, placed.within) in
+      ap length all-words ∙ omega (arith, length-parts words g i (refs + weak) more within)
+
+  -- references and weak words are changed
+  pub word-changed : (f : ℕ) → IsPlaced edition words i → 1 ≤ f → f ≤ refs + weak → get_or (words_by g (object_at edition words i)) f 0 ≡ g (get_or words (i + f) 0)
+  word-changed zero placed positive le = absurd (omega (arith, positive))
+  word-changed (suc f) placed positive le =
+      let same : i + 1 + f ≡ i + suc f = omega arith in
+      ap (λ (xs : List ℕ). get_or xs (suc f) 0) all-words
+      ∙ at-reference words g i (refs + weak) more f (omega (arith, placed.within)) (omega (arith, le))
+      ∙ ap (λ (n : ℕ). g (get_or words n 0)) same
+
+  -- the header and the data words stay
+  pub word-stays : (f : ℕ) → IsPlaced edition words i → (1 ≤ f → refs + weak < f) → f < size_of (header_at edition words i)
+      → get_or (words_by g (object_at edition words i)) f 0 ≡ get_or words (i + f) 0
+  word-stays zero placed above lt = ap (λ (n : ℕ). get_or words n 0) (let z : i ≡ i + 0 = omega arith in z)
+  word-stays (suc f) placed above lt =
+      let same : i + 1 + f ≡ i + suc f = omega arith in
+      let behind = above (omega arith) in
+      ap (λ (xs : List ℕ). get_or xs (suc f) 0) all-words
+      ∙ at-data words g i (refs + weak) more f (omega (arith, placed.within)) (omega (arith, behind)) (omega (arith, lt))
+      ∙ ap (λ (n : ℕ). get_or words n 0) same

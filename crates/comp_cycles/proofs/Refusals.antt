@@ -1,0 +1,117 @@
+-- Why a heap is not followed by another, and what follows it else.
+use Rattle.std.proofs.Common.{◌≡◌, ℕ, ◌*◌, ◌<◌, ◌&&◌, ltb, List, [], ◌∷◌, ◌++◌, length, map, Result, Ok, Err, IfOk, sym, ap, ap₂, ◌∙◌, subst, arith}
+use Rattle.std.specs.List.{range_with_len}
+use Rattle.std.proofs.lemmas.List.{length-map}
+use Rattle.heap_layout.specs.Bits.{bit}
+use Rattle.heap_layout.specs.Heap.{Heap, is_start}
+use Rattle.heap_layout.specs.Faults.{size_faults, mark_faults, root_faults, target_faults, weak_faults, faults, IsFirst, IsAccepted}
+use Rattle.heap_layout.specs.declared.edition.Edition.{Edition}
+use Rattle.heap_layout.specs.declared.fault.LayoutFault.{LayoutFault}
+use Rattle.heap_layout.specs.declared.fault.LayoutFault.TheVariants.{TooLarge, ObjectPastEnd, ObjectTooLong, MarkNotStart, MarksNotRising, BadRoot, UnmarkedTarget, Truncated, TrailingBytes, BadMagic, OutOfMemory, Device, BadWeak}
+use Rattle.page_plan.proofs.Objects.{live_words-few}
+use Rattle.cell_steps.specs.Setup.{Setup, pages}
+use Rattle.cell_steps.specs.Locks.{Journals}
+use Rattle.comp_cycles.specs.Finishes.{pages_of, roots_of, journals_of}
+use Rattle.comp_history.specs.Merged.{CanMerge}
+use Rattle.comp_cycles.specs.declared.finished.Finished.{Finished}
+use Rattle.comp_cycles.specs.NextHeap.{lowered, next_word, next_heap, next_faults, object_starts}
+use Rattle.comp_cycles.specs.Ends.{setup_in, AreMoved, IsEndOf, IsRefusedFor}
+use Rattle.comp_cycles.proofs.MovedWords.{starts_are, words_are}
+use Rattle.comp_cycles.proofs.Rows.{next_long, same_faults}
+
+pub refused_first : (list : List LayoutFault) (fault : LayoutFault) → IsFirst list fault → IsRefusedFor list fault
+refused_first list OutOfMemory h = tt
+refused_first list TooLarge h = h
+refused_first list (ObjectPastEnd i) h = h
+refused_first list (ObjectTooLong i) h = h
+refused_first list (MarkNotStart i) h = h
+refused_first list (MarksNotRising i) h = h
+refused_first list (BadRoot k) h = h
+refused_first list (UnmarkedTarget i) h = h
+refused_first list Truncated h = h
+refused_first list TrailingBytes h = h
+refused_first list BadMagic h = h
+refused_first list Device h = h
+refused_first list (BadWeak i) h = h
+
+abbrev heap_of : Edition → List ℕ → List ℕ → List ℕ → Heap
+heap_of edition marks words roots = record { edition = edition; words = words; marks = marks; roots = roots }
+
+-- the first of some faults is the first of all
+first_of : (a b : List LayoutFault) (fault : LayoutFault) → IsFirst a fault → IsFirst (a ++ b) fault
+first_of [] b fault h = absurd h
+first_of (x ∷ a) b fault h = h
+
+module _ (heap : Heap) (f : Finished) (marks : List ℕ) (e : IsEndOf heap f) where
+  abbrev u : Setup
+  u = setup_in heap f
+
+  abbrev journals : Journals
+  journals = journals_of f
+
+  abbrev roots : List ℕ
+  roots = roots_of f
+
+  abbrev next : Heap
+  next = next_heap u journals roots marks
+
+  can : CanMerge u journals
+  can = e.finished.history.merges
+
+  pages_are : length (pages_of f) ≡ pages u
+  pages_are = e.finished.pages.places
+
+  -- there are few pages
+  pub few_pages : 64 * length (pages_of f) < 4294967296
+  few_pages = let few = live_words-few heap e.closed in let fresh = e.few_fresh in omega (arith, few, fresh)
+
+  abbrev sizes : List LayoutFault
+  sizes = size_faults (64 * length (pages_of f)) (length marks) (length roots)
+
+  abbrev others : List LayoutFault
+  others = root_faults marks next.roots
+
+  abbrev targets : List LayoutFault
+  targets = target_faults heap.edition next.words marks marks
+
+  abbrev last : List LayoutFault
+  last = weak_faults heap.edition next.words marks
+
+  sizes_are : sizes ≡ size_faults (length next.words) (length marks) (length next.roots)
+  sizes_are =
+      ap₂ (λ w r. size_faults w (length marks) r) (ap (λ n. 64 * n) pages_are ∙ sym (next_long u journals e.closed can roots marks)) (sym (length-map roots lowered))
+
+  pub size_refused : (fault : LayoutFault) → IsFirst sizes fault → IsRefusedFor (next_faults u journals next) fault
+  size_refused fault first =
+      let here : IsFirst (size_faults (length next.words) (length marks) (length next.roots)) fault = subst (λ l. IsFirst l fault) sizes_are first in
+      let marked = mark_faults (object_starts u journals) 0 marks in
+      let own = size_faults (length next.words) (length marks) (length next.roots) in
+      refused_first (next_faults u journals next) fault
+      (first_of (((own ++ marked) ++ others) ++ targets) last fault
+      (first_of ((own ++ marked) ++ others) targets fault (first_of (own ++ marked) others fault (first_of own marked fault here))))
+
+  pub mark_refused : (fault : LayoutFault) → sizes ≡ [] → IsFirst (mark_faults (object_starts u journals) 0 marks) fault → IsRefusedFor (next_faults u journals next) fault
+  mark_refused fault none first =
+      let marked = mark_faults (object_starts u journals) 0 marks in
+      refused_first (next_faults u journals next) fault
+      (subst (λ l. IsFirst ((((l ++ marked) ++ others) ++ targets) ++ last) fault) (sym none ∙ sizes_are)
+      (first_of ((marked ++ others) ++ targets) last fault (first_of (marked ++ others) targets fault (first_of marked others fault first))))
+
+  -- the bits tell where marks may be
+  pub bits_are : (words bits : List ℕ) → AreMoved u journals (64 * length (pages_of f)) words bits → length bits ≡ length (pages_of f) → (i : ℕ) → is_start (object_starts u journals) i ≡ (ltb i (64 * length bits) && bit bits i)
+  bits_are words bits moved long i =
+      starts_are u journals (64 * length (pages_of f)) words bits moved (ap (λ n. 64 * n) pages_are) i ∙ ap (λ n. ltb i n && bit bits i) (ap (λ n. 64 * n) (sym long))
+
+  -- what is made of the words that were moved is the next heap
+  pub made_next : (edition : Edition) (words bits lower : List ℕ) → edition ≡ heap.edition → AreMoved u journals (64 * length (pages_of f)) words bits → lower ≡ map lowered roots
+      → record { edition = edition; words = words; marks = marks; roots = lower } ≡ next
+  made_next edition words bits lower same moved roots_are =
+      let w : words ≡ next.words = words_are u journals (64 * length (pages_of f)) words bits moved ∙ ap (λ n. map (next_word u journals) (range_with_len 0 (64 * n))) pages_are in
+      ap (λ e. heap_of e marks words lower) same ∙ ap₂ (heap_of heap.edition marks) w roots_are
+
+  pub faults_are : sizes ≡ [] → mark_faults (object_starts u journals) 0 marks ≡ [] → faults next ≡ next_faults u journals next
+  faults_are none none_marked = same_faults u journals e.closed can roots marks (sym sizes_are ∙ none) none_marked
+
+  pub accepted_is : (r : Result Heap LayoutFault) (made : Heap) → made ≡ next → sizes ≡ [] → mark_faults (object_starts u journals) 0 marks ≡ [] → IfOk r (λ h. h ≡ made) → IfOk r IsAccepted → IfOk r (λ _. next_faults u journals next ≡ [])
+  accepted_is (Ok h) made is none none_marked same accepted = sym (faults_are none none_marked) ∙ subst (λ x. faults x ≡ []) (same ∙ is) accepted
+  accepted_is (Err fault) made is none none_marked same accepted = tt

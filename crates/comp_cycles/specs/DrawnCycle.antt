@@ -1,0 +1,43 @@
+-- An example: the three objects, of which the first and the last are marked; one mutator makes an object and stores it in the last of them; then these two are marked. In the cycle
+-- behind it the mutator stores null there, and that object alone is marked.
+use Rattle.std.specs.Prelude.{ℕ, zero, suc, List, [], ◌∷◌, map}
+use Rattle.heap_layout.specs.Header.{header_word}
+use Rattle.heap_layout.specs.declared.kind.Kind.TheVariants.{Header, Reference}
+use Rattle.cell_steps.specs.Locks.{Journals}
+use Rattle.comp_history.specs.Drawn.{entry, t, three_objects}
+use Rattle.comp_cycles.specs.Cycles.{Cycle, heap_after}
+use Rattle.comp_cycles.specs.Stable.{StableHeap}
+
+abbrev pub drawn_journals : Journals
+drawn_journals zero = entry 1 0 Reference 3 (t 64) ∷ []
+drawn_journals (suc zero) = entry 0 0 Header 0 (header_word 0 0 9) ∷ []
+drawn_journals (suc (suc p)) = []
+
+abbrev pub drawn_cycle : List ℕ → Cycle
+drawn_cycle marks = record {
+  setup = record { heap = three_objects; compacted = 1; fresh = 2; mutators = 1 };
+  journals = drawn_journals;
+  roots = t 2 ∷ [];
+  marks = marks;
+}
+
+abbrev pub second_journals : Journals
+second_journals zero = entry 0 0 Reference 1 0 ∷ []
+second_journals (suc p) = []
+
+-- the cycle behind it
+abbrev pub second_cycle : Cycle
+second_cycle = record {
+  setup = record { heap = heap_after (drawn_cycle (2 ∷ 64 ∷ [])); compacted = 1; fresh = 2; mutators = 1 };
+  journals = second_journals;
+  roots = t 0 ∷ [];
+  marks = 0 ∷ [];
+}
+
+-- both of them
+abbrev pub drawn_cycles : List Cycle
+drawn_cycles = drawn_cycle (2 ∷ 64 ∷ []) ∷ second_cycle ∷ []
+
+-- the words of the first three objects
+abbrev pub words_of_three : StableHeap → List (List ℕ)
+words_of_three stable = map stable.words (1 ∷ 2 ∷ 3 ∷ [])

@@ -1,0 +1,52 @@
+-- What is known of a heap at the end of a cycle to one that knows which heap was compacted.
+use Rattle.std.specs.Prelude.{◌≡◌, ℕ, ◌+◌, ◌-◌, ◌<◌, ◌≤◌, false, List, length, slice_index}
+use Rattle.heap_layout.specs.Bits.{bit}
+use Rattle.heap_layout.specs.Heap.{Heap, live, IsClosed}
+use Rattle.heap_layout.specs.Faults.{IsFirst}
+use Rattle.heap_layout.specs.declared.fault.LayoutFault.{LayoutFault}
+use Rattle.heap_layout.specs.declared.fault.LayoutFault.TheVariants.{OutOfMemory}
+use Rattle.page_plan.specs.Sliding as sliding
+use Rattle.comp_journal.specs.Journal.{replayed}
+use Rattle.cell_steps.specs.Setup.{Setup, base_of}
+use Rattle.cell_steps.specs.Locks.{Journals}
+use Rattle.cell_steps.specs.declared.pass.Pass.{Pass}
+use Rattle.comp_cycles.specs.Finishes.{pages_of, roots_of, builds_in, journals_of, IsFinished}
+use Rattle.comp_cycles.specs.declared.finished.Finished.{Finished}
+use Rattle.comp_cycles.specs.NextHeap.{next_word, kind_in, is_header}
+use Rattle.comp_cycles.specs.Cycles.{Cycle}
+
+-- what the cycle was about: it compacted this heap, with as many fresh pages as there are behind the compacted ones
+abbrev pub setup_in : Heap → Finished → Setup
+setup_in heap f = record {
+  heap = heap;
+  compacted = sliding.pages (live heap);
+  fresh = length (pages_of f) - sliding.pages (live heap);
+  mutators = length (builds_in f);
+}
+
+-- The heap is what is left of this one, which was compacted.
+pub record IsEndOf (heap : Heap) (f : Finished) : Type 0 where
+  pub row : List Pass
+  pub finished : IsFinished (setup_in heap f) row f
+  pub closed : IsClosed heap
+  pub few_fresh : length (pages_of f) ≤ sliding.pages (live heap) + 4096
+
+-- the cycle, with the marks that are handed in at its end
+abbrev pub cycle_of : Heap → Finished → List ℕ → Cycle
+cycle_of heap f marks = record { setup = setup_in heap f; journals = journals_of f; roots = roots_of f; marks = marks }
+
+-- the words of page p
+abbrev pub words_at : Heap → Finished → ℕ → List ℕ
+words_at heap f p = replayed (base_of (setup_in heap f) p) (journals_of f p)
+
+-- The first n words of the next heap, and for each of them a bit, which is set where an object starts.
+pub record AreMoved (u : Setup) (journals : Journals) (n : ℕ) (words bits : List ℕ) : Type 0 where
+  pub long : length words ≡ n
+  pub moved : (i : ℕ) → i < n → slice_index words i ≡ next_word u journals i
+  pub starts : (i : ℕ) → i < n → bit bits i ≡ is_header (kind_in u journals i)
+  pub rest : (i : ℕ) → n ≤ i → bit bits i ≡ false
+
+-- why a heap is not followed by another: the first of its faults, or a growth was refused
+abbrev pub IsRefusedFor : List LayoutFault → LayoutFault → Type 0
+IsRefusedFor list OutOfMemory = Unit {0}
+IsRefusedFor list fault = IsFirst list fault

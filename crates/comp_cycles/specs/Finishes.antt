@@ -1,0 +1,117 @@
+-- What is known of a heap once all its mutators are back.
+use Rattle.std.specs.Prelude.{◌≡◌, ℕ, ◌+◌, ◌<◌, ◌≤◌, List, [], length, map, IsSome, Some, None}
+use mathlib.Core.Option.{some}
+use lib.ListN.{get_elem?}
+use Rattle.heap_layout.specs.Heap.{live, IsClosed}
+use Rattle.heap_layout.specs.declared.edition.Edition.{Edition}
+use Rattle.page_plan.specs.Sliding.{live_words}
+use Rattle.comp_journal.specs.declared.entry.Entry.{Entry}
+use Rattle.cell_steps.specs.Setup.{Setup, pages}
+use Rattle.cell_steps.specs.Lists.{total, StartsWith}
+use Rattle.cell_steps.specs.Locks.{Journals}
+use Rattle.cell_steps.specs.View.{Slot}
+use Rattle.cell_steps.specs.Closing.{journal_at, page_at, HasBase}
+use Rattle.cell_steps.specs.Passes.{edition_of, builds_of, did, seen, HasSeenBuilt}
+use Rattle.cell_steps.specs.declared.pass.Pass.{Pass}
+use Rattle.page_cells.specs.Ends.{lists}
+use Rattle.page_cells.specs.Objects.{AreLawful, ReferencesAreStarts}
+use Rattle.comp_history.specs.Merged.{history, written_by, CanMerge, IsOneHistory, IsPoint}
+use Rattle.comp_history.specs.Shares.{allocated}
+use Rattle.comp_history.specs.Builds.{named}
+use Rattle.comp_cycles.specs.Forwarded.{AreForwarded}
+use Rattle.comp_cycles.specs.declared.finished.Finished.{Finished}
+
+-- the edition of the heap
+abbrev pub edition_in : Finished → Edition
+edition_in f = f.edition
+
+-- the pages, None where one was never built
+abbrev pub pages_of : Finished → List Slot
+pages_of f = f.pages.items
+
+-- where the roots lead
+abbrev pub roots_of : Finished → List ℕ
+roots_of f = f.roots.items
+
+-- the words of all objects
+abbrev pub live_of : Finished → ℕ
+live_of f = f.live
+
+-- the pages that each mutator built, in its order
+abbrev pub builds_in : Finished → List (List ℕ)
+builds_in f = lists f.builds.items
+
+-- the journal of each page
+abbrev pub journals_of : Finished → Journals
+journals_of f p = journal_at f.pages.items p
+
+-- the merged history of all pages
+abbrev pub history_of : Setup → Finished → List (ℕ × Entry)
+history_of u f = history u (journals_of f)
+
+-- 1 where a page is there, and 0 where it was never built
+abbrev pub there : Slot → ℕ
+there None = 0
+there (Some page) = 1
+
+-- what these passes allocated, in all
+abbrev pub allocated_by : List Pass → ℕ
+allocated_by row = total (λ (pass : Pass). allocated (edition_of pass) (did pass)) row
+
+-- The pages, where these are the passes of the mutators, by their numbers.
+pub record HasPages (u : Setup) (row : List Pass) (f : Finished) : Type 0 where
+  -- there is a place for each page
+  pub places : length (pages_of f) ≡ pages u
+  -- the builds are those of each mutator
+  pub builds : builds_in f ≡ map builds_of row
+  -- a page that is there is named once in all of them, and no other page is
+  pub once : (p : ℕ) → named p (builds_in f) ≡ there (page_at (pages_of f) p)
+  -- a page that a mutator has seen built is there
+  pub known : (k : ℕ) (pass : Pass) → get_elem? row k ≡ some pass → (p : ℕ) → HasSeenBuilt pass p → IsSome (page_at (pages_of f) p)
+  -- each page that is there began as sliding compaction makes it, a fresh one as zeros; its words are what its journal makes of that
+  pub bases : (p : ℕ) → HasBase u p (page_at (pages_of f) p)
+  -- each journal is lawful
+  pub lawful : AreLawful u (journals_of f)
+  -- each reference and weak word of each page is null or an object's start
+  pub closed : ReferencesAreStarts u (journals_of f)
+
+-- The ledger balances: there are the words that slid, and those of all objects that the mutators made, which are those that the history makes.
+pub record Balances (u : Setup) (row : List Pass) (f : Finished) : Type 0 where
+  pub shares : live_of f ≡ live_words (live u.heap) + allocated_by row
+  pub made : live_of f ≡ live_words (live u.heap) + allocated u.heap.edition (history_of u f)
+
+-- All pages have one history.
+pub record HasOneHistory (u : Setup) (row : List Pass) (f : Finished) : Type 0 where
+  -- the journals can be merged: the stamps are the numbers below the count of entries, each once, and references and weak words lead to older objects
+  pub merges : CanMerge u (journals_of f)
+  -- one thread may write the merged history into the slid heap, and it makes the pages
+  pub one : IsOneHistory u (journals_of f) (history_of u f)
+  -- the entries of each mutator in it are what it did, in its order, and there are no others
+  pub own : (k : ℕ) (pass : Pass) → get_elem? row k ≡ some pass → written_by k (history_of u f) ≡ did pass
+  pub no_others : (k : ℕ) → length row ≤ k → written_by k (history_of u f) ≡ []
+  -- what a mutator has seen of a page is a beginning of its journal, and what the page was at some point of the history
+  pub begins : (k : ℕ) (pass : Pass) → get_elem? row k ≡ some pass → (p : ℕ) → StartsWith (journals_of f p) (seen pass p)
+  pub points : (k : ℕ) (pass : Pass) → get_elem? row k ≡ some pass → (p : ℕ) → p < pages u → IsPoint u (history_of u f) p (seen pass p)
+
+-- The heap at the end of a cycle, where these are the passes of its mutators, by their numbers.
+pub record IsFinished (u : Setup) (row : List Pass) (f : Finished) : Type 0 where
+  pub edition : edition_in f ≡ u.heap.edition
+  pub pages : HasPages u row f
+  pub roots : AreForwarded u.heap (roots_of f)
+  pub balances : Balances u row f
+  pub history : HasOneHistory u row f
+
+-- The heap at the end of a cycle that was flipped with so many mutators and fresh pages.
+pub record IsOfFlip (mutators fresh : ℕ) (f : Finished) : Type 0 where
+  pub setup : Setup
+  pub row : List Pass
+  pub finished : IsFinished setup row f
+  -- the heap was accepted
+  pub heap : IsClosed setup.heap
+  -- a pass for each mutator, and the counts are within the limits of a flip
+  pub crew : length row ≡ mutators
+  pub mutators_are : setup.mutators ≡ mutators
+  pub some_mutators : 1 ≤ mutators
+  pub few_mutators : mutators ≤ 64
+  pub fresh_are : setup.fresh ≡ fresh
+  pub few_fresh : fresh ≤ 4096

@@ -1,0 +1,62 @@
+-- The heap with which the next cycle begins: the to-space words of this one are its from-space words.
+use Rattle.std.specs.Prelude.{ℕ, ◌-◌, ◌*◌, ◌/◌, ◌%◌, ◌^◌, Bool, true, false, cond, List, ◌++◌, filter, length, map, Option, Some, None}
+use Rattle.std.specs.List.{range_with_len}
+use Rattle.heap_layout.specs.Heap.{Heap}
+use Rattle.heap_layout.specs.Faults.{size_faults, mark_faults, root_faults, target_faults, weak_faults}
+use Rattle.heap_layout.specs.Kinds.{refers}
+use Rattle.heap_layout.specs.declared.fault.LayoutFault.{LayoutFault}
+use Rattle.heap_layout.specs.declared.kind.Kind.{Kind}
+use Rattle.heap_layout.specs.declared.kind.Kind.TheVariants.{Header, Reference, Weak, Data}
+use Rattle.cell_steps.specs.Setup.{Setup, pages}
+use Rattle.cell_steps.specs.Lawful.{kind_at}
+use Rattle.cell_steps.specs.Locks.{Journals}
+use Rattle.page_cells.specs.Objects.{word_on}
+
+-- the to-space word i at the end, and what it is
+abbrev pub word_in : Setup → Journals → ℕ → ℕ
+word_in u journals i = word_on u journals (i / 64) (i % 64)
+
+abbrev pub kind_in : Setup → Journals → ℕ → Option Kind
+kind_in u journals i = kind_at u (i / 64) (journals (i / 64)) (i % 64)
+
+-- the to-space address of a word, once its space is from-space; null stays null, since no number is below 0
+abbrev pub lowered : ℕ → ℕ
+lowered a = a - 2 ^ 32
+
+-- a word of this kind, once its space is from-space: references and weak words are lowered, all else stays
+abbrev pub lowered_as : Option Kind → ℕ → ℕ
+lowered_as (Some kind) word = cond (refers kind) (lowered word) word
+lowered_as None word = word
+
+-- the word i of the next heap
+abbrev pub next_word : Setup → Journals → ℕ → ℕ
+next_word u journals i = lowered_as (kind_in u journals i) (word_in u journals i)
+
+-- the next heap, where the roots lead to these addresses, and these indices are marked
+abbrev pub next_heap : Setup → Journals → List ℕ → List ℕ → Heap
+next_heap u journals roots marks = record {
+  edition = u.heap.edition;
+  words = map (next_word u journals) (range_with_len 0 (64 * pages u));
+  marks = marks;
+  roots = map lowered roots;
+}
+
+abbrev pub is_header : Option Kind → Bool
+is_header (Some Header) = true
+is_header (Some Reference) = false
+is_header (Some Weak) = false
+is_header (Some Data) = false
+is_header None = false
+
+-- the indices at which objects start: of those that slid, and of those that were made. What belongs to no object is none.
+abbrev pub object_starts : Setup → Journals → List ℕ
+object_starts u journals = filter (λ i. is_header (kind_in u journals i)) (range_with_len 0 (64 * pages u))
+
+-- why the heap is refused: the first of these
+abbrev pub next_faults : Setup → Journals → Heap → List LayoutFault
+next_faults u journals heap =
+    size_faults (length heap.words) (length heap.marks) (length heap.roots)
+    ++ mark_faults (object_starts u journals) 0 heap.marks
+    ++ root_faults heap.marks heap.roots
+    ++ target_faults heap.edition heap.words heap.marks heap.marks
+    ++ weak_faults heap.edition heap.words heap.marks

@@ -1,0 +1,161 @@
+//! The to-space words of a finished heap, moved over to be the from-space words of the next one.
+ghost use Rattle.std.specs.Prelude.{◌≡◌, ℕ, ◌+◌, ◌*◌, ◌^◌, ◌<◌, ◌≤◌, IfOk, OnOk, length, slice_index, slice_index_or, vec_capacity, vec_len, Some, None};
+ghost use Rattle.heap_layout.specs.Bits.{bit};
+ghost use Rattle.cell_steps.specs.Lawful.{kind_at};
+ghost use Rattle.cell_steps.specs.Locks.{Journals};
+ghost use Rattle.cell_steps.specs.Setup.{Setup};
+ghost use Rattle.page_cells.specs.Objects.{word_on};
+ghost use Rattle.comp_cycles.specs.Finishes.{journals_of, pages_of};
+ghost use Rattle.comp_cycles.specs.Ends.{setup_in, words_at, AreMoved, IsEndOf};
+ghost use Rattle.comp_cycles.specs.NextHeap.{kind_in, lowered_as, word_in};
+
+use crate::finished::Finished;
+use comp_history::kinds::kinds_on;
+use comp_journal::entry::Entry;
+use heap_layout::bits::set;
+use heap_layout::checks::FROM_SPACE;
+use heap_layout::fault::OutOfMemory;
+use heap_layout::kind::Kind;
+use page_plan::builder::Builder;
+use std::alloc::{AllocError, Global};
+
+/// The words of the next heap, and for each a bit, which is set where an object starts.
+#[derive(Drop)]
+pub(crate) struct Moved {
+    pub(crate) words: Vec<u64>,
+    pub(crate) starts: Vec<u64>,
+}
+
+/// A word of this kind, once its space is from-space.
+fn lowered_word(kind: Option<Kind>, word: u64) -> u64
+    ensures { result ≡ lowered_as kind word }
+{
+    match kind {
+        Some(kind) if kind.refers() => word.saturating_sub(FROM_SPACE),
+        _ => word,
+    }
+}
+
+/// Adds one word; there is room.
+fn add_word(words: &mut Vec<u64>, starts: &mut [u64], kind: Option<Kind>, word: u64)
+    requires room { vec_len words.old < vec_capacity words.old }
+    requires bits { vec_len words.old < 64 * length starts.old }
+    ensures moved { (u : Setup) (journals : Journals) (n : ℕ) → AreMoved u journals n words.old.items starts.old → kind ≡ kind_in u journals n → word ≡ word_in u journals n
+        → AreMoved u journals (n + 1) words.new.items starts.new }
+    ensures len { vec_len words.new ≡ vec_len words.old + 1 }
+    ensures capacity { vec_capacity words.new ≡ vec_capacity words.old }
+    ensures bits { length starts.new ≡ length starts.old }
+{
+    let i = words.len();
+    words.push_reserved(lowered_word(kind, word));
+    if kind == Some(Kind::Header) {
+        set(starts, i);
+    }
+}
+
+/// Adds the words of page `p`; there is room.
+fn add_page(words: &mut Vec<u64>, starts: &mut [u64], kinds: &[Option<Kind>; 64], page: &[u64; 64])
+    requires room { vec_len words.old + 64 ≤ vec_capacity words.old }
+    requires bits { vec_len words.old + 64 ≤ 64 * length starts.old }
+    ensures moved { (u : Setup) (journals : Journals) (p : ℕ) → AreMoved u journals (64 * p) words.old.items starts.old
+        → ((offset : ℕ) → offset < 64 → slice_index_or kinds.now offset None ≡ kind_at u p (journals p) offset)
+        → ((offset : ℕ) → offset < 64 → slice_index page.now offset ≡ word_on u journals p offset)
+        → AreMoved u journals (64 * (p + 1)) words.new.items starts.new }
+    ensures len { vec_len words.new ≡ vec_len words.old + 64 }
+    ensures capacity { vec_capacity words.new ≡ vec_capacity words.old }
+    ensures bits { length starts.new ≡ length starts.old }
+{
+    for offset in 0..64 {
+        add_word(words, starts, kinds[offset], page[offset]);
+    }
+}
+
+/// The journal of page `p`; one that was never built has none.
+fn journal_on(finished: &Finished, p: usize) -> &[Entry]
+    requires { p < length (pages_of finished.now) }
+    ensures { result.now ≡ journals_of finished.now p }
+{
+    match &finished.pages()[p] {
+        Some(page) => page.journal(),
+        None => &[],
+    }
+}
+
+/// What each word of page `p` is.
+fn kinds_of<B: Builder>(
+    alloc: Global,
+    builder: &B,
+    finished: &Finished,
+    p: usize,
+) -> Result<[Option<Kind>; 64], AllocError>
+    requires of { IsEndOf (B.heap builder.now) finished.now }
+    requires inside { p < length (pages_of finished.now) }
+    ensures { IfOk result (λ kinds. (offset : ℕ) → offset < 64
+        → slice_index_or kinds offset None ≡ kind_at (setup_in (B.heap builder.now) finished.now) p (journals_of finished.now p) offset) }
+{
+    kinds_on(alloc, builder.plan(), p as u64, journal_on(finished, p))
+}
+
+/// The words of page `p`. A page that was never built is as it would have been built.
+fn words_on<B: Builder>(
+    alloc: Global,
+    builder: &B,
+    finished: &Finished,
+    p: usize,
+) -> Result<[u64; 64], OutOfMemory>
+    requires of { IsEndOf (B.heap builder.now) finished.now }
+    requires inside { p < length (pages_of finished.now) }
+    ensures { IfOk result (λ words. words ≡ words_at (B.heap builder.now) finished.now p) }
+{
+    match &finished.pages()[p] {
+        Some(page) => Ok(*page.words()),
+        None => {
+            if (p as u64) < builder.plan().pages() {
+                let page = builder.build(alloc, p as u64)?;
+                Ok(*page.as_array())
+            } else {
+                Ok([0; 64])
+            }
+        }
+    }
+}
+
+/// Moves the words of all pages; there is room.
+fn move_pages<B: Builder>(
+    alloc: Global,
+    builder: &B,
+    finished: &Finished,
+    words: &mut Vec<u64>,
+    starts: &mut [u64],
+) -> Result<(), OutOfMemory>
+    requires of { IsEndOf (B.heap builder.now) finished.now }
+    requires room { 64 * length (pages_of finished.now) ≤ vec_capacity words.old }
+    requires bits { length starts.old ≡ length (pages_of finished.now) }
+    requires begun { AreMoved (setup_in (B.heap builder.now) finished.now) (journals_of finished.now) 0 words.old.items starts.old }
+    ensures moved { OnOk result (AreMoved (setup_in (B.heap builder.now) finished.now) (journals_of finished.now) (64 * length (pages_of finished.now)) words.new.items starts.new) }
+{
+    for p in 0..finished.pages().len() {
+        let kinds = kinds_of(alloc, builder, finished, p)?;
+        let page = words_on(alloc, builder, finished, p)?;
+        add_page(words, starts, &kinds, &page);
+    }
+    Ok(())
+}
+
+/// All words of the next heap.
+pub(crate) fn moved_words<B: Builder>(
+    alloc: Global,
+    builder: &B,
+    finished: &Finished,
+) -> Result<Moved, OutOfMemory>
+    requires of { IsEndOf (B.heap builder.now) finished.now }
+    requires few { 64 * length (pages_of finished.now) < 2 ^ 64 }
+    ensures moved { IfOk result (λ moved. AreMoved (setup_in (B.heap builder.now) finished.now) (journals_of finished.now) (64 * length (pages_of finished.now)) moved.words.items moved.starts.items) }
+    ensures bits { IfOk result (λ moved. length moved.starts.items ≡ length (pages_of finished.now)) }
+{
+    let pages = finished.pages().len();
+    let mut words = Vec::with_capacity(alloc, 64 * pages)?;
+    let mut starts = vec![in alloc; 0u64; pages]?;
+    move_pages(alloc, builder, finished, &mut words, &mut starts)?;
+    Ok(Moved { words, starts })
+}
