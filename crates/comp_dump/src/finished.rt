@@ -1,12 +1,12 @@
 //! Dumps of finished heaps.
 ghost use Rattle.std.specs.Prelude.{◌≡◌, ◌^◌, ◌<◌, All, IfOk, map};
 ghost use Rattle.page_cells.specs.Ends.{lists as items_of};
-ghost use Rattle.comp_history.specs.Finishes.{edition_in, builds_in, live_of, pages_of, roots_of, IsOfFlip};
+ghost use Rattle.comp_cycles.specs.Finishes.{edition_in, builds_in, live_of, pages_of, roots_of, IsOfFlip};
 ghost use Rattle.comp_dump.specs.Lent.{record_of, IsTypedRecord};
 
 use crate::dump::Dump;
 use crate::page::{DumpedPage, numbers_are_typed};
-use comp_history::finished::Finished;
+use comp_cycles::finished::Finished;
 use comp_journal::journaled_page::JournaledPage;
 use heap_layout::fault::OutOfMemory;
 use std::alloc::Global;

@@ -1,15 +1,14 @@
 //! Writing a dump, field by field.
-ghost use Rattle.std.specs.Prelude.{◌≡◌, ℕ, ◌-◌, ◌^◌, ◌<◌, ◌≤◌, ◌++◌, [], ◌∷◌, All, OnOk, length, map, true, Some};
-ghost use Rattle.std.specs.Io.KnownBytes.{Appends};
+ghost use Rattle.std.specs.Prelude.{◌≡◌, ◌-◌, ◌^◌, ◌<◌, ◌≤◌, All, IfErr, length, Some};
 ghost use Rattle.std.specs.List.{flat_map};
-ghost use Rattle.heap_image.specs.Counted.{inner_of, failures_of, is_flushed_of};
-ghost use Rattle.heap_image.specs.Versions.{version_of};
+ghost use Rattle.heap_image.specs.Counted.{inner_of, failures_of};
+ghost use Rattle.heap_image.specs.Writing.{Writes, CountsOne};
 ghost use Rattle.page_cells.specs.Ends.{lists as items_of};
 ghost use Rattle.comp_dump.specs.Codes.{kind_code};
 ghost use Rattle.comp_dump.specs.Dumped.{HasFewEntries, IsWritable};
 ghost use Rattle.comp_dump.specs.DumpEncoding.{builds_bytes, dump_bytes, eight_bytes, entry_bytes, four_bytes, head, one_byte, page_bytes};
 ghost use Rattle.comp_dump.specs.DumpReading.{CountsFailure};
-ghost use Rattle.comp_dump.specs.DumpWriting.{Writes, CountsOne};
+ghost use Rattle.comp_dump.specs.declared.fault.DumpFault.TheVariants as fault;
 
 use crate::dump::Dump;
 use crate::fault::DumpFault;
@@ -18,41 +17,21 @@ use crate::reading::fields::MAGIC;
 use byteorder::{ByteOrder, LittleEndian};
 use comp_journal::entry::Entry;
 use heap_image::counted::Counted;
-use heap_image::parts::write_whole;
-use heap_image::versions::version_of;
+use heap_image::writing::{write_four, write_numbers, write_part, write_version, write_words};
 use heap_layout::edition::Edition;
 use heap_layout::kind::Kind;
 use std::io::Write;
 
-/// Writes a whole part.
-fn write_part<W: Write>(w: &mut Counted<W>, part: &[u8]) -> Result<(), DumpFault>
-    ensures writes { Writes (W.contents (inner_of w.old)) (W.contents (inner_of w.new)) part.now result }
-    ensures counts { CountsOne (failures_of w.old) (failures_of w.new) result }
-{
-    match write_whole(w, part) {
-        Ok(()) => Ok(()),
-        Err(_) => Err(DumpFault::Device),
-    }
-}
-
 /// A number of one byte.
-fn write_one<W: Write>(w: &mut Counted<W>, n: u8) -> Result<(), DumpFault>
+fn write_one<W: Write>(w: &mut Counted<W>, n: u8) -> std::io::Result<()>
     ensures writes { Writes (W.contents (inner_of w.old)) (W.contents (inner_of w.new)) (one_byte n) result }
     ensures counts { CountsOne (failures_of w.old) (failures_of w.new) result }
 {
     write_part(w, &[n])
 }
 
-/// A number of 4 bytes.
-fn write_four<W: Write>(w: &mut Counted<W>, n: u32) -> Result<(), DumpFault>
-    ensures writes { Writes (W.contents (inner_of w.old)) (W.contents (inner_of w.new)) (four_bytes n) result }
-    ensures counts { CountsOne (failures_of w.old) (failures_of w.new) result }
-{
-    write_part(w, &n.to_le_bytes())
-}
-
 /// A small number, in 4 bytes.
-fn write_small<W: Write>(w: &mut Counted<W>, n: u8) -> Result<(), DumpFault>
+fn write_small<W: Write>(w: &mut Counted<W>, n: u8) -> std::io::Result<()>
     ensures writes { Writes (W.contents (inner_of w.old)) (W.contents (inner_of w.new)) (four_bytes n) result }
     ensures counts { CountsOne (failures_of w.old) (failures_of w.new) result }
 {
@@ -60,7 +39,7 @@ fn write_small<W: Write>(w: &mut Counted<W>, n: u8) -> Result<(), DumpFault>
 }
 
 /// A number of 8 bytes.
-fn write_eight<W: Write>(w: &mut Counted<W>, n: u64) -> Result<(), DumpFault>
+fn write_eight<W: Write>(w: &mut Counted<W>, n: u64) -> std::io::Result<()>
     ensures writes { Writes (W.contents (inner_of w.old)) (W.contents (inner_of w.new)) (eight_bytes n) result }
     ensures counts { CountsOne (failures_of w.old) (failures_of w.new) result }
 {
@@ -93,7 +72,7 @@ fn entry_part(entry: Entry) -> [u8; 19]
 }
 
 /// An entry, as one part.
-fn write_entry<W: Write>(w: &mut Counted<W>, entry: Entry) -> Result<(), DumpFault>
+fn write_entry<W: Write>(w: &mut Counted<W>, entry: Entry) -> std::io::Result<()>
     ensures writes { Writes (W.contents (inner_of w.old)) (W.contents (inner_of w.new)) (entry_bytes entry) result }
     ensures counts { CountsOne (failures_of w.old) (failures_of w.new) result }
 {
@@ -101,7 +80,7 @@ fn write_entry<W: Write>(w: &mut Counted<W>, entry: Entry) -> Result<(), DumpFau
 }
 
 /// The entries of a page.
-fn write_entries<W: Write>(w: &mut Counted<W>, journal: &[Entry]) -> Result<(), DumpFault>
+fn write_entries<W: Write>(w: &mut Counted<W>, journal: &[Entry]) -> std::io::Result<()>
     ensures writes { Writes (W.contents (inner_of w.old)) (W.contents (inner_of w.new)) (flat_map entry_bytes journal.now) result }
     ensures counts { CountsOne (failures_of w.old) (failures_of w.new) result }
 {
@@ -111,49 +90,12 @@ fn write_entries<W: Write>(w: &mut Counted<W>, journal: &[Entry]) -> Result<(), 
     Ok(())
 }
 
-/// At most 64 numbers of 8 bytes each, as one part.
-fn write_some_words<W: Write>(w: &mut Counted<W>, words: &[u64]) -> Result<(), DumpFault>
-    requires { length words.now ≤ 64 }
-    ensures writes { Writes (W.contents (inner_of w.old)) (W.contents (inner_of w.new)) (flat_map eight_bytes words.now) result }
-    ensures counts { CountsOne (failures_of w.old) (failures_of w.new) result }
-{
-    let mut bytes = [0; 512];
-    let part = &mut bytes[..8 * words.len()];
-    LittleEndian::write_u64_into(words, part);
-    write_part(w, part)
-}
-
-/// Numbers of 8 bytes each, a page of them at a time.
-fn write_words<W: Write>(w: &mut Counted<W>, words: &[u64]) -> Result<(), DumpFault>
-    ensures writes { Writes (W.contents (inner_of w.old)) (W.contents (inner_of w.new)) (flat_map eight_bytes words.now) result }
-    ensures counts { CountsOne (failures_of w.old) (failures_of w.new) result }
-{
-    let mut written = 0;
-    while written < words.len() {
-        let some = (words.len() - written).min(64);
-        write_some_words(w, &words[written..written + some])?;
-        written += some;
-    }
-    Ok(())
-}
-
-/// Numbers of 4 bytes each.
-fn write_numbers<W: Write>(w: &mut Counted<W>, numbers: &[u32]) -> Result<(), DumpFault>
-    ensures writes { Writes (W.contents (inner_of w.old)) (W.contents (inner_of w.new)) (flat_map four_bytes numbers.now) result }
-    ensures counts { CountsOne (failures_of w.old) (failures_of w.new) result }
-{
-    for number in numbers {
-        write_four(w, *number)?;
-    }
-    Ok(())
-}
-
 /// A page that was built, behind the byte that says so.
 fn write_there<W: Write>(
     w: &mut Counted<W>,
     words: &[u64],
     journal: &[Entry],
-) -> Result<(), DumpFault>
+) -> std::io::Result<()>
     requires { length journal.now ≤ 1024 }
     ensures writes { Writes (W.contents (inner_of w.old)) (W.contents (inner_of w.new)) (page_bytes (Some (record { words = words.now; journal = journal.now }))) result }
     ensures counts { CountsOne (failures_of w.old) (failures_of w.new) result }
@@ -165,7 +107,7 @@ fn write_there<W: Write>(
 }
 
 /// A page, or none where it was never built.
-fn write_page<W: Write>(w: &mut Counted<W>, page: &Option<DumpedPage<'_>>) -> Result<(), DumpFault>
+fn write_page<W: Write>(w: &mut Counted<W>, page: &Option<DumpedPage<'_>>) -> std::io::Result<()>
     requires { HasFewEntries page.now }
     ensures writes { Writes (W.contents (inner_of w.old)) (W.contents (inner_of w.new)) (page_bytes page.now) result }
     ensures counts { CountsOne (failures_of w.old) (failures_of w.new) result }
@@ -180,7 +122,7 @@ fn write_page<W: Write>(w: &mut Counted<W>, page: &Option<DumpedPage<'_>>) -> Re
 fn write_pages<W: Write>(
     w: &mut Counted<W>,
     pages: &[Option<DumpedPage<'_>>],
-) -> Result<(), DumpFault>
+) -> std::io::Result<()>
     requires { All HasFewEntries pages.now }
     ensures writes { Writes (W.contents (inner_of w.old)) (W.contents (inner_of w.new)) (flat_map page_bytes pages.now) result }
     ensures counts { CountsOne (failures_of w.old) (failures_of w.new) result }
@@ -192,7 +134,7 @@ fn write_pages<W: Write>(
 }
 
 /// What one mutator built.
-fn write_builds<W: Write>(w: &mut Counted<W>, list: &[u32]) -> Result<(), DumpFault>
+fn write_builds<W: Write>(w: &mut Counted<W>, list: &[u32]) -> std::io::Result<()>
     requires { length list.now < 2 ^ 32 }
     ensures writes { Writes (W.contents (inner_of w.old)) (W.contents (inner_of w.new)) (builds_bytes list.now) result }
     ensures counts { CountsOne (failures_of w.old) (failures_of w.new) result }
@@ -202,7 +144,7 @@ fn write_builds<W: Write>(w: &mut Counted<W>, list: &[u32]) -> Result<(), DumpFa
 }
 
 /// What every mutator built.
-fn write_all_builds<W: Write>(w: &mut Counted<W>, lists: &[Vec<u32>]) -> Result<(), DumpFault>
+fn write_all_builds<W: Write>(w: &mut Counted<W>, lists: &[Vec<u32>]) -> std::io::Result<()>
     requires { All (λ list. length list < 2 ^ 32) (items_of lists.now) }
     ensures writes { Writes (W.contents (inner_of w.old)) (W.contents (inner_of w.new)) (flat_map builds_bytes (items_of lists.now)) result }
     ensures counts { CountsOne (failures_of w.old) (failures_of w.new) result }
@@ -213,14 +155,6 @@ fn write_all_builds<W: Write>(w: &mut Counted<W>, lists: &[Vec<u32>]) -> Result<
     Ok(())
 }
 
-/// The version that tells the edition.
-fn write_version<W: Write>(w: &mut Counted<W>, edition: Edition) -> Result<(), DumpFault>
-    ensures writes { Writes (W.contents (inner_of w.old)) (W.contents (inner_of w.new)) (four_bytes (version_of edition)) result }
-    ensures counts { CountsOne (failures_of w.old) (failures_of w.new) result }
-{
-    write_four(w, version_of(edition))
-}
-
 /// All that stands before the roots.
 fn write_head<W: Write>(
     w: &mut Counted<W>,
@@ -229,7 +163,7 @@ fn write_head<W: Write>(
     fresh: u32,
     pages: u32,
     roots: u32,
-) -> Result<(), DumpFault>
+) -> std::io::Result<()>
     ensures writes { Writes (W.contents (inner_of w.old)) (W.contents (inner_of w.new)) (head edition mutators fresh pages roots) result }
     ensures counts { CountsOne (failures_of w.old) (failures_of w.new) result }
 {
@@ -251,7 +185,7 @@ fn write_parts<W: Write>(
     pages: &[Option<DumpedPage<'_>>],
     builds: &[Vec<u32>],
     total: u64,
-) -> Result<(), DumpFault>
+) -> std::io::Result<()>
     requires { IsWritable (record { edition = edition; mutators = mutators; fresh = fresh; roots = roots.now; pages = pages.now; builds = items_of builds.now; total = total }) }
     ensures writes { Writes (W.contents (inner_of w.old)) (W.contents (inner_of w.new))
         (dump_bytes (record { edition = edition; mutators = mutators; fresh = fresh; roots = roots.now; pages = pages.now; builds = items_of builds.now; total = total })) result }
@@ -278,8 +212,9 @@ pub fn write_dump<W: Write>(dump: &Dump<'_>, w: &mut Counted<W>) -> Result<(), D
     requires { failures_of w.old < 2 ^ 64 - 1 }
     ensures writes { Writes (W.contents (inner_of w.old)) (W.contents (inner_of w.new)) (dump_bytes dump.now) result }
     ensures counts { CountsFailure (failures_of w.old) (failures_of w.new) result }
+    ensures cause { IfErr result (λ given. given ≡ fault.Device) }
 {
-    write_parts(
+    let answer = write_parts(
         w,
         dump.edition(),
         dump.mutators(),
@@ -288,5 +223,9 @@ pub fn write_dump<W: Write>(dump: &Dump<'_>, w: &mut Counted<W>) -> Result<(), D
         dump.pages(),
         dump.builds(),
         dump.live_words(),
-    )
+    );
+    match answer {
+        Ok(()) => Ok(()),
+        Err(_) => Err(DumpFault::Device),
+    }
 }
