@@ -45,7 +45,7 @@ line_read ms rs n text first middle name rest mutator numbers x y p q r s =
     ∙ told_apart ms rs n m.0 name ns.0 x y ∙ sym (ap (judged ms rs n) read)
 
 -- a text has a part
-some_part : (byte : ℕ) (text : List ℕ) → (part : List ℕ) × (more : List (List ℕ)) × (parts byte text ≡ part ∷ more)
+pub some_part : (byte : ℕ) (text : List ℕ) → (part : List ℕ) × (more : List (List ℕ)) × (parts byte text ≡ part ∷ more)
 some_part byte [] = ([], [], refl)
 some_part byte (b ∷ text) =
     let part = some_part byte text in

@@ -1,8 +1,9 @@
-//! Texts of traces, and how they are read.
+//! Texts of traces and of marks, and how they are read.
 #![tactic(auto)]
 
 pub mod fault;
 pub mod line;
+pub mod marks;
 mod numbers;
 pub mod parsing;
 mod reading;

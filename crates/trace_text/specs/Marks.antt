@@ -1,0 +1,34 @@
+-- What the text of marks says, line by line.
+use Rattle.std.specs.Prelude.{◌≡◌, ℕ, ◌+◌, ◌^◌, ◌==◌, List, [], ◌∷◌, Option, None, Some, Result, Ok, Err, length, nat_le, option_and_then, if◌then◌else◌}
+use Rattle.trace_text.specs.Grammar.{number_of, parts}
+use Rattle.trace_text.specs.declared.marks.MarksFault.{MarksFault}
+use Rattle.trace_text.specs.declared.marks.MarksFault.TheVariants.{BadMarks, OutOfMemory}
+
+-- a number of 32 bits
+abbrev pub short_number : ℕ → Option ℕ
+short_number n = if nat_le (2 ^ 32) n then None else Some n
+
+-- the mark that a line is
+abbrev pub mark_of : List ℕ → Option ℕ
+mark_of line = option_and_then short_number (number_of line)
+
+-- the mark of line n before what was read behind it, or the line's number where it is none
+abbrev pub mark_before : ℕ → Option ℕ → Result (List ℕ) ℕ → Result (List ℕ) ℕ
+mark_before n None read = Err n
+mark_before n (Some mark) (Ok marks) = Ok (mark ∷ marks)
+mark_before n (Some mark) (Err line) = Err line
+
+-- the marks from line n on, or the number of the first line that is none
+abbrev pub marks_from : ℕ → List (List ℕ) → Result (List ℕ) ℕ
+marks_from n [] = Ok []
+marks_from n (last ∷ []) = if length last == 0 then Ok [] else Err n
+marks_from n (line ∷ next ∷ more) = mark_before n (mark_of line) (marks_from (n + 1) (next ∷ more))
+
+-- the marks of a text, one a line, each line ended by a line feed
+abbrev pub marks_of : List ℕ → Result (List ℕ) ℕ
+marks_of text = marks_from 1 (parts 10 text)
+
+-- why there are no marks: the first line that is none, or a growth was refused
+abbrev pub RefusesMarks : MarksFault → Result (List ℕ) ℕ → Type 0
+RefusesMarks (BadMarks n) read = read ≡ Err n
+RefusesMarks OutOfMemory read = Unit {0}
