@@ -14,7 +14,7 @@ use Rattle.comp_history.specs.Merged.{written_by}
 use Rattle.comp_mutator.specs.Mutators.{pass_of, setup_of, IsMutatorOf}
 use Rattle.comp_mutator.specs.declared.mutator.Mutator.{Mutator}
 use Rattle.comp_mutator.specs.declared.space.Space.{Space}
-use Rattle.comp_trace.specs.Bytes.{flipped, no_entries, Interrupts, Shows, ShowOnce}
+use Rattle.comp_trace.specs.Bytes.{flipped, no_entries, CutsShort, Interrupts, Shows, ShowOnce}
 use Rattle.trace_steps.specs.AllMutators.{AreAll}
 use Rattle.trace_steps.specs.Deeds.{deeds_of, DidNothingYet, HaveAll, KnowTheirs}
 use Rattle.trace_text.specs.Grammar.{parts, trace_of}
@@ -25,7 +25,7 @@ use Rattle.trace_text.specs.declared.fault.TraceFault.TheVariants.{BadLine, NoSu
 use Rattle.trace_text.specs.declared.line.Line.{Line}
 use Rattle.trace_steps.specs.declared.shown.Shown.{Shown}
 use Rattle.comp_trace.proofs.Determined.{determined}
-use Rattle.comp_trace.proofs.Inside.{ok_is, read_inside}
+use Rattle.comp_trace.proofs.Inside.{ok_is, read_inside, AreInside}
 
 shown_once : (heap : Heap) (mutators fresh : ℕ) (text : List ℕ) (shown other : List Shown) → Shows (flipped heap mutators fresh) text shown → Shows (flipped heap mutators fresh) text other → shown ≡ other
 shown_once heap mutators fresh text shown other x y =
@@ -60,9 +60,8 @@ shows_of u before after text lines shown none text_is h =
     let ran = h no_entries (have_none before none) in
     record { lines = lines; text_is = text_is; end = ran.0; runs = ran.1.runs; shown_is = ran.1.shows }
 
-line_inside : (ms rs : ℕ) (text : List ℕ) (lines : List Line) (j : ℕ) (line : Line) → trace_of ms rs text ≡ Ok lines → get_elem? lines j ≡ some line → line.mutator < ms
-line_inside ms rs text lines j line e there =
-    subst (λ (l : Line). l.mutator < ms) (read_at lines j line line there) (read_inside ms rs 1 (parts 10 text) lines e j line (is_inside lines j line there))
+line_inside : (ms : ℕ) (lines : List Line) (j : ℕ) (line : Line) → AreInside ms lines → get_elem? lines j ≡ some line → line.mutator < ms
+line_inside ms lines j line inside there = subst (λ (l : Line). l.mutator < ms) (read_at lines j line line there) (inside j line (is_inside lines j line there))
 
 -- All mutators of some space that is about this heap, by their numbers.
 pub record AreOf {L : Type 0} (u : Setup) (mutators : List (Mutator L)) : Type 0 where
@@ -77,11 +76,11 @@ are_of {L} space mutators all = record {
   about = λ k m at. (subst (IsMutatorOf space) (read_at mutators k m m at) (all.of k m (is_inside mutators k m at))).of.about;
 }
 
-pub interrupts_of : {L : Type 0} (u : Setup) (before after : List (Mutator L)) (text : List ℕ) (lines : List Line) (shown : List Shown) (fault : TraceFault) → AreOf u before
-    → DidNothingYet before → trace_of u.mutators (length u.heap.roots) text ≡ Ok lines → HaveStopped u before after lines shown fault → Interrupts u text shown fault
-interrupts_of u before after text lines shown (Refused number refusal) all none text_is stopped =
+pub cut_of : {L : Type 0} (u : Setup) (before after : List (Mutator L)) (lines : List Line) (shown : List Shown) (fault : TraceFault) → AreOf u before
+    → DidNothingYet before → AreInside u.mutators lines → HaveStopped u before after lines shown fault → CutsShort u lines shown fault
+cut_of u before after lines shown (Refused number refusal) all none lines_inside stopped =
     let h = stopped no_entries (have_none before none) in
-    let inside : h.line.mutator < length before = omega (arith, all.count, line_inside u.mutators (length u.heap.roots) text lines h.count h.line text_is h.there) in
+    let inside : h.line.mutator < length before = omega (arith, all.count, line_inside u.mutators lines h.count h.line lines_inside h.there) in
     let m = there_at before h.line.mutator inside in
     let began = h.cause.began m.0 m.1 in
     record {
@@ -91,8 +90,6 @@ interrupts_of u before after text lines shown (Refused number refusal) all none 
       built = h.built;
       grows = h.cause.grows;
       did = h.cause.did ∙ h.ran.did h.line.mutator inside ∙ ap (λ (l : List (ℕ × Entry)). l ++ written_by h.line.mutator h.end.added) (deeds_none before none h.line.mutator);
-      lines = lines;
-      text_is = text_is;
       count = h.count;
       number_is = h.number_is;
       line = h.line;
@@ -106,9 +103,17 @@ interrupts_of u before after text lines shown (Refused number refusal) all none 
       starts = h.cause.starts (know_none before none);
       refuses = h.cause.refuses;
     }
-interrupts_of u before after text lines shown OutOfMemory all none text_is h = h.0
-interrupts_of u before after text lines shown (BadLine number) all none text_is h = absurd h
-interrupts_of u before after text lines shown (NoSuchMutator number) all none text_is h = absurd h
-interrupts_of u before after text lines shown (NoSuchRegister number) all none text_is h = absurd h
-interrupts_of u before after text lines shown (NumberTooLarge number) all none text_is h = absurd h
-interrupts_of u before after text lines shown (NoSuchRoot number) all none text_is h = absurd h
+cut_of u before after lines shown OutOfMemory all none lines_inside h = h.0
+cut_of u before after lines shown (BadLine number) all none lines_inside h = absurd h
+cut_of u before after lines shown (NoSuchMutator number) all none lines_inside h = absurd h
+cut_of u before after lines shown (NoSuchRegister number) all none lines_inside h = absurd h
+cut_of u before after lines shown (NumberTooLarge number) all none lines_inside h = absurd h
+cut_of u before after lines shown (NoSuchRoot number) all none lines_inside h = absurd h
+
+pub interrupts_of : {L : Type 0} (u : Setup) (before after : List (Mutator L)) (text : List ℕ) (lines : List Line) (shown : List Shown) (fault : TraceFault) → AreOf u before
+    → DidNothingYet before → trace_of u.mutators (length u.heap.roots) text ≡ Ok lines → HaveStopped u before after lines shown fault → Interrupts u text shown fault
+interrupts_of u before after text lines shown fault all none text_is stopped = record {
+  lines = lines;
+  text_is = text_is;
+  cut = cut_of u before after lines shown fault all none (read_inside u.mutators (length u.heap.roots) 1 (parts 10 text) lines text_is) stopped;
+}

@@ -35,11 +35,9 @@ pub record Shows (u : Setup) (text : List ℕ) (shown : List Shown) : Type 0 whe
   pub runs : Runs u no_entries 1 lines beginning end
   pub shown_is : shown ≡ end.shown
 
--- The text is a trace, whose run from no entries at all shows these values before the line of this number. The call of that line was refused to the line's mutator of
+-- The run of these lines from no entries at all shows these values before the line of this number. The call of that line was refused to the line's mutator of
 -- this very heap, which had done just what the run says of it, and knew all entries, all objects, and each page that was built. It wrote nothing, and forgot nothing.
-pub record ShowsUntil (u : Setup) (text : List ℕ) (shown : List Shown) (number : ℕ) (refusal : Refusal) : Type 0 where
-  pub lines : List Line
-  pub text_is : trace_of u.mutators (length u.heap.roots) text ≡ Ok lines
+pub record IsCutShort (u : Setup) (lines : List Line) (shown : List Shown) (number : ℕ) (refusal : Refusal) : Type 0 where
   pub count : ℕ
   pub number_is : number ≡ count + 1
   pub line : Line
@@ -59,15 +57,21 @@ pub record ShowsUntil (u : Setup) (text : List ℕ) (shown : List Shown) (number
   pub grows : Grows old new
   pub refuses : Refuses u line.action (end.registers line.mutator) old new refusal
 
--- the run stopped: before its first line, for want of memory, or at a refused line
-abbrev pub Interrupts : Setup → List ℕ → List Shown → TraceFault → Type 0
-Interrupts u text shown (Refused number refusal) = ShowsUntil u text shown number refusal
-Interrupts u text shown OutOfMemory = shown ≡ []
-Interrupts u text shown (BadLine number) = ⊥
-Interrupts u text shown (NoSuchMutator number) = ⊥
-Interrupts u text shown (NoSuchRegister number) = ⊥
-Interrupts u text shown (NumberTooLarge number) = ⊥
-Interrupts u text shown (NoSuchRoot number) = ⊥
+-- the run of these lines stopped: before the first of them, for want of memory, or at a refused line
+abbrev pub CutsShort : Setup → List Line → List Shown → TraceFault → Type 0
+CutsShort u lines shown (Refused number refusal) = IsCutShort u lines shown number refusal
+CutsShort u lines shown OutOfMemory = shown ≡ []
+CutsShort u lines shown (BadLine number) = ⊥
+CutsShort u lines shown (NoSuchMutator number) = ⊥
+CutsShort u lines shown (NoSuchRegister number) = ⊥
+CutsShort u lines shown (NumberTooLarge number) = ⊥
+CutsShort u lines shown (NoSuchRoot number) = ⊥
+
+-- The text is a trace, whose run was cut short so.
+pub record Interrupts (u : Setup) (text : List ℕ) (shown : List Shown) (fault : TraceFault) : Type 0 where
+  pub lines : List Line
+  pub text_is : trace_of u.mutators (length u.heap.roots) text ≡ Ok lines
+  pub cut : CutsShort u lines shown fault
 
 -- the text is no trace, by this fault, or reading it wanted memory
 abbrev pub IsNoTrace : Setup → List ℕ → TraceFault → Type 0

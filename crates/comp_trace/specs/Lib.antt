@@ -1,3 +1,4 @@
 pub mod Runs
 pub mod Replays
 pub mod Bytes
+pub mod Heaps

@@ -3,4 +3,5 @@
 
 pub mod laws;
 pub mod replay;
+pub mod running;
 pub mod texts;

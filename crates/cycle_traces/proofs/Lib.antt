@@ -1,0 +1,3 @@
+pub mod LastRuns
+pub mod Runs
+pub mod Stopping

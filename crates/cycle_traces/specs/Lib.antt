@@ -1,0 +1,2 @@
+pub mod CycleRuns
+pub mod Stops
