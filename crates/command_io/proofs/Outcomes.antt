@@ -1,12 +1,13 @@
--- What refusals leave of the output and of the dump; and dumps that have the same parts.
-use Rattle.std.proofs.Common.{◌≡◌, ℕ, List, Option, Result, Ok, Err, OnErr, refl, sym, subst}
+-- What refusals leave of the output, of the dump and of the new image; and dumps that have the same parts.
+use Rattle.std.proofs.Common.{◌≡◌, ℕ, List, Option, Result, Ok, Err, OnErr, inl, inr, refl, sym, subst}
 use Rattle.std.proofs.KnownBytes.{Keeps-refl}
 use Rattle.heap_layout.specs.declared.edition.Edition.{Edition}
 use Rattle.comp_dump.specs.Dumped.{BuiltPage, Dumped}
 use Rattle.command_io.specs.Dumps.{IsOfDumping, RefusedUncreated}
+use Rattle.command_io.specs.NewImages.{IsOfWritingImage, RefusedUnmade}
 use Rattle.command_io.specs.Printing.{CountsPrint, RefusedUnprinted}
 use Rattle.command_io.specs.declared.refusal.Refusal.{Refusal}
-use Rattle.command_io.specs.declared.refusal.Refusal.TheVariants.{Layout, Mutator, Sweep, Trace, Dump, Audit, CannotOpen, CannotCreate, ReadFailed, CannotPrint, NoSuchWord, OutOfMemory}
+use Rattle.command_io.specs.declared.refusal.Refusal.TheVariants.{Layout, Mutator, Sweep, Trace, Dump, Audit, CannotOpen, CannotCreate, ReadFailed, CannotPrint, NoSuchWord, BadMarks, OutOfMemory}
 
 -- a refusal that is none of the output counts no failed call of it
 pub uncounted_by : (old new : ℕ) (refusal : Refusal) → new ≡ old → (refusal ≡ CannotPrint → ⊥) → CountsPrint {T = Unit {0}} old new (Err refusal)
@@ -21,6 +22,7 @@ uncounted_by old new (CannotCreate output) same other = same
 uncounted_by old new (ReadFailed input) same other = same
 uncounted_by old new CannotPrint same other = absurd (other refl)
 uncounted_by old new (NoSuchWord index) same other = same
+uncounted_by old new (BadMarks line) same other = same
 uncounted_by old new OutOfMemory same other = same
 
 -- none of the dump is one of the output
@@ -40,6 +42,7 @@ unprinted before (CannotCreate output) = Keeps-refl before
 unprinted before (ReadFailed input) = Keeps-refl before
 unprinted before CannotPrint = tt
 unprinted before (NoSuchWord index) = Keeps-refl before
+unprinted before (BadMarks line) = Keeps-refl before
 unprinted before OutOfMemory = Keeps-refl before
 
 -- what was refused before the dump created none
@@ -55,6 +58,7 @@ uncreated dumps (CannotCreate output) = tt
 uncreated dumps (ReadFailed input) = refl
 uncreated dumps CannotPrint = tt
 uncreated dumps (NoSuchWord index) = refl
+uncreated dumps (BadMarks line) = refl
 uncreated dumps OutOfMemory = tt
 
 -- a refusal of the dump is one that may leave one
@@ -70,6 +74,7 @@ created closed gives contents bytes before after (CannotCreate output) h = tt
 created closed gives contents bytes before after (ReadFailed input) h = absurd h
 created closed gives contents bytes before after CannotPrint h = tt
 created closed gives contents bytes before after (NoSuchWord index) h = absurd h
+created closed gives contents bytes before after (BadMarks line) h = absurd h
 created closed gives contents bytes before after OutOfMemory h = tt
 
 pub created_line : {D : Type 0} (before after : D) (result : Result (Unit {0}) Refusal) → OnErr result (result ≡ Err CannotPrint) → RefusedUncreated before after result
@@ -77,6 +82,48 @@ created_line before after (Ok _) h = tt
 created_line before after (Err refusal) h =
     let is : refusal ≡ CannotPrint = cc in
     subst (λ (r : Refusal). RefusedUncreated {T = Unit {0}} before after (Err r)) (sym is) tt
+
+-- what was refused before the new image created none
+pub unmade : {D : Type 0} (dumps : D) (refusal : Refusal) → RefusedUnmade {T = Unit {0}} dumps dumps (Err refusal)
+unmade dumps (Layout fault) = inr refl
+unmade dumps (Mutator refused) = refl
+unmade dumps (Sweep fault) = refl
+unmade dumps (Trace fault) = refl
+unmade dumps (Dump fault) = refl
+unmade dumps (Audit fault) = refl
+unmade dumps (CannotOpen input) = refl
+unmade dumps (CannotCreate output) = tt
+unmade dumps (ReadFailed input) = refl
+unmade dumps CannotPrint = tt
+unmade dumps (NoSuchWord index) = refl
+unmade dumps (BadMarks line) = refl
+unmade dumps OutOfMemory = tt
+
+-- a refusal of the new image is one that may leave one
+pub image_created : {W D : Type 0} (closed : Type 0) (gives : W → Type 0) (contents : W → Option (List ℕ)) (bytes : List ℕ) (before after : D) (refusal : Refusal) → IsOfWritingImage closed gives contents bytes refusal → RefusedUnmade {T = Unit {0}} before after (Err refusal)
+image_created closed gives contents bytes before after (Layout fault) h = inl h.0
+image_created closed gives contents bytes before after (Mutator refused) h = absurd h
+image_created closed gives contents bytes before after (Sweep fault) h = absurd h
+image_created closed gives contents bytes before after (Trace fault) h = absurd h
+image_created closed gives contents bytes before after (Dump fault) h = absurd h
+image_created closed gives contents bytes before after (Audit fault) h = absurd h
+image_created closed gives contents bytes before after (CannotOpen input) h = absurd h
+image_created closed gives contents bytes before after (CannotCreate output) h = tt
+image_created closed gives contents bytes before after (ReadFailed input) h = absurd h
+image_created closed gives contents bytes before after CannotPrint h = tt
+image_created closed gives contents bytes before after (NoSuchWord index) h = absurd h
+image_created closed gives contents bytes before after (BadMarks line) h = absurd h
+image_created closed gives contents bytes before after OutOfMemory h = tt
+
+pub image_created_line : {D : Type 0} (before after : D) (result : Result (Unit {0}) Refusal) → OnErr result (result ≡ Err CannotPrint) → RefusedUnmade before after result
+image_created_line before after (Ok _) h = tt
+image_created_line before after (Err refusal) h =
+    let is : refusal ≡ CannotPrint = cc in
+    subst (λ (r : Refusal). RefusedUnmade {T = Unit {0}} before after (Err r)) (sym is) tt
+
+-- and counts no failed call of the output
+pub uncounted_image : {W : Type 0} (closed : Type 0) (gives : W → Type 0) (contents : W → Option (List ℕ)) (bytes : List ℕ) (n : ℕ) (refusal : Refusal) → IsOfWritingImage closed gives contents bytes refusal → CountsPrint {T = Unit {0}} n n (Err refusal)
+uncounted_image closed gives contents bytes n refusal h = uncounted_by n n refusal refl (λ e. subst (IsOfWritingImage closed gives contents bytes) e h)
 
 -- dumps that have the same parts are the same
 pub same_parts : (e e' : Edition) (m m' n n' t t' : ℕ) (r r' : List ℕ) (p p' : List (Option BuiltPage)) (b b' : List (List ℕ))

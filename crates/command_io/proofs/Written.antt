@@ -1,16 +1,19 @@
--- What a writer of a dump took.
+-- What a writer of a dump, or of a new image, took.
 use Rattle.std.proofs.Common.{◌≡◌, ◌+◌, ℕ, List, Option, Err, true, length, sym, subst, ◌∙◌, arith}
 use Rattle.std.proofs.KnownBytes.{Appends-kept}
 use Rattle.std.proofs.lemmas.List.{take_all}
 use Rattle.std.specs.Io.KnownBytes.{Appends, Keeps}
-use Rattle.heap_image.specs.Counted.{failures_of, inner_of, is_flushed_of}
+use Rattle.heap_image.specs.Counted.{failures_of, inner_of, is_flushed_of, one_more}
 use Rattle.heap_image.specs.declared.counted.Counted.{Counted}
 use Rattle.comp_dump.specs.DumpReading.{CountsFailure}
-use Rattle.comp_dump.specs.DumpWriting.{AppendsSome}
+use Rattle.heap_image.specs.Writing.{AppendsSome}
 use Rattle.comp_dump.specs.declared.fault.DumpFault.{DumpFault}
 use Rattle.comp_dump.specs.declared.fault.DumpFault.TheVariants.{Truncated, TrailingBytes, BadMagic, BadField, OutOfMemory, Device}
+use Rattle.heap_layout.specs.declared.fault.LayoutFault.{LayoutFault}
+use Rattle.heap_layout.specs.declared.fault.LayoutFault.TheVariants as layout
 use Rattle.command_io.specs.Dumps.{IsOfDumping, WritesBeginning, WritesWhole}
-use Rattle.command_io.specs.declared.refusal.Refusal.TheVariants.{Dump}
+use Rattle.command_io.specs.NewImages.{IsOfWritingImage}
+use Rattle.command_io.specs.declared.refusal.Refusal.TheVariants.{Dump, Layout}
 
 -- where a flush failed, all was taken
 pub unflushed : (a b c : Option (List ℕ)) (bytes : List ℕ) → Appends a b bytes → Keeps b c → AppendsSome a c bytes
@@ -48,3 +51,9 @@ module _ {W : Type 0} (gives : W → Type 0) (contents : W → Option (List ℕ)
   cut_off closed BadMagic is appended counts = cc
   cut_off closed BadField is appended counts = cc
   cut_off closed OutOfMemory is appended counts = cc
+
+  pub image_cut_off : (closed : Type 0) (fault : LayoutFault) → fault ≡ layout.Device → AppendsSome (contents (inner_of old)) (contents (inner_of new)) bytes
+      → failures_of new ≡ one_more (failures_of old) → IsOfWritingImage closed gives contents bytes (Layout fault)
+  image_cut_off closed fault is appended counts =
+      let one : one_more (failures_of old) ≡ failures_of old + 1 = omega (arith, none) in
+      (is, beginning appended (counts ∙ one))

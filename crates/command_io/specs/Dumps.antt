@@ -3,8 +3,10 @@ use Rattle.std.specs.Prelude.{◌≡◌, ℕ, List, Option, Result, Ok, Err, tru
 use Rattle.std.specs.Io.KnownBytes.{Appends}
 use Rattle.heap_image.specs.Counted.{failures_of, inner_of, is_flushed_of}
 use Rattle.heap_image.specs.declared.counted.Counted.{Counted}
-use Rattle.comp_dump.specs.DumpWriting.{AppendsSome}
+use Rattle.heap_image.specs.Writing.{AppendsSome}
 use Rattle.comp_dump.specs.declared.fault.DumpFault.TheVariants.{Device}
+use Rattle.command_io.specs.declared.refusal.Output.{Output}
+use Rattle.command_io.specs.declared.refusal.Output.TheVariants as outputs
 use Rattle.command_io.specs.declared.refusal.Refusal.{Refusal}
 use Rattle.command_io.specs.declared.refusal.Refusal.TheVariants.{CannotCreate, CannotPrint, Dump, OutOfMemory}
 
@@ -25,15 +27,15 @@ pub record WritesBeginning {W : Type 0} (gives : W → Type 0) (contents : W →
   pub appended : AppendsSome (contents made) (contents (inner_of written)) bytes
   pub failed : failures_of written ≡ 1
 
--- why a dump could not be created: there is no place for it, as `lacks` says, or a growth was refused
-abbrev pub IsOfCreating : Type 0 → Refusal → Type 0
-IsOfCreating lacks (CannotCreate output) = lacks
-IsOfCreating lacks OutOfMemory = Unit {0}
-IsOfCreating lacks _ = ⊥
+-- why this file could not be created: there is no place for it, as `lacks` says, or a growth was refused
+abbrev pub IsOfCreating : Output → Type 0 → Refusal → Type 0
+IsOfCreating output lacks (CannotCreate named) = (named ≡ output) × lacks
+IsOfCreating output lacks OutOfMemory = Unit {0}
+IsOfCreating output lacks _ = ⊥
 
--- why these bytes were not written: there is no place for them; or a call of the writer failed; or a growth was refused
+-- why these bytes of a dump were not written: there is no place for them; or a call of the writer failed; or a growth was refused
 abbrev pub IsOfDumping : {W : Type 0} → Type 0 → (W → Type 0) → (W → Option (List ℕ)) → List ℕ → Refusal → Type 0
-IsOfDumping lacks gives contents bytes (CannotCreate output) = lacks
+IsOfDumping lacks gives contents bytes (CannotCreate output) = (output ≡ outputs.Dump) × lacks
 IsOfDumping lacks gives contents bytes (Dump Device) = WritesBeginning gives contents bytes
 IsOfDumping lacks gives contents bytes OutOfMemory = Unit {0}
 IsOfDumping lacks gives contents bytes _ = ⊥

@@ -2,3 +2,5 @@ pub mod Printing
 pub mod Images
 pub mod Dumps
 pub mod Texts
+pub mod Marks
+pub mod NewImages

@@ -5,7 +5,9 @@ use Rattle.std.specs.Io.KnownBytes.{Keeps}
 use Rattle.std.specs.Str.{trim_end}
 use Rattle.heap_image.specs.Counted.{CountsFailure}
 use Rattle.command_io.specs.declared.refusal.Input.{Input}
-use Rattle.command_io.specs.declared.refusal.Input.TheVariants.{Image, Trace, Dump}
+use Rattle.command_io.specs.declared.refusal.Input.TheVariants.{Image, Trace, Dump, Marks}
+use Rattle.command_io.specs.declared.refusal.Output.{Output}
+use Rattle.command_io.specs.declared.refusal.Output.TheVariants as outputs
 use Rattle.command_io.specs.declared.refusal.Refusal.{Refusal}
 use Rattle.command_io.specs.declared.refusal.Refusal.TheVariants.{Layout, CannotOpen, CannotPrint, OutOfMemory}
 
@@ -14,6 +16,12 @@ abbrev pub input_name : Input → List ℕ
 input_name Image = codes "image"
 input_name Trace = codes "trace"
 input_name Dump = codes "dump"
+input_name Marks = codes "marks"
+
+-- a file that is made
+abbrev pub output_name : Output → List ℕ
+output_name outputs.Dump = codes "dump"
+output_name outputs.New = codes "new"
 
 -- a number as it is printed: its decimal digits and a line feed
 abbrev pub line_of : ℕ → List ℕ

@@ -1,12 +1,13 @@
 -- What is promised from the path of a trace on.
 use Rattle.std.specs.Prelude.{◌≡◌, ℕ, ◌+◌, List, Option, IfSome, Result, Ok, Err}
 use Rattle.trace_text.specs.Grammar.{trace_of, IsReadAs}
-use Rattle.trace_text.specs.declared.fault.TraceFault.TheVariants as faults
 use Rattle.trace_text.specs.declared.line.Line.{Line}
 use Rattle.command_io.specs.Images.{SomeGiven}
 use Rattle.command_io.specs.declared.refusal.Input.TheVariants as inputs
 use Rattle.command_io.specs.declared.refusal.Refusal.{Refusal}
 use Rattle.command_io.specs.declared.refusal.Refusal.TheVariants.{CannotOpen, OutOfMemory, ReadFailed, Trace}
+use Rattle.command_io.specs.declared.texts.Unread.{Unread}
+use Rattle.command_io.specs.declared.texts.Unread.TheVariants as unread
 
 -- P holds of some text; where the bytes of the trace are known, they are it
 abbrev pub SomeText : (List ℕ → Type 0) → Option (List ℕ) → Type 0
@@ -26,12 +27,6 @@ IsOfOpeningText lacks (CannotOpen inputs.Trace) = lacks
 IsOfOpeningText lacks OutOfMemory = Unit {0}
 IsOfOpeningText lacks _ = ⊥
 
--- why a text was not read whole: a call of the reader failed, which `CountsText` tells, or a growth was refused
-abbrev pub IsOfReading : Refusal → Type 0
-IsOfReading (ReadFailed inputs.Trace) = Unit {0}
-IsOfReading (Trace fault) = fault ≡ faults.OutOfMemory
-IsOfReading _ = ⊥
-
 -- the text is no trace, by the first thing that is wrong with it, or reading it wanted memory
 abbrev pub RefusesText : ℕ → ℕ → Refusal → Option (List ℕ) → Type 0
 RefusesText mutators roots (ReadFailed inputs.Trace) known = Unit {0}
@@ -49,3 +44,9 @@ abbrev pub CountsText : {T : Type 0} → ℕ → ℕ → Result T Refusal → Ty
 CountsText before after (Ok _) = after ≡ before
 CountsText before after (Err (ReadFailed input)) = after ≡ before + 1
 CountsText before after (Err _) = after ≡ before
+
+-- and `Failed` where it reads a text, whichever that is
+abbrev pub CountsUnread : {T : Type 0} → ℕ → ℕ → Result T Unread → Type 0
+CountsUnread before after (Ok _) = after ≡ before
+CountsUnread before after (Err unread.Failed) = after ≡ before + 1
+CountsUnread before after (Err unread.OutOfMemory) = after ≡ before

@@ -1,10 +1,12 @@
-//! Where the dumps are written.
+//! Where the dumps and the new images lie that the program makes, and how dumps are written.
 ghost use Rattle.std.specs.Prelude.{◌≡◌, ℕ, ◌-◌, ◌^◌, ◌<◌, List, true, IfOk, IfErr, OnOk};
 ghost use Rattle.heap_image.specs.Counted.{inner_of, failures_of, is_flushed_of};
 ghost use Rattle.comp_dump.specs.DumpEncoding.{dump_bytes};
 ghost use Rattle.comp_dump.specs.DumpReading.{CountsFailure};
-ghost use Rattle.comp_dump.specs.DumpWriting.{Writes};
+ghost use Rattle.heap_image.specs.Writing.{Writes};
+ghost use Rattle.comp_dump.specs.declared.fault.DumpFault.TheVariants as fault;
 ghost use Rattle.command_io.specs.Dumps.{IsOfCreating, IsOfDumping, WritesWhole};
+ghost use Rattle.command_io.specs.declared.refusal.Output.TheVariants as outputs;
 
 use crate::refusal::{Output, Refusal};
 use comp_dump::dump::Dump;
@@ -16,10 +18,10 @@ use std::fs;
 use std::io::{BufWriter, Write};
 use std::rt::Files;
 
-// How many bytes of a dump are written by one call of its file.
+// How many bytes are written by one call of a file.
 const WRITTEN_AT_ONCE: usize = 65_536;
 
-/// Where the dumps lie that the program makes, by their paths.
+/// Where the dumps and the new images lie that the program makes, by their paths.
 pub trait Dumps {
     type Writer: Write + Drop;
 
@@ -32,10 +34,15 @@ pub trait Dumps {
     /// Creates the dump at a path, in place of what is there, to be written from its first byte.
     fn create(&mut self, path: &str) -> Result<Self::Writer, Refusal>
         ensures given { IfOk result (gives self.old path.now) }
-        ensures cause { IfErr result (IsOfCreating (lacks self.old path.now)) };
+        ensures cause { IfErr result (IsOfCreating outputs.Dump (lacks self.old path.now)) };
+
+    /// Creates the new image at a path, as `create` does a dump.
+    fn create_image(&mut self, path: &str) -> Result<Self::Writer, Refusal>
+        ensures given { IfOk result (gives self.old path.now) }
+        ensures cause { IfErr result (IsOfCreating outputs.New (lacks self.old path.now)) };
 }
 
-/// The dumps that lie in the files of a runtime, which are written through a buffer.
+/// The dumps and the new images that lie in the files of a runtime, which are written through a buffer.
 #[derive(Drop)]
 pub struct FileDumps<'a, R> {
     pub rt: &'a R,
@@ -50,13 +57,28 @@ impl<R: Files + AllocGlobal> Dumps for FileDumps<'_, R> {
     ghost lacks = { λ _ _. Unit {0} };
 
     fn create(&mut self, path: &str) -> Result<BufWriter<R::File, Global>, Refusal> {
-        let Ok(file) = fs::create(self.rt, path) else {
-            return Err(Refusal::CannotCreate(Output::Dump));
-        };
-        match BufWriter::with_capacity(self.rt.alloc(), WRITTEN_AT_ONCE, file) {
-            Ok(writer) => Ok(writer),
-            Err(_) => Err(Refusal::OutOfMemory),
-        }
+        create_file(self.rt, path, Output::Dump)
+    }
+
+    fn create_image(&mut self, path: &str) -> Result<BufWriter<R::File, Global>, Refusal> {
+        create_file(self.rt, path, Output::New)
+    }
+}
+
+// A file for this output, in place of what is at the path.
+fn create_file<R: Files + AllocGlobal>(
+    rt: &R,
+    path: &str,
+    output: Output,
+) -> Result<BufWriter<R::File, Global>, Refusal>
+    ensures { IfErr result (IsOfCreating output (Unit {0})) }
+{
+    let Ok(file) = fs::create(rt, path) else {
+        return Err(Refusal::CannotCreate(output));
+    };
+    match BufWriter::with_capacity(rt.alloc(), WRITTEN_AT_ONCE, file) {
+        Ok(writer) => Ok(writer),
+        Err(_) => Err(Refusal::OutOfMemory),
     }
 }
 
@@ -77,6 +99,7 @@ fn write_flushed<W: Write>(dump: &Dump<'_>, w: &mut Counted<W>) -> Result<(), Du
     ensures writes { Writes (W.contents (inner_of w.old)) (W.contents (inner_of w.new)) (dump_bytes dump.now) result }
     ensures counts { CountsFailure (failures_of w.old) (failures_of w.new) result }
     ensures flushed { OnOk result (is_flushed_of w.new ≡ true) }
+    ensures cause { IfErr result (λ given. given ≡ fault.Device) }
 {
     write_dump(dump, w)?;
     match w.flush() {

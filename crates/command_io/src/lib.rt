@@ -1,8 +1,11 @@
-//! What the commands stand on: why they are refused, where their images, traces and dumps lie, and printing.
+//! What the commands stand on: why they are refused, where their images, traces, marks, dumps and new images lie, and printing.
 #![tactic(auto)]
 
 pub mod dumps;
 pub mod images;
+pub mod marks;
+pub mod new_images;
 pub mod print;
 pub mod refusal;
+mod texts;
 pub mod traces;

@@ -1,4 +1,4 @@
-ghost use Rattle.std.specs.Prelude.{◌≡◌, Some, codes};
+ghost use Rattle.std.specs.Prelude.{◌≡◌, Some};
 ghost use Rattle.command_io.specs.declared.refusal.Refusal.TheVariants as refusal;
 
 use audit_faults::fault::AuditFault;
@@ -17,6 +17,7 @@ pub enum Input {
     Image,
     Trace,
     Dump,
+    Marks,
 }
 
 impl fmt::Display for Input {
@@ -29,6 +30,7 @@ impl fmt::Display for Input {
             Input::Image => "image",
             Input::Trace => "trace",
             Input::Dump => "dump",
+            Input::Marks => "marks",
         })
     }
 }
@@ -37,14 +39,18 @@ impl fmt::Display for Input {
 #[derive(Clone, Copy, Debug, PartialEq, Eq)]
 pub enum Output {
     Dump,
+    New,
 }
 
 impl fmt::Display for Output {
-    ghost output = { λ _. Some (codes "dump") };
+    ghost use Rattle.command_io.specs.Printing.{output_name};
+
+    ghost output = { λ output. Some (output_name output) };
 
     fn fmt<W: fmt::Write>(&self, f: &mut fmt::Formatter<W>) -> fmt::Result {
         f.write_str(match self {
             Output::Dump => "dump",
+            Output::New => "new",
         })
     }
 }
@@ -52,7 +58,7 @@ impl fmt::Display for Output {
 /// Why the program did not do what it was asked.
 #[derive(Clone, Copy, Debug, PartialEq, Eq, Error)]
 pub enum Refusal {
-    /// The image is refused.
+    /// The image is refused, or the new one was not written whole.
     #[error(transparent)]
     Layout(LayoutFault),
     /// A mutator is refused what it asked.
@@ -85,6 +91,9 @@ pub enum Refusal {
     /// This index is past the last page.
     #[error("P5 NoSuchWord({0})")]
     NoSuchWord(u64),
+    /// The line of this number, counted from 1, is no mark.
+    #[error("P6 BadMarks({0})")]
+    BadMarks(u64),
     /// A growth was refused.
     #[error("P7 OutOfMemory")]
     OutOfMemory,

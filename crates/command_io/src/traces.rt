@@ -1,11 +1,13 @@
-//! Where the traces lie, and how their texts are read.
-ghost use Rattle.std.specs.Prelude.{◌≡◌, ℕ, ◌-◌, ◌^◌, ◌<◌, List, IfOk, IfErr, IfSome};
+//! Where the traces and the marks lie, and how the texts of traces are read.
+ghost use Rattle.std.specs.Prelude.{◌≡◌, ℕ, ◌-◌, ◌^◌, ◌<◌, List, IfOk, IfErr};
 ghost use Rattle.heap_image.specs.Counted.{inner_of, failures_of};
 ghost use Rattle.trace_text.specs.Traces.{lines_of, mutators_of, roots_of};
 ghost use Rattle.command_io.specs.Images.{SomeGiven};
-ghost use Rattle.command_io.specs.Texts.{CountsText, IsOfOpeningText, IsOfReading, IsTextOf, RefusesText, RefusesTextAt};
+ghost use Rattle.command_io.specs.Marks.{IsOfOpeningMarks};
+ghost use Rattle.command_io.specs.Texts.{CountsText, IsOfOpeningText, IsTextOf, RefusesText, RefusesTextAt};
 
 use crate::refusal::{Input, Refusal};
+use crate::texts::{Unread, text_in};
 use heap_image::counted::Counted;
 use std::alloc::Global;
 use std::fs;
@@ -15,10 +17,7 @@ use trace_text::fault::TraceFault;
 use trace_text::parsing::parse;
 use trace_text::trace::Trace;
 
-/// How many bytes of a text are fetched at once, at most.
-const PIECE: usize = 65_536;
-
-/// Where the traces lie that the program is given by their paths.
+/// Where the traces and the marks lie that the program is given by their paths.
 pub trait Traces {
     type Reader: Read + Drop;
 
@@ -32,9 +31,14 @@ pub trait Traces {
     fn open(&self, path: &str) -> Result<Self::Reader, Refusal>
         ensures given { IfOk result (gives self.now path.now) }
         ensures cause { IfErr result (IsOfOpeningText (lacks self.now path.now)) };
+
+    /// Opens the marks at a path, to be read from their first byte.
+    fn open_marks(&self, path: &str) -> Result<Self::Reader, Refusal>
+        ensures given { IfOk result (gives self.now path.now) }
+        ensures cause { IfErr result (IsOfOpeningMarks (lacks self.now path.now)) };
 }
 
-/// The traces that lie in the files of a runtime, which are read through a buffer.
+/// The traces and the marks that lie in the files of a runtime, which are read through a buffer.
 #[derive(Drop)]
 pub struct FileTraces<'a, R> {
     pub rt: &'a R,
@@ -51,6 +55,16 @@ impl<R: Files + AllocGlobal> Traces for FileTraces<'_, R> {
     fn open(&self, path: &str) -> Result<BufReader<R::File, Global>, Refusal> {
         let Ok(file) = fs::open(self.rt, path) else {
             return Err(Refusal::CannotOpen(Input::Trace));
+        };
+        match BufReader::new(self.rt.alloc(), file) {
+            Ok(reader) => Ok(reader),
+            Err(_) => Err(Refusal::OutOfMemory),
+        }
+    }
+
+    fn open_marks(&self, path: &str) -> Result<BufReader<R::File, Global>, Refusal> {
+        let Ok(file) = fs::open(self.rt, path) else {
+            return Err(Refusal::CannotOpen(Input::Marks));
         };
         match BufReader::new(self.rt.alloc(), file) {
             Ok(reader) => Ok(reader),
@@ -88,29 +102,10 @@ pub fn trace_in<S: Read>(
     ensures cause { IfErr result (λ refusal. RefusesText mutators roots refusal (S.remaining (inner_of r.old))) }
     ensures reads { CountsText (failures_of r.old) (failures_of r.new) result }
 {
-    let text = text_in(alloc, r)?;
+    let text = match text_in(alloc, r) {
+        Ok(text) => text,
+        Err(Unread::Failed) => return Err(Refusal::ReadFailed(Input::Trace)),
+        Err(Unread::OutOfMemory) => return Err(Refusal::Trace(TraceFault::OutOfMemory)),
+    };
     Ok(parse(alloc, &text, mutators, roots)?)
-}
-
-/// All bytes that the reader has left. The first call of the reader that answers an error ends the reading, an interrupted one too.
-fn text_in<S: Read>(alloc: Global, r: &mut Counted<S>) -> Result<Vec<u8>, Refusal>
-    requires read { failures_of r.old < 2 ^ 64 - 1 }
-    ensures text { IfOk result (λ text. IfSome (S.remaining (inner_of r.old)) (λ bytes. bytes ≡ text.items)) }
-    ensures cause { IfErr result IsOfReading }
-    ensures reads { CountsText (failures_of r.old) (failures_of r.new) result }
-{
-    let mut text = Vec::new(alloc);
-    let mut buf = [0; PIECE];
-    for _turn in 0..u64::MAX {
-        match r.read(&mut buf) {
-            Ok(0) => return Ok(text),
-            Ok(n) => {
-                if text.extend_from_slice(&buf[..n]).is_err() {
-                    return Err(Refusal::Trace(TraceFault::OutOfMemory));
-                }
-            }
-            Err(_) => return Err(Refusal::ReadFailed(Input::Trace)),
-        }
-    }
-    unreachable!()
 }

@@ -19,13 +19,13 @@ use Rattle.clap.specs.declared.parser.matches.Found.{Found}
 use Rattle.clap.proofs.WalkLemmas.{both, first_value-rows, one_text-rows}
 use Rattle.command_line.specs.Asked.{given as given_values}
 use Rattle.command_line.specs.Asked.{Asks, AsksAudit, AsksCompact, AsksHelp, AsksNoCommand, AsksPlan, AsksVersion, AsksWord, HasLawfulCounts, IsAnswerOf}
-use Rattle.command_line.specs.Forms.{Choice, Form, Parameter, audit_form, compact_form, fresh, mutators, number, plan_form, race_form, replay_form, run_form, standing, text, word_form, workers}
+use Rattle.command_line.specs.Forms.{Choice, Form, Parameter, audit_form, compact_form, fresh, mutators, next_form, number, plan_form, race_form, replay_form, run_form, standing, text, word_form, workers}
 use Rattle.command_line.specs.Given.{HasOption, IsCommandWith, IsNumber, IsNumberOr, Takes, text_given}
 use Rattle.command_line.specs.Finds.{HasRun, IsRunFound}
 use Rattle.command_line.specs.Parser.{program}
 use Rattle.command_line.specs.Runs.{AsksRun, Run}
 use Rattle.command_line.specs.declared.words.Task.{Task}
-use Rattle.command_line.specs.declared.words.Task.TheVariants.{Plan, Word, Replay, Race, Compact, Audit, Help, Version}
+use Rattle.command_line.specs.declared.words.Task.TheVariants.{Plan, Word, Replay, Race, Compact, Audit, Next, Help, Version}
 use Rattle.command_line.proofs.Chosen.{chosen_fits}
 use Rattle.command_line.proofs.FormRules.{are_apart}
 use Rattle.command_line.proofs.KindLists.{some_kind}
@@ -271,8 +271,8 @@ abbrev pub EnteredAs : Entered → Form → Type 0
 EnteredAs o form = (rows : List Row) → o ≡ Some (form.name, rows) → ⊥
 
 pub none_of_standing : (words : List (List ℕ)) (o : Entered) → All IsUtf8 words → fault_of (program standing) words ≡ [] → subcommand_of (program standing) words ≡ o
-    → EnteredAs o plan_form → EnteredAs o word_form → EnteredAs o replay_form → EnteredAs o race_form → EnteredAs o compact_form → EnteredAs o audit_form → ⊥
-none_of_standing words o utf8 taken found plan word replay race compact audit = go (entered_one standing standing_program words o utf8 taken found)
+    → EnteredAs o plan_form → EnteredAs o word_form → EnteredAs o replay_form → EnteredAs o race_form → EnteredAs o compact_form → EnteredAs o audit_form → EnteredAs o next_form → ⊥
+none_of_standing words o utf8 taken found plan word replay race compact audit next = go (entered_one standing standing_program words o utf8 taken found)
   where
     go : (form : Form) × (rows : List Row) × IsOneOf standing form × (o ≡ Some (form.name, rows)) → ⊥
     go (form, rows, inl same, is) = plan rows (is ∙ ap (λ (x : Form). Some (x.name, rows)) same)
@@ -281,7 +281,8 @@ none_of_standing words o utf8 taken found plan word replay race compact audit = 
     go (form, rows, inr (inr (inr (inl same))), is) = race rows (is ∙ ap (λ (x : Form). Some (x.name, rows)) same)
     go (form, rows, inr (inr (inr (inr (inl same)))), is) = compact rows (is ∙ ap (λ (x : Form). Some (x.name, rows)) same)
     go (form, rows, inr (inr (inr (inr (inr (inl same))))), is) = audit rows (is ∙ ap (λ (x : Form). Some (x.name, rows)) same)
-    go (form, rows, inr (inr (inr (inr (inr (inr none))))), is) = none
+    go (form, rows, inr (inr (inr (inr (inr (inr (inl same)))))), is) = next rows (is ∙ ap (λ (x : Form). Some (x.name, rows)) same)
+    go (form, rows, inr (inr (inr (inr (inr (inr (inr none)))))), is) = none
 
 -- ---- what is told in place of a task
 
@@ -324,6 +325,7 @@ answer_counts error (Ok (Replay run)) answer = absurd answer
 answer_counts error (Ok (Race run)) answer = absurd answer
 answer_counts error (Ok (Compact image dump n)) answer = absurd answer
 answer_counts error (Ok (Audit image dump)) answer = _
+answer_counts error (Ok (Next next)) answer = absurd answer
 answer_counts error (Ok (Help text)) answer = _
 answer_counts error (Ok Version) answer = _
 answer_counts error (Err told) answer = _
@@ -345,6 +347,7 @@ module _ (forms : List Form) (is : IsProgram forms) (has : HasCommands forms) (w
   answer_told error (Ok (Race run)) kind answer = absurd answer
   answer_told error (Ok (Compact image dump n)) kind answer = absurd answer
   answer_told error (Ok (Audit image dump)) kind answer = absurd answer
+  answer_told error (Ok (Next next)) kind answer = absurd answer
   answer_told error (Ok (Help text)) kind answer = help_asked (among_kinds _ error DisplayHelp kind answer (λ e. cc))
   answer_told error (Ok Version) kind answer = version_asked (among_kinds _ error DisplayVersion kind answer (λ e. cc))
   answer_told error (Err told) kind answer = _

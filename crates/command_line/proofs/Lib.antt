@@ -14,3 +14,4 @@ pub mod Plain
 pub mod Chosen
 pub mod Parsed
 pub mod Found
+pub mod NextFound

@@ -4,7 +4,7 @@ use Rattle.std.proofs.lemmas.List.Elements.{All-tail}
 use Rattle.clap.specs.Words.{IsAmong, Text, fault_of, subcommand_of}
 use Rattle.clap.specs.declared.error.kind.ErrorKind.TheVariants.{DisplayHelp, DisplayVersion}
 use Rattle.command_line.specs.Asked.{AreCommand, AsksNoCommand, is_help, is_version}
-use Rattle.command_line.specs.Forms.{Form, audit_form, compact_form, number, plan_form, race_form, replay_form, standing, text, word_form}
+use Rattle.command_line.specs.Forms.{Form, audit_form, compact_form, next_form, number, plan_form, race_form, replay_form, standing, text, word_form}
 use Rattle.command_line.specs.Given.{IsCommandWith, IsNumber, Takes}
 use Rattle.command_line.specs.Parser.{program}
 use Rattle.std.proofs.lemmas.List.Elements.{All-cons, All-nil}
@@ -12,7 +12,7 @@ use Rattle.command_line.proofs.FormLevel.{FormTaken, form_help, form_no_version,
 use Rattle.command_line.proofs.Levels.{level, shape}
 use Rattle.command_line.proofs.Plain.{pairs_give}
 use Rattle.command_line.proofs.Settled.{AreFresh, row}
-use Rattle.command_line.proofs.TopLevel.{BeginWith, Decided, IsCommand, IsProgram, command_first, command_found, first_decides, standing_audit, standing_compact, standing_plan, standing_race, standing_replay, standing_word}
+use Rattle.command_line.proofs.TopLevel.{BeginWith, Decided, IsCommand, IsProgram, command_first, command_found, first_decides, standing_audit, standing_compact, standing_next, standing_plan, standing_race, standing_replay, standing_word}
 use Rattle.command_line.proofs.Uses.{Use}
 
 -- ---- words
@@ -127,10 +127,11 @@ pub record HasCommands (forms : List Form) : Type 0 where
   pub race : IsCommand forms race_form
   pub compact : IsCommand forms compact_form
   pub audit : IsCommand forms audit_form
+  pub next : IsCommand forms next_form
 
 -- they are among those that stand
 pub standing_commands : HasCommands standing
-standing_commands = record { plan = standing_plan; word = standing_word; replay = standing_replay; race = standing_race; compact = standing_compact; audit = standing_audit }
+standing_commands = record { plan = standing_plan; word = standing_word; replay = standing_replay; race = standing_race; compact = standing_compact; audit = standing_audit; next = standing_next }
 
 module _ (forms : List Form) (program_is : IsProgram forms) (words : List Text) where
   -- words that clap takes are a command
@@ -172,4 +173,5 @@ module _ (forms : List Form) (program_is : IsProgram forms) (words : List Text) 
     no_race = λ run asks. refused_command race_form has.race fails asks.texts asks.is_command;
     no_compact = λ image dump n asks. refused_command compact_form has.compact fails asks.0 asks.1;
     no_audit = λ image dump asks. refused_command audit_form has.audit fails _ (audit_given words image dump asks);
+    no_next = λ next asks. refused_command next_form has.next fails asks.texts asks.is_command;
   }

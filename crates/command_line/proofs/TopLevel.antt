@@ -16,7 +16,7 @@ use Rattle.clap.proofs.OnLiterals.{clap_on_literals}
 use Rattle.clap.proofs.WalkLemmas.{walk_stopped}
 use Rattle.command_line.specs.Asked.{is_help, is_version}
 use Rattle.command_line.specs.Given.{is_flag}
-use Rattle.command_line.specs.Forms.{Form, audit_form, compact_form, plan_form, race_form, replay_form, standing, word_form}
+use Rattle.command_line.specs.Forms.{Form, audit_form, compact_form, next_form, plan_form, race_form, replay_form, standing, word_form}
 use Rattle.command_line.specs.Parser.{program}
 use Rattle.std.proofs.lemmas.Bool.{eqb-true}
 use Rattle.command_line.proofs.Lexed.{IsBundle, IsLong, flag_read}
@@ -130,6 +130,9 @@ compact_readable = record { distinct = refl; apart = refl; names = refl; few = o
 audit_readable : IsReadable audit_form
 audit_readable = record { distinct = refl; apart = refl; names = refl; few = omega arith }
 
+next_readable : IsReadable next_form
+next_readable = record { distinct = refl; apart = refl; names = refl; few = omega arith }
+
 -- ---- the program as it stands
 
 pub standing_plan : IsCommand standing plan_form
@@ -150,6 +153,9 @@ standing_compact = record { is_one = refl; is_met = refl; is_entered = refl; is_
 pub standing_audit : IsCommand standing audit_form
 standing_audit = record { is_one = refl; is_met = refl; is_entered = refl; is_not_help = refl; is_readable = audit_readable }
 
+pub standing_next : IsCommand standing next_form
+standing_next = record { is_one = refl; is_met = refl; is_entered = refl; is_not_help = refl; is_readable = next_readable }
+
 standing_help : (rest : List Text) → AreRefused (codes "help" ∷ rest) (fault_of (program standing) (codes "help" ∷ rest))
 unfolding clap_on_literals
 standing_help rest = told_help (codes "help") rest (InvalidSubcommand ∷ []) refl refl
@@ -166,7 +172,7 @@ standing_none = refused [] MissingSubcommand [] refl
 pub standing_program : IsProgram standing
 standing_program = record {
   is_free = refl;
-  are_commands = (standing_plan, (standing_word, (standing_replay, (standing_race, (standing_compact, (standing_audit, tt))))));
+  are_commands = (standing_plan, (standing_word, (standing_replay, (standing_race, (standing_compact, (standing_audit, (standing_next, tt)))))));
   named = refl;
   help_first = standing_help;
   end_first = standing_end;

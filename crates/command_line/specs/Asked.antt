@@ -6,9 +6,11 @@ use Rattle.clap.specs.declared.error.kind.ErrorKind.{ErrorKind}
 use Rattle.clap.specs.declared.error.kind.ErrorKind.TheVariants.{DisplayHelp, DisplayVersion}
 use Rattle.command_line.specs.Forms.{Parameter, compact_form, workers}
 use Rattle.command_line.specs.Given.{IsChosen, IsCommandWith, IsNumber, is_flag, text_given}
+use Rattle.command_line.specs.Nexts.{AsksNext, IsLawfulNext, Next, next_of}
 use Rattle.command_line.specs.Runs.{AsksRun, IsLawfulRun, Run, run_of}
 use Rattle.command_line.specs.declared.words.Task.{Task}
 use Rattle.command_line.specs.declared.words.Task.TheVariants.{Plan, Word, Replay, Race, Compact, Audit, Help, Version}
+use Rattle.command_line.specs.declared.words.Task.TheVariants as tasks
 
 -- what a command is given: behind a first `--` each word, before it each that is no flag; None where there is a flag before it
 abbrev pub given : List (List ℕ) → Option (List (List ℕ))
@@ -54,6 +56,7 @@ pub record AsksNoCommand (words : List (List ℕ)) : Type 0 where
   pub no_race : (run : Run) → ¬ (AsksRace words run)
   pub no_compact : (image dump : List ℕ) (n : ℕ) → ¬ (AsksCompact words image dump n)
   pub no_audit : (image dump : List ℕ) → ¬ (AsksAudit words image dump)
+  pub no_next : (next : Next) → ¬ (AsksNext words next)
 
 -- `help`, `--help`, or a flag that begins with `-h`
 abbrev pub is_help : List ℕ → Bool
@@ -79,6 +82,7 @@ Asks words (Replay run) = AsksReplay words (run_of run)
 Asks words (Race run) = AsksRace words (run_of run)
 Asks words (Compact image dump n) = AsksCompact words image.now dump.now n
 Asks words (Audit image dump) = AsksAudit words image.now dump.now
+Asks words (tasks.Next next) = AsksNext words (next_of next)
 Asks words (Help text) = AsksHelp words
 Asks words Version = AsksVersion words
 
@@ -90,6 +94,7 @@ HasLawfulCounts (Replay run) = IsLawfulRun (run_of run)
 HasLawfulCounts (Race run) = IsLawfulRun (run_of run)
 HasLawfulCounts (Compact image dump n) = (1 ≤ n) × (n ≤ 64)
 HasLawfulCounts (Audit image dump) = Unit {0}
+HasLawfulCounts (tasks.Next next) = IsLawfulNext (next_of next)
 HasLawfulCounts (Help text) = Unit {0}
 HasLawfulCounts Version = Unit {0}
 
@@ -101,5 +106,6 @@ IsAnswerOf kind (Replay run) = ⊥
 IsAnswerOf kind (Race run) = ⊥
 IsAnswerOf kind (Compact image dump n) = ⊥
 IsAnswerOf kind (Audit image dump) = ⊥
+IsAnswerOf kind (tasks.Next next) = ⊥
 IsAnswerOf kind (Help text) = kind ≡ DisplayHelp
 IsAnswerOf kind Version = kind ≡ DisplayVersion

@@ -76,6 +76,14 @@ compact_form = record { name = codes "compact"; options = workers ∷ []; argume
 abbrev pub audit_form : Form
 audit_form = record { name = codes "audit"; options = []; arguments = text (codes "IMAGE") ∷ text (codes "DUMP") ∷ [] }
 
+-- `next [--mutators N] [--fresh N] IMAGE TRACE MARKS NEW`
+abbrev pub next_form : Form
+next_form = record {
+  name = codes "next";
+  options = mutators ∷ fresh ∷ [];
+  arguments = text (codes "IMAGE") ∷ text (codes "TRACE") ∷ text (codes "MARKS") ∷ text (codes "NEW") ∷ [];
+}
+
 -- the commands that the program has
 abbrev pub standing : List Form
-standing = plan_form ∷ word_form ∷ replay_form ∷ race_form ∷ compact_form ∷ audit_form ∷ []
+standing = plan_form ∷ word_form ∷ replay_form ∷ race_form ∷ compact_form ∷ audit_form ∷ next_form ∷ []

@@ -1,6 +1,7 @@
 pub mod Forms
 pub mod Given
 pub mod Runs
+pub mod Nexts
 pub mod Asked
 pub mod Parser
 pub mod Finds

@@ -1,19 +1,25 @@
 //! The words of the command line.
-ghost use Rattle.std.specs.Prelude.{◌≡◌, ◌≢◌, ◌⊎◌, ℕ, [], true, false, codes, map, is_some, Some, IsSomeAnd, IfSome, IfOk, IfErr};
+ghost use Rattle.std.specs.Prelude.{◌≡◌, ◌≢◌, ◌⊎◌, [], true, map, IfOk, IfErr};
 ghost use Rattle.std.specs.String.{string_bytes};
-ghost use Rattle.clap.specs.Words.{app_of, fault_of, first_value, found_of, kind_of, new_app, one_text, rule_of, subcommand_of, subcommand_rows_of, with_rule, with_subcommand, App, Rule};
+ghost use Rattle.clap.specs.Words.{app_of, fault_of, found_of, kind_of, subcommand_of, subcommand_rows_of, with_subcommand, App};
 ghost use Rattle.clap.specs.declared.error.kind.ErrorKind.TheVariants.{DisplayHelp, DisplayVersion, OutOfMemory};
 ghost use Rattle.command_line.specs.Asked.{Asks, AsksNoCommand, HasLawfulCounts, IsAnswerOf};
-ghost use Rattle.command_line.specs.Forms.{audit_form, compact_form, fresh, mutators, number, number_within, plan_form, race_form, replay_form, run_form, standing, text, word_form, workers};
-ghost use Rattle.command_line.specs.Given.{IsNumber, IsNumberOr};
+ghost use Rattle.command_line.specs.Forms.{audit_form, compact_form, plan_form, race_form, replay_form, run_form, standing, word_form};
 ghost use Rattle.command_line.specs.Finds.{HasRun, IsRunFound};
-ghost use Rattle.command_line.specs.Parser.{bare_program, command as command_of, option_rule, optional_rule, program, rule};
+ghost use Rattle.command_line.specs.Parser.{bare_program, command as command_of, program};
 ghost use Rattle.command_line.specs.Runs.{IsLawfulRun, run_of};
 
-use clap::builder::ValueParser;
+use crate::arguments::{
+    Made, dump_argument, fresh_option, image_argument, index_argument, mutators_option,
+    named_command, path_argument, trace_argument, with_argument, workers_option,
+};
+use crate::next::{NextRun, next_command, next_run};
+use crate::values::{
+    DEFAULT_FRESH, DEFAULT_MUTATORS, DEFAULT_WORKERS, count_of, number_of, text_of,
+};
 use clap::error::ErrorKind;
-use clap::{Arg, ArgMatches, Command, Error, value_parser};
-use std::alloc::{AllocError, Global};
+use clap::{ArgMatches, Command, Error};
+use std::alloc::Global;
 
 /// What the words ask for.
 #[derive(Debug, Drop)]
@@ -42,6 +48,8 @@ pub enum Task<'a> {
         image: &'a str,
         dump: &'a str,
     },
+    /// The lines of a trace, run as by `replay`, after which the heap is marked anew, and its new image written to a path.
+    Next(NextRun<'a>),
     /// This text of help.
     Help {
         text: String,
@@ -70,13 +78,6 @@ pub const VERSION_LINE: &str = "compressor 0.1.0\n";
 
 // The version, as clap is told of it.
 const VERSION: &str = "0.1.0";
-
-// The mutators, the fresh pages and the workers of a command that is told of none.
-const DEFAULT_MUTATORS: u64 = 2;
-
-const DEFAULT_FRESH: u64 = 64;
-
-const DEFAULT_WORKERS: u64 = 2;
 
 /// Reads the words after the program's name: the task is the one that they ask. An error comes where they ask none, or for want of memory.
 pub fn read_task<'a>(alloc: Global, words: &'a [String]) -> Result<Task<'a>, Error>
@@ -121,6 +122,7 @@ fn task_of<'a>(words: &'a [String], matches: &ArgMatches<'a>) -> Task<'a>
             image: text_of(found, "IMAGE"),
             dump: text_of(found, "DUMP"),
         },
+        "next" => Task::Next(next_run(found)),
         _ => unreachable!(),
     }
 }
@@ -140,39 +142,6 @@ fn trace_run<'a>(found: &ArgMatches<'a>) -> TraceRun<'a>
     }
 }
 
-// The text of an argument that was found.
-fn text_of<'a>(found: &ArgMatches<'a>, id: &str) -> &'a str
-    requires { is_some (first_value (found_of found.now) id.now) ≡ true }
-    ensures { Some result.now ≡ first_value (found_of found.now) id.now }
-{
-    match found.get_str(id) {
-        Some(text) => text,
-        None => unreachable!(),
-    }
-}
-
-// The number of an argument that was found.
-fn number_of(found: &ArgMatches, id: &str) -> u64
-    requires { IsSomeAnd (one_text (found_of found.now) id.now) (λ text. (number : ℕ) × IsNumber text number) }
-    ensures { IfSome (one_text (found_of found.now) id.now) (λ text. IsNumber text result) }
-{
-    match found.get_one::<u64>(id) {
-        Some(number) => number,
-        None => unreachable!(),
-    }
-}
-
-// The number of an option, or its default where it was left out.
-fn count_of(found: &ArgMatches, id: &str, default: u64) -> u64
-    requires { IfSome (one_text (found_of found.now) id.now) (λ text. (number : ℕ) × IsNumber text number) }
-    ensures { IsNumberOr default (one_text (found_of found.now) id.now) result }
-{
-    match found.get_one::<u64>(id) {
-        Some(count) => count,
-        None => default,
-    }
-}
-
 // The text of help, or the version, where that is what the parser answers, and else its error.
 fn answer_task<'a>(alloc: Global, error: Error) -> Result<Task<'a>, Error>
     ensures answer { IfOk result (IsAnswerOf (kind_of error)) }
@@ -189,9 +158,6 @@ fn answer_task<'a>(alloc: Global, error: Error) -> Result<Task<'a>, Error>
     }
 }
 
-// A command, or that memory was wanting for it.
-type Made<'a> = Result<Command<'a>, AllocError>;
-
 fn command<'a>(alloc: Global) -> Made<'a>
     ensures { IfOk result (λ made. app_of made ≡ program standing) }
 {
@@ -200,7 +166,8 @@ fn command<'a>(alloc: Global) -> Made<'a>
     let replaying = with_command(reading, replay_command(alloc));
     let racing = with_command(replaying, race_command(alloc));
     let compacting = with_command(racing, compact_command(alloc));
-    with_command(compacting, audit_command(alloc))
+    let auditing = with_command(compacting, audit_command(alloc));
+    with_command(auditing, next_command(alloc))
 }
 
 // The program with one command more.
@@ -209,14 +176,6 @@ fn with_command<'a>(program: Made<'a>, command: Made<'a>) -> Made<'a>
         → IfOk result (λ made. app_of made ≡ with_subcommand app added.top) }
 {
     program?.subcommand(command?)
-}
-
-// The command with one argument more.
-fn with_argument<'a>(command: Made<'a>, argument: Arg<'a>) -> Made<'a>
-    ensures { (app : App) (rule : Rule) → IfOk command.entry (λ made. app_of made ≡ app) → rule_of argument.entry ≡ rule → argument.entry.global ≡ false
-        → IfOk result (λ made. app_of made ≡ with_rule app rule) }
-{
-    command?.arg(argument)
 }
 
 fn bare_command<'a>(alloc: Global) -> Made<'a>
@@ -230,13 +189,6 @@ fn bare_command<'a>(alloc: Global) -> Made<'a>
             .no_binary_name(true)
             .subcommand_required(true),
     )
-}
-
-// A command of this name without arguments, with its line of help.
-fn named_command<'a>(alloc: Global, name: &'a str, about: &'a str) -> Made<'a>
-    ensures { IfOk result (λ made. app_of made ≡ new_app name.entry.now) }
-{
-    Ok(Command::new(alloc, name).about(about))
 }
 
 fn plan_command<'a>(alloc: Global) -> Made<'a>
@@ -308,92 +260,4 @@ fn audit_command<'a>(alloc: Global) -> Made<'a>
     let audit = named_command(alloc, "audit", "Judges the dump of a compaction of a heap");
     let of_image = with_argument(audit, image_argument(alloc));
     with_argument(of_image, path_argument(alloc, "DUMP", "The dump"))
-}
-
-fn mutators_option<'a>(alloc: Global) -> Arg<'a>
-    ensures rule { rule_of result ≡ option_rule mutators }
-    ensures local { result.global ≡ false }
-{
-    number_option(
-        alloc,
-        "mutators",
-        1,
-        64,
-        "How many mutators there are, 1 to 64 (2 by default)",
-    )
-}
-
-fn fresh_option<'a>(alloc: Global) -> Arg<'a>
-    ensures rule { rule_of result ≡ option_rule fresh }
-    ensures local { result.global ≡ false }
-{
-    number_option(
-        alloc,
-        "fresh",
-        0,
-        4096,
-        "How many fresh pages there are, 0 to 4096 (64 by default)",
-    )
-}
-
-fn workers_option<'a>(alloc: Global) -> Arg<'a>
-    ensures rule { rule_of result ≡ option_rule workers }
-    ensures local { result.global ≡ false }
-{
-    number_option(
-        alloc,
-        "workers",
-        1,
-        64,
-        "How many workers compact, 1 to 64 (2 by default)",
-    )
-}
-
-fn number_option<'a>(alloc: Global, name: &'a str, low: u64, high: u64, help: &'a str) -> Arg<'a>
-    ensures rule { rule_of result ≡ optional_rule (number_within name.entry.now low high) }
-    ensures local { result.global ≡ false }
-{
-    Arg::new(alloc, name)
-        .long(name)
-        .value_name("N")
-        .value_parser(ValueParser::unsigned(low, high))
-        .help(help)
-}
-
-fn image_argument<'a>(alloc: Global) -> Arg<'a>
-    ensures rule { rule_of result ≡ rule (text (codes "IMAGE")) }
-    ensures local { result.global ≡ false }
-{
-    path_argument(alloc, "IMAGE", "The heap's image")
-}
-
-fn index_argument<'a>(alloc: Global) -> Arg<'a>
-    ensures rule { rule_of result ≡ rule (number (codes "INDEX")) }
-    ensures local { result.global ≡ false }
-{
-    Arg::new(alloc, "INDEX")
-        .required(true)
-        .value_parser(value_parser!(u64))
-        .help("The word's index, from 0")
-}
-
-fn trace_argument<'a>(alloc: Global) -> Arg<'a>
-    ensures rule { rule_of result ≡ rule (text (codes "TRACE")) }
-    ensures local { result.global ≡ false }
-{
-    path_argument(alloc, "TRACE", "The trace")
-}
-
-fn dump_argument<'a>(alloc: Global) -> Arg<'a>
-    ensures rule { rule_of result ≡ rule (text (codes "DUMP")) }
-    ensures local { result.global ≡ false }
-{
-    path_argument(alloc, "DUMP", "Where the dump is written")
-}
-
-fn path_argument<'a>(alloc: Global, name: &'a str, help: &'a str) -> Arg<'a>
-    ensures rule { rule_of result ≡ rule (text name.entry.now) }
-    ensures local { result.global ≡ false }
-{
-    Arg::new(alloc, name).required(true).help(help)
 }

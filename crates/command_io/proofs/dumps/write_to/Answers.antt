@@ -9,7 +9,7 @@ returns-in_err-write_flushed-clause-cause g c =
     let failed = c.in_err-write_flushed.ensures in
     rw (p.1, p.2) (cut_off (g.D.Dumps.gives c.args.dumps.now c.args.path.now) g.D.Writer.Write.contents (dump_bytes c.args.dump.now)
     c.in_ok-create.field-0 c.new-w.result c.write_flushed.new.w c.in_ok-create.ensures.given c.new-w.ensures.inner c.new-w.ensures.none
-    (g.D.Dumps.lacks c.args.dumps.now c.args.path.now) _ failed.writes.0 failed.writes.1 failed.counts)
+    (g.D.Dumps.lacks c.args.dumps.now c.args.path.now) _ failed.cause failed.writes failed.counts)
 
 pub returns-clause-written : goal.returns-clause-written
 returns-clause-written g c =

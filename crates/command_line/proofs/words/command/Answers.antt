@@ -1,5 +1,5 @@
 use Rattle.std.proofs.Common.{refl}
-use Rattle.command_line.specs.Forms.{audit_form, compact_form, plan_form, race_form, replay_form, word_form}
+use Rattle.command_line.specs.Forms.{audit_form, compact_form, next_form, plan_form, race_form, replay_form, word_form}
 use Rattle.command_line.specs.Parser.{command}
 use Rattle.command_line.proofs.words.command.Goals as goal
 
@@ -10,4 +10,5 @@ returns c =
     let three = c.with_command-replaying.ensures _ (command replay_form) two c.replay_command.ensures refl in
     let four = c.with_command-racing.ensures _ (command race_form) three c.race_command.ensures refl in
     let five = c.with_command-compacting.ensures _ (command compact_form) four c.compact_command.ensures refl in
-    c.with_command.ensures _ (command audit_form) five c.audit_command.ensures refl
+    let six = c.with_command-auditing.ensures _ (command audit_form) five c.audit_command.ensures refl in
+    c.with_command.ensures _ (command next_form) six c.next_command.ensures refl

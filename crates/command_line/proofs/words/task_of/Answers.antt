@@ -8,10 +8,12 @@ use Rattle.clap.specs.declared.parser.matches.Found.{Found}
 use Rattle.command_line.specs.Asked.{AsksPlan, AsksWord}
 use Rattle.command_line.specs.Given.{IsNumber}
 use Rattle.command_line.specs.Parser.{program}
-use Rattle.command_line.specs.Forms.{Form, audit_form, compact_form, plan_form, race_form, replay_form, standing, text, word_form}
+use Rattle.command_line.specs.Forms.{Form, audit_form, compact_form, next_form, plan_form, race_form, replay_form, standing, text, word_form}
+use Rattle.command_line.specs.Nexts.{next_of}
 use Rattle.command_line.specs.Runs.{run_of}
-use Rattle.command_line.proofs.TopLevel.{IsCommand, standing_audit, standing_compact, standing_plan, standing_program, standing_race, standing_replay, standing_word}
+use Rattle.command_line.proofs.TopLevel.{IsCommand, standing_audit, standing_compact, standing_next, standing_plan, standing_program, standing_race, standing_replay, standing_word}
 use Rattle.command_line.proofs.Found.{CommandAsked, audit_asked, bounded_number, command_asked, compact_asked, entered_as, none_entered, none_of_standing, plan_asked, run_asked, run_found, same_name, texts_utf8, two_paths, word_asked, workers_fit, workers_within}
+use Rattle.command_line.proofs.NextFound.{next_asked, next_found}
 use Rattle.command_line.proofs.words.task_of.Goals as goal
 
 -- the command that was entered was asked with what was given
@@ -144,12 +146,27 @@ returns-in-audit-clause-asked c =
     audit_asked (map string_bytes c.args.words.now) f given c.text_of-in-audit.result.now c.text_of-in-audit-2.result.now
     c.text_of-in-audit.ensures c.text_of-in-audit-2.ensures
 
+pub next_run-requires : goal.next_run-requires
+next_run-requires c =
+    let f = found_of c.in-Some.found.now in
+    let given = given_to next_form standing_next c.args.words.now c.args.matches.now c.in-Some.name.now f c.in-next.is c.requires.taken c.requires.found c.in-Some.ensures.name c.in-Some.ensures.rows in
+    next_found (map string_bytes c.args.words.now) f given
+
+pub returns-in-next-clause-asked : goal.returns-in-next-clause-asked
+returns-in-next-clause-asked c =
+    let f = found_of c.in-Some.found.now in
+    let given = given_to next_form standing_next c.args.words.now c.args.matches.now c.in-Some.name.now f c.in-next.is c.requires.taken c.requires.found c.in-Some.ensures.name c.in-Some.ensures.rows in
+    next_asked (map string_bytes c.args.words.now) f given (next_of c.next_run.result) c.next_run.ensures.run
+
+pub returns-in-next-clause-counts : goal.returns-in-next-clause-counts
+returns-in-next-clause-counts c = c.next_run.ensures.counts
+
 -- no command was entered, which cannot be
 pub unreachable-requires : goal.unreachable-requires
 unreachable-requires c =
     let words = map string_bytes c.args.words.now in
     let found = none_entered c.args.matches.now (subcommand_of (program standing) words) c.requires.found c.in_default.ensures.name in
-    none_of_standing words None (texts_utf8 c.args.words.now) c.requires.taken found (λ rows e. cc) (λ rows e. cc) (λ rows e. cc) (λ rows e. cc) (λ rows e. cc) (λ rows e. cc)
+    none_of_standing words None (texts_utf8 c.args.words.now) c.requires.taken found (λ rows e. cc) (λ rows e. cc) (λ rows e. cc) (λ rows e. cc) (λ rows e. cc) (λ rows e. cc) (λ rows e. cc)
 
 -- or one by another name
 pub unreachable-requires-in_default-name : goal.unreachable-requires-in_default-name
@@ -163,3 +180,4 @@ unreachable-requires-in_default-name c =
     (λ rows e. other.not-plan (same_name _ name _ mine rows refl e)) (λ rows e. other.not-word (same_name _ name _ mine rows refl e))
     (λ rows e. other.not-replay (same_name _ name _ mine rows refl e)) (λ rows e. other.not-race (same_name _ name _ mine rows refl e))
     (λ rows e. other.not-compact (same_name _ name _ mine rows refl e)) (λ rows e. other.not-audit (same_name _ name _ mine rows refl e))
+    (λ rows e. other.not-next (same_name _ name _ mine rows refl e))

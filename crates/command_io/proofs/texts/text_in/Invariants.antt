@@ -1,7 +1,7 @@
 use Rattle.std.proofs.Common.{◌≡◌, ◌≤◌, length}
 use Rattle.std.specs.Io.KnownBytes.{Consumes}
 use Rattle.heap_image.specs.Counted.{inner_of, failures_of}
-use Rattle.command_io.proofs.traces.text_in.Given as goal
+use Rattle.command_io.proofs.texts.text_in.Given as goal
 
 -- what was read so far is the text, and each turn read something
 abbrev pub invariant-loop-turn : goal.invariant-loop-turn

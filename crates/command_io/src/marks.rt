@@ -1,0 +1,42 @@
+//! How the texts of marks are read.
+ghost use Rattle.std.specs.Prelude.{◌-◌, ◌^◌, ◌<◌, IfOk, IfErr};
+ghost use Rattle.heap_image.specs.Counted.{inner_of, failures_of};
+ghost use Rattle.command_io.specs.Images.{SomeGiven};
+ghost use Rattle.command_io.specs.Marks.{AreMarksOf, RefusesMarksAt, RefusesMarksText};
+ghost use Rattle.command_io.specs.Texts.{CountsText};
+
+use crate::refusal::{Input, Refusal};
+use crate::texts::{Unread, text_in};
+use crate::traces::Traces;
+use heap_image::counted::Counted;
+use std::alloc::Global;
+use std::io::Read;
+use trace_text::marks::{MarksFault, read_marks};
+
+/// The marks whose text lies at a path. Refused are marks that cannot be opened or read, a text with a line that is no mark, by the number of the first of those, and a growth.
+pub fn marks_at<T: Traces>(alloc: Global, traces: &T, path: &str) -> Result<Vec<u32>, Refusal>
+    ensures marks { IfOk result (λ marks. SomeGiven (T.gives traces.now path.now) T.Reader.remaining (AreMarksOf marks.items)) }
+    ensures cause { IfErr result (RefusesMarksAt (T.lacks traces.now path.now) (T.gives traces.now path.now) T.Reader.remaining) }
+{
+    let mut reader = Counted::new(traces.open_marks(path)?);
+    marks_in(alloc, &mut reader)
+}
+
+/// The marks whose text is all that the reader has left. Refused are a call of the reader that fails, a text with a line that is no mark, by the number of the first of those, and a growth.
+pub fn marks_in<S: Read>(alloc: Global, r: &mut Counted<S>) -> Result<Vec<u32>, Refusal>
+    requires read { failures_of r.old < 2 ^ 64 - 1 }
+    ensures marks { IfOk result (λ marks. AreMarksOf marks.items (S.remaining (inner_of r.old))) }
+    ensures cause { IfErr result (λ refusal. RefusesMarksText refusal (S.remaining (inner_of r.old))) }
+    ensures reads { CountsText (failures_of r.old) (failures_of r.new) result }
+{
+    let text = match text_in(alloc, r) {
+        Ok(text) => text,
+        Err(Unread::Failed) => return Err(Refusal::ReadFailed(Input::Marks)),
+        Err(Unread::OutOfMemory) => return Err(Refusal::OutOfMemory),
+    };
+    match read_marks(alloc, &text) {
+        Ok(marks) => Ok(marks),
+        Err(MarksFault::BadMarks(n)) => Err(Refusal::BadMarks(n)),
+        Err(MarksFault::OutOfMemory) => Err(Refusal::OutOfMemory),
+    }
+}

@@ -1,0 +1,41 @@
+//! How new images are written.
+ghost use Rattle.std.specs.Prelude.{◌≡◌, true, IfErr, OnOk};
+ghost use Rattle.heap_image.specs.Counted.{inner_of, failures_of, is_flushed_of};
+ghost use Rattle.heap_image.specs.Encoding.{encoding};
+ghost use Rattle.heap_image.specs.Writing.{Writes, CountsOne};
+ghost use Rattle.heap_layout.specs.declared.fault.LayoutFault.TheVariants as fault;
+ghost use Rattle.command_io.specs.Dumps.{WritesWhole};
+ghost use Rattle.command_io.specs.NewImages.{IsOfWritingImage};
+
+use crate::dumps::Dumps;
+use crate::refusal::Refusal;
+use heap_image::counted::Counted;
+use heap_image::writing::write_image;
+use heap_layout::fault::LayoutFault;
+use heap_layout::heap::MarkedHeap;
+use std::io::Write;
+
+/// Writes the image of a heap to a path. Where a call of its writer fails, a beginning of the image stays written.
+pub fn write_image_to<D: Dumps>(dumps: &mut D, path: &str, heap: &MarkedHeap) -> Result<(), Refusal>
+    ensures written { OnOk result (WritesWhole (D.gives dumps.old path.now) D.Writer.contents (encoding heap.now)) }
+    ensures cause { IfErr result (IsOfWritingImage (D.lacks dumps.old path.now) (D.gives dumps.old path.now) D.Writer.contents (encoding heap.now)) }
+{
+    let mut w = Counted::new(dumps.create_image(path)?);
+    write_flushed(heap, &mut w)?;
+    Ok(())
+}
+
+/// Writes an image, and sends on what the writer still holds. The first call of the writer that fails ends the writing.
+#[tactic(auto, using(crate::proofs::Written::unflushed))]
+fn write_flushed<W: Write>(heap: &MarkedHeap, w: &mut Counted<W>) -> Result<(), LayoutFault>
+    ensures writes { Writes (W.contents (inner_of w.old)) (W.contents (inner_of w.new)) (encoding heap.now) result }
+    ensures counts { CountsOne (failures_of w.old) (failures_of w.new) result }
+    ensures flushed { OnOk result (is_flushed_of w.new ≡ true) }
+    ensures cause { IfErr result (λ given. given ≡ fault.Device) }
+{
+    write_image(heap, w)?;
+    match w.flush() {
+        Ok(()) => Ok(()),
+        Err(_) => Err(LayoutFault::Device),
+    }
+}

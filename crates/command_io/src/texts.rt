@@ -1,0 +1,42 @@
+//! Texts that are read whole.
+ghost use Rattle.std.specs.Prelude.{◌≡◌, ◌-◌, ◌^◌, ◌<◌, IfOk, IfSome};
+ghost use Rattle.heap_image.specs.Counted.{inner_of, failures_of};
+ghost use Rattle.command_io.specs.Texts.{CountsUnread};
+
+use heap_image::counted::Counted;
+use std::alloc::Global;
+use std::io::Read;
+
+/// Why a text was not read whole.
+#[derive(Clone, Copy, Debug, PartialEq, Eq)]
+pub(crate) enum Unread {
+    /// A call of the reader answered an error.
+    Failed,
+    /// A growth was refused.
+    OutOfMemory,
+}
+
+/// How many bytes of a text are fetched at once, at most.
+const PIECE: usize = 65_536;
+
+/// All bytes that the reader has left. The first call of the reader that answers an error ends the reading, an interrupted one too.
+pub(crate) fn text_in<S: Read>(alloc: Global, r: &mut Counted<S>) -> Result<Vec<u8>, Unread>
+    requires read { failures_of r.old < 2 ^ 64 - 1 }
+    ensures text { IfOk result (λ text. IfSome (S.remaining (inner_of r.old)) (λ bytes. bytes ≡ text.items)) }
+    ensures reads { CountsUnread (failures_of r.old) (failures_of r.new) result }
+{
+    let mut text = Vec::new(alloc);
+    let mut buf = [0; PIECE];
+    for _turn in 0..u64::MAX {
+        match r.read(&mut buf) {
+            Ok(0) => return Ok(text),
+            Ok(n) => {
+                if text.extend_from_slice(&buf[..n]).is_err() {
+                    return Err(Unread::OutOfMemory);
+                }
+            }
+            Err(_) => return Err(Unread::Failed),
+        }
+    }
+    unreachable!()
+}

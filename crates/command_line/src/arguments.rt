@@ -1,0 +1,115 @@
+//! The options and arguments of the commands.
+ghost use Rattle.std.specs.Prelude.{◌≡◌, false, codes, IfOk};
+ghost use Rattle.clap.specs.Words.{app_of, new_app, rule_of, with_rule, App, Rule};
+ghost use Rattle.command_line.specs.Forms.{fresh, mutators, number, number_within, text, workers};
+ghost use Rattle.command_line.specs.Parser.{option_rule, optional_rule, rule};
+
+use clap::builder::ValueParser;
+use clap::{Arg, Command, value_parser};
+use std::alloc::{AllocError, Global};
+
+/// A command, or that memory was wanting for it.
+pub(crate) type Made<'a> = Result<Command<'a>, AllocError>;
+
+/// A command of this name without arguments, with its line of help.
+pub(crate) fn named_command<'a>(alloc: Global, name: &'a str, about: &'a str) -> Made<'a>
+    ensures { IfOk result (λ made. app_of made ≡ new_app name.entry.now) }
+{
+    Ok(Command::new(alloc, name).about(about))
+}
+
+/// The command with one argument more.
+pub(crate) fn with_argument<'a>(command: Made<'a>, argument: Arg<'a>) -> Made<'a>
+    ensures { (app : App) (rule : Rule) → IfOk command.entry (λ made. app_of made ≡ app) → rule_of argument.entry ≡ rule → argument.entry.global ≡ false
+        → IfOk result (λ made. app_of made ≡ with_rule app rule) }
+{
+    command?.arg(argument)
+}
+
+pub(crate) fn mutators_option<'a>(alloc: Global) -> Arg<'a>
+    ensures rule { rule_of result ≡ option_rule mutators }
+    ensures local { result.global ≡ false }
+{
+    number_option(
+        alloc,
+        "mutators",
+        1,
+        64,
+        "How many mutators there are, 1 to 64 (2 by default)",
+    )
+}
+
+pub(crate) fn fresh_option<'a>(alloc: Global) -> Arg<'a>
+    ensures rule { rule_of result ≡ option_rule fresh }
+    ensures local { result.global ≡ false }
+{
+    number_option(
+        alloc,
+        "fresh",
+        0,
+        4096,
+        "How many fresh pages there are, 0 to 4096 (64 by default)",
+    )
+}
+
+pub(crate) fn workers_option<'a>(alloc: Global) -> Arg<'a>
+    ensures rule { rule_of result ≡ option_rule workers }
+    ensures local { result.global ≡ false }
+{
+    number_option(
+        alloc,
+        "workers",
+        1,
+        64,
+        "How many workers compact, 1 to 64 (2 by default)",
+    )
+}
+
+fn number_option<'a>(alloc: Global, name: &'a str, low: u64, high: u64, help: &'a str) -> Arg<'a>
+    ensures rule { rule_of result ≡ optional_rule (number_within name.entry.now low high) }
+    ensures local { result.global ≡ false }
+{
+    Arg::new(alloc, name)
+        .long(name)
+        .value_name("N")
+        .value_parser(ValueParser::unsigned(low, high))
+        .help(help)
+}
+
+pub(crate) fn image_argument<'a>(alloc: Global) -> Arg<'a>
+    ensures rule { rule_of result ≡ rule (text (codes "IMAGE")) }
+    ensures local { result.global ≡ false }
+{
+    path_argument(alloc, "IMAGE", "The heap's image")
+}
+
+pub(crate) fn index_argument<'a>(alloc: Global) -> Arg<'a>
+    ensures rule { rule_of result ≡ rule (number (codes "INDEX")) }
+    ensures local { result.global ≡ false }
+{
+    Arg::new(alloc, "INDEX")
+        .required(true)
+        .value_parser(value_parser!(u64))
+        .help("The word's index, from 0")
+}
+
+pub(crate) fn trace_argument<'a>(alloc: Global) -> Arg<'a>
+    ensures rule { rule_of result ≡ rule (text (codes "TRACE")) }
+    ensures local { result.global ≡ false }
+{
+    path_argument(alloc, "TRACE", "The trace")
+}
+
+pub(crate) fn dump_argument<'a>(alloc: Global) -> Arg<'a>
+    ensures rule { rule_of result ≡ rule (text (codes "DUMP")) }
+    ensures local { result.global ≡ false }
+{
+    path_argument(alloc, "DUMP", "Where the dump is written")
+}
+
+pub(crate) fn path_argument<'a>(alloc: Global, name: &'a str, help: &'a str) -> Arg<'a>
+    ensures rule { rule_of result ≡ rule (text name.entry.now) }
+    ensures local { result.global ≡ false }
+{
+    Arg::new(alloc, name).required(true).help(help)
+}

@@ -1,0 +1,46 @@
+//! The values that the parser found of a command.
+ghost use Rattle.std.specs.Prelude.{◌≡◌, ℕ, true, is_some, Some, IsSomeAnd, IfSome};
+ghost use Rattle.clap.specs.Words.{first_value, found_of, one_text};
+ghost use Rattle.command_line.specs.Given.{IsNumber, IsNumberOr};
+
+use clap::ArgMatches;
+
+/// The mutators, the fresh pages and the workers of a command that is told of none.
+pub(crate) const DEFAULT_MUTATORS: u64 = 2;
+
+pub(crate) const DEFAULT_FRESH: u64 = 64;
+
+pub(crate) const DEFAULT_WORKERS: u64 = 2;
+
+/// The text of an argument that was found.
+pub(crate) fn text_of<'a>(found: &ArgMatches<'a>, id: &str) -> &'a str
+    requires { is_some (first_value (found_of found.now) id.now) ≡ true }
+    ensures { Some result.now ≡ first_value (found_of found.now) id.now }
+{
+    match found.get_str(id) {
+        Some(text) => text,
+        None => unreachable!(),
+    }
+}
+
+/// The number of an argument that was found.
+pub(crate) fn number_of(found: &ArgMatches, id: &str) -> u64
+    requires { IsSomeAnd (one_text (found_of found.now) id.now) (λ text. (number : ℕ) × IsNumber text number) }
+    ensures { IfSome (one_text (found_of found.now) id.now) (λ text. IsNumber text result) }
+{
+    match found.get_one::<u64>(id) {
+        Some(number) => number,
+        None => unreachable!(),
+    }
+}
+
+/// The number of an option, or its default where it was left out.
+pub(crate) fn count_of(found: &ArgMatches, id: &str, default: u64) -> u64
+    requires { IfSome (one_text (found_of found.now) id.now) (λ text. (number : ℕ) × IsNumber text number) }
+    ensures { IsNumberOr default (one_text (found_of found.now) id.now) result }
+{
+    match found.get_one::<u64>(id) {
+        Some(count) => count,
+        None => default,
+    }
+}
