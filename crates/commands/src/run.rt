@@ -19,6 +19,7 @@ use heap_commands::audit::print_audit;
 use heap_commands::plan::print_plan;
 use heap_commands::word::print_word;
 use heap_image::counted::Counted;
+use next_command::next::print_next;
 use std::alloc::Global;
 use std::io::Write;
 use std::rt::Files;
@@ -163,6 +164,7 @@ fn print_task<R: Threads + Wait + Sync, I: Images, T: Traces, D: Dumps, O: Write
             out,
         ),
         Task::Audit { image, dump } => print_audit(alloc, rt, images, image, dump, out),
+        Task::Next(run) => print_next(alloc, rt, images, traces, dumps, run, out),
         Task::Help { text } => print_help(&text, out),
         Task::Version => print_text(VERSION_LINE, out),
     }

@@ -1,0 +1,2 @@
+pub mod CycledHeaps
+pub mod NextRuns

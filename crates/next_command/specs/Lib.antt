@@ -1,0 +1,2 @@
+pub mod Cycled
+pub mod Nexts

@@ -1,0 +1,5 @@
+//! The command `next`.
+#![tactic(auto)]
+
+mod cycling;
+pub mod next;
