@@ -12,8 +12,8 @@ use Rattle.cell_steps.proofs.Sums.{there_at}
 use Rattle.page_cells.proofs.Growing.{begins_then}
 use Rattle.page_cells.proofs.Rows.{at_map, at_set}
 use Rattle.comp_access.specs.Reads.{Reads}
-use Rattle.comp_history.specs.Finishes.{journals_of, IsFinished}
-use Rattle.comp_history.specs.declared.finished.Finished.{Finished}
+use Rattle.comp_cycles.specs.Finishes.{journals_of, IsFinished}
+use Rattle.comp_cycles.specs.declared.finished.Finished.{Finished}
 use Rattle.comp_mutator.specs.Mutators.{pass_of, setup_of, IsMutatorOf}
 use Rattle.comp_mutator.specs.Orders.{number_of_mutator, IsRow}
 use Rattle.comp_mutator.specs.declared.mutator.Mutator.{Mutator}

@@ -5,8 +5,8 @@ use Rattle.cell_steps.specs.Lists.{on, StartsWith}
 use Rattle.cell_steps.specs.Locks.{Journals}
 use Rattle.cell_steps.specs.Setup.{Setup}
 use Rattle.comp_access.specs.Reads.{Reads}
-use Rattle.comp_history.specs.Finishes.{history_of}
-use Rattle.comp_history.specs.declared.finished.Finished.{Finished}
+use Rattle.comp_cycles.specs.Finishes.{history_of}
+use Rattle.comp_cycles.specs.declared.finished.Finished.{Finished}
 
 -- The word is the one of the object's field where each page has a beginning of what the one history writes to it.
 pub record StandsInHistory (u : Setup) (f : Finished) (kind : Kind) (object field word : ℕ) : Type 0 where

@@ -3,7 +3,7 @@ ghost use Rattle.std.specs.Prelude.{◌≡◌, ℕ, ◌<◌, IfSome, IsSome};
 ghost use Rattle.heap_layout.specs.Heap.{live};
 ghost use Rattle.page_plan.specs.Sliding.{pages};
 ghost use Rattle.cell_steps.specs.Closing.{page_at};
-ghost use Rattle.comp_history.specs.Finishes.{pages_of};
+ghost use Rattle.comp_cycles.specs.Finishes.{pages_of};
 ghost use Rattle.comp_sweep.specs.Sweeps.{SomeSeesBuilt};
 
 use comp_mutator::finishing::Finished;

@@ -51,7 +51,7 @@ fn expect_rows(rt: &(impl Abort + AllocGlobal), rows: &[Row]) {
 }
 
 // Lines, and the tasks that they ask.
-static TASKS: [Row; 21] = [
+static TASKS: [Row; 24] = [
     ("plan three.img", "Plan { image: \"three.img\" }"),
     ("plan -- --help", "Plan { image: \"--help\" }"),
     (
@@ -126,6 +126,18 @@ static TASKS: [Row; 21] = [
     (
         "audit -- --help --",
         "Audit { image: \"--help\", dump: \"--\" }",
+    ),
+    (
+        "next three.img t18 m new",
+        "Next(NextRun { image: \"three.img\", trace: \"t18\", marks: \"m\", new: \"new\", mutators: 2, fresh: 64 })",
+    ),
+    (
+        "next --mutators 1 --fresh=2 three.img t18 m new",
+        "Next(NextRun { image: \"three.img\", trace: \"t18\", marks: \"m\", new: \"new\", mutators: 1, fresh: 2 })",
+    ),
+    (
+        "next a --mutators=64 t -- -m --fresh",
+        "Next(NextRun { image: \"a\", trace: \"t\", marks: \"-m\", new: \"--fresh\", mutators: 64, fresh: 64 })",
     ),
 ];
 

@@ -4,6 +4,8 @@
 #[cfg(test)]
 mod asking;
 #[cfg(test)]
+mod cycling;
+#[cfg(test)]
 mod judging;
 #[cfg(test)]
 mod printing;

@@ -1,7 +1,7 @@
 //! The tables of all runs: one test runs all of them, which costs its proof less than a test for each.
 use crate::printing::{LINES, REMOVED, WRITTEN, expect_lines};
 use crate::runs::take_steps;
-use crate::{judging, programs, racing, replaying, weak};
+use crate::{cycling, judging, programs, racing, replaying, weak};
 use std::rt::Files;
 use std::sync::Wait;
 use std::test::Fail;
@@ -9,7 +9,7 @@ use std::thread::Threads;
 use worked_files::steps::Step;
 
 // All tables, the last of which writes the image that the lines print of. As a constant they would cost the proof of the test five times as much.
-fn tables() -> [&'static [Step]; 12] {
+fn tables() -> [&'static [Step]; 15] {
     [
         programs::STEPS,
         judging::PASSED,
@@ -20,6 +20,9 @@ fn tables() -> [&'static [Step]; 12] {
         replaying::REPLAYED,
         replaying::STOPPED,
         replaying::WRONG_FILES,
+        cycling::CYCLED,
+        cycling::UNMARKED,
+        cycling::ORDERED,
         weak::RUN,
         weak::REFUSED,
         WRITTEN,

@@ -12,7 +12,11 @@ const REPLAY: &str = "replay --mutators 1 --fresh 1 weak.tests.img weak.tests.tr
 
 const RACE: &str = "race --mutators 1 --fresh 1 weak.tests.img weak.tests.trace weak.tests.out";
 
-/// Their plan and words, a trace that is replayed and raced, their compaction, and the dumps.
+// Cycles of that trace, and of the marks that were written last.
+const NEXT: &str =
+    "next --mutators 1 --fresh 1 weak.tests.img weak.tests.trace weak.tests.marks weak.tests.new";
+
+/// Their plan and words, a trace that is replayed and raced, their compaction, the dumps, and the heaps that follow.
 pub const RUN: &[Step] = &[
     Step::Write("weak.tests.img", Content::WeakImage),
     Step::Length("weak.tests.img", 96),
@@ -45,6 +49,27 @@ pub const RUN: &[Step] = &[
     ),
     Step::Holds("weak.tests.out", Content::WeakSweptDump),
     Step::Prints(AUDIT, "ok 6\n"),
+    // The new object is marked, and then it is not: the weak word that names it becomes null.
+    Step::Write("weak.tests.marks", Content::Text("0\n4\n64\n")),
+    Step::Prints(NEXT, "6 9\nlive 8\n"),
+    Step::Length("weak.tests.new", 1_068),
+    Step::Prints("word weak.tests.new 1", "8589934598\n"),
+    Step::Prints("compact weak.tests.new weak.tests.swept", "live 8\n"),
+    Step::Prints("audit weak.tests.new weak.tests.swept", "ok 8\n"),
+    Step::Write("weak.tests.marks", Content::Text("0\n4\n")),
+    Step::Prints(NEXT, "6 9\nlive 6\n"),
+    Step::Length("weak.tests.new", 1_064),
+    Step::Prints(
+        "plan weak.tests.new",
+        "live 6\npages 1\npage 0 first 0\nroot 0 8589934596\n",
+    ),
+    Step::Prints("word weak.tests.new 1", "0\n"),
+    Step::Prints("word weak.tests.new 2", "8589934596\n"),
+    Step::Prints("compact weak.tests.new weak.tests.swept", "live 6\n"),
+    Step::Prints("audit weak.tests.new weak.tests.swept", "ok 6\n"),
+    Step::Remove("weak.tests.swept"),
+    Step::Remove("weak.tests.marks"),
+    Step::Remove("weak.tests.new"),
     Step::Remove("weak.tests.trace"),
     Step::Remove("weak.tests.out"),
     Step::Remove("weak.tests.img"),
@@ -67,6 +92,7 @@ pub const REFUSED: &[Step] = &[
         "H13 BadWeak(1)",
     ),
     Step::Refuses(AUDIT, "", "H13 BadWeak(1)"),
+    Step::Refuses(NEXT, "", "H13 BadWeak(1)"),
     Step::Write("weak.tests.img", Content::WeakImage),
     // The object of the first weak word did not slide.
     Step::Write(

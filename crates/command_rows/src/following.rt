@@ -1,0 +1,187 @@
+//! Cycles of heaps in memory: the image of the heap that follows and the lines, also where the writers fail.
+use crate::places::{Memory, Place};
+use command_io::refusal::{Input, Output, Refusal};
+use command_line::next::NextRun;
+use heap_image::counted::Counted;
+use heap_layout::fault::LayoutFault;
+use next_command::next::print_next;
+use std::process::Abort;
+use std::thread::Threads;
+use worked_files::parts::{Part, bytes_of};
+use worked_files::writers::{Failure, Narrow};
+
+// A cycle in memory, and what has to come of it.
+#[derive(Clone, Copy)]
+struct Row {
+    name: &'static str,
+    marks: &'static str,
+    // The path of the new image, which is to be `out`.
+    path: &'static str,
+    // How many bytes the writer of the image takes, and how it fails then.
+    room: usize,
+    failure: Failure,
+    // How many bytes can be printed.
+    printable: usize,
+    answer: Result<(), Refusal>,
+    printed: &'static str,
+    // Whether an image was created, and how many bytes of it are left.
+    created: bool,
+    left: usize,
+}
+
+const ZEROS: [u64; 188] = [0; 188];
+
+// The image of the heap that follows the three objects behind the run that makes a new one.
+const NEW_IMAGE: [Part; 6] = [
+    Part::Bytes(b"COMPHEAP"),
+    Part::Numbers(&[1, 192, 2, 1]),
+    Part::Words(&[4_295_032_832, 11, 12_884_901_889, 4_294_967_360]),
+    Part::Words(&ZEROS),
+    Part::Numbers(&[2, 64]),
+    Part::Words(&[4_294_967_298]),
+];
+
+// Writes the new image as a row says.
+fn write_next<'a>(
+    rt: &(impl AllocGlobal + Threads + Sync),
+    images: &Memory<'a>,
+    texts: &Memory<'a>,
+    row: &Row,
+    place: &mut Place,
+    out: &mut Narrow,
+) -> Result<(), Refusal> {
+    let asked = NextRun {
+        image: "three.img",
+        trace: "fresh.trace",
+        marks: row.marks,
+        new: row.path,
+        mutators: 1,
+        fresh: 2,
+    };
+    let mut counted = Counted::new(&mut *out);
+    print_next(rt.alloc(), rt, images, texts, place, asked, &mut counted)
+}
+
+// Just that comes of a row.
+fn expect_row(rt: &(impl Abort + AllocGlobal + Threads + Sync), memory: &Memory, row: &Row) {
+    let whole = bytes_of(rt.alloc(), &NEW_IMAGE).expect(rt, "memory for an image");
+    let mut written = Vec::new(rt.alloc());
+    let mut printed = Vec::new(rt.alloc());
+    let mut place = Place {
+        writer: Some(Narrow {
+            taken: &mut written,
+            room: row.room,
+            at_once: usize::MAX,
+            failure: row.failure,
+        }),
+    };
+    let mut out = Narrow {
+        taken: &mut printed,
+        room: row.printable,
+        at_once: usize::MAX,
+        failure: Failure::TakesNone,
+    };
+    let answer = write_next(rt, memory, memory, row, &mut place, &mut out);
+    let created = place.writer.is_none();
+    assert!(rt; answer == row.answer, "{}: answer", row.name);
+    assert!(rt;
+        printed.as_slice() == row.printed.as_bytes(),
+        "{}: printed",
+        row.name
+    );
+    assert!(rt; created == row.created, "{}: created", row.name);
+    assert!(rt;
+        written.len() == row.left && whole.starts_with(written.as_slice()),
+        "{}: written",
+        row.name
+    );
+}
+
+/// Cycles of the three objects in memory.
+pub fn expect_cycles(rt: &(impl Abort + AllocGlobal + Threads + Sync), memory: &Memory) {
+    for row in &ROWS {
+        expect_row(rt, memory, row);
+    }
+}
+
+const WRITTEN: Row = Row {
+    name: "room for all",
+    marks: "fresh.marks",
+    path: "out",
+    room: 1_576,
+    failure: Failure::Error,
+    printable: 7,
+    answer: Ok(()),
+    printed: "live 3\n",
+    created: true,
+    left: 1_576,
+};
+
+// The image cannot be flushed.
+const UNFLUSHED: Row = Row {
+    name: "no flush",
+    failure: Failure::Flush,
+    answer: Err(Refusal::Layout(LayoutFault::Device)),
+    printed: "",
+    ..WRITTEN
+};
+
+// There are no marks.
+const UNMARKED: Row = Row {
+    name: "marks that are absent",
+    marks: "absent.marks",
+    answer: Err(Refusal::CannotOpen(Input::Marks)),
+    printed: "",
+    created: false,
+    left: 0,
+    ..WRITTEN
+};
+
+static ROWS: [Row; 9] = [
+    WRITTEN,
+    UNFLUSHED,
+    Row {
+        name: "room for 0 bytes",
+        room: 0,
+        failure: Failure::Error,
+        left: 0,
+        ..UNFLUSHED
+    },
+    Row {
+        name: "room for 28 bytes",
+        room: 28,
+        failure: Failure::TakesNone,
+        left: 28,
+        ..UNFLUSHED
+    },
+    Row {
+        name: "room for 1575 bytes",
+        room: 1_575,
+        failure: Failure::Error,
+        left: 1_575,
+        ..UNFLUSHED
+    },
+    Row {
+        name: "three bytes of the line",
+        printable: 3,
+        answer: Err(Refusal::CannotPrint),
+        printed: "liv",
+        ..WRITTEN
+    },
+    UNMARKED,
+    // A trace that is no marks, and no place for the image.
+    Row {
+        name: "a trace as marks",
+        marks: "fresh.trace",
+        path: "absent",
+        answer: Err(Refusal::BadMarks(1)),
+        ..UNMARKED
+    },
+    Row {
+        name: "no place for the image",
+        marks: "fresh.marks",
+        path: "absent",
+        answer: Err(Refusal::CannotCreate(Output::New)),
+        ..UNMARKED
+    },
+];

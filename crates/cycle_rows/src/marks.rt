@@ -1,0 +1,109 @@
+//! Texts of marks, cut and changed: what is read of each is what a second hand reads.
+use crate::chains::expect_so;
+use std::alloc::{AllocError, Global};
+use std::process::Abort;
+use trace_text::marks::{MarksFault, read_marks};
+
+const TEXT: &[u8] = b"0\n7\n64\n100\n4294967295\n";
+
+// The marks of the text, or the number of the first line that is none. A line that no line feed ends is none.
+fn plain_marks(alloc: Global, text: &[u8]) -> Result<Result<Vec<u32>, u64>, AllocError> {
+    let mut marks = Vec::new(alloc);
+    let mut digits = 0u32;
+    let mut value = 0u64;
+    let mut leading = false;
+    let mut well = true;
+    let mut line = 1u64;
+    for byte in text {
+        if *byte == b'\n' {
+            if !well || digits == 0 || (leading && digits > 1) || value > 4_294_967_295 {
+                return Ok(Err(line));
+            }
+            marks.push((value % 4_294_967_296) as u32)?;
+            line = line.wrapping_add(1);
+            digits = 0;
+            value = 0;
+            leading = false;
+        } else {
+            well = well && byte.is_ascii_digit();
+            leading = leading || (digits == 0 && *byte == b'0');
+            digits = digits.saturating_add(1);
+            let digit = u64::from(byte.wrapping_sub(b'0'));
+            value = value.saturating_mul(10).saturating_add(digit);
+        }
+    }
+    match digits {
+        0 => Ok(Ok(marks)),
+        _ => Ok(Err(line)),
+    }
+}
+
+// Both read the same.
+fn expect_alike(rt: &impl Abort, alloc: Global, text: &[u8], number: u64) {
+    let wanted = plain_marks(alloc, text).expect(rt, "memory for marks");
+    let alike = match (read_marks(alloc, text), wanted) {
+        (Ok(marks), Ok(numbers)) => marks.as_slice() == numbers.as_slice(),
+        (Err(MarksFault::BadMarks(line)), Err(other)) => line == other,
+        _ => false,
+    };
+    expect_so(rt, "marks", alike, number);
+}
+
+#[test]
+fn marks_are_cut(rt: HostRuntime) {
+    for end in 0..=TEXT.len() {
+        if let Some(text) = TEXT.get(..end) {
+            expect_alike(&rt, rt.alloc(), text, end as u64);
+        }
+    }
+}
+
+// What a byte becomes.
+const BYTES: &[u8] = b"\0\t\n\r +-/019:x\xff";
+
+#[test]
+fn marks_are_changed(rt: HostRuntime) {
+    for at in 0..TEXT.len() {
+        for byte in BYTES {
+            let mut text = TEXT.to_vec(rt.alloc()).expect(&rt, "memory for a text");
+            if let Some(place) = text.get_mut(at) {
+                *place = *byte;
+            }
+            expect_alike(&rt, rt.alloc(), &text, at as u64);
+        }
+    }
+}
+
+// Texts, and the line of each that is no mark; 0 where each is one.
+struct Row(&'static [u8], u64);
+
+static ROWS: [Row; 16] = [
+    Row(b"", 0),
+    Row(b"0\n", 0),
+    Row(b"9\n0\n", 0),
+    Row(b"4294967295\n", 0),
+    Row(b"4294967296\n", 1),
+    Row(b"18446744073709551616\n", 1),
+    Row(b"340282366920938463463374607431768211456\n", 1),
+    Row(b"00\n", 1),
+    Row(b"02\n", 1),
+    Row(b"\n", 1),
+    Row(b"1\n\n", 2),
+    Row(b"1\n2", 2),
+    Row(b"1\r\n", 1),
+    Row(b" 1\n", 1),
+    Row(b"1 2\n", 1),
+    Row(b"+1\n", 1),
+];
+
+#[test]
+fn lines_that_are_no_marks(rt: HostRuntime) {
+    for (number, row) in ROWS.iter().enumerate() {
+        let line = match read_marks(rt.alloc(), row.0) {
+            Ok(_marks) => 0,
+            Err(MarksFault::BadMarks(line)) => line,
+            Err(MarksFault::OutOfMemory) => u64::MAX,
+        };
+        expect_so(&rt, "line", line == row.1, number as u64);
+    }
+}

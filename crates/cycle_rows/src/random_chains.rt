@@ -1,0 +1,304 @@
+//! Chains of ten cycles of two mutators that look random, in both editions: each cycle shows what the objects show that never move, and the heap that follows has their words; and so do
+//! all cycles of a chain by one call.
+use crate::chains::{follow, made, ran};
+use crate::images::image;
+use crate::one_call::{Past, expect_past, expect_values};
+use crate::plain::{Field, Life, Plain};
+use heap_layout::edition::Edition;
+use heap_layout::header::Header;
+use heap_layout::heap::MarkedHeap;
+use plain_objects::random::Random;
+use std::alloc::{AllocError, Global};
+use std::process::Abort;
+use std::thread::Threads;
+use worked_heaps::heaps::{F, heap_of};
+
+// How many chains there are of each edition, cycles of a chain, and lines that are drawn for a cycle.
+const CHAINS: u64 = 40;
+
+const CYCLES: u32 = 10;
+
+const DRAWS: u32 = 40;
+
+/// How many mutators there are.
+pub const MUTATORS: u8 = 2;
+
+/// How many fresh pages each cycle has: two of the first mutator, and one of the second.
+pub const FRESH: u32 = 3;
+
+// The objects, the registers of both mutators, the one whose line is drawn, what the lines of the cycle showed, their text, and the marks with which it began; and the cycles before it.
+#[derive(Drop)]
+struct Chain {
+    life: Life,
+    registers: [[u64; 16]; 2],
+    mutator: u8,
+    shown: Vec<u64>,
+    text: String,
+    marks: Vec<u32>,
+    past: Vec<Past>,
+}
+
+fn header(edition: Edition, refs: u16, weak: u16, data_words: u16, tag: u16) -> Header {
+    match edition {
+        Edition::One => Header::new(refs, data_words, u32::from(tag)),
+        Edition::Two => Header::new_weak(refs, weak, data_words, tag),
+    }
+}
+
+fn plain(alloc: Global, header: Header, fields: &[u64], at: u64) -> Result<Plain, AllocError> {
+    Ok(Plain {
+        header,
+        fields: fields.to_vec(alloc)?,
+        at,
+        kept: true,
+    })
+}
+
+// Two objects that refer to one another; in edition two each has a weak word for itself.
+fn opening(alloc: Global, edition: Edition) -> Result<Life, AllocError> {
+    let (first, second) = (header(edition, 2, 1, 1, 1), header(edition, 1, 1, 1, 2));
+    let objects = match edition {
+        Edition::One => vec![in alloc;
+            plain(alloc, first, &[2, 0, 10], 0)?,
+            plain(alloc, second, &[1, 20], 4)?,
+        ]?,
+        Edition::Two => vec![in alloc;
+            plain(alloc, first, &[2, 0, 1, 10], 0)?,
+            plain(alloc, second, &[1, 2, 20], 5)?,
+        ]?,
+    };
+    Ok(Life {
+        edition,
+        objects,
+        mutators: usize::from(MUTATORS),
+        roots: vec![in alloc; 1, 0, 2]?,
+        used: Vec::new(alloc),
+        compacted: 0,
+    })
+}
+
+// Their heap.
+fn opening_heap(rt: &impl Abort, alloc: Global, edition: Edition) -> MarkedHeap {
+    let first = header(edition, 2, 1, 1, 1).word();
+    let second = header(edition, 1, 1, 1, 2).word();
+    match edition {
+        Edition::One => {
+            let words = [first, F + 4, 0, 10, second, F, 20];
+            made(rt, heap_of(alloc, edition, &words, &[0, 4], &[F, 0, F + 4]))
+        }
+        Edition::Two => {
+            let words = [first, F + 5, 0, F, 10, second, F, F + 5, 20];
+            made(rt, heap_of(alloc, edition, &words, &[0, 5], &[F, 0, F + 5]))
+        }
+    }
+}
+
+impl Chain {
+    fn held(&self, register: u8) -> u64 {
+        match self.registers.get(usize::from(self.mutator)) {
+            Some(own) => own.get(usize::from(register)).copied().unwrap_or(0),
+            None => 0,
+        }
+    }
+
+    fn hold(&mut self, register: u8, number: u64) {
+        if let Some(own) = self.registers.get_mut(usize::from(self.mutator)) {
+            if let Some(held) = own.get_mut(usize::from(register)) {
+                *held = number;
+            }
+        }
+    }
+
+    // A register, which mostly is not null.
+    fn register(&self, random: &mut Random) -> u8 {
+        let mut register = 0;
+        for _ in 0..4 {
+            register = (random.below(16) % 16) as u8;
+            if self.held(register) != 0 {
+                return register;
+            }
+        }
+        register
+    }
+
+    // A field of the kind that has addresses, and the letter before the name of its lines.
+    fn field(&self, random: &mut Random) -> (u16, Field, &'static str) {
+        let number = random.small(3);
+        match self.life.edition {
+            Edition::Two if random.below(2) == 0 => (number, Field::Weak(number), "w"),
+            _ => (number, Field::Reference(number), ""),
+        }
+    }
+
+    fn load(&mut self, random: &mut Random) -> Result<(), AllocError> {
+        let by = self.mutator;
+        let (to, object) = (self.register(random), self.register(random));
+        let (number, field, kind) = self.field(random);
+        if let Some(value) = self.life.get(self.held(object), field) {
+            self.hold(to, value);
+            write!(self.text, "{by} {kind}load {to} {object} {number}\n")?;
+        }
+        Ok(())
+    }
+
+    fn store(&mut self, random: &mut Random) -> Result<(), AllocError> {
+        let by = self.mutator;
+        let (object, value) = (self.register(random), self.register(random));
+        let (number, field, kind) = self.field(random);
+        let (to, held) = (self.held(object), self.held(value));
+        if self.life.set(to, field, held) {
+            write!(self.text, "{by} {kind}store {object} {number} {value}\n")?;
+        }
+        Ok(())
+    }
+
+    fn put(&mut self, random: &mut Random) -> Result<(), AllocError> {
+        let by = self.mutator;
+        let (object, number, value) = (
+            self.register(random),
+            random.small(3),
+            random.below(4_294_967_296).wrapping_mul(8_589_934_593),
+        );
+        let to = self.held(object);
+        if self.life.set(to, Field::Data(number), value) {
+            write!(self.text, "{by} put {object} {number} {value}\n")?;
+        }
+        Ok(())
+    }
+
+    fn show(&mut self, random: &mut Random) -> Result<(), AllocError> {
+        let by = self.mutator;
+        let (object, number) = (self.register(random), random.small(3));
+        if let Some(value) = self.life.get(self.held(object), Field::Data(number)) {
+            self.shown.push(value)?;
+            write!(self.text, "{by} get {object} {number}\n")?;
+        }
+        Ok(())
+    }
+
+    fn make(&mut self, alloc: Global, random: &mut Random) -> Result<(), AllocError> {
+        let by = self.mutator;
+        let to = (random.below(16) % 16) as u8;
+        let (refs, data, tag) = (random.small(4), random.small(20), random.small(100));
+        let weak = match self.life.edition {
+            Edition::One => 0,
+            Edition::Two => random.small(3),
+        };
+        let asked = header(self.life.edition, refs, weak, data, tag);
+        if let Some(number) = self.life.add(alloc, by, asked)? {
+            self.hold(to, number);
+            match self.life.edition {
+                Edition::One => write!(self.text, "{by} new {to} {refs} {data} {tag}\n")?,
+                Edition::Two => write!(self.text, "{by} wnew {to} {refs} {weak} {data} {tag}\n")?,
+            }
+        }
+        Ok(())
+    }
+
+    fn root(&mut self, random: &mut Random) -> Result<(), AllocError> {
+        let by = self.mutator;
+        let to = (random.below(16) % 16) as u8;
+        let root = random.small(3);
+        let number = self.life.roots.get(usize::from(root)).copied().unwrap_or(0);
+        self.hold(to, number);
+        write!(self.text, "{by} root {to} {root}\n")?;
+        Ok(())
+    }
+
+    // A line more of either mutator, where it is not one that would be refused.
+    fn line(&mut self, alloc: Global, random: &mut Random) -> Result<(), AllocError> {
+        self.mutator = (random.below(u64::from(MUTATORS)) % 2) as u8;
+        match random.below(10) {
+            0 | 1 => self.root(random),
+            2 | 3 => self.load(random),
+            4 | 5 => self.store(random),
+            6 => self.put(random),
+            7 => self.show(random),
+            _ => self.make(alloc, random),
+        }
+    }
+
+    // A cycle begins: its registers are null, and its lines are drawn.
+    fn begin(&mut self, alloc: Global, random: &mut Random) -> Result<(), AllocError> {
+        self.life.begin(alloc, FRESH as usize)?;
+        self.registers = [[0; 16]; 2];
+        self.shown = Vec::new(alloc);
+        self.text = String::new(alloc);
+        for _ in 0..DRAWS {
+            self.line(alloc, random)?;
+        }
+        Ok(())
+    }
+
+    // The cycle is over, and these marks are handed in.
+    fn end(&mut self, alloc: Global, marks: Vec<u32>) -> Result<(), AllocError> {
+        self.past.push(Past {
+            marks: self.marks.to_vec(alloc)?,
+            text: self.text.clone()?,
+            shown: self.shown.to_vec(alloc)?,
+        })?;
+        self.marks = marks;
+        Ok(())
+    }
+
+    // A cycle over this heap; the heap that follows.
+    fn cycle(
+        &mut self,
+        rt: &(impl Abort + Threads + Sync),
+        alloc: Global,
+        heap: MarkedHeap,
+        random: &mut Random,
+        name: &str,
+    ) -> MarkedHeap {
+        self.begin(alloc, random).expect(rt, "lines");
+        let left = ran(rt, alloc, heap, self.text.as_bytes(), MUTATORS, FRESH);
+        expect_values(rt, &left.shown, &self.shown, name);
+        let marks = self.life.mark(alloc).expect(rt, "marks");
+        let next = follow(rt, alloc, left, &marks);
+        self.end(alloc, marks).expect(rt, "memory for the past");
+        self.life.expect_heap(rt, &next, name);
+        self.life.drop_others();
+        next
+    }
+}
+
+// The chain of this seed. The image of the last heap is read as that heap, and the cycles are run again by one call.
+fn run_chain(rt: &(impl Abort + Threads + Sync), alloc: Global, edition: Edition, seed: u64) {
+    let name = format!(in alloc; "seed {seed}").expect(rt, "a name");
+    let mut random = Random { state: seed };
+    let mut chain = Chain {
+        life: opening(alloc, edition).expect(rt, "two objects"),
+        registers: [[0; 16]; 2],
+        mutator: 0,
+        shown: Vec::new(alloc),
+        text: String::new(alloc),
+        marks: Vec::new(alloc),
+        past: Vec::new(alloc),
+    };
+    let mut heap = opening_heap(rt, alloc, edition);
+    for _ in 0..CYCLES {
+        heap = chain.cycle(rt, alloc, heap, &mut random, &name);
+    }
+    image(rt, alloc, &heap);
+    expect_past(
+        rt,
+        alloc,
+        opening_heap(rt, alloc, edition),
+        &chain.past,
+        &name,
+    );
+}
+
+#[test]
+fn chains_of_edition_one(rt: HostRuntime) {
+    for seed in 0..CHAINS {
+        run_chain(&rt, rt.alloc(), Edition::One, seed);
+    }
+}
+
+#[test]
+fn chains_of_edition_two(rt: HostRuntime) {
+    for seed in 0..CHAINS {
+        run_chain(&rt, rt.alloc(), Edition::Two, seed);
+    }
+}
