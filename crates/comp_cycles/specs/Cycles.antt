@@ -45,7 +45,7 @@ names_of c numbers given =
 abbrev pub numbers_after : Cycle → List ℕ → ℕ → List ℕ
 numbers_after c numbers given = map (λ i. number_at (names_of c numbers given) (to_address i)) c.marks
 
--- what was written in the cycle, told in numbers, and what is kept behind it
+-- what was written in the cycle, told in numbers, and then what is kept
 abbrev pub story_of : Cycle → List ℕ → ℕ → List Step
 story_of c numbers given = told (names_of c numbers given) (first_heap c.setup) (entries_of c) ++ Keeps (numbers_after c numbers given) ∷ []
 

@@ -1,5 +1,5 @@
--- An example: the three objects, of which the first and the last are marked; one mutator makes an object and stores it in the last of them; then these two are marked. In the cycle
--- behind it the mutator stores null there, and that object alone is marked.
+-- An example: the three objects, of which the first and the last are marked; one mutator makes an object and stores it in the last of them; then these two are marked. In the second
+-- cycle the mutator stores null there, and that object alone is marked.
 use Rattle.std.specs.Prelude.{ℕ, zero, suc, List, [], ◌∷◌, map}
 use Rattle.heap_layout.specs.Header.{header_word}
 use Rattle.heap_layout.specs.declared.kind.Kind.TheVariants.{Header, Reference}
@@ -25,7 +25,7 @@ abbrev pub second_journals : Journals
 second_journals zero = entry 0 0 Reference 1 0 ∷ []
 second_journals (suc p) = []
 
--- the cycle behind it
+-- the second cycle
 abbrev pub second_cycle : Cycle
 second_cycle = record {
   setup = record { heap = heap_after (drawn_cycle (2 ∷ 64 ∷ [])); compacted = 1; fresh = 2; mutators = 1 };

@@ -15,7 +15,7 @@ use Rattle.comp_cycles.specs.declared.finished.Finished.{Finished}
 use Rattle.comp_cycles.specs.NextHeap.{next_word, kind_in, is_header}
 use Rattle.comp_cycles.specs.Cycles.{Cycle}
 
--- what the cycle was about: it compacted this heap, with as many fresh pages as there are behind the compacted ones
+-- what the cycle was about: it compacted this heap, with as many fresh pages as there are after the compacted ones
 abbrev pub setup_in : Heap → Finished → Setup
 setup_in heap f = record {
   heap = heap;

@@ -19,7 +19,7 @@ Names = List (ℕ × ℕ)
 abbrev pub number_at : Names → ℕ → ℕ
 number_at names a = look 0 names a
 
--- how many words of an object with this header are null or lead to objects: its references, and the weak words behind them
+-- how many words of an object with this header are null or lead to objects: its references, and the weak words after them
 abbrev pub pointers_of : Head → ℕ
 pointers_of header = refs_of header + weak_of header
 
@@ -56,7 +56,7 @@ first_told heap = record {
 
 -- ---- the objects of the heap of one thread
 
--- a word of an object, by its place in the object: each of the first ones behind the header is told as a number, all else as it is
+-- a word of an object, by its place in the object: each of the first ones after the header is told as a number, all else as it is
 abbrev pub told_word : Names → ℕ → ℕ → ℕ → ℕ
 told_word names pointers at word = cond (nat_le 1 at && nat_le at pointers) (number_at names word) word
 

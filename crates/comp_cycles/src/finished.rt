@@ -4,7 +4,7 @@ ghost use Rattle.std.specs.Prelude.{◌≡◌, length};
 use comp_journal::journaled_page::JournaledPage;
 use heap_layout::edition::Edition;
 
-/// A compacted heap, once all its mutators are back. `Space::finish` of comp_mutator makes it, and tells what is known of it.
+/// A compacted heap, once all its mutators are back. `Space::finish` of comp_mutator makes it, and promises what is known of it.
 #[derive(Drop)]
 pub struct Finished {
     /// The edition of the heap.

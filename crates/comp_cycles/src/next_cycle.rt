@@ -20,10 +20,12 @@ use heap_layout::heap::MarkedHeap;
 use page_plan::builder::Builder;
 use std::alloc::Global;
 
-/// A finished heap that is not followed by another, unchanged, and why.
+/// A finished heap that is not followed by another, and why.
 #[derive(Drop)]
 pub struct NotCycled {
+    /// The first fault of the next heap, or that a growth was refused.
     pub fault: LayoutFault,
+    /// The finished heap, unchanged.
     pub finished: Finished,
 }
 
@@ -89,10 +91,12 @@ fn next_heap<B: Builder>(
 }
 
 impl Finished {
-    /// The heap with which the next cycle begins. Its words are all to-space words of this one, those of pages that were never built among them; an object starts where one does in
-    /// to-space, and each word that belongs to none is an object of its own, which is never marked. The marks are those that a marking phase found, and the builder is that of the flip.
+    /// The heap with which the next cycle begins. Its words are all to-space words, 64 for each page; a page that was never built has the words that the builder makes of it. Each
+    /// reference, weak word and root that is not null is lowered by `2^32`. `marks` are the indices, rising, of the words at which the marked objects start, as a marking phase found
+    /// them. The builder is that of the flip.
     ///
-    /// Where the marks are refused the finished heap is handed back, unchanged.
+    /// Err is the first fault of that heap: `TooLarge`; then mark by mark `MarksNotRising` before `MarkNotStart`, also where a word belongs to no object; then `BadRoot`; then
+    /// `UnmarkedTarget`. `OutOfMemory` may come in place of any other answer. The finished heap is handed back, unchanged.
     pub fn next_cycle<B: Builder>(
         self,
         alloc: Global,

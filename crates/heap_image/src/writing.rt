@@ -1,4 +1,4 @@
-//! Writing parts, one behind the other; and an image of them.
+//! Writing the parts of images and dumps, and whole images.
 ghost use Rattle.std.specs.Prelude.{◌≡◌, ◌-◌, ◌^◌, ◌<◌, ◌≤◌, IfErr, length};
 ghost use Rattle.std.specs.List.{flat_map};
 ghost use Rattle.heap_image.specs.Counted.{inner_of, failures_of};

@@ -24,7 +24,7 @@ impl<T: Drop> From<AllocFailed<T>> for MarksFault {
     }
 }
 
-/// Reads the text of marks: an index a line, each line ended by a line feed; or the first line that is none.
+/// Reads the text of marks: an index a line, each line ended by a line feed. Err is the number of the first line that is no mark, counted from 1; or a growth was refused.
 pub fn read_marks(alloc: Global, text: &[u8]) -> Result<Vec<u32>, MarksFault>
     ensures marks { IfOk result (λ marks. marks_of text.now ≡ Ok marks.items) }
     ensures cause { IfErr result (λ fault. RefusesMarks fault (marks_of text.now)) }
