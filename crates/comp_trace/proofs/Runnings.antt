@@ -27,7 +27,7 @@ use Rattle.trace_steps.specs.Traces.{AllFit}
 use Rattle.trace_steps.specs.declared.shown.Shown.{Shown}
 use Rattle.trace_text.specs.declared.fault.TraceFault.{TraceFault}
 use Rattle.trace_text.specs.declared.line.Line.{Line}
-use Rattle.comp_trace.specs.Bytes.{flipped, no_entries, CutsShort}
+use Rattle.comp_trace.specs.Bytes.{flipped, no_entries, CutsShort, RunsThrough}
 use Rattle.comp_trace.specs.Heaps.{HasRunOver}
 use Rattle.comp_trace.specs.Replays.{HaveReplayed, HaveStopped}
 use Rattle.comp_trace.specs.Runs.{beginning, Runs}
@@ -90,6 +90,13 @@ ran_over {L} u before after lines shown f compacted closed none unbuilt some_mut
       builds = lists;
       closed = closed;
     }
+
+-- a replay that came to its end ran all lines
+pub ran_through : {L : Type 0} (u : Setup) (before after : List (Mutator L)) (lines : List Line) (shown : List Shown)
+    → u.compacted ≡ sliding.pages (live u.heap) → DidNothingYet before → HaveReplayed u before after lines shown → RunsThrough (flipped u.heap u.mutators u.fresh) lines shown
+ran_through u before after lines shown compacted none replayed =
+    let ran = replayed no_entries (have_none before none) in
+    subst (λ (w : Setup). RunsThrough w lines shown) (setup_is u compacted) (record { end = ran.0; runs = ran.1.runs; shown_is = ran.1.shows })
 
 -- a replay that stopped is a run that was cut short
 pub cut_over : {L : Type 0} (u : Setup) (before after : List (Mutator L)) (lines : List Line) (shown : List Shown) (fault : TraceFault)

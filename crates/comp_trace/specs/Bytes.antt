@@ -67,6 +67,12 @@ CutsShort u lines shown (NoSuchRegister number) = ⊥
 CutsShort u lines shown (NumberTooLarge number) = ⊥
 CutsShort u lines shown (NoSuchRoot number) = ⊥
 
+-- all of these lines were run from no entries at all, and showed these values
+pub record RunsThrough (u : Setup) (lines : List Line) (shown : List Shown) : Type 0 where
+  pub end : Moment
+  pub runs : Runs u no_entries 1 lines beginning end
+  pub shown_is : shown ≡ end.shown
+
 -- The text is a trace, whose run was cut short so.
 pub record Interrupts (u : Setup) (text : List ℕ) (shown : List Shown) (fault : TraceFault) : Type 0 where
   pub lines : List Line

@@ -8,10 +8,10 @@ use Rattle.comp_cycles.specs.declared.finished.Finished.{Finished}
 use Rattle.trace_steps.specs.Builds.{built_by}
 use Rattle.trace_steps.specs.declared.shown.Shown.{Shown}
 use Rattle.trace_text.specs.declared.line.Line.{Line}
-use Rattle.comp_trace.specs.Bytes.{flipped, no_entries, CutsShort}
+use Rattle.comp_trace.specs.Bytes.{flipped, no_entries, CutsShort, RunsThrough}
 use Rattle.comp_trace.specs.Runs.{beginning, Moment, Runs}
 use Rattle.comp_trace.specs.declared.running.Halt.{Halt}
-use Rattle.comp_trace.specs.declared.running.Halt.TheVariants.{Cut, OutOfMemory}
+use Rattle.comp_trace.specs.declared.running.Halt.TheVariants.{Cut, Unflipped, Unfinished}
 
 -- The heap was flipped for so many mutators and fresh pages, one thread ran these lines, which showed these values, and this is the heap at the end.
 pub record HasRunOver (mutators fresh : ℕ) (lines : List Line) (shown : List Shown) (heap : Heap) (f : Finished) : Type 0 where
@@ -28,7 +28,8 @@ pub record HasRunOver (mutators fresh : ℕ) (lines : List Line) (shown : List S
   -- the heap was accepted
   pub closed : IsClosed heap
 
--- why it does not come to its end: the run was cut short, or memory was wanted
+-- why it does not come to its end: the run was cut short, or memory was wanted, for the flip, or for the finish, once the lines were run
 abbrev pub IsHaltOf : ℕ → ℕ → List Line → Heap → Halt → Type 0
 IsHaltOf mutators fresh lines heap (Cut stopped) = CutsShort (flipped heap mutators fresh) lines stopped.shown.items stopped.fault
-IsHaltOf mutators fresh lines heap OutOfMemory = Unit {0}
+IsHaltOf mutators fresh lines heap Unflipped = Unit {0}
+IsHaltOf mutators fresh lines heap (Unfinished shown) = RunsThrough (flipped heap mutators fresh) lines shown.items

@@ -27,20 +27,25 @@ use trace_text::trace::Trace;
 /// A heap over which a trace was run, finished, and the values that the trace showed.
 #[derive(Drop)]
 pub struct Run {
+    /// What each `get` line showed, in order.
     pub shown: Vec<Shown>,
+    /// What is left of the heap.
     pub finished: Finished,
 }
 
 /// Why a heap does not come to its end.
 #[derive(Drop)]
 pub enum Halt {
-    /// The replay stopped.
+    /// A line was refused, or there was no memory for the values.
     Cut(Stopped),
-    /// A growth was refused, for the flip or for the end.
-    OutOfMemory,
+    /// A growth was refused for the flip; no line has run.
+    Unflipped,
+    /// A growth was refused for the finish. All lines have run; these are the values that they showed, in order.
+    Unfinished(Vec<Shown>),
 }
 
-/// Flips the heap of a plan, runs a trace over it by one thread, and finishes it. The trace is one of these mutators and of the heap's roots.
+/// Flips the heap of a plan, runs a trace over it by one thread, and finishes it. There are 1 to 64 mutators and at most 4,096 fresh pages; the trace is one of these mutators
+/// and of the heap's roots.
 pub fn run_over(
     alloc: Global,
     plan: Arc<Plan>,
@@ -88,7 +93,7 @@ fn flipped_and_run<L: Ledger>(
 {
     match flip::<L, Plan>(alloc, blank, plan, u32::from(mutators), fresh) {
         Ok((space, made)) => run_and_finish(alloc, space, made, trace),
-        Err(FlipFault::OutOfMemory) => Err(Halt::OutOfMemory),
+        Err(FlipFault::OutOfMemory) => Err(Halt::Unflipped),
         Err(FlipFault::BadCounts) => unreachable!(),
     }
 }
@@ -115,7 +120,7 @@ fn run_and_finish<L: Ledger>(
         Ok(shown) => match space.finish(alloc, mutators) {
             Ok(finished) => Ok(Run { shown, finished }),
             Err(left) => match left.fault {
-                FinishFault::OutOfMemory => Err(Halt::OutOfMemory),
+                FinishFault::OutOfMemory => Err(Halt::Unfinished(shown)),
                 FinishFault::MutatorMissing(_) => unreachable!(),
             },
         },

@@ -12,11 +12,12 @@ use Rattle.trace_text.specs.declared.line.Line.{Line}
 use Rattle.comp_cycles.specs.Cycles.{Cycle, heap_after, IsCycleOf}
 use Rattle.comp_cycles.specs.Ends.{cycle_of, setup_in, IsEndOf, IsRefusedFor}
 use Rattle.comp_cycles.specs.NextHeap.{lowered, next_faults}
-use Rattle.comp_trace.specs.Bytes.{flipped, CutsShort}
+use Rattle.trace_text.specs.declared.fault.TraceFault.{TraceFault}
+use Rattle.comp_trace.specs.Bytes.{flipped, CutsShort, RunsThrough}
 use Rattle.cycle_traces.specs.CycleRuns.{last_heap, AreRuns, HaveRun, IsLastRun, IsNextRun}
-use Rattle.cycle_traces.specs.Stops.{none_further, some_values, IsCutOff, IsNotMarked, IsNotNext, IsNotRunOver, IsStopped, StopsAt, StopsCycles}
+use Rattle.cycle_traces.specs.Stops.{none_further, some_values, Extent, HasNoEnd, IsCutOff, IsNotMarked, IsNotNext, IsNotRunOver, IsStopped, StopsAt, StopsCycles}
 use Rattle.cycle_traces.specs.declared.fault.CycleFault.{CycleFault}
-use Rattle.cycle_traces.specs.declared.fault.CycleFault.TheVariants.{NotMarked, OutOfMemory}
+use Rattle.cycle_traces.specs.declared.fault.CycleFault.TheVariants.{NotMarked, OutOfMemory, Stopped}
 use Rattle.cycle_traces.proofs.Runs.{runs_more, last_more}
 
 module _ {T : Type 0} (mutators fresh : ℕ) (heap : Heap) (lines : List Line) (pair : T → List ℕ × List Line) (rest : List T) (c : ℕ) (x : T) (inside : c < length rest) (is : x ≡ get_or rest c x) where
@@ -60,23 +61,32 @@ module _ {T : Type 0} (mutators fresh : ℕ) (heap : Heap) (lines : List Line) (
     next = ⊎_elim (λ (same : n ≡ c). inl same) (λ (later : (n ≡ c + 1) × IsCycleOf now (cycle_of now f (pair x).0)). inr (later.0, followed f now ran.cycles at later.1)) h;
   }
 
-  pub stops_next : {A : Type 0} (shown : List (List Shown)) (f : Finished) (now : Heap) (ran : HaveRun mutators fresh heap lines (map pair (take c rest)) shown f) → last_heap heap ran.cycles ≡ now
-      → (last : Option (Vec Shown A)) (fault : CycleFault) → IsNotNext mutators fresh now f (pair x).0 (pair x).1 c last fault → StopsCycles mutators fresh heap lines (map pair rest) (shown ++ some_values last) fault
-  stops_next shown f now ran at (Some values) fault h =
+  -- the next cycle was begun, but has no end
+  no_end : (shown : List (List Shown)) (f : Finished) (now : Heap) (ran : HaveRun mutators fresh heap lines (map pair (take c rest)) shown f) → last_heap heap ran.cycles ≡ now → IsCycleOf now (cycle_of now f (pair x).0)
+      → (last : List Shown) (runs : Extent) → runs (flipped (heap_after (cycle_of now f (pair x).0)) mutators fresh) (pair x).1 last → StopsAt mutators fresh heap lines (map pair rest) (shown ++ last ∷ []) (c + 1) runs
+  no_end shown f now ran at cycle last runs h =
       let one : suc c ≡ c + 1 = omega arith in
-      let stop : IsStopped mutators fresh heap lines (map pair rest) (shown ++ values.items ∷ []) c h.0 = record {
+      let stop : IsStopped mutators fresh heap lines (map pair rest) (shown ++ last ∷ []) c runs = record {
         further = many;
         left = f;
         values = shown;
-        last = values.items;
+        last = last;
         shown_is = refl;
         ran = before shown f ran;
-        cycle = followed f now ran.cycles at h.2;
-        cuts = subst (λ (y : List ℕ × List Line). CutsShort (flipped (heap_after (cycle_of (last_heap heap ran.cycles) f y.0)) mutators fresh) y.1 values.items h.0) (sym read)
-            (subst (λ (n : Heap). CutsShort (flipped (heap_after (cycle_of n f (pair x).0)) mutators fresh) (pair x).1 values.items h.0) (sym at) h.3);
+        cycle = followed f now ran.cycles at cycle;
+        lines_run = subst (λ (y : List ℕ × List Line). runs (flipped (heap_after (cycle_of (last_heap heap ran.cycles) f y.0)) mutators fresh) y.1 last) (sym read)
+            (subst (λ (n : Heap). runs (flipped (heap_after (cycle_of n f (pair x).0)) mutators fresh) (pair x).1 last) (sym at) h);
       } in
-      subst (StopsCycles mutators fresh heap lines (map pair rest) (shown ++ values.items ∷ [])) (sym h.1)
-      (subst (λ (n : ℕ). StopsAt mutators fresh heap lines (map pair rest) (shown ++ values.items ∷ []) n h.0) one stop)
+      subst (λ (n : ℕ). StopsAt mutators fresh heap lines (map pair rest) (shown ++ last ∷ []) n runs) one stop
+
+  pub stops_next : {A : Type 0} (shown : List (List Shown)) (f : Finished) (now : Heap) (ran : HaveRun mutators fresh heap lines (map pair (take c rest)) shown f) → last_heap heap ran.cycles ≡ now
+      → (last : Option (Vec Shown A)) (fault : CycleFault) → IsNotNext mutators fresh now f (pair x).0 (pair x).1 c last fault → StopsCycles mutators fresh heap lines (map pair rest) (shown ++ some_values last) fault
+  stops_next shown f now ran at (Some values) fault h = ⊎_elim
+      (λ (cut : (t : TraceFault) × (fault ≡ Stopped (c + 1) t) × CutsShort (flipped (heap_after (cycle_of now f (pair x).0)) mutators fresh) (pair x).1 values.items t).
+      subst (StopsCycles mutators fresh heap lines (map pair rest) (shown ++ values.items ∷ [])) (sym cut.1) (no_end shown f now ran at h.0 values.items (λ u l s. CutsShort u l s cut.0) cut.2))
+      (λ (full : (fault ≡ OutOfMemory (c + 1)) × RunsThrough (flipped (heap_after (cycle_of now f (pair x).0)) mutators fresh) (pair x).1 values.items).
+      subst (StopsCycles mutators fresh heap lines (map pair rest) (shown ++ values.items ∷ [])) (sym full.0) (inr (inr (no_end shown f now ran at h.0 values.items RunsThrough full.1))))
+      h.1
   stops_next shown f now ran at None fault h = ⊎_elim
       (λ (copy : fault ≡ OutOfMemory c). short c copy (inl refl))
       (⊎_elim
@@ -94,12 +104,17 @@ module _ {T : Type 0} (mutators fresh : ℕ) (heap : Heap) (lines : List Line) (
     where
       short : (n : ℕ) → fault ≡ OutOfMemory n → (n ≡ c) ⊎ ((n ≡ c + 1) × IsCycleOf now (cycle_of now f (pair x).0)) → StopsCycles mutators fresh heap lines (map pair rest) (shown ++ []) fault
       short n is place = subst (StopsCycles mutators fresh heap lines (map pair rest) (shown ++ [])) (sym is)
-          (inr (subst (λ (s : List (List Shown)). IsCutOff mutators fresh heap lines (map pair rest) s n) (sym (append-nil shown)) (cut_off shown f now ran at n place)))
+          (inr (inl (subst (λ (s : List (List Shown)). IsCutOff mutators fresh heap lines (map pair rest) s n) (sym (append-nil shown)) (cut_off shown f now ran at n place))))
 
 -- the first cycle is not run to its end
 pub stops_first : {A : Type 0} (mutators fresh : ℕ) (heap : Heap) (lines : List Line) (rest : List (List ℕ × List Line)) (last : Option (Vec Shown A)) (fault : CycleFault)
     → IsNotRunOver mutators fresh lines heap 0 last fault → StopsCycles mutators fresh heap lines rest (some_values last) fault
-stops_first mutators fresh heap lines rest (Some values) fault h = subst (StopsCycles mutators fresh heap lines rest (values.items ∷ [])) (sym h.1) (values.items, refl, h.2)
+stops_first mutators fresh heap lines rest (Some values) fault h = ⊎_elim
+    (λ (cut : (t : TraceFault) × (fault ≡ Stopped 0 t) × CutsShort (flipped heap mutators fresh) lines values.items t).
+    subst (StopsCycles mutators fresh heap lines rest (values.items ∷ [])) (sym cut.1) (values.items, refl, cut.2))
+    (λ (full : (fault ≡ OutOfMemory 0) × RunsThrough (flipped heap mutators fresh) lines values.items).
+    subst (StopsCycles mutators fresh heap lines rest (values.items ∷ [])) (sym full.0) (inr (inr (values.items, refl, full.1))))
+    h
 stops_first mutators fresh heap lines rest None fault h = subst (StopsCycles mutators fresh heap lines rest []) (sym h) (inl (refl, refl))
 
 -- the roots stay as many
@@ -111,5 +126,5 @@ same_roots mutators fresh now next f left marks lines values e h =
 pub not_next : {A : Type 0} (mutators fresh : ℕ) (now next : Heap) (f : Finished) (marks : List ℕ) (lines : List Line) (c : ℕ) → IsCycleOf now (cycle_of now f marks) → next ≡ heap_after (cycle_of now f marks)
     → (shown : Option (Vec Shown A)) (fault : CycleFault) → IsNotRunOver mutators fresh lines next (c + 1) shown fault → IsNotNext mutators fresh now f marks lines c shown fault
 not_next mutators fresh now next f marks lines c cycle is (Some values) fault h =
-    (h.0, h.1, cycle, subst (λ (heap : Heap). CutsShort (flipped heap mutators fresh) lines values.items h.0) is h.2)
+    (cycle, subst (λ (heap : Heap). HasNoEnd (c + 1) fault (flipped heap mutators fresh) lines values.items) is h)
 not_next mutators fresh now next f marks lines c cycle is None fault h = inr (inl (h, cycle))

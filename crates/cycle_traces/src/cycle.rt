@@ -1,6 +1,7 @@
 //! One cycle: a heap, from its flip to its end, with the trace that is run in between.
 ghost use Rattle.std.specs.Prelude.{◌≡◌, ◌≤◌, IfErr, IfOk, length};
 ghost use Rattle.comp_cycles.specs.Ends.{IsEndOf};
+ghost use Rattle.comp_cycles.specs.Finishes.{IsOfFlip};
 ghost use Rattle.trace_text.specs.Traces.{lines_of};
 ghost use Rattle.cycle_traces.specs.CycleRuns.{IsCycleHaltOf, IsLastRun, IsParsedFor};
 
@@ -38,7 +39,7 @@ pub enum CycleHalt {
 /// and at most 4,096 fresh pages, and the trace was parsed for these mutators and for the heap's number of roots.
 ///
 /// Within `Halted`, `Halt::Cut` comes where a line is refused, with the values of the lines before it, or where there is no memory for the values, with none;
-/// `Halt::OutOfMemory` comes where a growth is refused for the flip or the finish. `Unplanned` comes where one is refused for the plan. The heap is dropped then.
+/// `Halt::Unflipped` comes where a growth is refused for the flip, and `Halt::Unfinished` where one is refused for the finish, with the values of all lines. `Unplanned` comes where one is refused for the plan. The heap is dropped then.
 pub fn run_cycle(
     alloc: Global,
     rt: &(impl Threads + Sync),
@@ -52,6 +53,7 @@ pub fn run_cycle(
     requires parsed { IsParsedFor mutators (length heap.roots) trace.now }
     ensures run { IfOk result (λ ran. IsLastRun mutators fresh (lines_of trace.now) ran.shown.items heap ran.finished) }
     ensures plan { IfOk result (λ ran. ran.plan.value ≡ heap) }
+    ensures flipped { IfOk result (λ ran. IsOfFlip mutators fresh ran.finished) }
     ensures end { IfOk result (λ ran. IsEndOf ran.plan.value ran.finished) }
     ensures halted { IfErr result (IsCycleHaltOf mutators fresh (lines_of trace.now) heap) }
 {

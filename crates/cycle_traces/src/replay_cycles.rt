@@ -1,6 +1,7 @@
 //! Several cycles, over each of which a trace is run.
 ghost use Rattle.std.specs.Prelude.{◌≡◌, ℕ, ◌+◌, ◌^◌, ◌<◌, ◌≤◌, ◌++◌, All, IfErr, IfOk, List, length, map, vec_capacity};
 ghost use Rattle.comp_cycles.specs.Ends.{IsEndOf};
+ghost use Rattle.comp_cycles.specs.Finishes.{IsOfFlip};
 ghost use Rattle.heap_layout.specs.Heap.{Heap};
 ghost use Rattle.trace_text.specs.declared.line.Line.{Line};
 ghost use Rattle.trace_text.specs.Traces.{lines_of};
@@ -13,7 +14,6 @@ use comp_cycles::finished::Finished;
 use comp_cycles::laws::{one_life, one_writing};
 use comp_trace::running::Halt;
 use heap_layout::heap::MarkedHeap;
-use page_plan::laws::heap_is_closed;
 use page_plan::plan::Plan;
 use std::alloc::Global;
 use std::sync::Arc;
@@ -33,7 +33,7 @@ pub struct CyclesRun {
 /// Why cycles were not run to their end.
 #[derive(Drop)]
 pub struct CyclesStopped {
-    /// The values of each cycle that came to its end. Where a cycle's trace stopped, the values of its lines before that follow as one list more.
+    /// The values of each cycle that came to its end. Where a cycle was begun but has no end, the values of its lines so far follow as one list more.
     pub shown: Vec<Vec<Shown>>,
     /// The fault, with the number of the cycle, from 0.
     pub fault: CycleFault,
@@ -55,7 +55,11 @@ fn not_run(c: u64, halt: CycleHalt) -> NotRun
             shown: Some(stopped.shown),
             fault: CycleFault::Stopped(c, stopped.fault),
         },
-        CycleHalt::Halted(Halt::OutOfMemory) | CycleHalt::Unplanned => NotRun {
+        CycleHalt::Halted(Halt::Unfinished(shown)) => NotRun {
+            shown: Some(shown),
+            fault: CycleFault::OutOfMemory(c),
+        },
+        CycleHalt::Halted(Halt::Unflipped) | CycleHalt::Unplanned => NotRun {
             shown: None,
             fault: CycleFault::OutOfMemory(c),
         },
@@ -80,6 +84,7 @@ fn run_next(
     requires end { IsEndOf plan.value finished }
     requires parsed { IsParsedFor mutators (length plan.value.roots) trace.now }
     ensures next { IfOk result (λ next. IsNextRun mutators fresh plan.value finished marks.now (lines_of trace.now) next.plan.value next.shown.items next.finished) }
+    ensures flipped { IfOk result (λ next. IsOfFlip mutators fresh next.finished) }
     ensures refused { IfErr result (λ not. IsNotNext mutators fresh plan.value finished marks.now (lines_of trace.now) c not.shown not.fault) }
 {
     let Ok(marks) = marks.to_vec(alloc) else {
@@ -133,6 +138,7 @@ pub fn replay_cycles(
     requires first { IsParsedFor mutators (length heap.roots) first.now }
     requires rest { All (λ further. IsParsedFor mutators (length heap.roots) further.1) rest.now }
     ensures ran { IfOk result (λ run. HaveRun mutators fresh_pages heap (lines_of first.now) (map marks_and_lines rest.now) (values_of run.shown.items) run.finished) }
+    ensures flipped { IfOk result (λ run. IsOfFlip mutators fresh_pages run.finished) }
     ensures stopped { IfErr result (λ stopped. StopsCycles mutators fresh_pages heap (lines_of first.now) (map marks_and_lines rest.now) (values_of stopped.shown.items) stopped.fault) }
 {
     one_life();
@@ -150,7 +156,6 @@ pub fn replay_cycles(
         }
         Err(halt) => return Err(stopped(shown, not_run(0, halt))),
     };
-    heap_is_closed(&plan);
     for (c, further) in rest.iter().enumerate() {
         match run_next(
             alloc,

@@ -61,7 +61,7 @@ pub fn cycle_heap(
             shown: stopped.shown,
             refusal: Refusal::Trace(stopped.fault),
         }),
-        Err(CycleHalt::Halted(Halt::OutOfMemory)) => Err(unshown(
+        Err(CycleHalt::Halted(Halt::Unflipped | Halt::Unfinished(_))) => Err(unshown(
             alloc,
             Refusal::Mutator(MutatorRefusal::OutOfMemory),
         )),

@@ -7,7 +7,7 @@ use Rattle.trace_text.specs.Traces.{lines_of}
 use Rattle.trace_steps.proofs.Callers.{all_of, none_built, none_done}
 use Rattle.trace_steps.proofs.Fitting.{lines_fit}
 use Rattle.comp_trace.proofs.Bytes.{are_of}
-use Rattle.comp_trace.proofs.Runnings.{all_row, all_there, cut_over, ran_over}
+use Rattle.comp_trace.proofs.Runnings.{all_row, all_there, cut_over, ran_over, ran_through}
 use Rattle.comp_trace.proofs.running.run_and_finish.Goals as goal
 
 pub replay-requires-clause-all : goal.replay-requires-clause-all
@@ -36,6 +36,14 @@ returns-in-Ok-finish-clause-run g c =
     (let some = c.in-Ok-finish.ensures.flipped.some_mutators in omega (arith, some))
     (all_of space u.mutators before c.requires.of c.requires.new refl).count all.count fit c.in-Ok.ensures.ran
     (c.in-Ok-finish.ensures.ordered (all_row space after all))
+
+pub returns-in-OutOfMemory-clause-halted : goal.returns-in-OutOfMemory-clause-halted
+returns-in-OutOfMemory-clause-halted g c =
+    let space = c.args.space in
+    let u = setup_of space in
+    let before = c.args.mutators.items in
+    ran_through u before c.replay.new.mutators.items (lines_of c.args.trace.now) c.in-Ok.shown.items c.requires.compacted
+    (none_done (steps_of (cells_of space)) u.mutators before c.requires.new) c.in-Ok.ensures.ran
 
 pub returns-in-Err-clause-halted : goal.returns-in-Err-clause-halted
 returns-in-Err-clause-halted g c =

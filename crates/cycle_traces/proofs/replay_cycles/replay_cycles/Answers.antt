@@ -1,5 +1,6 @@
-use Rattle.std.proofs.Common.{◌≡◌, ℕ, ◌+◌, ◌++◌, ◌∷◌, [], List, Vec, Global, map, take, take_all, sym, ap, ◌∙◌, subst, arith}
+use Rattle.std.proofs.Common.{◌≡◌, ℕ, ◌+◌, ◌++◌, ◌∷◌, [], List, Vec, Global, length, map, take, take_all, sym, ap, ◌∙◌, subst, arith}
 use Rattle.std.proofs.lemmas.List.{map-append}
+use Rattle.heap_layout.specs.Heap.{Heap}
 use Rattle.trace_text.specs.Traces.{lines_of, mutators_of, roots_of}
 use Rattle.trace_text.specs.declared.trace.Trace.{Trace}
 use Rattle.trace_steps.specs.declared.shown.Shown.{Shown}
@@ -46,11 +47,30 @@ returns-in-Err-run_next-clause-stopped g c =
     let not = c.in-Err-run_next.not in
     let values = values_of c.loop-c.shown.items in
     let ran = have_run m fresh c.one_life.ensures c.one_writing.ensures heap i.closed lines (map marks_and_lines (take c.loop-c.c rest)) values i.cycles f i.ran in
-    let why = subst (λ (l : List ℕ). IsNotNext m fresh c.loop-c.plan.value f l (lines_of x.1) c.loop-c.c not.shown not.fault) c.deref-in-loop-c.ensures.value c.in-Err-run_next.ensures.refused in
+    let why = subst (λ (l : List ℕ). IsNotNext m fresh c.loop-c.plan.value f l (lines_of x.1) c.loop-c.c not.shown not.fault) c.deref.ensures.value c.in-Err-run_next.ensures.refused in
     let stops = stops_next m fresh heap lines marks_and_lines rest c.loop-c.c x c.loop-c-test.true c.index-rest-c.is values f c.loop-c.plan.value ran i.last not.shown not.fault why in
     let s = c.stopped-in-Err-run_next.ensures in
     subst (λ (v : List (List Shown)). StopsCycles m fresh heap lines (map marks_and_lines rest) v c.stopped-in-Err-run_next.result.fault) (sym s.shown)
     (subst (StopsCycles m fresh heap lines (map marks_and_lines rest) (values ++ some_values not.shown)) (sym s.fault) stops)
+
+pub loop-c-init : goal.loop-c-init
+loop-c-init g c =
+    let ran = c.in-Ok-run_cycle.ran in
+    let one = c.in-Ok-run_cycle.ensures in
+    let room = c.in-Ok.ensures in
+    let push = c.push_reserved.ensures in
+    let shown : values_of c.push_reserved.new.self.items ≡ ran.shown.items ∷ [] = ap values_of (push.items ∙ ap (λ (l : List (Vec Shown Global)). l ++ ran.shown ∷ []) room.items) in
+    record {
+      cycles = [];
+      ran = subst (λ (v : List (List Shown)). AreRuns c.args.mutators c.args.fresh_pages c.args.heap (lines_of c.args.first.now) [] v [] ran.finished) (sym shown) one.run;
+      last = sym one.plan;
+      end = one.end;
+      flipped = one.flipped;
+      closed = one.run.end.closed;
+      roots = ap (λ (heap : Heap). length heap.roots) one.plan;
+      len = omega (arith, push.len, room.len);
+      room = omega (arith, push.capacity, room.capacity);
+    }
 
 pub loop-c-preserved : goal.loop-c-preserved
 loop-c-preserved g c =
@@ -64,7 +84,7 @@ loop-c-preserved g c =
     let f = c.loop-c.finished in
     let ran = c.in-Ok-run_next.ran in
     let values = values_of c.loop-c.shown.items in
-    let next = subst (λ (l : List ℕ). IsNextRun m fresh c.loop-c.plan.value f l (lines_of x.1) ran.plan.value ran.shown.items ran.finished) c.deref-in-loop-c.ensures.value c.in-Ok-run_next.ensures.next in
+    let next = subst (λ (l : List ℕ). IsNextRun m fresh c.loop-c.plan.value f l (lines_of x.1) ran.plan.value ran.shown.items ran.finished) c.deref.ensures.value c.in-Ok-run_next.ensures.next in
     let on = goes_on m fresh heap lines marks_and_lines rest c.loop-c.c x c.loop-c-test.true c.index-rest-c.is values i.cycles f c.loop-c.plan.value ran.plan.value ran.shown.items ran.finished i.ran i.last next in
     let push = c.push_reserved-in-Ok-run_next.ensures in
     let shown : values_of c.push_reserved-in-Ok-run_next.new.self.items ≡ values ++ ran.shown.items ∷ [] = ap values_of push.items ∙ map-append (λ (v : Vec Shown Global). v.items) c.loop-c.shown.items (ran.shown ∷ []) in
@@ -73,6 +93,7 @@ loop-c-preserved g c =
       ran = subst (λ (v : List (List Shown)). AreRuns m fresh heap lines (map marks_and_lines (take (c.loop-c.c + 1) rest)) v (i.cycles ++ cycle_of (last_heap heap i.cycles) f x.0.items ∷ []) ran.finished) (sym shown) on.0;
       last = on.1;
       end = next.run.end;
+      flipped = c.in-Ok-run_next.ensures.flipped;
       closed = i.closed;
       roots = same_roots m fresh c.loop-c.plan.value ran.plan.value f ran.finished x.0.items (lines_of x.1) ran.shown.items i.end next ∙ i.roots;
       len = omega (arith, push.len, i.len);

@@ -3,6 +3,7 @@ use Rattle.heap_layout.specs.Heap.{IsClosed}
 use Rattle.trace_text.specs.Traces.{lines_of}
 use Rattle.comp_cycles.specs.Cycles.{Cycle}
 use Rattle.comp_cycles.specs.Ends.{IsEndOf}
+use Rattle.comp_cycles.specs.Finishes.{IsOfFlip}
 use Rattle.cycle_traces.specs.CycleRuns.{last_heap, AreRuns}
 use Rattle.cycle_traces.specs.Stops.{marks_and_lines, values_of}
 use Rattle.cycle_traces.proofs.replay_cycles.replay_cycles.Given as goal
@@ -14,6 +15,7 @@ invariant-loop-c g l = record {
   ran : AreRuns l.mutators l.fresh_pages l.fn.heap (lines_of l.first) (map marks_and_lines (take l.c l.rest)) (values_of l.shown.items) cycles l.finished;
   last : last_heap l.fn.heap cycles ≡ l.plan.value;
   end : IsEndOf l.plan.value l.finished;
+  flipped : IsOfFlip l.mutators l.fresh_pages l.finished;
   closed : IsClosed l.fn.heap;
   roots : length l.plan.value.roots ≡ length l.fn.heap.roots;
   len : vec_len l.shown ≡ l.c + 1;
