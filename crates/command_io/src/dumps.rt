@@ -8,18 +8,14 @@ ghost use Rattle.comp_dump.specs.declared.fault.DumpFault.TheVariants as fault;
 ghost use Rattle.command_io.specs.Dumps.{IsOfCreating, IsOfDumping, WritesWhole};
 ghost use Rattle.command_io.specs.declared.refusal.Output.TheVariants as outputs;
 
+use crate::output_files::{OutputFile, create_file};
 use crate::refusal::{Output, Refusal};
 use comp_dump::dump::Dump;
 use comp_dump::fault::DumpFault;
 use comp_dump::writing::write_dump;
 use heap_image::counted::Counted;
-use std::alloc::Global;
-use std::fs;
-use std::io::{BufWriter, Write};
+use std::io::Write;
 use std::rt::Files;
-
-// How many bytes are written by one call of a file.
-const WRITTEN_AT_ONCE: usize = 65_536;
 
 /// Where the dumps and the new images lie that the program makes, by their paths.
 pub trait Dumps {
@@ -31,54 +27,37 @@ pub trait Dumps {
     // what is known where a path gives none
     ghost lacks: { Self → List ℕ → Type 0 };
 
-    /// Creates the dump at a path, in place of what is there, to be written from its first byte.
+    /// The dump for a path, to be written from its first byte. Once it was flushed it stands in place of what was there.
     fn create(&mut self, path: &str) -> Result<Self::Writer, Refusal>
         ensures given { IfOk result (gives self.old path.now) }
         ensures cause { IfErr result (IsOfCreating outputs.Dump (lacks self.old path.now)) };
 
-    /// Creates the new image at a path, as `create` does a dump.
+    /// The new image for a path, as `create` gives a dump.
     fn create_image(&mut self, path: &str) -> Result<Self::Writer, Refusal>
         ensures given { IfOk result (gives self.old path.now) }
         ensures cause { IfErr result (IsOfCreating outputs.New (lacks self.old path.now)) };
 }
 
-/// The dumps and the new images that lie in the files of a runtime, which are written through a buffer.
+/// The dumps and the new images that lie in the files of a runtime. One that is not whole leaves a regular file at its path as it was.
 #[derive(Drop)]
 pub struct FileDumps<'a, R> {
     pub rt: &'a R,
 }
 
-impl<R: Files + AllocGlobal> Dumps for FileDumps<'_, R> {
-    type Writer = BufWriter<R::File, Global>;
+impl<'a, R: Files + AllocGlobal> Dumps for FileDumps<'a, R> {
+    type Writer = OutputFile<'a, R>;
 
     // Which file a path leads to, and what a file takes, the kit's contracts do not say: each writer may be given, and each path may give none.
     ghost gives = { λ _ _ _. Unit {0} };
 
     ghost lacks = { λ _ _. Unit {0} };
 
-    fn create(&mut self, path: &str) -> Result<BufWriter<R::File, Global>, Refusal> {
+    fn create(&mut self, path: &str) -> Result<OutputFile<'a, R>, Refusal> {
         create_file(self.rt, path, Output::Dump)
     }
 
-    fn create_image(&mut self, path: &str) -> Result<BufWriter<R::File, Global>, Refusal> {
+    fn create_image(&mut self, path: &str) -> Result<OutputFile<'a, R>, Refusal> {
         create_file(self.rt, path, Output::New)
-    }
-}
-
-// A file for this output, in place of what is at the path.
-fn create_file<R: Files + AllocGlobal>(
-    rt: &R,
-    path: &str,
-    output: Output,
-) -> Result<BufWriter<R::File, Global>, Refusal>
-    ensures { IfErr result (IsOfCreating output (Unit {0})) }
-{
-    let Ok(file) = fs::create(rt, path) else {
-        return Err(Refusal::CannotCreate(output));
-    };
-    match BufWriter::with_capacity(rt.alloc(), WRITTEN_AT_ONCE, file) {
-        Ok(writer) => Ok(writer),
-        Err(_) => Err(Refusal::OutOfMemory),
     }
 }
 

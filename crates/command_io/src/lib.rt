@@ -5,6 +5,7 @@ pub mod dumps;
 pub mod images;
 pub mod marks;
 pub mod new_images;
+pub mod output_files;
 pub mod print;
 pub mod refusal;
 mod texts;

@@ -1,5 +1,5 @@
 //! Texts that are read whole.
-ghost use Rattle.std.specs.Prelude.{◌≡◌, ◌-◌, ◌^◌, ◌<◌, IfOk, IfSome};
+ghost use Rattle.std.specs.Prelude.{◌≡◌, ◌-◌, ◌^◌, ◌<◌, length, IfOk, IfSome};
 ghost use Rattle.heap_image.specs.Counted.{inner_of, failures_of};
 ghost use Rattle.command_io.specs.Texts.{CountsUnread};
 
@@ -25,13 +25,25 @@ pub(crate) fn text_in<S: Read>(alloc: Global, r: &mut Counted<S>) -> Result<Vec<
     ensures text { IfOk result (λ text. IfSome (S.remaining (inner_of r.old)) (λ bytes. bytes ≡ text.items)) }
     ensures reads { CountsUnread (failures_of r.old) (failures_of r.new) result }
 {
+    let Ok(mut piece) = vec![in alloc; 0u8; PIECE] else {
+        return Err(Unread::OutOfMemory);
+    };
+    text_by(alloc, r, &mut piece)
+}
+
+// The same by pieces that have this room.
+fn text_by<S: Read>(alloc: Global, r: &mut Counted<S>, piece: &mut [u8]) -> Result<Vec<u8>, Unread>
+    requires read { failures_of r.old < 2 ^ 64 - 1 }
+    requires room { 0 < length piece.old }
+    ensures text { IfOk result (λ text. IfSome (S.remaining (inner_of r.old)) (λ bytes. bytes ≡ text.items)) }
+    ensures reads { CountsUnread (failures_of r.old) (failures_of r.new) result }
+{
     let mut text = Vec::new(alloc);
-    let mut buf = [0; PIECE];
     for _turn in 0..u64::MAX {
-        match r.read(&mut buf) {
+        match r.read(piece) {
             Ok(0) => return Ok(text),
             Ok(n) => {
-                if text.extend_from_slice(&buf[..n]).is_err() {
+                if text.extend_from_slice(&piece[..n]).is_err() {
                     return Err(Unread::OutOfMemory);
                 }
             }

@@ -1,6 +1,6 @@
 use Rattle.std.proofs.Common.{ℕ, take, ap, arith}
 use Rattle.command_io.proofs.Pieces.{whole_text}
-use Rattle.command_io.proofs.texts.text_in.Goals as goal
+use Rattle.command_io.proofs.texts.text_by.Goals as goal
 
 pub returns-in-Ok-eq0-clause-text : goal.returns-in-Ok-eq0-clause-text
 returns-in-Ok-eq0-clause-text g c =

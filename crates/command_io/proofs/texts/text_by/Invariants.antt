@@ -1,12 +1,13 @@
-use Rattle.std.proofs.Common.{◌≡◌, ◌≤◌, length}
+use Rattle.std.proofs.Common.{◌≡◌, ◌<◌, ◌≤◌, length}
 use Rattle.std.specs.Io.KnownBytes.{Consumes}
 use Rattle.heap_image.specs.Counted.{inner_of, failures_of}
-use Rattle.command_io.proofs.texts.text_in.Given as goal
+use Rattle.command_io.proofs.texts.text_by.Given as goal
 
--- what was read so far is the text, and each turn read something
+-- what was read so far is the text, each turn read something, and there is room for a piece
 abbrev pub invariant-loop-turn : goal.invariant-loop-turn
 invariant-loop-turn g l = record {
   read : Consumes (g.S.Read.remaining (inner_of l.fn.r)) (g.S.Read.remaining (inner_of l.r)) l.text.items;
   turns : l._turn ≤ length l.text.items;
   none_failed : failures_of l.r ≡ failures_of l.fn.r;
+  room : 0 < length l.piece;
 }

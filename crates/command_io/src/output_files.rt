@@ -1,0 +1,189 @@
+//! Files of dumps and of new images, which are put in place of what was there once they are whole.
+ghost use Rattle.std.specs.Prelude.{◌≡◌, IfErr};
+ghost use Rattle.command_io.specs.Dumps.{IsOfCreating};
+ghost use Rattle.command_io.specs.declared.refusal.Refusal.TheVariants as refusal;
+
+use crate::refusal::{Output, Refusal};
+use std::alloc::Global;
+use std::fs::{self, Metadata, OpenFile, OpenOptions};
+use std::io::{BufWriter, ErrorKind, Result as IoResult, Write};
+use std::rt::Files;
+
+// How many bytes are written by one call of a file.
+const WRITTEN_AT_ONCE: usize = 65_536;
+
+// How many names are tried for the file beside a path. A run that was killed leaves one that is taken.
+const MOST_NAMES: u32 = 1_000;
+
+/// The file of a dump or of a new image, written through a buffer. Where a regular file or none is at its path, this is a file beside that, which its first flush
+/// renames onto the path; where a call fails it is removed, and what is at the path stays as it was. What is no regular file is written as it stands.
+#[derive(Drop)]
+pub struct OutputFile<'a, R: Files> {
+    rt: &'a R,
+    writer: BufWriter<R::File, Global>,
+    beside: Option<Beside>,
+}
+
+// A file beside the path for which it is meant.
+#[derive(Drop)]
+struct Beside {
+    part: String,
+    path: String,
+}
+
+impl<R: Files> OutputFile<'_, R> {
+    // Renames the file onto its path, where it is not there yet.
+    fn put(&mut self) -> IoResult<()> {
+        let Some(beside) = &self.beside else {
+            return Ok(());
+        };
+        fs::rename(self.rt, beside.part.as_str(), beside.path.as_str())?;
+        self.beside = None;
+        Ok(())
+    }
+
+    // Removes the file, where it is not at its path. Where that fails, the file is left.
+    fn give_up(&mut self) {
+        if let Some(beside) = self.beside.take() {
+            remove(self.rt, &beside.part);
+        }
+    }
+}
+
+impl<R: Files> Write for OutputFile<'_, R> {
+    fn write(&mut self, buf: &[u8]) -> IoResult<usize> {
+        let written = self.writer.write(buf);
+        let goes_on = match &written {
+            Ok(n) => *n > 0 || buf.is_empty(),
+            Err(_) => false,
+        };
+        if !goes_on {
+            self.give_up();
+        }
+        written
+    }
+
+    fn flush(&mut self) -> IoResult<()> {
+        let put = match self.writer.flush() {
+            Ok(()) => self.put(),
+            Err(error) => Err(error),
+        };
+        if put.is_err() {
+            self.give_up();
+        }
+        put
+    }
+}
+
+// Removes a file that is not needed, if that can be done.
+fn remove<R: Files>(rt: &R, path: &str) {
+    let _ = fs::remove_file(rt, path);
+}
+
+/// The file for this output at a path.
+pub fn create_file<'a, R: Files + AllocGlobal>(
+    rt: &'a R,
+    path: &str,
+    output: Output,
+) -> Result<OutputFile<'a, R>, Refusal>
+    ensures { IfErr result (IsOfCreating output (Unit {0})) }
+{
+    match fs::symlink_metadata(rt, path) {
+        Ok(found) if found.is_file() => create_for(rt, path, output, &found),
+        Err(error) if error.kind() == ErrorKind::NotFound && !path.is_empty() => {
+            create_beside(rt, path, output)
+        }
+        _ => create_there(rt, path, output),
+    }
+}
+
+// The file at the path itself.
+fn create_there<'a, R: Files + AllocGlobal>(
+    rt: &'a R,
+    path: &str,
+    output: Output,
+) -> Result<OutputFile<'a, R>, Refusal>
+    ensures { IfErr result (IsOfCreating output (Unit {0})) }
+{
+    let Ok(file) = fs::create(rt, path) else {
+        return Err(Refusal::CannotCreate(output));
+    };
+    buffered(rt, file, None)
+}
+
+// A file beside one that is there, which has to be one that may be written. It has the permissions of that one.
+fn create_for<'a, R: Files + AllocGlobal>(
+    rt: &'a R,
+    path: &str,
+    output: Output,
+    found: &Metadata,
+) -> Result<OutputFile<'a, R>, Refusal>
+    ensures { IfErr result (IsOfCreating output (Unit {0})) }
+{
+    if OpenOptions::new().write(true).open(rt, path).is_err() {
+        return Err(Refusal::CannotCreate(output));
+    }
+    let made = create_beside(rt, path, output)?;
+    let _ = made.writer.get_ref().set_permissions(found.permissions());
+    Ok(made)
+}
+
+// A file beside the path.
+fn create_beside<'a, R: Files + AllocGlobal>(
+    rt: &'a R,
+    path: &str,
+    output: Output,
+) -> Result<OutputFile<'a, R>, Refusal>
+    ensures { IfErr result (IsOfCreating output (Unit {0})) }
+{
+    let whole = String::from_str(rt.alloc(), path)?;
+    for number in 0..MOST_NAMES {
+        let part = part_of(rt, path, number)?;
+        match create_new(rt, &part) {
+            Ok(file) => return buffered(rt, file, Some(Beside { part, path: whole })),
+            Err(ErrorKind::AlreadyExists) => {}
+            Err(_) => return Err(Refusal::CannotCreate(output)),
+        }
+    }
+    Err(Refusal::CannotCreate(output))
+}
+
+// A file of this name that was not there before, or why there is none.
+fn create_new<R: Files>(rt: &R, path: &str) -> Result<R::File, ErrorKind> {
+    let mut options = OpenOptions::new();
+    options.write(true).create_new(true);
+    match options.open(rt, path) {
+        Ok(file) => Ok(file),
+        Err(error) => Err(error.kind()),
+    }
+}
+
+// The name of this number in the folder of a path. It does not grow with the path's last name.
+fn part_of<R: AllocGlobal>(rt: &R, path: &str, number: u32) -> Result<String, Refusal>
+    ensures { IfErr result (λ given. given ≡ refusal.OutOfMemory) }
+{
+    let folder = match path.rfind('/') {
+        Some(at) => &path[..at + 1],
+        None => "",
+    };
+    Ok(format!(in rt.alloc(); "{folder}.compressor-{number}.part")?)
+}
+
+// A file with its buffer. Where there is no memory for that, a file beside the path is removed.
+fn buffered<'a, R: Files + AllocGlobal>(
+    rt: &'a R,
+    file: R::File,
+    beside: Option<Beside>,
+) -> Result<OutputFile<'a, R>, Refusal>
+    ensures { IfErr result (λ given. given ≡ refusal.OutOfMemory) }
+{
+    match BufWriter::with_capacity(rt.alloc(), WRITTEN_AT_ONCE, file) {
+        Ok(writer) => Ok(OutputFile { rt, writer, beside }),
+        Err(_) => {
+            if let Some(beside) = beside {
+                remove(rt, &beside.part);
+            }
+            Err(Refusal::OutOfMemory)
+        }
+    }
+}
