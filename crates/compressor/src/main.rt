@@ -29,5 +29,8 @@ fn start<R: Env + Files + Print + AllocGlobal + Threads + Wait + Sync, E: Write>
     let Ok(mut out) = BufWriter::new(rt.alloc(), io::writer(rt)) else {
         return tell_unstarted(ErrorKind::OutOfMemory, err);
     };
-    run(rt, words, &mut out, err)
+    let status = run(rt, words, &mut out, err);
+    // A run that could print has flushed all of it. What is left where a call failed is not tried again, as a drop of the buffer would.
+    let (_writer, _unsent) = out.into_parts();
+    status
 }
