@@ -7,6 +7,8 @@ mod chains;
 #[cfg(test)]
 mod images;
 #[cfg(test)]
+mod judged;
+#[cfg(test)]
 mod large;
 #[cfg(test)]
 mod marks;

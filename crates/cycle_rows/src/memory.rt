@@ -40,12 +40,12 @@ fn is_refused(fault: TraceFault) -> bool {
 // The lines of the two cycles that show the data word.
 const SHOWING: [u64; 2] = [3, 4];
 
-// How many cycles have a list of values, at least and at most. A cycle that was begun has one, and so have those before it.
+// How many cycles have a list of values, at least and at most. A cycle whose lines had begun has one, and so have those before it.
 fn lists(fault: CycleFault) -> (u64, u64) {
     match fault {
         CycleFault::NotMarked(c, _fault) => (c.wrapping_add(1), c.wrapping_add(1)),
         CycleFault::Stopped(c, _fault) => (c.wrapping_add(1), c.wrapping_add(1)),
-        CycleFault::OutOfMemory(c) => (c, 1),
+        CycleFault::OutOfMemory(c) => (c, c.wrapping_add(1)),
     }
 }
 

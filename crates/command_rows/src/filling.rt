@@ -1,0 +1,253 @@
+//! Dumps and new images that go into files of a device that is soon full, or that renames none: what was at the path stays, and no other file is left.
+use command_io::dumps::{FileDumps, write_to};
+use command_io::new_images::write_image_to;
+use command_io::refusal::Refusal;
+use comp_dump::dump::Dump;
+use comp_dump::fault::DumpFault;
+use comp_dump::reading::read_dump;
+use heap_image::counted::Counted;
+use heap_image::image::read_image;
+use heap_layout::fault::LayoutFault;
+use heap_layout::heap::MarkedHeap;
+use std::alloc::Allocator;
+use std::fs::{self, Metadata, OpenFile, OpenOptions};
+use std::io::{Error, ErrorKind, Read, Result as IoResult, Seek, SeekFrom, Write};
+use std::process::Abort;
+use std::rt::Files;
+
+// A device on which each file has room for so many bytes that are written, and which may rename none.
+#[derive(Drop)]
+struct Device<'a, R> {
+    rt: &'a R,
+    room: usize,
+    renames: bool,
+}
+
+// A file that has room for so many bytes.
+#[derive(Drop)]
+struct Small<F: Read + Write + Seek + OpenFile + Drop> {
+    file: F,
+    room: usize,
+}
+
+impl<F: Read + Write + Seek + OpenFile + Drop> Read for Small<F> {
+    fn read(&mut self, buf: &mut [u8]) -> IoResult<usize> {
+        self.file.read(buf)
+    }
+}
+
+impl<F: Read + Write + Seek + OpenFile + Drop> Write for Small<F> {
+    fn write(&mut self, buf: &[u8]) -> IoResult<usize> {
+        let (taken, _) = buf.split_at(buf.len().min(self.room));
+        if taken.is_empty() {
+            return Err(Error::from(ErrorKind::StorageFull));
+        }
+        let n = self.file.write(taken)?;
+        self.room = self.room.saturating_sub(n);
+        Ok(n)
+    }
+
+    fn flush(&mut self) -> IoResult<()> {
+        self.file.flush()
+    }
+}
+
+impl<F: Read + Write + Seek + OpenFile + Drop> Seek for Small<F> {
+    fn seek(&mut self, to: SeekFrom) -> IoResult<u64> {
+        self.file.seek(to)
+    }
+}
+
+impl<F: Read + Write + Seek + OpenFile + Drop> OpenFile for Small<F> {
+    fn metadata(&self) -> IoResult<Metadata> {
+        self.file.metadata()
+    }
+
+    fn set_len(&self, size: u64) -> IoResult<()> {
+        self.file.set_len(size)
+    }
+
+    fn sync_all(&self) -> IoResult<()> {
+        self.file.sync_all()
+    }
+
+    fn sync_data(&self) -> IoResult<()> {
+        self.file.sync_data()
+    }
+}
+
+impl<R: Files> Files for Device<'_, R> {
+    type File = Small<R::File>;
+
+    type Dir = R::Dir;
+
+    fn open_file(&self, how: &OpenOptions, path: &str) -> IoResult<Small<R::File>> {
+        let file = self.rt.open_file(how, path)?;
+        Ok(Small {
+            file,
+            room: self.room,
+        })
+    }
+
+    fn open_dir(&self, path: &str) -> IoResult<R::Dir> {
+        self.rt.open_dir(path)
+    }
+
+    fn metadata(&self, path: &str) -> IoResult<Metadata> {
+        self.rt.metadata(path)
+    }
+
+    fn symlink_metadata(&self, path: &str) -> IoResult<Metadata> {
+        self.rt.symlink_metadata(path)
+    }
+
+    fn copy(&self, from: &str, to: &str) -> IoResult<u64> {
+        self.rt.copy(from, to)
+    }
+
+    fn rename(&self, from: &str, to: &str) -> IoResult<()> {
+        if self.renames {
+            return self.rt.rename(from, to);
+        }
+        Err(Error::from(ErrorKind::PermissionDenied))
+    }
+
+    fn remove_file(&self, path: &str) -> IoResult<()> {
+        self.rt.remove_file(path)
+    }
+
+    fn create_dir(&self, path: &str) -> IoResult<()> {
+        self.rt.create_dir(path)
+    }
+
+    fn remove_dir(&self, path: &str) -> IoResult<()> {
+        self.rt.remove_dir(path)
+    }
+
+    fn remove_dir_all<B: Allocator>(&self, alloc: B, path: &str) -> IoResult<()> {
+        self.rt.remove_dir_all(alloc, path)
+    }
+}
+
+// Where a file is written, and the file beside it.
+const PATH: &str = "filling.tests.out";
+
+const PART: &str = ".compressor-0.part";
+
+// A device, and whether the file is written whole.
+struct Row {
+    // How many bytes of the file find no room.
+    lacks: usize,
+    renames: bool,
+    whole: bool,
+}
+
+static ROWS: [Row; 4] = [
+    Row {
+        lacks: usize::MAX,
+        renames: true,
+        whole: false,
+    },
+    Row {
+        lacks: 1,
+        renames: true,
+        whole: false,
+    },
+    Row {
+        lacks: 0,
+        renames: false,
+        whole: false,
+    },
+    Row {
+        lacks: 0,
+        renames: true,
+        whole: true,
+    },
+];
+
+// The bytes at the path, where there is a file.
+fn bytes_at<R: Files + AllocGlobal>(rt: &R, path: &str) -> Option<Vec<u8>> {
+    fs::read(rt, path).ok()
+}
+
+// Writes to a device: the image of a heap, or else a dump.
+fn write<R: Files + AllocGlobal>(
+    rt: &R,
+    dump: &Dump<'_>,
+    heap: Option<&MarkedHeap>,
+) -> Result<(), Refusal> {
+    let mut dumps = FileDumps { rt };
+    match heap {
+        Some(heap) => write_image_to(&mut dumps, PATH, heap),
+        None => write_to(&mut dumps, PATH, dump),
+    }
+}
+
+// What is answered where it is not written whole.
+fn unwritten(heap: Option<&MarkedHeap>) -> Refusal {
+    match heap {
+        Some(_) => Refusal::Layout(LayoutFault::Device),
+        None => Refusal::Dump(DumpFault::Device),
+    }
+}
+
+// Writes these bytes to a device: all of them are there, or what was there before still is; and no file is left beside it.
+fn expect_row<R: Abort + Files + AllocGlobal>(
+    rt: &R,
+    dump: &Dump<'_>,
+    heap: Option<&MarkedHeap>,
+    bytes: &[u8],
+    row: &Row,
+    before: Option<&[u8]>,
+) {
+    if let Some(before) = before {
+        fs::write(rt, PATH, before).ok().expect(rt, "a file before");
+    }
+    let device = (
+        Device {
+            rt,
+            room: bytes.len().saturating_sub(row.lacks),
+            renames: row.renames,
+        },
+        rt.alloc(),
+    );
+    let told = write(&device, dump, heap);
+    let wanted = match row.whole {
+        true => Ok(()),
+        false => Err(unwritten(heap)),
+    };
+    let left = bytes_at(rt, PATH);
+    let is_left = match (&left, row.whole) {
+        (Some(left), true) => left.as_slice() == bytes,
+        (Some(left), false) => Some(left.as_slice()) == before,
+        (None, whole) => !whole && before.is_none(),
+    };
+    let clean = bytes_at(rt, PART).is_none();
+    assert!(rt; told == wanted && is_left && clean, "lacks {}", row.lacks);
+    if left.is_some() {
+        fs::remove_file(rt, PATH)
+            .ok()
+            .expect(rt, "a file to remove");
+    }
+}
+
+// Writes these bytes to each of the devices, over a file and where there is none.
+fn expect_rows<R: Abort + Files + AllocGlobal>(
+    rt: &R,
+    dump: &Dump<'_>,
+    heap: Option<&MarkedHeap>,
+    bytes: &[u8],
+) {
+    for row in &ROWS {
+        expect_row(rt, dump, heap, bytes, row, None);
+        expect_row(rt, dump, heap, bytes, row, Some(b"what was there before"));
+    }
+}
+
+/// A dump and an image of these bytes, written to each of the devices.
+pub fn expect_filled<R: Abort + Files + AllocGlobal>(rt: &R, dump: &[u8], image: &[u8]) {
+    let made = read_dump(rt.alloc(), &mut Counted::new(dump)).expect(rt, "a dump");
+    let heap = read_image(rt.alloc(), &mut Counted::new(image)).expect(rt, "a heap");
+    expect_rows(rt, &made, None, dump);
+    expect_rows(rt, &made, Some(&heap), image);
+}

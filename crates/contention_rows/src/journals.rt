@@ -1,0 +1,71 @@
+//! What a fight leaves on the page.
+use crate::expected::expect_so;
+use crate::fights::Fight;
+use crate::writing::value_at;
+use comp_journal::entry::Entry;
+use comp_journal::journaled_page::JournaledPage;
+use comp_mutator::finishing::Finished;
+use heap_layout::kind::Kind;
+use std::process::Abort;
+
+// An entry that this stamp has: of a mutator's, into the first data word of the first object.
+fn is_entry(entry: &Entry, stamp: u64, fight: Fight) -> bool {
+    entry.stamp == stamp
+        && entry.writer < fight.mutators
+        && entry.kind == Kind::Data
+        && entry.offset == 1
+}
+
+// The values of a writer rise, and are of those that it wrote; where none of its writes was refused they are all of these.
+fn are_of_writer(journal: &[Entry], writer: u8, fight: Fight) -> bool {
+    let mut step = 0u64;
+    for entry in journal {
+        if entry.writer == writer {
+            let first = value_at(writer, step);
+            let last = value_at(writer, fight.writes);
+            if entry.value < first || entry.value >= last || fight.waits && entry.value != first {
+                return false;
+            }
+            step = entry
+                .value
+                .wrapping_sub(value_at(writer, 0))
+                .wrapping_add(1);
+        }
+    }
+    !fight.waits || step == fight.writes
+}
+
+// The word is that of the last entry.
+fn has_last(page: &JournaledPage) -> bool {
+    match page.journal().last() {
+        Some(last) => page.words().as_slice().get(1) == Some(&last.value),
+        None => false,
+    }
+}
+
+// Just these entries were written: their stamps count from 0, and each writer's values rise.
+fn expect_journal(rt: &impl Abort, journal: &[Entry], entries: u64, fight: Fight) {
+    expect_so(rt, fight.name, journal.len() as u64 == entries, entries);
+    for (stamp, entry) in journal.iter().enumerate() {
+        let stamp = stamp as u64;
+        expect_so(rt, fight.name, is_entry(entry, stamp, fight), stamp);
+    }
+    for writer in 0..fight.mutators {
+        let so = are_of_writer(journal, writer, fight);
+        expect_so(rt, fight.name, so, u64::from(writer));
+    }
+}
+
+/// The one page of a finished heap has as many entries as all mutators told, and the last one's value.
+pub fn expect_page(rt: &impl Abort, finished: &Finished, entries: u64, fight: Fight) {
+    let page = finished.pages().first().expect(rt, fight.name);
+    match page {
+        Some(page) => {
+            expect_journal(rt, page.journal(), entries, fight);
+            expect_so(rt, fight.name, has_last(page), entries);
+        }
+        None => rt.panic(fight.name),
+    }
+    let all = !fight.fills || entries == 1_024;
+    expect_so(rt, fight.name, all, entries);
+}

@@ -1,0 +1,138 @@
+//! Calls that are made again where memory was refused.
+ghost use Rattle.comp_mutator.specs.Mutators.{IsMutatorOf};
+
+use crate::rows::{Call, Row};
+use call_refusals::refusal::Refusal;
+use comp_access::pages::Touched;
+use comp_mutator::mutator::Mutator;
+use comp_mutator::space::Space;
+use heap_layout::kind::Kind;
+use page_plan::plan::Plan;
+use std::alloc::Global;
+use std::sync::ledger::Ledger as Named;
+
+// The answer of a touch of a page that is there.
+fn touch<L: Named>(
+    alloc: Global,
+    space: &Space<L, Plan>,
+    m: &mut Mutator<L>,
+    p: u64,
+) -> Result<u64, Refusal>
+    requires of { IsMutatorOf space.now m.old }
+    ensures of { IsMutatorOf space.now m.new }
+{
+    if p >= space.pages() {
+        return Ok(u64::MAX);
+    }
+    match space.try_touch(alloc, m, p) {
+        Ok(Touched::Built) => Ok(1),
+        Ok(Touched::AlreadyBuilt) => Ok(0),
+        Err(refusal) => Err(refusal),
+    }
+}
+
+// How many entries the journal of a page has that is there.
+fn copy<L: Named>(
+    alloc: Global,
+    space: &Space<L, Plan>,
+    m: &mut Mutator<L>,
+    p: u64,
+) -> Result<u64, Refusal>
+    requires of { IsMutatorOf space.now m.old }
+    ensures of { IsMutatorOf space.now m.new }
+{
+    if p >= space.pages() {
+        return Ok(u64::MAX);
+    }
+    match space.page_copy(alloc, m, p) {
+        Ok(copy) => Ok(copy.journal.len() as u64),
+        Err(refusal) => Err(refusal),
+    }
+}
+
+// The answer of a call.
+fn answer<L: Named>(
+    alloc: Global,
+    space: &Space<L, Plan>,
+    m: &mut Mutator<L>,
+    call: Call,
+) -> Result<u64, Refusal>
+    requires of { IsMutatorOf space.now m.old }
+    ensures of { IsMutatorOf space.now m.new }
+{
+    match call {
+        Call::Touch(p) => touch(alloc, space, m, p),
+        Call::Copy(p) => copy(alloc, space, m, p),
+        Call::Read(Kind::Reference, object, field) => space.try_read_ref(alloc, m, object, field),
+        Call::Read(_, object, field) => space.try_read_data(alloc, m, object, field),
+        Call::Write(Kind::Reference, object, field, value) => {
+            space.try_write_ref(alloc, m, object, field, value)
+        }
+        Call::Write(_, object, field, value) => {
+            space.try_write_data(alloc, m, object, field, value)
+        }
+        Call::Alloc(refs, data_words, tag) => space.try_alloc(alloc, m, refs, data_words, tag),
+    }
+}
+
+// No object is known to start where a refused allocation would have made one.
+fn is_unknown<L: Named>(
+    alloc: Global,
+    space: &Space<L, Plan>,
+    m: &mut Mutator<L>,
+    row: &Row,
+) -> bool
+    requires of { IsMutatorOf space.now m.old }
+    ensures of { IsMutatorOf space.now m.new }
+{
+    match (row.1, row.4) {
+        (Call::Alloc(_, _, _), Ok(address)) => {
+            space.try_read_data(alloc, m, address, 0) == Err(Refusal::NotAStart(address))
+        }
+        _ => true,
+    }
+}
+
+// The journal of the page that a refused call touched is as long as before, where this mutator built the page.
+fn is_as_long<L: Named>(
+    alloc: Global,
+    space: &Space<L, Plan>,
+    m: &mut Mutator<L>,
+    row: &Row,
+) -> bool
+    requires of { IsMutatorOf space.now m.old }
+    ensures of { IsMutatorOf space.now m.new }
+{
+    if !m.builds().contains(&row.2) {
+        return true;
+    }
+    copy(alloc, space, m, row.2) == Ok(row.3 as u64)
+}
+
+/// A call is answered as its row has it. Where memory is refused, the mutator wrote nothing, has posted and not posted what it had, and has built no page but
+/// perhaps the one that the call touches; the call is then made again.
+pub fn is_answered<L: Named>(
+    alloc: Global,
+    space: &Space<L, Plan>,
+    m: &mut Mutator<L>,
+    row: &Row,
+) -> bool
+    requires of { IsMutatorOf space.now m.old }
+    ensures of { IsMutatorOf space.now m.new }
+{
+    let entries = m.entries();
+    let unposted = m.unposted();
+    let builds = m.builds().len();
+    let first = answer(alloc, space, m, row.1);
+    if first != Err(Refusal::OutOfMemory) {
+        return first == row.4;
+    }
+    let same = m.entries() == entries && m.unposted() == unposted;
+    let built = m.builds().len();
+    let other = built != builds && m.builds().last() != Some(&row.2);
+    let few = built == builds || built == builds.wrapping_add(1);
+    let unknown = is_unknown(alloc, space, m, row);
+    let as_long = is_as_long(alloc, space, m, row);
+    let again = answer(alloc, space, m, row.1);
+    same && few && !other && unknown && as_long && again == row.4
+}

@@ -1,0 +1,81 @@
+//! Heaps that are swept and finished, again where memory was refused.
+ghost use Rattle.std.specs.Prelude.{◌≡◌, IfSome};
+ghost use Rattle.comp_cycles.specs.Finishes.{IsOfFlip};
+ghost use Rattle.comp_mutator.specs.Mutators.{setup_of, AreMutatorsOf};
+
+use comp_mutator::finishing::{FinishFault, Finished, Unfinished};
+use comp_mutator::mutator::Mutator;
+use comp_mutator::space::Space;
+use comp_regions::refusal::SweepFault;
+use comp_sweep::gate::Open;
+use comp_sweep::sweeping::sweep;
+use page_plan::plan::Plan;
+use std::alloc::Global;
+use std::sync::Wait;
+use std::sync::ledger::Ledger as Named;
+use std::thread::Threads;
+
+// Finishes what was handed back where memory was refused.
+fn finish_again<L: Named>(alloc: Global, left: Unfinished<L, Plan>) -> Option<Finished>
+    requires of { AreMutatorsOf left.space left.mutators.items }
+    requires whole { (setup_of left.space).mutators ≡ L.parts }
+    ensures flipped { IfSome result (IsOfFlip (setup_of left.space).mutators (setup_of left.space).fresh) }
+{
+    match left.fault {
+        FinishFault::OutOfMemory => match left.space.finish(alloc, left.mutators) {
+            Ok(finished) => Some(finished),
+            Err(_) => None,
+        },
+        FinishFault::MutatorMissing(_) => None,
+    }
+}
+
+/// The heap, finished with all its mutators.
+pub fn finish<L: Named>(
+    alloc: Global,
+    space: Space<L, Plan>,
+    mutators: Vec<Mutator<L>>,
+) -> Option<Finished>
+    requires of { AreMutatorsOf space mutators.items }
+    requires whole { (setup_of space).mutators ≡ L.parts }
+    ensures flipped { IfSome result (IsOfFlip (setup_of space).mutators (setup_of space).fresh) }
+{
+    match space.finish(alloc, mutators) {
+        Ok(finished) => Some(finished),
+        Err(left) => finish_again(alloc, left),
+    }
+}
+
+// A refusal of a sweep is for want of memory, and names a page that there is.
+fn is_memory(fault: SweepFault, pages: u64) -> bool {
+    match fault {
+        SweepFault::OutOfMemory(p) => p < pages,
+        SweepFault::Resources => true,
+        SweepFault::NoWorkers => false,
+    }
+}
+
+/// All mutators, which have swept the heap. Where memory was refused they have not, and do so again.
+pub fn swept<L: Named + Send, R: Threads + Wait + Sync>(
+    rt: &R,
+    alloc: Global,
+    space: &Space<L, Plan>,
+    mutators: Vec<Mutator<L>>,
+) -> Option<Vec<Mutator<L>>>
+    requires of { AreMutatorsOf space.now mutators.items }
+    ensures of { IfSome result (λ back. AreMutatorsOf space.now back.items) }
+{
+    let back = match sweep(alloc, rt, space, mutators, &Open) {
+        Ok(report) => return Some(report.mutators),
+        Err(refused) => {
+            if !is_memory(refused.fault, space.compacted_pages()) {
+                return None;
+            }
+            refused.mutators
+        }
+    };
+    match sweep(alloc, rt, space, back, &Open) {
+        Ok(report) => Some(report.mutators),
+        Err(_) => None,
+    }
+}

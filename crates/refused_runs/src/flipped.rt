@@ -1,0 +1,34 @@
+//! Flipped heaps whose mutators replay.
+ghost use Rattle.std.specs.Prelude.{◌≡◌, IfSome};
+ghost use Rattle.comp_mutator.specs.Mutators.{setup_of};
+ghost use Rattle.trace_steps.specs.AllMutators.{AreAll};
+ghost use Rattle.trace_steps.specs.Deeds.{DidNothingYet};
+
+use comp_mutator::flipping::flip;
+use comp_mutator::mutator::Mutator;
+use comp_mutator::space::Space;
+use page_plan::plan::Plan;
+use std::alloc::Global;
+use std::sync::Arc;
+use std::sync::ledger::{Blank, Ledger as Named};
+
+/// A flipped heap and its two mutators, where there is memory for them.
+pub fn flipped<L: Named>(
+    alloc: Global,
+    blank: Blank,
+    plan: Arc<Plan>,
+    fresh_pages: u32,
+) -> Option<(Space<L, Plan>, Vec<Mutator<L>>)>
+    requires name { blank.name ≡ L.name }
+    requires parts { blank.parts ≡ L.parts }
+    requires count { blank.parts ≡ 2 }
+    ensures all { IfSome result (λ made. AreAll made.0 made.1.items) }
+    ensures new { IfSome result (λ made. DidNothingYet made.1.items) }
+    ensures whole { IfSome result (λ made. (setup_of made.0).mutators ≡ 2) }
+    ensures fresh { IfSome result (λ made. (setup_of made.0).fresh ≡ fresh_pages) }
+{
+    match flip::<L, Plan>(alloc, blank, plan, 2, fresh_pages) {
+        Ok(made) => Some(made),
+        Err(_) => None,
+    }
+}

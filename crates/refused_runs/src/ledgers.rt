@@ -1,0 +1,43 @@
+//! A ledger that is posted with and gathered. Only its making takes memory.
+ghost use Rattle.std.specs.Prelude.{◌≡◌};
+
+use comp_ledger::ledger::Ledger;
+use comp_ledger::refusal::LedgerFault;
+use std::alloc::Global;
+use std::marker::Brand;
+use std::sync::Wait;
+use std::sync::ledger::{Blank, Ledger as Named};
+
+// Two words are posted, and no third fits; where there is memory for the ledger.
+fn keeps_named<L: Named, R: Wait>(rt: &R, alloc: Global, blank: Blank) -> Option<bool>
+    requires name { blank.name ≡ L.name }
+    requires parts { blank.parts ≡ L.parts }
+    requires count { blank.parts ≡ 1 }
+{
+    let Ok((ledger, mut shares)) = Ledger::<L>::new(alloc, blank, 10, 12, 1) else {
+        return None;
+    };
+    let Some(share) = shares.first_mut() else {
+        return Some(false);
+    };
+    let first = ledger.post(rt, share, 2);
+    let second = ledger.post(rt, share, 1);
+    let posted = first.is_ok() && second == Err(LedgerFault::OverCapacity);
+    match ledger.gather(shares, &[0]) {
+        Ok(words) => Some(posted && words == 12),
+        Err(_) => Some(false),
+    }
+}
+
+// The ledger, where there is memory for it.
+fn keeps_once<R: Wait>(rt: &R, alloc: Global) -> Option<bool> {
+    keeps_named::<Brand, R>(rt, alloc, Blank::new(1))
+}
+
+/// The ledger keeps what it has to, again where its making was refused memory.
+pub fn is_kept<R: Wait>(rt: &R, alloc: Global) -> bool {
+    match keeps_once(rt, alloc) {
+        Some(well) => well,
+        None => keeps_once(rt, alloc) == Some(true),
+    }
+}

@@ -1,0 +1,41 @@
+//! Runs whose every allocation can be made to fail, each in turn. A call that is refused memory says so by its own name, has changed nothing but perhaps a page that
+//! it built, and is made again. So what is printed is the same, whichever allocation fails.
+#![tactic(auto)]
+
+mod answers;
+mod cycling;
+mod finishing;
+mod flipped;
+mod heaps;
+mod judging;
+mod ledgers;
+mod playing;
+mod replaying;
+mod rows;
+mod tables;
+
+use std::sync::Wait;
+use std::thread::Threads;
+
+fn main(rt: HostRuntime) {
+    run_all(&rt);
+}
+
+// Tells how a run went.
+fn tell<R: Print>(rt: &R, name: &str, well: bool) {
+    let _ = match well {
+        true => println!(rt; "{name}: as it has to be"),
+        false => println!(rt; "{name}: NOT as it has to be"),
+    };
+}
+
+// Makes all runs. The status tells nothing of them: who lets an allocation fail looks for another text under the same status.
+fn run_all<R: Print + AllocGlobal + Threads + Wait + Sync>(rt: &R) {
+    let alloc = rt.alloc();
+    for case in tables::cases() {
+        tell(rt, case.name, playing::is_played(rt, alloc, case));
+    }
+    tell(rt, "a ledger", ledgers::is_kept(rt, alloc));
+    tell(rt, "a replay", replaying::is_replayed(rt, alloc));
+    tell(rt, "two cycles", cycling::are_cycled(rt, alloc));
+}

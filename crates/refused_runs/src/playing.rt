@@ -1,0 +1,183 @@
+//! Runs of mutators on flipped heaps.
+ghost use Rattle.std.specs.Prelude.{◌≡◌};
+ghost use Rattle.comp_mutator.specs.Mutators.{setup_of, AreMutatorsOf};
+
+use crate::answers::is_answered;
+use crate::finishing::{finish, swept};
+use crate::heaps::{Heap, plan_of};
+use crate::rows::Row;
+use comp_mutator::finishing::Finished;
+use comp_mutator::flipping::flip;
+use comp_mutator::mutator::Mutator;
+use comp_mutator::refusal::FlipFault;
+use comp_mutator::space::Space;
+use page_plan::plan::Plan;
+use std::alloc::Global;
+use std::marker::Brand;
+use std::sync::ledger::{Blank, Ledger as Named};
+use std::sync::{Arc, Wait};
+use std::thread::Threads;
+
+/// A run: a heap, flipped, what its mutators do, and what is left.
+pub struct Case {
+    pub name: &'static str,
+    pub heap: Heap,
+    pub mutators: u32,
+    pub fresh_pages: u32,
+    pub rows: &'static [Row],
+    /// Whether the first mutator settles behind the rows.
+    pub settles: bool,
+    /// Whether all mutators sweep behind that.
+    pub sweeps: bool,
+    /// How many words there are in the end.
+    pub live_words: u64,
+    /// Which pages each mutator built.
+    pub builds: &'static [&'static [u64]],
+}
+
+// A row of the mutator that it names.
+fn is_done<L: Named>(
+    alloc: Global,
+    space: &Space<L, Plan>,
+    mutators: &mut Vec<Mutator<L>>,
+    row: &Row,
+) -> bool
+    requires of { AreMutatorsOf space.now mutators.old.items }
+    ensures of { AreMutatorsOf space.now mutators.new.items }
+{
+    let number = row.0;
+    if number >= mutators.len() {
+        return false;
+    }
+    is_answered(alloc, space, &mut mutators[number], row)
+}
+
+// The rows of all mutators, one after another.
+fn are_answered<L: Named>(
+    alloc: Global,
+    space: &Space<L, Plan>,
+    mutators: &mut Vec<Mutator<L>>,
+    rows: &[Row],
+) -> bool
+    requires of { AreMutatorsOf space.now mutators.old.items }
+    ensures of { AreMutatorsOf space.now mutators.new.items }
+{
+    for row in rows {
+        if !is_done(alloc, space, mutators, row) {
+            return false;
+        }
+    }
+    true
+}
+
+// The first mutator settles, which takes no memory.
+fn is_settled<L: Named, R: Wait>(
+    rt: &R,
+    space: &Space<L, Plan>,
+    mutators: &mut Vec<Mutator<L>>,
+) -> bool
+    requires of { AreMutatorsOf space.now mutators.old.items }
+    ensures of { AreMutatorsOf space.now mutators.new.items }
+{
+    if mutators.is_empty() {
+        return false;
+    }
+    let m = &mut mutators[0];
+    let settled = space.settle(rt, m).is_ok();
+    let unposted = m.unposted();
+    settled && unposted == 0
+}
+
+// Each mutator built just these pages.
+fn are_builds(builds: &[Vec<u64>], wanted: &[&[u64]]) -> bool {
+    if builds.len() != wanted.len() {
+        return false;
+    }
+    for (number, built) in builds.iter().enumerate() {
+        if Some(&built.as_slice()) != wanted.get(number) {
+            return false;
+        }
+    }
+    true
+}
+
+// The finished heap is that of the run.
+fn is_end(finished: &Option<Finished>, case: &Case) -> bool {
+    match finished {
+        Some(finished) => {
+            finished.live_words() == case.live_words && are_builds(finished.builds(), case.builds)
+        }
+        None => false,
+    }
+}
+
+// A flipped heap, swept where the run has it so, and finished.
+fn ends<L: Named + Send, R: Threads + Wait + Sync>(
+    rt: &R,
+    alloc: Global,
+    space: Space<L, Plan>,
+    mutators: Vec<Mutator<L>>,
+    case: &Case,
+) -> bool
+    requires of { AreMutatorsOf space mutators.items }
+    requires whole { (setup_of space).mutators ≡ L.parts }
+{
+    let back = match case.sweeps {
+        true => swept(rt, alloc, &space, mutators),
+        false => Some(mutators),
+    };
+    match back {
+        Some(mutators) => is_end(&finish(alloc, space, mutators), case),
+        None => false,
+    }
+}
+
+// The run on a flipped heap.
+fn plays<L: Named + Send, R: Threads + Wait + Sync>(
+    rt: &R,
+    alloc: Global,
+    space: Space<L, Plan>,
+    mut mutators: Vec<Mutator<L>>,
+    case: &Case,
+) -> bool
+    requires of { AreMutatorsOf space mutators.items }
+    requires whole { (setup_of space).mutators ≡ L.parts }
+{
+    let answered = are_answered(alloc, &space, &mut mutators, case.rows);
+    let settled = !case.settles || is_settled(rt, &space, &mut mutators);
+    ends(rt, alloc, space, mutators, case) && answered && settled
+}
+
+// The run, where there is memory for its flip.
+fn plays_named<L: Named + Send, R: Threads + Wait + Sync>(
+    rt: &R,
+    alloc: Global,
+    blank: Blank,
+    plan: Arc<Plan>,
+    case: &Case,
+) -> Option<bool>
+    requires name { blank.name ≡ L.name }
+    requires parts { blank.parts ≡ L.parts }
+    requires count { blank.parts ≡ case.now.mutators }
+{
+    match flip::<L, Plan>(alloc, blank, plan, case.mutators, case.fresh_pages) {
+        Ok((space, mutators)) => Some(plays(rt, alloc, space, mutators, case)),
+        Err(FlipFault::OutOfMemory) => None,
+        Err(FlipFault::BadCounts) => Some(false),
+    }
+}
+
+// The run, where there is memory for its heap.
+fn plays_once<R: Threads + Wait + Sync>(rt: &R, alloc: Global, case: &Case) -> Option<bool> {
+    let plan = plan_of(rt, alloc, case.heap)?;
+    let blank = Blank::new(u64::from(case.mutators));
+    plays_named::<Brand, R>(rt, alloc, blank, plan, case)
+}
+
+/// The run goes as it has to. It begins anew where its heap was refused memory.
+pub fn is_played<R: Threads + Wait + Sync>(rt: &R, alloc: Global, case: &Case) -> bool {
+    match plays_once(rt, alloc, case) {
+        Some(well) => well,
+        None => plays_once(rt, alloc, case) == Some(true),
+    }
+}

@@ -1,0 +1,136 @@
+//! The runs of mutators.
+use crate::heaps::Heap;
+use crate::playing::Case;
+use crate::rows::{Call, Row};
+use call_refusals::refusal::Refusal;
+use heap_layout::kind::Kind;
+use worked_heaps::heaps::T;
+
+// The first address on the second page of to-space, and on the third.
+const SECOND: u64 = T + 64;
+
+const THIRD: u64 = T + 128;
+
+// A data word is written.
+const WRITTEN: Case = Case {
+    name: "a write",
+    heap: Heap::Three,
+    mutators: 1,
+    fresh_pages: 0,
+    rows: &[
+        Row(0, Call::Write(Kind::Data, T, 0, 7), 0, 0, Ok(0)),
+        Row(0, Call::Read(Kind::Data, T, 0), 0, 1, Ok(7)),
+    ],
+    settles: false,
+    sweeps: false,
+    live_words: 4,
+    builds: &[&[0]],
+};
+
+// Objects fill two fresh pages.
+const ALLOCATED: Case = Case {
+    name: "allocations",
+    heap: Heap::Smallest,
+    mutators: 1,
+    fresh_pages: 2,
+    rows: &[
+        Row(0, Call::Alloc(0, 63, 0), 1, 0, Ok(SECOND)),
+        Row(0, Call::Alloc(0, 0, 5), 2, 0, Ok(THIRD)),
+        Row(0, Call::Alloc(0, 64, 0), 2, 1, Err(Refusal::ObjectTooLarge)),
+        Row(0, Call::Alloc(0, 63, 0), 2, 1, Err(Refusal::OutOfPages)),
+        Row(0, Call::Alloc(0, 62, 0), 2, 1, Ok(THIRD + 1)),
+        Row(0, Call::Alloc(0, 0, 0), 2, 2, Err(Refusal::OutOfPages)),
+    ],
+    settles: false,
+    sweeps: false,
+    live_words: 129,
+    builds: &[&[1, 2]],
+};
+
+// A page is touched.
+const TOUCHED: Case = Case {
+    name: "a touch",
+    heap: Heap::Zeros(255),
+    mutators: 1,
+    fresh_pages: 0,
+    rows: &[
+        Row(0, Call::Touch(3), 3, 0, Ok(1)),
+        Row(0, Call::Touch(3), 3, 0, Ok(0)),
+    ],
+    settles: false,
+    sweeps: false,
+    live_words: 256,
+    builds: &[&[3]],
+};
+
+// Two mutators make objects, and the first settles.
+const SETTLED: Case = Case {
+    name: "allocations that are settled",
+    heap: Heap::Zeros(9),
+    mutators: 2,
+    fresh_pages: 2,
+    rows: &[
+        Row(0, Call::Alloc(0, 2, 0), 1, 0, Ok(SECOND)),
+        Row(1, Call::Alloc(1, 3, 0), 2, 0, Ok(THIRD)),
+    ],
+    settles: true,
+    sweeps: false,
+    live_words: 18,
+    builds: &[&[1], &[2]],
+};
+
+// Objects refer to one another across mutators.
+const REFERRED: Case = Case {
+    name: "references to new objects",
+    heap: Heap::Three,
+    mutators: 2,
+    fresh_pages: 2,
+    rows: &[
+        Row(0, Call::Alloc(1, 0, 4), 1, 0, Ok(SECOND)),
+        Row(
+            0,
+            Call::Write(Kind::Reference, SECOND, 0, T + 2),
+            1,
+            1,
+            Ok(1),
+        ),
+        Row(
+            0,
+            Call::Write(Kind::Reference, T + 2, 0, SECOND),
+            0,
+            0,
+            Ok(2),
+        ),
+        Row(1, Call::Read(Kind::Reference, SECOND, 0), 1, 2, Ok(T + 2)),
+        Row(1, Call::Read(Kind::Reference, T + 2, 0), 0, 1, Ok(SECOND)),
+        Row(1, Call::Write(Kind::Reference, SECOND, 0, 0), 1, 2, Ok(3)),
+        Row(1, Call::Alloc(0, 0, 0), 2, 0, Ok(THIRD)),
+        Row(0, Call::Copy(1), 1, 3, Ok(3)),
+    ],
+    settles: false,
+    sweeps: false,
+    live_words: 7,
+    builds: &[&[1, 0], &[2]],
+};
+
+// One worker sweeps twenty pages.
+const SWEPT: Case = Case {
+    name: "a sweep",
+    heap: Heap::Twenty,
+    mutators: 1,
+    fresh_pages: 0,
+    rows: &[],
+    settles: false,
+    sweeps: true,
+    live_words: 1_280,
+    builds: &[&[
+        0, 1, 2, 3, 4, 5, 6, 7, 8, 9, 10, 11, 12, 13, 14, 15, 16, 17, 18, 19,
+    ]],
+};
+
+static CASES: [Case; 6] = [WRITTEN, ALLOCATED, TOUCHED, SETTLED, REFERRED, SWEPT];
+
+/// All of them.
+pub fn cases() -> &'static [Case] {
+    &CASES
+}
