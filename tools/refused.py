@@ -1,0 +1,142 @@
+"""The work of tools/refuse-each-allocation.
+
+usage: refused.py RUNS PROGRAM
+"""
+import os
+import re
+import struct
+import subprocess
+import sys
+import tempfile
+from pathlib import Path
+
+HERE = Path(__file__).resolve().parent
+FROM = 1 << 32
+BEFORE = b"what was there before"
+NAMED = re.compile(
+    r"compressor: (P7 OutOfMemory|H11 OutOfMemory|B5 OutOfMemory|T7 OutOfMemory|M8 OutOfMemory|W1 OutOfMemory\(\d+\)|W3 Resources"
+    r"|T6 Refused\(\d+, M8 OutOfMemory\))\n"
+)
+
+
+def image(words, marks, roots, version=1):
+    packed = b"COMPHEAP" + struct.pack("<IIII", version, len(words), len(marks), len(roots))
+    return packed + struct.pack(f"<{len(words)}Q", *words) + struct.pack(f"<{len(marks)}I", *marks) + struct.pack(f"<{len(roots)}Q", *roots)
+
+
+THREE = image([65536 + FROM, 11, 65537 + 2 * FROM, 0, 22, 1 + 3 * FROM, FROM], [0, 5], [FROM + 5])
+TWENTY = image(([639 << 16] + [0] * 639) * 2, [0, 640], [])
+SEEN = b"0 root 0 0\n0 load 1 0 0\n0 put 1 0 7\n1 root 0 0\n1 load 1 0 0\n1 get 1 0\n"
+FRESH = b"0 root 0 0\n0 new 1 0 0 0\n0 store 0 0 1\n"
+KEPT = b"2\n64\n"
+FILES = {"three.img": THREE, "twenty.img": TWENTY, "seen.trace": SEEN, "fresh.trace": FRESH, "kept.marks": KEPT}
+
+# the words of a command, what it prints, and how long its dump or its new image is, where it writes one
+COMMANDS = [
+    ("word three.img 2", ["12884901889\n"], None),
+    ("plan three.img", ["live 4\npages 1\npage 0 first 0\nroot 0 8589934594\n"], None),
+    ("compact --workers 1 twenty.img left.dump", ["live 1280\n"], 10460),
+    ("compact --workers 2 twenty.img left.dump", ["live 1280\n"], 10464),
+    ("replay three.img seen.trace left.dump", ["6 7\nlive 4\n"], 656),
+    ("replay --mutators 1 --fresh 2 three.img fresh.trace left.dump", ["live 5\n"], 1129),
+    ("race three.img seen.trace left.dump", ["6 7\nlive 4\n", "6 11\nlive 4\n"], 656),
+    ("audit three.img fresh.dump", ["ok 5\n"], None),
+    ("next --mutators 1 --fresh 2 three.img fresh.trace kept.marks left.dump", ["live 3\n"], 1576),
+    ("--help", None, None),
+]
+
+
+class Refusing:
+    def __init__(self, folder):
+        self.folder = Path(folder)
+        self.shim = self.folder / "refuse.so"
+        page = subprocess.run(["rt", "doc"], check=True, capture_output=True, text=True).stdout.strip()
+        compiler = Path(page).parent / "toolchain" / "bin" / "clang"
+        words = ["-O1", "-shared", "-fPIC", "-nostdlib", "-fuse-ld=lld", "-o", str(self.shim), str(HERE / "refuse.c")]
+        subprocess.run([str(compiler), *words], check=True)
+        self.told = self.folder / "told"
+        self.faults = 0
+
+    def run(self, number, words):
+        """A run whose allocation of this number fails, and whether it had one."""
+        self.told.unlink(missing_ok=True)
+        env = {**os.environ, "LD_PRELOAD": str(self.shim), "REFUSE": str(number), "REFUSE_TOLD": str(self.told)}
+        try:
+            ran = subprocess.run(words, cwd=self.folder, env=env, capture_output=True, timeout=60, stdin=subprocess.DEVNULL)
+        except subprocess.TimeoutExpired:
+            return None, True
+        return ran, self.told.exists()
+
+    def fault(self, name, number, told):
+        self.faults += 1
+        print(f"{name}: allocation {number}: {told}", flush=True)
+
+    def each(self, name, words, judge, prepare=lambda: None):
+        """Each allocation of a run in turn, until a run has none of that number."""
+        number, met, refused = 1, True, 0
+        while met:
+            prepare()
+            ran, met = self.run(number, words)
+            if ran is None:
+                self.fault(name, number, "no end within 60 seconds")
+            else:
+                wrong = judge(ran, met)
+                refused += ran.returncode == 1
+                if wrong:
+                    self.fault(name, number, f"{wrong}: status {ran.returncode}, {ran.stdout[-200:]!r}, {ran.stderr[-200:]!r}")
+            number += 1
+            if self.faults > 20:
+                break
+        if number <= 2:
+            self.fault(name, 1, "no allocation was met")
+        print(f"{name}: {number - 2} allocations, {refused} of which end it, by name", flush=True)
+
+    def command(self, program, line, prints, length):
+        dump = self.folder / "left.dump"
+
+        def prepare():
+            dump.write_bytes(BEFORE)
+
+        def judge(ran, met):
+            if list(self.folder.glob(".compressor-*")):
+                for it in self.folder.glob(".compressor-*"):
+                    it.unlink()
+                return "a file is left beside the path"
+            if ran.returncode == 0:
+                whole = prints is None or ran.stdout.decode() in prints
+                left = dump.read_bytes() == BEFORE if length is None else len(dump.read_bytes()) == length
+                return None if whole and left and not ran.stderr else "not the whole answer"
+            if ran.returncode != 1 or not met or not NAMED.fullmatch(ran.stderr.decode(errors="replace")):
+                return "not refused by name"
+            if dump.read_bytes() != BEFORE:
+                return "what was at the path is lost"
+            # behind a refused line of a race the values of all mutators stand
+            stopped = b"T6 Refused(" in ran.stderr
+            return None if stopped or not ran.stdout else "printed something"
+
+        self.each(line, [program, *line.split()], judge, prepare)
+
+
+def main():
+    runs, program = str(Path(sys.argv[1]).resolve()), str(Path(sys.argv[2]).resolve())
+    with tempfile.TemporaryDirectory(prefix="refuse-") as folder:
+        refusing = Refusing(folder)
+        for name, content in FILES.items():
+            (refusing.folder / name).write_bytes(content)
+        words = "replay --mutators 1 --fresh 2 three.img fresh.trace fresh.dump"
+        subprocess.run([program, *words.split()], cwd=folder, check=True, capture_output=True)
+        whole, _ = refusing.run(0, [runs])
+        if whole is None or whole.returncode or b"NOT" in whole.stdout:
+            refusing.fault("refused_runs", 0, "not as it has to be where nothing is refused")
+        else:
+            refusing.each(
+                "refused_runs",
+                [runs],
+                lambda ran, met: None if (ran.returncode, ran.stdout, ran.stderr) == (0, whole.stdout, b"") else "another text",
+            )
+        for line, prints, length in COMMANDS:
+            refusing.command(program, line, prints, length)
+    sys.exit(1 if refusing.faults else 0)
+
+
+main()

@@ -1,0 +1,214 @@
+"""The work of tools/soak: heaps and traces that look random, and the program's runs on them.
+
+usage: soaked.py PROGRAM MINUTES SEED
+"""
+import random
+import re
+import struct
+import subprocess
+import sys
+import tempfile
+import time
+from pathlib import Path
+
+FROM = 1 << 32
+TO = 1 << 33
+SECONDS = 60
+REFUSED = re.compile(r"compressor: T6 Refused\(\d+, M(1 Null|3 NoSuchField|4 ObjectTooLarge|5 OutOfPages|6 Busy\(\d+\)|7 JournalFull\(\d+\)|11 NotInEdition)\)\n")
+
+
+def header(edition, refs, weak, data, tag):
+    if edition == 1:
+        return refs + (data << 16) + (tag << 32)
+    return refs + (data << 16) + (weak << 32) + (tag << 48)
+
+
+def sizes(edition, word):
+    """How many references and how many words the object of a header has."""
+    if edition == 1:
+        return word & 65535, 1 + (word & 65535) + (word >> 16 & 65535)
+    return word & 65535, 1 + (word & 65535) + (word >> 16 & 65535) + (word >> 32 & 65535)
+
+
+def left(dump):
+    """The roots of a dump, the words of each page, or nothing where it was never built, and the indices at which new objects start."""
+    at = 8
+
+    def take(form):
+        nonlocal at
+        got = struct.unpack_from("<" + form, dump, at)
+        at += struct.calcsize("<" + form)
+        return got
+
+    _, _, _, count, named = take("IIIII")
+    roots, pages, starts = take(f"{named}Q"), [], []
+    for p in range(count):
+        if not take("B")[0]:
+            pages.append(None)
+            continue
+        pages.append(take("64Q"))
+        for _ in range(take("I")[0]):
+            _, _, kind, offset, _ = take("QBBBQ")
+            if kind == 0:
+                starts.append(64 * p + offset)
+    return roots, pages, starts
+
+
+def heap(draw):
+    """The bytes of an image, its edition, how many roots and live words it has, and where its marked objects start once they slid."""
+    edition = draw.choice((1, 2))
+    shapes = []
+    for _ in range(draw.randint(0, 40)):
+        weak = draw.randint(0, 2) if edition == 2 else 0
+        shapes.append((draw.randint(0, 3), weak, draw.choice((0, 1, 2, 5, 60, 200)), draw.randint(0, 65535)))
+    starts, at = [], 0
+    for refs, weak, data, _ in shapes:
+        starts.append(at)
+        at += 1 + refs + weak + data
+    often = draw.random()
+    marked = [k for k in range(len(shapes)) if draw.random() < often]
+    words = []
+    for k, (refs, weak, data, tag) in enumerate(shapes):
+        words.append(header(edition, refs, weak, data, tag))
+        for _ in range(refs):
+            lead = draw.choice(marked) if marked and draw.random() < 0.8 else None
+            words.append(0 if lead is None else FROM + starts[lead])
+        for _ in range(weak):
+            words.append(FROM + draw.choice(starts) if draw.random() < 0.8 else 0)
+        words += [draw.getrandbits(64) for _ in range(data)]
+    marks = [starts[k] for k in marked]
+    roots = [FROM + draw.choice(marks) if marks and draw.random() < 0.9 else 0 for _ in range(draw.randint(1, 5))]
+    live, slid = 0, []
+    for k in marked:
+        slid.append(live)
+        live += 1 + sum(shapes[k][:3])
+    image = b"COMPHEAP" + struct.pack("<IIII", edition, len(words), len(marks), len(roots))
+    image += struct.pack(f"<{len(words)}Q", *words) + struct.pack(f"<{len(marks)}I", *marks) + struct.pack(f"<{len(roots)}Q", *roots)
+    return image, edition, len(roots), live, slid
+
+
+def trace(draw, edition, mutators, roots):
+    """A text that is lawful; some of its lines may be refused."""
+    lines = []
+    for m in range(mutators):
+        lines.append(f"{m} root 0 {draw.randrange(roots)}")
+    for _ in range(draw.randint(0, 400)):
+        m, d, s, v = draw.randrange(mutators), *(draw.randrange(4) for _ in range(3))
+        kind = draw.random()
+        weak = "w" if edition == 2 and draw.random() < 0.3 else ""
+        if kind < 0.15:
+            lines.append(f"{m} root {d} {draw.randrange(roots)}")
+        elif kind < 0.4:
+            lines.append(f"{m} {weak}load {d} {s} {draw.randrange(2)}")
+        elif kind < 0.6:
+            lines.append(f"{m} get {s} {draw.randrange(2)}")
+        elif kind < 0.75:
+            lines.append(f"{m} {weak}store {s} {draw.randrange(2)} {v}")
+        elif kind < 0.9:
+            lines.append(f"{m} put {s} {draw.randrange(2)} {draw.getrandbits(64)}")
+        else:
+            lines.append(f"{m} new {d} {draw.randrange(3)} {draw.randrange(3)} {draw.randrange(65536)}")
+    # a mutator whose registers are null is refused soon: most traces end before that
+    return "".join(f"{line}\n" for line in lines[: draw.choice((mutators, mutators + 5, mutators + 40, len(lines)))])
+
+
+class Soak:
+    def __init__(self, program, folder):
+        self.program, self.folder = program, Path(folder)
+        self.runs = self.refused = self.faults = 0
+
+    def fault(self, seed, told):
+        self.faults += 1
+        print(f"seed {seed}: {told}", flush=True)
+
+    def run(self, seed, *words):
+        """What a run printed, or nothing where it was refused by name or is at fault."""
+        self.runs += 1
+        try:
+            ran = subprocess.run([self.program, *words], cwd=self.folder, capture_output=True, text=True, timeout=SECONDS)
+        except subprocess.TimeoutExpired:
+            return self.fault(seed, f"{' '.join(words)}: no end within {SECONDS} seconds")
+        if ran.returncode == 0 and not ran.stderr:
+            return ran.stdout
+        if ran.returncode == 1 and REFUSED.fullmatch(ran.stderr):
+            self.refused += 1
+            return None
+        return self.fault(seed, f"{' '.join(words)}: status {ran.returncode}, {ran.stderr.strip()!r}")
+
+    def audited(self, seed, what, printed):
+        """The dump that a run left passes, and has the live words that it printed."""
+        live = printed.splitlines()[-1].removeprefix("live ")
+        judged = self.run(seed, "audit", "heap.img", "left.dump")
+        if judged is not None and judged != f"ok {live}\n":
+            self.fault(seed, f"{what}: live {live}, and the audit says {judged!r}")
+
+    def followed(self, seed, draw, edition, slid, swept, few, printed):
+        """The next cycle behind a replay, by marks that look random: its heap is planned, compacted and audited."""
+        roots, pages, made = left((self.folder / "left.dump").read_bytes())
+        zeros = (0,) * 64
+        words = [word for p, page in enumerate(pages) for word in page or (swept[p] if p < len(swept) else zeros)]
+        starts, often, marks = slid + made, draw.random(), set()
+        seek = [root - TO for root in roots if root] + [at for at in starts if draw.random() < often]
+        while seek:
+            at = seek.pop()
+            if at not in marks:
+                marks.add(at)
+                seek += [word - TO for word in words[at + 1 : at + 1 + sizes(edition, words[at])[0]] if word]
+        live = f"live {sum(sizes(edition, words[at])[1] for at in marks)}\n"
+        (self.folder / "heap.marks").write_text("".join(f"{at}\n" for at in sorted(marks)))
+        lines = "".join(printed.splitlines(True)[:-1])
+        for what, told in (
+            (("next", *few, "heap.img", "heap.trace", "heap.marks", "next.img"), lines + live),
+            (("compact", "next.img", "next.dump"), live),
+            (("audit", "next.img", "next.dump"), live.replace("live", "ok")),
+        ):
+            answer = self.run(seed, *what)
+            if answer is None:
+                return
+            if answer != told:
+                self.fault(seed, f"{' '.join(what)}: {answer!r} in place of {told!r}")
+        plan = self.run(seed, "plan", "next.img")
+        if plan is not None and not plan.startswith(live):
+            self.fault(seed, f"plan next.img: {plan[:40]!r} in place of {live!r}")
+
+    def step(self, seed):
+        draw = random.Random(seed)
+        image, edition, roots, live, slid = heap(draw)
+        (self.folder / "heap.img").write_bytes(image)
+        workers = draw.choice((1, 2, 3, 4, 8, 64))
+        printed = self.run(seed, "compact", "--workers", str(workers), "heap.img", "left.dump")
+        if printed is not None:
+            if printed != f"live {live}\n":
+                self.fault(seed, f"compact: {printed!r} in place of live {live}")
+            self.audited(seed, "compact", printed)
+        swept = left((self.folder / "left.dump").read_bytes())[1] if printed is not None else None
+        mutators = draw.choice((1, 2, 4, 16, 64))
+        (self.folder / "heap.trace").write_text(trace(draw, edition, mutators, roots))
+        few = ("--mutators", str(mutators), "--fresh", str(draw.choice((0, mutators, 2 * mutators))))
+        shown = []
+        for command in ("replay", "race"):
+            printed = self.run(seed, command, *few, "heap.img", "heap.trace", "left.dump")
+            if printed is not None:
+                self.audited(seed, command, printed)
+                if command == "replay" and swept is not None:
+                    self.followed(seed, draw, edition, slid, swept, few, printed)
+            shown.append(printed)
+        if mutators == 1 and shown[0] != shown[1]:
+            self.fault(seed, f"one mutator: a replay prints {shown[0]!r}, a race {shown[1]!r}")
+        if list(self.folder.glob(".compressor-*")):
+            self.fault(seed, "a file is left beside a dump or a new image")
+
+
+def main():
+    program, minutes, seed = Path(sys.argv[1]).resolve(), int(sys.argv[2]), int(sys.argv[3])
+    end = time.monotonic() + 60 * minutes
+    with tempfile.TemporaryDirectory(prefix="soak-") as folder:
+        soak = Soak(program, folder)
+        while time.monotonic() < end:
+            soak.step(seed)
+            seed += 1
+        print(f"{soak.runs} runs, {soak.refused} of them refused by name, {soak.faults} faults; the next seed is {seed}")
+    sys.exit(1 if soak.faults else 0)
+
+
+main()
