@@ -93,9 +93,16 @@ class Refusing:
 
     def command(self, program, line, prints, length):
         dump = self.folder / "left.dump"
+        words = [program, *line.split()]
 
         def prepare():
             dump.write_bytes(BEFORE)
+
+        # What it writes where nothing is refused: the same each time, but where threads run side by side.
+        prepare()
+        self.run(0, words)
+        wanted = dump.read_bytes()
+        alone = not line.startswith("race ") and "--workers 2" not in line
 
         def judge(ran, met):
             if list(self.folder.glob(".compressor-*")):
@@ -104,17 +111,20 @@ class Refusing:
                 return "a file is left beside the path"
             if ran.returncode == 0:
                 whole = prints is None or ran.stdout.decode() in prints
-                left = dump.read_bytes() == BEFORE if length is None else len(dump.read_bytes()) == length
-                return None if whole and left and not ran.stderr else "not the whole answer"
+                left = dump.read_bytes()
+                same = left == wanted if alone else len(left) == len(wanted)
+                return None if whole and same and not ran.stderr else "not the whole answer"
             if ran.returncode != 1 or not met or not NAMED.fullmatch(ran.stderr.decode(errors="replace")):
                 return "not refused by name"
             if dump.read_bytes() != BEFORE:
                 return "what was at the path is lost"
-            # behind a refused line of a race the values of all mutators stand
-            stopped = b"T6 Refused(" in ran.stderr
-            return None if stopped or not ran.stdout else "printed something"
+            # No value is shown before the refused line of a replay; in a race the other mutator may have shown one.
+            shown = [b"", b"6 7\n", b"6 11\n"] if line.startswith("race ") and b"T6 Refused(" in ran.stderr else [b""]
+            return None if ran.stdout in shown else "printed something else"
 
-        self.each(line, [program, *line.split()], judge, prepare)
+        if len(wanted) != (len(BEFORE) if length is None else length):
+            self.fault(line, 0, f"{len(wanted)} bytes where nothing is refused")
+        self.each(line, words, judge, prepare)
 
 
 def main():

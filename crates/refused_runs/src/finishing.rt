@@ -15,12 +15,47 @@ use std::sync::Wait;
 use std::sync::ledger::Ledger as Named;
 use std::thread::Threads;
 
-// Finishes what was handed back where memory was refused.
-fn finish_again<L: Named>(alloc: Global, left: Unfinished<L, Plan>) -> Option<Finished>
+// What mutators wrote, what they have not posted, and how many pages they built, in all.
+#[derive(Clone, Copy)]
+struct Work {
+    entries: u64,
+    unposted: u64,
+    builds: usize,
+}
+
+fn work_of<L: Named>(mutators: &[Mutator<L>]) -> Work {
+    let mut work = Work {
+        entries: 0,
+        unposted: 0,
+        builds: 0,
+    };
+    for m in mutators {
+        work.entries = work.entries.wrapping_add(m.entries());
+        work.unposted = work.unposted.wrapping_add(m.unposted());
+        work.builds = work.builds.wrapping_add(m.builds().len());
+    }
+    work
+}
+
+// Nothing was written or posted in between.
+fn wrote_nothing(before: Work, after: Work) -> bool {
+    after.entries == before.entries && after.unposted == before.unposted
+}
+
+// Finishes what was handed back where memory was refused; the mutators are as they were.
+fn finish_again<L: Named>(
+    alloc: Global,
+    left: Unfinished<L, Plan>,
+    before: Work,
+) -> Option<Finished>
     requires of { AreMutatorsOf left.space left.mutators.items }
     requires whole { (setup_of left.space).mutators ≡ L.parts }
     ensures flipped { IfSome result (IsOfFlip (setup_of left.space).mutators (setup_of left.space).fresh) }
 {
+    let after = work_of(&left.mutators);
+    if !wrote_nothing(before, after) || after.builds != before.builds {
+        return None;
+    }
     match left.fault {
         FinishFault::OutOfMemory => match left.space.finish(alloc, left.mutators) {
             Ok(finished) => Some(finished),
@@ -40,9 +75,10 @@ pub fn finish<L: Named>(
     requires whole { (setup_of space).mutators ≡ L.parts }
     ensures flipped { IfSome result (IsOfFlip (setup_of space).mutators (setup_of space).fresh) }
 {
+    let before = work_of(&mutators);
     match space.finish(alloc, mutators) {
         Ok(finished) => Some(finished),
-        Err(left) => finish_again(alloc, left),
+        Err(left) => finish_again(alloc, left, before),
     }
 }
 
@@ -55,7 +91,7 @@ fn is_memory(fault: SweepFault, pages: u64) -> bool {
     }
 }
 
-/// All mutators, which have swept the heap. Where memory was refused they have not, and do so again.
+/// All mutators, which have swept the heap. Where memory was refused they have not, wrote nothing and lost no build, and sweep again.
 pub fn swept<L: Named + Send, R: Threads + Wait + Sync>(
     rt: &R,
     alloc: Global,
@@ -65,10 +101,13 @@ pub fn swept<L: Named + Send, R: Threads + Wait + Sync>(
     requires of { AreMutatorsOf space.now mutators.items }
     ensures of { IfSome result (λ back. AreMutatorsOf space.now back.items) }
 {
+    let before = work_of(&mutators);
     let back = match sweep(alloc, rt, space, mutators, &Open) {
         Ok(report) => return Some(report.mutators),
         Err(refused) => {
-            if !is_memory(refused.fault, space.compacted_pages()) {
+            let after = work_of(&refused.mutators);
+            let same = wrote_nothing(before, after) && after.builds >= before.builds;
+            if !same || !is_memory(refused.fault, space.compacted_pages()) {
                 return None;
             }
             refused.mutators
