@@ -1,0 +1,27 @@
+//! The example on a heap of three objects.
+use crate::cycle::compact;
+use comp_audit::verdict::Verdict;
+use heap_layout::heap::MarkedHeap;
+use std::alloc::Global;
+use std::process::Abort;
+use std::sync::Wait;
+use std::thread::Threads;
+use worked_heaps::heaps::three;
+
+fn three_objects(rt: &impl Abort, alloc: Global) -> MarkedHeap {
+    match three(alloc) {
+        Ok(heap) => heap,
+        Err(_) => panic!(rt; "memory for a heap"),
+    }
+}
+
+// The heap is compacted, and the audit says yes.
+fn expect_yes<R: Abort + Threads + Wait + Sync>(rt: &R, alloc: Global) {
+    let verdict = compact(alloc, rt, three_objects(rt, alloc));
+    assert!(rt; verdict == Some(Verdict::Yes));
+}
+
+#[test]
+fn compacts_three_objects(rt: HostRuntime) {
+    expect_yes(&rt, rt.alloc());
+}
