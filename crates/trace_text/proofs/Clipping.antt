@@ -1,5 +1,5 @@
 -- Numbers that are clipped are judged as those that are not.
-use Rattle.std.proofs.Common.{◌≡◌, ℕ, ◌^◌, ◌<◌, ◌||◌, Bool, true, false, cond, List, [], ◌∷◌, map, Option, Some, None, Result, Ok, Err, option_map, refl, sym, ap, ◌∙◌, arith, nat_le, codes, inl, inr}
+use Rattle.std.proofs.Common.{◌≡◌, ℕ, ◌^◌, ◌<◌, ◌≤◌, ◌||◌, Bool, true, false, cond, List, [], ◌∷◌, map, Option, Some, None, Result, Ok, Err, option_map, refl, sym, ap, ◌∙◌, arith, nat_le, codes, inl, inr}
 use Rattle.std.proofs.lemmas.Bool.{leb-false, le-leb, lt-leb, or_parts, cases_lt}
 use Rattle.std.specs.List.{list_any}
 use Rattle.std.specs.Str.{bytes_eq}
@@ -11,7 +11,7 @@ use Rattle.trace_text.specs.Grammar.{clipped, judged, line_with, registers_of, i
 
 -- a bound that is told apart
 abbrev IsBound : ℕ → Type 0
-IsBound b = b < 2 ^ 128
+IsBound b = b ≤ 2 ^ 64
 
 le : (b x : ℕ) → IsBound b → nat_le b (clipped x) ≡ nat_le b x
 le b x bound = elim (cases_lt x b) [

@@ -1,25 +1,12 @@
 -- Marks that are read one after the other.
-use Rattle.std.proofs.Common.{◌≡◌, ℕ, ◌+◌, ◌^◌, List, [], ◌∷◌, ◌++◌, Option, Some, None, Result, Ok, Err, option_map, refl, sym, ap, ◌∙◌, arith, append_assoc, inl, inr}
+use Rattle.std.proofs.Common.{◌≡◌, ℕ, ◌+◌, ◌^◌, ◌<◌, List, [], ◌∷◌, ◌++◌, length, Option, Some, None, Result, Ok, Err, refl, sym, ap, subst, ◌∙◌, arith, append_assoc, length-append, inl, inr, ne_eqb}
 use Rattle.std.specs.Prelude.{option_and_then}
-use Rattle.std.proofs.lemmas.Bool.{cases_lt, le-leb}
+use Rattle.std.proofs.lemmas.Bool.{cases_lt, le-leb, lt-leb}
 use Rattle.trace_text.specs.Grammar.{clipped, number_of, parts}
-use Rattle.trace_text.specs.Marks.{mark_before, mark_of, marks_from, short_number}
+use Rattle.trace_text.specs.Marks.{mark_before, mark_of, marks_from, short_number, MarkBefore}
 use Rattle.trace_text.proofs.Lines.{some_part}
-
--- a number that is clipped is one of 32 bits where the number is
-short_clipped : (n : ℕ) → short_number (clipped n) ≡ short_number n
-short_clipped n = elim (cases_lt n (2 ^ 32)) [
-  | inl lt ↦ let same : clipped n ≡ n = omega arith in ap short_number same
-  | inr ge ↦ rw (le-leb (2 ^ 32) (clipped n) (omega (arith, ge)), le-leb (2 ^ 32) n ge) refl
-]
-
-clipped_short : (o : Option ℕ) → option_and_then short_number (option_map clipped o) ≡ option_and_then short_number o
-clipped_short None = refl
-clipped_short (Some n) = short_clipped n
-
--- the mark of a line is told by its clipped number
-pub mark_clipped : (line : List ℕ) (read : Option ℕ) → read ≡ option_map clipped (number_of line) → option_and_then short_number read ≡ mark_of line
-mark_clipped line read e = ap (option_and_then short_number) e ∙ clipped_short (number_of line)
+use Rattle.trace_text.proofs.LineForms.{all_digits}
+use Rattle.trace_text.proofs.Splits.{cut_at, digits_without, first_cut, uncut}
 
 -- these marks stand before what was read behind them
 abbrev pub behind : List ℕ → Result (List ℕ) ℕ → Result (List ℕ) ℕ
@@ -35,17 +22,59 @@ pub at_first : (read : Result (List ℕ) ℕ) → read ≡ behind [] read
 at_first (Ok marks) = refl
 at_first (Err line) = refl
 
+-- a mark before a line feed is the first line
+mark_line : (text : List ℕ) (mark : ℕ) (rest : List ℕ) → MarkBefore text mark rest → (line : List ℕ) × (text ≡ line ++ 10 ∷ rest) × (parts 10 text ≡ line ∷ parts 10 rest) × (mark_of line ≡ Some mark)
+mark_line text mark rest h =
+    let line = h.1.0 in
+    (line, h.1.1, ap (parts 10) h.1.1 ∙ cut_at 10 line rest (digits_without 10 line refl (all_digits line mark h.1.2)), ap (option_and_then short_number) h.1.2 ∙ rw (lt-leb (2 ^ 32) mark h.0) refl)
+
+pub mark_less : (text : List ℕ) (mark : ℕ) (rest : List ℕ) → MarkBefore text mark rest → length rest < length text
+mark_less text mark rest h = omega (arith, ap length h.1.1, length-append h.1.0 (10 ∷ rest))
+
+-- a number that is not below 2 ^ 32 is no mark
+pub large_mark : (k n mark : ℕ) → None ≡ short_number k → k ≡ clipped n → n ≡ mark → mark < 2 ^ 32 → ⊥
+large_mark k n mark e is same lt = let small : k < 2 ^ 32 = omega (arith, is, same, lt) in none_apart k (e ∙ rw (lt-leb (2 ^ 32) k small) refl)
+  where
+    none_apart : (a : ℕ) → None ≡ Some a → ⊥
+    none_apart a h = absurd cc
+
 -- a mark that is read, and those behind it
-pub one_more : (n : ℕ) (text line more : List ℕ) (front : List ℕ) (mark : ℕ) → parts 10 text ≡ line ∷ parts 10 more → Some mark ≡ mark_of line
-    → behind front (marks_from n (parts 10 text)) ≡ behind (front ++ mark ∷ []) (marks_from (n + 1) (parts 10 more))
-one_more n text line more front mark p q =
+pub one_more : (n : ℕ) (text more front : List ℕ) (mark : ℕ) → MarkBefore text mark more → behind front (marks_from n (parts 10 text)) ≡ behind (front ++ mark ∷ []) (marks_from (n + 1) (parts 10 more))
+one_more n text more front mark h =
+    let line = mark_line text mark more h in
     let next = some_part 10 more in
-    let read : marks_from n (parts 10 text) ≡ mark_before n (Some mark) (marks_from (n + 1) (parts 10 more)) = rw (p, next.2, q) refl in
+    let read : marks_from n (parts 10 text) ≡ mark_before n (Some mark) (marks_from (n + 1) (parts 10 more)) = rw (line.2, next.2, line.3) refl in
     ap (behind front) read ∙ regroup front n mark (marks_from (n + 1) (parts 10 more))
 
--- a line that is no mark
-pub one_refused : (n : ℕ) (text line more : List ℕ) (front : List ℕ) → parts 10 text ≡ line ∷ parts 10 more → None ≡ mark_of line → behind front (marks_from n (parts 10 text)) ≡ Err n
-one_refused n text line more front p q =
-    let next = some_part 10 more in
-    let read : marks_from n (parts 10 text) ≡ Err n = rw (p, next.2) (ap (λ (o : Option ℕ). mark_before n o (marks_from (n + 1) (next.0 ∷ next.1))) (sym q)) in
-    ap (behind front) read
+-- a line that is a number of 32 bits is a mark
+short_mark : (o : Option ℕ) (mark : ℕ) → option_and_then short_number o ≡ Some mark → (o ≡ Some mark) × (mark < 2 ^ 32)
+short_mark None mark e = absurd cc
+short_mark (Some n) mark e = elim (cases_lt n (2 ^ 32)) [
+  | inl lt ↦ let same : n ≡ mark = inside n mark (sym (rw (lt-leb (2 ^ 32) n lt) refl) ∙ e) in (ap (λ (k : ℕ). Some k) same, subst (λ (k : ℕ). k < 2 ^ 32) same lt)
+  | inr ge ↦ absurd (apart mark (sym (rw (le-leb (2 ^ 32) n ge) refl) ∙ e))
+]
+  where
+    inside : (a b : ℕ) → Some a ≡ Some b → a ≡ b
+    inside a b e = cc
+
+    apart : (b : ℕ) → None ≡ Some b → ⊥
+    apart b e = absurd cc
+
+none_or : (o : Option ℕ) → ((mark : ℕ) → o ≡ Some mark → ⊥) → o ≡ None
+none_or None f = refl
+none_or (Some mark) f = absurd (f mark refl)
+
+-- a text that begins with none
+pub one_refused : (n : ℕ) (text front : List ℕ) → 0 < length text → ((mark : ℕ) (rest : List ℕ) → MarkBefore text mark rest → ⊥) → behind front (marks_from n (parts 10 text)) ≡ Err n
+one_refused n text front some none = elim (first_cut 10 text) [
+  | inl without ↦ ap (λ (ps : List (List ℕ)). behind front (marks_from n ps)) (uncut 10 text without) ∙ ap (behind front) (last_refused n text some)
+  | inr c ↦
+      let next = some_part 10 c.1 in
+      let there : parts 10 text ≡ c.0 ∷ parts 10 c.1 = ap (parts 10) c.2 ∙ cut_at 10 c.0 c.1 c.3 in
+      let is : mark_of c.0 ≡ None = none_or (mark_of c.0) (λ mark e. let short = short_mark (number_of c.0) mark e in none mark c.1 (short.1, (c.0, c.2, short.0))) in
+      let read : marks_from n (parts 10 text) ≡ Err n = rw (there, next.2, is) refl in
+      ap (behind front) read
+]
+  where
+    last_refused : (n : ℕ) (text : List ℕ) → 0 < length text → marks_from n (text ∷ []) ≡ Err n
+    last_refused n text some = rw (ne_eqb (length text) 0 (λ e. omega (arith, e, some))) refl

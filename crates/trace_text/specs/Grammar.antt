@@ -1,5 +1,5 @@
 -- What the text of a trace says, line by line.
-use Rattle.std.specs.Prelude.{◌≡◌, ℕ, ◌+◌, ◌-◌, ◌^◌, ◌==◌, ◌&&◌, ◌||◌, Bool, true, false, List, [], ◌∷◌, Option, None, Some, Result, Ok, Err, length, min, is_ok, nat_le, nat_lt, slice_index, codes, option_map, option_and_then, if◌then◌else◌}
+use Rattle.std.specs.Prelude.{◌≡◌, ℕ, ◌+◌, ◌^◌, ◌==◌, ◌&&◌, ◌||◌, Bool, true, false, List, [], ◌∷◌, Option, None, Some, Result, Ok, Err, length, min, is_ok, nat_le, nat_lt, slice_index, codes, option_map, option_and_then, if◌then◌else◌}
 use Rattle.std.specs.List.{slice_split, list_all, list_any}
 use Rattle.std.specs.Str.{bytes_eq}
 use Rattle.std.specs.Char.{is_ascii_digit}
@@ -29,7 +29,7 @@ numbers_of (word ∷ words) = option_and_then (λ (n : ℕ). option_map (λ (ns 
 
 -- the greatest number that is told apart: larger ones are past every bound
 abbrev pub clipped : ℕ → ℕ
-clipped n = min n (2 ^ 128 - 1)
+clipped n = min n (2 ^ 64)
 
 -- what a line does, by its name and the numbers behind the name
 abbrev pub action_of : List ℕ → List ℕ → Option Action

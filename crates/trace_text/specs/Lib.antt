@@ -1,3 +1,4 @@
 pub mod Grammar
+pub mod Fronts
 pub mod Traces
 pub mod Marks

@@ -1,6 +1,7 @@
 -- What the text of marks says, line by line.
-use Rattle.std.specs.Prelude.{◌≡◌, ℕ, ◌+◌, ◌^◌, ◌==◌, List, [], ◌∷◌, Option, None, Some, Result, Ok, Err, length, nat_le, option_and_then, if◌then◌else◌}
+use Rattle.std.specs.Prelude.{◌≡◌, ℕ, ◌+◌, ◌^◌, ◌<◌, ◌==◌, List, [], ◌∷◌, Option, None, Some, Result, Ok, Err, length, nat_le, option_and_then, if◌then◌else◌}
 use Rattle.trace_text.specs.Grammar.{number_of, parts}
+use Rattle.trace_text.specs.Fronts.{NumberBefore}
 use Rattle.trace_text.specs.declared.marks.MarksFault.{MarksFault}
 use Rattle.trace_text.specs.declared.marks.MarksFault.TheVariants.{BadMarks, OutOfMemory}
 
@@ -11,6 +12,10 @@ short_number n = if nat_le (2 ^ 32) n then None else Some n
 -- the mark that a line is
 abbrev pub mark_of : List ℕ → Option ℕ
 mark_of line = option_and_then short_number (number_of line)
+
+-- the mark stands at the front of the text, then a line feed, then the rest
+abbrev pub MarkBefore : List ℕ → ℕ → List ℕ → Type 0
+MarkBefore text mark rest = (mark < 2 ^ 32) × NumberBefore 10 text mark rest
 
 -- the mark of line n before what was read behind it, or the line's number where it is none
 abbrev pub mark_before : ℕ → Option ℕ → Result (List ℕ) ℕ → Result (List ℕ) ℕ

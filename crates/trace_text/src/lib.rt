@@ -4,8 +4,8 @@
 pub mod fault;
 pub mod line;
 pub mod marks;
+mod name;
 mod numbers;
 pub mod parsing;
 mod reading;
 pub mod trace;
-mod words;

@@ -1,10 +1,9 @@
 //! Texts of marks.
-ghost use Rattle.std.specs.Prelude.{◌≡◌, None, Ok, Some, nat_le, IfOk, IfErr, if◌then◌else◌};
+ghost use Rattle.std.specs.Prelude.{◌≡◌, ℕ, List, Ok, IfErr, IfNone, IfOk, IfSome};
 ghost use Rattle.trace_text.specs.declared.marks.MarksFault.TheVariants as faults;
-ghost use Rattle.trace_text.specs.Marks.{mark_of, marks_of, RefusesMarks};
+ghost use Rattle.trace_text.specs.Marks.{marks_of, MarkBefore, RefusesMarks};
 
-use crate::numbers::read_number;
-use crate::words::cut;
+use crate::numbers::{below, number_before};
 use std::alloc::{AllocFailed, Global};
 
 /// Why marks were not read.
@@ -32,36 +31,27 @@ pub fn read_marks(alloc: Global, text: &[u8]) -> Result<Vec<u32>, MarksFault>
     let mut marks = Vec::new(alloc);
     let mut n = 1;
     let mut rest = text;
-    while let Some((line, more)) = cut(rest, b'\n') {
-        let Some(mark) = read_mark(line) else {
+    while !rest.is_empty() {
+        let Some((mark, more)) = read_mark(rest) else {
             return Err(MarksFault::BadMarks(n));
         };
         marks.push(mark)?;
         n += 1;
         rest = more;
     }
-    if !rest.is_empty() {
-        return Err(MarksFault::BadMarks(n));
-    }
     Ok(marks)
 }
 
-/// The mark that a line is: a number of 32 bits.
-fn read_mark(line: &[u8]) -> Option<u32>
-    ensures { result ≡ mark_of line.now }
+/// The mark at the front of a text, a number of 32 bits, where a line feed follows it, and what stands behind the line feed.
+fn read_mark(text: &[u8]) -> Option<(u32, &[u8])>
+    ensures some { IfSome result (λ read. MarkBefore text.now read.0 read.1.now) }
+    ensures none { IfNone result ((mark : ℕ) (rest : List ℕ) → MarkBefore text.now mark rest → ⊥) }
 {
-    let Some(number) = read_number(line) else {
+    let Some((number, rest)) = number_before(text, b'\n') else {
         return None;
     };
-    short(number)
-}
-
-// The number, where it is one of 32 bits.
-fn short(number: u128) -> Option<u32>
-    ensures { result ≡ (if nat_le 4294967296 number then None else Some number) }
-{
-    match u32::try_from(number) {
-        Ok(short) => Some(short),
-        Err(_) => None,
-    }
+    let Some(mark) = below(number, 1 << 32) else {
+        return None;
+    };
+    Some((mark as u32, rest))
 }

@@ -1,78 +1,182 @@
 //! Numbers in a text.
-ghost use Rattle.std.specs.Prelude.{◌≡◌, ◌≤◌, true, None, Some, length, map, option_map, IfOk, if◌then◌else◌};
+ghost use Rattle.std.specs.Prelude.{◌≡◌, ◌<◌, ◌≤◌, ℕ, List, [], ◌∷◌, true, false, None, Some, length, slice_index, take, option_map, IfNone, IfSome, if◌then◌else◌, nat_le};
 ghost use Rattle.std.specs.List.{list_all};
 ghost use Rattle.std.specs.Char.{is_ascii_digit};
 ghost use Rattle.std.specs.Str.Parse.{digits_value};
 ghost use Rattle.trace_text.specs.Grammar as grammar;
-ghost use Rattle.trace_text.specs.Grammar.{clipped, number_of, numbers_of, parts};
+ghost use Rattle.trace_text.specs.Grammar.{clipped, number_of};
+ghost use Rattle.trace_text.specs.Fronts.{size, HasNone, NumberBefore, ReadsNumbers};
 
-use crate::words::cut;
-use std::alloc::AllocError;
-
-fn are_digits(word: &[u8]) -> bool
-    ensures { result ≡ list_all is_ascii_digit word.now }
-{
-    word.iter().all(|byte| byte.is_ascii_digit())
+/// A number of a text. All that are larger than 64 bits hold are alike: they are past every bound.
+#[derive(Clone, Copy)]
+pub(crate) enum Number {
+    Small(u64),
+    Large,
 }
 
-/// Whether the word is a number: digits, of which the first is not 0, or which are just one.
-fn is_number(word: &[u8]) -> bool
-    ensures { result ≡ grammar.is_number word.now }
+/// The number, where it is below a bound.
+pub(crate) fn below(number: Number, bound: u64) -> Option<u64>
+    ensures { result ≡ (if nat_le bound (size number) then None else Some (size number)) }
 {
-    let [first, ..] = word else {
-        return false;
-    };
-    (*first > b'0' || word.len() == 1) && are_digits(word)
+    match number {
+        Number::Small(n) => { if n < bound { Some(n) } else { None } }
+        Number::Large => None,
+    }
 }
 
 /// How many digits 64 bits hold, whichever they are.
 const DIGITS: usize = 19;
 
-/// The value of few digits.
-fn short_value(digits: &[u8]) -> u64
-    requires are { list_all is_ascii_digit digits.now ≡ true }
-    requires few { length digits.now ≤ 19 }
-    ensures { result ≡ digits_value 10 digits.now }
-{
-    let mut value = 0;
-    for digit in digits {
-        value = value * 10 + u64::from(*digit - b'0');
-    }
-    value
+/// The digits at the front of a text: how many there are, and the value of the first 19.
+#[derive(Clone, Copy)]
+struct Digits {
+    count: usize,
+    value: u64,
 }
 
-/// The number that a word is; those past 128 bits are all alike.
-pub(crate) fn read_number(word: &[u8]) -> Option<u128>
-    ensures { result ≡ option_map clipped (number_of word.now) }
+/// All digits at the front of a text.
+fn front_digits(text: &[u8]) -> Digits
+    ensures within { result.count ≤ length text.now }
+    ensures are { list_all is_ascii_digit (take result.count text.now) ≡ true }
+    ensures ends { result.count < length text.now → is_ascii_digit (slice_index text.now result.count) ≡ false }
+    ensures value { result.count ≤ 19 → result.value ≡ digits_value 10 (take result.count text.now) }
 {
-    if !is_number(word) {
-        return None;
+    let mut count = 0;
+    let mut value = 0;
+    for byte in text {
+        if !byte.is_ascii_digit() {
+            return Digits { count, value };
+        }
+        if count < DIGITS {
+            value = value * 10 + u64::from(*byte - b'0');
+        }
+        count += 1;
     }
-    if word.len() <= DIGITS {
-        return Some(u128::from(short_value(word)));
-    }
-    match str::from_utf8(word) {
-        Ok(digits) => Some(digits.parse().unwrap_or(u128::MAX)),
+    Digits { count, value }
+}
+
+/// Whether digits are a number: the first is not 0, or it is the only one.
+fn is_number(digits: &[u8]) -> bool
+    requires { list_all is_ascii_digit digits.now ≡ true }
+    ensures { result ≡ grammar.is_number digits.now }
+{
+    let [first, ..] = digits else {
+        return false;
+    };
+    *first > b'0' || digits.len() == 1
+}
+
+/// The number that many digits are.
+fn long_number(digits: &[u8]) -> Number
+    requires { grammar.is_number digits.now ≡ true }
+    ensures { Some (size result) ≡ option_map clipped (number_of digits.now) }
+{
+    match str::from_utf8(digits) {
+        Ok(digits) => match digits.parse() {
+            Ok(n) => Number::Small(n),
+            Err(_) => Number::Large,
+        },
         Err(_) => unreachable!(),
     }
 }
 
-/// Whether the words of a text are numbers, which then stand in `numbers`, in place of those that were there.
-pub(crate) fn read_numbers(text: &[u8], numbers: &mut Vec<u128>) -> Result<bool, AllocError>
-    ensures { IfOk result (λ all. (if all then Some numbers.new.items else None) ≡ option_map (map clipped) (numbers_of (parts 32 text.now))) }
+/// The number that digits are, if they are one. Of few digits the value is known.
+fn number_in(digits: &[u8], value: u64) -> Option<Number>
+    requires are { list_all is_ascii_digit digits.now ≡ true }
+    requires value { length digits.now ≤ 19 → value ≡ digits_value 10 digits.now }
+    ensures { option_map size result ≡ option_map clipped (number_of digits.now) }
 {
-    numbers.clear();
-    let mut rest = text;
-    while let Some((word, more)) = cut(rest, b' ') {
-        let Some(number) = read_number(word) else {
-            return Ok(false);
-        };
-        numbers.push(number)?;
-        rest = more;
+    if !is_number(digits) {
+        return None;
     }
-    let Some(number) = read_number(rest) else {
-        return Ok(false);
+    if digits.len() <= DIGITS {
+        return Some(Number::Small(value));
+    }
+    Some(long_number(digits))
+}
+
+/// The number at the front of a text, where this byte follows it, and what stands behind the byte.
+pub(crate) fn number_before(text: &[u8], byte: u8) -> Option<(Number, &[u8])>
+    requires { is_ascii_digit byte ≡ false }
+    ensures some { IfSome result (λ read. (n : ℕ) × (size read.0 ≡ clipped n) × NumberBefore byte text.now n read.1.now) }
+    ensures none { IfNone result ((n : ℕ) (rest : List ℕ) → NumberBefore byte text.now n rest → ⊥) }
+{
+    let Digits { count, value } = front_digits(text);
+    if count == text.len() {
+        return None;
+    }
+    if text[count] != byte {
+        return None;
+    }
+    let Some(number) = number_in(&text[..count], value) else {
+        return None;
     };
-    numbers.push(number)?;
-    Ok(true)
+    Some((number, &text[count + 1..]))
+}
+
+/// The one number of a line, and what stands behind the line.
+pub(crate) fn one_number(text: &[u8]) -> Option<(Number, &[u8])>
+    ensures some { IfSome result (λ read. ReadsNumbers text.now (size read.0 ∷ []) read.1.now) }
+    ensures none { IfNone result (HasNone 1 text.now) }
+{
+    let Some((number, rest)) = number_before(text, b'\n') else {
+        return None;
+    };
+    Some((number, rest))
+}
+
+/// The two numbers of a line, a blank between them, and what stands behind the line.
+pub(crate) fn two_numbers(text: &[u8]) -> Option<(Number, Number, &[u8])>
+    ensures some { IfSome result (λ read. ReadsNumbers text.now (size read.0 ∷ size read.1 ∷ []) read.2.now) }
+    ensures none { IfNone result (HasNone 2 text.now) }
+{
+    let Some((first, rest)) = number_before(text, b' ') else {
+        return None;
+    };
+    let Some((second, rest)) = one_number(rest) else {
+        return None;
+    };
+    Some((first, second, rest))
+}
+
+/// The same of three numbers.
+pub(crate) fn three_numbers(text: &[u8]) -> Option<(Number, Number, Number, &[u8])>
+    ensures some { IfSome result (λ read. ReadsNumbers text.now (size read.0 ∷ size read.1 ∷ size read.2 ∷ []) read.3.now) }
+    ensures none { IfNone result (HasNone 3 text.now) }
+{
+    let Some((first, rest)) = number_before(text, b' ') else {
+        return None;
+    };
+    let Some((second, third, rest)) = two_numbers(rest) else {
+        return None;
+    };
+    Some((first, second, third, rest))
+}
+
+/// The same of four numbers.
+pub(crate) fn four_numbers(text: &[u8]) -> Option<(Number, Number, Number, Number, &[u8])>
+    ensures some { IfSome result (λ read. ReadsNumbers text.now (size read.0 ∷ size read.1 ∷ size read.2 ∷ size read.3 ∷ []) read.4.now) }
+    ensures none { IfNone result (HasNone 4 text.now) }
+{
+    let Some((first, rest)) = number_before(text, b' ') else {
+        return None;
+    };
+    let Some((second, third, fourth, rest)) = three_numbers(rest) else {
+        return None;
+    };
+    Some((first, second, third, fourth, rest))
+}
+
+/// The same of five numbers.
+pub(crate) fn five_numbers(text: &[u8]) -> Option<(Number, Number, Number, Number, Number, &[u8])>
+    ensures some { IfSome result (λ read. ReadsNumbers text.now (size read.0 ∷ size read.1 ∷ size read.2 ∷ size read.3 ∷ size read.4 ∷ []) read.5.now) }
+    ensures none { IfNone result (HasNone 5 text.now) }
+{
+    let Some((first, rest)) = number_before(text, b' ') else {
+        return None;
+    };
+    let Some((second, third, fourth, fifth, rest)) = four_numbers(rest) else {
+        return None;
+    };
+    Some((first, second, third, fourth, fifth, rest))
 }

@@ -8,7 +8,6 @@ use crate::fault::TraceFault;
 use crate::line::Line;
 use crate::reading::read_line;
 use crate::trace::Trace;
-use crate::words::cut;
 use std::alloc::Global;
 
 impl Trace {
@@ -29,16 +28,13 @@ pub fn parse(alloc: Global, text: &[u8], mutators: u8, roots: u16) -> Result<Tra
     ensures bounds { IfOk result (λ trace. (mutators_of trace ≡ mutators) × (roots_of trace ≡ roots)) }
 {
     let mut lines = Vec::new(alloc);
-    let mut room = Vec::new(alloc);
     let mut n = 1;
     let mut rest = text;
-    while let Some((line, more)) = cut(rest, b'\n') {
-        lines.push(read_line(line, &mut room, mutators, roots, n)?)?;
+    while !rest.is_empty() {
+        let (line, more) = read_line(rest, mutators, roots, n)?;
+        lines.push(line)?;
         n += 1;
         rest = more;
-    }
-    if !rest.is_empty() {
-        return Err(TraceFault::BadLine(n));
     }
     Ok(Trace {
         lines,

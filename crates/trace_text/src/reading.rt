@@ -1,59 +1,72 @@
 //! Lines of a trace.
-ghost use Rattle.std.specs.Prelude.{◌≡◌, [], ◌∷◌, Some, Ok, Err, option_map, nat_le, if◌then◌else◌};
+ghost use Rattle.std.specs.Prelude.{◌≡◌, ◌+◌, ◌<◌, Some, Ok, Err, length, nat_le, if◌then◌else◌, IfErr, IfNone, IfOk, IfSome, IsTrue};
 ghost use Rattle.trace_text.specs.declared.fault.TraceFault.TheVariants as faults;
 ghost use Rattle.trace_text.specs.declared.line.Action.TheVariants as actions;
-ghost use Rattle.trace_text.specs.Grammar.{judged, line_of, line_with, parts, IsReadAs};
+ghost use Rattle.trace_text.specs.Grammar.{is_within, judged, parts, read_from};
+ghost use Rattle.trace_text.specs.Fronts.{line_before, size, written, HasNoAction, ReadsLine};
 
 use crate::fault::TraceFault;
 use crate::line::{Action, Line};
-use crate::numbers::{read_number, read_numbers};
-use crate::words::cut;
+use crate::name::{Name, read_name};
+use crate::numbers::{
+    Number, below, five_numbers, four_numbers, number_before, one_number, three_numbers,
+    two_numbers,
+};
 
 /// How many registers a mutator has.
-const REGISTERS: u8 = 16;
+const REGISTERS: u64 = 16;
 
-fn register(number: u128, n: u64) -> Result<u8, TraceFault>
-    ensures { result ≡ (if nat_le 16 number then Err (faults.NoSuchRegister n) else Ok number) }
+fn register(number: Number, n: u64) -> Result<u8, TraceFault>
+    ensures { result ≡ (if nat_le 16 (size number) then Err (faults.NoSuchRegister n) else Ok (size number)) }
 {
-    match u8::try_from(number) {
-        Ok(register) if register < REGISTERS => Ok(register),
-        _ => Err(TraceFault::NoSuchRegister(n)),
+    match below(number, REGISTERS) {
+        Some(register) => Ok(register as u8),
+        None => Err(TraceFault::NoSuchRegister(n)),
     }
 }
 
-fn read_field(number: u128, n: u64) -> Result<u16, TraceFault>
-    ensures { result ≡ (if nat_le 65536 number then Err (faults.NumberTooLarge n) else Ok number) }
+fn read_field(number: Number, n: u64) -> Result<u16, TraceFault>
+    ensures { result ≡ (if nat_le 65536 (size number) then Err (faults.NumberTooLarge n) else Ok (size number)) }
 {
-    u16::try_from(number).map_err(|_| TraceFault::NumberTooLarge(n))
-}
-
-fn read_tag(number: u128, n: u64) -> Result<u32, TraceFault>
-    ensures { result ≡ (if nat_le 4294967296 number then Err (faults.NumberTooLarge n) else Ok number) }
-{
-    u32::try_from(number).map_err(|_| TraceFault::NumberTooLarge(n))
-}
-
-fn read_value(number: u128, n: u64) -> Result<u64, TraceFault>
-    ensures { result ≡ (if nat_le 18446744073709551616 number then Err (faults.NumberTooLarge n) else Ok number) }
-{
-    u64::try_from(number).map_err(|_| TraceFault::NumberTooLarge(n))
-}
-
-fn root_number(number: u128, roots: u16, n: u64) -> Result<u16, TraceFault>
-    ensures { result ≡ (if nat_le roots number then Err (faults.NoSuchRoot n) else Ok number) }
-{
-    match u16::try_from(number) {
-        Ok(root) if root < roots => Ok(root),
-        _ => Err(TraceFault::NoSuchRoot(n)),
+    match below(number, 1 << 16) {
+        Some(field) => Ok(field as u16),
+        None => Err(TraceFault::NumberTooLarge(n)),
     }
 }
 
-fn mutator_number(number: u128, mutators: u8, n: u64) -> Result<u8, TraceFault>
-    ensures { result ≡ (if nat_le mutators number then Err (faults.NoSuchMutator n) else Ok number) }
+fn read_tag(number: Number, n: u64) -> Result<u32, TraceFault>
+    ensures { result ≡ (if nat_le 4294967296 (size number) then Err (faults.NumberTooLarge n) else Ok (size number)) }
 {
-    match u8::try_from(number) {
-        Ok(mutator) if mutator < mutators => Ok(mutator),
-        _ => Err(TraceFault::NoSuchMutator(n)),
+    match below(number, 1 << 32) {
+        Some(tag) => Ok(tag as u32),
+        None => Err(TraceFault::NumberTooLarge(n)),
+    }
+}
+
+fn read_value(number: Number, n: u64) -> Result<u64, TraceFault>
+    ensures { result ≡ (if nat_le 18446744073709551616 (size number) then Err (faults.NumberTooLarge n) else Ok (size number)) }
+{
+    match number {
+        Number::Small(value) => Ok(value),
+        Number::Large => Err(TraceFault::NumberTooLarge(n)),
+    }
+}
+
+fn root_number(number: Number, roots: u16, n: u64) -> Result<u16, TraceFault>
+    ensures { result ≡ (if nat_le roots (size number) then Err (faults.NoSuchRoot n) else Ok (size number)) }
+{
+    match below(number, u64::from(roots)) {
+        Some(root) => Ok(root as u16),
+        None => Err(TraceFault::NoSuchRoot(n)),
+    }
+}
+
+fn mutator_number(number: Number, mutators: u8, n: u64) -> Result<u8, TraceFault>
+    ensures { result ≡ (if nat_le mutators (size number) then Err (faults.NoSuchMutator n) else Ok (size number)) }
+{
+    match below(number, u64::from(mutators)) {
+        Some(mutator) => Ok(mutator as u8),
+        None => Err(TraceFault::NoSuchMutator(n)),
     }
 }
 
@@ -65,8 +78,8 @@ struct Limits {
     n: u64,
 }
 
-fn root_line(mutator: u128, to: u128, root: u128, by: Limits) -> Result<Line, TraceFault>
-    ensures { result ≡ judged by.mutators by.roots by.n (Some (record { mutator = mutator; action = actions.Root to root })) }
+fn root_line(mutator: Number, to: Number, root: Number, by: Limits) -> Result<Line, TraceFault>
+    ensures { result ≡ judged by.mutators by.roots by.n (Some (record { mutator = size mutator; action = actions.Root (size to) (size root) })) }
 {
     let mutator = mutator_number(mutator, by.mutators, by.n)?;
     let action = Action::Root {
@@ -77,14 +90,14 @@ fn root_line(mutator: u128, to: u128, root: u128, by: Limits) -> Result<Line, Tr
 }
 
 fn load_line(
-    mutator: u128,
+    mutator: Number,
     weak: bool,
-    to: u128,
-    object: u128,
-    field: u128,
+    to: Number,
+    object: Number,
+    field: Number,
     by: Limits,
 ) -> Result<Line, TraceFault>
-    ensures { result ≡ judged by.mutators by.roots by.n (Some (record { mutator = mutator; action = actions.Load weak to object field })) }
+    ensures { result ≡ judged by.mutators by.roots by.n (Some (record { mutator = size mutator; action = actions.Load weak (size to) (size object) (size field) })) }
 {
     let mutator = mutator_number(mutator, by.mutators, by.n)?;
     let action = Action::Load {
@@ -96,8 +109,8 @@ fn load_line(
     Ok(Line { mutator, action })
 }
 
-fn get_line(mutator: u128, object: u128, field: u128, by: Limits) -> Result<Line, TraceFault>
-    ensures { result ≡ judged by.mutators by.roots by.n (Some (record { mutator = mutator; action = actions.Get object field })) }
+fn get_line(mutator: Number, object: Number, field: Number, by: Limits) -> Result<Line, TraceFault>
+    ensures { result ≡ judged by.mutators by.roots by.n (Some (record { mutator = size mutator; action = actions.Get (size object) (size field) })) }
 {
     let mutator = mutator_number(mutator, by.mutators, by.n)?;
     let action = Action::Get {
@@ -108,14 +121,14 @@ fn get_line(mutator: u128, object: u128, field: u128, by: Limits) -> Result<Line
 }
 
 fn store_line(
-    mutator: u128,
+    mutator: Number,
     weak: bool,
-    object: u128,
-    field: u128,
-    value: u128,
+    object: Number,
+    field: Number,
+    value: Number,
     by: Limits,
 ) -> Result<Line, TraceFault>
-    ensures { result ≡ judged by.mutators by.roots by.n (Some (record { mutator = mutator; action = actions.Store weak object field value })) }
+    ensures { result ≡ judged by.mutators by.roots by.n (Some (record { mutator = size mutator; action = actions.Store weak (size object) (size field) (size value) })) }
 {
     let mutator = mutator_number(mutator, by.mutators, by.n)?;
     let action = Action::Store {
@@ -128,13 +141,13 @@ fn store_line(
 }
 
 fn put_line(
-    mutator: u128,
-    object: u128,
-    field: u128,
-    value: u128,
+    mutator: Number,
+    object: Number,
+    field: Number,
+    value: Number,
     by: Limits,
 ) -> Result<Line, TraceFault>
-    ensures { result ≡ judged by.mutators by.roots by.n (Some (record { mutator = mutator; action = actions.Put object field value })) }
+    ensures { result ≡ judged by.mutators by.roots by.n (Some (record { mutator = size mutator; action = actions.Put (size object) (size field) (size value) })) }
 {
     let mutator = mutator_number(mutator, by.mutators, by.n)?;
     let action = Action::Put {
@@ -146,15 +159,15 @@ fn put_line(
 }
 
 fn new_line(
-    mutator: u128,
-    to: u128,
-    refs: u128,
-    weak: u128,
-    data_words: u128,
-    tag: u128,
+    mutator: Number,
+    to: Number,
+    refs: Number,
+    weak: Number,
+    data_words: Number,
+    tag: Number,
     by: Limits,
 ) -> Result<Line, TraceFault>
-    ensures { result ≡ judged by.mutators by.roots by.n (Some (record { mutator = mutator; action = actions.New to refs weak data_words tag })) }
+    ensures { result ≡ judged by.mutators by.roots by.n (Some (record { mutator = size mutator; action = actions.New (size to) (size refs) (size weak) (size data_words) (size tag) })) }
 {
     let mutator = mutator_number(mutator, by.mutators, by.n)?;
     let action = Action::New {
@@ -167,8 +180,8 @@ fn new_line(
     Ok(Line { mutator, action })
 }
 
-fn nil_line(mutator: u128, to: u128, by: Limits) -> Result<Line, TraceFault>
-    ensures { result ≡ judged by.mutators by.roots by.n (Some (record { mutator = mutator; action = actions.Nil to })) }
+fn nil_line(mutator: Number, to: Number, by: Limits) -> Result<Line, TraceFault>
+    ensures { result ≡ judged by.mutators by.roots by.n (Some (record { mutator = size mutator; action = actions.Nil (size to) })) }
 {
     let mutator = mutator_number(mutator, by.mutators, by.n)?;
     let action = Action::Nil {
@@ -177,142 +190,105 @@ fn nil_line(mutator: u128, to: u128, by: Limits) -> Result<Line, TraceFault>
     Ok(Line { mutator, action })
 }
 
-/// The line of this name and one number, or the first thing that is wrong with it.
-fn line_of_one(mutator: u128, name: &[u8], to: u128, by: Limits) -> Result<Line, TraceFault>
-    ensures { result ≡ judged by.mutators by.roots by.n (line_with mutator name.now (to ∷ [])) }
-{
-    if name == b"nil".as_slice() {
-        nil_line(mutator, to, by)
-    } else {
-        Err(TraceFault::BadLine(by.n))
-    }
-}
-
-/// The same of two numbers.
-fn line_of_two(
-    mutator: u128,
-    name: &[u8],
-    first: u128,
-    second: u128,
+/// The line of a name and the numbers behind it, or the first thing that is wrong with it, and what stands behind the line; None where there is none.
+fn numbered_line(
+    mutator: Number,
+    name: Name,
+    text: &[u8],
     by: Limits,
-) -> Result<Line, TraceFault>
-    ensures { result ≡ judged by.mutators by.roots by.n (line_with mutator name.now (first ∷ second ∷ [])) }
+) -> Option<(Result<Line, TraceFault>, &[u8])>
+    ensures some { IfSome result (λ read. ReadsLine by.mutators by.roots by.n (size mutator) (written name) text.now read.0 read.1.now) }
+    ensures none { IfNone result (HasNoAction (written name) text.now) }
 {
-    if name == b"root".as_slice() {
-        root_line(mutator, first, second, by)
-    } else if name == b"get".as_slice() {
-        get_line(mutator, first, second, by)
-    } else {
-        Err(TraceFault::BadLine(by.n))
-    }
-}
-
-/// The same of three numbers.
-fn line_of_three(
-    mutator: u128,
-    name: &[u8],
-    first: u128,
-    second: u128,
-    third: u128,
-    by: Limits,
-) -> Result<Line, TraceFault>
-    ensures { result ≡ judged by.mutators by.roots by.n (line_with mutator name.now (first ∷ second ∷ third ∷ [])) }
-{
-    if name == b"load".as_slice() {
-        load_line(mutator, false, first, second, third, by)
-    } else if name == b"store".as_slice() {
-        store_line(mutator, false, first, second, third, by)
-    } else if name == b"put".as_slice() {
-        put_line(mutator, first, second, third, by)
-    } else if name == b"wload".as_slice() {
-        load_line(mutator, true, first, second, third, by)
-    } else if name == b"wstore".as_slice() {
-        store_line(mutator, true, first, second, third, by)
-    } else {
-        Err(TraceFault::BadLine(by.n))
-    }
-}
-
-/// The same of four numbers.
-fn line_of_four(
-    mutator: u128,
-    name: &[u8],
-    to: u128,
-    refs: u128,
-    data_words: u128,
-    tag: u128,
-    by: Limits,
-) -> Result<Line, TraceFault>
-    ensures { result ≡ judged by.mutators by.roots by.n (line_with mutator name.now (to ∷ refs ∷ data_words ∷ tag ∷ [])) }
-{
-    if name == b"new".as_slice() {
-        new_line(mutator, to, refs, 0, data_words, tag, by)
-    } else {
-        Err(TraceFault::BadLine(by.n))
-    }
-}
-
-/// The same of five numbers.
-fn line_of_five(
-    mutator: u128,
-    name: &[u8],
-    to: u128,
-    refs: u128,
-    weak: u128,
-    data_words: u128,
-    tag: u128,
-    by: Limits,
-) -> Result<Line, TraceFault>
-    ensures { result ≡ judged by.mutators by.roots by.n (line_with mutator name.now (to ∷ refs ∷ weak ∷ data_words ∷ tag ∷ [])) }
-{
-    if name == b"wnew".as_slice() {
-        new_line(mutator, to, refs, weak, data_words, tag, by)
-    } else {
-        Err(TraceFault::BadLine(by.n))
-    }
-}
-
-/// The line of these numbers and this name, or the first thing that is wrong with it.
-fn judge(mutator: u128, name: &[u8], numbers: &[u128], by: Limits) -> Result<Line, TraceFault>
-    ensures { result ≡ judged by.mutators by.roots by.n (line_with mutator name.now numbers.now) }
-{
-    match numbers {
-        [to] => line_of_one(mutator, name, *to, by),
-        [first, second] => line_of_two(mutator, name, *first, *second, by),
-        [first, second, third] => line_of_three(mutator, name, *first, *second, *third, by),
-        [to, refs, data_words, tag] => {
-            line_of_four(mutator, name, *to, *refs, *data_words, *tag, by)
+    match name {
+        Name::Root => {
+            let Some((to, root, rest)) = two_numbers(text) else {
+                return None;
+            };
+            Some((root_line(mutator, to, root, by), rest))
         }
-        [to, refs, weak, data_words, tag] => {
-            line_of_five(mutator, name, *to, *refs, *weak, *data_words, *tag, by)
+        Name::Load => {
+            let Some((to, object, field, rest)) = three_numbers(text) else {
+                return None;
+            };
+            Some((load_line(mutator, false, to, object, field, by), rest))
         }
-        _ => Err(TraceFault::BadLine(by.n)),
+        Name::Get => {
+            let Some((object, field, rest)) = two_numbers(text) else {
+                return None;
+            };
+            Some((get_line(mutator, object, field, by), rest))
+        }
+        Name::Store => {
+            let Some((object, field, value, rest)) = three_numbers(text) else {
+                return None;
+            };
+            Some((store_line(mutator, false, object, field, value, by), rest))
+        }
+        Name::Put => {
+            let Some((object, field, value, rest)) = three_numbers(text) else {
+                return None;
+            };
+            Some((put_line(mutator, object, field, value, by), rest))
+        }
+        Name::New => {
+            let Some((to, refs, data_words, tag, rest)) = four_numbers(text) else {
+                return None;
+            };
+            Some((
+                new_line(mutator, to, refs, Number::Small(0), data_words, tag, by),
+                rest,
+            ))
+        }
+        Name::Nil => {
+            let Some((to, rest)) = one_number(text) else {
+                return None;
+            };
+            Some((nil_line(mutator, to, by), rest))
+        }
+        Name::WeakLoad => {
+            let Some((to, object, field, rest)) = three_numbers(text) else {
+                return None;
+            };
+            Some((load_line(mutator, true, to, object, field, by), rest))
+        }
+        Name::WeakStore => {
+            let Some((object, field, value, rest)) = three_numbers(text) else {
+                return None;
+            };
+            Some((store_line(mutator, true, object, field, value, by), rest))
+        }
+        Name::WeakNew => {
+            let Some((to, refs, weak, data_words, tag, rest)) = five_numbers(text) else {
+                return None;
+            };
+            Some((new_line(mutator, to, refs, weak, data_words, tag, by), rest))
+        }
     }
 }
 
-/// The line of a text without its line feed, or the first thing that is wrong with it. Its numbers are read into `room`, which serves one line after another.
+/// The line at the front of a text, and what stands behind it; or the first thing that is wrong with it.
 pub(crate) fn read_line(
     text: &[u8],
-    room: &mut Vec<u128>,
     mutators: u8,
     roots: u16,
     n: u64,
-) -> Result<Line, TraceFault>
-    ensures { IsReadAs (λ line. line) result (judged mutators roots n (line_of (parts 32 text.now))) }
+) -> Result<(Line, &[u8]), TraceFault>
+    requires { 0 < length text.now }
+    ensures line { IfOk result (λ read. read_from mutators roots n (parts 10 text.now) ≡ line_before read.0 (read_from mutators roots (n + 1) (parts 10 read.1.now))) }
+    ensures within { IfOk result (λ read. IsTrue (is_within mutators roots read.0)) }
+    ensures less { IfOk result (λ read. length read.1.now < length text.now) }
+    ensures fault { IfErr result (λ fault. read_from mutators roots n (parts 10 text.now) ≡ Err fault) }
 {
-    let bad = Err(TraceFault::BadLine(n));
-    let Some((first, rest)) = cut(text, b' ') else {
-        return bad;
+    let Some((mutator, rest)) = number_before(text, b' ') else {
+        return Err(TraceFault::BadLine(n));
     };
-    let Some((name, rest)) = cut(rest, b' ') else {
-        return bad;
+    let Some((name, rest)) = read_name(rest) else {
+        return Err(TraceFault::BadLine(n));
     };
-    let Some(mutator) = read_number(first) else {
-        return bad;
-    };
-    if !read_numbers(rest, room)? {
-        return bad;
-    }
     let by = Limits { mutators, roots, n };
-    judge(mutator, name, room, by)
+    let Some((line, rest)) = numbered_line(mutator, name, rest, by) else {
+        return Err(TraceFault::BadLine(n));
+    };
+    Ok((line?, rest))
 }

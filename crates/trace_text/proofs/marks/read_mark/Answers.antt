@@ -1,9 +1,13 @@
-use Rattle.std.proofs.Common.{None, Some, ◌∙◌}
-use Rattle.trace_text.proofs.Marked.{mark_clipped}
+use Rattle.std.proofs.Common.{refl}
+use Rattle.trace_text.proofs.LineForms.{number_once}
+use Rattle.trace_text.proofs.Marked.{large_mark}
 use Rattle.trace_text.proofs.marks.read_mark.Goals as goal
 
-pub returns-in_default : goal.returns-in_default
-returns-in_default c = mark_clipped c.args.line.now None c.in_default.ensures
+pub returns-in_default-clause-none : goal.returns-in_default-clause-none
+returns-in_default-clause-none c mark rest h = c.in_default.ensures.none mark rest h.1
 
-pub returns : goal.returns
-returns c = c.short.ensures ∙ mark_clipped c.args.line.now (Some c.in-Some.number) c.in-Some.ensures
+pub returns-in_default-below-clause-none : goal.returns-in_default-below-clause-none
+returns-in_default-below-clause-none c mark rest h =
+    let first = c.in-Some.ensures.some in
+    let same = (number_once 10 c.args.text.now first.0 mark _ rest refl first.2 h.1).0 in
+    large_mark _ first.0 mark c.in_default-below.ensures first.1 same h.0

@@ -1,7 +1,0 @@
-use Rattle.std.proofs.Common.{◌≡◌, take}
-use Rattle.std.specs.Str.Parse.{digits_value}
-use Rattle.trace_text.proofs.numbers.short_value.Given as goal
-
--- the value of the digits so far
-abbrev pub invariant-loop-digit : goal.invariant-loop-digit
-invariant-loop-digit l = l.value ≡ digits_value 10 (take l.digit-index l.digits)
