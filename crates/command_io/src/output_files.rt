@@ -6,7 +6,8 @@ ghost use Rattle.command_io.specs.declared.refusal.Refusal.TheVariants as refusa
 use crate::refusal::{Output, Refusal};
 use std::alloc::Global;
 use std::fs::{self, Metadata, OpenFile, OpenOptions};
-use std::io::{BufWriter, ErrorKind, Result as IoResult, Write};
+use std::io::{BufWriter, Error, ErrorKind, Result as IoResult, Write};
+use std::os::unix::fs::{OpenOptionsExt, PermissionsExt};
 use std::rt::Files;
 
 // How many bytes are written by one call of a file.
@@ -15,13 +16,18 @@ const WRITTEN_AT_ONCE: usize = 65_536;
 // How many names are tried for the file beside a path. A run that was killed leaves one that is taken.
 const MOST_NAMES: u32 = 1_000;
 
+// The bits of a mode that say who may read, write and run a file.
+const MODE_BITS: u32 = 0o777;
+
 /// The file of a dump or of a new image, written through a buffer. Where a regular file or none is at its path, this is a file beside that, which its first flush
-/// renames onto the path; where a call fails it is removed, and what is at the path stays as it was. What is no regular file is written as it stands.
+/// renames onto the path; where a call fails it is removed, what is at the path stays as it was, and each later call fails too. What is no regular file is
+/// written as it stands.
 #[derive(Drop)]
 pub struct OutputFile<'a, R: Files> {
     rt: &'a R,
     writer: BufWriter<R::File, Global>,
     beside: Option<Beside>,
+    failed: bool,
 }
 
 // A file beside the path for which it is meant.
@@ -42,8 +48,17 @@ impl<R: Files> OutputFile<'_, R> {
         Ok(())
     }
 
-    // Removes the file, where it is not at its path. Where that fails, the file is left.
+    // Fails where an earlier call did.
+    fn check(&self) -> IoResult<()> {
+        if self.failed {
+            return Err(Error::from(ErrorKind::Other));
+        }
+        Ok(())
+    }
+
+    // A call failed: removes the file, where it is not at its path. Where that fails, the file is left.
     fn give_up(&mut self) {
+        self.failed = true;
         if let Some(beside) = self.beside.take() {
             remove(self.rt, &beside.part);
         }
@@ -52,6 +67,7 @@ impl<R: Files> OutputFile<'_, R> {
 
 impl<R: Files> Write for OutputFile<'_, R> {
     fn write(&mut self, buf: &[u8]) -> IoResult<usize> {
+        self.check()?;
         let written = self.writer.write(buf);
         let goes_on = match &written {
             Ok(n) => *n > 0 || buf.is_empty(),
@@ -64,6 +80,7 @@ impl<R: Files> Write for OutputFile<'_, R> {
     }
 
     fn flush(&mut self) -> IoResult<()> {
+        self.check()?;
         let put = match self.writer.flush() {
             Ok(()) => self.put(),
             Err(error) => Err(error),
@@ -91,7 +108,7 @@ pub fn create_file<'a, R: Files + AllocGlobal>(
     match fs::symlink_metadata(rt, path) {
         Ok(found) if found.is_file() => create_for(rt, path, output, &found),
         Err(error) if error.kind() == ErrorKind::NotFound && !path.is_empty() => {
-            create_beside(rt, path, output)
+            create_beside(rt, path, output, &new_file())
         }
         _ => create_there(rt, path, output),
     }
@@ -111,7 +128,7 @@ fn create_there<'a, R: Files + AllocGlobal>(
     buffered(rt, file, None)
 }
 
-// A file beside one that is there, which has to be one that may be written. It has the permissions of that one.
+// A file beside one that is there, which has to be one that may be written. It has the permissions of that one: at no time may more be done with it.
 fn create_for<'a, R: Files + AllocGlobal>(
     rt: &'a R,
     path: &str,
@@ -123,23 +140,33 @@ fn create_for<'a, R: Files + AllocGlobal>(
     if OpenOptions::new().write(true).open(rt, path).is_err() {
         return Err(Refusal::CannotCreate(output));
     }
-    let made = create_beside(rt, path, output)?;
-    let _ = made.writer.get_ref().set_permissions(found.permissions());
-    Ok(made)
+    let permissions = found.permissions();
+    let mut how = new_file();
+    how.mode(permissions.mode() & MODE_BITS);
+    let mut made = create_beside(rt, path, output, &how)?;
+    // What the system's mask took away is given back.
+    match made.writer.get_ref().set_permissions(permissions) {
+        Ok(()) => Ok(made),
+        Err(_) => {
+            made.give_up();
+            Err(Refusal::CannotCreate(output))
+        }
+    }
 }
 
-// A file beside the path.
+// A file beside the path, made so.
 fn create_beside<'a, R: Files + AllocGlobal>(
     rt: &'a R,
     path: &str,
     output: Output,
+    how: &OpenOptions,
 ) -> Result<OutputFile<'a, R>, Refusal>
     ensures { IfErr result (IsOfCreating output (Unit {0})) }
 {
     let whole = String::from_str(rt.alloc(), path)?;
     for number in 0..MOST_NAMES {
         let part = part_of(rt, path, number)?;
-        match create_new(rt, &part) {
+        match create_new(rt, &part, how) {
             Ok(file) => return buffered(rt, file, Some(Beside { part, path: whole })),
             Err(ErrorKind::AlreadyExists) => {}
             Err(_) => return Err(Refusal::CannotCreate(output)),
@@ -148,11 +175,16 @@ fn create_beside<'a, R: Files + AllocGlobal>(
     Err(Refusal::CannotCreate(output))
 }
 
+// How a file is opened that was not there before.
+fn new_file() -> OpenOptions {
+    let mut how = OpenOptions::new();
+    how.write(true).create_new(true);
+    how
+}
+
 // A file of this name that was not there before, or why there is none.
-fn create_new<R: Files>(rt: &R, path: &str) -> Result<R::File, ErrorKind> {
-    let mut options = OpenOptions::new();
-    options.write(true).create_new(true);
-    match options.open(rt, path) {
+fn create_new<R: Files>(rt: &R, path: &str, how: &OpenOptions) -> Result<R::File, ErrorKind> {
+    match how.open(rt, path) {
         Ok(file) => Ok(file),
         Err(error) => Err(error.kind()),
     }
@@ -178,7 +210,12 @@ fn buffered<'a, R: Files + AllocGlobal>(
     ensures { IfErr result (λ given. given ≡ refusal.OutOfMemory) }
 {
     match BufWriter::with_capacity(rt.alloc(), WRITTEN_AT_ONCE, file) {
-        Ok(writer) => Ok(OutputFile { rt, writer, beside }),
+        Ok(writer) => Ok(OutputFile {
+            rt,
+            writer,
+            beside,
+            failed: false,
+        }),
         Err(_) => {
             if let Some(beside) = beside {
                 remove(rt, &beside.part);
