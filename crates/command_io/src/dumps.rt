@@ -61,7 +61,7 @@ impl<'a, R: Files + AllocGlobal> Dumps for FileDumps<'a, R> {
     }
 }
 
-/// Writes a dump to a path. Where a call of its writer fails, a beginning of the dump stays written.
+/// Writes a dump to a path. Where a call of its writer fails, that writer has taken a beginning of the dump.
 pub fn write_to<D: Dumps>(dumps: &mut D, path: &str, dump: &Dump<'_>) -> Result<(), Refusal>
     ensures written { OnOk result (WritesWhole (D.gives dumps.old path.now) D.Writer.contents (dump_bytes dump.now)) }
     ensures cause { IfErr result (IsOfDumping (D.lacks dumps.old path.now) (D.gives dumps.old path.now) D.Writer.contents (dump_bytes dump.now)) }

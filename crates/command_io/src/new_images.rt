@@ -15,7 +15,7 @@ use heap_layout::fault::LayoutFault;
 use heap_layout::heap::MarkedHeap;
 use std::io::Write;
 
-/// Writes the image of a heap to a path. Where a call of its writer fails, a beginning of the image stays written.
+/// Writes the image of a heap to a path. Where a call of its writer fails, that writer has taken a beginning of the image.
 pub fn write_image_to<D: Dumps>(dumps: &mut D, path: &str, heap: &MarkedHeap) -> Result<(), Refusal>
     ensures written { OnOk result (WritesWhole (D.gives dumps.old path.now) D.Writer.contents (encoding heap.now)) }
     ensures cause { IfErr result (IsOfWritingImage (D.lacks dumps.old path.now) (D.gives dumps.old path.now) D.Writer.contents (encoding heap.now)) }
