@@ -50,7 +50,7 @@ class Refusing:
     def __init__(self, folder):
         self.folder = Path(folder)
         self.shim = self.folder / "refuse.so"
-        page = subprocess.run(["rt", "doc"], check=True, capture_output=True, text=True).stdout.strip()
+        page = subprocess.run(["rt", "doc"], cwd=HERE, check=True, capture_output=True, text=True).stdout.strip()
         compiler = Path(page).parent / "toolchain" / "bin" / "clang"
         words = ["-O1", "-shared", "-fPIC", "-nostdlib", "-fuse-ld=lld", "-o", str(self.shim), str(HERE / "refuse.c")]
         subprocess.run([str(compiler), *words], check=True)

@@ -14,6 +14,7 @@ from pathlib import Path
 FROM = 1 << 32
 TO = 1 << 33
 SECONDS = 60
+BEFORE = b"what was there before"
 REFUSED = re.compile(r"compressor: T6 Refused\(\d+, M(1 Null|3 NoSuchField|4 ObjectTooLarge|5 OutOfPages|6 Busy\(\d+\)|7 JournalFull\(\d+\)|11 NotInEdition)\)\n")
 
 
@@ -125,15 +126,17 @@ class Soak:
         """What a run printed, or nothing where it was refused by name or is at fault."""
         self.runs += 1
         try:
-            ran = subprocess.run([self.program, *words], cwd=self.folder, capture_output=True, text=True, timeout=SECONDS)
+            ran = subprocess.run([self.program, *words], cwd=self.folder, capture_output=True, timeout=SECONDS)
         except subprocess.TimeoutExpired:
             return self.fault(seed, f"{' '.join(words)}: no end within {SECONDS} seconds")
-        if ran.returncode == 0 and not ran.stderr:
-            return ran.stdout
-        if ran.returncode == 1 and REFUSED.fullmatch(ran.stderr):
+        # What is no text stays visible, and is what no run was to print.
+        out, err = (it.decode(errors="backslashreplace") for it in (ran.stdout, ran.stderr))
+        if ran.returncode == 0 and not err:
+            return out
+        if ran.returncode == 1 and REFUSED.fullmatch(err):
             self.refused += 1
             return None
-        return self.fault(seed, f"{' '.join(words)}: status {ran.returncode}, {ran.stderr.strip()!r}")
+        return self.fault(seed, f"{' '.join(words)}: status {ran.returncode}, {err.strip()!r}")
 
     def audited(self, seed, what, printed):
         """The dump that a run left passes, and has the live words that it printed."""
@@ -187,8 +190,13 @@ class Soak:
         few = ("--mutators", str(mutators), "--fresh", str(draw.choice((0, mutators, 2 * mutators))))
         shown = []
         for command in ("replay", "race"):
+            dump = self.folder / "left.dump"
+            dump.write_bytes(BEFORE)
             printed = self.run(seed, command, *few, "heap.img", "heap.trace", "left.dump")
-            if printed is not None:
+            if printed is None:
+                if dump.read_bytes() != BEFORE:
+                    self.fault(seed, f"{command}: what was at the path is lost")
+            else:
                 self.audited(seed, command, printed)
                 if command == "replay" and swept is not None:
                     self.followed(seed, draw, edition, slid, swept, few, printed)
