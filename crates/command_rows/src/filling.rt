@@ -1,7 +1,8 @@
-//! Dumps and new images that go into files of a device that is soon full, or that renames none: what was at the path stays, and no other file is left.
-use command_io::dumps::{FileDumps, write_to};
+//! Dumps and new images that go into files of a device that is soon full, that renames none, or that takes no permissions: what was at the path stays, and no
+//! other file is left.
+use command_io::dumps::{Dumps, FileDumps, write_to};
 use command_io::new_images::write_image_to;
-use command_io::refusal::Refusal;
+use command_io::refusal::{Output, Refusal};
 use comp_dump::dump::Dump;
 use comp_dump::fault::DumpFault;
 use comp_dump::reading::read_dump;
@@ -10,24 +11,26 @@ use heap_image::image::read_image;
 use heap_layout::fault::LayoutFault;
 use heap_layout::heap::MarkedHeap;
 use std::alloc::Allocator;
-use std::fs::{self, Metadata, OpenFile, OpenOptions};
+use std::fs::{self, Metadata, OpenFile, OpenOptions, Permissions};
 use std::io::{Error, ErrorKind, Read, Result as IoResult, Seek, SeekFrom, Write};
 use std::process::Abort;
 use std::rt::Files;
 
-// A device on which each file has room for so many bytes that are written, and which may rename none.
+// A device on which each file has room for so many bytes that are written, and which may rename none, or give none its permissions.
 #[derive(Drop)]
 struct Device<'a, R> {
     rt: &'a R,
     room: usize,
     renames: bool,
+    permits: bool,
 }
 
-// A file that has room for so many bytes.
+// A file that has room for so many bytes, and may take no permissions.
 #[derive(Drop)]
 struct Small<F: Read + Write + Seek + OpenFile + Drop> {
     file: F,
     room: usize,
+    permits: bool,
 }
 
 impl<F: Read + Write + Seek + OpenFile + Drop> Read for Small<F> {
@@ -74,6 +77,13 @@ impl<F: Read + Write + Seek + OpenFile + Drop> OpenFile for Small<F> {
     fn sync_data(&self) -> IoResult<()> {
         self.file.sync_data()
     }
+
+    fn set_permissions(&self, perm: Permissions) -> IoResult<()> {
+        if self.permits {
+            return self.file.set_permissions(perm);
+        }
+        Err(Error::from(ErrorKind::PermissionDenied))
+    }
 }
 
 impl<R: Files> Files for Device<'_, R> {
@@ -86,6 +96,7 @@ impl<R: Files> Files for Device<'_, R> {
         Ok(Small {
             file,
             room: self.room,
+            permits: self.permits,
         })
     }
 
@@ -134,34 +145,46 @@ const PATH: &str = "filling.tests.out";
 
 const PART: &str = ".compressor-0.part";
 
-// A device, and whether the file is written whole.
+// A device, and what comes of a file.
 struct Row {
     // How many bytes of the file find no room.
     lacks: usize,
     renames: bool,
-    whole: bool,
+    permits: bool,
+    // Whether it is written whole where none was there before, and where one was.
+    whole: (bool, bool),
 }
 
-static ROWS: [Row; 4] = [
+static ROWS: [Row; 5] = [
     Row {
         lacks: usize::MAX,
         renames: true,
-        whole: false,
+        permits: true,
+        whole: (false, false),
     },
     Row {
         lacks: 1,
         renames: true,
-        whole: false,
+        permits: true,
+        whole: (false, false),
     },
     Row {
         lacks: 0,
         renames: false,
-        whole: false,
+        permits: true,
+        whole: (false, false),
     },
     Row {
         lacks: 0,
         renames: true,
-        whole: true,
+        permits: false,
+        whole: (true, false),
+    },
+    Row {
+        lacks: 0,
+        renames: true,
+        permits: true,
+        whole: (true, true),
     },
 ];
 
@@ -183,11 +206,13 @@ fn write<R: Files + AllocGlobal>(
     }
 }
 
-// What is answered where it is not written whole.
-fn unwritten(heap: Option<&MarkedHeap>) -> Refusal {
-    match heap {
-        Some(_) => Refusal::Layout(LayoutFault::Device),
-        None => Refusal::Dump(DumpFault::Device),
+// What is answered where it is not written whole, which may not even be created.
+fn refused(heap: Option<&MarkedHeap>, created: bool) -> Refusal {
+    match (heap, created) {
+        (Some(_), true) => Refusal::Layout(LayoutFault::Device),
+        (Some(_), false) => Refusal::CannotCreate(Output::New),
+        (None, true) => Refusal::Dump(DumpFault::Device),
+        (None, false) => Refusal::CannotCreate(Output::Dump),
     }
 }
 
@@ -208,16 +233,21 @@ fn expect_row<R: Abort + Files + AllocGlobal>(
             rt,
             room: bytes.len().saturating_sub(row.lacks),
             renames: row.renames,
+            permits: row.permits,
         },
         rt.alloc(),
     );
     let told = write(&device, dump, heap);
-    let wanted = match row.whole {
+    let whole = match before {
+        None => row.whole.0,
+        Some(_) => row.whole.1,
+    };
+    let wanted = match whole {
         true => Ok(()),
-        false => Err(unwritten(heap)),
+        false => Err(refused(heap, row.permits || before.is_none())),
     };
     let left = bytes_at(rt, PATH);
-    let is_left = match (&left, row.whole) {
+    let is_left = match (&left, whole) {
         (Some(left), true) => left.as_slice() == bytes,
         (Some(left), false) => Some(left.as_slice()) == before,
         (None, whole) => !whole && before.is_none(),
@@ -244,10 +274,34 @@ fn expect_rows<R: Abort + Files + AllocGlobal>(
     }
 }
 
+// Where no file is renamed, the first flush fails, and so does each later call.
+fn expect_given_up<R: Abort + Files + AllocGlobal>(rt: &R) {
+    let device = (
+        Device {
+            rt,
+            room: usize::MAX,
+            renames: false,
+            permits: true,
+        },
+        rt.alloc(),
+    );
+    let mut dumps = FileDumps { rt: &device };
+    let mut file = dumps.create(PATH).expect(rt, "a file");
+    assert!(rt; file.write(b"whole").is_ok(), "a write");
+    assert!(rt; file.flush().is_err(), "a flush");
+    assert!(rt; file.flush().is_err(), "a flush behind it");
+    assert!(rt; file.write(b"whole").is_err(), "a write behind it");
+    assert!(rt; bytes_at(rt, PATH).is_none(), "a file at the path");
+}
+
 /// A dump and an image of these bytes, written to each of the devices.
 pub fn expect_filled<R: Abort + Files + AllocGlobal>(rt: &R, dump: &[u8], image: &[u8]) {
+    // A run of this test that was killed may have left its files.
+    let _ = fs::remove_file(rt, PART);
+    let _ = fs::remove_file(rt, PATH);
     let made = read_dump(rt.alloc(), &mut Counted::new(dump)).expect(rt, "a dump");
     let heap = read_image(rt.alloc(), &mut Counted::new(image)).expect(rt, "a heap");
     expect_rows(rt, &made, None, dump);
     expect_rows(rt, &made, Some(&heap), image);
+    expect_given_up(rt);
 }

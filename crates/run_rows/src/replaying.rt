@@ -78,6 +78,37 @@ pub const STOPPED: &[Step] = &[
     Step::Remove("halt.tests.out"),
 ];
 
+// The run that makes a new object, whose dump goes to one of the files of the folder.
+const TO_TRACE: &str =
+    "replay --mutators 1 --fresh 2 place.tests/img place.tests/trace place.tests/trace";
+
+const TO_IMAGE: &str =
+    "replay --mutators 1 --fresh 2 place.tests/img place.tests/trace place.tests/img";
+
+/// Dumps in place of the trace and of the image that the run read, beside a file that a run left that was killed.
+pub const PLACED: &[Step] = &[
+    Step::MakeFolder("place.tests"),
+    Step::Write("place.tests/.compressor-0.part", KEPT),
+    Step::Write("place.tests/img", Content::ThreeImage),
+    Step::Write("place.tests/trace", Content::FreshTrace),
+    Step::Prints(TO_TRACE, "live 5\n"),
+    Step::Holds("place.tests/trace", Content::FreshDump),
+    Step::Holds("place.tests/img", Content::ThreeImage),
+    Step::Refuses(TO_TRACE, "", "T1 BadLine(1)"),
+    Step::Holds("place.tests/trace", Content::FreshDump),
+    Step::Write("place.tests/trace", Content::FreshTrace),
+    Step::Prints(TO_IMAGE, "live 5\n"),
+    Step::Holds("place.tests/img", Content::FreshDump),
+    Step::Refuses(TO_IMAGE, "", "H10 BadMagic"),
+    Step::Holds("place.tests/img", Content::FreshDump),
+    Step::Holds("place.tests/.compressor-0.part", KEPT),
+    Step::Absent("place.tests/.compressor-1.part"),
+    Step::Remove("place.tests/.compressor-0.part"),
+    Step::Remove("place.tests/img"),
+    Step::Remove("place.tests/trace"),
+    Step::RemoveFolder("place.tests"),
+];
+
 /// Files that are not there, and folders in place of files.
 pub const WRONG_FILES: &[Step] = &[
     Step::Write("file.tests.img", Content::ThreeImage),

@@ -9,7 +9,7 @@ use std::thread::Threads;
 use worked_files::steps::Step;
 
 // All tables, the last of which writes the image that the lines print of. As a constant they would cost the proof of the test five times as much.
-fn tables() -> [&'static [Step]; 15] {
+fn tables() -> [&'static [Step]; 16] {
     [
         programs::STEPS,
         judging::PASSED,
@@ -19,6 +19,7 @@ fn tables() -> [&'static [Step]; 15] {
         racing::HALTED,
         replaying::REPLAYED,
         replaying::STOPPED,
+        replaying::PLACED,
         replaying::WRONG_FILES,
         cycling::CYCLED,
         cycling::UNMARKED,
