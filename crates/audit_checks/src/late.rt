@@ -92,6 +92,6 @@ fn is_led(plan: &Plan, starts: &Starts, entry: Entry) -> bool
 {
     !entry.kind.refers()
         || entry.value == 0
-        || plan.shape_at(entry.value).is_some()
+        || plan.is_start(entry.value)
         || starts.is_before(entry.value, entry.stamp)
 }

@@ -74,7 +74,7 @@ impl Starts {
     pub fn leads(&self, plan: &Plan, address: u64) -> bool
         ensures { result ≡ leads plan.now self.now address }
     {
-        plan.shape_at(address).is_some() || self.stamp_at(address).is_some()
+        plan.is_start(address) || self.stamp_at(address).is_some()
     }
 
     /// Whether a header was written at the address with a stamp below this one.

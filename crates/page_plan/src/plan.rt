@@ -1,11 +1,13 @@
-ghost use Rattle.std.specs.Prelude.{◌≡◌, ℕ, ◌+◌, ◌-◌, ◌<◌, ◌≤◌, None, Some, map, slice_index_or, IfOk, IfSome, ◌*◌, ◌^◌};
+ghost use Rattle.std.specs.Prelude.{◌≡◌, ℕ, ◌+◌, ◌-◌, ◌<◌, ◌≤◌, None, Some, is_some, map, slice_index_or, IfOk, IfSome, ◌*◌, ◌^◌};
 ghost use Rattle.heap_layout.specs.Heap.{live, IsClosed};
 ghost use Rattle.mark_tables.specs.LiveWords.{live_indices};
-ghost use Rattle.page_plan.specs.Planned.{AreFirst};
+ghost use Rattle.page_plan.specs.Planned.{AreFirst, AreStarts};
 ghost use Rattle.page_plan.specs.Sliding.{first_object, forward, kind, live_words, page, pages, shape_at, to_address, HasObject, slid_words, IsPartFrom};
 
 use crate::places::TO_SPACE;
-use crate::{first_objects, page_builder, places};
+use crate::{first_objects, page_builder, places, starts};
+use heap_layout::bits::is_set;
+use heap_layout::checks::FROM_SPACE;
 use heap_layout::fault::OutOfMemory;
 use heap_layout::header::Header;
 use heap_layout::heap::MarkedHeap;
@@ -23,6 +25,7 @@ pub struct Plan {
     heap: MarkedHeap,
     tables: Tables,
     first_objects: Vec<u32>,
+    starts: Vec<u64>,
 }
 
 impl Model for Plan {
@@ -33,7 +36,7 @@ impl Model for Plan {
 
     ghost view = { λ plan. plan.heap };
 
-    ghost invariant = { λ plan. IsPlan plan.heap plan.tables plan.first_objects.items };
+    ghost invariant = { λ plan. IsPlan plan.heap plan.tables plan.first_objects.items plan.starts.items };
 }
 
 impl Plan {
@@ -46,11 +49,13 @@ impl Plan {
         ensures { IfOk result (λ plan. plan ≡ heap) }
     {
         let tables = Tables::build(alloc, rt, &heap)?;
-        let first_objects = first_objects::first_objects(alloc, &heap)?;
+        let starts = starts::start_bits(alloc, &heap, &tables)?;
+        let first_objects = first_objects::first_objects(alloc, &starts)?;
         Ok(Plan {
             heap,
             tables,
             first_objects,
+            starts,
         })
     }
 
@@ -75,6 +80,14 @@ impl Plan {
         ensures closed { IsClosed self.now }
     {
         &self.first_objects
+    }
+
+    /// One bit for each slid word, a block of 64 for each page: set where an object starts.
+    pub(crate) fn starts(&self) -> &[u64]
+        ensures starts { AreStarts (live self.now) result.now }
+        ensures closed { IsClosed self.now }
+    {
+        &self.starts
     }
 
     /// How many words the live objects have.
@@ -104,33 +117,48 @@ impl Plan {
         Some(u64::from(self.heap.marks()[number]))
     }
 
-    /// The header of the slid object that starts at an address; None where none starts there.
+    /// Whether a slid object starts at an address. It takes constant time.
+    pub fn is_start(&self, address: u64) -> bool
+        ensures { result ≡ is_some (shape_at (live self.now) address) }
+    {
+        if address < TO_SPACE {
+            return false;
+        }
+        let place = address - TO_SPACE;
+        if place / 64 >= self.starts().len() as u64 {
+            return false;
+        }
+        is_set(self.starts(), place as usize)
+    }
+
+    /// The header of the slid object that starts at an address; None where none starts there. It takes constant time.
     pub fn shape_at(&self, address: u64) -> Option<Header>
         ensures shape { result ≡ shape_at (live self.now) address }
         ensures above { IfSome result (λ _. to_address 0 ≤ address) }
         ensures object { IfSome result (λ header. HasObject (live self.now) (address - to_address 0) header) }
     {
-        if address < TO_SPACE {
+        if !self.is_start(address) {
             return None;
         }
-        let place = address - TO_SPACE;
-        if place >= self.live_words() {
-            return None;
-        }
-        let cursor = page_builder::cursor_to(self, place);
-        if cursor.within != 0 {
-            return None;
-        }
-        let start = self.heap.marks()[cursor.number];
-        Some(self.heap.header_at(start as usize))
+        let number = starts::number_at(self, address - TO_SPACE);
+        let start = self.heap().marks()[number];
+        Some(self.heap().header_at(start as usize))
     }
 
-    /// Where a reference leads after sliding: 0 for 0, the to-space address for a live object's address, None for all else.
+    /// Where a reference leads after sliding: 0 for 0, the to-space address for a live object's address, None for all else. It takes constant time.
     pub fn forward(&self, reference: u64) -> Option<u64>
         ensures { result ≡ forward (live self.now) reference }
     {
-        if self.heap().is_target(reference) {
-            Some(places::place_of(self, reference))
+        if reference == 0 {
+            return Some(0);
+        }
+        if reference < FROM_SPACE {
+            return None;
+        }
+        // The place of a live word is a start where the word is its object's first one.
+        let place = self.tables().new_place(reference - FROM_SPACE)?;
+        if is_set(self.starts(), place as usize) {
+            Some(TO_SPACE + place)
         } else {
             None
         }

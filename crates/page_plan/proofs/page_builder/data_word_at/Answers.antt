@@ -1,7 +1,6 @@
 use Rattle.std.proofs.Common.{◌≡◌, ◌+◌, ◌-◌, List, slice_index, ℕ, refl, sym, ap, ◌∙◌, arith}
 use Rattle.heap_layout.specs.Kinds.{first_of}
-use Rattle.heap_layout.specs.Header.{size_of}
-use Rattle.heap_layout.specs.Heap.{header_at, live, IsClosed}
+use Rattle.heap_layout.specs.Heap.{header_at, IsClosed}
 use Rattle.heap_layout.specs.declared.kind.Kind.TheVariants.{Data}
 use Rattle.page_plan.specs.Planned.{IsKindOf}
 use Rattle.page_plan.proofs.Objects.{word-kept}

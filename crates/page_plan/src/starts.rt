@@ -1,0 +1,44 @@
+//! Where the slid objects start, and which of them has a word: one bit for each slid word, a block of 64 for each page.
+ghost use Rattle.std.specs.Prelude.{◌≡◌, ◌/◌, ◌%◌, ◌^◌, ◌<◌, count_ones, IfOk};
+ghost use Rattle.heap_layout.specs.Heap.{live, IsClosed};
+ghost use Rattle.mark_tables.specs.LiveWords.{live_indices};
+ghost use Rattle.page_plan.specs.Planned.{AreStarts, Covers};
+ghost use Rattle.page_plan.specs.Sliding.{live_words};
+
+use crate::plan::Plan;
+use heap_layout::bits::set;
+use heap_layout::heap::MarkedHeap;
+use mark_tables::tables::Tables;
+use std::alloc::{AllocError, Global};
+
+/// The bits of the slid words: that of a word is set where an object starts. It asks for the tables of the heap.
+pub fn start_bits(alloc: Global, heap: &MarkedHeap, tables: &Tables) -> Result<Vec<u64>, AllocError>
+    requires { tables.now ≡ live_indices (live heap.now) }
+    ensures starts { IfOk result (λ bits. AreStarts (live heap.now) bits.items) }
+    ensures closed { IfOk result (λ _. IsClosed heap.now) }
+{
+    let mut bits = vec![in alloc; 0; tables.live_words().div_ceil(64) as usize]?;
+    for &mark in heap.marks() {
+        let place = tables.new_place(u64::from(mark)).unwrap_or(0);
+        set(&mut bits, place as usize);
+    }
+    Ok(bits)
+}
+
+/// The number of the live object that has the slid word at this place: that of the page's first one, and one more for each start behind the page's first word.
+pub fn number_at(plan: &Plan, place: u64) -> usize
+    requires { place < live_words (live plan.now) }
+    ensures { Covers (live plan.now) place result }
+{
+    let page = (place / 64) as usize;
+    let behind = starts_behind(plan.starts()[page], place % 64);
+    plan.first_objects()[page] as usize + behind as usize
+}
+
+// How many bits of a block are set up to this one, its first one left out.
+fn starts_behind(block: u64, offset: u64) -> u32
+    requires { offset < 64 }
+    ensures { result ≡ count_ones (block / 2 % 2 ^ offset) }
+{
+    ((block >> 1) & ((1 << offset) - 1)).count_ones()
+}
