@@ -139,6 +139,18 @@ pub first-told : (some more whole : List LayoutFault) (fault : LayoutFault) → 
 first-told [] more whole fault same first = absurd first
 first-told (x ∷ some) more whole fault same first = subst (λ (list : List LayoutFault). IsFirst list fault) same first
 
+-- where some are none, the first is the first of more
+pub first-behind : (some more : List LayoutFault) (fault : LayoutFault) → some ≡ [] → IsFirst more fault → IsFirst (some ++ more) fault
+first-behind some more fault none first = rw none first
+
+-- where there are few enough words, marks and roots, the first fault of the row and its marks is the first of all
+pub first-object : (sizes row marks roots targets weak : List LayoutFault) (fault : LayoutFault) → sizes ≡ [] → IsFirst (row ++ marks) fault
+    → IsFirst (sizes ++ row ++ marks ++ roots ++ targets ++ weak) fault
+first-object sizes row marks roots targets weak fault none first =
+    rw none
+    (first-told ((row ++ marks) ++ roots ++ targets) weak _ fault refl
+    (first-told ((row ++ marks) ++ roots) targets _ fault refl (first-told (row ++ marks) roots _ fault refl first)))
+
 -- where some are none, it is more
 pub rest-told : (some more whole : List LayoutFault) → some ++ more ≡ whole → some ≡ [] → more ≡ whole
 rest-told some more whole same none = sym (ap (λ (list : List LayoutFault). list ++ more) none) ∙ same

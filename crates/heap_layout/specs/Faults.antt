@@ -1,8 +1,9 @@
 -- Why a heap is refused. The faults of a heap stand in one list, in the order in which they count: a heap is accepted where the list is empty, and
 -- else its first one is the answer.
-use Rattle.std.specs.Prelude.{◌≡◌, ℕ, ◌+◌, ◌^◌, ◌≤◌, Bool, nat_le, List, [], ◌∷◌, ◌++◌, length, if◌then◌else◌, Result, Ok, Err}
-use Rattle.std.specs.List.{flat_map, enumerate_from}
+use Rattle.std.specs.Prelude.{◌≡◌, ℕ, ◌+◌, ◌^◌, ◌≤◌, Bool, ◌==◌, nat_le, List, [], ◌∷◌, ◌++◌, length, take, drop, if◌then◌else◌, Result, Ok, Err}
+use Rattle.std.specs.List.{flat_map, enumerate_from, list_any}
 use Rattle.heap_layout.specs.Header.{size_of}
+use Rattle.heap_layout.specs.Bits.{bit}
 use Rattle.heap_layout.specs.Kinds.{first_of}
 use Rattle.heap_layout.specs.Heap.{Heap, header_at, object_at, fields_of, starts, starts_at, is_start, is_target}
 use Rattle.heap_layout.specs.declared.edition.Edition.{Edition}
@@ -37,6 +38,12 @@ abbrev pub mark_faults : List ℕ → ℕ → List ℕ → List LayoutFault
 mark_faults row low [] = []
 mark_faults row low (mark ∷ marks) =
     (unless (nat_le low mark) (MarksNotRising mark) ++ unless (is_start row mark) (MarkNotStart mark)) ++ mark_faults row (mark + 1) marks
+
+-- of marks, each in its turn was met where an object starts, as many as `met`: the others have the faults of all, and the bits are those of the ones that were met
+pub record Meets (row marks : List ℕ) (met : ℕ) (bits : List ℕ) : Type 0 where
+  pub low : ℕ
+  pub faults : mark_faults row low (drop met marks) ≡ mark_faults row 0 marks
+  pub same : (j : ℕ) → bit bits j ≡ list_any (λ mark. mark == j) (take met marks)
 
 -- each root passes the test; a fault names the root's number
 abbrev pub root_faults_by : (ℕ → Bool) → List ℕ → List LayoutFault

@@ -1,10 +1,10 @@
 //! The tests that a heap passes before it is accepted, in the order in which their faults count. None takes memory.
-ghost use Rattle.std.specs.Prelude.{◌≡◌, ◌+◌, ◌^◌, ◌≤◌, ◌==◌, ◌&&◌, nat_lt, [], All, length};
+ghost use Rattle.std.specs.Prelude.{◌≡◌, ℕ, ◌+◌, ◌^◌, ◌≤◌, ◌==◌, ◌&&◌, ◌++◌, nat_lt, false, [], All, length, slice_index, IfOk};
 ghost use Rattle.std.specs.List.Sorted.{IsStrictlyIncreasing};
 ghost use Rattle.std.specs.List.{flat_map};
 ghost use Rattle.heap_layout.specs.Heap.{starts, is_start, is_target, IsPlaced};
-ghost use Rattle.heap_layout.specs.Bits.{leads};
-ghost use Rattle.heap_layout.specs.Faults.{IsReached, size_faults, object_faults, mark_faults, root_faults_by, misled, reference_faults_by, field_faults_by, weak_faults, faults, Tells};
+ghost use Rattle.heap_layout.specs.Bits.{bit, leads};
+ghost use Rattle.heap_layout.specs.Faults.{IsReached, Meets, size_faults, object_faults, mark_faults, root_faults_by, misled, reference_faults_by, field_faults_by, weak_faults, faults, Tells};
 
 use crate::edition::Edition;
 use crate::fault::LayoutFault;
@@ -37,9 +37,8 @@ pub fn check(
     ensures { Tells (faults (record { edition = edition; words = words.now; marks = marks.now; roots = roots.now })) result }
 {
     check_sizes(words.len(), marks.len(), roots.len())?;
-    check_row(edition, words)?;
-    check_marks(edition, words, marks)?;
-    let targets = Targets::from_marks(marks);
+    let mut targets = Targets::none();
+    check_objects(edition, words, marks, &mut targets)?;
     check_roots(&targets, roots)?;
     check_fields(&targets, Kind::Reference, edition, words, marks)?;
     check_weak(edition, words, marks)
@@ -56,11 +55,42 @@ pub fn check_sizes(words: usize, marks: usize, roots: usize) -> Result<(), Layou
     }
 }
 
-// Object by object: none is too long, or ends past the words.
-fn check_row(edition: Edition, words: &[u64]) -> Result<(), LayoutFault>
-    requires { length words.now ≤ 2 ^ 20 }
-    ensures { Tells (flat_map (object_faults edition words.now) (starts edition words.now)) result }
+// The row and its marks: object by object, none is too long, or ends past the words; each mark is above the one before it, and an object starts there. What
+// were no targets become those of the marks.
+fn check_objects(
+    edition: Edition,
+    words: &[u64],
+    marks: &[u32],
+    targets: &mut Targets,
+) -> Result<(), LayoutFault>
+    requires few { length words.now ≤ 2 ^ 20 }
+    requires none { (i : ℕ) → bit targets.old i ≡ false }
+    ensures told { Tells (flat_map (object_faults edition words.now) (starts edition words.now) ++ mark_faults (starts edition words.now) 0 marks.now) result }
+    ensures targets { IfOk result (λ _. leads targets.new ≡ is_target marks.now) }
 {
+    let met = check_row(edition, words, marks, targets)?;
+    if met == marks.len() {
+        return Ok(());
+    }
+    check_marks(edition, words, marks)?;
+    *targets = Targets::from_marks(marks);
+    Ok(())
+}
+
+// Object by object: none is too long, or ends past the words. Answers how many marks it met, of which each in its turn was where an object starts: they are
+// the targets now.
+fn check_row(
+    edition: Edition,
+    words: &[u64],
+    marks: &[u32],
+    targets: &mut Targets,
+) -> Result<usize, LayoutFault>
+    requires few { length words.now ≤ 2 ^ 20 }
+    requires none { (i : ℕ) → bit targets.old i ≡ false }
+    ensures told { Tells (flat_map (object_faults edition words.now) (starts edition words.now)) result }
+    ensures met { IfOk result (λ met. Meets (starts edition words.now) marks.now met targets.new) }
+{
+    let mut met = 0;
     let mut start = 0;
     while start < words.len() {
         let size = Header::from_word_of(edition, words[start]).size() as usize;
@@ -70,9 +100,19 @@ fn check_row(edition: Edition, words: &[u64]) -> Result<(), LayoutFault>
         if size > words.len() - start {
             return Err(LayoutFault::ObjectPastEnd(start as u64));
         }
+        let marked = is_mark(marks, met, start);
+        targets.add_if(marked, start);
+        met += usize::from(marked);
         start += size;
     }
-    Ok(())
+    Ok(met)
+}
+
+// Whether the mark of this number is this index.
+fn is_mark(marks: &[u32], number: usize, i: usize) -> bool
+    ensures { result ≡ (nat_lt number (length marks.now) && (slice_index marks.now number == i)) }
+{
+    number < marks.len() && marks[number] as usize == i
 }
 
 // Mark by mark: each is above the one before it, and an object of the row starts there.

@@ -1,11 +1,11 @@
 //! The words that lead to some objects, each told in constant time.
-ghost use Rattle.std.specs.Prelude.{◌≡◌, ℕ, ◌^◌, ◌<◌, ◌≤◌, false, [], All, length};
+ghost use Rattle.std.specs.Prelude.{◌≡◌, ◌≢◌, ℕ, ◌^◌, ◌<◌, ◌≤◌, ◌||◌, false, [], All, length};
 ghost use Rattle.std.specs.List.{flat_map};
 ghost use Rattle.heap_layout.specs.Bits.{bit, leads};
 ghost use Rattle.heap_layout.specs.Heap.{is_target, starts};
 ghost use Rattle.heap_layout.specs.Faults.{object_faults};
 
-use crate::bits::{is_set, set};
+use crate::bits::{is_set, set, set_if};
 use crate::checks::{FROM_SPACE, MOST_WORDS};
 use crate::edition::Edition;
 use crate::header::Header;
@@ -29,6 +29,22 @@ impl Model for Targets {
 }
 
 impl Targets {
+    /// No object.
+    pub fn none() -> Targets
+        ensures { (i : ℕ) → bit result i ≡ false }
+    {
+        Targets { starts: zeros() }
+    }
+
+    /// Adds the object at this index, if there is one. It asks for an index below 2^20.
+    pub fn add_if(&mut self, there: bool, i: usize)
+        requires { i < 2 ^ 20 }
+        ensures here { bit self.new i ≡ (bit self.old i || there) }
+        ensures elsewhere { (j : ℕ) → j ≢ i → bit self.new j ≡ bit self.old j }
+    {
+        set_if(&mut self.starts, there, i);
+    }
+
     /// The objects at these marks, as targets. It asks for marks below 2^20.
     pub fn from_marks(marks: &[u32]) -> Targets
         requires { All (λ mark. mark < 2 ^ 20) marks.now }
@@ -60,14 +76,10 @@ impl Targets {
     pub fn has(&self, reference: u64) -> bool
         ensures { result ≡ leads self.now reference }
     {
-        if reference == 0 {
-            return true;
-        }
-        if reference < FROM_SPACE {
-            return false;
-        }
-        let i = reference - FROM_SPACE;
-        i < MOST_WORDS as u64 && is_set(&self.starts, i as usize)
+        // Without a branch on null, which is as likely as not.
+        let i = reference.wrapping_sub(FROM_SPACE);
+        let there = is_set(&self.starts, (i % MOST_WORDS as u64) as usize);
+        (reference == 0) | ((i < MOST_WORDS as u64) & there)
     }
 }
 

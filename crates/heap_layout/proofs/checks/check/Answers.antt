@@ -1,23 +1,33 @@
-use Rattle.std.proofs.Common.{◌≡◌, ℕ, Bool, [], length, subst, arith}
+use Rattle.std.proofs.Common.{◌≡◌, ℕ, Bool, List, [], subst, arith}
 use Rattle.std.proofs.lemmas.Grind.{common_steps}
-use Rattle.heap_layout.specs.Faults.{root_faults, root_faults_by, target_faults, field_faults_by, IsFirst}
+use Rattle.std.specs.List.{flat_map}
+use Rattle.heap_layout.specs.Heap.{starts}
+use Rattle.heap_layout.specs.declared.edition.Edition.{Edition}
+use Rattle.heap_layout.specs.declared.fault.LayoutFault.{LayoutFault}
+use Rattle.heap_layout.specs.Faults.{object_faults, mark_faults, root_faults, root_faults_by, target_faults, field_faults_by, IsFirst}
 use Rattle.heap_layout.specs.declared.kind.Kind.TheVariants.{Reference}
-use Rattle.heap_layout.proofs.Marked.{marks-placed, sizes-few}
+use Rattle.heap_layout.proofs.Marked.{first-object, marks-placed}
+use Rattle.heap_layout.proofs.Rows.{append-none}
+use Rattle.std.proofs.lemmas.Result.{err_from_is_err_and}
 use Rattle.heap_layout.proofs.checks.check.Goals as goal
 
-pub from_marks-targets-requires : goal.from_marks-targets-requires
-from_marks-targets-requires c = λ k d within.
-    let few = sizes-few (length c.args.words.now) (length c.args.marks.now) (length c.args.roots.now) c.in_ok-check_sizes.ensures in
-    let placed = marks-placed c.args.edition c.args.words.now c.args.marks.now c.in_ok-check_row.ensures c.in_ok-check_marks.ensures k d within in
-    omega (arith, few.0, placed.within)
+-- the faults of the row
+abbrev row : Edition → List ℕ → List LayoutFault
+row edition words = flat_map (object_faults edition words) (starts edition words)
+
+pub returns-in_err-check_objects : goal.returns-in_err-check_objects
+returns-in_err-check_objects c =
+    let p = err_from_is_err_and c.from_residual-in_err-check_objects.result c.from_residual-in_err-check_objects.ensures.1 in
+    rw (p.1, p.2) (first-object _ _ _ _ _ _ _ c.in_ok-check_sizes.ensures c.in_err-check_objects.ensures.told)
 
 pub check_fields-requires-clause-placed : goal.check_fields-requires-clause-placed
-check_fields-requires-clause-placed c = marks-placed c.args.edition c.args.words.now c.args.marks.now c.in_ok-check_row.ensures c.in_ok-check_marks.ensures
+check_fields-requires-clause-placed c = (let parts = append-none (row c.args.edition c.args.words.now) (mark_faults (starts c.args.edition c.args.words.now) 0 c.args.marks.now) c.in_ok-check_objects.ensures.told in marks-placed c.args.edition c.args.words.now c.args.marks.now parts.0 parts.1)
 
 pub returns-in_err-check_roots : goal.returns-in_err-check_roots
 returns-in_err-check_roots c =
     let roots : IsFirst (root_faults c.args.marks.now c.args.roots.now) c.in_err-check_roots.field-0.0 =
-    subst (λ (test : ℕ → Bool). IsFirst (root_faults_by test c.args.roots.now) c.in_err-check_roots.field-0.0) c.from_marks-targets.ensures c.in_err-check_roots.ensures in
+    subst (λ (test : ℕ → Bool). IsFirst (root_faults_by test c.args.roots.now) c.in_err-check_roots.field-0.0) c.in_ok-check_objects.ensures.targets c.in_err-check_roots.ensures in
+    let (row_none, marks_none) = append-none (row c.args.edition c.args.words.now) (mark_faults (starts c.args.edition c.args.words.now) 0 c.args.marks.now) c.in_ok-check_objects.ensures.told in
     grind (arith, common_steps)
 
 pub returns-in_err-check_fields : goal.returns-in_err-check_fields
@@ -26,13 +36,14 @@ returns-in_err-check_fields c =
     let marks = c.args.marks.now in
     let e = c.args.edition in
     let roots : root_faults marks c.args.roots.now ≡ [] =
-    subst (λ (test : ℕ → Bool). root_faults_by test c.args.roots.now ≡ []) c.from_marks-targets.ensures c.in_ok-check_roots.ensures in
+    subst (λ (test : ℕ → Bool). root_faults_by test c.args.roots.now ≡ []) c.in_ok-check_objects.ensures.targets c.in_ok-check_roots.ensures in
     let targets : IsFirst (target_faults e words marks marks) c.in_err-check_fields.field-0.0 =
-    subst (λ (test : ℕ → Bool). IsFirst (field_faults_by Reference e test words marks) c.in_err-check_fields.field-0.0) c.from_marks-targets.ensures c.in_err-check_fields.ensures in
+    subst (λ (test : ℕ → Bool). IsFirst (field_faults_by Reference e test words marks) c.in_err-check_fields.field-0.0) c.in_ok-check_objects.ensures.targets c.in_err-check_fields.ensures in
+    let (row_none, marks_none) = append-none (row c.args.edition c.args.words.now) (mark_faults (starts c.args.edition c.args.words.now) 0 c.args.marks.now) c.in_ok-check_objects.ensures.told in
     grind (arith, common_steps)
 
 pub check_weak-requires-clause-placed : goal.check_weak-requires-clause-placed
-check_weak-requires-clause-placed c = marks-placed c.args.edition c.args.words.now c.args.marks.now c.in_ok-check_row.ensures c.in_ok-check_marks.ensures
+check_weak-requires-clause-placed c = (let parts = append-none (row c.args.edition c.args.words.now) (mark_faults (starts c.args.edition c.args.words.now) 0 c.args.marks.now) c.in_ok-check_objects.ensures.told in marks-placed c.args.edition c.args.words.now c.args.marks.now parts.0 parts.1)
 
 pub returns : goal.returns
 returns c =
@@ -40,7 +51,12 @@ returns c =
     let marks = c.args.marks.now in
     let e = c.args.edition in
     let roots : root_faults marks c.args.roots.now ≡ [] =
-    subst (λ (test : ℕ → Bool). root_faults_by test c.args.roots.now ≡ []) c.from_marks-targets.ensures c.in_ok-check_roots.ensures in
+    subst (λ (test : ℕ → Bool). root_faults_by test c.args.roots.now ≡ []) c.in_ok-check_objects.ensures.targets c.in_ok-check_roots.ensures in
     let targets : target_faults e words marks marks ≡ [] =
-    subst (λ (test : ℕ → Bool). field_faults_by Reference e test words marks ≡ []) c.from_marks-targets.ensures c.in_ok-check_fields.ensures in
+    subst (λ (test : ℕ → Bool). field_faults_by Reference e test words marks ≡ []) c.in_ok-check_objects.ensures.targets c.in_ok-check_fields.ensures in
+    let (row_none, marks_none) = append-none (row c.args.edition c.args.words.now) (mark_faults (starts c.args.edition c.args.words.now) 0 c.args.marks.now) c.in_ok-check_objects.ensures.told in
     grind (arith, common_steps)
+
+pub check_weak-requires-clause-row : goal.check_weak-requires-clause-row
+check_weak-requires-clause-row c =
+    (append-none (row c.args.edition c.args.words.now) (mark_faults (starts c.args.edition c.args.words.now) 0 c.args.marks.now) c.in_ok-check_objects.ensures.told).0
