@@ -19,7 +19,7 @@ pub fn start_bits(alloc: Global, heap: &MarkedHeap, tables: &Tables) -> Result<V
 {
     let mut bits = vec![in alloc; 0; tables.live_words().div_ceil(64) as usize]?;
     for &mark in heap.marks() {
-        let place = tables.new_place(u64::from(mark)).unwrap_or(0);
+        let place = tables.live_below(u64::from(mark));
         set(&mut bits, place as usize);
     }
     Ok(bits)

@@ -1,0 +1,28 @@
+use Rattle.std.proofs.Common.{◌≡◌, ◌+◌, ◌-◌, ℕ, List, Option, slice_index, unwrap_or, refl, sym, ap, ◌∙◌, arith}
+use Rattle.heap_layout.specs.Heap.{live, IsClosed}
+use Rattle.heap_layout.specs.declared.kind.Kind.TheVariants.{Reference}
+use Rattle.page_plan.specs.Sliding.{forwarded}
+use Rattle.page_plan.proofs.Objects.{reference-target, word-led}
+use Rattle.page_plan.proofs.page_builder.reference_at.Goals as goal
+
+pub place_of-requires : goal.place_of-requires
+place_of-requires c =
+    let heap = c.args.plan.now in
+    let cursor = c.args.cursor in
+    let words : c.words.result.now ≡ heap.words = cc in
+    let closed : IsClosed heap = rw c.heap.ensures at c.words.ensures.closed in
+    let ends = rw c.requires.start at c.requires.ends in
+    rw (words, c.requires.start)
+    (reference-target heap closed cursor.number cursor.within c.requires.known (omega (arith, c.requires.behind)) (omega (arith, ends, c.requires.before)))
+
+pub returns : goal.returns
+returns c =
+    let heap = c.args.plan.now in
+    let cursor = c.args.cursor in
+    let words : c.words.result.now ≡ heap.words = cc in
+    let closed : IsClosed heap = rw c.heap.ensures at c.words.ensures.closed in
+    let ends = rw c.requires.start at c.requires.ends in
+    let led = word-led heap closed cursor.number cursor.within c.args.start cursor.place Reference c.requires.known c.requires.start
+    (c.requires.at.at c.requires.known) (cursor.within - 1, omega (arith, c.requires.behind), omega (arith, c.requires.behind, ends, c.requires.before)) refl in
+    sym (ap (λ (place : Option ℕ). unwrap_or place 0) c.place_of.ensures)
+    ∙ ap (λ (ws : List ℕ). forwarded (live heap) (slice_index ws (c.args.start + cursor.within))) words ∙ sym led
