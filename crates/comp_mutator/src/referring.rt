@@ -49,6 +49,7 @@ impl<L: Named, B: Builder> Space<L, B> {
         let Hand {
             pass,
             fills: _,
+            lows: _,
             unposted: _,
         } = hand;
         reading::try_read_referring(alloc, &self.cells, pass, kind, object, field)
@@ -75,9 +76,10 @@ impl<L: Named, B: Builder> Space<L, B> {
         ensures builds { OnOk result (MayBuildTouched (setup_of self.now) (pass_of m.old) (pass_of m.new) kind object field) }
         ensures refused { IfErr result (FieldRefused (setup_of self.now) (pass_of m.old) (pass_of m.new) kind object field) }
     {
+        let mut waits = 0;
         for _ in rt.forever() {
             let answer = self.try_read_referring(alloc, m, kind, object, field);
-            if !is_busy(&answer) {
+            if !is_busy(&answer, &mut waits) {
                 return answer;
             }
         }
@@ -111,6 +113,7 @@ impl<L: Named, B: Builder> Space<L, B> {
         let Hand {
             pass,
             fills: _,
+            lows: _,
             unposted: _,
         } = hand;
         writing::try_write_referring(alloc, &self.cells, pass, kind, object, field, value)
@@ -139,9 +142,10 @@ impl<L: Named, B: Builder> Space<L, B> {
         ensures did { OnErr result (did (pass_of m.new) ≡ did (pass_of m.old)) }
         ensures refused { IfErr result (ReferenceRefused (setup_of self.now) (pass_of m.old) (pass_of m.new) kind object field value) }
     {
+        let mut waits = 0;
         for _ in rt.forever() {
             let answer = self.try_write_referring(alloc, m, kind, object, field, value);
-            if !is_busy(&answer) {
+            if !is_busy(&answer, &mut waits) {
                 return answer;
             }
         }
