@@ -1,9 +1,9 @@
 -- The lines of one mutator, one after another.
-use Rattle.std.proofs.Common.{◌≡◌, ℕ, zero, suc, ◌+◌, ◌<◌, ◌≤◌, ◌≢◌, true, false, cond, List, [], ◌∷◌, ◌++◌, length, map, remove, take, get_or, None, Some, eqb, eq-eqb, ne_eqb, sym, refl, ap, ◌∙◌, arith, subst, append_assoc, append-nil, length-append}
+use Rattle.std.proofs.Common.{◌≡◌, ℕ, zero, suc, ◌+◌, ◌-◌, ◌<◌, ◌≤◌, ◌≢◌, true, false, cond, List, [], ◌∷◌, ◌++◌, length, map, remove, take, get_or, None, Some, eqb, eq-eqb, ne_eqb, sym, refl, ap, ◌∙◌, arith, subst, append_assoc, append-nil, length-append}
 use Rattle.std.proofs.lemmas.List.{take_all}
-use mathlib.Core.Option.{some}
+use mathlib.Core.Option.{some, some-injective, some-ne-none}
 use lib.ListN.{get_elem?}
-use Rattle.cell_steps.proofs.Sums.{take_suc}
+use Rattle.cell_steps.proofs.Sums.{take_suc, there_at}
 use Rattle.page_cells.proofs.Growing.{grows_none, grows_then}
 use Rattle.std.specs.Prelude.{Option}
 use Rattle.cell_steps.specs.Passes.{did, number_of}
@@ -13,6 +13,7 @@ use Rattle.page_cells.specs.Calls.{Grows}
 use Rattle.call_refusals.specs.declared.refusal.Refusal.TheVariants.{Busy}
 use Rattle.trace_steps.specs.Acting.{null_registers, registers_after, shown_at, Refuses, Steps}
 use Rattle.comp_race.specs.Races.{numbered, own_lines, Ends, Ran, Went}
+use Rattle.comp_race.specs.Chains.{IsNextOwn}
 use Rattle.trace_text.specs.declared.line.Line.{Line}
 use Rattle.trace_steps.specs.declared.shown.Shown.{Shown}
 use Rattle.trace_text.specs.declared.fault.Stop.{Stop}
@@ -154,6 +155,19 @@ ran_all u lines k old registers shown now h le =
       ends = (omega arith, refl);
     }
 
+-- lines of others are left to them, up to the next of its own
+pub has_run_others : (u : Setup) (lines : List (ℕ × Line)) (k more : ℕ) (old : Pass) (registers : List ℕ) (shown : List Shown) (now : Pass)
+    → ((i : ℕ) (line : ℕ × Line) → k ≤ i → i < k + more → get_elem? lines i ≡ some line → line.1.mutator ≢ number_of old) → k + more ≤ length lines → HasRunFirst u lines k old registers shown now
+    → HasRunFirst u lines (k + more) old registers shown now
+has_run_others u lines k zero old registers shown now others le h =
+    let same : k ≡ k + 0 = omega arith in subst (λ (j : ℕ). HasRunFirst u lines j old registers shown now) same h
+has_run_others u lines k (suc more) old registers shown now others le h =
+    let line = there_at lines k (omega (arith, le)) in
+    let one = has_run_other u lines k old registers shown now h line.0 line.1 (λ e. others k line.0 (omega arith) (omega arith) line.1 (e ∙ h.number)) in
+    let all = has_run_others u lines (k + 1) more old registers shown now (λ i other from lt. others i other (omega (arith, from)) (omega (arith, lt))) (omega (arith, le)) one in
+    let same : k + 1 + more ≡ k + suc more = omega arith in
+    subst (λ (j : ℕ). HasRunFirst u lines j old registers shown now) same all
+
 -- the line at an index, and its number
 pub numbered_at : (n : ℕ) (lines : List Line) (k : ℕ) (d : Line) → k < length lines → get_elem? (numbered n lines) k ≡ some (n + k, get_or lines k d)
 numbered_at n [] k d lt = absurd (omega (arith, lt))
@@ -164,23 +178,25 @@ pub numbered_length : (n : ℕ) (lines : List Line) → length (numbered n lines
 numbered_length n [] = refl
 numbered_length n (x ∷ xs) = ap suc (numbered_length (n + 1) xs)
 
+-- what has this number is that line
+pub at_numbered : (n : ℕ) (lines : List Line) (k : ℕ) (line : ℕ × Line) → get_elem? (numbered n lines) k ≡ some line → get_elem? lines k ≡ some line.1
+at_numbered n [] k line at = absurd (some-ne-none line (sym at))
+at_numbered n (x ∷ xs) zero line at = ap (λ (l : ℕ × Line). some l.1) (some-injective (n, x) line at)
+at_numbered n (x ∷ xs) (suc k) line at = at_numbered (n + 1) xs k line at
+
+-- the lines of others before the mutator's next one
+pub run_to_next : (u : Setup) (lines : List Line) (k next : ℕ) (old : Pass) (registers : List ℕ) (shown : List Shown) (now : Pass) → IsNextOwn lines (number_of old) k next
+    → HasRunFirst u (numbered 1 lines) k old registers shown now → HasRunFirst u (numbered 1 lines) next old registers shown now
+run_to_next u lines k next old registers shown now h run =
+    let same : k + (next - k) ≡ next = omega (arith, h.above) in
+    subst (λ (j : ℕ). HasRunFirst u (numbered 1 lines) j old registers shown now) same
+    (has_run_others u (numbered 1 lines) k (next - k) old registers shown now (λ i line from lt at. h.others i line.1 from (omega (arith, lt, same)) (at_numbered 1 lines i line at))
+    (omega (arith, same, h.inside, numbered_length 1 lines)) run)
+
 -- what the mutator was, it is
 ends_number : (u : Setup) (lines : List (ℕ × Line)) (count : ℕ) (registers : List ℕ) (old new : Pass) (fault : Option Stop) → Ends u lines count registers old new fault → number_of new ≡ number_of old
 ends_number u lines count registers old new None e = ap number_of e.1
 ends_number u lines count registers old new (Some stop) e = e.grows.number
-
--- how many lines a mutator has among the first ones
-pub count_own : (n : ℕ) (lines : List (ℕ × Line)) (k : ℕ) (line : ℕ × Line) (count : ℕ) → get_elem? lines k ≡ some line → line.1.mutator ≡ n → count ≡ length (own_lines n (take k lines))
-    → count + 1 ≡ length (own_lines n (take (k + 1) lines))
-count_own n lines k line count at own e = omega (arith, e, ap length (own_more n lines k line at own), length-append (own_lines n (take k lines)) (line ∷ []))
-
-pub count_other : (n : ℕ) (lines : List (ℕ × Line)) (k : ℕ) (line : ℕ × Line) (count : ℕ) → get_elem? lines k ≡ some line → line.1.mutator ≢ n → count ≡ length (own_lines n (take k lines))
-    → count ≡ length (own_lines n (take (k + 1) lines))
-count_other n lines k line count at other e = e ∙ sym (ap length (others_more n lines k line at other))
-
--- and among all
-pub count_all : (n : ℕ) (lines : List (ℕ × Line)) (k count : ℕ) → length lines ≤ k → count ≡ length (own_lines n (take k lines)) → count ≡ length (own_lines n lines)
-count_all n lines k count le e = e ∙ ap (λ l. length (own_lines n l)) (take_all k lines le)
 
 -- the first of a list, and the others
 pub first_of : {A B : Type 0} (f : A → B) (l : List A) (x : A) → 0 < length l → x ≡ get_or l 0 x → map f l ≡ f x ∷ map f (remove l 0)

@@ -23,12 +23,16 @@ use Rattle.trace_steps.proofs.Elements.{at_or, written_back}
 use Rattle.comp_race.proofs.OwnLines.{ran_number, HasRunFirst}
 
 -- What holds of a runner while it runs the first k lines.
-pub record Running {L : Type 0} {B : Type 0} {g : Ghosts B} (space : Space L B g) (lines : List Line) (k number : ℕ) (before runner : Runner L) : Type 0 where
-  pub count : number ≡ k
+pub record Running {L : Type 0} {B : Type 0} {g : Ghosts B} (space : Space L B g) (lines : List Line) (k : ℕ) (before runner : Runner L) : Type 0 where
   pub of : IsMutatorOf space runner.mutator
   pub fault : runner.fault ≡ None
   pub room : vec_capacity runner.shown ≡ vec_capacity before.shown
   pub run : HasRunFirst (setup_of space) (numbered 1 lines) k (pass_of before.mutator) runner.registers runner.shown.items (pass_of runner.mutator)
+
+-- The line at a place, if there is one, is the runner's.
+pub record IsNextLine {L : Type 0} (lines : List Line) (place : ℕ) (runner : Runner L) : Type 0 where
+  pub inside : place ≤ length lines
+  pub own : (line : Line) → get_elem? lines place ≡ some line → line.mutator ≡ number_of_mutator runner.mutator
 
 -- what holds of all, by places
 pub all_at : {A : Type 0} (P : A → Type 0) (l : List A) → All P l → (k : ℕ) (a : A) → get_elem? l k ≡ some a → P a

@@ -1,2 +1,3 @@
 pub mod Races
 pub mod Runners
+pub mod Chains

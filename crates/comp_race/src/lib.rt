@@ -1,6 +1,7 @@
 //! Races: mutators that run their own lines of a trace side by side, and wait for busy pages.
 #![tactic(auto)]
 
+mod chains;
 pub mod race;
 mod runner;
 mod waiting;

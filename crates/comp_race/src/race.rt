@@ -4,12 +4,14 @@ ghost use mathlib.Core.Option.{some};
 ghost use lib.ListN.{get_elem?};
 ghost use Rattle.cell_steps.specs.Lists.{Each};
 ghost use Rattle.comp_mutator.specs.Mutators.{setup_of};
-ghost use Rattle.comp_race.specs.Races.{numbered, own_lines, HaveRaced};
+ghost use Rattle.comp_race.specs.Chains.{AreChained};
+ghost use Rattle.comp_race.specs.Races.{HaveRaced};
 ghost use Rattle.trace_steps.specs.AllMutators.{AreAll};
 ghost use Rattle.comp_race.specs.Runners.{mutator_of, room_in, room_of, run_of, HasRun, HaveRooms, IsBlank, IsReady};
 ghost use Rattle.trace_steps.specs.Traces.{AllFit, IsParsedFor};
 ghost use Rattle.trace_text.specs.Traces.{lines_of};
 
+use crate::chains::{Chains, chained};
 use crate::runner::{Runner, run_own};
 use comp_mutator::mutator::Mutator;
 use comp_mutator::space::Space;
@@ -57,30 +59,19 @@ fn not_raced<L: Ledger>(mutators: Vec<Mutator<L>>) -> NotRaced<L>
     }
 }
 
-/// How many lines a mutator has.
-fn count_of(lines: &[Line], number: u8) -> usize
-    ensures { result ≡ length (own_lines number (numbered 1 lines.now)) }
-{
-    let mut count = 0;
-    for line in lines {
-        if line.mutator == number {
-            count += 1;
-        }
-    }
-    count
-}
-
 /// Room for what each mutator's lines may show.
 fn rooms<L: Ledger>(
     alloc: Global,
     lines: &[Line],
+    chains: &Chains,
     mutators: &[Mutator<L>],
 ) -> Result<Vec<Vec<Shown>>, OutOfMemory>
+    requires { AreChained lines.now chains.now }
     ensures rooms { IfOk result (λ rooms. HaveRooms lines.now mutators.now rooms.items) }
 {
     let mut rooms = Vec::with_capacity(alloc, mutators.len())?;
     for m in mutators {
-        let room = Vec::with_capacity(alloc, count_of(lines, m.number()))?;
+        let room = Vec::with_capacity(alloc, chains.counts[m.number() as usize])?;
         rooms.push_reserved(room);
     }
     Ok(rooms)
@@ -116,9 +107,11 @@ fn run_all<L: Ledger + Send + Sync, B: Builder, R: Threads + Wait + Sync>(
     rt: &R,
     space: &Space<L, B>,
     lines: &[Line],
+    chains: &Chains,
     runners: &mut [Runner<L>],
 )
     requires fits { AllFit (setup_of space.now) lines.now }
+    requires chained { AreChained lines.now chains.now }
     requires ready { Each runners.old (IsReady space.now lines.now) }
     ensures long { length runners.new ≡ length runners.old }
     ensures ran { (k : ℕ) (before after : Runner L) → get_elem? runners.old k ≡ some before → get_elem? runners.new k ≡ some after → HasRun space.now lines.now before after }
@@ -129,10 +122,10 @@ fn run_all<L: Ledger + Send + Sync, B: Builder, R: Threads + Wait + Sync>(
         runners,
         threads,
         &|_, runner: &mut Runner<L>|
-            requires { AllFit (setup_of space.now) lines.now × IsReady space.now lines.now runner.old }
+            requires { AllFit (setup_of space.now) lines.now × AreChained lines.now chains.now × IsReady space.now lines.now runner.old }
             ensures { HasRun space.entry.now lines.entry.now runner.old runner.new }
         {
-            run_own(alloc, rt, space, lines, runner);
+            run_own(alloc, rt, space, lines, chains, runner);
         },
     );
 }
@@ -160,7 +153,7 @@ fn parted<L: Ledger>(
 
 /// Each mutator runs its own lines of a trace, in their order, in a thread of its own where one can be had, and waits for busy pages. A refused line ends its
 /// mutator's run. The mutators are all of the space's, in the order of their numbers, and the trace was parsed for as many mutators and roots as there are. Room
-/// for all that the lines can show is asked for first: where it is refused, the fault is `OutOfMemory`, and no line runs.
+/// for the order of each mutator's lines, and for all that they can show, is asked for first: where it is refused, the fault is `OutOfMemory`, and no line runs.
 pub fn race<L: Ledger + Send + Sync, B: Builder, R: Threads + Wait + Sync>(
     alloc: Global,
     rt: &R,
@@ -175,7 +168,10 @@ pub fn race<L: Ledger + Send + Sync, B: Builder, R: Threads + Wait + Sync>(
     ensures back { IfErr result (λ not. not.mutators ≡ mutators) }
 {
     let lines = trace.lines();
-    let Ok(rooms) = rooms(alloc, lines, &mutators) else {
+    let Ok(chains) = chained(alloc, lines) else {
+        return Err(not_raced(mutators));
+    };
+    let Ok(rooms) = rooms(alloc, lines, &chains, &mutators) else {
         return Err(not_raced(mutators));
     };
     let Ok(runners) = Vec::with_capacity(alloc, mutators.len()) else {
@@ -188,6 +184,6 @@ pub fn race<L: Ledger + Send + Sync, B: Builder, R: Threads + Wait + Sync>(
         return Err(not_raced(mutators));
     };
     let mut runners = readied(mutators, rooms, runners);
-    run_all(alloc, rt, space, lines, &mut runners);
+    run_all(alloc, rt, space, lines, &chains, &mut runners);
     Ok(parted(runners, raced, runs))
 }

@@ -22,8 +22,8 @@ pub run_all-requires-clause-ready : goal.run_all-requires-clause-ready
 run_all-requires-clause-ready g c κs within k runner at =
     let r = c.readied-runners in
     let lines = c.lines-lines.result.now in
-    let rooms = subst (λ (l : List (Mutator g.row.L.Denot)). HaveRooms lines l c.in-Ok.rooms.items) c.deref.ensures.value c.in-Ok.ensures.rooms in
-    ready_of c.args.space.now lines c.args.mutators.items c.in-Ok.rooms.items r.result.items r.ensures.mutators r.ensures.rooms r.ensures.blank rooms c.requires.all k runner
+    let rooms = subst (λ (l : List (Mutator g.row.L.Denot)). HaveRooms lines l c.in-Ok-rooms.rooms.items) c.deref.ensures.value c.in-Ok-rooms.ensures.rooms in
+    ready_of c.args.space.now lines c.args.mutators.items c.in-Ok-rooms.rooms.items r.result.items r.ensures.mutators r.ensures.rooms r.ensures.blank rooms c.requires.all k runner
     (ap (λ l. get_elem? l k) (sym c.deref_mut.ensures.value) ∙ at)
 
 pub returns-clause-raced : goal.returns-clause-raced
@@ -41,7 +41,7 @@ returns-clause-raced g c =
     (subst (λ (rs : List Run). HaveRaced space c.lines-lines.result.now before (map mutator_of new) rs) (sym (c.parted.ensures.runs ∙ ap (map run_of) back)) raced))
 
 pub readied-runners-requires-clause-rooms : goal.readied-runners-requires-clause-rooms
-readied-runners-requires-clause-rooms g c = c.in-Ok.ensures.rooms.count ∙ ap length c.deref.ensures.value
+readied-runners-requires-clause-rooms g c = c.in-Ok-rooms.ensures.rooms.count ∙ ap length c.deref.ensures.value
 
 pub readied-runners-requires-clause-empty : goal.readied-runners-requires-clause-empty
 readied-runners-requires-clause-empty g c =

@@ -15,7 +15,7 @@ loop-m-preserved g c =
     record {
       rooms = subst (HaveRooms c.args.lines.now (take (c.loop-m.m-index + 1) c.args.mutators.now)) (sym c.push_reserved.ensures.items)
           (rooms_more c.args.lines.now c.args.mutators.now c.loop-m.rooms.items c.loop-m.m-index m c.in_ok-room.room i.rooms (at_or c.args.mutators.now c.loop-m.m-index m (omega arith) ∙ ap some (sym c.m-item.is)) c.in_ok-room.ensures.items
-          (omega (arith, c.in_ok-room.ensures.capacity, c.count_of.ensures, ap (λ (n : ℕ). length (own_lines n (numbered 1 c.args.lines.now))) c.number.ensures)));
+          (omega (arith, c.in_ok-room.ensures.capacity, c.requires.counts c.number.result (omega arith), ap (λ (n : ℕ). length (own_lines n (numbered 1 c.args.lines.now))) c.number.ensures)));
       room = omega (arith, i.room, c.push_reserved.ensures.capacity);
     }
 

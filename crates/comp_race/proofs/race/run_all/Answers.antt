@@ -7,7 +7,7 @@ use Rattle.comp_race.proofs.race.run_all.Goals as goal
 pub for_each_mut-requires-clause-accepts : goal.for_each_mut-requires-clause-accepts
 for_each_mut-requires-clause-accepts g c κs within i p lt same =
     let ready = subst (IsReady c.args.space.now c.args.lines.now) (sym same) (c.requires.ready i (get_or c.args.runners.now i p.now) (at_or c.args.runners.now i p.now lt)) in
-    ((c.requires.fits, ready), search rules)
+    ((c.requires.fits, c.requires.chained, ready), search rules)
 
 pub returns-clause-ran : goal.returns-clause-ran
 returns-clause-ran g c k before after at now =
