@@ -7,6 +7,7 @@ ghost use Rattle.heap_image.specs.Versions.{version_of};
 ghost use Rattle.comp_dump.specs.DumpEncoding.{four_bytes};
 ghost use Rattle.comp_dump.specs.DumpReading as reading;
 ghost use Rattle.comp_dump.specs.DumpReading.{expected, number, word, CountsFailure, EndsBefore, RefusesEnd, Stops};
+ghost use Rattle.comp_dump.specs.declared.fault.DumpFault.TheVariants.{Truncated};
 
 use crate::fault::DumpFault;
 use byteorder::{ByteOrder, LittleEndian};
@@ -19,12 +20,13 @@ use std::io::Read;
 /// The first bytes of a dump.
 pub(crate) const MAGIC: [u8; 8] = *b"COMPDUMP";
 
-// Fills the buffer.
-fn read_part<R: Read>(r: &mut Counted<R>, buf: &mut [u8]) -> Result<(), DumpFault>
+/// Fills the buffer.
+pub(crate) fn read_part<R: Read>(r: &mut Counted<R>, buf: &mut [u8]) -> Result<(), DumpFault>
     requires { failures_of r.old < 2 ^ 64 - 1 }
     ensures read { OnOk result (Consumes (R.remaining (inner_of r.old)) (R.remaining (inner_of r.new)) buf.new) }
     ensures small { (i : ℕ) → slice_index buf.new i < 2 ^ 8 }
     ensures cut { IfErr result (λ fault. IfSome (R.remaining (inner_of r.old)) (EndsBefore (length buf.old) fault)) }
+    ensures ended { IfErr result (λ fault. fault ≡ Truncated → IfSome (R.remaining (inner_of r.old)) (λ bytes. (i : ℕ) → slice_index bytes i < 2 ^ 8)) }
     ensures counts { CountsFailure (failures_of r.old) (failures_of r.new) result }
 {
     match fill(r, buf) {
