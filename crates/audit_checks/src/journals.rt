@@ -63,6 +63,9 @@ fn check_compacted(setting: Setting<'_>, p: u64, journal: &[Entry]) -> Result<()
     requires stored { All (IsStoredEntry setting.edition setting.mutators) journal.now }
     ensures { Tells (entry_faults (setup_at setting.entry) p 0 0 [] journal.now) result }
 {
+    if journal.is_empty() {
+        return Ok(());
+    }
     let kinds = setting.plan.page_kinds(p);
     let mut low = 0;
     for (k, &entry) in journal.iter().enumerate() {
