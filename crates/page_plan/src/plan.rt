@@ -93,7 +93,7 @@ impl Plan {
     /// How many words the live objects have.
     pub fn live_words(&self) -> u64
         ensures words { result ≡ live_words (live self.now) }
-        ensures few { result ≤ 2 ^ 30 }
+        ensures few { result ≤ 2 ^ 20 }
     {
         self.tables().live_words()
     }
@@ -101,7 +101,7 @@ impl Plan {
     /// How many pages of 64 words they fill, the last one perhaps in part.
     pub fn pages(&self) -> u64
         ensures pages { result ≡ pages (live self.now) }
-        ensures few { result ≤ 2 ^ 30 }
+        ensures few { result ≤ 2 ^ 14 }
     {
         self.live_words().div_ceil(64)
     }
