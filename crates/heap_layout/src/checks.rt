@@ -41,7 +41,7 @@ pub fn check(
     check_objects(edition, words, marks, &mut targets)?;
     check_roots(&targets, roots)?;
     check_fields(&targets, Kind::Reference, edition, words, marks)?;
-    check_weak(edition, words, marks)
+    check_weak(edition, words, marks, &mut targets)
 }
 
 /// Whether there are few enough words, marks and roots.
@@ -73,7 +73,7 @@ fn check_objects(
         return Ok(());
     }
     check_marks(edition, words, marks)?;
-    *targets = Targets::from_marks(marks);
+    targets.put_marks(marks);
     Ok(())
 }
 
@@ -180,8 +180,13 @@ fn check_roots(targets: &Targets, roots: &[u64]) -> Result<(), LayoutFault>
     Ok(())
 }
 
-// Each weak word of each marked object is null or an object's address.
-fn check_weak(edition: Edition, words: &[u64], marks: &[u32]) -> Result<(), LayoutFault>
+// Each weak word of each marked object is null or an object's address. The targets become all objects of a row of edition two.
+fn check_weak(
+    edition: Edition,
+    words: &[u64],
+    marks: &[u32],
+    targets: &mut Targets,
+) -> Result<(), LayoutFault>
     requires few { length words.now ≤ 2 ^ 20 }
     requires row { flat_map (object_faults edition words.now) (starts edition words.now) ≡ [] }
     requires placed { All (IsPlaced edition words.now) marks.now }
@@ -190,8 +195,8 @@ fn check_weak(edition: Edition, words: &[u64], marks: &[u32]) -> Result<(), Layo
     match edition {
         Edition::One => Ok(()),
         Edition::Two => {
-            let targets = Targets::from_row(edition, words);
-            check_fields(&targets, Kind::Weak, edition, words, marks)
+            targets.put_row(edition, words);
+            check_fields(targets, Kind::Weak, edition, words, marks)
         }
     }
 }

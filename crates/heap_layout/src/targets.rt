@@ -45,31 +45,36 @@ impl Targets {
         set_if(&mut self.starts, there, i);
     }
 
-    /// The objects at these marks, as targets. It asks for marks below 2^20.
-    pub fn from_marks(marks: &[u32]) -> Targets
+    /// The objects at these marks, in place of those before. It asks for marks below 2^20.
+    pub fn put_marks(&mut self, marks: &[u32])
         requires { All (λ mark. mark < 2 ^ 20) marks.now }
-        ensures { leads result ≡ is_target marks.now }
+        ensures { leads self.new ≡ is_target marks.now }
     {
-        let mut starts = zeros();
+        self.clear();
         for &mark in marks {
-            set(&mut starts, mark as usize);
+            set(&mut self.starts, mark as usize);
         }
-        Targets { starts }
     }
 
-    /// All objects of a row, as targets. It asks for at most 2^20 words, which are objects without gaps.
-    pub fn from_row(edition: Edition, words: &[u64]) -> Targets
+    /// All objects of a row, in place of those before. It asks for at most 2^20 words, which are objects without gaps.
+    pub fn put_row(&mut self, edition: Edition, words: &[u64])
         requires few { length words.now ≤ 2 ^ 20 }
         requires row { flat_map (object_faults edition words.now) (starts edition words.now) ≡ [] }
-        ensures { leads result ≡ is_target (starts edition words.now) }
+        ensures { leads self.new ≡ is_target (starts edition words.now) }
     {
-        let mut starts = zeros();
+        self.clear();
         let mut start = 0;
         while start < words.len() {
-            set(&mut starts, start);
+            set(&mut self.starts, start);
             start += Header::from_word_of(edition, words[start]).size() as usize;
         }
-        Targets { starts }
+    }
+
+    // No object any more.
+    fn clear(&mut self)
+        ensures { (i : ℕ) → bit self.new i ≡ false }
+    {
+        self.starts = zeros();
     }
 
     /// Whether a word is null or the address of one of the objects.

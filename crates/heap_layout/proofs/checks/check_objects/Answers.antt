@@ -25,8 +25,8 @@ returns-in_err-check_marks-clause-told c =
     let p = err_from_is_err_and c.from_residual-in_err-check_marks.result c.from_residual-in_err-check_marks.ensures.1 in
     rw (p.1, p.2) (first-behind _ _ _ c.in_ok-met.ensures.told c.in_err-check_marks.ensures)
 
-pub from_marks-requires : goal.from_marks-requires
-from_marks-requires c = λ k d within.
+pub put_marks-requires : goal.put_marks-requires
+put_marks-requires c = λ k d within.
     let placed = marks-placed c.args.edition c.args.words.now c.args.marks.now c.in_ok-met.ensures.told c.in_ok-check_marks.ensures k d within in
     omega (arith, placed.within)
 
@@ -36,4 +36,4 @@ returns-clause-told c =
     ap (λ (l : List LayoutFault). l ++ marks) c.in_ok-met.ensures.told ∙ c.in_ok-check_marks.ensures
 
 pub returns-clause-targets : goal.returns-clause-targets
-returns-clause-targets c = c.from_marks.ensures
+returns-clause-targets c = c.put_marks.ensures

@@ -1,11 +1,11 @@
 use Rattle.std.proofs.Common.{◌-◌, length}
 use Rattle.heap_layout.specs.Faults.{IsReached}
 use Rattle.heap_layout.proofs.RowBits.{AreBelow}
-use Rattle.heap_layout.proofs.targets.Targets.from_row.Given as goal
+use Rattle.heap_layout.proofs.targets.Targets.put_row.Given as goal
 
 -- one comes to the objects one by one, and the bits of those before are set
 abbrev pub invariant-loop-start : goal.invariant-loop-start
-invariant-loop-start l = record { reached : IsReached l.edition l.words l.start; below : AreBelow l.edition l.words l.starts l.start }
+invariant-loop-start l = record { reached : IsReached l.edition l.words l.start; below : AreBelow l.edition l.words l.self-inside.starts l.start }
 
 abbrev pub decreases-loop-start : goal.decreases-loop-start
 decreases-loop-start l = length l.words - l.start

@@ -3,7 +3,7 @@ use Rattle.heap_layout.specs.Header.{size_of}
 use Rattle.heap_layout.specs.Heap.{header_at}
 use Rattle.heap_layout.proofs.Rows.{reached-next}
 use Rattle.heap_layout.proofs.RowBits.{below-next, below-all}
-use Rattle.heap_layout.proofs.targets.Targets.from_row.Goals as goal
+use Rattle.heap_layout.proofs.targets.Targets.put_row.Goals as goal
 
 pub loop-start-preserved : goal.loop-start-preserved
 loop-start-preserved c =
@@ -19,4 +19,4 @@ loop-start-preserved c =
 
 pub returns : goal.returns
 returns c =
-    below-all c.args.edition c.args.words.now c.loop-start.starts c.loop-start.start c.loop-start.invariant.reached c.loop-start-test.false c.loop-start.invariant.below
+    below-all c.args.edition c.args.words.now c.loop-start.self-inside.starts c.loop-start.start c.loop-start.invariant.reached c.loop-start-test.false c.loop-start.invariant.below
