@@ -8,7 +8,7 @@ use Rattle.cell_steps.specs.Setup.{Setup}
 use Rattle.cell_steps.specs.Lawful.{IsLawful}
 use Rattle.page_cells.specs.Objects.{AreLawful}
 use Rattle.comp_dump.specs.Dumped.{BuiltPage}
-use Rattle.audit_faults.specs.declared.fault.AuditFault.{AuditFault}
+use Rattle.comp_dump.specs.declared.fault.AuditFault.{AuditFault}
 use Rattle.audit_checks.specs.Checks.{of_built, each_built, journal_of, journals_in, build_faults, journal_faults, word_faults}
 use Rattle.audit_checks.specs.Told.{page_faults}
 use Rattle.audit_checks.proofs.Telling.{none_both, item_none, none_items}

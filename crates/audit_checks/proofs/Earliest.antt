@@ -7,8 +7,8 @@ use Rattle.std.proofs.lemmas.List.{take_all}
 use Rattle.comp_journal.specs.declared.entry.Entry.{Entry}
 use Rattle.comp_history.proofs.Sorted.{In}
 use Rattle.comp_dump.specs.Dumped.{BuiltPage}
-use Rattle.audit_faults.specs.declared.fault.AuditFault.{AuditFault}
-use Rattle.audit_faults.specs.declared.fault.AuditFault.TheVariants.{BadEntry}
+use Rattle.comp_dump.specs.declared.fault.AuditFault.{AuditFault}
+use Rattle.comp_dump.specs.declared.fault.AuditFault.TheVariants.{BadEntry}
 use Rattle.audit_checks.specs.declared.late.Late.{Late}
 use Rattle.audit_checks.specs.Checks.{unless, above, all_stamps, journal_of, of_built, late_on, late_with, late_faults}
 use Rattle.audit_checks.specs.Told.{IsFirst}

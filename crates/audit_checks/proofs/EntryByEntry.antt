@@ -5,8 +5,8 @@ use Rattle.std.proofs.lemmas.List.{take_more}
 use Rattle.std.proofs.lemmas.Bool.{le-leb, lt-leb}
 use Rattle.comp_journal.specs.declared.entry.Entry.{Entry}
 use Rattle.cell_steps.specs.Setup.{Setup}
-use Rattle.audit_faults.specs.declared.fault.AuditFault.{AuditFault}
-use Rattle.audit_faults.specs.declared.fault.AuditFault.TheVariants.{BadEntry}
+use Rattle.comp_dump.specs.declared.fault.AuditFault.{AuditFault}
+use Rattle.comp_dump.specs.declared.fault.AuditFault.TheVariants.{BadEntry}
 use Rattle.audit_checks.specs.Checks.{unless, entry_faults, fits}
 use Rattle.audit_checks.specs.Told.{IsFirst}
 

@@ -3,7 +3,7 @@ use Rattle.std.proofs.Common.{◌≡◌, ℕ, Bool, ◌||◌, List, [], ◌++◌
 use Rattle.std.proofs.Math.Path.{fun_ext}
 use Rattle.cell_steps.specs.Setup.{Setup}
 use Rattle.comp_dump.specs.Dumped.{BuiltPage}
-use Rattle.audit_faults.specs.declared.fault.AuditFault.{AuditFault}
+use Rattle.comp_dump.specs.declared.fault.AuditFault.{AuditFault}
 use Rattle.audit_checks.specs.declared.fault.Stop.{Stop}
 use Rattle.audit_checks.specs.Checks.{all_entries, all_stamps, each_built, is_led, is_made_before, is_place, is_start, late_faults, missing_faults, reference_faults, repeat_faults}
 use Rattle.audit_checks.specs.Told.{history_faults, Tells}

@@ -8,8 +8,8 @@ use Rattle.comp_journal.specs.declared.entry.Entry.{Entry}
 use Rattle.cell_steps.specs.Lists.{Rises}
 use Rattle.cell_steps.specs.Setup.{Setup, pages}
 use Rattle.cell_steps.specs.Lawful.{filled, kind_at, Fits, IsField, LawfulAfter}
-use Rattle.audit_faults.specs.declared.fault.AuditFault.{AuditFault}
-use Rattle.audit_faults.specs.declared.fault.AuditFault.TheVariants.{BadEntry}
+use Rattle.comp_dump.specs.declared.fault.AuditFault.{AuditFault}
+use Rattle.comp_dump.specs.declared.fault.AuditFault.TheVariants.{BadEntry}
 use Rattle.audit_checks.specs.Checks.{unless, entry_faults, fits, is_kind, is_fresh_of}
 use Rattle.audit_checks.specs.Faultless.{FaultlessIsLawful}
 

@@ -22,8 +22,8 @@ use Rattle.comp_history.specs.OneThread.{address_of}
 use Rattle.comp_history.specs.Shares.{allocated}
 use Rattle.comp_history.specs.Builds.{named}
 use Rattle.comp_dump.specs.Dumped.{BuiltPage}
-use Rattle.audit_faults.specs.declared.fault.AuditFault.{AuditFault}
-use Rattle.audit_faults.specs.declared.fault.AuditFault.TheVariants.{WrongWord, LooseReference, BadEntry, StampRepeated, StampMissing, WrongTotal, BuildUnclaimed, WrongHead}
+use Rattle.comp_dump.specs.declared.fault.AuditFault.{AuditFault}
+use Rattle.comp_dump.specs.declared.fault.AuditFault.TheVariants.{WrongWord, LooseReference, BadEntry, StampRepeated, StampMissing, WrongTotal, BuildUnclaimed, WrongHead}
 
 -- to-space as the heap defines it, with so many fresh pages and mutators
 abbrev pub setup_for : Heap → ℕ → ℕ → Setup

@@ -6,8 +6,8 @@ use Rattle.comp_journal.specs.declared.entry.Entry.{Entry}
 use Rattle.cell_steps.specs.Setup.{Setup}
 use Rattle.audit_checks.specs.Checks.{setup_for, is_place, makes, is_made_before}
 use Rattle.audit_checks.specs.Told.{IsFirst}
-use Rattle.audit_faults.specs.declared.fault.AuditFault.{AuditFault}
-use Rattle.audit_faults.specs.declared.fault.AuditFault.TheVariants.{BadEntry}
+use Rattle.comp_dump.specs.declared.fault.AuditFault.{AuditFault}
+use Rattle.comp_dump.specs.declared.fault.AuditFault.TheVariants.{BadEntry}
 use Rattle.audit_checks.specs.declared.late.Late.{Late}
 use Rattle.audit_checks.specs.declared.setting.Setting.{Setting}
 

@@ -4,7 +4,7 @@ use Rattle.heap_layout.specs.declared.edition.Edition.{Edition}
 use Rattle.cell_steps.specs.Setup.{Setup}
 use Rattle.comp_dump.specs.Dumped.{BuiltPage}
 use Rattle.audit_checks.specs.Checks.{all_entries, all_stamps, each_built, head_faults, build_faults, journal_faults, word_faults, is_start, reference_faults, repeat_faults, missing_faults, is_made_before, is_led, late_faults, total_faults}
-use Rattle.audit_faults.specs.declared.fault.AuditFault.{AuditFault}
+use Rattle.comp_dump.specs.declared.fault.AuditFault.{AuditFault}
 use Rattle.audit_checks.specs.declared.fault.Stop.{Stop}
 use Rattle.audit_checks.specs.declared.fault.Stop.TheVariants as stop
 

@@ -8,7 +8,7 @@ ghost use Rattle.comp_dump.specs.Dumped.{IsStoredList};
 ghost use Rattle.audit_checks.specs.Told.{Tells};
 
 use crate::fault::Stop;
-use audit_faults::fault::AuditFault;
+use comp_dump::fault::AuditFault;
 use comp_dump::page::DumpedPage;
 use std::alloc::{AllocError, Global};
 

@@ -2,7 +2,7 @@
 ghost use Rattle.std.specs.Prelude.{◌≡◌};
 ghost use Rattle.audit_checks.specs.declared.fault.Stop.TheVariants as stop;
 
-use audit_faults::fault::AuditFault;
+use comp_dump::fault::AuditFault;
 use heap_layout::fault::OutOfMemory;
 use std::alloc::{AllocError, AllocFailed};
 

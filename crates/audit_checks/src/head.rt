@@ -7,7 +7,7 @@ ghost use Rattle.audit_checks.specs.Noted.{setup_at};
 
 use crate::fault::Stop;
 use crate::setting::Setting;
-use audit_faults::fault::AuditFault;
+use comp_dump::fault::AuditFault;
 use comp_dump::page::DumpedPage;
 use heap_layout::edition::Edition;
 use std::alloc::Global;

@@ -13,7 +13,7 @@ ghost use Rattle.audit_checks.specs.Noted.{setup_at};
 use crate::fault::Stop;
 use crate::kinds::{is_of, is_word_of};
 use crate::setting::Setting;
-use audit_faults::fault::AuditFault;
+use comp_dump::fault::AuditFault;
 use comp_dump::page::DumpedPage;
 use comp_history::kinds::add_kinds;
 use comp_journal::entry::Entry;

@@ -3,13 +3,13 @@ ghost use Rattle.std.specs.Prelude.{◌≡◌, ℕ, List, ◌==◌, ◌<◌, ◌
 ghost use Rattle.audit_checks.specs.Checks.{is_led, late_faults, late_on, late_with, unless};
 ghost use Rattle.audit_checks.specs.Told.{Tells};
 ghost use Rattle.audit_checks.specs.Noted.{is_noted_before, IsEarliest};
-ghost use Rattle.audit_faults.specs.declared.fault.AuditFault.{AuditFault};
-ghost use Rattle.audit_faults.specs.declared.fault.AuditFault.TheVariants.{BadEntry};
+ghost use Rattle.comp_dump.specs.declared.fault.AuditFault.{AuditFault};
+ghost use Rattle.comp_dump.specs.declared.fault.AuditFault.TheVariants.{BadEntry};
 
 use crate::fault::Stop;
 use crate::record::journal_of;
 use crate::starts::Starts;
-use audit_faults::fault::AuditFault;
+use comp_dump::fault::AuditFault;
 use comp_dump::page::DumpedPage;
 use comp_journal::entry::Entry;
 use page_plan::plan::Plan;

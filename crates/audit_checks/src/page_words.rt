@@ -9,7 +9,7 @@ ghost use Rattle.audit_checks.specs.Noted.{setup_at};
 
 use crate::fault::Stop;
 use crate::setting::Setting;
-use audit_faults::fault::AuditFault;
+use comp_dump::fault::AuditFault;
 use comp_dump::page::DumpedPage;
 use comp_journal::entry::Entry;
 use heap_layout::fault::OutOfMemory;

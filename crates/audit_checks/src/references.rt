@@ -12,7 +12,7 @@ use crate::fault::Stop;
 use crate::kinds::refers;
 use crate::setting::Setting;
 use crate::starts::Starts;
-use audit_faults::fault::AuditFault;
+use comp_dump::fault::AuditFault;
 use comp_dump::page::DumpedPage;
 use comp_history::kinds::kinds_on;
 use heap_layout::kind::Kind;

@@ -1,7 +1,7 @@
 ghost use Rattle.std.specs.Prelude.{◌≡◌, Some};
 ghost use Rattle.command_io.specs.declared.refusal.Refusal.TheVariants as refusal;
 
-use audit_faults::fault::AuditFault;
+use comp_dump::fault::AuditFault;
 use call_refusals::refusal as mutators;
 use comp_dump::fault::DumpFault;
 use comp_regions::refusal::SweepFault;

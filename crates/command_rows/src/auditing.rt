@@ -1,7 +1,7 @@
 //! Forged dumps that are judged.
 use crate::places::{File, Memory};
 use crate::printing::{Asked, is_answered};
-use audit_faults::fault::AuditFault;
+use comp_dump::fault::AuditFault;
 use command_io::refusal::Refusal;
 use comp_dump::fault::DumpFault;
 use std::process::Abort;

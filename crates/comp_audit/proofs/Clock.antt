@@ -9,8 +9,8 @@ use Rattle.cell_steps.specs.Locks.{Journals}
 use Rattle.cell_steps.proofs.Sums.{below-at, below-ext, below-zero, times-cons, times-other}
 use Rattle.comp_history.specs.Merged.{entries_below, stamp_of, with_page}
 use Rattle.comp_history.proofs.Pages.{total_below}
-use Rattle.audit_faults.specs.declared.fault.AuditFault.{AuditFault}
-use Rattle.audit_faults.specs.declared.fault.AuditFault.TheVariants.{StampRepeated, StampMissing}
+use Rattle.comp_dump.specs.declared.fault.AuditFault.{AuditFault}
+use Rattle.comp_dump.specs.declared.fault.AuditFault.TheVariants.{StampRepeated, StampMissing}
 use Rattle.audit_checks.specs.Checks.{unless, above, repeat_faults, missing_faults}
 use Rattle.audit_checks.proofs.Telling.{none_both, unless_holds}
 use Rattle.audit_checks.proofs.Ranges.{somewhere, all_below}

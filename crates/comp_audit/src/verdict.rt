@@ -1,4 +1,4 @@
-use audit_faults::fault::AuditFault;
+use comp_dump::fault::AuditFault;
 
 /// What an audit found: nothing wrong, or the first fault.
 #[derive(Clone, Copy, Debug, PartialEq, Eq)]

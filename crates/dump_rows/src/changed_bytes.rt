@@ -2,7 +2,7 @@
 use crate::encoded::{Whole, encoded};
 use crate::expected::expect_so;
 use crate::judged::{Told, told};
-use audit_faults::fault::AuditFault;
+use comp_dump::fault::AuditFault;
 use comp_audit::verdict::Verdict;
 use comp_dump::fault::DumpFault;
 use page_plan::plan::Plan;

@@ -2,7 +2,7 @@
 use crate::changed_bytes::{Becomes, Rule, expect_bytes};
 use crate::encoded::Whole;
 use crate::planned::{Worked, plan_of};
-use audit_faults::fault::AuditFault;
+use comp_dump::fault::AuditFault;
 use comp_audit::verdict::Verdict;
 use comp_dump::fault::DumpFault;
 use worked_heaps::heaps::T;

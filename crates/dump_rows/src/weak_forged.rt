@@ -1,7 +1,7 @@
 //! Dumps of edition two with some fields changed, dumps of the other edition, and what is told of them.
 use crate::encoded::{Change, Whole};
 use crate::judged::{Row, Told};
-use audit_faults::fault::AuditFault;
+use comp_dump::fault::AuditFault;
 use comp_audit::verdict::Verdict;
 use comp_dump::fault::DumpFault;
 use worked_heaps::heaps::{F, T};

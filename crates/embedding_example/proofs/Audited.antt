@@ -6,7 +6,7 @@ use Rattle.cell_steps.specs.declared.pass.Pass.{Pass}
 use Rattle.comp_cycles.specs.Finishes.{IsFinished, IsOfFlip}
 use Rattle.comp_cycles.specs.declared.finished.Finished.{Finished}
 use Rattle.comp_dump.specs.Dumped.{Dumped, IsStored}
-use Rattle.audit_faults.specs.declared.fault.AuditFault.{AuditFault}
+use Rattle.comp_dump.specs.declared.fault.AuditFault.{AuditFault}
 use Rattle.audit_checks.specs.Told.{IsFirst}
 use Rattle.comp_audit.specs.Judged.{faults, Judges}
 use Rattle.comp_audit.specs.Meant.{FinishedIsYes, IsDumpOf}

@@ -4,7 +4,7 @@ use Rattle.page_cells.specs.Ends.{lists as items_of}
 use Rattle.comp_history.specs.Builds.{named}
 use Rattle.comp_dump.specs.Dumped.{BuiltPage}
 use Rattle.audit_checks.specs.Checks.{unless, is_claimed}
-use Rattle.audit_faults.specs.declared.fault.AuditFault.TheVariants.{BuildUnclaimed}
+use Rattle.comp_dump.specs.declared.fault.AuditFault.TheVariants.{BuildUnclaimed}
 use Rattle.audit_checks.proofs.Telling.{first_here, none_here}
 use Rattle.audit_checks.proofs.claims.check_builds.Goals as goal
 

@@ -10,8 +10,8 @@ use Rattle.cell_steps.specs.Lawful.{kinds_by, kinds_in}
 use Rattle.audit_checks.specs.Checks.{fits, entry_faults}
 use Rattle.audit_checks.specs.Noted.{setup_at}
 use Rattle.audit_checks.specs.Told.{IsFirst}
-use Rattle.audit_faults.specs.declared.fault.AuditFault.{AuditFault}
-use Rattle.audit_faults.specs.declared.fault.AuditFault.TheVariants.{BadEntry}
+use Rattle.comp_dump.specs.declared.fault.AuditFault.{AuditFault}
+use Rattle.comp_dump.specs.declared.fault.AuditFault.TheVariants.{BadEntry}
 use Rattle.comp_history.proofs.JournalKinds.{kinds_more}
 use Rattle.audit_checks.proofs.EntryByEntry.{entry_bad, entry_next}
 use Rattle.audit_checks.proofs.journals.check_fresh.Goals.{then-from-low-via-then-from-low, then-from-low-via-else-from-low+then-not-may_follow}

@@ -1,5 +1,5 @@
 use Rattle.std.proofs.Common.{ℕ, List, ◌++◌}
-use Rattle.audit_faults.specs.declared.fault.AuditFault.{AuditFault}
+use Rattle.comp_dump.specs.declared.fault.AuditFault.{AuditFault}
 use Rattle.audit_checks.specs.Checks.{is_led}
 use Rattle.audit_checks.specs.Noted.{is_noted_before, IsEarliest}
 use Rattle.audit_checks.proofs.Earliest.{front_late}

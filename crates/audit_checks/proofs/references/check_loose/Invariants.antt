@@ -4,7 +4,7 @@ use Rattle.std.specs.List.{flat_map, enumerate_from}
 use Rattle.cell_steps.specs.Setup.{address}
 use Rattle.audit_checks.specs.Checks.{unless, some_refers, loose_faults}
 use Rattle.audit_checks.specs.Noted.{leads}
-use Rattle.audit_faults.specs.declared.fault.AuditFault.TheVariants.{LooseReference}
+use Rattle.comp_dump.specs.declared.fault.AuditFault.TheVariants.{LooseReference}
 use Rattle.audit_checks.proofs.references.check_loose.Given as goal
 
 -- the words that are left have the faults of all

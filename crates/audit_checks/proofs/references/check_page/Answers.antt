@@ -5,8 +5,8 @@ use Rattle.comp_journal.specs.declared.entry.Entry.{Entry}
 use Rattle.cell_steps.specs.Lawful.{filled, kind_at}
 use Rattle.cell_steps.specs.Setup.{address}
 use Rattle.comp_history.proofs.JournalKinds.{room_on}
-use Rattle.audit_faults.specs.declared.fault.AuditFault.{AuditFault}
-use Rattle.audit_faults.specs.declared.fault.AuditFault.TheVariants.{LooseReference}
+use Rattle.comp_dump.specs.declared.fault.AuditFault.{AuditFault}
+use Rattle.comp_dump.specs.declared.fault.AuditFault.TheVariants.{LooseReference}
 use Rattle.audit_checks.specs.Checks.{some_refers, loose_faults, reference_faults, unless}
 use Rattle.audit_checks.specs.Told.{Tells}
 use Rattle.audit_checks.specs.Noted.{leads, setup_at}

@@ -1,6 +1,6 @@
 use Rattle.std.proofs.Common.{◌++◌, ◌∙◌, ap, subst, List, arith}
 use Rattle.std.proofs.lemmas.Map.Keys.{ge_from_not_lt}
-use Rattle.audit_faults.specs.declared.fault.AuditFault.{AuditFault}
+use Rattle.comp_dump.specs.declared.fault.AuditFault.{AuditFault}
 use Rattle.audit_checks.specs.Checks.{repeat_faults, missing_faults}
 use Rattle.audit_checks.specs.Told.{Tells}
 use Rattle.audit_checks.proofs.Ranges.{same_repeats, same_missing, times_permuted, sorted_from}

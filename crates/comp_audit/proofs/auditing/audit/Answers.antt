@@ -6,7 +6,7 @@ use Rattle.audit_checks.specs.Checks.{setup_for}
 use Rattle.comp_dump.specs.Dumped.{BuiltPage, Dumped}
 use Rattle.audit_checks.specs.Told.{faults_for, IsFirst, Tells}
 use Rattle.comp_audit.specs.Judged.{faults}
-use Rattle.audit_faults.specs.declared.fault.AuditFault.{AuditFault}
+use Rattle.comp_dump.specs.declared.fault.AuditFault.{AuditFault}
 use Rattle.audit_checks.specs.declared.fault.Stop.{Stop}
 use Rattle.audit_checks.specs.declared.fault.Stop.TheVariants as stop
 use Rattle.comp_audit.proofs.auditing.audit.Goals as goal
