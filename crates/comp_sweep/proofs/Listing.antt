@@ -4,9 +4,9 @@ use Rattle.std.proofs.lemmas.List.Elements.{All-append, All-cons, All-nil}
 use Rattle.cell_steps.specs.Setup.{Setup}
 use Rattle.cell_steps.specs.Lists.{only}
 use Rattle.cell_steps.specs.declared.pass.Pass.{Pass}
-use Rattle.comp_regions.specs.Lots.{taken, SameLot}
-use Rattle.comp_regions.specs.declared.lots.Lot.{Lot}
-use Rattle.comp_regions.proofs.Tallies.{times_more}
+use Rattle.comp_sweep.specs.Lots.{taken, SameLot}
+use Rattle.comp_sweep.specs.declared.lots.Lot.{Lot}
+use Rattle.comp_sweep.proofs.Tallies.{times_more}
 use Rattle.comp_sweep.specs.Regions.{SeesRegion}
 use Rattle.comp_sweep.specs.Workers.{Listed}
 

@@ -17,11 +17,11 @@ use Rattle.comp_access.proofs.Growing.{known_more}
 use Rattle.comp_mutator.specs.Mutators.{pass_of, IsMutatorOf}
 use Rattle.comp_mutator.specs.declared.space.Space.{Space}
 use Rattle.comp_mutator.specs.declared.mutator.Mutator.{Mutator}
-use Rattle.comp_regions.specs.Lots.{put_in, standing, standings, taken, taken_in, AreDealt, IsAlone, IsOut, SameLot}
-use Rattle.comp_regions.specs.Regions.{AreAllOnce}
-use Rattle.comp_regions.specs.declared.lots.Lot.{Lot}
-use Rattle.comp_regions.proofs.Stands.{map_same}
-use Rattle.comp_regions.proofs.Tallies.{all_taken}
+use Rattle.comp_sweep.specs.Lots.{put_in, standing, standings, taken, taken_in, AreDealt, IsAlone, IsOut, SameLot}
+use Rattle.comp_sweep.specs.RegionSplits.{AreAllOnce}
+use Rattle.comp_sweep.specs.declared.lots.Lot.{Lot}
+use Rattle.comp_sweep.proofs.Stands.{map_same}
+use Rattle.comp_sweep.proofs.Tallies.{all_taken}
 use Rattle.comp_sweep.specs.Sweeps.{HandsBack, SeesRegions, Sweeps}
 use Rattle.comp_sweep.specs.Workers.{AreRest, KnowsAll, Listed}
 use Rattle.comp_sweep.proofs.Composed.{sweeps_then}

@@ -1,0 +1,5 @@
+use Rattle.comp_sweep.proofs.Deals.{begins}
+use Rattle.comp_sweep.proofs.deques.Own.new.Goals as goal
+
+pub fifo_as-requires : goal.fifo_as-requires
+fifo_as-requires c = begins

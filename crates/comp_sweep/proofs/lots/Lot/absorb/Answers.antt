@@ -1,0 +1,19 @@
+use Rattle.std.proofs.Common.{refl, ap, arith}
+use Rattle.cell_steps.specs.Lists.{only, times}
+use Rattle.cell_steps.proofs.Sums.{total-append}
+use Rattle.comp_sweep.specs.declared.dealing.Hand.{Hand}
+use Rattle.comp_sweep.specs.Lots.{own_view, way_view}
+use Rattle.comp_sweep.proofs.lots.Lot.absorb.Goals as goal
+
+pub returns : goal.returns
+returns c =
+    let e = c.absorb.ensures.view in
+    let before = (own_view c.args.self.now.own).taken in
+    let came = (way_view c.args.way).taken in record {
+      deque = c.absorb.ensures.deque;
+      put = ap (λ (v : Hand). v.put) e;
+      out = ap (λ (v : Hand). v.out) e;
+      back = ap (λ (v : Hand). v.back) e;
+      ways = refl;
+      taken = λ x. omega (arith, ap (λ (v : Hand). times x v.taken) e, total-append (only x) before came);
+    }

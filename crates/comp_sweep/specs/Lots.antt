@@ -1,0 +1,161 @@
+-- What workers take regions from, and how often each was taken.
+use Rattle.std.specs.Global.{Global}
+use Rattle.std.specs.Prelude.{◌≡◌, ℕ, ◌+◌, ◌<◌, ◌≤◌, List, [], length, map}
+use mathlib.Core.Option.{some}
+use lib.ListN.{get_elem?}
+use Rattle.cell_steps.specs.Lists.{only, times, total, Each}
+use Rattle.atomic_blocks.specs.Lent.{RowsId}
+use Rattle.crossbeam_deque.specs.Handles.{view, worker_view, worker_deque, stealer_deque}
+use Rattle.comp_sweep.specs.Dealt.{AllTaken}
+use Rattle.comp_sweep.specs.declared.dealing.Hand.{Hand}
+use Rattle.comp_sweep.specs.declared.deques.Own.{Own}
+use Rattle.comp_sweep.specs.declared.deques.Way.{Way}
+use Rattle.comp_sweep.specs.declared.lots.Lot.{Lot}
+
+-- which deque it is
+abbrev pub Deque : Type 0
+Deque = RowsId × Global
+
+abbrev pub own_deque : Own → Deque
+own_deque own = worker_deque own.owner
+
+abbrev pub way_deque : Way → Deque
+way_deque way = stealer_deque way.thief
+
+-- what was put and taken
+abbrev pub own_view : Own → Hand
+own_view own = worker_view own.owner
+
+abbrev pub way_view : Way → Hand
+way_view way = view way.pass
+
+-- It is the same deque, into which the same was put, and of whose ways as many were made and came back.
+pub record SameOwn (old new : Own) : Type 0 where
+  pub deque : own_deque new ≡ own_deque old
+  pub put : (own_view new).put ≡ (own_view old).put
+  pub out : (own_view new).out ≡ (own_view old).out
+  pub back : (own_view new).back ≡ (own_view old).back
+
+-- how often x was taken on these ways
+abbrev pub taken_on : ℕ → List Way → ℕ
+taken_on x ways = total (λ (way : Way). times x (way_view way).taken) ways
+
+-- how often x was taken from this lot, and from all of these
+abbrev pub taken : ℕ → Lot → ℕ
+taken x lot = times x (own_view lot.own).taken + taken_on x lot.ways.items
+
+abbrev pub taken_in : ℕ → List Lot → ℕ
+taken_in x lots = total (taken x) lots
+
+-- A lot but for what was taken: its deque, what was put into it, how many ways to it were made and came back, and to which deques its own ways lead, each with its number.
+pub record Standing (D : Type 0) : Type 0 where
+  pub deque : D
+  pub put : List ℕ
+  pub out : ℕ
+  pub back : ℕ
+  pub ways : List (ℕ × D)
+
+abbrev pub way_name : Way → ℕ × Deque
+way_name way = (way.index, way_deque way)
+
+abbrev pub standing : Lot → Standing Deque
+standing lot = record { deque = own_deque lot.own; put = (own_view lot.own).put; out = (own_view lot.own).out; back = (own_view lot.own).back; ways = map way_name lot.ways.items }
+
+abbrev pub standings : List Lot → List (Standing Deque)
+standings lots = map standing lots
+
+-- the lot has no region and no way
+pub record IsNew (lot : Lot) : Type 0 where
+  pub put : (standing lot).put ≡ []
+  pub out : (standing lot).out ≡ 0
+  pub back : (standing lot).back ≡ 0
+  pub ways : (standing lot).ways ≡ []
+  pub taken : (x : ℕ) → taken x lot ≡ 0
+
+-- it is the same deque, to which as many ways came back
+pub record StillLot (old new : Lot) : Type 0 where
+  pub deque : (standing new).deque ≡ (standing old).deque
+  pub back : (standing new).back ≡ (standing old).back
+
+-- a way to the lot's deque was made
+pub record Gives (index : ℕ) (old new : Lot) (way : Way) : Type 0 where
+  pub still : StillLot old new
+  pub put : (standing new).put ≡ (standing old).put
+  pub out : (standing new).out ≡ (standing old).out + 1
+  pub ways : (standing new).ways ≡ (standing old).ways
+  pub taken : (x : ℕ) → taken x new ≡ taken x old
+  pub index_is : way.index ≡ index
+  pub leads : way_deque way ≡ (standing old).deque
+  pub fresh : (way_view way).taken ≡ []
+
+-- a way to the lot's deque came back
+pub record HasBack (old new : Lot) (way : Way) : Type 0 where
+  pub deque : (standing new).deque ≡ (standing old).deque
+  pub put : (standing new).put ≡ (standing old).put
+  pub out : (standing new).out ≡ (standing old).out
+  pub back : (standing new).back ≡ (standing old).back + 1
+  pub ways : (standing new).ways ≡ (standing old).ways
+  pub taken : (x : ℕ) → taken x new ≡ taken x old + times x (way_view way).taken
+
+-- but for what was taken they are the same
+abbrev pub SameLot : Lot → Lot → Type 0
+SameLot old new = standing new ≡ standing old
+
+module _ {D : Type 0} where
+  abbrev pub deques : List (Standing D) → List D
+  deques lots = map (λ (lot : Standing D). lot.deque) lots
+
+  -- how often x was put
+  abbrev pub put_in : ℕ → List (Standing D) → ℕ
+  put_in x lots = total (λ (lot : Standing D). times x lot.put) lots
+
+  -- how many of these ways lead to number j
+  abbrev pub ways_to : ℕ → List (ℕ × D) → ℕ
+  ways_to j ways = total (λ (way : ℕ × D). only j way.0) ways
+
+  abbrev pub all_ways_to : ℕ → List (Standing D) → ℕ
+  all_ways_to j lots = total (λ (lot : Standing D). ways_to j lot.ways) lots
+
+  -- the way leads to the deque that has its number
+  abbrev pub LeadsTo : List D → ℕ × D → Type 0
+  LeadsTo all way = get_elem? all way.0 ≡ some way.1
+
+-- All ways lead to the deques of these lots, and none is missing: each that was made came back, is in a lot, or is one of those that are loose.
+pub record Linked {D : Type 0} (lots : List (Standing D)) (loose : List (ℕ × D)) : Type 0 where
+  pub lead : Each lots (λ (lot : Standing D). Each lot.ways (LeadsTo (deques lots)))
+  pub loose_lead : Each loose (LeadsTo (deques lots))
+  pub whole : (j : ℕ) (lot : Standing D) → get_elem? lots j ≡ some lot → lot.out ≡ lot.back + all_ways_to j lots + ways_to j loose
+
+-- The regions below n were dealt, each once.
+pub record AreDealt {D : Type 0} (n : ℕ) (lots : List (Standing D)) : Type 0 where
+  pub once : (x : ℕ) → x < n → put_in x lots ≡ 1
+  pub no_other : (x : ℕ) → n ≤ x → put_in x lots ≡ 0
+  pub linked : Linked lots []
+
+-- all ways of this lot are gone, and all to it came back
+abbrev pub IsAlone : {D : Type 0} → Standing D → Type 0
+IsAlone lot = (lot.ways ≡ []) × (lot.out ≡ lot.back)
+
+-- once all ways came back, all that was put into the lot's deque was taken
+abbrev pub IsOut : Lot → Type 0
+IsOut lot = AllTaken (own_view lot.own)
+
+-- The regions below n were taken, each once.
+pub record AreTaken (n : ℕ) (lots : List Lot) : Type 0 where
+  pub once : (x : ℕ) → x < n → taken_in x lots ≡ 1
+  pub no_other : (x : ℕ) → n ≤ x → taken_in x lots ≡ 0
+
+-- Ways were made between the lots, and nothing was taken.
+pub record HasLinked (old new : List Lot) : Type 0 where
+  pub count : length new ≡ length old
+  pub linked : Linked (standings new) []
+  pub put : (x : ℕ) → put_in x (standings new) ≡ put_in x (standings old)
+  pub taken : (x : ℕ) → taken_in x new ≡ taken_in x old
+
+-- Ways came back to the lots, and no other was made.
+pub record HasGathered (old new : List Lot) (came : List Way) : Type 0 where
+  pub count : length new ≡ length old
+  pub linked : Linked (standings new) []
+  pub put : (x : ℕ) → put_in x (standings new) ≡ put_in x (standings old)
+  pub ways : map (λ (lot : Standing Deque). lot.ways) (standings new) ≡ map (λ (lot : Standing Deque). lot.ways) (standings old)
+  pub taken : (x : ℕ) → taken_in x new ≡ taken_in x old + taken_on x came

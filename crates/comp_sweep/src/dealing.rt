@@ -1,0 +1,90 @@
+//! The rule of a deque of regions, and what each of its calls tells.
+
+use crossbeam_deque::protocol::{Join, Outcome, Protocol, Split};
+use crossbeam_deque::{Stealer, Worker};
+use std::alloc::Global;
+use std::collections::LinkedList;
+
+/// What a pass of a deque has put and taken, for the proof alone: no value of it is made.
+pub struct Hand {
+    /// How many ways the owner has made.
+    pub out: u64,
+    /// How many of them came back to it.
+    pub back: u64,
+    /// 1 on a way, else 0.
+    pub way: u64,
+    /// The regions that were put.
+    pub put: LinkedList<u64>,
+    /// The regions that were taken.
+    pub taken: LinkedList<u64>,
+}
+
+/// The rule of a deque: each region is there as often as it was put and not taken.
+pub struct Fair;
+
+impl Protocol<u64, Hand> for Fair {
+    ghost use Rattle.std.specs.Prelude.{[]};
+    ghost use Rattle.comp_sweep.specs.Dealt.{hand, Dealt};
+
+    ghost holds = { Dealt };
+
+    ghost first = { hand 0 0 0 [] [] };
+
+    ghost guest = { hand 0 0 0 [] [] };
+}
+
+/// A region is put.
+pub struct Puts;
+
+impl Outcome<u64, Hand> for Puts {
+    ghost use Rattle.comp_sweep.specs.Dealt.{puts};
+
+    ghost then = { puts };
+}
+
+/// The owner takes a region, or learns that none is there.
+pub struct Takes;
+
+impl Outcome<u64, Hand> for Takes {
+    ghost use Rattle.comp_sweep.specs.Dealt.{takes, AllTaken};
+
+    ghost then = { takes };
+
+    ghost empty = { AllTaken };
+}
+
+/// A region is stolen.
+pub struct Steals;
+
+impl Outcome<u64, Hand> for Steals {
+    ghost use Rattle.comp_sweep.specs.Dealt.{takes};
+
+    ghost then = { takes };
+}
+
+/// A way is made, or comes back.
+pub struct Ways;
+
+impl Split<Hand> for Ways {
+    ghost use Rattle.std.specs.Prelude.{[], ◌+◌};
+    ghost use Rattle.comp_sweep.specs.Dealt.{hand};
+
+    ghost left = { λ v. hand (v.out + 1) v.back v.way v.put v.taken };
+
+    ghost right = { λ v. hand 0 0 1 [] [] };
+}
+
+impl Join<Hand> for Ways {
+    ghost use Rattle.std.specs.Prelude.{[], ◌+◌, ◌++◌};
+    ghost use Rattle.comp_sweep.specs.Dealt.{hand};
+
+    ghost both = { λ v w. hand v.out (v.back + w.way) v.way v.put (v.taken ++ w.taken) };
+
+    ghost spent = { hand 0 0 0 [] [] };
+}
+
+/// A deque, at its owner's end.
+pub type Owner = Worker<u64, Global, Hand, Fair>;
+
+/// A deque, at the end from which others steal.
+pub type Thief = Stealer<u64, Global, Hand, Fair>;

@@ -1,0 +1,115 @@
+//! A worker's deque of regions, from which it takes, and the ways on which others take from it.
+ghost use Rattle.std.specs.Prelude.{◌≡◌};
+ghost use Rattle.crossbeam_deque.specs.Handles.{view, worker_flavor, worker_port, stealer_deque, stealer_flavor, IsPassOf};
+
+use crate::dealing::{Hand, Owner, Puts, Steals, Takes, Thief, Ways};
+use crossbeam_deque::{Pass, Steal};
+use heap_layout::fault::OutOfMemory;
+use std::alloc::Global;
+use std::sync::Wait;
+
+/// A worker's own deque.
+#[derive(Drop)]
+pub struct Own {
+    owner: Owner,
+    ghost flavor: { worker_flavor owner ≡ 0 },
+    ghost port: { worker_port owner ≡ 0 },
+}
+
+/// A way to the deque of another worker, whose number is `index`.
+#[derive(Drop)]
+pub struct Way {
+    index: usize,
+    thief: Thief,
+    pass: Pass<u64, Hand>,
+    ghost of: { IsPassOf (stealer_deque thief) pass },
+    ghost flavor: { stealer_flavor thief ≡ 0 },
+    ghost way: { (view pass).way ≡ 1 },
+}
+
+impl Own {
+    ghost use Rattle.std.specs.Prelude.{ℕ, ◌+◌, [], ◌∷◌, ◌++◌, OnOk, IfOk, IfSome, IfNone};
+    ghost use Rattle.comp_sweep.specs.Dealt.{hand, AllTaken};
+    ghost use Rattle.comp_sweep.specs.Lots.{SameOwn, own_deque, own_view, way_deque, way_view};
+
+    /// A deque with no region, and with room for so many.
+    pub(crate) fn new(alloc: Global, room: usize) -> Result<Own, OutOfMemory>
+        ensures { IfOk result (λ own. own_view own ≡ hand 0 0 0 [] []) }
+    {
+        let owner = Owner::fifo_as(alloc, room)?;
+        Ok(Own { owner })
+    }
+
+    /// Puts a region behind the others.
+    pub(crate) fn put(&mut self, region: u64) -> Result<(), OutOfMemory>
+        ensures deque { own_deque self.new ≡ own_deque self.old }
+        ensures put { OnOk result (own_view self.new ≡ hand (own_view self.old).out (own_view self.old).back (own_view self.old).way ((own_view self.old).put ++ region ∷ []) (own_view self.old).taken) }
+    {
+        match self.owner.push_as::<Puts>(region) {
+            Ok(()) => Ok(()),
+            Err(_) => Err(OutOfMemory),
+        }
+    }
+
+    /// A way to this deque, whose number is `index`.
+    pub(crate) fn way(&mut self, index: usize) -> Result<Way, OutOfMemory>
+        ensures deque { own_deque self.new ≡ own_deque self.old }
+        ensures out { IfOk result (λ _. own_view self.new ≡ hand ((own_view self.old).out + 1) (own_view self.old).back (own_view self.old).way (own_view self.old).put (own_view self.old).taken) }
+        ensures way { IfOk result (λ way. (way.index ≡ index) × (way_deque way ≡ own_deque self.old) × (way_view way ≡ hand 0 0 1 [] [])) }
+    {
+        let thief = self.owner.stealer()?;
+        let pass = self.owner.another::<Ways>();
+        Ok(Way { index, thief, pass })
+    }
+
+    /// Takes the first region. Once all ways came back, `None` says that all that was put was taken.
+    pub(crate) fn take(&mut self) -> Option<u64>
+        ensures same { SameOwn self.old self.new }
+        ensures some { IfSome result (λ q. (own_view self.new).taken ≡ (own_view self.old).taken ++ q ∷ []) }
+        ensures none { IfNone result ((own_view self.new ≡ own_view self.old) × AllTaken (own_view self.new)) }
+    {
+        self.owner.pop_as::<Takes>()
+    }
+
+    /// A way comes back: what was taken on it counts here.
+    pub(crate) fn absorb(&mut self, way: Way)
+        requires { way_deque way ≡ own_deque self.old }
+        ensures deque { own_deque self.new ≡ own_deque self.old }
+        ensures view { own_view self.new ≡ hand (own_view self.old).out ((own_view self.old).back + 1) (own_view self.old).way (own_view self.old).put ((own_view self.old).taken ++ (way_view way).taken) }
+    {
+        let Way {
+            index: _,
+            thief: _,
+            pass,
+        } = way;
+        self.owner.absorb::<Ways>(pass);
+    }
+}
+
+impl Way {
+    ghost use Rattle.std.specs.Prelude.{[], ◌∷◌, ◌++◌, IfSome, IfNone};
+    ghost use Rattle.comp_sweep.specs.Lots.{way_deque, way_view};
+
+    /// To which worker's deque the way leads.
+    pub(crate) fn index(&self) -> usize
+        ensures { result ≡ self.now.index }
+    {
+        self.index
+    }
+
+    /// Steals the first region.
+    pub(crate) fn steal(&mut self, rt: &impl Wait) -> Option<u64>
+        ensures same { (self.new.index ≡ self.old.index) × (way_deque self.new ≡ way_deque self.old) }
+        ensures some { IfSome result (λ q. (way_view self.new).taken ≡ (way_view self.old).taken ++ q ∷ []) }
+        ensures none { IfNone result ((way_view self.new).taken ≡ (way_view self.old).taken) }
+    {
+        for _ in rt.forever() {
+            match self.thief.steal_as::<Steals>(&mut self.pass) {
+                Steal::Success(region) => return Some(region),
+                Steal::Empty => return None,
+                Steal::Retry => {}
+            }
+        }
+        unreachable!()
+    }
+}

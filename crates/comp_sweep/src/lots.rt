@@ -1,0 +1,113 @@
+//! What a worker takes its regions from.
+ghost use Rattle.std.specs.Prelude.{◌≡◌};
+
+use crate::deques::{Own, Way};
+use heap_layout::fault::OutOfMemory;
+use std::alloc::Global;
+use std::mem;
+use std::sync::Wait;
+
+/// A worker's lot: its own deque of regions, and a way to the deque of each other worker.
+#[derive(Drop)]
+pub struct Lot {
+    own: Own,
+    ways: Vec<Way>,
+}
+
+impl Lot {
+    ghost use Rattle.std.specs.Prelude.{ℕ, ◌+◌, [], ◌∷◌, ◌++◌, map, OnOk, IfOk, IfSome, IfNone};
+    ghost use Rattle.cell_steps.specs.Lists.{only, times};
+    ghost use Rattle.comp_sweep.specs.Lots.{Gives, HasBack, IsNew, IsOut, SameLot, StillLot, own_deque, standing, taken, taken_on, way_deque, way_name, way_view};
+
+    /// A lot with no region and no way, and with room for so many regions.
+    pub(crate) fn new(alloc: Global, room: usize) -> Result<Lot, OutOfMemory>
+        ensures { IfOk result IsNew }
+    {
+        let own = Own::new(alloc, room)?;
+        Ok(Lot {
+            own,
+            ways: Vec::new(alloc),
+        })
+    }
+
+    /// Puts a region behind the others.
+    pub(crate) fn put(&mut self, region: u64) -> Result<(), OutOfMemory>
+        ensures still { OnOk result (StillLot self.old self.new) }
+        ensures ways { OnOk result ((standing self.new).ways ≡ (standing self.old).ways) }
+        ensures out { OnOk result ((standing self.new).out ≡ (standing self.old).out) }
+        ensures put { OnOk result ((standing self.new).put ≡ (standing self.old).put ++ region ∷ []) }
+        ensures taken { OnOk result ((x : ℕ) → taken x self.new ≡ taken x self.old) }
+    {
+        self.own.put(region)
+    }
+
+    /// A way to the deque of this lot, which has this number.
+    pub(crate) fn way(&mut self, index: usize) -> Result<Way, OutOfMemory>
+        ensures { IfOk result (λ way. Gives index self.old self.new way) }
+    {
+        self.own.way(index)
+    }
+
+    /// A way for this lot.
+    pub(crate) fn hold(&mut self, way: Way) -> Result<(), OutOfMemory>
+        ensures still { OnOk result (StillLot self.old self.new) }
+        ensures put { OnOk result ((standing self.new).put ≡ (standing self.old).put) }
+        ensures out { OnOk result ((standing self.new).out ≡ (standing self.old).out) }
+        ensures ways { OnOk result ((standing self.new).ways ≡ (standing self.old).ways ++ way_name way ∷ []) }
+        ensures taken { OnOk result ((x : ℕ) → taken x self.new ≡ taken x self.old + times x (way_view way).taken) }
+    {
+        self.ways.reserve(1)?;
+        self.ways.push_reserved(way);
+        Ok(())
+    }
+
+    /// The ways of this lot, which then has none.
+    pub(crate) fn free(&mut self, alloc: Global) -> Vec<Way>
+        ensures still { StillLot self.old self.new }
+        ensures put { (standing self.new).put ≡ (standing self.old).put }
+        ensures out { (standing self.new).out ≡ (standing self.old).out }
+        ensures none { (standing self.new).ways ≡ [] }
+        ensures ways { map way_name result.items ≡ (standing self.old).ways }
+        ensures taken { (x : ℕ) → taken x self.new + taken_on x result.items ≡ taken x self.old }
+    {
+        mem::replace(&mut self.ways, Vec::new(alloc))
+    }
+
+    /// A way to the deque of this lot comes back.
+    pub(crate) fn absorb(&mut self, way: Way)
+        requires { way_deque way ≡ (standing self.old).deque }
+        ensures { HasBack self.old self.new way }
+    {
+        self.own.absorb(way);
+    }
+
+    /// A region that is stolen: each of the other deques is looked at in turn.
+    fn steal(&mut self, rt: &impl Wait) -> Option<u64>
+        ensures same { SameLot self.old self.new }
+        ensures own { self.new.own ≡ self.old.own }
+        ensures some { IfSome result (λ q. (x : ℕ) → taken_on x self.new.ways.items ≡ taken_on x self.old.ways.items + only x q) }
+        ensures none { IfNone result ((x : ℕ) → taken_on x self.new.ways.items ≡ taken_on x self.old.ways.items) }
+    {
+        for k in 0..self.ways.len() {
+            let way = &mut self.ways[k];
+            if let Some(region) = way.steal(rt) {
+                return Some(region);
+            }
+        }
+        None
+    }
+
+    /// The next region: of the own deque or, where that is empty, of one of the others, to which it goes round in turn. `None`: each was found empty. It tries again
+    /// where a steal met another one.
+    pub fn next_region(&mut self, rt: &impl Wait) -> Option<u64>
+        ensures same { SameLot self.old self.new }
+        ensures some { IfSome result (λ q. (x : ℕ) → taken x self.new ≡ taken x self.old + only x q) }
+        ensures none { IfNone result ((x : ℕ) → taken x self.new ≡ taken x self.old) }
+        ensures out { IfNone result (IsOut self.new) }
+    {
+        match self.own.take() {
+            Some(region) => Some(region),
+            None => self.steal(rt),
+        }
+    }
+}
