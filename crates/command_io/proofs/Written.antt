@@ -3,10 +3,10 @@ use Rattle.std.proofs.Common.{◌≡◌, ◌+◌, ℕ, List, Option, Err, true, 
 use Rattle.std.proofs.KnownBytes.{Appends-kept}
 use Rattle.std.proofs.lemmas.List.{take_all}
 use Rattle.std.specs.Io.KnownBytes.{Appends, Keeps}
-use Rattle.heap_image.specs.Counted.{failures_of, inner_of, is_flushed_of, one_more}
-use Rattle.heap_image.specs.declared.counted.Counted.{Counted}
+use Rattle.heap_layout.specs.Counted.{failures_of, inner_of, is_flushed_of, one_more}
+use Rattle.heap_layout.specs.declared.counted.Counted.{Counted}
 use Rattle.comp_dump.specs.DumpReading.{CountsFailure}
-use Rattle.heap_image.specs.Writing.{AppendsSome}
+use Rattle.heap_layout.specs.Writing.{AppendsSome}
 use Rattle.comp_dump.specs.declared.fault.DumpFault.{DumpFault}
 use Rattle.comp_dump.specs.declared.fault.DumpFault.TheVariants.{Truncated, TrailingBytes, BadMagic, BadField, OutOfMemory, Device}
 use Rattle.heap_layout.specs.declared.fault.LayoutFault.{LayoutFault}

@@ -1,9 +1,9 @@
 -- What is promised from the path of a dump on.
 use Rattle.std.specs.Prelude.{◌≡◌, ℕ, List, Option, Result, Ok, Err, true}
 use Rattle.std.specs.Io.KnownBytes.{Appends}
-use Rattle.heap_image.specs.Counted.{failures_of, inner_of, is_flushed_of}
-use Rattle.heap_image.specs.declared.counted.Counted.{Counted}
-use Rattle.heap_image.specs.Writing.{AppendsSome}
+use Rattle.heap_layout.specs.Counted.{failures_of, inner_of, is_flushed_of}
+use Rattle.heap_layout.specs.declared.counted.Counted.{Counted}
+use Rattle.heap_layout.specs.Writing.{AppendsSome}
 use Rattle.comp_dump.specs.declared.fault.DumpFault.TheVariants.{Device}
 use Rattle.command_io.specs.declared.refusal.Output.{Output}
 use Rattle.command_io.specs.declared.refusal.Output.TheVariants as outputs

@@ -2,7 +2,7 @@
 use Rattle.std.specs.Prelude.{◌≡◌, ℕ, List, Option, IfSome}
 use Rattle.heap_layout.specs.Heap.{Heap, IsStored}
 use Rattle.heap_layout.specs.Faults.{IsAccepted}
-use Rattle.heap_image.specs.Encoding.{encoding, Refuses}
+use Rattle.heap_layout.specs.Encoding.{encoding, Refuses}
 use Rattle.command_io.specs.declared.refusal.Input.TheVariants.{Image}
 use Rattle.command_io.specs.declared.refusal.Refusal.{Refusal}
 use Rattle.command_io.specs.declared.refusal.Refusal.TheVariants.{CannotOpen, Layout, OutOfMemory}

@@ -3,7 +3,7 @@ use Rattle.std.specs.Prelude.{◌≡◌, ℕ, ◌+◌, List, [], ◌∷◌, ◌+
 use Rattle.std.specs.Fmt.{decimal}
 use Rattle.std.specs.Io.KnownBytes.{Keeps}
 use Rattle.std.specs.Str.{trim_end}
-use Rattle.heap_image.specs.Counted.{CountsFailure}
+use Rattle.heap_layout.specs.Counted.{CountsFailure}
 use Rattle.command_io.specs.declared.refusal.Input.{Input}
 use Rattle.command_io.specs.declared.refusal.Input.TheVariants.{Image, Trace, Dump, Marks}
 use Rattle.command_io.specs.declared.refusal.Output.{Output}

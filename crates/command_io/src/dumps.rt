@@ -1,9 +1,9 @@
 //! Where the dumps and the new images lie that the program makes, and how dumps are written.
 ghost use Rattle.std.specs.Prelude.{◌≡◌, ℕ, ◌-◌, ◌^◌, ◌<◌, List, true, IfOk, IfErr, OnOk};
-ghost use Rattle.heap_image.specs.Counted.{inner_of, failures_of, is_flushed_of};
+ghost use Rattle.heap_layout.specs.Counted.{inner_of, failures_of, is_flushed_of};
 ghost use Rattle.comp_dump.specs.DumpEncoding.{dump_bytes};
 ghost use Rattle.comp_dump.specs.DumpReading.{CountsFailure};
-ghost use Rattle.heap_image.specs.Writing.{Writes};
+ghost use Rattle.heap_layout.specs.Writing.{Writes};
 ghost use Rattle.comp_dump.specs.declared.fault.DumpFault.TheVariants as fault;
 ghost use Rattle.command_io.specs.Dumps.{IsOfCreating, IsOfDumping, WritesWhole};
 ghost use Rattle.command_io.specs.declared.refusal.Output.TheVariants as outputs;
@@ -13,7 +13,7 @@ use crate::refusal::{Output, Refusal};
 use comp_dump::dump::Dump;
 use comp_dump::fault::DumpFault;
 use comp_dump::writing::write_dump;
-use heap_image::counted::Counted;
+use heap_layout::counted::Counted;
 use std::io::Write;
 use std::rt::Files;
 

@@ -4,8 +4,8 @@ ghost use Rattle.command_io.specs.Images.{IsImageOf, RefusesAt, RefusesImage, So
 ghost use Rattle.command_io.specs.Printing.{IsOfOpening};
 
 use crate::refusal::{Input, Refusal};
-use heap_image::counted::Counted;
-use heap_image::image::read_image;
+use heap_layout::counted::Counted;
+use heap_layout::image::read_image;
 use heap_layout::heap::MarkedHeap;
 use std::alloc::Global;
 use std::fs;

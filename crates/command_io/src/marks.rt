@@ -1,6 +1,6 @@
 //! How the texts of marks are read.
 ghost use Rattle.std.specs.Prelude.{◌-◌, ◌^◌, ◌<◌, IfOk, IfErr};
-ghost use Rattle.heap_image.specs.Counted.{inner_of, failures_of};
+ghost use Rattle.heap_layout.specs.Counted.{inner_of, failures_of};
 ghost use Rattle.command_io.specs.Images.{SomeGiven};
 ghost use Rattle.command_io.specs.Marks.{AreMarksOf, RefusesMarksAt, RefusesMarksText};
 ghost use Rattle.command_io.specs.Texts.{CountsText};
@@ -8,7 +8,7 @@ ghost use Rattle.command_io.specs.Texts.{CountsText};
 use crate::refusal::{Input, Refusal};
 use crate::texts::{Unread, text_in};
 use crate::traces::Traces;
-use heap_image::counted::Counted;
+use heap_layout::counted::Counted;
 use std::alloc::Global;
 use std::io::Read;
 use trace_text::marks::{MarksFault, read_marks};

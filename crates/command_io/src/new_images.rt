@@ -1,16 +1,16 @@
 //! How new images are written.
 ghost use Rattle.std.specs.Prelude.{◌≡◌, true, IfErr, OnOk};
-ghost use Rattle.heap_image.specs.Counted.{inner_of, failures_of, is_flushed_of};
-ghost use Rattle.heap_image.specs.Encoding.{encoding};
-ghost use Rattle.heap_image.specs.Writing.{Writes, CountsOne};
+ghost use Rattle.heap_layout.specs.Counted.{inner_of, failures_of, is_flushed_of};
+ghost use Rattle.heap_layout.specs.Encoding.{encoding};
+ghost use Rattle.heap_layout.specs.Writing.{Writes, CountsOne};
 ghost use Rattle.heap_layout.specs.declared.fault.LayoutFault.TheVariants as fault;
 ghost use Rattle.command_io.specs.Dumps.{WritesWhole};
 ghost use Rattle.command_io.specs.NewImages.{IsOfWritingImage};
 
 use crate::dumps::Dumps;
 use crate::refusal::Refusal;
-use heap_image::counted::Counted;
-use heap_image::writing::write_image;
+use heap_layout::counted::Counted;
+use heap_layout::writing::write_image;
 use heap_layout::fault::LayoutFault;
 use heap_layout::heap::MarkedHeap;
 use std::io::Write;

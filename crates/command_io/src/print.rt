@@ -2,11 +2,11 @@
 ghost use Rattle.std.specs.Prelude.{◌≡◌, ◌-◌, ◌^◌, ◌<◌, true, OnOk, OnErr, Err};
 ghost use Rattle.std.specs.Fmt.{decimal};
 ghost use Rattle.std.specs.Io.KnownBytes.{Appends, Keeps};
-ghost use Rattle.heap_image.specs.Counted.{inner_of, failures_of, is_flushed_of, writer_of};
+ghost use Rattle.heap_layout.specs.Counted.{inner_of, failures_of, is_flushed_of, writer_of};
 ghost use Rattle.command_io.specs.Printing.{help_lines, named, numbered, CountsPrint};
 
 use crate::refusal::Refusal;
-use heap_image::counted::Counted;
+use heap_layout::counted::Counted;
 use itoa::Buffer;
 use std::io::Write;
 

@@ -1,9 +1,9 @@
 //! Texts that are read whole.
 ghost use Rattle.std.specs.Prelude.{◌≡◌, ◌-◌, ◌^◌, ◌<◌, length, IfOk, IfSome};
-ghost use Rattle.heap_image.specs.Counted.{inner_of, failures_of};
+ghost use Rattle.heap_layout.specs.Counted.{inner_of, failures_of};
 ghost use Rattle.command_io.specs.Texts.{CountsUnread};
 
-use heap_image::counted::Counted;
+use heap_layout::counted::Counted;
 use std::alloc::Global;
 use std::io::Read;
 

@@ -1,6 +1,6 @@
 //! Where the traces and the marks lie, and how the texts of traces are read.
 ghost use Rattle.std.specs.Prelude.{◌≡◌, ℕ, ◌-◌, ◌^◌, ◌<◌, List, IfOk, IfErr};
-ghost use Rattle.heap_image.specs.Counted.{inner_of, failures_of};
+ghost use Rattle.heap_layout.specs.Counted.{inner_of, failures_of};
 ghost use Rattle.trace_text.specs.Traces.{lines_of, mutators_of, roots_of};
 ghost use Rattle.command_io.specs.Images.{SomeGiven};
 ghost use Rattle.command_io.specs.Marks.{IsOfOpeningMarks};
@@ -8,7 +8,7 @@ ghost use Rattle.command_io.specs.Texts.{CountsText, IsOfOpeningText, IsTextOf, 
 
 use crate::refusal::{Input, Refusal};
 use crate::texts::{Unread, text_in};
-use heap_image::counted::Counted;
+use heap_layout::counted::Counted;
 use std::alloc::Global;
 use std::fs;
 use std::io::{BufReader, Read};

@@ -6,7 +6,7 @@ use command_io::refusal::{Input, Refusal};
 use command_line::words::TraceRun;
 use comp_dump::fault::DumpFault;
 use compact_command::compact::{Compaction, print_compact};
-use heap_image::counted::Counted;
+use heap_layout::counted::Counted;
 use heap_layout::fault::LayoutFault;
 use std::process::Abort;
 use std::sync::Wait;

@@ -2,7 +2,7 @@
 use crate::places::{Memory, Place};
 use command_io::refusal::{Input, Output, Refusal};
 use command_line::next::NextRun;
-use heap_image::counted::Counted;
+use heap_layout::counted::Counted;
 use heap_layout::fault::LayoutFault;
 use next_command::next::print_next;
 use std::process::Abort;

@@ -1,7 +1,7 @@
 ghost use Rattle.std.specs.Prelude.{◌≡◌, ◌-◌, ◌^◌, ◌<◌, ◌≤◌, true, map, IfOk, IfErr, OnOk, OnErr};
 ghost use Rattle.std.specs.String.{string_bytes};
 ghost use Rattle.std.specs.Io.KnownBytes.{Keeps};
-ghost use Rattle.heap_image.specs.Counted.{inner_of, failures_of, is_flushed_of, writer_of};
+ghost use Rattle.heap_layout.specs.Counted.{inner_of, failures_of, is_flushed_of, writer_of};
 ghost use Rattle.command_line.specs.Asked.{AsksNoCommand, HasLawfulCounts};
 ghost use Rattle.command_io.specs.Printing.{CountsPrint};
 ghost use Rattle.trace_commands.specs.Replays.{StopsUnprinted};
@@ -18,7 +18,7 @@ use compact_command::compact::{Compaction, print_compact};
 use heap_commands::audit::print_audit;
 use heap_commands::plan::print_plan;
 use heap_commands::word::print_word;
-use heap_image::counted::Counted;
+use heap_layout::counted::Counted;
 use next_command::next::print_next;
 use std::alloc::Global;
 use std::io::Write;

@@ -12,7 +12,7 @@ use Rattle.heap_layout.specs.declared.kind.Kind.{Kind}
 use Rattle.heap_layout.specs.declared.kind.Kind.TheVariants.{Header, Reference, Weak, Data}
 use Rattle.comp_journal.specs.declared.entry.Entry.{Entry}
 use Rattle.comp_dump.specs.Dumped.{BuiltPage, IsStoredEntry, IsStoredPage, IsStoredRecord, IsStoredList}
-use Rattle.heap_image.specs.Versions.{version_of}
+use Rattle.heap_layout.specs.Versions.{version_of}
 use Rattle.comp_dump.specs.Codes.{kind_code, last_code}
 use Rattle.comp_dump.specs.DumpEncoding.{one_byte, four_bytes, eight_bytes, entry_bytes, built_bytes, page_bytes, builds_bytes}
 use Rattle.comp_dump.specs.declared.fault.DumpFault.{DumpFault}

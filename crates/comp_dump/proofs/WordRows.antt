@@ -10,7 +10,7 @@ use Rattle.comp_dump.specs.DumpEncoding.{eight_bytes}
 use Rattle.comp_dump.specs.declared.fault.DumpFault.{DumpFault}
 use Rattle.comp_dump.specs.declared.fault.DumpFault.TheVariants.{Truncated, Device}
 use Rattle.comp_dump.specs.DumpReading.{number, times_read, word, EndsBefore, Fails, Stops}
-use Rattle.heap_image.proofs.Reading.{small_drop, small_take}
+use Rattle.heap_layout.proofs.Reading.{small_drop, small_take}
 use Rattle.comp_dump.proofs.Fields.{eight_read}
 
 -- the bytes are those of the words that they make

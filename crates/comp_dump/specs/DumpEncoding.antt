@@ -12,7 +12,7 @@ use Rattle.std.specs.List.{flat_map}
 use Rattle.byteorder.specs.Endian.{little_bytes}
 use Rattle.heap_layout.specs.declared.edition.Edition.{Edition}
 use Rattle.comp_journal.specs.declared.entry.Entry.{Entry}
-use Rattle.heap_image.specs.Versions.{version_of}
+use Rattle.heap_layout.specs.Versions.{version_of}
 use Rattle.comp_dump.specs.Codes.{kind_code}
 use Rattle.comp_dump.specs.Dumped.{Dumped, BuiltPage}
 

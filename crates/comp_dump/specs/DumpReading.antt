@@ -7,7 +7,7 @@ use Rattle.heap_layout.specs.declared.edition.Edition.TheVariants.{One, Two}
 use Rattle.heap_layout.specs.declared.kind.Kind.{Kind}
 use Rattle.heap_layout.specs.declared.kind.Kind.TheVariants.{Header, Reference, Weak, Data}
 use Rattle.comp_journal.specs.declared.entry.Entry.{Entry}
-use Rattle.heap_image.specs.Versions.{version_of}
+use Rattle.heap_layout.specs.Versions.{version_of}
 use Rattle.comp_dump.specs.Dumped.{Dumped, BuiltPage}
 use Rattle.comp_dump.specs.Codes.{last_code}
 use Rattle.comp_dump.specs.DumpEncoding.{magic}

@@ -2,7 +2,7 @@
 ghost use Rattle.std.specs.Prelude.{◌≡◌, ◌-◌, ◌^◌, ◌<◌, ◌≤◌, IfOk, IfErr, IfSome, All, length};
 ghost use Rattle.std.specs.Io.KnownBytes.{Consumes};
 ghost use Rattle.std.specs.List.{flat_map};
-ghost use Rattle.heap_image.specs.Counted.{inner_of, failures_of};
+ghost use Rattle.heap_layout.specs.Counted.{inner_of, failures_of};
 ghost use Rattle.page_cells.specs.Ends.{lists as items_of};
 ghost use Rattle.comp_dump.specs.Dumped.{AreCounts, IsStored, IsStoredList};
 ghost use Rattle.comp_dump.specs.DumpEncoding.{builds_bytes, dump_bytes, eight_bytes, four_bytes, head};
@@ -16,7 +16,7 @@ use crate::dump::Dump;
 use crate::fault::DumpFault;
 use crate::reading::fields::{MAGIC, expect, expect_end, read_edition, read_eight, read_four};
 use crate::reading::pages::read_pages;
-use heap_image::counted::Counted;
+use heap_layout::counted::Counted;
 use heap_layout::edition::Edition;
 use std::alloc::Global;
 use std::io::Read;

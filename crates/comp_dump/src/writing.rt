@@ -1,8 +1,8 @@
 //! Writing a dump, field by field.
 ghost use Rattle.std.specs.Prelude.{◌≡◌, ◌-◌, ◌^◌, ◌<◌, ◌≤◌, All, IfErr, length, Some};
 ghost use Rattle.std.specs.List.{flat_map};
-ghost use Rattle.heap_image.specs.Counted.{inner_of, failures_of};
-ghost use Rattle.heap_image.specs.Writing.{Writes, CountsOne};
+ghost use Rattle.heap_layout.specs.Counted.{inner_of, failures_of};
+ghost use Rattle.heap_layout.specs.Writing.{Writes, CountsOne};
 ghost use Rattle.page_cells.specs.Ends.{lists as items_of};
 ghost use Rattle.comp_dump.specs.Codes.{kind_code};
 ghost use Rattle.comp_dump.specs.Dumped.{HasFewEntries, IsWritable};
@@ -16,8 +16,12 @@ use crate::page::DumpedPage;
 use crate::reading::fields::MAGIC;
 use byteorder::{ByteOrder, LittleEndian};
 use comp_journal::entry::Entry;
-use heap_image::counted::Counted;
-use heap_image::writing::{write_four, write_numbers, write_part, write_version, write_words};
+use heap_layout::counted::Counted;
+use heap_layout::writing::write_four;
+use heap_layout::writing::write_numbers;
+use heap_layout::writing::write_part;
+use heap_layout::writing::write_version;
+use heap_layout::writing::write_words;
 use heap_layout::edition::Edition;
 use heap_layout::kind::Kind;
 use std::io::Write;

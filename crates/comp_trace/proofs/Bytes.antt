@@ -2,7 +2,7 @@
 use Rattle.std.proofs.Common.{◌≡◌, ℕ, zero, suc, ◌<◌, ◌++◌, ◌∙◌, List, [], ◌∷◌, Ok, length, refl, sym, ap, subst, arith}
 use mathlib.Core.Option.{some, some-ne-none}
 use lib.ListN.{get_elem?}
-use Rattle.heap_image.specs.Encoding.{ImagesDiffer}
+use Rattle.heap_layout.specs.Encoding.{ImagesDiffer}
 use Rattle.heap_layout.specs.Heap.{Heap}
 use Rattle.page_plan.specs.declared.builder.Builder.{Ghosts}
 use Rattle.comp_journal.specs.declared.entry.Entry.{Entry}

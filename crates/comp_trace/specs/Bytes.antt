@@ -2,7 +2,7 @@
 use Rattle.std.specs.Prelude.{◌≡◌, ◌⊎◌, ℕ, ◌+◌, true, List, [], Ok, Err, length, take}
 use mathlib.Core.Option.{some}
 use lib.ListN.{get_elem?}
-use Rattle.heap_image.specs.Encoding.{encoding, AreCounted}
+use Rattle.heap_layout.specs.Encoding.{encoding, AreCounted}
 use Rattle.heap_layout.specs.Heap.{live, Heap, IsStored}
 use Rattle.page_plan.specs.Sliding.{pages}
 use Rattle.cell_steps.specs.Locks.{Journals}

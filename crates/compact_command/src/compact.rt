@@ -1,6 +1,6 @@
 //! The command `compact`.
 ghost use Rattle.std.specs.Prelude.{◌≡◌, ◌-◌, ◌^◌, ◌<◌, ◌≤◌, map, length, IfOk, IfErr, OnOk};
-ghost use Rattle.heap_image.specs.Counted.{inner_of, failures_of, writer_of};
+ghost use Rattle.heap_layout.specs.Counted.{inner_of, failures_of, writer_of};
 ghost use Rattle.heap_layout.specs.Heap.{live};
 ghost use Rattle.page_plan.specs.Sliding.{pages};
 ghost use Rattle.page_cells.specs.Cells.{steps_of, AreNew};
@@ -24,8 +24,8 @@ use comp_mutator::refusal::FlipFault;
 use comp_mutator::space::Space;
 use comp_sweep::gate::Open;
 use comp_sweep::sweeping::sweep;
-use heap_image::counted::Counted;
-use heap_image::image::read_image;
+use heap_layout::counted::Counted;
+use heap_layout::image::read_image;
 use page_plan::plan::Plan;
 use std::alloc::Global;
 use std::io::{Read, Write};

@@ -1,9 +1,9 @@
 //! Images of heaps that follow.
 use crate::chains::{expect_so, follow};
 use crate::rows::linked;
-use heap_image::counted::Counted;
-use heap_image::image::read_image;
-use heap_image::writing::write_image;
+use heap_layout::counted::Counted;
+use heap_layout::image::read_image;
+use heap_layout::writing::write_image;
 use heap_layout::edition::Edition;
 use heap_layout::heap::MarkedHeap;
 use std::alloc::Global;

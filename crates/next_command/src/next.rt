@@ -1,7 +1,7 @@
 //! How the command `next` reads, writes and prints.
 ghost use Rattle.std.specs.Prelude.{◌≡◌, ◌-◌, ◌^◌, ◌<◌, ◌≤◌, IfErr, OnOk};
-ghost use Rattle.heap_image.specs.Counted.{inner_of, failures_of, writer_of};
-ghost use Rattle.heap_image.specs.Encoding.{encoding};
+ghost use Rattle.heap_layout.specs.Counted.{inner_of, failures_of, writer_of};
+ghost use Rattle.heap_layout.specs.Encoding.{encoding};
 ghost use Rattle.heap_layout.specs.Heap.{live};
 ghost use Rattle.page_plan.specs.Sliding.{live_words};
 ghost use Rattle.command_io.specs.Dumps.{WritesWhole};
@@ -20,7 +20,7 @@ use command_io::print::print_line;
 use command_io::refusal::Refusal;
 use command_io::traces::Traces;
 use command_line::next::NextRun;
-use heap_image::counted::Counted;
+use heap_layout::counted::Counted;
 use std::alloc::Global;
 use std::io::Write;
 use std::thread::Threads;

@@ -8,7 +8,7 @@ use comp_dump::fault::DumpFault;
 use comp_dump::reading::read_dump;
 use comp_dump::writing::write_dump;
 use comp_mutator::finishing::Finished;
-use heap_image::counted::Counted;
+use heap_layout::counted::Counted;
 use page_plan::plan::Plan;
 use std::alloc::Global;
 

@@ -2,8 +2,8 @@
 ghost use Rattle.std.specs.Prelude.{◌≡◌, ℕ, ◌-◌, ◌^◌, ◌<◌, ◌≤◌, IfOk, IfErr, IfSome, OnOk, length, slice_index};
 ghost use Rattle.std.specs.Io.KnownBytes.{Consumes, IsAtEnd};
 ghost use Rattle.byteorder.specs.Endian.{little_bytes};
-ghost use Rattle.heap_image.specs.Counted.{inner_of, failures_of};
-ghost use Rattle.heap_image.specs.Versions.{version_of};
+ghost use Rattle.heap_layout.specs.Counted.{inner_of, failures_of};
+ghost use Rattle.heap_layout.specs.Versions.{version_of};
 ghost use Rattle.comp_dump.specs.DumpEncoding.{four_bytes};
 ghost use Rattle.comp_dump.specs.DumpReading as reading;
 ghost use Rattle.comp_dump.specs.DumpReading.{expected, number, word, CountsFailure, EndsBefore, RefusesEnd, Stops};
@@ -11,9 +11,10 @@ ghost use Rattle.comp_dump.specs.declared.fault.DumpFault.TheVariants.{Truncated
 
 use crate::fault::DumpFault;
 use byteorder::{ByteOrder, LittleEndian};
-use heap_image::counted::Counted;
-use heap_image::parts::{Cut, fill};
-use heap_image::versions::edition_of;
+use heap_layout::counted::Counted;
+use heap_layout::parts::Cut;
+use heap_layout::parts::fill;
+use heap_layout::versions::edition_of;
 use heap_layout::edition::Edition;
 use std::io::Read;
 

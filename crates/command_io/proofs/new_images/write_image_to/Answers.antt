@@ -1,5 +1,5 @@
 use Rattle.std.proofs.lemmas.Result.{err_from_is_err_and}
-use Rattle.heap_image.specs.Encoding.{encoding}
+use Rattle.heap_layout.specs.Encoding.{encoding}
 use Rattle.command_io.proofs.Written.{image_cut_off, whole}
 use Rattle.command_io.proofs.new_images.write_image_to.Goals as goal
 

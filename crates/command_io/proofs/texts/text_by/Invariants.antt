@@ -1,6 +1,6 @@
 use Rattle.std.proofs.Common.{◌≡◌, ◌<◌, ◌≤◌, length}
 use Rattle.std.specs.Io.KnownBytes.{Consumes}
-use Rattle.heap_image.specs.Counted.{inner_of, failures_of}
+use Rattle.heap_layout.specs.Counted.{inner_of, failures_of}
 use Rattle.command_io.proofs.texts.text_by.Given as goal
 
 -- what was read so far is the text, each turn read something, and there is room for a piece

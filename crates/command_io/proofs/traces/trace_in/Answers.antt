@@ -1,4 +1,4 @@
-use Rattle.heap_image.specs.Counted.{inner_of}
+use Rattle.heap_layout.specs.Counted.{inner_of}
 use Rattle.command_io.proofs.Unread.{unread}
 use Rattle.command_io.proofs.traces.trace_in.Goals as goal
 

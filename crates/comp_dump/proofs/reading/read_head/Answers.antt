@@ -3,7 +3,7 @@ use Rattle.std.proofs.lemmas.Result.{err_from_is_err_and}
 use Rattle.comp_dump.proofs.Readings.{stops_first, stops_then}
 use Rattle.std.proofs.KnownBytes.{Consumes-trans}
 use Rattle.comp_dump.specs.DumpEncoding as encoding
-use Rattle.heap_image.specs.Versions.{version_of}
+use Rattle.heap_layout.specs.Versions.{version_of}
 use Rattle.comp_dump.specs.DumpEncoding.{magic, four_bytes}
 use Rattle.comp_dump.specs.DumpReading.{head}
 use Rattle.comp_dump.proofs.Fields.{spells_edition, spells_four}

@@ -1,6 +1,6 @@
 use Rattle.std.proofs.Common.{inl, inr}
 use Rattle.std.proofs.lemmas.Result.{err_from_is_err_and, IfErr-weaker}
-use Rattle.heap_image.specs.Counted.{inner_of, failures_of}
+use Rattle.heap_layout.specs.Counted.{inner_of, failures_of}
 use Rattle.trace_text.specs.Traces.{lines_of}
 use Rattle.command_io.proofs.Outcomes.{unmade}
 use Rattle.trace_commands.proofs.ReplayRuns.{inputs_uncounted, unprinted_halt}

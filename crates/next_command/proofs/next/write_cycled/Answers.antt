@@ -1,8 +1,8 @@
 use Rattle.std.proofs.Common.{ℕ, Err, List, OnOk, codes, subst, ◌∙◌}
 use Rattle.std.proofs.lemmas.Result.{err_from_is_err_and}
 use Rattle.std.specs.Io.KnownBytes.{Appends}
-use Rattle.heap_image.specs.Counted.{inner_of, failures_of}
-use Rattle.heap_image.specs.Encoding.{encoding}
+use Rattle.heap_layout.specs.Counted.{inner_of, failures_of}
+use Rattle.heap_layout.specs.Encoding.{encoding}
 use Rattle.heap_layout.specs.Heap.{Heap}
 use Rattle.comp_access.proofs.Answering.{ok_anyway}
 use Rattle.command_io.specs.Dumps.{WritesWhole}

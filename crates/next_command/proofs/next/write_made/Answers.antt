@@ -1,5 +1,5 @@
 use Rattle.std.proofs.Common.{IfErr, OnOk, Result, subst, sym}
-use Rattle.heap_image.specs.Counted.{inner_of}
+use Rattle.heap_layout.specs.Counted.{inner_of}
 use Rattle.trace_commands.specs.declared.replays.Halted.{Halted}
 use Rattle.trace_commands.proofs.ReplayRuns.{ok_both}
 use Rattle.next_command.specs.Nexts.{IsWrittenNext, RefusesWriting}

@@ -1,5 +1,5 @@
 use Rattle.std.proofs.lemmas.Result.{err_from_is_err_and}
-use Rattle.heap_image.specs.Counted.{inner_of}
+use Rattle.heap_layout.specs.Counted.{inner_of}
 use Rattle.command_io.proofs.Printings.{counted_then, printed_and_kept}
 use Rattle.trace_commands.specs.Replays.{shown_lines}
 use Rattle.trace_commands.proofs.shown.send_shown.Goals as goal

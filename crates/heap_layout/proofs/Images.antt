@@ -1,0 +1,120 @@
+-- Lemmas on what was read of an image, and on what is refused behind it.
+use Rattle.std.proofs.Common.{◌≡◌, ℕ, ◌+◌, ◌*◌, ◌≤◌, inl, inr, List, [], ◌++◌, length, Option, IfSome, refl, sym, ap, ◌∙◌, subst, arith, append_assoc, append-nil, length-append}
+use Rattle.std.specs.Io.KnownBytes.{Consumes}
+use Rattle.std.specs.List.{flat_map}
+use Rattle.std.proofs.KnownBytes.{Consumes-trans}
+use Rattle.heap_layout.specs.declared.edition.Edition.{Edition}
+use Rattle.heap_layout.specs.Heap.{Heap, IsStored}
+use Rattle.heap_layout.specs.Faults.{faults, IsFirst}
+use Rattle.heap_layout.specs.Encoding.{four_bytes, eight_bytes, preamble, counts, head, encoding, body_len, AreWithin, Refuses, RefusesCounts, RefusesEnd, EndsBefore}
+use Rattle.heap_layout.specs.declared.fault.LayoutFault.{LayoutFault}
+use Rattle.heap_layout.specs.declared.fault.LayoutFault.TheVariants.{TooLarge, ObjectPastEnd, ObjectTooLong, MarkNotStart, MarksNotRising, BadRoot, UnmarkedTarget, BadWeak, Truncated, TrailingBytes, OutOfMemory, Device}
+use Rattle.heap_layout.proofs.PartFaults.{IsOfPart, first_of_part}
+use Rattle.heap_layout.proofs.Reading.{behind_read}
+
+-- what is refused behind the magic and the version, as a fact of all the bytes
+refused_counts : (edition : Edition) (rest : List ℕ) (fault : LayoutFault) → RefusesCounts fault rest → Refuses fault (preamble edition ++ rest)
+refused_counts edition rest TooLarge (words, marks, roots, over, (more, same, _)) = (
+  edition,
+  words,
+  marks,
+  roots,
+  over,
+  (more, ap (λ (bytes : List ℕ). preamble edition ++ bytes) same ∙ sym (append_assoc (preamble edition) (counts words marks roots) more), tt),
+)
+refused_counts edition rest Truncated short = inr (inr (inl (edition, (rest, refl, short))))
+refused_counts edition rest OutOfMemory short = tt
+refused_counts edition rest Device short = tt
+refused_counts edition rest _ short = absurd short
+
+-- the same of a reader that has read those
+pub ends_in_counts : (a b : Option (List ℕ)) (edition : Edition) (fault : LayoutFault) → Consumes a b (preamble edition) → IfSome b (RefusesCounts fault) → IfSome a (Refuses fault)
+ends_in_counts a b edition fault read cut =
+    behind_read a b (preamble edition) (RefusesCounts fault) (Refuses fault) read cut (λ rest why. refused_counts edition rest fault why)
+
+-- what ends behind the front of the numbers ends among them, as a fact of the bytes
+refused_in_body : (edition : Edition) (words marks roots n : ℕ) (front rest : List ℕ) (fault : LayoutFault) → AreWithin words marks roots
+    → length front + n ≤ body_len words marks roots → EndsBefore n fault rest
+    → Refuses fault (head edition words marks roots ++ front ++ rest)
+refused_in_body edition words marks roots n front rest Truncated within room short =
+    inr (inr (inr (edition, words, marks, roots, within, (front ++ rest, append_assoc (head edition words marks roots) front rest, simp length-append (omega arith)))))
+refused_in_body edition words marks roots n front rest OutOfMemory within room short = tt
+refused_in_body edition words marks roots n front rest Device within room short = tt
+refused_in_body edition words marks roots n front rest _ within room short = absurd short
+
+-- the same of a reader that has read that front
+pub ends_in_body : (a b : Option (List ℕ)) (edition : Edition) (words marks roots n : ℕ) (front all : List ℕ) (fault : LayoutFault)
+    → all ≡ head edition words marks roots ++ front → Consumes a b all → AreWithin words marks roots
+    → length front + n ≤ body_len words marks roots → IfSome b (EndsBefore n fault) → IfSome a (Refuses fault)
+ends_in_body a b edition words marks roots n front all fault same read within room cut =
+    behind_read a b (head edition words marks roots ++ front) (EndsBefore n fault) (Refuses fault) (subst (Consumes a b) same read) cut
+    (λ rest short. refused_in_body edition words marks roots n front rest fault within room short)
+
+-- the same of a reader that has read the head alone and then ends among the words
+pub ends_in_words : (start behind_magic behind_counts : Option (List ℕ)) (edition : Edition) (words marks roots : ℕ) (fault : LayoutFault) → Consumes start behind_magic (preamble edition)
+    → Consumes behind_magic behind_counts (counts words marks roots) → AreWithin words marks roots
+    → IfSome behind_counts (EndsBefore (8 * words) fault) → IfSome start (Refuses fault)
+ends_in_words start behind_magic behind_counts edition words marks roots fault magic_read counts_read within cut =
+    let read = Consumes-trans start behind_magic behind_counts (preamble edition) (counts words marks roots) magic_read counts_read in
+    let front = head edition words marks roots in
+    ends_in_body start behind_counts edition words marks roots (8 * words) [] front fault (sym (append-nil front)) read within (omega arith) cut
+
+-- what is refused behind an image, as a fact of all the bytes
+refused_end : (heap : Heap) (rest : List ℕ) (fault : LayoutFault) → IsStored heap
+    → AreWithin (length heap.words) (length heap.marks) (length heap.roots)
+    → RefusesEnd fault rest → Refuses fault (encoding heap ++ rest)
+refused_end heap rest TrailingBytes stored within more = (heap, stored, within, (rest, refl, more))
+refused_end heap rest Device stored within more = tt
+refused_end heap rest _ stored within more = absurd more
+
+-- the same of a reader that has read the image
+pub more_behind : (a b : Option (List ℕ)) (heap : Heap) (fault : LayoutFault) → IsStored heap
+    → AreWithin (length heap.words) (length heap.marks) (length heap.roots)
+    → Consumes a b (encoding heap) → IfSome b (RefusesEnd fault) → IfSome a (Refuses fault)
+more_behind a b heap fault stored within read cut =
+    behind_read a b (encoding heap) (RefusesEnd fault) (Refuses fault) read cut (λ rest more. refused_end heap rest fault stored within more)
+
+-- the image of a heap whose first fault is of a part is refused for it
+refused_part : (heap : Heap) (fault : LayoutFault) → IsStored heap → IsOfPart fault → IsFirst (faults heap) fault → Refuses fault (encoding heap)
+refused_part heap (ObjectPastEnd i) stored part first = (heap, stored, refl, first)
+refused_part heap (ObjectTooLong i) stored part first = (heap, stored, refl, first)
+refused_part heap (MarkNotStart i) stored part first = (heap, stored, refl, first)
+refused_part heap (MarksNotRising i) stored part first = (heap, stored, refl, first)
+refused_part heap (BadRoot k) stored part first = (heap, stored, refl, first)
+refused_part heap (UnmarkedTarget i) stored part first = (heap, stored, refl, first)
+refused_part heap (BadWeak i) stored part first = (heap, stored, refl, first)
+refused_part heap _ stored part first = absurd part
+
+-- the image of a heap within the limits is refused for the heap's first fault
+pub refused_heap : (heap : Heap) (fault : LayoutFault) → IsStored heap
+    → AreWithin (length heap.words) (length heap.marks) (length heap.roots)
+    → IsFirst (faults heap) fault → Refuses fault (encoding heap)
+refused_heap heap fault stored within first = refused_part heap fault stored (first_of_part heap fault within first) first
+
+-- the head and the words were read
+pub words_read : (start behind_magic behind_counts now : Option (List ℕ)) (edition : Edition) (words marks roots : ℕ) (numbers : List ℕ) → Consumes start behind_magic (preamble edition)
+    → Consumes behind_magic behind_counts (counts words marks roots) → Consumes behind_counts now (flat_map eight_bytes numbers)
+    → Consumes start now (head edition words marks roots ++ flat_map eight_bytes numbers)
+words_read start behind_magic behind_counts now edition words marks roots numbers magic_read counts_read read =
+    let head_read = Consumes-trans start behind_magic behind_counts (preamble edition) (counts words marks roots) magic_read counts_read in
+    Consumes-trans start behind_counts now (head edition words marks roots) (flat_map eight_bytes numbers) head_read read
+
+-- the five parts of an image were read one after the other, and so the whole image
+pub image_read : (start behind_magic behind_counts behind_words behind_marks now : Option (List ℕ)) (heap : Heap) (words marks roots : ℕ)
+    → length heap.words ≡ words → length heap.marks ≡ marks → length heap.roots ≡ roots
+    → Consumes start behind_magic (preamble heap.edition) → Consumes behind_magic behind_counts (counts words marks roots)
+    → Consumes behind_counts behind_words (flat_map eight_bytes heap.words) → Consumes behind_words behind_marks (flat_map four_bytes heap.marks)
+    → Consumes behind_marks now (flat_map eight_bytes heap.roots) → Consumes start now (encoding heap)
+image_read start behind_magic behind_counts behind_words behind_marks now heap words marks roots is_words is_marks is_roots first second third fourth last =
+    let of_words = flat_map eight_bytes heap.words in
+    let of_marks = flat_map four_bytes heap.marks in
+    let of_roots = flat_map eight_bytes heap.roots in
+    let e = heap.edition in
+    let same : head e words marks roots ≡ head e (length heap.words) (length heap.marks) (length heap.roots) =
+    ap (λ (n : ℕ). head e n marks roots) (sym is_words)
+    ∙ ap (λ (n : ℕ). head e (length heap.words) n roots) (sym is_marks)
+    ∙ ap (λ (n : ℕ). head e (length heap.words) (length heap.marks) n) (sym is_roots) in
+    let front = words_read start behind_magic behind_counts behind_words e words marks roots heap.words first second third in
+    let both = Consumes-trans start behind_words behind_marks (head e words marks roots ++ of_words) of_marks front fourth in
+    let all = Consumes-trans start behind_marks now (head e words marks roots ++ of_words ++ of_marks) of_roots both last in
+    subst (Consumes start now) (ap (λ (bytes : List ℕ). bytes ++ of_words ++ of_marks ++ of_roots) same) all

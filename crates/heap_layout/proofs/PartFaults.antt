@@ -1,0 +1,120 @@
+-- Lemmas on the first fault of a heap: it tells of a part of the heap, unless the heap is too large.
+use Rattle.std.proofs.Common.{◌≡◌, ℕ, ◌+◌, ◌^◌, Bool, true, false, leb, List, [], ◌∷◌, ◌++◌, length, All, Result, Ok, Err, IfErr, refl, sym, subst}
+use Rattle.std.specs.List.{flat_map, enumerate_from}
+use Rattle.std.proofs.lemmas.Bool.{le-leb}
+use Rattle.std.proofs.lemmas.List.Elements.{All-nil, All-cons, All-append, All-head, All-same}
+use Rattle.heap_layout.specs.Counted.{CountsFailure}
+use Rattle.heap_layout.specs.Encoding.{AreWithin}
+use Rattle.heap_layout.specs.declared.edition.Edition.{Edition}
+use Rattle.heap_layout.specs.declared.kind.Kind.{Kind}
+use Rattle.heap_layout.specs.declared.kind.Kind.TheVariants.{Header, Reference, Weak, Data}
+use Rattle.heap_layout.specs.Header.{size_of}
+use Rattle.heap_layout.specs.Kinds.{first_of}
+use Rattle.heap_layout.specs.Heap.{Heap, starts, is_start, is_target, header_at, object_at, fields_of}
+use Rattle.heap_layout.specs.Faults.{unless, size_faults, object_faults, mark_faults, root_faults, misled, reference_faults_by, field_faults_by, target_faults, weak_faults, faults, IsFirst}
+use Rattle.heap_layout.specs.declared.fault.LayoutFault.{LayoutFault}
+use Rattle.heap_layout.specs.declared.fault.LayoutFault.TheVariants.{ObjectPastEnd, ObjectTooLong, MarkNotStart, MarksNotRising, BadRoot, UnmarkedTarget, BadWeak, Device}
+
+-- the fault tells of an object, a mark, a root or a reference
+abbrev pub IsOfPart : LayoutFault → Type 0
+IsOfPart (ObjectPastEnd i) = Unit {0}
+IsOfPart (ObjectTooLong i) = Unit {0}
+IsOfPart (MarkNotStart i) = Unit {0}
+IsOfPart (MarksNotRising i) = Unit {0}
+IsOfPart (BadRoot k) = Unit {0}
+IsOfPart (UnmarkedTarget i) = Unit {0}
+IsOfPart (BadWeak i) = Unit {0}
+IsOfPart _ = ⊥
+
+-- a test that fails with a fault of a part has only that fault
+unless_of_part : (holds : Bool) (fault : LayoutFault) → IsOfPart fault → All IsOfPart (unless holds fault)
+unless_of_part true fault part = All-nil IsOfPart
+unless_of_part false fault part = All-cons IsOfPart fault [] part (All-nil IsOfPart)
+
+-- what has faults of a part at each item has only such faults
+each_of_part : {X : Type 0} (f : X → List LayoutFault) → ((x : X) → All IsOfPart (f x)) → (xs : List X) → All IsOfPart (flat_map f xs)
+each_of_part f part [] = All-nil IsOfPart
+each_of_part f part (x ∷ xs) = All-append IsOfPart (f x) (flat_map f xs) (part x) (each_of_part f part xs)
+
+-- the same of two tests
+both_of_part : (one_holds other_holds : Bool) (one other : LayoutFault) → IsOfPart one → IsOfPart other
+    → All IsOfPart (unless one_holds one ++ unless other_holds other)
+both_of_part one_holds other_holds one other of_one of_other =
+    All-append IsOfPart (unless one_holds one) (unless other_holds other) (unless_of_part one_holds one of_one) (unless_of_part other_holds other of_other)
+
+-- the faults of objects, of marks, of roots and of references are of a part
+objects_of_part : (edition : Edition) (words : List ℕ) (i : ℕ) → All IsOfPart (object_faults edition words i)
+objects_of_part edition words i =
+    let size = size_of (header_at edition words i) in
+    both_of_part (leb size 1024) (leb (i + size) (length words)) (ObjectTooLong i) (ObjectPastEnd i) tt tt
+
+marks_of_part : (row : List ℕ) (low : ℕ) (marks : List ℕ) → All IsOfPart (mark_faults row low marks)
+marks_of_part row low [] = All-nil IsOfPart
+marks_of_part row low (mark ∷ marks) =
+    All-append IsOfPart (unless (leb low mark) (MarksNotRising mark) ++ unless (is_start row mark) (MarkNotStart mark)) (mark_faults row (mark + 1) marks)
+    (both_of_part (leb low mark) (is_start row mark) (MarksNotRising mark) (MarkNotStart mark) tt tt)
+    (marks_of_part row (mark + 1) marks)
+
+roots_of_part : (marks roots : List ℕ) → All IsOfPart (root_faults marks roots)
+roots_of_part marks roots = each_of_part _ (λ root. unless_of_part _ (BadRoot root.0) tt) (enumerate_from 0 roots)
+
+misled_of_part : (kind : Kind) (i : ℕ) → IsOfPart (misled kind i)
+misled_of_part Header i = tt
+misled_of_part Reference i = tt
+misled_of_part Weak i = tt
+misled_of_part Data i = tt
+
+references_of_part : (kind : Kind) (test : ℕ → Bool) (first : ℕ) (references : List ℕ) → All IsOfPart (reference_faults_by kind test first references)
+references_of_part kind test first references =
+    each_of_part _ (λ reference. unless_of_part _ (misled kind reference.0) (misled_of_part kind reference.0)) (enumerate_from first references)
+
+fields_of_part : (kind : Kind) (edition : Edition) (test : ℕ → Bool) (words marks : List ℕ) → All IsOfPart (field_faults_by kind edition test words marks)
+fields_of_part kind edition test words marks =
+    each_of_part _
+    (λ mark. references_of_part kind test (mark + first_of kind (header_at edition words mark)) (fields_of kind (object_at edition words mark))) marks
+
+-- counts within their limits have no fault
+pub no_size_fault : (words marks roots : ℕ) → AreWithin words marks roots → size_faults words marks roots ≡ []
+no_size_fault words marks roots within =
+    let w : leb words (2 ^ 20) ≡ true = le-leb words (2 ^ 20) within.few_words in
+    let m : leb marks (2 ^ 20) ≡ true = le-leb marks (2 ^ 20) within.few_marks in
+    let r : leb roots (2 ^ 12) ≡ true = le-leb roots (2 ^ 12) within.few_roots in
+    rw (w, m, r) refl
+
+-- what holds of all faults of a list holds of its first
+first_all : (P : LayoutFault → Type 0) (list : List LayoutFault) (fault : LayoutFault) → All P list → IsFirst list fault → P fault
+first_all P [] fault all first = absurd first
+first_all P (one ∷ others) fault all first = subst P (sym first) (All-head P one others all)
+
+-- what holds of all faults of six lists holds of those of the lists joined
+all_six : (P : LayoutFault → Type 0) (a b c d e f : List LayoutFault) → All P a → All P b → All P c → All P d → All P e → All P f
+    → All P (a ++ b ++ c ++ d ++ e ++ f)
+all_six P a b c d e f of_a of_b of_c of_d of_e of_f =
+    All-append P (a ++ b ++ c ++ d ++ e) f
+    (All-append P (a ++ b ++ c ++ d) e (All-append P (a ++ b ++ c) d (All-append P (a ++ b) c (All-append P a b of_a of_b) of_c) of_d) of_e) of_f
+
+-- the first fault of a heap within the limits tells of a part of it
+pub first_of_part : (heap : Heap) (fault : LayoutFault) → AreWithin (length heap.words) (length heap.marks) (length heap.roots)
+    → IsFirst (faults heap) fault → IsOfPart fault
+first_of_part heap fault within first =
+    let sizes = size_faults (length heap.words) (length heap.marks) (length heap.roots) in
+    let row = flat_map (object_faults heap.edition heap.words) (starts heap.edition heap.words) in
+    let marks = mark_faults (starts heap.edition heap.words) 0 heap.marks in
+    let roots = root_faults heap.marks heap.roots in
+    let targets = target_faults heap.edition heap.words heap.marks heap.marks in
+    let weak = weak_faults heap.edition heap.words heap.marks in
+    first_all IsOfPart (faults heap) fault
+    (all_six IsOfPart sizes row marks roots targets weak
+    (All-same IsOfPart sizes [] (no_size_fault (length heap.words) (length heap.marks) (length heap.roots) within) (All-nil IsOfPart))
+    (each_of_part (object_faults heap.edition heap.words) (objects_of_part heap.edition heap.words) (starts heap.edition heap.words))
+    (marks_of_part (starts heap.edition heap.words) 0 heap.marks)
+    (roots_of_part heap.marks heap.roots)
+    (fields_of_part Reference heap.edition (is_target heap.marks) heap.words heap.marks)
+    (fields_of_part Weak heap.edition (is_target (starts heap.edition heap.words)) heap.words heap.marks))
+    first
+
+-- a fault of a part of the heap is no failure of the device
+pub counts_kept : (T : Type 0) (before after : ℕ) (result : Result T LayoutFault) → IfErr result IsOfPart → after ≡ before → CountsFailure before after result
+counts_kept T before after (Ok _) part same = same
+counts_kept T before after (Err Device) part same = absurd part
+counts_kept T before after (Err _) part same = same

@@ -1,0 +1,294 @@
+-- The verdict on the bytes of an image: the fault that they tell of, or none where they are the image of an accepted heap. It is described stage by
+-- stage, as an image is read; at each stage the bytes decide whether to stop there or to go on, so they have one verdict.
+use Rattle.std.proofs.Common.{◌≡◌, ◌≢◌, ℕ, ◌^◌, ◌<◌, ◌≤◌, ◌⊎◌, inl, inr, Bool, true, false, leb, List, [], ◌∷◌, ◌++◌, length, take, Option, None, Some, refl, sym, ap, ◌∙◌, subst, arith, append_assoc, length-append}
+use Rattle.std.specs.List.{flat_map}
+use Rattle.std.proofs.lemmas.Bool.{leb-true}
+use Rattle.std.proofs.lemmas.List.{take_at, append_cancel_left, append-nil}
+use Rattle.heap_layout.specs.declared.edition.Edition.{Edition}
+use Rattle.heap_layout.specs.Heap.{Heap, IsStored, starts}
+use Rattle.heap_layout.specs.Faults.{unless, object_faults, mark_faults, root_faults, target_faults, weak_faults, faults, IsFirst, IsAccepted}
+use Rattle.heap_layout.specs.Encoding.{magic, version, counts, head, encoding, body_len, AreWithin, IsOver, Behind, Refuses, IsOfBytes}
+use Rattle.heap_layout.specs.declared.fault.LayoutFault.{LayoutFault}
+use Rattle.heap_layout.specs.declared.fault.LayoutFault.TheVariants.{TooLarge, ObjectPastEnd, ObjectTooLong, MarkNotStart, MarksNotRising, BadRoot, UnmarkedTarget, BadWeak, Truncated, TrailingBytes, BadMagic, OutOfMemory, Device}
+use Rattle.heap_layout.proofs.PartFaults.{IsOfPart}
+use Rattle.heap_layout.proofs.Injective.{body, length-body, encoding_is, bodies_same, counts_same, version_same}
+
+-- the first fault of a list
+abbrev pub first_of : List LayoutFault → Option LayoutFault
+first_of [] = None
+first_of (fault ∷ others) = Some fault
+
+-- ---- the stages, the last one first
+
+-- behind the image of a heap: a byte more, or the end
+abbrev AtEnd : Heap → Option LayoutFault → List ℕ → Type 0
+AtEnd heap verdict bytes = ((0 < length bytes) × (verdict ≡ Some TrailingBytes)) ⊎ ((bytes ≡ []) × (verdict ≡ first_of (faults heap)))
+
+-- behind the head: all the numbers of a heap
+pub record HasNumbers (edition : Edition) (words marks roots : ℕ) (verdict : Option LayoutFault) (bytes : List ℕ) : Type 0 where
+  heap : Heap
+  stored : IsStored heap
+  of_edition : heap.edition ≡ edition
+  of_words : length heap.words ≡ words
+  of_marks : length heap.marks ≡ marks
+  of_roots : length heap.roots ≡ roots
+  rest : List ℕ
+  same : bytes ≡ body heap ++ rest
+  next : AtEnd heap verdict rest
+
+-- behind the head: too few bytes, or all the numbers of a heap
+abbrev AtNumbers : Edition → ℕ → ℕ → ℕ → Option LayoutFault → List ℕ → Type 0
+AtNumbers edition words marks roots verdict bytes =
+    ((length bytes < body_len words marks roots) × (verdict ≡ Some Truncated)) ⊎ HasNumbers edition words marks roots verdict bytes
+
+-- the counts are past a limit, or within the limits
+abbrev AtLimits : Edition → ℕ → ℕ → ℕ → Option LayoutFault → List ℕ → Type 0
+AtLimits edition words marks roots verdict bytes =
+    (IsOver words marks roots × (verdict ≡ Some TooLarge)) ⊎ (AreWithin words marks roots × AtNumbers edition words marks roots verdict bytes)
+
+-- behind the version: three counts
+pub record HasCounts (edition : Edition) (verdict : Option LayoutFault) (bytes : List ℕ) : Type 0 where
+  words : ℕ
+  marks : ℕ
+  roots : ℕ
+  words_fit : words < 2 ^ 32
+  marks_fit : marks < 2 ^ 32
+  roots_fit : roots < 2 ^ 32
+  rest : List ℕ
+  same : bytes ≡ counts words marks roots ++ rest
+  next : AtLimits edition words marks roots verdict rest
+
+-- behind the version: too few bytes, or three counts
+abbrev AtCounts : Edition → Option LayoutFault → List ℕ → Type 0
+AtCounts edition verdict bytes = ((length bytes < 12) × (verdict ≡ Some Truncated)) ⊎ HasCounts edition verdict bytes
+
+-- too few bytes, other bytes than a version, or the version of an edition and what is behind it
+abbrev AtVersion : Option LayoutFault → List ℕ → Type 0
+AtVersion verdict bytes =
+    ((length bytes < 4) × (verdict ≡ Some Truncated))
+    ⊎ (((4 ≤ length bytes) × ((edition : Edition) → take 4 bytes ≢ version edition)) × (verdict ≡ Some BadMagic))
+    ⊎ ((edition : Edition) × Behind (version edition) (AtCounts edition verdict) bytes)
+
+-- too few bytes, other bytes than `front`, or `front` and what is behind it
+abbrev AtFront : List ℕ → (Option LayoutFault → List ℕ → Type 0) → Option LayoutFault → List ℕ → Type 0
+AtFront front Next verdict bytes =
+    ((length bytes < length front) × (verdict ≡ Some Truncated))
+    ⊎ (((length front ≤ length bytes) × (take (length front) bytes ≢ front)) × (verdict ≡ Some BadMagic))
+    ⊎ Behind front (Next verdict) bytes
+
+-- the verdict on the bytes is this fault, or none
+abbrev pub IsVerdict : Option LayoutFault → List ℕ → Type 0
+IsVerdict verdict bytes = AtFront magic AtVersion verdict bytes
+
+-- ---- one verdict at each stage
+
+-- the bytes behind an image decide the verdict there
+end_agrees : (heap : Heap) (one other : Option LayoutFault) (bytes : List ℕ) → AtEnd heap one bytes → AtEnd heap other bytes → one ≡ other
+end_agrees heap one other bytes (inl p) (inl q) = p.1 ∙ sym q.1
+end_agrees heap one other bytes (inl p) (inr q) = absurd (omega (arith, p.0, ap length q.0))
+end_agrees heap one other bytes (inr p) (inl q) = absurd (omega (arith, q.0, ap length p.0))
+end_agrees heap one other bytes (inr p) (inr q) = p.1 ∙ sym q.1
+
+-- all the numbers are not too few bytes
+enough : (edition : Edition) (words marks roots : ℕ) (verdict : Option LayoutFault) (bytes : List ℕ) → HasNumbers edition words marks roots verdict bytes
+    → length bytes < body_len words marks roots → ⊥
+enough edition words marks roots verdict bytes has short =
+    let long = ap length has.same ∙ length-append (body has.heap) has.rest in
+    let whole = length-body has.heap in
+    let w = has.of_words in
+    let m = has.of_marks in
+    let r = has.of_roots in
+    omega arith
+
+-- the bytes behind the head do
+numbers_agree : (edition : Edition) (words marks roots : ℕ) (one other : Option LayoutFault) (bytes : List ℕ) → AtNumbers edition words marks roots one bytes
+    → AtNumbers edition words marks roots other bytes → one ≡ other
+numbers_agree edition words marks roots one other bytes (inl p) (inl q) = p.1 ∙ sym q.1
+numbers_agree edition words marks roots one other bytes (inl p) (inr q) = absurd (enough edition words marks roots other bytes q p.0)
+numbers_agree edition words marks roots one other bytes (inr p) (inl q) = absurd (enough edition words marks roots one bytes p q.0)
+numbers_agree edition words marks roots one other bytes (inr p) (inr q) =
+    let found = bodies_same p.heap q.heap p.rest q.rest p.stored q.stored (p.of_edition ∙ sym q.of_edition) (p.of_words ∙ sym q.of_words) (p.of_marks ∙ sym q.of_marks) (p.of_roots ∙ sym q.of_roots)
+    (sym p.same ∙ q.same) in
+    let of_heap = subst (λ (heap : Heap). AtEnd heap other q.rest) (sym found.0) q.next in
+    end_agrees p.heap one other p.rest p.next (subst (AtEnd p.heap other) (sym found.1) of_heap)
+
+-- counts are not past a limit and within the limits
+not_both : (words marks roots : ℕ) → IsOver words marks roots → AreWithin words marks roots → ⊥
+not_both words marks roots over within =
+    elim over.over [
+      | inl w ↦ omega (arith, w, within.few_words)
+      | inr rest ↦ elim rest [ inl m ↦ omega (arith, m, within.few_marks) | inr r ↦ omega (arith, r, within.few_roots) ]
+    ]
+
+-- the counts and the bytes behind them do
+limits_agree : (edition : Edition) (words marks roots : ℕ) (one other : Option LayoutFault) (bytes : List ℕ) → AtLimits edition words marks roots one bytes
+    → AtLimits edition words marks roots other bytes → one ≡ other
+limits_agree edition words marks roots one other bytes (inl p) (inl q) = p.1 ∙ sym q.1
+limits_agree edition words marks roots one other bytes (inl p) (inr q) = absurd (not_both words marks roots p.0 q.0)
+limits_agree edition words marks roots one other bytes (inr p) (inl q) = absurd (not_both words marks roots q.0 p.0)
+limits_agree edition words marks roots one other bytes (inr p) (inr q) = numbers_agree edition words marks roots one other bytes p.1 q.1
+
+-- the bytes behind the version do
+counts_agree : (edition : Edition) (bytes : List ℕ) (one other : Option LayoutFault) → AtCounts edition one bytes → AtCounts edition other bytes → one ≡ other
+counts_agree edition bytes one other (inl p) (inl q) = p.1 ∙ sym q.1
+counts_agree edition bytes one other (inl p) (inr q) = absurd (omega (arith, p.0, ap length q.same))
+counts_agree edition bytes one other (inr p) (inl q) = absurd (omega (arith, q.0, ap length p.same))
+counts_agree edition bytes one other (inr p) (inr q) =
+    let found = counts_same p.words p.marks p.roots q.words q.marks q.roots p.rest q.rest p.words_fit p.marks_fit p.roots_fit q.words_fit q.marks_fit q.roots_fit
+    (sym p.same ∙ q.same) in
+    let of_words = subst (λ (n : ℕ). AtLimits edition n q.marks q.roots other q.rest) (sym found.0) q.next in
+    let of_marks = subst (λ (n : ℕ). AtLimits edition p.words n q.roots other q.rest) (sym found.1) of_words in
+    let of_roots = subst (λ (n : ℕ). AtLimits edition p.words p.marks n other q.rest) (sym found.2) of_marks in
+    limits_agree edition p.words p.marks p.roots one other p.rest p.next (subst (AtLimits edition p.words p.marks p.roots other) (sym found.3) of_roots)
+
+-- bytes that begin with `front` have it as their front
+front_is : (front rest bytes : List ℕ) → bytes ≡ front ++ rest → take (length front) bytes ≡ front
+front_is front rest bytes same = ap (take (length front)) same ∙ take_at front rest (length front) refl
+
+-- the bytes at a front do, if those behind it do
+front_agrees : (front : List ℕ) (Next : Option LayoutFault → List ℕ → Type 0)
+    → ((rest : List ℕ) (one other : Option LayoutFault) → Next one rest → Next other rest → one ≡ other)
+    → (bytes : List ℕ) (one other : Option LayoutFault) → AtFront front Next one bytes → AtFront front Next other bytes → one ≡ other
+front_agrees front Next agree bytes one other (inl p) (inl q) = p.1 ∙ sym q.1
+front_agrees front Next agree bytes one other (inl p) (inr (inl q)) = absurd (omega (arith, p.0, q.0.0))
+front_agrees front Next agree bytes one other (inl p) (inr (inr q)) = absurd (omega (arith, p.0, ap length q.1 ∙ length-append front q.0))
+front_agrees front Next agree bytes one other (inr (inl p)) (inl q) = absurd (omega (arith, q.0, p.0.0))
+front_agrees front Next agree bytes one other (inr (inl p)) (inr (inl q)) = p.1 ∙ sym q.1
+front_agrees front Next agree bytes one other (inr (inl p)) (inr (inr q)) = absurd (p.0.1 (front_is front q.0 bytes q.1))
+front_agrees front Next agree bytes one other (inr (inr p)) (inl q) = absurd (omega (arith, q.0, ap length p.1 ∙ length-append front p.0))
+front_agrees front Next agree bytes one other (inr (inr p)) (inr (inl q)) = absurd (q.0.1 (front_is front p.0 bytes p.1))
+front_agrees front Next agree bytes one other (inr (inr p)) (inr (inr q)) =
+    let rest : p.0 ≡ q.0 = append_cancel_left front p.0 q.0 (sym p.1 ∙ q.1) in
+    agree p.0 one other p.2 (subst (Next other) (sym rest) q.2)
+
+-- bytes that begin with a version have it as their first four
+version_is : (edition : Edition) (rest bytes : List ℕ) → bytes ≡ version edition ++ rest → take 4 bytes ≡ version edition
+version_is edition rest bytes same = ap (take 4) same ∙ take_at (version edition) rest 4 refl
+
+-- the bytes behind the magic do
+version_agrees : (bytes : List ℕ) (one other : Option LayoutFault) → AtVersion one bytes → AtVersion other bytes → one ≡ other
+version_agrees bytes one other (inl p) (inl q) = p.1 ∙ sym q.1
+version_agrees bytes one other (inl p) (inr (inl q)) = absurd (omega (arith, p.0, q.0.0))
+version_agrees bytes one other (inl p) (inr (inr q)) = absurd (omega (arith, p.0, ap length q.1.1 ∙ length-append (version q.0) q.1.0))
+version_agrees bytes one other (inr (inl p)) (inl q) = absurd (omega (arith, q.0, p.0.0))
+version_agrees bytes one other (inr (inl p)) (inr (inl q)) = p.1 ∙ sym q.1
+version_agrees bytes one other (inr (inl p)) (inr (inr q)) = absurd (p.0.1 q.0 (version_is q.0 q.1.0 bytes q.1.1))
+version_agrees bytes one other (inr (inr p)) (inl q) = absurd (omega (arith, q.0, ap length p.1.1 ∙ length-append (version p.0) p.1.0))
+version_agrees bytes one other (inr (inr p)) (inr (inl q)) = absurd (q.0.1 p.0 (version_is p.0 p.1.0 bytes p.1.1))
+version_agrees bytes one other (inr (inr p)) (inr (inr q)) =
+    let found = version_same p.0 q.0 p.1.0 q.1.0 (sym p.1.1 ∙ q.1.1) in
+    let of_edition = subst (λ (e : Edition). AtCounts e other q.1.0) (sym found.0) q.1.2 in
+    counts_agree p.0 p.1.0 one other p.1.2 (subst (AtCounts p.0 other) (sym found.1) of_edition)
+
+-- bytes have one verdict
+pub verdicts_agree : (bytes : List ℕ) (one other : Option LayoutFault) → IsVerdict one bytes → IsVerdict other bytes → one ≡ other
+verdicts_agree = front_agrees magic AtVersion version_agrees
+
+-- ---- each cause is a verdict
+
+-- what is decided behind the head
+behind_head : (edition : Edition) (words marks roots : ℕ) (verdict : Option LayoutFault) (bytes rest : List ℕ) → words < 2 ^ 32 → marks < 2 ^ 32 → roots < 2 ^ 32
+    → bytes ≡ head edition words marks roots ++ rest → AtLimits edition words marks roots verdict rest → IsVerdict verdict bytes
+behind_head edition words marks roots verdict bytes rest w m r same next =
+    let behind = counts words marks roots ++ rest in
+    let has : HasCounts edition verdict behind =
+    record { words = words; marks = marks; roots = roots; words_fit = w; marks_fit = m; roots_fit = r; rest = rest; same = refl; next = next } in
+    inr (inr (version edition ++ behind, same, inr (inr (edition, (behind, refl, inr has)))))
+
+-- what is decided behind the image of a heap within the limits
+behind_image : (heap : Heap) (verdict : Option LayoutFault) (bytes rest : List ℕ) → IsStored heap → AreWithin (length heap.words) (length heap.marks) (length heap.roots)
+    → bytes ≡ encoding heap ++ rest → AtEnd heap verdict rest → IsVerdict verdict bytes
+behind_image heap verdict bytes rest stored within same next =
+    let words = length heap.words in
+    let marks = length heap.marks in
+    let roots = length heap.roots in
+    let few_words = within.few_words in
+    let few_marks = within.few_marks in
+    let few_roots = within.few_roots in
+    let whole : bytes ≡ head heap.edition words marks roots ++ (body heap ++ rest) =
+    same ∙ ap (λ (image : List ℕ). image ++ rest) (encoding_is heap) ∙ append_assoc (head heap.edition words marks roots) (body heap) rest in
+    let has : HasNumbers heap.edition words marks roots verdict (body heap ++ rest) =
+    record { heap = heap; stored = stored; of_edition = refl; of_words = refl; of_marks = refl; of_roots = refl; rest = rest; same = refl; next = next } in
+    behind_head heap.edition words marks roots verdict bytes (body heap ++ rest) (omega arith) (omega arith) (omega arith) whole (inr (within, inr has))
+
+-- where the first fault is not the size, the tests of the size hold
+all_hold : (words marks roots : Bool) (a b c d e : List LayoutFault)
+    → (first_of ((unless words TooLarge ++ unless marks TooLarge ++ unless roots TooLarge) ++ a ++ b ++ c ++ d ++ e) ≡ Some TooLarge → ⊥)
+    → (words ≡ true) × (marks ≡ true) × (roots ≡ true)
+all_hold false marks roots a b c d e other = absurd (other refl)
+all_hold true false roots a b c d e other = absurd (other refl)
+all_hold true true false a b c d e other = absurd (other refl)
+all_hold true true true a b c d e other = (refl, refl, refl)
+
+-- a heap whose first fault is not its size is within the limits
+within_limits : (heap : Heap) → (first_of (faults heap) ≡ Some TooLarge → ⊥) → AreWithin (length heap.words) (length heap.marks) (length heap.roots)
+within_limits heap other =
+    let hold = all_hold (leb (length heap.words) (2 ^ 20)) (leb (length heap.marks) (2 ^ 20)) (leb (length heap.roots) (2 ^ 12))
+    (flat_map (object_faults heap.edition heap.words) (starts heap.edition heap.words)) (mark_faults (starts heap.edition heap.words) 0 heap.marks)
+    (root_faults heap.marks heap.roots) (target_faults heap.edition heap.words heap.marks heap.marks) (weak_faults heap.edition heap.words heap.marks) other in
+    record { few_words = leb-true _ _ hold.0; few_marks = leb-true _ _ hold.1; few_roots = leb-true _ _ hold.2 }
+
+-- the verdict on a whole image is the heap's first fault
+whole_image : (heap : Heap) (bytes : List ℕ) → IsStored heap → bytes ≡ encoding heap → (first_of (faults heap) ≡ Some TooLarge → ⊥)
+    → IsVerdict (first_of (faults heap)) bytes
+whole_image heap bytes stored same other =
+    behind_image heap (first_of (faults heap)) bytes [] stored (within_limits heap other) (same ∙ sym (append-nil (encoding heap))) (inr (refl, refl))
+
+-- the first fault, said in two ways
+first_is : (list : List LayoutFault) (fault : LayoutFault) → IsFirst list fault → first_of list ≡ Some fault
+first_is [] fault first = absurd first
+first_is (one ∷ others) fault first = ap (λ (x : LayoutFault). Some x) (sym first)
+
+-- a fault of a part, in a whole image
+refuses_part : (fault : LayoutFault) (bytes : List ℕ) → IsOfPart fault → ((heap : Heap) × IsStored heap × (bytes ≡ encoding heap) × IsFirst (faults heap) fault)
+    → IsVerdict (Some fault) bytes
+refuses_part fault bytes part cause =
+    let first = first_is (faults cause.0) fault cause.3 in
+    let other : first_of (faults cause.0) ≡ Some TooLarge → ⊥ = λ large. (let same : fault ≡ TooLarge = cc in subst IsOfPart same part) in
+    subst (λ (verdict : Option LayoutFault). IsVerdict verdict bytes) first (whole_image cause.0 bytes cause.1 cause.2 other)
+
+-- an early end, wherever it is
+ends_early : (bytes : List ℕ) → Refuses Truncated bytes → IsVerdict (Some Truncated) bytes
+ends_early bytes (inl short) = inl (short, refl)
+ends_early bytes (inr (inl in_version)) = inr (inr (in_version.0, in_version.1, inl (in_version.2, refl)))
+ends_early bytes (inr (inr (inl in_counts))) =
+    let behind = in_counts.1 in
+    inr (inr (version in_counts.0 ++ behind.0, behind.1, inr (inr (in_counts.0, (behind.0, refl, inl (behind.2, refl))))))
+ends_early bytes (inr (inr (inr in_body))) =
+    let within = in_body.4 in
+    let few_words = within.few_words in
+    let few_marks = within.few_marks in
+    let few_roots = within.few_roots in
+    let behind = in_body.5 in
+    behind_head in_body.0 in_body.1 in_body.2 in_body.3 (Some Truncated) bytes behind.0 (omega arith) (omega arith) (omega arith) behind.1 (inr (within, inl (behind.2, refl)))
+
+-- another magic or another version
+begins_otherwise : (bytes : List ℕ) → Refuses BadMagic bytes → IsVerdict (Some BadMagic) bytes
+begins_otherwise bytes (inl other) = inr (inl (other, refl))
+begins_otherwise bytes (inr version) = inr (inr (version.0, version.1, inr (inl (version.2, refl))))
+
+-- a cause in the bytes is their verdict
+pub refusal_is_verdict : (fault : LayoutFault) (bytes : List ℕ) → IsOfBytes fault → Refuses fault bytes → IsVerdict (Some fault) bytes
+refusal_is_verdict TooLarge bytes told cause =
+    let over = cause.4 in
+    behind_head cause.0 cause.1 cause.2 cause.3 (Some TooLarge) bytes cause.5.0 over.words_fit over.marks_fit over.roots_fit cause.5.1 (inl (over, refl))
+refusal_is_verdict (ObjectPastEnd i) bytes told cause = refuses_part (ObjectPastEnd i) bytes tt cause
+refusal_is_verdict (ObjectTooLong i) bytes told cause = refuses_part (ObjectTooLong i) bytes tt cause
+refusal_is_verdict (MarkNotStart i) bytes told cause = refuses_part (MarkNotStart i) bytes tt cause
+refusal_is_verdict (MarksNotRising i) bytes told cause = refuses_part (MarksNotRising i) bytes tt cause
+refusal_is_verdict (BadRoot k) bytes told cause = refuses_part (BadRoot k) bytes tt cause
+refusal_is_verdict (UnmarkedTarget i) bytes told cause = refuses_part (UnmarkedTarget i) bytes tt cause
+refusal_is_verdict (BadWeak i) bytes told cause = refuses_part (BadWeak i) bytes tt cause
+refusal_is_verdict Truncated bytes told cause = ends_early bytes cause
+refusal_is_verdict TrailingBytes bytes told cause =
+    behind_image cause.0 (Some TrailingBytes) bytes cause.3.0 cause.1 cause.2 cause.3.1 (inl (cause.3.2, refl))
+refusal_is_verdict BadMagic bytes told cause = begins_otherwise bytes cause
+refusal_is_verdict OutOfMemory bytes told cause = absurd told
+refusal_is_verdict Device bytes told cause = absurd told
+
+-- no fault is the verdict on the image of an accepted heap
+pub accepted_is_verdict : (heap : Heap) → IsStored heap → IsAccepted heap → IsVerdict None (encoding heap)
+accepted_is_verdict heap stored accepted =
+    let none : first_of (faults heap) ≡ None = ap first_of accepted in
+    let other : first_of (faults heap) ≡ Some TooLarge → ⊥ = λ large. cc in
+    subst (λ (verdict : Option LayoutFault). IsVerdict verdict (encoding heap)) none (whole_image heap (encoding heap) stored refl other)

@@ -1,0 +1,161 @@
+-- The bytes of a heap image. All numbers are little-endian; nothing is padded.
+--     magic      8 bytes, `COMPHEAP`
+--     version    4 bytes: 1 in edition one, 2 in edition two
+--     counts     4 bytes each: words, marks, roots
+--     words      8 bytes each, index 0 first
+--     marks      4 bytes each
+--     roots      8 bytes each
+use Rattle.std.specs.Prelude.{◌≡◌, ◌≢◌, ℕ, ◌+◌, ◌*◌, ◌^◌, ◌<◌, ◌≤◌, ◌⊎◌, List, ◌++◌, length, take, codes}
+use Rattle.std.specs.Int.{w32, w64, to_le_bytes}
+use Rattle.std.specs.List.{flat_map}
+use Rattle.heap_layout.specs.declared.edition.Edition.{Edition}
+use Rattle.heap_layout.specs.Heap.{Heap, IsStored}
+use Rattle.heap_layout.specs.Faults.{faults, IsFirst, IsAccepted}
+use Rattle.heap_layout.specs.Versions.{version_of}
+use Rattle.heap_layout.specs.declared.fault.LayoutFault.{LayoutFault}
+use Rattle.heap_layout.specs.declared.fault.LayoutFault.TheVariants.{TooLarge, ObjectPastEnd, ObjectTooLong, MarkNotStart, MarksNotRising, BadRoot, UnmarkedTarget, BadWeak, Truncated, TrailingBytes, BadMagic, OutOfMemory, Device}
+
+abbrev pub four_bytes : ℕ → List ℕ
+four_bytes n = to_le_bytes w32 n
+
+abbrev pub eight_bytes : ℕ → List ℕ
+eight_bytes n = to_le_bytes w64 n
+
+abbrev pub magic : List ℕ
+magic = codes "COMPHEAP"
+
+-- the version, in 4 bytes
+abbrev pub version : Edition → List ℕ
+version edition = four_bytes (version_of edition)
+
+-- the magic and the version
+abbrev pub preamble : Edition → List ℕ
+preamble edition = magic ++ version edition
+
+abbrev pub counts : ℕ → ℕ → ℕ → List ℕ
+counts words marks roots = four_bytes words ++ four_bytes marks ++ four_bytes roots
+
+-- all that stands before the words
+abbrev pub head : Edition → ℕ → ℕ → ℕ → List ℕ
+head edition words marks roots = preamble edition ++ counts words marks roots
+
+-- the image of a heap
+abbrev pub encoding : Heap → List ℕ
+encoding heap =
+    head heap.edition (length heap.words) (length heap.marks) (length heap.roots)
+    ++ flat_map eight_bytes heap.words
+    ++ flat_map four_bytes heap.marks
+    ++ flat_map eight_bytes heap.roots
+
+-- how many bytes stand behind the head
+abbrev pub body_len : ℕ → ℕ → ℕ → ℕ
+body_len words marks roots = 8 * words + 4 * marks + 8 * roots
+
+-- as many words, marks and roots as an image may have
+pub record AreWithin (words marks roots : ℕ) : Type 0 where
+  pub few_words : words ≤ 2 ^ 20
+  pub few_marks : marks ≤ 2 ^ 20
+  pub few_roots : roots ≤ 2 ^ 12
+
+-- one count is past its limit, and each fits its field
+pub record IsOver (words marks roots : ℕ) : Type 0 where
+  pub words_fit : words < 2 ^ 32
+  pub marks_fit : marks < 2 ^ 32
+  pub roots_fit : roots < 2 ^ 32
+  pub over : (2 ^ 20 < words) ⊎ (2 ^ 20 < marks) ⊎ (2 ^ 12 < roots)
+
+-- the counts fit the fields in which an image stores them
+pub record AreCounted (heap : Heap) : Type 0 where
+  pub words : length heap.words < 2 ^ 32
+  pub marks : length heap.marks < 2 ^ 32
+  pub roots : length heap.roots < 2 ^ 32
+
+-- the bytes begin with `front`, and P holds of those that follow
+abbrev pub Behind : List ℕ → (List ℕ → Type 0) → List ℕ → Type 0
+Behind front P bytes = (rest : List ℕ) × (bytes ≡ front ++ rest) × P rest
+
+-- The bytes end within the magic, the version, the counts, or the numbers that the counts announce.
+abbrev pub EndsInMagic : List ℕ → Type 0
+EndsInMagic bytes = length bytes < 8
+
+abbrev pub EndsInVersion : List ℕ → Type 0
+EndsInVersion bytes = Behind magic (λ rest. length rest < 4) bytes
+
+abbrev pub EndsInCounts : List ℕ → Type 0
+EndsInCounts bytes = (edition : Edition) × Behind (preamble edition) (λ rest. length rest < 12) bytes
+
+abbrev pub EndsInBody : List ℕ → Type 0
+EndsInBody bytes =
+    (edition : Edition) × (words marks roots : ℕ) × AreWithin words marks roots × Behind (head edition words marks roots) (λ rest. length rest < body_len words marks roots) bytes
+
+-- there are other bytes where the magic stands, or other ones where the version does
+abbrev pub HasOtherMagic : List ℕ → Type 0
+HasOtherMagic bytes = (8 ≤ length bytes) × (take 8 bytes ≢ magic)
+
+abbrev pub HasOtherVersion : List ℕ → Type 0
+HasOtherVersion bytes = Behind magic (λ rest. (4 ≤ length rest) × ((edition : Edition) → take 4 rest ≢ version edition)) bytes
+
+-- a count is past its limit, whatever follows
+abbrev pub HasLargeCount : List ℕ → Type 0
+HasLargeCount bytes = (edition : Edition) × (words marks roots : ℕ) × IsOver words marks roots × Behind (head edition words marks roots) (λ _. Unit {0}) bytes
+
+-- a whole image, and at least one byte more
+abbrev pub HasMore : List ℕ → Type 0
+HasMore bytes =
+    (heap : Heap) × IsStored heap × AreWithin (length heap.words) (length heap.marks) (length heap.roots) × Behind (encoding heap) (λ rest. 0 < length rest) bytes
+
+-- the image of a heap whose first fault is this one
+abbrev pub HasHeapWith : LayoutFault → List ℕ → Type 0
+HasHeapWith fault bytes = (heap : Heap) × IsStored heap × (bytes ≡ encoding heap) × IsFirst (faults heap) fault
+
+-- the cause of each fault of an image; want of memory and a failing device are not in the bytes
+abbrev pub Refuses : LayoutFault → List ℕ → Type 0
+Refuses TooLarge bytes = HasLargeCount bytes
+Refuses (ObjectPastEnd i) bytes = HasHeapWith (ObjectPastEnd i) bytes
+Refuses (ObjectTooLong i) bytes = HasHeapWith (ObjectTooLong i) bytes
+Refuses (MarkNotStart i) bytes = HasHeapWith (MarkNotStart i) bytes
+Refuses (MarksNotRising i) bytes = HasHeapWith (MarksNotRising i) bytes
+Refuses (BadRoot k) bytes = HasHeapWith (BadRoot k) bytes
+Refuses (UnmarkedTarget i) bytes = HasHeapWith (UnmarkedTarget i) bytes
+Refuses (BadWeak i) bytes = HasHeapWith (BadWeak i) bytes
+Refuses Truncated bytes = EndsInMagic bytes ⊎ EndsInVersion bytes ⊎ EndsInCounts bytes ⊎ EndsInBody bytes
+Refuses TrailingBytes bytes = HasMore bytes
+Refuses BadMagic bytes = HasOtherMagic bytes ⊎ HasOtherVersion bytes
+Refuses OutOfMemory bytes = Unit {0}
+Refuses Device bytes = Unit {0}
+
+-- the bytes alone tell of this fault
+abbrev pub IsOfBytes : LayoutFault → Type 0
+IsOfBytes OutOfMemory = ⊥
+IsOfBytes Device = ⊥
+IsOfBytes _ = Unit {0}
+
+-- no bytes are refused for two reasons
+abbrev pub CausesExclude : Type 0
+CausesExclude = (bytes : List ℕ) (one other : LayoutFault) → IsOfBytes one → IsOfBytes other → Refuses one bytes → Refuses other bytes → one ≡ other
+
+-- the image of an accepted heap is refused for no reason
+abbrev pub AcceptedIsTaken : Type 0
+AcceptedIsTaken = (heap : Heap) (fault : LayoutFault) → IsStored heap → IsAccepted heap → IsOfBytes fault → Refuses fault (encoding heap) → ⊥
+
+-- two heaps have one image only where they are one heap
+abbrev pub ImagesDiffer : Type 0
+ImagesDiffer = (one other : Heap) → IsStored one → IsStored other → AreCounted one → AreCounted other → encoding one ≡ encoding other → one ≡ other
+
+-- Reading n bytes failed: there are fewer, or a call of the device failed, or a growth was refused.
+abbrev pub EndsBefore : ℕ → LayoutFault → List ℕ → Type 0
+EndsBefore n Truncated bytes = length bytes < n
+EndsBefore n OutOfMemory bytes = Unit {0}
+EndsBefore n Device bytes = Unit {0}
+EndsBefore n _ bytes = ⊥
+
+-- The same for the three counts, one of which may be past its limit.
+abbrev pub RefusesCounts : LayoutFault → List ℕ → Type 0
+RefusesCounts TooLarge bytes = (words marks roots : ℕ) × IsOver words marks roots × Behind (counts words marks roots) (λ _. Unit {0}) bytes
+RefusesCounts fault bytes = EndsBefore 12 fault bytes
+
+-- The same for the end, where a byte may follow.
+abbrev pub RefusesEnd : LayoutFault → List ℕ → Type 0
+RefusesEnd TrailingBytes bytes = 0 < length bytes
+RefusesEnd Device bytes = Unit {0}
+RefusesEnd _ bytes = ⊥

@@ -1,0 +1,60 @@
+//! Parts of many bytes, read or written whole, by as many calls as the device wants.
+ghost use Rattle.std.specs.Prelude.{◌≡◌, ℕ, ◌^◌, ◌-◌, ◌<◌, false, length, slice_index, IfErr, IfSome, OnErr, OnOk};
+ghost use Rattle.std.specs.Io.KnownBytes.{Appends, Consumes};
+ghost use Rattle.heap_layout.specs.Counted.{inner_of, failures_of, is_flushed_of, one_more, AppendsBeginning};
+ghost use Rattle.heap_layout.specs.Parts.{CutsBefore, CountsCut};
+ghost use Rattle.heap_layout.specs.declared.parts.Cut.TheVariants as cuts;
+
+use crate::counted::Counted;
+use std::io::{Error, ErrorKind, Read, Write};
+
+/// Why a part was not read whole.
+#[derive(Clone, Copy, Debug, PartialEq, Eq)]
+pub enum Cut {
+    /// The reader's bytes ended within it.
+    Ended,
+    /// A call of the reader answered an error, an interrupted one too.
+    Failed,
+}
+
+/// Fills the buffer. The first call of the reader that answers an error ends it. After an Err the reader has lost what was read, and the buffer holds
+/// some of it. It asks that fewer than `u64::MAX` calls of the reader have failed.
+pub fn fill<R: Read>(r: &mut Counted<R>, buf: &mut [u8]) -> Result<(), Cut>
+    requires { failures_of r.old < 2 ^ 64 - 1 }
+    ensures read { OnOk result (Consumes (R.remaining (inner_of r.old)) (R.remaining (inner_of r.new)) buf.new) }
+    ensures small { (i : ℕ) → slice_index buf.new i < 2 ^ 8 }
+    ensures cut { IfErr result (λ cut. IfSome (R.remaining (inner_of r.old)) (CutsBefore (length buf.old) cut)) }
+    ensures ended { IfErr result (λ cut. cut ≡ cuts.Ended → IfSome (R.remaining (inner_of r.old)) (λ bytes. (i : ℕ) → slice_index bytes i < 2 ^ 8)) }
+    ensures counts { CountsCut (failures_of r.old) (failures_of r.new) result }
+{
+    let mut filled = 0;
+    while filled < buf.len() {
+        match r.read(&mut buf[filled..]) {
+            Ok(0) => return Err(Cut::Ended),
+            Ok(n) => filled += n,
+            Err(_) => return Err(Cut::Failed),
+        }
+    }
+    Ok(())
+}
+
+/// Writes a whole part. The first call of the writer that fails ends it, an interrupted one too, and so does one that takes none of the part; what was
+/// taken before stays written.
+pub fn write_whole<W: Write>(w: &mut Counted<W>, part: &[u8]) -> std::io::Result<()>
+    ensures written { OnOk result (Appends (W.contents (inner_of w.old)) (W.contents (inner_of w.new)) part.now) }
+    ensures begun { OnErr result (AppendsBeginning (W.contents (inner_of w.old)) (W.contents (inner_of w.new)) (is_flushed_of w.old) (is_flushed_of w.new) part.now) }
+    ensures ok { OnOk result (failures_of w.new ≡ failures_of w.old) }
+    ensures err { OnErr result (failures_of w.new ≡ one_more (failures_of w.old)) }
+    ensures unflushed { OnOk result (0 < length part.now → is_flushed_of w.new ≡ false) }
+    ensures empty { length part.now ≡ 0 → is_flushed_of w.new ≡ is_flushed_of w.old }
+{
+    let mut taken = 0;
+    while taken < part.len() {
+        let n = w.write(&part[taken..])?;
+        if n == 0 {
+            return Err(Error::from(ErrorKind::WriteZero));
+        }
+        taken += n;
+    }
+    Ok(())
+}

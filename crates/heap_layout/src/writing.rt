@@ -1,0 +1,137 @@
+//! Writing the parts of images and dumps, and whole images.
+ghost use Rattle.std.specs.Prelude.{◌≡◌, ◌-◌, ◌^◌, ◌<◌, ◌≤◌, IfErr, length};
+ghost use Rattle.std.specs.List.{flat_map};
+ghost use Rattle.heap_layout.specs.Counted.{inner_of, failures_of};
+ghost use Rattle.heap_layout.specs.Encoding.{encoding, head, eight_bytes, four_bytes, version};
+ghost use Rattle.heap_layout.specs.Writing.{Writes, CountsOne};
+ghost use Rattle.heap_layout.specs.declared.fault.LayoutFault.TheVariants as fault;
+
+use crate::counted::Counted;
+use crate::image::MAGIC;
+use crate::parts::write_whole;
+use crate::versions::version_of;
+use byteorder::{ByteOrder, LittleEndian};
+use crate::edition::Edition;
+use crate::fault::LayoutFault;
+use crate::heap::MarkedHeap;
+use std::io::Write;
+
+/// Writes a whole part.
+pub fn write_part<W: Write>(w: &mut Counted<W>, part: &[u8]) -> std::io::Result<()>
+    ensures writes { Writes (W.contents (inner_of w.old)) (W.contents (inner_of w.new)) part.now result }
+    ensures counts { CountsOne (failures_of w.old) (failures_of w.new) result }
+{
+    match write_whole(w, part) {
+        Ok(()) => Ok(()),
+        Err(error) => Err(error),
+    }
+}
+
+/// A number of 4 bytes.
+pub fn write_four<W: Write>(w: &mut Counted<W>, n: u32) -> std::io::Result<()>
+    ensures writes { Writes (W.contents (inner_of w.old)) (W.contents (inner_of w.new)) (four_bytes n) result }
+    ensures counts { CountsOne (failures_of w.old) (failures_of w.new) result }
+{
+    write_part(w, &n.to_le_bytes())
+}
+
+/// The version that tells the edition, in images and in dumps.
+pub fn write_version<W: Write>(w: &mut Counted<W>, edition: Edition) -> std::io::Result<()>
+    ensures writes { Writes (W.contents (inner_of w.old)) (W.contents (inner_of w.new)) (version edition) result }
+    ensures counts { CountsOne (failures_of w.old) (failures_of w.new) result }
+{
+    write_four(w, version_of(edition))
+}
+
+/// At most 64 numbers of 8 bytes each, as one part.
+fn write_some_words<W: Write>(w: &mut Counted<W>, words: &[u64]) -> std::io::Result<()>
+    requires { length words.now ≤ 64 }
+    ensures writes { Writes (W.contents (inner_of w.old)) (W.contents (inner_of w.new)) (flat_map eight_bytes words.now) result }
+    ensures counts { CountsOne (failures_of w.old) (failures_of w.new) result }
+{
+    let mut bytes = [0; 512];
+    let part = &mut bytes[..8 * words.len()];
+    LittleEndian::write_u64_into(words, part);
+    write_part(w, part)
+}
+
+/// Numbers of 8 bytes each, 64 of them at a time.
+pub fn write_words<W: Write>(w: &mut Counted<W>, words: &[u64]) -> std::io::Result<()>
+    ensures writes { Writes (W.contents (inner_of w.old)) (W.contents (inner_of w.new)) (flat_map eight_bytes words.now) result }
+    ensures counts { CountsOne (failures_of w.old) (failures_of w.new) result }
+{
+    let mut written = 0;
+    while written < words.len() {
+        let some = (words.len() - written).min(64);
+        write_some_words(w, &words[written..written + some])?;
+        written += some;
+    }
+    Ok(())
+}
+
+/// Numbers of 4 bytes each.
+pub fn write_numbers<W: Write>(w: &mut Counted<W>, numbers: &[u32]) -> std::io::Result<()>
+    ensures writes { Writes (W.contents (inner_of w.old)) (W.contents (inner_of w.new)) (flat_map four_bytes numbers.now) result }
+    ensures counts { CountsOne (failures_of w.old) (failures_of w.new) result }
+{
+    for number in numbers {
+        write_four(w, *number)?;
+    }
+    Ok(())
+}
+
+/// All that stands before the words of an image.
+fn write_head<W: Write>(
+    w: &mut Counted<W>,
+    edition: Edition,
+    words: u32,
+    marks: u32,
+    roots: u32,
+) -> std::io::Result<()>
+    ensures writes { Writes (W.contents (inner_of w.old)) (W.contents (inner_of w.new)) (head edition words marks roots) result }
+    ensures counts { CountsOne (failures_of w.old) (failures_of w.new) result }
+{
+    write_part(w, &MAGIC)?;
+    write_version(w, edition)?;
+    write_four(w, words)?;
+    write_four(w, marks)?;
+    write_four(w, roots)
+}
+
+/// An image of these parts.
+fn write_heap<W: Write>(
+    w: &mut Counted<W>,
+    edition: Edition,
+    words: &[u64],
+    marks: &[u32],
+    roots: &[u64],
+) -> std::io::Result<()>
+    requires { (length words.now < 2 ^ 32) × (length marks.now < 2 ^ 32) × (length roots.now < 2 ^ 32) }
+    ensures writes { Writes (W.contents (inner_of w.old)) (W.contents (inner_of w.new))
+        (encoding (record { edition = edition; words = words.now; marks = marks.now; roots = roots.now })) result }
+    ensures counts { CountsOne (failures_of w.old) (failures_of w.new) result }
+{
+    write_head(
+        w,
+        edition,
+        words.len() as u32,
+        marks.len() as u32,
+        roots.len() as u32,
+    )?;
+    write_words(w, words)?;
+    write_numbers(w, marks)?;
+    write_words(w, roots)
+}
+
+/// Writes the image of a heap, and takes no memory. The first call of the writer that fails ends the writing, an interrupted one too, and so does one that
+/// takes none of a part; what was taken before stays written, a beginning of the image. That it was sent on is not said: who writes an image flushes it.
+pub fn write_image<W: Write>(heap: &MarkedHeap, w: &mut Counted<W>) -> Result<(), LayoutFault>
+    ensures writes { Writes (W.contents (inner_of w.old)) (W.contents (inner_of w.new)) (encoding heap.now) result }
+    ensures counts { CountsOne (failures_of w.old) (failures_of w.new) result }
+    ensures cause { IfErr result (λ given. given ≡ fault.Device) }
+{
+    match write_heap(w, heap.edition(), heap.words(), heap.marks(), heap.roots()) {
+        Ok(()) => Ok(()),
+        Err(_) => Err(LayoutFault::Device),
+    }
+}
