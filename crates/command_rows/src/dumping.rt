@@ -5,13 +5,14 @@ use crate::printing::{Asked, is_answered};
 use command_io::refusal::{Input, Refusal};
 use command_line::words::TraceRun;
 use comp_dump::fault::DumpFault;
-use compact_command::compact::{Compaction, print_compact};
+use commands::compact::Compaction;
+use commands::compact::print_compact;
 use heap_layout::counted::Counted;
 use heap_layout::fault::LayoutFault;
 use std::process::Abort;
 use std::sync::Wait;
 use std::thread::Threads;
-use trace_commands::replay::print_replay;
+use commands::replay::print_replay;
 use worked_files::writers::{Failure, Narrow};
 
 // What writes a dump.

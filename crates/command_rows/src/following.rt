@@ -4,7 +4,7 @@ use command_io::refusal::{Input, Output, Refusal};
 use command_line::next::NextRun;
 use heap_layout::counted::Counted;
 use heap_layout::fault::LayoutFault;
-use next_command::next::print_next;
+use commands::next::print_next;
 use std::process::Abort;
 use std::thread::Threads;
 use worked_files::parts::{Part, bytes_of};

@@ -4,7 +4,7 @@ ghost use Rattle.std.specs.Io.KnownBytes.{Keeps};
 ghost use Rattle.heap_layout.specs.Counted.{inner_of, failures_of, is_flushed_of, writer_of};
 ghost use Rattle.command_line.specs.Asked.{AsksNoCommand, HasLawfulCounts};
 ghost use Rattle.command_io.specs.Printing.{CountsPrint};
-ghost use Rattle.trace_commands.specs.Replays.{StopsUnprinted};
+ghost use Rattle.commands.specs.Replays.{StopsUnprinted};
 ghost use Rattle.commands.specs.Tasks.{Answers, AreWrong, DoesTask, HasAnswered, IsRefused, RefusesTask};
 
 use clap::error::ErrorKind;
@@ -14,19 +14,20 @@ use command_io::print::{flush, print_help, print_text};
 use command_io::refusal::Refusal;
 use command_io::traces::{FileTraces, Traces};
 use command_line::words::{Task, VERSION_LINE, read_task};
-use compact_command::compact::{Compaction, print_compact};
-use heap_commands::audit::print_audit;
-use heap_commands::plan::print_plan;
-use heap_commands::word::print_word;
+use crate::compact::Compaction;
+use crate::compact::print_compact;
+use crate::audit::print_audit;
+use crate::plan::print_plan;
+use crate::word::print_word;
 use heap_layout::counted::Counted;
-use next_command::next::print_next;
+use crate::next::print_next;
 use std::alloc::Global;
 use std::io::Write;
 use std::rt::Files;
 use std::sync::Wait;
 use std::thread::Threads;
-use trace_commands::race::print_race;
-use trace_commands::replay::print_replay;
+use crate::race::print_race;
+use crate::replay::print_replay;
 
 /// The status of a run that did what it was asked, or printed help or the version.
 pub const DONE: u8 = 0;

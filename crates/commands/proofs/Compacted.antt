@@ -1,0 +1,119 @@
+-- The dump of a swept heap, and what was written and printed of it.
+use Rattle.std.proofs.Common.{◌≡◌, ℕ, List, Option, Result, Ok, Err, IfErr, OnErr, map, codes, refl, sym, subst, ◌∙◌}
+use Rattle.std.specs.Io.KnownBytes.{Appends}
+use Rattle.heap_layout.specs.Heap.{Heap, live}
+use Rattle.page_plan.specs.Sliding.{forwarded, live_words}
+use Rattle.comp_cycles.specs.Finishes.{edition_in, builds_in, live_of, pages_of, roots_of}
+use Rattle.comp_cycles.specs.declared.finished.Finished.{Finished}
+use Rattle.comp_dump.specs.Dumped.{Dumped}
+use Rattle.comp_dump.specs.DumpEncoding.{dump_bytes}
+use Rattle.comp_dump.specs.Lent.{record_of}
+use Rattle.comp_dump.specs.declared.fault.DumpFault.TheVariants.{Truncated, TrailingBytes, BadMagic, BadField, Device}
+use Rattle.comp_dump.specs.declared.fault.DumpFault.TheVariants as faults
+use Rattle.commands.specs.Compact.{slid_records, swept_dump, BeginsDump, Compacts, DumpsHeap, IsSweptHeap, RefusesCompact, RefusesSweep, WasSwept}
+use Rattle.command_io.specs.Dumps.{IsOfDumping, WritesBeginning, WritesWhole}
+use Rattle.command_io.specs.Images.{IsImageOf, RefusesAt, SomeGiven}
+use Rattle.command_io.specs.Printing.{named, CountsPrint}
+use Rattle.command_io.specs.declared.refusal.Input.TheVariants.{Image}
+use Rattle.command_io.specs.declared.refusal.Input.TheVariants as inputs
+use Rattle.command_io.specs.declared.refusal.Refusal.{Refusal}
+use Rattle.command_io.specs.declared.refusal.Refusal.TheVariants.{Layout, Mutator, Sweep, Trace, Dump, Audit, CannotOpen, CannotCreate, ReadFailed, CannotPrint, NoSuchWord, BadMarks, OutOfMemory}
+use Rattle.command_io.proofs.Imaged.{of_image}
+use Rattle.command_io.proofs.Outcomes.{same_parts, uncounted_by}
+
+-- The parts of a dump are those of a finished heap.
+pub record IsDumpOf (workers : ℕ) (f : Finished) (dump : Dumped) : Type 0 where
+  pub edition : dump.edition ≡ edition_in f
+  pub mutators : dump.mutators ≡ workers
+  pub fresh : dump.fresh ≡ 0
+  pub roots : dump.roots ≡ roots_of f
+  pub pages : dump.pages ≡ map record_of (pages_of f)
+  pub builds : dump.builds ≡ builds_in f
+  pub total : dump.total ≡ live_of f
+
+module _ (workers : ℕ) (f : Finished) (dump : Dumped) (parts : IsDumpOf workers f dump) (heap : Heap) (h : IsSweptHeap workers f heap) where
+  same_dump : dump ≡ swept_dump workers heap (builds_in f)
+  same_dump = same_parts dump.edition heap.edition dump.mutators workers dump.fresh 0 dump.total (live_words (live heap)) dump.roots (map (forwarded (live heap)) heap.roots)
+      dump.pages (slid_records (live heap)) dump.builds (builds_in f)
+      (parts.edition ∙ h.edition) parts.mutators parts.fresh (parts.roots ∙ h.roots) (parts.pages ∙ h.pages) parts.builds (parts.total ∙ h.total)
+
+  module _ {W : Type 0} (gives : W → Type 0) (contents : W → Option (List ℕ)) where
+    pub dumps : WritesWhole gives contents (dump_bytes dump) → DumpsHeap gives contents workers heap
+    dumps w = (builds_in f, h.builds, subst (λ (d : Dumped). WritesWhole gives contents (dump_bytes d)) same_dump w)
+
+    pub begins : WritesBeginning gives contents (dump_bytes dump) → BeginsDump gives contents workers heap
+    begins w = (builds_in f, h.builds, subst (λ (d : Dumped). WritesBeginning gives contents (dump_bytes d)) same_dump w)
+
+  pub same_total : dump.total ≡ live_words (live heap)
+  same_total = parts.total ∙ h.total
+
+-- The refusals of a compaction, from those of its parts.
+module _ {R W : Type 0} (absent closed : Type 0) (given : R → Type 0) (remaining : R → Option (List ℕ)) (gives : W → Type 0) (contents : W → Option (List ℕ)) (workers : ℕ) where
+  abbrev pub Refuses : Refusal → Type 0
+  Refuses refusal = RefusesAt absent given remaining (RefusesCompact closed gives contents workers) refusal
+
+  -- the heap was not swept
+  pub of_sweep : (refusal : Refusal) → RefusesAt absent given remaining RefusesSweep refusal → Refuses refusal
+  of_sweep (Layout fault) h = h
+  of_sweep (Mutator refused) h = h
+  of_sweep (Sweep fault) h = h
+  of_sweep (Trace fault) h = absurd h.2
+  of_sweep (Dump fault) h = absurd h.2
+  of_sweep (Audit fault) h = absurd h.2
+  of_sweep (CannotOpen Image) h = h
+  of_sweep (CannotOpen inputs.Trace) h = absurd h.2
+  of_sweep (CannotOpen inputs.Dump) h = absurd h.2
+  of_sweep (CannotOpen inputs.Marks) h = absurd h.2
+  of_sweep (CannotCreate output) h = absurd h.2
+  of_sweep (ReadFailed input) h = absurd h.2
+  of_sweep CannotPrint h = absurd h.2
+  of_sweep (NoSuchWord index) h = absurd h.2
+  of_sweep (BadMarks line) h = absurd h.2
+  of_sweep OutOfMemory h = tt
+
+  module _ (f : Finished) (dump : Dumped) (parts : IsDumpOf workers f dump) (swept : SomeGiven given remaining (IsImageOf (IsSweptHeap workers f))) where
+    -- its dump was not written
+    pub of_dumping : (refusal : Refusal) → IsOfDumping closed gives contents (dump_bytes dump) refusal → Refuses refusal
+    of_dumping (Layout fault) h = absurd h
+    of_dumping (Mutator refused) h = absurd h
+    of_dumping (Sweep fault) h = absurd h
+    of_dumping (Trace fault) h = absurd h
+    of_dumping (Dump Truncated) h = absurd h
+    of_dumping (Dump TrailingBytes) h = absurd h
+    of_dumping (Dump BadMagic) h = absurd h
+    of_dumping (Dump BadField) h = absurd h
+    of_dumping (Dump faults.OutOfMemory) h = absurd h
+    of_dumping (Dump Device) h = (swept.0, swept.1, of_image (IsSweptHeap workers f) (BeginsDump gives contents workers) (remaining swept.0) (λ heap s. begins workers f dump parts heap s gives contents h) swept.2)
+    of_dumping (Audit fault) h = absurd h
+    of_dumping (CannotOpen input) h = absurd h
+    of_dumping (CannotCreate output) h = (swept.0, swept.1, (h.0, h.1, of_image (IsSweptHeap workers f) (WasSwept workers) (remaining swept.0) (λ heap s. (f, s)) swept.2))
+    of_dumping (ReadFailed input) h = absurd h
+    of_dumping CannotPrint h = absurd h
+    of_dumping (NoSuchWord index) h = absurd h
+    of_dumping (BadMarks line) h = absurd h
+    of_dumping OutOfMemory h = tt
+
+    module _ (whole : WritesWhole gives contents (dump_bytes dump)) where
+      -- its line was not printed
+      of_printing : Refuses CannotPrint
+      of_printing = (swept.0, swept.1, of_image (IsSweptHeap workers f) (DumpsHeap gives contents workers) (remaining swept.0) (λ heap s. dumps workers f dump parts heap s gives contents whole) swept.2)
+
+      pub of_line : (result : Result (Unit {0}) Refusal) → OnErr result (result ≡ Err CannotPrint) → IfErr result Refuses
+      of_line (Ok _) h = tt
+      of_line (Err refusal) h = let is : refusal ≡ CannotPrint = cc in subst Refuses (sym is) of_printing
+
+      -- its line was printed
+      pub of_all : (before after : Option (List ℕ)) (n : ℕ) → n ≡ dump.total → Appends before after (named (codes "live ") n)
+          → SomeGiven given remaining (IsImageOf (Compacts gives contents workers before after))
+      of_all before after n is line = (
+        swept.0,
+        swept.1,
+        of_image (IsSweptHeap workers f) (Compacts gives contents workers before after) (remaining swept.0) (λ heap s. record {
+          dump = dumps workers f dump parts heap s gives contents whole;
+          line = subst (λ (m : ℕ). Appends before after (named (codes "live ") m)) (is ∙ same_total workers f dump parts heap s) line;
+        }) swept.2,
+      )
+
+-- a refusal to sweep is none of the output
+pub uncounted : {R : Type 0} (absent : Type 0) (given : R → Type 0) (remaining : R → Option (List ℕ)) (n : ℕ) (refusal : Refusal) → RefusesAt absent given remaining RefusesSweep refusal → CountsPrint {T = Unit {0}} n n (Err refusal)
+uncounted absent given remaining n refusal h = uncounted_by n n refusal refl (λ e. (subst (RefusesAt absent given remaining RefusesSweep) e h).2)

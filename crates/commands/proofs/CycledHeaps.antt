@@ -1,0 +1,64 @@
+-- A heap over which a trace was run, and the next heap.
+use Rattle.std.proofs.Common.{◌≡◌, ℕ, List, [], refl, subst, ◌∙◌}
+use Rattle.heap_layout.specs.Heap.{Heap}
+use Rattle.comp_cycles.specs.Cycles.{heap_after, IsCycleOf}
+use Rattle.comp_cycles.specs.Ends.{cycle_of}
+use Rattle.comp_cycles.specs.declared.finished.Finished.{Finished}
+use Rattle.cycle_traces.specs.CycleRuns.{IsLastRun}
+use Rattle.cycle_traces.proofs.Runs.{marked}
+use Rattle.trace_steps.specs.declared.shown.Shown.{Shown}
+use Rattle.trace_text.specs.declared.line.Line.{Line}
+use Rattle.command_io.specs.declared.refusal.Refusal.{Refusal}
+use Rattle.command_io.specs.declared.refusal.Refusal.TheVariants.{Layout, Mutator, Sweep, Trace, Dump, Audit, CannotOpen, CannotCreate, ReadFailed, CannotPrint, NoSuchWord, BadMarks, OutOfMemory}
+use Rattle.commands.specs.Outcomes.{IsHaltedBy}
+use Rattle.commands.proofs.ReplayRuns.{halted_by}
+use Rattle.commands.specs.Cycled.{IsChapterOf, IsCycledHeap, IsNextHeap, IsUncycled, IsUnmarked}
+
+-- the heap that follows, of what the plan was made for
+pub next_heap_of : (now heap : Heap) (f : Finished) (marks : List ℕ) (made next : Heap) → now ≡ heap → next ≡ made → IsCycleOf now (cycle_of now f marks) → IsChapterOf now (cycle_of now f marks)
+    → made ≡ heap_after (cycle_of now f marks) → IsNextHeap heap f marks next
+next_heap_of now heap f marks made next same is cycle chapter after =
+    subst (λ (h : Heap). IsNextHeap h f marks next) same (record { cycle = cycle; chapter = chapter; next_is = is ∙ after })
+
+module _ (mutators fresh : ℕ) (lines : List Line) (marks : List ℕ) (heap : Heap) where
+  -- the lines ran, and the marks were accepted
+  pub cycled : (shown : List Shown) (f : Finished) (next : Heap) → IsLastRun mutators fresh lines shown heap f → IsNextHeap heap f marks next → IsCycledHeap mutators fresh lines shown marks heap next
+  cycled shown f next run h = record {
+    cycle = cycle_of heap f marks;
+    part = record { run = marked mutators fresh lines shown heap f marks run.run; cycle = h.cycle; marks_are = refl };
+    chapter = h.chapter;
+    next_is = h.next_is;
+  }
+
+  -- the lines ran, and the marks were refused
+  pub uncycled : (values : List Shown) (f : Finished) → IsLastRun mutators fresh lines values heap f → (shown : List Shown) → shown ≡ [] → (refusal : Refusal) → IsUnmarked heap f marks refusal
+      → IsUncycled mutators fresh lines shown marks heap refusal
+  uncycled values f run shown none (Layout fault) h = (none, record { shown = values; left = f; run = run; refused = h })
+  uncycled values f run shown none (Mutator refused) h = absurd h
+  uncycled values f run shown none (Sweep fault) h = absurd h
+  uncycled values f run shown none (Trace fault) h = absurd h
+  uncycled values f run shown none (Dump fault) h = absurd h
+  uncycled values f run shown none (Audit fault) h = absurd h
+  uncycled values f run shown none (CannotOpen input) h = absurd h
+  uncycled values f run shown none (CannotCreate output) h = absurd h
+  uncycled values f run shown none (ReadFailed input) h = absurd h
+  uncycled values f run shown none CannotPrint h = absurd h
+  uncycled values f run shown none (NoSuchWord index) h = absurd h
+  uncycled values f run shown none (BadMarks line) h = absurd h
+  uncycled values f run shown none OutOfMemory h = none
+
+  -- what was shown of a cycle that does not come to its end
+  pub halted_cycle : (shown : List Shown) (refusal : Refusal) → IsUncycled mutators fresh lines shown marks heap refusal → IsHaltedBy shown refusal
+  halted_cycle shown (Layout fault) h = h.0
+  halted_cycle shown (Mutator refused) h = h.1
+  halted_cycle shown (Sweep fault) h = absurd h
+  halted_cycle shown (Trace fault) h = halted_by mutators fresh lines heap shown (Trace fault) h
+  halted_cycle shown (Dump fault) h = absurd h
+  halted_cycle shown (Audit fault) h = absurd h
+  halted_cycle shown (CannotOpen input) h = absurd h
+  halted_cycle shown (CannotCreate output) h = absurd h
+  halted_cycle shown (ReadFailed input) h = absurd h
+  halted_cycle shown CannotPrint h = absurd h
+  halted_cycle shown (NoSuchWord index) h = absurd h
+  halted_cycle shown (BadMarks line) h = absurd h
+  halted_cycle shown OutOfMemory h = h

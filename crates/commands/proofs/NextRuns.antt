@@ -1,0 +1,94 @@
+-- What the command `next` does and refuses, from what its parts do and refuse.
+use Rattle.std.proofs.Common.{◌≡◌, ℕ, List, Option, Result, Ok, Err, IfErr, IfOk, OnErr, OnOk, refl, sym, subst, inl, inr}
+use Rattle.std.proofs.KnownBytes.{Appends-kept}
+use Rattle.std.specs.Io.KnownBytes.{Keeps}
+use Rattle.heap_layout.specs.Heap.{Heap}
+use Rattle.trace_text.specs.declared.line.Line.{Line}
+use Rattle.command_io.specs.Dumps.{WritesWhole}
+use Rattle.command_io.specs.Images.{SomeHeap}
+use Rattle.command_io.specs.Marks.{RefusesMarksAt}
+use Rattle.command_io.specs.NewImages.{IsOfWritingImage, RefusedUnmade}
+use Rattle.command_io.specs.Printing.{CountsPrint}
+use Rattle.command_io.specs.declared.refusal.Refusal.{Refusal}
+use Rattle.command_io.specs.declared.refusal.Refusal.TheVariants.{Layout, Mutator, Sweep, Trace, Dump, Audit, CannotOpen, CannotCreate, ReadFailed, CannotPrint, NoSuchWord, BadMarks, OutOfMemory}
+use Rattle.command_io.proofs.Outcomes.{uncounted_by, unmade}
+use Rattle.commands.specs.declared.replays.Halted.{Halted}
+use Rattle.commands.specs.Cycled.{IsCycledHeap, IsUncycled}
+use Rattle.commands.specs.Nexts.{IsOfWritingNext, IsWrittenNext, MakesNext, Nexts, PrintsNext, RefusesCycle, RefusesNext, RefusesWriting}
+use Rattle.commands.specs.declared.cycling.Cycled.{Cycled}
+
+-- no refusal of marks counts a failed call of the output
+pub marks_uncounted : {S : Type 0} (unmarked : Type 0) (handed : S → Type 0) (rest : S → Option (List ℕ)) (n : ℕ) (refusal : Refusal) → RefusesMarksAt unmarked handed rest refusal → CountsPrint {T = Unit {0}} n n (Err refusal)
+marks_uncounted unmarked handed rest n refusal h = uncounted_by n n refusal refl (λ e. (subst (RefusesMarksAt unmarked handed rest) e h).2)
+
+-- no image was created where none was begun
+pub unmade_anyway : {D : Type 0} (dumps : D) (result : Result (Unit {0}) Refusal) → RefusedUnmade dumps dumps result
+unmade_anyway dumps (Ok _) = tt
+unmade_anyway dumps (Err refusal) = unmade dumps refusal
+
+-- a refusal of the image is one of the writing
+pub writing_image : {W : Type 0} (lacks : Type 0) (gives : W → Type 0) (contents : W → Option (List ℕ)) (bytes : List ℕ) (refusal : Refusal) → IsOfWritingImage lacks gives contents bytes refusal
+    → IsOfWritingNext lacks gives contents bytes refusal
+writing_image lacks gives contents bytes (Layout fault) h = h
+writing_image lacks gives contents bytes (Mutator refused) h = h
+writing_image lacks gives contents bytes (Sweep fault) h = h
+writing_image lacks gives contents bytes (Trace fault) h = h
+writing_image lacks gives contents bytes (Dump fault) h = h
+writing_image lacks gives contents bytes (Audit fault) h = h
+writing_image lacks gives contents bytes (CannotOpen input) h = h
+writing_image lacks gives contents bytes (CannotCreate output) h = h
+writing_image lacks gives contents bytes (ReadFailed input) h = h
+writing_image lacks gives contents bytes CannotPrint h = absurd h
+writing_image lacks gives contents bytes (NoSuchWord index) h = h
+writing_image lacks gives contents bytes (BadMarks line) h = h
+writing_image lacks gives contents bytes OutOfMemory h = h
+
+-- the image was written, and a call of the output failed
+pub unprinted_next : {W : Type 0} (lacks : Type 0) (gives : W → Type 0) (contents : W → Option (List ℕ)) (bytes : List ℕ) (result : Result (Unit {0}) Refusal) → OnErr result (result ≡ Err CannotPrint)
+    → WritesWhole gives contents bytes → IfErr result (IsOfWritingNext lacks gives contents bytes)
+unprinted_next lacks gives contents bytes (Ok _) cause written = tt
+unprinted_next lacks gives contents bytes (Err refusal) cause written =
+    let is : refusal ≡ CannotPrint = cc in
+    subst (IsOfWritingNext lacks gives contents bytes) (sym is) written
+
+-- what follows from an Ok, and from an Err
+pub ok_then : (P Q : Type 0) → (P → Q) → (result : Result (Unit {0}) Refusal) → OnOk result P → OnOk result Q
+ok_then P Q f (Ok _) p = f p
+ok_then P Q f (Err refusal) p = tt
+
+pub err_then : (P Q : Refusal → Type 0) → ((refusal : Refusal) → P refusal → Q refusal) → (result : Result (Unit {0}) Refusal) → IfErr result P → IfErr result Q
+err_then P Q f (Ok _) p = tt
+err_then P Q f (Err refusal) p = f refusal p
+
+module _ {W : Type 0} (lacks : Type 0) (gives : W → Type 0) (contents : W → Option (List ℕ)) (mutators fresh : ℕ) (before after : Option (List ℕ)) (lines : List Line) (marks : List ℕ) (heap : Heap) where
+  -- the cycle came to its end, and all was written and printed
+  pub made_ok : (made : Result Cycled Halted) → IfOk made (λ cycled. IsCycledHeap mutators fresh lines cycled.shown.items marks heap cycled.plan)
+      → (result : Result (Unit {0}) Refusal) → OnOk result (IsWrittenNext gives contents before after made) → OnOk result (Nexts gives contents mutators fresh before after lines marks heap)
+  made_ok made h (Err refusal) w = tt
+  made_ok (Ok cycled) h (Ok _) w = record { shown = cycled.shown.items; next = cycled.plan; cycled = h; written = w.0; printed = w.1 }
+  made_ok (Err halted) h (Ok _) w = absurd w
+
+  -- or it did not
+  pub made_err : (made : Result Cycled Halted) → IfOk made (λ cycled. IsCycledHeap mutators fresh lines cycled.shown.items marks heap cycled.plan)
+      → IfErr made (λ halted. IsUncycled mutators fresh lines halted.shown.items marks heap halted.refusal)
+      → (refusal : Refusal) → RefusesWriting lacks gives contents before after made refusal → RefusesCycle lacks gives contents mutators fresh before after lines marks heap refusal
+  made_err (Ok cycled) h u refusal w = inr (cycled.shown.items, cycled.plan, h, w)
+  made_err (Err halted) h u refusal w = inl (halted, u, w)
+
+-- What the command did, where the output is flushed after it, or is not.
+module _ {R S W : Type 0} (given : R → Type 0) (remaining : R → Option (List ℕ)) (told handed : S → Type 0) (rest : S → Option (List ℕ)) (gives : W → Type 0) (contents : W → Option (List ℕ))
+    (mutators fresh : ℕ) (before between after : Option (List ℕ)) where
+  pub flushed_next : Keeps between after → MakesNext given remaining told handed rest gives contents mutators fresh before between → MakesNext given remaining told handed rest gives contents mutators fresh before after
+  flushed_next kept (heap, image, (lines, trace, (marks, own, h))) =
+      let printed = Appends-kept before between after _ h.printed kept in
+      (heap, image, (lines, trace, (marks, own, record { shown = h.shown; next = h.next; cycled = h.cycled; written = h.written; printed = printed })))
+
+  pub unflushed_next : (absent missing unmarked lacks : Type 0) → MakesNext given remaining told handed rest gives contents mutators fresh before between
+      → RefusesNext absent given remaining missing told unmarked handed rest lacks gives contents mutators fresh before after CannotPrint
+  unflushed_next absent missing unmarked lacks (heap, image, (lines, trace, (marks, own, h))) =
+      inr (inr (heap, image, (lines, trace, (marks, own, inr (h.shown, h.next, h.cycled, h.written)))))
+
+  -- what was printed of an accepted heap
+  pub printed_next : MakesNext given remaining told handed rest gives contents mutators fresh before after → SomeHeap (PrintsNext mutators fresh before after)
+  printed_next (heap, (reader, is_given, (other, stored, accepted, (known, same))), (lines, (second, is_told, (text, is_text, has_lines)), (marks, own, h))) =
+      (other, stored, accepted, subst (PrintsNext mutators fresh before after) (sym same) (text, lines, has_lines, marks, h.shown, h.next, h.cycled, h.printed))

@@ -1,0 +1,229 @@
+-- What the command `race` does and refuses, from what its parts do and refuse.
+use Rattle.std.proofs.Common.{◌≡◌, ℕ, List, Option, Result, Ok, Err, IfErr, IfOk, OnOk, length, inl, inr, subst, sym}
+use Rattle.std.proofs.KnownBytes.{Appends-kept}
+use Rattle.std.specs.Io.KnownBytes.{Appends, Keeps}
+use Rattle.heap_layout.specs.Heap.{Heap}
+use Rattle.comp_cycles.specs.Finishes.{live_of}
+use Rattle.comp_cycles.specs.declared.finished.Finished.{Finished}
+use Rattle.trace_text.specs.declared.fault.TraceFault.{TraceFault}
+use Rattle.trace_text.specs.declared.fault.TraceFault.TheVariants.{BadLine, NoSuchMutator, NoSuchRegister, NumberTooLarge, NoSuchRoot, Refused}
+use Rattle.trace_text.specs.declared.fault.TraceFault.TheVariants as traces
+use Rattle.trace_text.specs.declared.line.Line.{Line}
+use Rattle.trace_steps.specs.declared.shown.Shown.{Shown}
+use Rattle.comp_dump.specs.DumpEncoding.{dump_bytes}
+use Rattle.comp_dump.specs.declared.fault.DumpFault.TheVariants.{Truncated, TrailingBytes, BadMagic, BadField, Device}
+use Rattle.comp_dump.specs.declared.fault.DumpFault.TheVariants as faults
+use Rattle.command_io.specs.Dumps.{WritesWhole}
+use Rattle.command_io.specs.Images.{IsImageOf, RefusesAt, RefusesImage, SomeGiven}
+use Rattle.commands.specs.Races.{HasRace, InterruptsRace, IsHaltedRace, IsRacedHeap, Races, RefusesRace, RefusesRacing, StopsRace}
+use Rattle.commands.specs.Replays.{dumped_of, shown_lines, IsOfWritingRun, PrintsRun, SomeRun}
+use Rattle.command_io.specs.Texts.{IsTextOf, RefusesTextAt}
+use Rattle.command_io.specs.declared.refusal.Input.TheVariants as inputs
+use Rattle.command_io.specs.declared.refusal.Refusal.{Refusal}
+use Rattle.command_io.specs.declared.refusal.Refusal.TheVariants.{Layout, Mutator, Sweep, Trace, Dump, Audit, CannotOpen, CannotCreate, ReadFailed, CannotPrint, NoSuchWord, BadMarks, OutOfMemory}
+use Rattle.commands.specs.Outcomes.{IsHaltedBy, IsWritten, RefusesInputs, RefusesOutcome}
+use Rattle.commands.specs.declared.replays.Halted.{Halted}
+use Rattle.commands.specs.declared.replays.Replayed.{Replayed}
+use Rattle.commands.proofs.ReplayRuns.{some_heap, some_refused, some_run}
+
+-- a race, and what was left of it
+abbrev has_race : (mutators fresh : ℕ) (lines : List Line) (shown : List Shown) (f : Finished) (heap : Heap) → IsRacedHeap mutators fresh lines shown f heap → HasRace mutators fresh lines heap
+has_race mutators fresh lines shown f heap h = record { shown = shown; left = f; raced = h }
+
+races : {W : Type 0} (gives : W → Type 0) (contents : W → Option (List ℕ)) (mutators fresh : ℕ) (before after : Option (List ℕ)) (lines : List Line) (shown : List Shown) (f : Finished) (heap : Heap)
+    → IsRacedHeap mutators fresh lines shown f heap → WritesWhole gives contents (dump_bytes (dumped_of mutators fresh f)) → PrintsRun before after shown (live_of f)
+    → Races gives contents mutators fresh before after lines heap
+races gives contents mutators fresh before after lines shown f heap h written printed = record { race = has_race mutators fresh lines shown f heap h; written = written; printed = printed }
+
+-- The refusals of the command, from those of its parts.
+module _ {R S W : Type 0} (absent : Type 0) (given : R → Type 0) (remaining : R → Option (List ℕ)) (missing : Type 0) (told : S → Type 0) (rest : S → Option (List ℕ))
+    (lacks : Type 0) (gives : W → Type 0) (contents : W → Option (List ℕ)) (mutators fresh : ℕ) (before after : Option (List ℕ)) where
+  abbrev pub IsCause : Refusal → Type 0
+  IsCause refusal = RefusesRace absent given remaining missing told rest lacks gives contents mutators fresh before after refusal
+
+  -- there is no heap
+  of_image : (refusal : Refusal) → RefusesAt absent given remaining RefusesImage refusal → IsCause refusal
+  of_image (Layout fault) h = h
+  of_image (Mutator refused) h = absurd h.2
+  of_image (Sweep fault) h = absurd h.2
+  of_image (Trace fault) h = absurd h.2
+  of_image (Dump fault) h = absurd h.2
+  of_image (Audit fault) h = absurd h.2
+  of_image (CannotOpen inputs.Image) h = h
+  of_image (CannotOpen inputs.Trace) h = absurd h.2
+  of_image (CannotOpen inputs.Dump) h = absurd h.2
+  of_image (CannotOpen inputs.Marks) h = absurd h.2
+  of_image (CannotCreate output) h = absurd h.2
+  of_image (ReadFailed input) h = absurd h.2
+  of_image CannotPrint h = absurd h.2
+  of_image (NoSuchWord index) h = absurd h.2
+  of_image (BadMarks line) h = absurd h.2
+  of_image OutOfMemory h = tt
+
+  module _ (heap : Heap) (image : SomeGiven given remaining (IsImageOf (λ other. other ≡ heap))) where
+    -- there is no trace for it, and nothing was printed
+    by_trace : Keeps before after → (refusal : Refusal) → RefusesTextAt missing told rest mutators (length heap.roots) refusal → IsCause refusal
+    by_trace kept (Layout fault) h = absurd h.2
+    by_trace kept (Mutator refused) h = absurd h.2
+    by_trace kept (Sweep fault) h = absurd h.2
+    by_trace kept (Trace fault) h = inl (some_refused given remaining told rest mutators heap image (Trace fault) h, kept)
+    by_trace kept (Dump fault) h = absurd h.2
+    by_trace kept (Audit fault) h = absurd h.2
+    by_trace kept (CannotOpen inputs.Image) h = absurd h.2
+    by_trace kept (CannotOpen inputs.Trace) h = (h, some_heap given remaining told rest mutators heap image)
+    by_trace kept (CannotOpen inputs.Dump) h = absurd h.2
+    by_trace kept (CannotOpen inputs.Marks) h = absurd h.2
+    by_trace kept (CannotCreate output) h = absurd h.2
+    by_trace kept (ReadFailed inputs.Image) h = absurd h.2
+    by_trace kept (ReadFailed inputs.Trace) h = some_refused given remaining told rest mutators heap image (ReadFailed inputs.Trace) h
+    by_trace kept (ReadFailed inputs.Dump) h = absurd h.2
+    by_trace kept (ReadFailed inputs.Marks) h = absurd h.2
+    by_trace kept CannotPrint h = absurd h.2
+    by_trace kept (NoSuchWord index) h = absurd h.2
+    by_trace kept (BadMarks line) h = absurd h.2
+    by_trace kept OutOfMemory h = tt
+
+    module _ (lines : List Line) (trace : SomeGiven told rest (IsTextOf mutators (length heap.roots) lines)) where
+      by_run : (refusal : Refusal) → RefusesRacing lacks gives contents mutators fresh before after refusal lines heap
+          → SomeRun given remaining told rest mutators (RefusesRacing lacks gives contents mutators fresh before after refusal)
+      by_run refusal h = some_run given remaining told rest mutators heap image (RefusesRacing lacks gives contents mutators fresh before after refusal) lines trace h
+
+      -- its lines did not all run, and what they showed was printed
+      of_halt : (shown : List Shown) → Appends before after (shown_lines shown) → (refusal : Refusal) → IsHaltedRace mutators fresh lines shown heap refusal → IsCause refusal
+      of_halt shown printed (Layout fault) h = absurd h
+      of_halt shown printed (Mutator refused) h = by_run (Mutator refused) h.0
+      of_halt shown printed (Sweep fault) h = absurd h
+      of_halt shown printed (Trace fault) h =
+          inr (some_run given remaining told rest mutators heap image (StopsRace mutators fresh before after fault) lines trace (shown, h, printed))
+      of_halt shown printed (Dump fault) h = absurd h
+      of_halt shown printed (Audit fault) h = absurd h
+      of_halt shown printed (CannotOpen input) h = absurd h
+      of_halt shown printed (CannotCreate output) h = absurd h
+      of_halt shown printed (ReadFailed input) h = absurd h
+      of_halt shown printed CannotPrint h = absurd h
+      of_halt shown printed (NoSuchWord index) h = absurd h
+      of_halt shown printed (BadMarks line) h = absurd h
+      of_halt shown printed OutOfMemory h = tt
+
+      -- or a call of the output failed
+      of_halt_unprinted : (shown : List Shown) (refusal : Refusal) → IsHaltedRace mutators fresh lines shown heap refusal → IsCause CannotPrint
+      of_halt_unprinted shown refusal h = by_run CannotPrint (inr (refusal, shown, h))
+
+      module _ (shown : List Shown) (f : Finished) (h : IsRacedHeap mutators fresh lines shown f heap) where
+        -- they ran, and the dump was not written, or a call of the output failed
+        of_writing : (refusal : Refusal) → IsOfWritingRun lacks gives contents (dump_bytes (dumped_of mutators fresh f)) refusal → IsCause refusal
+        of_writing (Layout fault) w = absurd w
+        of_writing (Mutator refused) w = absurd w
+        of_writing (Sweep fault) w = absurd w
+        of_writing (Trace fault) w = absurd w
+        of_writing (Dump Truncated) w = absurd w
+        of_writing (Dump TrailingBytes) w = absurd w
+        of_writing (Dump BadMagic) w = absurd w
+        of_writing (Dump BadField) w = absurd w
+        of_writing (Dump faults.OutOfMemory) w = absurd w
+        of_writing (Dump Device) w = by_run (Dump Device) (has_race mutators fresh lines shown f heap h, w)
+        of_writing (Audit fault) w = absurd w
+        of_writing (CannotOpen input) w = absurd w
+        of_writing (CannotCreate output) w = by_run (CannotCreate output) (w.0, w.1, has_race mutators fresh lines shown f heap h)
+        of_writing (ReadFailed input) w = absurd w
+        of_writing CannotPrint w = by_run CannotPrint (inl (has_race mutators fresh lines shown f heap h, w))
+        of_writing (NoSuchWord index) w = absurd w
+        of_writing (BadMarks line) w = absurd w
+        of_writing OutOfMemory w = tt
+
+        -- the dump was written, and all was printed
+        of_all : WritesWhole gives contents (dump_bytes (dumped_of mutators fresh f)) → PrintsRun before after shown (live_of f)
+            → SomeRun given remaining told rest mutators (Races gives contents mutators fresh before after)
+        of_all written printed = some_run given remaining told rest mutators heap image (Races gives contents mutators fresh before after) lines trace
+            (races gives contents mutators fresh before after lines shown f heap h written printed)
+
+      -- from what became of the run
+      of_outcome : (outcome : Result Replayed Halted) → IfOk outcome (λ run. IsRacedHeap mutators fresh lines run.shown.items run.finished heap)
+          → IfErr outcome (λ run. IsHaltedRace mutators fresh lines run.shown.items heap run.refusal)
+          → (refusal : Refusal) → RefusesOutcome lacks gives contents mutators fresh before after outcome refusal → IsCause refusal
+      of_outcome (Ok run) ran halted refusal h = of_writing run.shown.items run.finished ran refusal h
+      of_outcome (Err run) ran halted refusal (inl (is, printed)) = subst IsCause (sym is) (of_halt run.shown.items printed run.refusal halted)
+      of_outcome (Err run) ran halted refusal (inr is) = subst IsCause (sym is) (of_halt_unprinted run.shown.items run.refusal halted)
+
+      pub of_outcome_err : (outcome : Result Replayed Halted) → IfOk outcome (λ run. IsRacedHeap mutators fresh lines run.shown.items run.finished heap)
+          → IfErr outcome (λ run. IsHaltedRace mutators fresh lines run.shown.items heap run.refusal)
+          → (result : Result (Unit {0}) Refusal) → IfErr result (RefusesOutcome lacks gives contents mutators fresh before after outcome) → IfErr result IsCause
+      of_outcome_err outcome ran halted (Ok _) h = tt
+      of_outcome_err outcome ran halted (Err refusal) h = of_outcome outcome ran halted refusal h
+
+      pub of_outcome_ok : (outcome : Result Replayed Halted) → IfOk outcome (λ run. IsRacedHeap mutators fresh lines run.shown.items run.finished heap)
+          → (result : Result (Unit {0}) Refusal) → OnOk result (IsWritten gives contents mutators fresh before after outcome)
+          → OnOk result (SomeRun given remaining told rest mutators (Races gives contents mutators fresh before after))
+      of_outcome_ok outcome ran (Err refusal) h = tt
+      of_outcome_ok (Ok run) ran (Ok _) h = of_all run.shown.items run.finished ran h.0 h.1
+      of_outcome_ok (Err run) ran (Ok _) h = absurd h
+
+  -- there is no heap, or no trace for it
+  pub of_inputs : Keeps before after → (refusal : Refusal) → RefusesInputs absent given remaining missing told rest mutators refusal → IsCause refusal
+  of_inputs kept refusal (inl h) = of_image refusal h
+  of_inputs kept refusal (inr (heap, image, h)) = by_trace heap image kept refusal h
+
+-- how a race was halted tells what it had shown
+raced_by : (mutators fresh : ℕ) (lines : List Line) (shown : List Shown) (heap : Heap) (fault : TraceFault) → InterruptsRace mutators fresh lines shown heap fault → IsHaltedBy shown (Trace fault)
+raced_by mutators fresh lines shown heap (BadLine number) h = absurd h
+raced_by mutators fresh lines shown heap (NoSuchMutator number) h = absurd h
+raced_by mutators fresh lines shown heap (NoSuchRegister number) h = absurd h
+raced_by mutators fresh lines shown heap (NumberTooLarge number) h = absurd h
+raced_by mutators fresh lines shown heap (NoSuchRoot number) h = absurd h
+raced_by mutators fresh lines shown heap (Refused number refusal) h = tt
+raced_by mutators fresh lines shown heap traces.OutOfMemory h = h
+
+pub race_halted_by : (mutators fresh : ℕ) (lines : List Line) (heap : Heap) (shown : List Shown) (refusal : Refusal) → IsHaltedRace mutators fresh lines shown heap refusal → IsHaltedBy shown refusal
+race_halted_by mutators fresh lines heap shown (Layout fault) h = absurd h
+race_halted_by mutators fresh lines heap shown (Mutator refused) h = h.1
+race_halted_by mutators fresh lines heap shown (Sweep fault) h = absurd h
+race_halted_by mutators fresh lines heap shown (Trace fault) h = raced_by mutators fresh lines shown heap fault h
+race_halted_by mutators fresh lines heap shown (Dump fault) h = absurd h
+race_halted_by mutators fresh lines heap shown (Audit fault) h = absurd h
+race_halted_by mutators fresh lines heap shown (CannotOpen input) h = absurd h
+race_halted_by mutators fresh lines heap shown (CannotCreate output) h = absurd h
+race_halted_by mutators fresh lines heap shown (ReadFailed input) h = absurd h
+race_halted_by mutators fresh lines heap shown CannotPrint h = h
+race_halted_by mutators fresh lines heap shown (NoSuchWord index) h = absurd h
+race_halted_by mutators fresh lines heap shown (BadMarks line) h = absurd h
+race_halted_by mutators fresh lines heap shown OutOfMemory h = h
+
+-- What was done of a race, where the output is flushed behind it, or is not.
+module _ {R S W : Type 0} (given : R → Type 0) (remaining : R → Option (List ℕ)) (told : S → Type 0) (rest : S → Option (List ℕ)) (gives : W → Type 0) (contents : W → Option (List ℕ))
+    (mutators fresh : ℕ) (before between after : Option (List ℕ)) where
+  pub flushed_race : Keeps between after → SomeRun given remaining told rest mutators (Races gives contents mutators fresh before between)
+      → SomeRun given remaining told rest mutators (Races gives contents mutators fresh before after)
+  flushed_race kept (reader, is_given, (heap, stored, accepted, (known, (other, is_told, (text, is_text, (lines, has_lines, h)))))) = (
+    reader,
+    is_given,
+    (
+      heap,
+      stored,
+      accepted,
+      (
+        known,
+        (
+          other,
+          is_told,
+          (
+            text,
+            is_text,
+            (
+              lines,
+              has_lines,
+              record {
+                race = h.race;
+                written = h.written;
+                printed = Appends-kept before between after _ h.printed kept;
+              },
+            ),
+          ),
+        ),
+      ),
+    ),
+  )
+
+  pub unflushed_race : (lacks : Type 0) → SomeRun given remaining told rest mutators (Races gives contents mutators fresh before between)
+      → SomeRun given remaining told rest mutators (RefusesRacing lacks gives contents mutators fresh before after CannotPrint)
+  unflushed_race lacks (reader, is_given, (heap, stored, accepted, (known, (other, is_told, (text, is_text, (lines, has_lines, h)))))) =
+      (reader, is_given, (heap, stored, accepted, (known, (other, is_told, (text, is_text, (lines, has_lines, inl (h.race, h.written)))))))

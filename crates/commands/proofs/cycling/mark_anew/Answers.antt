@@ -1,0 +1,15 @@
+use Rattle.heap_layout.specs.Heap.{Heap}
+use Rattle.std.proofs.Common.{subst}
+use Rattle.command_io.specs.declared.refusal.Refusal.TheVariants.{Layout}
+use Rattle.commands.specs.Cycled.{IsUnmarked}
+use Rattle.commands.proofs.CycledHeaps.{next_heap_of}
+use Rattle.commands.proofs.cycling.mark_anew.Goals as goal
+
+pub returns-in-Ok-clause-next : goal.returns-in-Ok-clause-next
+returns-in-Ok-clause-next g c =
+    let made = c.in-Ok.ensures in
+    next_heap_of c.deref.result.now c.args.plan.value c.args.finished c.args.marks.items c.in-Ok.heap c.in_ok-new-in-Ok.field-0 c.deref.ensures c.in_ok-new-in-Ok.ensures made.cycle made.chapter made.next
+
+pub returns-clause-refused : goal.returns-clause-refused
+returns-clause-refused g c =
+    subst (λ (heap : Heap). IsUnmarked heap c.args.finished c.args.marks.items (Layout c.in-Err.left.fault)) c.deref.ensures c.in-Err.ensures.refused

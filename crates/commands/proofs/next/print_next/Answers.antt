@@ -1,0 +1,130 @@
+use Rattle.std.proofs.Common.{inl, inr}
+use Rattle.std.proofs.lemmas.Result.{err_from_is_err_and, IfErr-weaker}
+use Rattle.heap_layout.specs.Counted.{inner_of, failures_of}
+use Rattle.trace_text.specs.Traces.{lines_of}
+use Rattle.command_io.proofs.Outcomes.{unmade}
+use Rattle.commands.proofs.ReplayRuns.{inputs_uncounted, unprinted_halt}
+use Rattle.commands.specs.Nexts.{MakesNext, Nexts, RefusesNext, RefusesWriting}
+use Rattle.commands.proofs.CycledHeaps.{halted_cycle}
+use Rattle.commands.proofs.NextRuns.{err_then, made_err, made_ok, marks_uncounted, ok_then}
+use Rattle.commands.proofs.next.print_next.Goals as goal
+
+-- There is no heap, or no trace for it.
+pub returns-in_err-inputs-clause-cause : goal.returns-in_err-inputs-clause-cause
+returns-in_err-inputs-clause-cause g c =
+    let p = err_from_is_err_and c.from_residual.result c.from_residual.ensures.1 in
+    rw (p.1, p.2) (inl c.in_err-inputs.ensures.cause)
+
+pub returns-in_err-inputs-clause-counts : goal.returns-in_err-inputs-clause-counts
+returns-in_err-inputs-clause-counts g c =
+    let p = err_from_is_err_and c.from_residual.result c.from_residual.ensures.1 in
+    let asked = c.args.asked in
+    rw (p.1, p.2) (inputs_uncounted (g.I.Images.lacks c.args.images.now asked.image.now) (g.I.Images.gives c.args.images.now asked.image.now) g.I.Reader.Read.remaining
+    (g.T.Traces.lacks c.args.traces.now asked.trace.now) (g.T.Traces.gives c.args.traces.now asked.trace.now) g.T.Reader.Read.remaining
+    asked.mutators (failures_of c.args.out.now) _ c.in_err-inputs.ensures.cause)
+
+pub returns-in_err-inputs-clause-unprinted : goal.returns-in_err-inputs-clause-unprinted
+returns-in_err-inputs-clause-unprinted g c =
+    let p = err_from_is_err_and c.from_residual.result c.from_residual.ensures.1 in
+    rw (p.1, p.2) (unprinted_halt (g.O.Write.contents (inner_of c.args.out.now).now) _)
+
+pub returns-in_err-inputs-clause-unmade : goal.returns-in_err-inputs-clause-unmade
+returns-in_err-inputs-clause-unmade g c =
+    let p = err_from_is_err_and c.from_residual.result c.from_residual.ensures.1 in
+    rw (p.1, p.2) (unmade c.args.dumps.now _)
+
+-- There are no marks.
+pub returns-in_err-marks-clause-cause : goal.returns-in_err-marks-clause-cause
+returns-in_err-marks-clause-cause g c =
+    let p = err_from_is_err_and c.from_residual-in_err-marks.result c.from_residual-in_err-marks.ensures.1 in
+    let inputs = c.in_ok-inputs.inputs in
+    let read = c.in_ok-inputs.ensures in
+    rw (p.1, p.2) (inr (inl (inputs.heap, read.heap, (lines_of inputs.trace, read.lines, c.in_err-marks.ensures.cause))))
+
+pub returns-in_err-marks-clause-counts : goal.returns-in_err-marks-clause-counts
+returns-in_err-marks-clause-counts g c =
+    let p = err_from_is_err_and c.from_residual-in_err-marks.result c.from_residual-in_err-marks.ensures.1 in
+    let path = c.args.asked.marks.now in
+    rw (p.1, p.2) (marks_uncounted (g.T.Traces.lacks c.args.traces.now path) (g.T.Traces.gives c.args.traces.now path) g.T.Reader.Read.remaining (failures_of c.args.out.now) _ c.in_err-marks.ensures.cause)
+
+pub returns-in_err-marks-clause-unprinted : goal.returns-in_err-marks-clause-unprinted
+returns-in_err-marks-clause-unprinted g c =
+    let p = err_from_is_err_and c.from_residual-in_err-marks.result c.from_residual-in_err-marks.ensures.1 in
+    rw (p.1, p.2) (unprinted_halt (g.O.Write.contents (inner_of c.args.out.now).now) _)
+
+pub returns-in_err-marks-clause-unmade : goal.returns-in_err-marks-clause-unmade
+returns-in_err-marks-clause-unmade g c =
+    let p = err_from_is_err_and c.from_residual-in_err-marks.result c.from_residual-in_err-marks.ensures.1 in
+    rw (p.1, p.2) (unmade c.args.dumps.now _)
+
+-- All files were read.
+pub write_made-requires-clause-halted : goal.write_made-requires-clause-halted
+write_made-requires-clause-halted g c =
+    let inputs = c.in_ok-inputs.inputs in
+    IfErr-weaker c.cycle_heap-made.result _ _
+    (λ halted h. halted_cycle c.args.asked.mutators c.args.asked.fresh (lines_of inputs.trace) c.in_ok-marks.marks.items inputs.heap halted.shown.items halted.refusal h) c.cycle_heap-made.ensures.halted
+
+pub returns-clause-made : goal.returns-clause-made
+returns-clause-made g c =
+    let asked = c.args.asked in
+    let inputs = c.in_ok-inputs.inputs in
+    let read = c.in_ok-inputs.ensures in
+    let marks = c.in_ok-marks.marks.items in
+    let given = g.I.Images.gives c.args.images.now asked.image.now in
+    let told = g.T.Traces.gives c.args.traces.now asked.trace.now in
+    let handed = g.T.Traces.gives c.args.traces.now asked.marks.now in
+    let lacks = g.D.Dumps.lacks c.args.dumps.now asked.new.now in
+    let gives = g.D.Dumps.gives c.args.dumps.now asked.new.now in
+    let contents = g.D.Writer.Write.contents in
+    let before = g.O.Write.contents (inner_of c.args.out.now).now in
+    let after = g.O.Write.contents (inner_of c.write_made.new.out).now in
+    ok_then (Nexts gives contents asked.mutators asked.fresh before after (lines_of inputs.trace) marks inputs.heap)
+    (MakesNext given g.I.Reader.Read.remaining told handed g.T.Reader.Read.remaining gives contents asked.mutators asked.fresh before after)
+    (λ h. (inputs.heap, read.heap, (lines_of inputs.trace, read.lines, (marks, c.in_ok-marks.ensures.marks, h))))
+    c.write_made.result
+    (made_ok lacks gives contents asked.mutators asked.fresh before after (lines_of inputs.trace) marks inputs.heap c.cycle_heap-made.result c.cycle_heap-made.ensures.cycled
+    c.write_made.result c.write_made.ensures.done)
+
+pub returns-clause-cause : goal.returns-clause-cause
+returns-clause-cause g c =
+    let asked = c.args.asked in
+    let inputs = c.in_ok-inputs.inputs in
+    let read = c.in_ok-inputs.ensures in
+    let marks = c.in_ok-marks.marks.items in
+    let lacks = g.D.Dumps.lacks c.args.dumps.now asked.new.now in
+    let gives = g.D.Dumps.gives c.args.dumps.now asked.new.now in
+    let contents = g.D.Writer.Write.contents in
+    let before = g.O.Write.contents (inner_of c.args.out.now).now in
+    let after = g.O.Write.contents (inner_of c.write_made.new.out).now in
+    err_then (RefusesWriting lacks gives contents before after c.cycle_heap-made.result)
+    (RefusesNext (g.I.Images.lacks c.args.images.now asked.image.now) (g.I.Images.gives c.args.images.now asked.image.now) g.I.Reader.Read.remaining
+    (g.T.Traces.lacks c.args.traces.now asked.trace.now) (g.T.Traces.gives c.args.traces.now asked.trace.now)
+    (g.T.Traces.lacks c.args.traces.now asked.marks.now) (g.T.Traces.gives c.args.traces.now asked.marks.now) g.T.Reader.Read.remaining
+    lacks gives contents asked.mutators asked.fresh before after)
+    (λ refusal h. inr (inr (
+      inputs.heap,
+      read.heap,
+      (
+        lines_of inputs.trace,
+        read.lines,
+        (
+          marks,
+          c.in_ok-marks.ensures.marks,
+          made_err lacks gives contents asked.mutators asked.fresh before after (lines_of inputs.trace) marks inputs.heap c.cycle_heap-made.result
+              c.cycle_heap-made.ensures.cycled c.cycle_heap-made.ensures.halted refusal h,
+        ),
+      ),
+    )))
+    c.write_made.result c.write_made.ensures.cause
+
+pub returns-clause-unmade : goal.returns-clause-unmade
+returns-clause-unmade g c = c.write_made.ensures.unmade
+
+pub returns-clause-counts : goal.returns-clause-counts
+returns-clause-counts g c = c.write_made.ensures.counts
+
+pub returns-clause-same_writer : goal.returns-clause-same_writer
+returns-clause-same_writer g c = c.write_made.ensures.same_writer
+
+pub returns-clause-unprinted : goal.returns-clause-unprinted
+returns-clause-unprinted g c = c.write_made.ensures.unprinted

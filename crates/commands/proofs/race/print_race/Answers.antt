@@ -1,0 +1,84 @@
+use Rattle.std.proofs.KnownBytes.{Keeps-refl}
+use Rattle.std.proofs.lemmas.Result.{err_from_is_err_and, IfErr-weaker}
+use Rattle.heap_layout.specs.Counted.{inner_of, failures_of}
+use Rattle.trace_text.specs.Traces.{lines_of}
+use Rattle.command_io.proofs.Outcomes.{uncreated}
+use Rattle.commands.proofs.RaceRuns.{of_inputs, of_outcome_err, of_outcome_ok, race_halted_by}
+use Rattle.commands.proofs.ReplayRuns.{inputs_uncounted, unprinted_halt}
+use Rattle.commands.proofs.race.print_race.Goals as goal
+
+-- There is no heap, or no trace for it.
+pub returns-in_err-inputs-clause-cause : goal.returns-in_err-inputs-clause-cause
+returns-in_err-inputs-clause-cause g c =
+    let p = err_from_is_err_and c.from_residual.result c.from_residual.ensures.1 in
+    let paths = c.args.asked in
+    let output = g.O.Write.contents (inner_of c.args.out.now).now in
+    rw (p.1, p.2) (of_inputs (g.I.Images.lacks c.args.images.now paths.image.now) (g.I.Images.gives c.args.images.now paths.image.now) g.I.Reader.Read.remaining
+    (g.T.Traces.lacks c.args.traces.now paths.trace.now) (g.T.Traces.gives c.args.traces.now paths.trace.now) g.T.Reader.Read.remaining
+    (g.D.Dumps.lacks c.args.dumps.now paths.dump.now) (g.D.Dumps.gives c.args.dumps.now paths.dump.now) g.D.Writer.Write.contents
+    paths.mutators paths.fresh output output (Keeps-refl output) _ c.in_err-inputs.ensures.cause)
+
+pub returns-in_err-inputs-clause-counts : goal.returns-in_err-inputs-clause-counts
+returns-in_err-inputs-clause-counts g c =
+    let p = err_from_is_err_and c.from_residual.result c.from_residual.ensures.1 in
+    let paths = c.args.asked in
+    rw (p.1, p.2) (inputs_uncounted (g.I.Images.lacks c.args.images.now paths.image.now) (g.I.Images.gives c.args.images.now paths.image.now) g.I.Reader.Read.remaining
+    (g.T.Traces.lacks c.args.traces.now paths.trace.now) (g.T.Traces.gives c.args.traces.now paths.trace.now) g.T.Reader.Read.remaining
+    paths.mutators (failures_of c.args.out.now) _ c.in_err-inputs.ensures.cause)
+
+pub returns-in_err-inputs-clause-unprinted : goal.returns-in_err-inputs-clause-unprinted
+returns-in_err-inputs-clause-unprinted g c =
+    let p = err_from_is_err_and c.from_residual.result c.from_residual.ensures.1 in
+    rw (p.1, p.2) (unprinted_halt (g.O.Write.contents (inner_of c.args.out.now).now) _)
+
+pub returns-in_err-inputs-clause-uncreated : goal.returns-in_err-inputs-clause-uncreated
+returns-in_err-inputs-clause-uncreated g c =
+    let p = err_from_is_err_and c.from_residual.result c.from_residual.ensures.1 in
+    rw (p.1, p.2) (uncreated c.args.dumps.now _)
+
+-- The lines are those of a text for the roots of the heap.
+pub race_heap-ran-requires-clause-read : goal.race_heap-ran-requires-clause-read
+race_heap-ran-requires-clause-read g c κs within =
+    let text = c.in_ok-inputs.ensures.lines.2 in
+    (text.0, text.2)
+
+pub write_outcome-requires-clause-halted : goal.write_outcome-requires-clause-halted
+write_outcome-requires-clause-halted g c =
+    let inputs = c.in_ok-inputs.inputs in
+    IfErr-weaker c.race_heap-ran.result _ _ (λ run h. race_halted_by c.args.asked.mutators c.args.asked.fresh (lines_of inputs.trace) inputs.heap run.shown.items run.refusal h)
+    c.race_heap-ran.ensures.halted
+
+-- The run was written and printed, or it was not, or it was halted.
+pub returns-clause-raced : goal.returns-clause-raced
+returns-clause-raced g c =
+    let paths = c.args.asked in
+    let inputs = c.in_ok-inputs.inputs in
+    of_outcome_ok (g.I.Images.lacks c.args.images.now paths.image.now) (g.I.Images.gives c.args.images.now paths.image.now) g.I.Reader.Read.remaining
+    (g.T.Traces.lacks c.args.traces.now paths.trace.now) (g.T.Traces.gives c.args.traces.now paths.trace.now) g.T.Reader.Read.remaining
+    (g.D.Dumps.lacks c.args.dumps.now paths.dump.now) (g.D.Dumps.gives c.args.dumps.now paths.dump.now) g.D.Writer.Write.contents
+    paths.mutators paths.fresh (g.O.Write.contents (inner_of c.args.out.now).now) (g.O.Write.contents (inner_of c.write_outcome.new.out).now)
+    inputs.heap c.in_ok-inputs.ensures.heap (lines_of inputs.trace) c.in_ok-inputs.ensures.lines c.race_heap-ran.result c.race_heap-ran.ensures.raced
+    c.write_outcome.result c.write_outcome.ensures.done
+
+pub returns-clause-cause : goal.returns-clause-cause
+returns-clause-cause g c =
+    let paths = c.args.asked in
+    let inputs = c.in_ok-inputs.inputs in
+    of_outcome_err (g.I.Images.lacks c.args.images.now paths.image.now) (g.I.Images.gives c.args.images.now paths.image.now) g.I.Reader.Read.remaining
+    (g.T.Traces.lacks c.args.traces.now paths.trace.now) (g.T.Traces.gives c.args.traces.now paths.trace.now) g.T.Reader.Read.remaining
+    (g.D.Dumps.lacks c.args.dumps.now paths.dump.now) (g.D.Dumps.gives c.args.dumps.now paths.dump.now) g.D.Writer.Write.contents
+    paths.mutators paths.fresh (g.O.Write.contents (inner_of c.args.out.now).now) (g.O.Write.contents (inner_of c.write_outcome.new.out).now)
+    inputs.heap c.in_ok-inputs.ensures.heap (lines_of inputs.trace) c.in_ok-inputs.ensures.lines c.race_heap-ran.result c.race_heap-ran.ensures.raced c.race_heap-ran.ensures.halted
+    c.write_outcome.result c.write_outcome.ensures.cause
+
+pub returns-clause-uncreated : goal.returns-clause-uncreated
+returns-clause-uncreated g c = c.write_outcome.ensures.uncreated
+
+pub returns-clause-counts : goal.returns-clause-counts
+returns-clause-counts g c = c.write_outcome.ensures.counts
+
+pub returns-clause-same_writer : goal.returns-clause-same_writer
+returns-clause-same_writer g c = c.write_outcome.ensures.same_writer
+
+pub returns-clause-unprinted : goal.returns-clause-unprinted
+returns-clause-unprinted g c = c.write_outcome.ensures.unprinted

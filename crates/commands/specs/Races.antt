@@ -1,0 +1,139 @@
+-- What the command `race` makes of a heap and of a trace.
+use Rattle.std.specs.Prelude.{◌≡◌, ◌⊎◌, ℕ, List, [], length, Option, IfSome, ⊤}
+use mathlib.Core.Option.{some}
+use lib.ListN.{get_elem?}
+use Rattle.std.specs.Io.KnownBytes.{Appends, Keeps}
+use Rattle.heap_layout.specs.Encoding.{Refuses}
+use Rattle.heap_layout.specs.Heap.{Heap}
+use Rattle.cell_steps.specs.Lists.{Each}
+use Rattle.cell_steps.specs.Setup.{Setup}
+use Rattle.cell_steps.specs.Passes.{about}
+use Rattle.cell_steps.specs.declared.pass.Pass.{Pass}
+use Rattle.cell_steps.specs.declared.steps.Steps.{Steps}
+use Rattle.page_cells.specs.Cells.{AreNew}
+use Rattle.comp_cycles.specs.Finishes.{history_of, live_of, IsFinished}
+use Rattle.comp_cycles.specs.declared.finished.Finished.{Finished}
+use Rattle.call_refusals.specs.declared.refusal.Refusal.{Refusal as CallRefusal}
+use Rattle.call_refusals.specs.declared.refusal.Refusal.TheVariants as refusals
+use Rattle.comp_trace.specs.Bytes.{flipped}
+use Rattle.comp_race.specs.Races.{numbered, own_lines, Ran}
+use Rattle.trace_text.specs.declared.fault.TraceFault.{TraceFault}
+use Rattle.trace_text.specs.declared.fault.TraceFault.TheVariants as faults
+use Rattle.trace_text.specs.declared.line.Line.{Line}
+use Rattle.comp_race.specs.declared.race.Run.{Run}
+use Rattle.trace_steps.specs.declared.shown.Shown.{Shown}
+use Rattle.comp_dump.specs.DumpEncoding.{dump_bytes}
+use Rattle.comp_dump.specs.declared.fault.DumpFault.TheVariants.{Device}
+use Rattle.commands.specs.ByLine.{AreByLine, HasEnded, IsLeastStop}
+use Rattle.command_io.specs.Dumps.{WritesBeginning, WritesWhole}
+use Rattle.command_io.specs.Images.{IsImageOf, SomeGiven}
+use Rattle.commands.specs.Replays.{dumped_of, shown_lines, IsDumpAfter, PrintsRun, RefusesTrace, SomeRun}
+use Rattle.command_io.specs.Texts.{HasLines}
+use Rattle.command_io.specs.declared.refusal.Input.TheVariants as inputs
+use Rattle.command_io.specs.declared.refusal.Output.TheVariants as outputs
+use Rattle.command_io.specs.declared.refusal.Refusal.{Refusal}
+use Rattle.command_io.specs.declared.refusal.Refusal.TheVariants.{CannotCreate, CannotOpen, CannotPrint, Dump, Layout, Mutator, OutOfMemory, ReadFailed, Trace}
+
+-- ---- what is left of a race
+
+-- Each mutator of a flipped heap, which had done nothing yet, ran its own lines: those before its refused one, or all. Their table is about this very heap. The row has
+-- what each had seen and done in the end, and `runs` what its lines showed, and the refused one.
+pub record HaveRun (u : Setup) (lines : List Line) (row : List Pass) (runs : List Run) : Type 0 where
+  pub table : Steps
+  pub about : about table ≡ u
+  pub before : List Pass
+  pub new : AreNew table u.mutators before
+  pub crew : length row ≡ u.mutators
+  pub count : length runs ≡ u.mutators
+  pub ran : (k : ℕ) (old now : Pass) (run : Run) → get_elem? before k ≡ some old → get_elem? row k ≡ some now → get_elem? runs k ≡ some run
+      → Ran u (own_lines k (numbered 1 lines)) old now run.shown.items run.fault
+
+-- The heap was flipped for so many mutators, with so many fresh pages; each ran its own lines, all of them; together they showed these values; and the heap was
+-- finished with what they had done.
+pub record IsRacedHeap (mutators fresh : ℕ) (lines : List Line) (shown : List Shown) (f : Finished) (heap : Heap) : Type 0 where
+  pub row : List Pass
+  pub runs : List Run
+  pub ran : HaveRun (flipped heap mutators fresh) lines row runs
+  pub ended : Each runs HasEnded
+  pub in_order : AreByLine runs shown
+  -- what is known of the heap at the end: each page is what its journal makes of its base, what each mutator did stands in them, and all have one history
+  pub finished : IsFinished (flipped heap mutators fresh) row f
+  -- its dump, behind that history
+  pub left : IsDumpAfter (flipped heap mutators fresh) (history_of (flipped heap mutators fresh) f) (dumped_of mutators fresh f)
+
+-- Each mutator ran its own lines to the end, or to its refused one. This one is the least of these, and the values are those of all mutators until then.
+pub record IsStoppedRace (mutators fresh : ℕ) (lines : List Line) (shown : List Shown) (heap : Heap) (number : ℕ) (refusal : CallRefusal) : Type 0 where
+  pub row : List Pass
+  pub runs : List Run
+  pub ran : HaveRun (flipped heap mutators fresh) lines row runs
+  pub first : IsLeastStop runs (record { line = number; refusal = refusal })
+  pub in_order : AreByLine runs shown
+
+-- why the lines did not all run: one was refused, or memory was wanted before the first one
+abbrev pub InterruptsRace : ℕ → ℕ → List Line → List Shown → Heap → TraceFault → Type 0
+InterruptsRace mutators fresh lines shown heap (faults.Refused number refusal) = IsStoppedRace mutators fresh lines shown heap number refusal
+InterruptsRace mutators fresh lines shown heap faults.OutOfMemory = shown ≡ []
+InterruptsRace mutators fresh lines shown heap _ = ⊥
+
+-- why the lines were not run to their end, or the heap was not finished, and what was shown until then: a line was refused, or memory was wanted
+abbrev pub IsHaltedRace : ℕ → ℕ → List Line → List Shown → Heap → Refusal → Type 0
+IsHaltedRace mutators fresh lines shown heap (Trace fault) = InterruptsRace mutators fresh lines shown heap fault
+IsHaltedRace mutators fresh lines shown heap (Mutator refusal) = (refusal ≡ refusals.OutOfMemory) × (shown ≡ [])
+IsHaltedRace mutators fresh lines shown heap OutOfMemory = shown ≡ []
+IsHaltedRace mutators fresh lines shown heap _ = ⊥
+
+-- ---- what the command does, from the lines of its trace and the heap of its image
+
+-- The race of these lines over this heap, and what was left of it.
+pub record HasRace (mutators fresh : ℕ) (lines : List Line) (heap : Heap) : Type 0 where
+  pub shown : List Shown
+  pub left : Finished
+  pub raced : IsRacedHeap mutators fresh lines shown left heap
+
+-- the bytes of its dump
+abbrev pub dump_of_race : {mutators fresh : ℕ} {lines : List Line} {heap : Heap} → HasRace mutators fresh lines heap → List ℕ
+dump_of_race {mutators} {fresh} race = dump_bytes (dumped_of mutators fresh race.left)
+
+-- The trace was raced over the heap: the dump was written, and then the values of its `get` lines were printed, and the live words.
+pub record Races {W : Type 0} (gives : W → Type 0) (contents : W → Option (List ℕ)) (mutators fresh : ℕ) (before after : Option (List ℕ)) (lines : List Line) (heap : Heap) : Type 0 where
+  pub race : HasRace mutators fresh lines heap
+  pub written : WritesWhole gives contents (dump_of_race race)
+  pub printed : PrintsRun before after race.shown (live_of race.left)
+
+-- what was printed, between these two contents of the output, are the values of a trace that was raced over the heap, and the live words
+abbrev pub PrintsRace : ℕ → ℕ → Option (List ℕ) → Option (List ℕ) → Heap → Type 0
+PrintsRace mutators fresh before after heap = (text : List ℕ) × (lines : List Line) × HasLines mutators (length heap.roots) lines text
+    × (race : HasRace mutators fresh lines heap) × PrintsRun before after race.shown (live_of race.left)
+
+-- lines were refused, or there was no memory for the values: what was shown was printed
+abbrev pub StopsRace : ℕ → ℕ → Option (List ℕ) → Option (List ℕ) → TraceFault → List Line → Heap → Type 0
+StopsRace mutators fresh before after fault lines heap =
+    (shown : List Shown) × IsHaltedRace mutators fresh lines shown heap (Trace fault) × Appends before after (shown_lines shown)
+
+-- why the race of a trace over a heap does not come to its end, or is not written or printed
+abbrev pub RefusesRacing : {W : Type 0} → Type 0 → (W → Type 0) → (W → Option (List ℕ)) → ℕ → ℕ → Option (List ℕ) → Option (List ℕ) → Refusal → List Line → Heap → Type 0
+RefusesRacing lacks gives contents mutators fresh before after (Trace fault) lines heap = StopsRace mutators fresh before after fault lines heap
+RefusesRacing lacks gives contents mutators fresh before after (Mutator refusal) lines heap = refusal ≡ refusals.OutOfMemory
+RefusesRacing lacks gives contents mutators fresh before after (CannotCreate output) lines heap = (output ≡ outputs.Dump) × lacks × HasRace mutators fresh lines heap
+RefusesRacing lacks gives contents mutators fresh before after (Dump Device) lines heap =
+    (race : HasRace mutators fresh lines heap) × WritesBeginning gives contents (dump_of_race race)
+RefusesRacing lacks gives contents mutators fresh before after CannotPrint lines heap =
+    ((race : HasRace mutators fresh lines heap) × WritesWhole gives contents (dump_of_race race))
+    ⊎ ((refusal : Refusal) × (shown : List Shown) × IsHaltedRace mutators fresh lines shown heap refusal)
+RefusesRacing lacks gives contents mutators fresh before after OutOfMemory lines heap = Unit {0}
+RefusesRacing lacks gives contents mutators fresh before after _ lines heap = ⊥
+
+-- why the command is refused: there is no image, or it is refused; or there is no trace for its heap, or it is refused, and nothing was printed; or the race is; or
+-- a growth was refused
+abbrev pub RefusesRace : {R S W : Type 0} → Type 0 → (R → Type 0) → (R → Option (List ℕ)) → Type 0 → (S → Type 0) → (S → Option (List ℕ)) → Type 0 → (W → Type 0) → (W → Option (List ℕ))
+    → ℕ → ℕ → Option (List ℕ) → Option (List ℕ) → Refusal → Type 0
+RefusesRace absent given remaining missing told rest lacks gives contents mutators fresh before after (CannotOpen inputs.Image) = absent
+RefusesRace absent given remaining missing told rest lacks gives contents mutators fresh before after (CannotOpen inputs.Trace) = missing × SomeGiven given remaining (IsImageOf (λ heap. ⊤))
+RefusesRace absent given remaining missing told rest lacks gives contents mutators fresh before after (Layout fault) = SomeGiven given remaining (λ known. IfSome known (Refuses fault))
+RefusesRace absent given remaining missing told rest lacks gives contents mutators fresh before after (ReadFailed input) = RefusesTrace given remaining told rest mutators (ReadFailed input)
+RefusesRace absent given remaining missing told rest lacks gives contents mutators fresh before after (Trace fault) =
+    (RefusesTrace given remaining told rest mutators (Trace fault) × Keeps before after)
+    ⊎ SomeRun given remaining told rest mutators (StopsRace mutators fresh before after fault)
+RefusesRace absent given remaining missing told rest lacks gives contents mutators fresh before after OutOfMemory = Unit {0}
+RefusesRace absent given remaining missing told rest lacks gives contents mutators fresh before after refusal =
+    SomeRun given remaining told rest mutators (RefusesRacing lacks gives contents mutators fresh before after refusal)

@@ -1,0 +1,62 @@
+//! What several runs of a race showed, and which of their lines was refused first, by the numbers of the lines.
+ghost use Rattle.std.specs.Prelude.{◌≡◌, ℕ, ◌+◌, ◌<◌, ◌≤◌, [], All, drop, length, vec_capacity, IfSome};
+ghost use Rattle.commands.specs.ByLine.{earlier_of, told_of, AreByLine, AreOwn, IsFirstStop};
+
+use comp_race::race::Run;
+use trace_steps::shown::Shown;
+use trace_text::fault::Stop;
+use trace_text::line::Line;
+
+/// The values of all runs, in the order of their lines, of which each has its own. There are 64 runs at most.
+pub fn by_line(lines: &[Line], runs: &[Run], mut shown: Vec<Shown>) -> Vec<Shown>
+    requires own { AreOwn lines.now runs.now }
+    requires inside { All (λ line. line.mutator < length runs.now) lines.now }
+    requires few { length runs.now ≤ 64 }
+    requires room { (shown.items ≡ []) × (length lines.now ≤ vec_capacity shown) }
+    ensures { AreByLine runs.now result.items }
+{
+    let mut next = [0; 64];
+    for (at, line) in lines.iter().enumerate() {
+        let m = usize::from(line.mutator);
+        if let Some(value) = told(&runs[m], next[m], at as u64 + 1) {
+            shown.push_reserved(value);
+            next[m] += 1;
+        }
+    }
+    shown
+}
+
+// What a run showed after its first values, if it showed it for this line.
+fn told(run: &Run, from: usize, line: u64) -> Option<Shown>
+    ensures told { result ≡ told_of line (drop from run.now.shown.items) }
+    ensures inside { IfSome result (λ _. from < length run.now.shown.items) }
+{
+    if let Some(value) = run.shown.get(from) {
+        if value.line == line {
+            return Some(*value);
+        }
+    }
+    None
+}
+
+/// The refused line with the least number, if any was refused.
+pub fn first_stop(runs: &[Run]) -> Option<Stop>
+    ensures { IsFirstStop runs.now result }
+{
+    let mut first = None;
+    for run in runs {
+        first = earlier(first, run.fault);
+    }
+    first
+}
+
+// The one with the lower number of two refused lines.
+fn earlier(first: Option<Stop>, other: Option<Stop>) -> Option<Stop>
+    ensures { result ≡ earlier_of first other }
+{
+    match (first, other) {
+        (Some(known), Some(stop)) if stop.line < known.line => other,
+        (None, _) => other,
+        _ => first,
+    }
+}

@@ -1,0 +1,88 @@
+//! A heap over which a trace is run, and the heap with which the next cycle begins.
+ghost use Rattle.std.specs.Prelude.{◌≤◌, IfErr, IfOk, length};
+ghost use Rattle.comp_cycles.specs.Ends.{IsEndOf};
+ghost use Rattle.cycle_traces.specs.CycleRuns.{IsParsedFor};
+ghost use Rattle.trace_text.specs.Traces.{lines_of};
+ghost use Rattle.commands.specs.Cycled.{IsCycledHeap, IsNextHeap, IsUncycled, IsUnmarked};
+
+use call_refusals::refusal::Refusal as MutatorRefusal;
+use command_io::refusal::Refusal;
+use comp_cycles::finished::Finished;
+use comp_trace::running::Halt;
+use cycle_traces::cycle::{CycleHalt, run_cycle};
+use heap_layout::heap::MarkedHeap;
+use page_plan::plan::Plan;
+use std::alloc::Global;
+use std::sync::Arc;
+use std::thread::Threads;
+use crate::replays::Halted;
+use crate::replays::unshown;
+use trace_steps::shown::Shown;
+use trace_text::trace::Trace;
+
+/// A cycle that is followed by another.
+#[derive(Drop)]
+pub struct Cycled {
+    /// The values that the `get` lines showed, in the order of the lines.
+    pub shown: Vec<Shown>,
+    /// The plan of the heap with which the next cycle begins.
+    pub plan: Plan,
+}
+
+/// Flips a heap, runs a trace over it by one thread, finishes it, and makes with these marks the heap with which the next cycle begins. There are 1 to 64 mutators and at most
+/// 4,096 fresh pages, and the trace was parsed for these mutators and for the heap's number of roots.
+///
+/// It is refused where a line is refused, and has the values of the lines before it then; where the marks are refused, by the first fault of that heap; and where a growth is
+/// refused. All but the first come with no value.
+pub fn cycle_heap(
+    alloc: Global,
+    rt: &(impl Threads + Sync),
+    heap: MarkedHeap,
+    trace: &Trace,
+    marks: Vec<u32>,
+    mutators: u8,
+    fresh: u32,
+) -> Result<Cycled, Halted>
+    requires mutators { (1 ≤ mutators) × (mutators ≤ 64) }
+    requires fresh { fresh ≤ 4096 }
+    requires parsed { IsParsedFor mutators (length heap.roots) trace.now }
+    ensures cycled { IfOk result (λ cycled. IsCycledHeap mutators fresh (lines_of trace.now) cycled.shown.items marks.items heap cycled.plan) }
+    ensures halted { IfErr result (λ halted. IsUncycled mutators fresh (lines_of trace.now) halted.shown.items marks.items heap halted.refusal) }
+{
+    match run_cycle(alloc, rt, heap, trace, mutators, fresh) {
+        Ok(ran) => match mark_anew(alloc, rt, ran.plan, ran.finished, marks) {
+            Ok(plan) => Ok(Cycled {
+                shown: ran.shown,
+                plan,
+            }),
+            Err(refusal) => Err(unshown(alloc, refusal)),
+        },
+        Err(CycleHalt::Unplanned) => Err(unshown(alloc, Refusal::OutOfMemory)),
+        Err(CycleHalt::Halted(Halt::Cut(stopped))) => Err(Halted {
+            shown: stopped.shown,
+            refusal: Refusal::Trace(stopped.fault),
+        }),
+        Err(CycleHalt::Halted(Halt::Unflipped | Halt::Unfinished(_))) => Err(unshown(
+            alloc,
+            Refusal::Mutator(MutatorRefusal::OutOfMemory),
+        )),
+    }
+}
+
+// The plan of the heap with which the next cycle begins, where the marks are accepted.
+fn mark_anew(
+    alloc: Global,
+    rt: &(impl Threads + Sync),
+    plan: Arc<Plan>,
+    finished: Finished,
+    marks: Vec<u32>,
+) -> Result<Plan, Refusal>
+    requires end { IsEndOf plan.value finished }
+    ensures next { IfOk result (IsNextHeap plan.value finished marks.items) }
+    ensures refused { IfErr result (IsUnmarked plan.value finished marks.items) }
+{
+    match finished.next_cycle(alloc, &*plan, marks) {
+        Ok(heap) => Ok(Plan::new(alloc, rt, heap)?),
+        Err(left) => Err(Refusal::Layout(left.fault)),
+    }
+}

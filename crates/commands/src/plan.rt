@@ -1,0 +1,121 @@
+//! The command `plan`.
+ghost use Rattle.std.specs.Prelude.{◌≡◌, ◌-◌, ◌^◌, ◌<◌, IfErr, OnOk, OnErr, Err};
+ghost use Rattle.std.specs.Io.KnownBytes.{Appends};
+ghost use Rattle.heap_layout.specs.Counted.{inner_of, failures_of, writer_of};
+ghost use Rattle.heap_layout.specs.Heap.{live};
+ghost use Rattle.command_io.specs.Printing.{CountsPrint, CountsRead, RefusedUnprinted};
+ghost use Rattle.commands.specs.Plan.{plan_text, count_lines, page_lines, root_lines, IsOfPrinting, PrintsPlan, RefusesPlan};
+ghost use Rattle.command_io.specs.Images.{IsImageOf, SomeGiven, RefusesAt};
+
+use command_io::images::Images;
+use command_io::print::{print_line, print_numbered};
+use command_io::refusal::Refusal;
+use heap_layout::counted::Counted;
+use heap_layout::image::read_image;
+use page_plan::plan::Plan;
+use std::alloc::Global;
+use std::io::{Read, Write};
+use std::thread::Threads;
+
+/// Prints the plan of the heap whose image lies at a path.
+pub fn print_plan<I: Images, O: Write>(
+    alloc: Global,
+    rt: &(impl Threads + Sync),
+    images: &I,
+    path: &str,
+    out: &mut Counted<&mut O>,
+) -> Result<(), Refusal>
+    requires { failures_of out.old < 2 ^ 64 - 1 }
+    ensures printed { OnOk result (SomeGiven (I.gives images.now path.now) I.Reader.remaining
+        (IsImageOf (PrintsPlan (O.contents (inner_of out.old).now) (O.contents (inner_of out.new).now)))) }
+    ensures cause { IfErr result (RefusesAt (I.lacks images.now path.now) (I.gives images.now path.now) I.Reader.remaining RefusesPlan) }
+    ensures counts { CountsPrint (failures_of out.old) (failures_of out.new) result }
+    ensures same_writer { writer_of out.new ≡ writer_of out.old }
+    ensures unprinted { RefusedUnprinted (O.contents (inner_of out.old).now) (O.contents (inner_of out.new).now) result }
+{
+    let mut reader = Counted::new(images.open(path)?);
+    print_plan_in(alloc, rt, &mut reader, out)
+}
+
+/// Prints the plan of the heap whose image is all that the reader has left: the live words, the pages, the first object of each page and where each
+/// root leads, a line each.
+pub fn print_plan_in<R: Read, O: Write>(
+    alloc: Global,
+    rt: &(impl Threads + Sync),
+    r: &mut Counted<R>,
+    out: &mut Counted<&mut O>,
+) -> Result<(), Refusal>
+    requires read { failures_of r.old < 2 ^ 64 - 1 }
+    requires written { failures_of out.old < 2 ^ 64 - 1 }
+    ensures printed { OnOk result (IsImageOf (PrintsPlan (O.contents (inner_of out.old).now) (O.contents (inner_of out.new).now))
+        (R.remaining (inner_of r.old))) }
+    ensures cause { IfErr result (λ refusal. RefusesPlan refusal (R.remaining (inner_of r.old))) }
+    ensures reads { CountsRead (failures_of r.old) (failures_of r.new) result }
+    ensures counts { CountsPrint (failures_of out.old) (failures_of out.new) result }
+    ensures same_writer { writer_of out.new ≡ writer_of out.old }
+    ensures unprinted { RefusedUnprinted (O.contents (inner_of out.old).now) (O.contents (inner_of out.new).now) result }
+{
+    let heap = read_image(alloc, r)?;
+    let plan = Plan::new(alloc, rt, heap)?;
+    write_plan(alloc, &plan, out)
+}
+
+// All lines of a plan.
+fn write_plan<O: Write>(
+    alloc: Global,
+    plan: &Plan,
+    out: &mut Counted<&mut O>,
+) -> Result<(), Refusal>
+    requires { failures_of out.old < 2 ^ 64 - 1 }
+    ensures printed { OnOk result (Appends (O.contents (inner_of out.old).now) (O.contents (inner_of out.new).now) (plan_text plan.now)) }
+    ensures cause { IfErr result IsOfPrinting }
+    ensures counts { CountsPrint (failures_of out.old) (failures_of out.new) result }
+    ensures same_writer { writer_of out.new ≡ writer_of out.old }
+    ensures unprinted { RefusedUnprinted (O.contents (inner_of out.old).now) (O.contents (inner_of out.new).now) result }
+{
+    let roots = plan.forward_roots(alloc)?;
+    write_counts(plan, out)?;
+    write_pages(plan, out)?;
+    write_roots(&roots, out)
+}
+
+// The live words and the pages.
+fn write_counts<O: Write>(plan: &Plan, out: &mut Counted<&mut O>) -> Result<(), Refusal>
+    requires { failures_of out.old < 2 ^ 64 - 1 }
+    ensures printed { OnOk result (Appends (O.contents (inner_of out.old).now) (O.contents (inner_of out.new).now) (count_lines (live plan.now))) }
+    ensures cause { OnErr result (result ≡ Err Refusal.CannotPrint) }
+    ensures counts { CountsPrint (failures_of out.old) (failures_of out.new) result }
+    ensures same_writer { writer_of out.new ≡ writer_of out.old }
+{
+    print_line("live ", plan.live_words(), out)?;
+    print_line("pages ", plan.pages(), out)
+}
+
+// The first object of each page.
+fn write_pages<O: Write>(plan: &Plan, out: &mut Counted<&mut O>) -> Result<(), Refusal>
+    requires { failures_of out.old < 2 ^ 64 - 1 }
+    ensures printed { OnOk result (Appends (O.contents (inner_of out.old).now) (O.contents (inner_of out.new).now) (page_lines (live plan.now))) }
+    ensures cause { OnErr result (result ≡ Err Refusal.CannotPrint) }
+    ensures counts { CountsPrint (failures_of out.old) (failures_of out.new) result }
+    ensures same_writer { writer_of out.new ≡ writer_of out.old }
+{
+    for p in 0..plan.pages() {
+        let first = plan.first_object(p).unwrap_or(0);
+        print_numbered("page ", p, " first ", first, out)?;
+    }
+    Ok(())
+}
+
+// Where each root leads.
+fn write_roots<O: Write>(roots: &[u64], out: &mut Counted<&mut O>) -> Result<(), Refusal>
+    requires { failures_of out.old < 2 ^ 64 - 1 }
+    ensures printed { OnOk result (Appends (O.contents (inner_of out.old).now) (O.contents (inner_of out.new).now) (root_lines roots.now)) }
+    ensures cause { OnErr result (result ≡ Err Refusal.CannotPrint) }
+    ensures counts { CountsPrint (failures_of out.old) (failures_of out.new) result }
+    ensures same_writer { writer_of out.new ≡ writer_of out.old }
+{
+    for (number, address) in roots.iter().enumerate() {
+        print_numbered("root ", number as u64, " ", *address, out)?;
+    }
+    Ok(())
+}

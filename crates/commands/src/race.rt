@@ -1,0 +1,65 @@
+//! The command `race`.
+ghost use Rattle.std.specs.Prelude.{◌≡◌, ◌-◌, ◌^◌, ◌<◌, ◌≤◌, IfErr, OnOk};
+ghost use Rattle.heap_layout.specs.Counted.{inner_of, failures_of, writer_of};
+ghost use Rattle.command_io.specs.Dumps.{RefusedUncreated};
+ghost use Rattle.command_io.specs.Printing.{CountsPrint};
+ghost use Rattle.commands.specs.Races.{Races, RefusesRace};
+ghost use Rattle.commands.specs.Replays.{SomeRun, StopsUnprinted};
+
+use crate::races::race_heap;
+use crate::replay::{inputs_at, write_outcome};
+use command_io::dumps::Dumps;
+use command_io::images::Images;
+use command_io::refusal::Refusal;
+use command_io::traces::Traces;
+use command_line::words::TraceRun;
+use heap_layout::counted::Counted;
+use std::alloc::Global;
+use std::io::Write;
+use std::sync::Wait;
+use std::thread::Threads;
+
+/// Races the trace at a path over the heap whose image lies at another, each mutator in a thread of its own where one can be had; the dump of what is left is
+/// written, and then the values that lines showed are printed, in the order of their lines, and the live words. Where lines are refused, the values of the others
+/// are printed, the refusal is that of the least line, and no dump is created.
+pub fn print_race<R: Threads + Wait + Sync, I: Images, T: Traces, D: Dumps, O: Write>(
+    alloc: Global,
+    rt: &R,
+    images: &I,
+    traces: &T,
+    dumps: &mut D,
+    asked: TraceRun<'_>,
+    out: &mut Counted<&mut O>,
+) -> Result<(), Refusal>
+    requires mutators { (1 ≤ asked.mutators) × (asked.mutators ≤ 64) }
+    requires fresh { asked.fresh ≤ 4096 }
+    requires written { failures_of out.old < 2 ^ 64 - 1 }
+    ensures raced { OnOk result (SomeRun (I.gives images.now asked.entry.image.now) I.Reader.remaining (T.gives traces.now asked.entry.trace.now) T.Reader.remaining asked.entry.mutators
+        (Races (D.gives dumps.old asked.entry.dump.now) D.Writer.contents asked.entry.mutators asked.entry.fresh (O.contents (inner_of out.old).now) (O.contents (inner_of out.new).now))) }
+    ensures cause { IfErr result (RefusesRace (I.lacks images.now asked.entry.image.now) (I.gives images.now asked.entry.image.now) I.Reader.remaining
+        (T.lacks traces.now asked.entry.trace.now) (T.gives traces.now asked.entry.trace.now) T.Reader.remaining
+        (D.lacks dumps.old asked.entry.dump.now) (D.gives dumps.old asked.entry.dump.now) D.Writer.contents
+        asked.entry.mutators asked.entry.fresh (O.contents (inner_of out.old).now) (O.contents (inner_of out.new).now)) }
+    ensures uncreated { RefusedUncreated dumps.old dumps.new result }
+    ensures counts { CountsPrint (failures_of out.old) (failures_of out.new) result }
+    ensures same_writer { writer_of out.new ≡ writer_of out.old }
+    ensures unprinted { StopsUnprinted (O.contents (inner_of out.old).now) (O.contents (inner_of out.new).now) result }
+{
+    let inputs = inputs_at(
+        alloc,
+        images,
+        traces,
+        asked.image,
+        asked.trace,
+        asked.mutators,
+    )?;
+    let ran = race_heap(
+        alloc,
+        rt,
+        inputs.heap,
+        &inputs.trace,
+        asked.mutators,
+        asked.fresh,
+    );
+    write_outcome(alloc, dumps, asked, ran, out)
+}

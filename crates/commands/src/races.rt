@@ -1,0 +1,147 @@
+//! Heaps over which the mutators of a trace race.
+ghost use Rattle.std.specs.Prelude.{◌≡◌, ℕ, ◌≤◌, List, map, length, IfOk, IfErr};
+ghost use Rattle.heap_layout.specs.Heap.{live};
+ghost use Rattle.page_plan.specs.Sliding.{pages};
+ghost use Rattle.page_cells.specs.Cells.{steps_of, AreNew};
+ghost use Rattle.comp_cycles.specs.Finishes.{IsOfFlip};
+ghost use Rattle.comp_mutator.specs.Mutators.{cells_of, pass_of, setup_of, AreMutatorsOf};
+ghost use Rattle.trace_steps.specs.Traces.{IsParsedFor};
+ghost use Rattle.trace_text.specs.Traces.{lines_of, mutators_of, roots_of};
+ghost use Rattle.commands.specs.Races.{IsHaltedRace, IsRacedHeap};
+ghost use Rattle.command_io.specs.Texts.{HasLines};
+
+use crate::by_line::{by_line, first_stop};
+use crate::replays::{Halted, Replayed, unshown};
+use call_refusals::refusal::Refusal as MutatorRefusal;
+use command_io::refusal::Refusal;
+use comp_mutator::finishing::FinishFault;
+use comp_mutator::flipping::flip;
+use comp_mutator::mutator::Mutator;
+use comp_mutator::refusal::FlipFault;
+use comp_mutator::space::Space;
+use comp_race::race::{Run, race};
+use heap_layout::heap::MarkedHeap;
+use page_plan::plan::Plan;
+use std::alloc::Global;
+use std::marker::Brand;
+use std::sync::ledger::{Blank, Ledger};
+use std::sync::{Arc, Wait};
+use std::thread::Threads;
+use trace_text::fault::TraceFault;
+use trace_text::trace::Trace;
+
+/// Flips a heap, lets the mutators of a trace run its lines side by side, each in a thread of its own where one can be had, and finishes the heap. The trace is one
+/// of these mutators and of the heap's roots.
+///
+/// The values are in the order of their lines. Where lines are refused, the refusal is that of the least one, and the values are those of all mutators until each
+/// came to its end. All other refusals are for want of memory, and come with no value.
+pub fn race_heap<R: Threads + Wait + Sync>(
+    alloc: Global,
+    rt: &R,
+    heap: MarkedHeap,
+    trace: &Trace,
+    mutators: u8,
+    fresh: u32,
+) -> Result<Replayed, Halted>
+    requires mutators { (1 ≤ mutators) × (mutators ≤ 64) }
+    requires fresh { fresh ≤ 4096 }
+    requires parsed { (mutators_of trace.now ≡ mutators) × (roots_of trace.now ≡ length heap.roots) }
+    requires read { (text : List ℕ) × HasLines mutators (length heap.roots) (lines_of trace.now) text }
+    ensures raced { IfOk result (λ run. IsRacedHeap mutators fresh (lines_of trace.now) run.shown.items run.finished heap) }
+    ensures flipped { IfOk result (λ run. IsOfFlip mutators fresh run.finished) }
+    ensures halted { IfErr result (λ run. IsHaltedRace mutators fresh (lines_of trace.now) run.shown.items heap run.refusal) }
+{
+    let Ok(plan) = Plan::new(alloc, rt, heap) else {
+        return Err(unshown(alloc, Refusal::OutOfMemory));
+    };
+    let Ok(plan) = Arc::new(alloc, plan) else {
+        return Err(unshown(alloc, Refusal::OutOfMemory));
+    };
+    flipped_and_raced::<Brand, R>(
+        alloc,
+        rt,
+        Blank::new(u64::from(mutators)),
+        plan,
+        trace,
+        mutators,
+        fresh,
+    )
+}
+
+// The same of a plan, with the name of its ledger.
+fn flipped_and_raced<L: Ledger + Send + Sync, R: Threads + Wait + Sync>(
+    alloc: Global,
+    rt: &R,
+    blank: Blank,
+    plan: Arc<Plan>,
+    trace: &Trace,
+    mutators: u8,
+    fresh: u32,
+) -> Result<Replayed, Halted>
+    requires name { blank.name ≡ L.name }
+    requires parts { blank.parts ≡ L.parts }
+    requires count { blank.parts ≡ mutators }
+    requires mutators { (1 ≤ mutators) × (mutators ≤ 64) }
+    requires fresh { fresh ≤ 4096 }
+    requires parsed { (mutators_of trace.now ≡ mutators) × (roots_of trace.now ≡ length plan.value.roots) }
+    requires read { (text : List ℕ) × HasLines mutators (length plan.value.roots) (lines_of trace.now) text }
+    ensures raced { IfOk result (λ run. IsRacedHeap mutators fresh (lines_of trace.now) run.shown.items run.finished plan.value) }
+    ensures flipped { IfOk result (λ run. IsOfFlip mutators fresh run.finished) }
+    ensures halted { IfErr result (λ run. IsHaltedRace mutators fresh (lines_of trace.now) run.shown.items plan.value run.refusal) }
+{
+    match flip::<L, Plan>(alloc, blank, plan, u32::from(mutators), fresh) {
+        Ok((space, made)) => race_and_finish(alloc, rt, space, made, trace),
+        Err(FlipFault::OutOfMemory) => Err(unshown(
+            alloc,
+            Refusal::Mutator(MutatorRefusal::OutOfMemory),
+        )),
+        Err(FlipFault::BadCounts) => unreachable!(),
+    }
+}
+
+// Races a trace over a space whose mutators did nothing yet, and finishes the space. Room for all values together is asked for before the first line runs.
+fn race_and_finish<L: Ledger + Send + Sync, R: Threads + Wait + Sync>(
+    alloc: Global,
+    rt: &R,
+    space: Space<L, Plan>,
+    mutators: Vec<Mutator<L>>,
+    trace: &Trace,
+) -> Result<Replayed, Halted>
+    requires of { AreMutatorsOf space mutators.items }
+    requires new { AreNew (steps_of (cells_of space)) (setup_of space).mutators (map pass_of mutators.items) }
+    requires whole { (setup_of space).mutators ≡ L.parts }
+    requires few { (setup_of space).mutators ≤ 64 }
+    requires compacted { (setup_of space).compacted ≡ pages (live (setup_of space).heap) }
+    requires parsed { IsParsedFor (setup_of space) trace.now }
+    requires read { (text : List ℕ) × HasLines (setup_of space).mutators (length (setup_of space).heap.roots) (lines_of trace.now) text }
+    ensures raced { IfOk result (λ run. IsRacedHeap (setup_of space).mutators (setup_of space).fresh (lines_of trace.now) run.shown.items run.finished (setup_of space).heap) }
+    ensures flipped { IfOk result (λ run. IsOfFlip (setup_of space).mutators (setup_of space).fresh run.finished) }
+    ensures halted { IfErr result (λ run. IsHaltedRace (setup_of space).mutators (setup_of space).fresh (lines_of trace.now) run.shown.items (setup_of space).heap run.refusal) }
+{
+    let lines = trace.lines();
+    let Ok(room) = Vec::with_capacity(alloc, lines.len()) else {
+        return Err(unshown(alloc, Refusal::Trace(TraceFault::OutOfMemory)));
+    };
+    let raced = match race(alloc, rt, trace, &space, mutators) {
+        Ok(raced) => raced,
+        Err(not) => return Err(unshown(alloc, Refusal::Trace(not.fault))),
+    };
+    let runs: &[Run] = &raced.runs;
+    let shown = by_line(lines, runs, room);
+    match first_stop(runs) {
+        Some(stop) => Err(Halted {
+            shown,
+            refusal: Refusal::Trace(TraceFault::Refused(stop.line, stop.refusal)),
+        }),
+        None => match space.finish(alloc, raced.mutators) {
+            Ok(finished) => Ok(Replayed { shown, finished }),
+            Err(left) => match left.fault {
+                FinishFault::OutOfMemory => Err(unshown(
+                    alloc,
+                    Refusal::Mutator(MutatorRefusal::OutOfMemory),
+                )),
+                FinishFault::MutatorMissing(_) => unreachable!(),
+            },
+        },
+    }
+}

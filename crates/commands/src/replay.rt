@@ -1,0 +1,165 @@
+//! The command `replay`.
+ghost use Rattle.std.specs.Prelude.{◌≡◌, ◌-◌, ◌^◌, ◌<◌, ◌≤◌, length, IfErr, IfOk, OnOk};
+ghost use Rattle.heap_layout.specs.Counted.{inner_of, failures_of, writer_of};
+ghost use Rattle.comp_cycles.specs.Finishes.{live_of, IsOfFlip};
+ghost use Rattle.comp_dump.specs.DumpEncoding.{dump_bytes};
+ghost use Rattle.command_io.specs.Dumps.{RefusedUncreated, WritesWhole};
+ghost use Rattle.command_io.specs.Images.{IsImageOf, SomeGiven};
+ghost use Rattle.command_io.specs.Printing.{CountsPrint};
+ghost use Rattle.command_io.specs.Texts.{IsTextOf};
+ghost use Rattle.trace_text.specs.Traces.{lines_of, mutators_of, roots_of};
+ghost use Rattle.commands.specs.Outcomes.{IsHaltedBy, IsOfHalt, IsWritten, RefusesInputs, RefusesOutcome};
+ghost use Rattle.commands.specs.Replays.{dumped_of, IsOfWritingRun, PrintsRun, RefusesReplay, Replays, SomeRun, StopsUnprinted};
+
+use crate::replays::{Halted, Replayed, replay_heap};
+use crate::shown::{print_shown, send_shown};
+use command_io::dumps::{Dumps, write_to};
+use command_io::images::{Images, heap_at};
+use command_io::print::print_line;
+use command_io::refusal::Refusal;
+use command_io::traces::{Traces, trace_at};
+use command_line::words::TraceRun;
+use comp_dump::dump::Dump;
+use heap_layout::counted::Counted;
+use heap_layout::heap::MarkedHeap;
+use std::alloc::Global;
+use std::io::Write;
+use std::thread::Threads;
+use trace_text::trace::Trace;
+
+/// Runs the trace at a path over the heap whose image lies at another, by one thread; the dump of what is left is written, and then the values that lines showed are
+/// printed, and the live words. Where a line is refused, the values of those before it are printed, and no dump is created.
+pub fn print_replay<I: Images, T: Traces, D: Dumps, O: Write>(
+    alloc: Global,
+    rt: &(impl Threads + Sync),
+    images: &I,
+    traces: &T,
+    dumps: &mut D,
+    asked: TraceRun<'_>,
+    out: &mut Counted<&mut O>,
+) -> Result<(), Refusal>
+    requires mutators { (1 ≤ asked.mutators) × (asked.mutators ≤ 64) }
+    requires fresh { asked.fresh ≤ 4096 }
+    requires written { failures_of out.old < 2 ^ 64 - 1 }
+    ensures replayed { OnOk result (SomeRun (I.gives images.now asked.entry.image.now) I.Reader.remaining (T.gives traces.now asked.entry.trace.now) T.Reader.remaining asked.entry.mutators
+        (Replays (D.gives dumps.old asked.entry.dump.now) D.Writer.contents asked.entry.mutators asked.entry.fresh (O.contents (inner_of out.old).now) (O.contents (inner_of out.new).now))) }
+    ensures cause { IfErr result (RefusesReplay (I.lacks images.now asked.entry.image.now) (I.gives images.now asked.entry.image.now) I.Reader.remaining
+        (T.lacks traces.now asked.entry.trace.now) (T.gives traces.now asked.entry.trace.now) T.Reader.remaining
+        (D.lacks dumps.old asked.entry.dump.now) (D.gives dumps.old asked.entry.dump.now) D.Writer.contents
+        asked.entry.mutators asked.entry.fresh (O.contents (inner_of out.old).now) (O.contents (inner_of out.new).now)) }
+    ensures uncreated { RefusedUncreated dumps.old dumps.new result }
+    ensures counts { CountsPrint (failures_of out.old) (failures_of out.new) result }
+    ensures same_writer { writer_of out.new ≡ writer_of out.old }
+    ensures unprinted { StopsUnprinted (O.contents (inner_of out.old).now) (O.contents (inner_of out.new).now) result }
+{
+    let inputs = inputs_at(
+        alloc,
+        images,
+        traces,
+        asked.image,
+        asked.trace,
+        asked.mutators,
+    )?;
+    let ran = replay_heap(
+        alloc,
+        rt,
+        inputs.heap,
+        &inputs.trace,
+        asked.mutators,
+        asked.fresh,
+    );
+    write_outcome(alloc, dumps, asked, ran, out)
+}
+
+/// The heap that a run is asked for, and its trace.
+#[derive(Drop)]
+pub struct Inputs {
+    pub heap: MarkedHeap,
+    pub trace: Trace,
+}
+
+/// The heap whose image lies at a path, and the trace for it whose text lies at another.
+pub fn inputs_at<I: Images, T: Traces>(
+    alloc: Global,
+    images: &I,
+    traces: &T,
+    image: &str,
+    trace: &str,
+    mutators: u8,
+) -> Result<Inputs, Refusal>
+    ensures heap { IfOk result (λ inputs. SomeGiven (I.gives images.now image.now) I.Reader.remaining (IsImageOf (λ other. other ≡ inputs.heap))) }
+    ensures lines { IfOk result (λ inputs. SomeGiven (T.gives traces.now trace.now) T.Reader.remaining (IsTextOf mutators (length inputs.heap.roots) (lines_of inputs.trace))) }
+    ensures counts { IfOk result (λ inputs. (mutators_of inputs.trace ≡ mutators) × (roots_of inputs.trace ≡ length inputs.heap.roots)) }
+    ensures cause { IfErr result (RefusesInputs (I.lacks images.now image.now) (I.gives images.now image.now) I.Reader.remaining
+        (T.lacks traces.now trace.now) (T.gives traces.now trace.now) T.Reader.remaining mutators) }
+{
+    let heap = heap_at(alloc, images, image)?;
+    let roots = heap.roots().len() as u16;
+    let trace = trace_at(alloc, traces, trace, mutators, roots)?;
+    Ok(Inputs { heap, trace })
+}
+
+/// Writes and prints what a run left. Of one that was halted, what it had shown is printed, and its refusal handed on.
+pub(crate) fn write_outcome<D: Dumps, O: Write>(
+    alloc: Global,
+    dumps: &mut D,
+    asked: TraceRun<'_>,
+    outcome: Result<Replayed, Halted>,
+    out: &mut Counted<&mut O>,
+) -> Result<(), Refusal>
+    requires flipped { IfOk outcome (λ run. IsOfFlip asked.mutators asked.fresh run.finished) }
+    requires halted { IfErr outcome (λ run. IsHaltedBy run.shown.items run.refusal) }
+    requires written { failures_of out.old < 2 ^ 64 - 1 }
+    ensures done { OnOk result (IsWritten (D.gives dumps.old asked.entry.dump.now) D.Writer.contents asked.entry.mutators asked.entry.fresh
+        (O.contents (inner_of out.old).now) (O.contents (inner_of out.new).now) outcome) }
+    ensures cause { IfErr result (RefusesOutcome (D.lacks dumps.old asked.entry.dump.now) (D.gives dumps.old asked.entry.dump.now) D.Writer.contents
+        asked.entry.mutators asked.entry.fresh (O.contents (inner_of out.old).now) (O.contents (inner_of out.new).now) outcome) }
+    ensures uncreated { RefusedUncreated dumps.old dumps.new result }
+    ensures counts { CountsPrint (failures_of out.old) (failures_of out.new) result }
+    ensures same_writer { writer_of out.new ≡ writer_of out.old }
+    ensures unprinted { StopsUnprinted (O.contents (inner_of out.old).now) (O.contents (inner_of out.new).now) result }
+{
+    match outcome {
+        Ok(run) => write_run(alloc, dumps, asked, &run, out),
+        Err(halted) => print_halted(&halted, out),
+    }
+}
+
+/// Prints what a halted run had shown, sends it on, and answers its refusal.
+pub fn print_halted<O: Write>(halted: &Halted, out: &mut Counted<&mut O>) -> Result<(), Refusal>
+    requires halted { IsHaltedBy halted.now.shown.items halted.now.refusal }
+    requires written { failures_of out.old < 2 ^ 64 - 1 }
+    ensures never { OnOk result ⊥ }
+    ensures cause { IfErr result (IsOfHalt (O.contents (inner_of out.old).now) (O.contents (inner_of out.new).now) halted.now) }
+    ensures counts { CountsPrint (failures_of out.old) (failures_of out.new) result }
+    ensures same_writer { writer_of out.new ≡ writer_of out.old }
+    ensures unprinted { StopsUnprinted (O.contents (inner_of out.old).now) (O.contents (inner_of out.new).now) result }
+{
+    send_shown(&halted.shown, out)?;
+    Err(halted.refusal)
+}
+
+/// Writes the dump of a run, and prints the values that it showed, and the live words.
+pub fn write_run<D: Dumps, O: Write>(
+    alloc: Global,
+    dumps: &mut D,
+    asked: TraceRun<'_>,
+    run: &Replayed,
+    out: &mut Counted<&mut O>,
+) -> Result<(), Refusal>
+    requires flipped { IsOfFlip asked.mutators asked.fresh run.now.finished }
+    requires written { failures_of out.old < 2 ^ 64 - 1 }
+    ensures written { OnOk result (WritesWhole (D.gives dumps.old asked.entry.dump.now) D.Writer.contents (dump_bytes (dumped_of asked.entry.mutators asked.entry.fresh run.now.finished))) }
+    ensures printed { OnOk result (PrintsRun (O.contents (inner_of out.old).now) (O.contents (inner_of out.new).now) run.now.shown.items (live_of run.now.finished)) }
+    ensures cause { IfErr result (IsOfWritingRun (D.lacks dumps.old asked.entry.dump.now) (D.gives dumps.old asked.entry.dump.now) D.Writer.contents
+        (dump_bytes (dumped_of asked.entry.mutators asked.entry.fresh run.now.finished))) }
+    ensures uncreated { RefusedUncreated dumps.old dumps.new result }
+    ensures counts { CountsPrint (failures_of out.old) (failures_of out.new) result }
+    ensures same_writer { writer_of out.new ≡ writer_of out.old }
+    ensures unprinted { StopsUnprinted (O.contents (inner_of out.old).now) (O.contents (inner_of out.new).now) result }
+{
+    let dump = Dump::of(alloc, &run.finished, u32::from(asked.mutators), asked.fresh)?;
+    write_to(dumps, asked.dump, &dump)?;
+    print_shown(&run.shown, out)?;
+    print_line("live ", dump.live_words(), out)
+}

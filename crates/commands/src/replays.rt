@@ -1,0 +1,83 @@
+//! Heaps over which a trace is run by one thread.
+ghost use Rattle.std.specs.Prelude.{◌≡◌, ◌≤◌, [], length, IfOk, IfErr};
+ghost use Rattle.comp_cycles.specs.Finishes.{IsOfFlip};
+ghost use Rattle.trace_text.specs.Traces.{lines_of, mutators_of, roots_of};
+ghost use Rattle.commands.specs.Replays.{IsHalted, IsReplayedHeap};
+
+use call_refusals::refusal::Refusal as MutatorRefusal;
+use command_io::refusal::Refusal;
+use comp_mutator::finishing::Finished;
+use comp_trace::running::{Halt, run_over};
+use heap_layout::heap::MarkedHeap;
+use page_plan::plan::Plan;
+use std::alloc::Global;
+use std::sync::Arc;
+use std::thread::Threads;
+use trace_steps::shown::Shown;
+use trace_text::trace::Trace;
+
+/// A heap over which a trace was run, finished, and the values that the trace showed.
+#[derive(Drop)]
+pub struct Replayed {
+    pub shown: Vec<Shown>,
+    pub finished: Finished,
+}
+
+/// Why a run did not come to its end, and what it had shown until then.
+#[derive(Drop)]
+pub struct Halted {
+    pub shown: Vec<Shown>,
+    pub refusal: Refusal,
+}
+
+/// A run that was refused before it showed anything.
+pub fn unshown(alloc: Global, refusal: Refusal) -> Halted
+    ensures none { result.shown.items ≡ [] }
+    ensures refusal { result.refusal ≡ refusal }
+{
+    Halted {
+        shown: Vec::new(alloc),
+        refusal,
+    }
+}
+
+/// Flips a heap, runs a trace over it by one thread, and finishes it. The trace is one of these mutators and of the heap's roots.
+///
+/// Where a line is refused, the values are those of the lines before it. All other refusals are for want of memory, and come with no value.
+#[tactic(auto, using(crate::proofs::DumpsAfter::replayed_heap))]
+pub fn replay_heap(
+    alloc: Global,
+    rt: &(impl Threads + Sync),
+    heap: MarkedHeap,
+    trace: &Trace,
+    mutators: u8,
+    fresh: u32,
+) -> Result<Replayed, Halted>
+    requires mutators { (1 ≤ mutators) × (mutators ≤ 64) }
+    requires fresh { fresh ≤ 4096 }
+    requires parsed { (mutators_of trace.now ≡ mutators) × (roots_of trace.now ≡ length heap.roots) }
+    ensures replayed { IfOk result (λ run. IsReplayedHeap mutators fresh (lines_of trace.now) run.shown.items run.finished heap) }
+    ensures flipped { IfOk result (λ run. IsOfFlip mutators fresh run.finished) }
+    ensures halted { IfErr result (λ run. IsHalted mutators fresh (lines_of trace.now) run.shown.items heap run.refusal) }
+{
+    let Ok(plan) = Plan::new(alloc, rt, heap) else {
+        return Err(unshown(alloc, Refusal::OutOfMemory));
+    };
+    let Ok(plan) = Arc::new(alloc, plan) else {
+        return Err(unshown(alloc, Refusal::OutOfMemory));
+    };
+    match run_over(alloc, plan, trace, mutators, fresh) {
+        Ok(run) => Ok(Replayed {
+            shown: run.shown,
+            finished: run.finished,
+        }),
+        Err(Halt::Cut(stopped)) => Err(Halted {
+            shown: stopped.shown,
+            refusal: Refusal::Trace(stopped.fault),
+        }),
+        Err(Halt::Unflipped | Halt::Unfinished(_)) => Err(unshown(
+            alloc,
+            Refusal::Mutator(MutatorRefusal::OutOfMemory),
+        )),
+    }
+}

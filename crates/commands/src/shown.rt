@@ -1,0 +1,67 @@
+//! Printing the values that the lines of a trace showed.
+ghost use Rattle.std.specs.Prelude.{◌≡◌, ◌-◌, ◌^◌, ◌<◌, drop, true, OnOk, OnErr, Err};
+ghost use Rattle.std.specs.Io.KnownBytes.{Appends};
+ghost use Rattle.heap_layout.specs.Counted.{inner_of, failures_of, is_flushed_of, writer_of};
+ghost use Rattle.command_io.specs.Printing.{CountsPrint};
+ghost use Rattle.commands.specs.Replays.{shown_line, shown_lines};
+
+use command_io::print::{flush, print_bytes};
+use command_io::refusal::Refusal;
+use heap_layout::counted::Counted;
+use itoa::write_digits;
+use std::io::Write;
+use trace_steps::shown::Shown;
+
+/// How many bytes the line of a shown value has at most: two numbers of twenty digits, the space between them, and the line feed.
+const LONGEST: usize = 42;
+
+/// Prints shown values, a line each: the number of the line that showed it, and the value.
+pub fn print_shown<O: Write>(shown: &[Shown], out: &mut Counted<&mut O>) -> Result<(), Refusal>
+    requires { failures_of out.old < 2 ^ 64 - 1 }
+    ensures printed { OnOk result (Appends (O.contents (inner_of out.old).now) (O.contents (inner_of out.new).now) (shown_lines shown.now)) }
+    ensures cause { OnErr result (result ≡ Err Refusal.CannotPrint) }
+    ensures counts { CountsPrint (failures_of out.old) (failures_of out.new) result }
+    ensures same_writer { writer_of out.new ≡ writer_of out.old }
+{
+    for value in shown {
+        print_value(*value, out)?;
+    }
+    Ok(())
+}
+
+/// Prints shown values, and sends them on: nothing is printed after a refused line, so the output is flushed here.
+pub fn send_shown<O: Write>(shown: &[Shown], out: &mut Counted<&mut O>) -> Result<(), Refusal>
+    requires { failures_of out.old < 2 ^ 64 - 1 }
+    ensures printed { OnOk result (Appends (O.contents (inner_of out.old).now) (O.contents (inner_of out.new).now) (shown_lines shown.now)) }
+    ensures cause { OnErr result (result ≡ Err Refusal.CannotPrint) }
+    ensures counts { CountsPrint (failures_of out.old) (failures_of out.new) result }
+    ensures flushed { OnOk result (is_flushed_of out.new ≡ true) }
+    ensures same_writer { writer_of out.new ≡ writer_of out.old }
+{
+    print_shown(shown, out)?;
+    flush(out)
+}
+
+// Prints one of them, by one call of the writer.
+fn print_value<O: Write>(shown: Shown, out: &mut Counted<&mut O>) -> Result<(), Refusal>
+    requires { failures_of out.old < 2 ^ 64 - 1 }
+    ensures printed { OnOk result (Appends (O.contents (inner_of out.old).now) (O.contents (inner_of out.new).now) (shown_line shown)) }
+    ensures cause { OnErr result (result ≡ Err Refusal.CannotPrint) }
+    ensures counts { CountsPrint (failures_of out.old) (failures_of out.new) result }
+    ensures same_writer { writer_of out.new ≡ writer_of out.old }
+{
+    let mut room = [0; LONGEST];
+    let start = fill_line(shown, &mut room);
+    print_bytes(&room[start..], out)
+}
+
+// Writes the line of a shown value at the end of a room for the longest one, and answers where it begins.
+fn fill_line(shown: Shown, room: &mut [u8; LONGEST]) -> usize
+    ensures within { result < 42 }
+    ensures filled { drop result room.new ≡ shown_line shown }
+{
+    room[LONGEST - 1] = b'\n';
+    let value = write_digits(shown.value, room, LONGEST - 1);
+    room[value - 1] = b' ';
+    write_digits(shown.line, room, value - 1)
+}

@@ -1,2 +1,0 @@
-pub mod CycledHeaps
-pub mod NextRuns

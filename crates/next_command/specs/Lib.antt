@@ -1,2 +1,0 @@
-pub mod Cycled
-pub mod Nexts

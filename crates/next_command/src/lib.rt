@@ -1,5 +1,0 @@
-//! The command `next`.
-#![tactic(auto)]
-
-mod cycling;
-pub mod next;
