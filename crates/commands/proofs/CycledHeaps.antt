@@ -4,8 +4,8 @@ use Rattle.heap_layout.specs.Heap.{Heap}
 use Rattle.comp_cycles.specs.Cycles.{heap_after, IsCycleOf}
 use Rattle.comp_cycles.specs.Ends.{cycle_of}
 use Rattle.comp_cycles.specs.declared.finished.Finished.{Finished}
-use Rattle.cycle_traces.specs.CycleRuns.{IsLastRun}
-use Rattle.cycle_traces.proofs.Runs.{marked}
+use Rattle.trace_cycles.specs.CycleRuns.{IsLastRun}
+use Rattle.trace_cycles.proofs.Runs.{marked}
 use Rattle.trace_steps.specs.declared.shown.Shown.{Shown}
 use Rattle.trace_text.specs.declared.line.Line.{Line}
 use Rattle.command_io.specs.declared.refusal.Refusal.{Refusal}

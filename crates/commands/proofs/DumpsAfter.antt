@@ -17,8 +17,8 @@ use Rattle.comp_history.specs.Shares.{allocated}
 use Rattle.comp_cycles.specs.Finishes.{history_of, journals_of, pages_of, roots_of, there, IsFinished}
 use Rattle.comp_cycles.specs.declared.finished.Finished.{Finished}
 use Rattle.comp_dump.specs.Lent.{record_of}
-use Rattle.comp_trace.specs.Bytes.{flipped}
-use Rattle.comp_trace.specs.Heaps.{HasRunOver}
+use Rattle.trace_replay.specs.Bytes.{flipped}
+use Rattle.trace_replay.specs.Heaps.{HasRunOver}
 use Rattle.trace_steps.specs.declared.shown.Shown.{Shown}
 use Rattle.trace_text.specs.declared.line.Line.{Line}
 use Rattle.commands.specs.Replays.{dumped_of, page_in, times_built, IsDumpAfter, IsPageAfter, IsReplayedHeap}

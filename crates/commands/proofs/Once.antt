@@ -9,13 +9,13 @@ use Rattle.heap_layout.proofs.Marked.{passed, sizes-few}
 use Rattle.comp_journal.specs.declared.entry.Entry.{Entry}
 use Rattle.cell_steps.specs.Setup.{pages, Setup}
 use Rattle.comp_history.specs.Merged.{stamp_of}
-use Rattle.comp_trace.specs.Bytes.{flipped, no_entries}
+use Rattle.trace_replay.specs.Bytes.{flipped, no_entries}
 use Rattle.trace_text.specs.Grammar.{parts}
-use Rattle.comp_trace.specs.Runs.{beginning, unstamped_on, AreAlike, MayBegin, Moment, Runs}
+use Rattle.trace_replay.specs.Runs.{beginning, unstamped_on, AreAlike, MayBegin, Moment, Runs}
 use Rattle.trace_text.specs.declared.line.Line.{Line}
 use Rattle.trace_steps.specs.declared.shown.Shown.{Shown}
-use Rattle.comp_trace.proofs.Determined.{determined}
-use Rattle.comp_trace.proofs.Inside.{ok_is, read_inside}
+use Rattle.trace_replay.proofs.Determined.{determined}
+use Rattle.trace_replay.proofs.Inside.{ok_is, read_inside}
 use Rattle.comp_dump.specs.Dumped.{BuiltPage, Dumped}
 use Rattle.comp_history.specs.Builds.{named}
 use Rattle.commands.specs.Replays.{page_in, times_built, AreOne, IsDumpOfRun, IsPageAfter, ReplaysAreOne}

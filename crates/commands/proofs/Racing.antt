@@ -16,17 +16,17 @@ use Rattle.comp_cycles.specs.declared.finished.Finished.{Finished}
 use Rattle.comp_mutator.specs.declared.mutator.Mutator.{Mutator}
 use Rattle.comp_mutator.specs.declared.space.Space.{Space}
 use Rattle.trace_text.specs.Grammar.{parts}
-use Rattle.comp_race.specs.Races.{numbered, own_lines, HaveRaced, Ran}
+use Rattle.trace_race.specs.Races.{numbered, own_lines, HaveRaced, Ran}
 use Rattle.trace_text.specs.declared.fault.Stop.{Stop}
 use Rattle.trace_text.specs.declared.line.Line.{Line}
-use Rattle.comp_race.specs.declared.race.Run.{Run}
+use Rattle.trace_race.specs.declared.race.Run.{Run}
 use Rattle.trace_steps.specs.declared.shown.Shown.{Shown}
-use Rattle.comp_trace.proofs.Inside.{read_inside}
+use Rattle.trace_replay.proofs.Inside.{read_inside}
 use Rattle.commands.specs.ByLine.{AreByLine, AreOwn, HasEnded, IsLeastStop}
 use Rattle.commands.specs.Races.{HaveRun, IsRacedHeap, IsStoppedRace}
 use Rattle.commands.specs.Replays.{dumped_of, IsDumpAfter}
 use Rattle.command_io.specs.Texts.{HasLines}
-use Rattle.comp_trace.proofs.Runnings.{setup_is}
+use Rattle.trace_replay.proofs.Runnings.{setup_is}
 use Rattle.commands.proofs.DumpsAfter.{dump_after}
 use Rattle.commands.proofs.Walking.{of_run}
 

@@ -9,7 +9,7 @@ use Rattle.cell_steps.specs.Setup.{Setup}
 use Rattle.comp_history.specs.Shares.{allocated}
 use Rattle.comp_cycles.specs.Finishes.{edition_in, builds_in, live_of, pages_of, roots_of}
 use Rattle.comp_cycles.specs.declared.finished.Finished.{Finished}
-use Rattle.comp_trace.specs.Bytes.{flipped, CutsShort}
+use Rattle.trace_replay.specs.Bytes.{flipped, CutsShort}
 use Rattle.trace_text.specs.declared.fault.TraceFault.{TraceFault}
 use Rattle.trace_text.specs.declared.fault.TraceFault.TheVariants.{BadLine, NoSuchMutator, NoSuchRegister, NumberTooLarge, NoSuchRoot, Refused}
 use Rattle.trace_text.specs.declared.fault.TraceFault.TheVariants as traces

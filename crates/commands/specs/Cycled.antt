@@ -10,8 +10,8 @@ use Rattle.comp_cycles.specs.NextHeap.{next_faults}
 use Rattle.comp_cycles.specs.Stable.{StableHeap}
 use Rattle.comp_cycles.specs.Told.{IsToldAs}
 use Rattle.comp_cycles.specs.declared.finished.Finished.{Finished}
-use Rattle.comp_trace.specs.Bytes.{flipped, CutsShort}
-use Rattle.cycle_traces.specs.CycleRuns.{IsLastRun, IsPart}
+use Rattle.trace_replay.specs.Bytes.{flipped, CutsShort}
+use Rattle.trace_cycles.specs.CycleRuns.{IsLastRun, IsPart}
 use Rattle.trace_steps.specs.declared.shown.Shown.{Shown}
 use Rattle.trace_text.specs.declared.line.Line.{Line}
 use Rattle.command_io.specs.declared.refusal.Refusal.{Refusal}

@@ -15,12 +15,12 @@ use Rattle.comp_cycles.specs.Finishes.{history_of, live_of, IsFinished}
 use Rattle.comp_cycles.specs.declared.finished.Finished.{Finished}
 use Rattle.call_refusals.specs.declared.refusal.Refusal.{Refusal as CallRefusal}
 use Rattle.call_refusals.specs.declared.refusal.Refusal.TheVariants as refusals
-use Rattle.comp_trace.specs.Bytes.{flipped}
-use Rattle.comp_race.specs.Races.{numbered, own_lines, Ran}
+use Rattle.trace_replay.specs.Bytes.{flipped}
+use Rattle.trace_race.specs.Races.{numbered, own_lines, Ran}
 use Rattle.trace_text.specs.declared.fault.TraceFault.{TraceFault}
 use Rattle.trace_text.specs.declared.fault.TraceFault.TheVariants as faults
 use Rattle.trace_text.specs.declared.line.Line.{Line}
-use Rattle.comp_race.specs.declared.race.Run.{Run}
+use Rattle.trace_race.specs.declared.race.Run.{Run}
 use Rattle.trace_steps.specs.declared.shown.Shown.{Shown}
 use Rattle.comp_dump.specs.DumpEncoding.{dump_bytes}
 use Rattle.comp_dump.specs.declared.fault.DumpFault.TheVariants.{Device}

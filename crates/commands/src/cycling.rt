@@ -1,15 +1,16 @@
 //! A heap over which a trace is run, and the heap with which the next cycle begins.
 ghost use Rattle.std.specs.Prelude.{◌≤◌, IfErr, IfOk, length};
 ghost use Rattle.comp_cycles.specs.Ends.{IsEndOf};
-ghost use Rattle.cycle_traces.specs.CycleRuns.{IsParsedFor};
+ghost use Rattle.trace_cycles.specs.CycleRuns.{IsParsedFor};
 ghost use Rattle.trace_text.specs.Traces.{lines_of};
 ghost use Rattle.commands.specs.Cycled.{IsCycledHeap, IsNextHeap, IsUncycled, IsUnmarked};
 
 use call_refusals::refusal::Refusal as MutatorRefusal;
 use command_io::refusal::Refusal;
 use comp_cycles::finished::Finished;
-use comp_trace::running::Halt;
-use cycle_traces::cycle::{CycleHalt, run_cycle};
+use trace_replay::running::Halt;
+use trace_cycles::cycle::CycleHalt;
+use trace_cycles::cycle::run_cycle;
 use heap_layout::heap::MarkedHeap;
 use page_plan::plan::Plan;
 use std::alloc::Global;

@@ -1,8 +1,9 @@
 //! Two cycles of a heap, which begin anew where memory was refused in either.
 use crate::heaps::{Heap, heap_of};
 use call_refusals::refusal::Refusal;
-use cycle_traces::fault::CycleFault;
-use cycle_traces::replay_cycles::{CyclesStopped, replay_cycles};
+use trace_cycles::fault::CycleFault;
+use trace_cycles::replay_cycles::CyclesStopped;
+use trace_cycles::replay_cycles::replay_cycles;
 use heap_layout::fault::LayoutFault;
 use std::alloc::Global;
 use std::thread::Threads;

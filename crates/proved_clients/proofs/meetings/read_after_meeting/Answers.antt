@@ -1,0 +1,48 @@
+use Rattle.std.proofs.Common.{◌≡◌, ℕ, ◌∙◌, sym, subst}
+use Rattle.heap_layout.specs.declared.kind.Kind.TheVariants.{Data}
+use Rattle.cell_steps.specs.Lists.{StartsWith}
+use Rattle.cell_steps.specs.Passes.{seen}
+use Rattle.cell_steps.proofs.Sums.{starts-refl}
+use Rattle.page_cells.proofs.Growing.{begins_then}
+use Rattle.comp_mutator.specs.Mutators.{pass_of, setup_of}
+use Rattle.comp_access.specs.Reads.{Reads}
+use Rattle.comp_access.specs.Writes.{Writes}
+use Rattle.proved_clients.proofs.Between.{sees_what_it_met}
+use Rattle.proved_clients.proofs.ReadBack.{both_ok, reads_back}
+use Rattle.proved_clients.proofs.meetings.read_after_meeting.Goals as goal
+
+pub returns : goal.returns
+returns g c =
+    let u = setup_of c.args.space.now in
+    let w = c.try_write_data-stamp in
+    let r = c.try_read_data-word in
+    let old = pass_of c.args.m0.now in
+    let wrote = pass_of w.new.m in
+    let read = pass_of r.new.m in
+    let reader = pass_of c.args.m1.now in
+    let object = c.args.object in
+    let field = c.args.field in
+    let all : (p : ℕ) → StartsWith (seen wrote p) (seen reader p) = λ p. begins_then (seen reader p) (seen old p) (seen wrote p) (c.requires.seen p) (w.ensures.grows.seen p) in
+    let same : (p : ℕ) → seen read p ≡ seen wrote p = sees_what_it_met u wrote (pass_of c.meet.new.told) (pass_of c.meet-2.new.told) reader (pass_of c.meet.new.m) read (pass_of c.meet-2.new.m) record {
+      two = c.requires.two;
+      first = w.ensures.grows.number ∙ c.requires.first.1;
+      second = c.requires.second.1;
+      meets_a = c.meet.ensures.told;
+      meets_b = c.meet.ensures.m;
+      same = c.meet.ensures.same;
+      remembers_a = c.meet.ensures.of.0.remembers;
+      remembers_b = c.meet.ensures.of.1.remembers;
+      grows = r.ensures.grows.0;
+      wrote_none = r.ensures.grows.1;
+      again_a = c.meet-2.ensures.told;
+      again_b = c.meet-2.ensures.m;
+      same_again = c.meet-2.ensures.same;
+      last_remembers_a = c.meet-2.ensures.of.0.remembers;
+      last_remembers_b = c.meet-2.ensures.of.1.remembers;
+    } all in
+    let grows : (p : ℕ) → StartsWith (seen read p) (seen wrote p) = λ p. subst (λ l. StartsWith l (seen wrote p)) (sym (same p)) (starts-refl (seen wrote p)) in
+    let one = c.places_are_one.ensures (seen wrote) (seen read) grows (λ p. (r.ensures.of.remembers p).lawful) Data object field in
+    record {
+      read = both_ok w.result r.result (Writes u old wrote Data object field c.args.value) (Reads u (seen read) Data object field) (λ word. word ≡ c.args.value) w.ensures.wrote r.ensures.read
+          (λ stamp word. reads_back u old wrote read Data object field c.args.value stamp word same one (c.last_written.ensures u));
+    }

@@ -1,0 +1,44 @@
+//! What a caller concludes of a word that was read before a trace was replayed.
+ghost use Rattle.std.specs.Prelude.{◌≡◌, ◌<◌, length, IfSome};
+ghost use Rattle.heap_layout.specs.declared.kind.Kind.TheVariants.{Data};
+ghost use Rattle.comp_mutator.specs.Mutators.{setup_of};
+ghost use Rattle.proved_clients.specs.Histories.{StandsInHistory};
+ghost use Rattle.trace_steps.specs.AllMutators.{AreAll};
+ghost use Rattle.trace_steps.specs.Traces.{IsParsedFor};
+
+use comp_mutator::finishing::Finished;
+use comp_mutator::mutator::Mutator;
+use comp_mutator::space::Space;
+use trace_replay::replay::replay;
+use page_plan::builder::Builder;
+use std::alloc::Global;
+use std::sync::ledger::Ledger as Named;
+use trace_text::trace::Trace;
+
+/// A mutator reads a data word, a trace is replayed by all of them, and the heap is finished: where all three are done, that read stands in the one history.
+pub fn read_replay_and_finish<L: Named, B: Builder>(
+    alloc: Global,
+    space: Space<L, B>,
+    mut mutators: Vec<Mutator<L>>,
+    k: usize,
+    object: u64,
+    field: u16,
+    trace: &Trace,
+) -> Option<(u64, Finished)>
+    requires all { AreAll space mutators.items }
+    requires whole { (setup_of space).mutators ≡ L.parts }
+    requires inside { k < length mutators.items }
+    requires parsed { IsParsedFor (setup_of space) trace.now }
+    ensures { IfSome result (λ done. StandsInHistory (setup_of space) done.1 Data object field done.0) }
+{
+    let Ok(word) = space.try_read_data(alloc, &mut mutators[k], object, field) else {
+        return None;
+    };
+    let Ok(_) = replay(alloc, trace, &space, &mut mutators) else {
+        return None;
+    };
+    match space.finish(alloc, mutators) {
+        Ok(finished) => Some((word, finished)),
+        Err(_) => None,
+    }
+}

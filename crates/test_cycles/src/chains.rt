@@ -1,0 +1,78 @@
+//! Heaps over which texts are run, and the heaps that follow.
+ghost use Rattle.std.specs.Prelude.{◌≤◌};
+ghost use Rattle.comp_cycles.specs.Ends.{IsEndOf};
+
+use comp_cycles::next_cycle::NotCycled;
+use trace_cycles::cycle::Ran;
+use trace_cycles::cycle::run_cycle;
+use heap_layout::heap::MarkedHeap;
+use heap_layout::page_words::PageWords;
+use page_plan::plan::Plan;
+use std::alloc::Global;
+use std::process::Abort;
+use std::test::Fail;
+use std::thread::Threads;
+use trace_text::parsing::parse;
+
+/// It is so. Where it is not, the test ends, and tells its name and a number.
+pub fn expect_so(rt: &impl Abort, name: &str, so: bool, number: u64) {
+    assert!(rt; so, "{name}: {number}");
+}
+
+/// The heap of a table, which is accepted.
+pub fn made(rt: &impl Abort, heap: Result<MarkedHeap, Fail>) -> MarkedHeap {
+    match heap {
+        Ok(heap) => heap,
+        Err(_fail) => rt.panic("a heap"),
+    }
+}
+
+/// What is left of a heap over which a text was run, by so many mutators, with so many fresh pages.
+pub fn ran(
+    rt: &(impl Abort + Threads + Sync),
+    alloc: Global,
+    heap: MarkedHeap,
+    text: &[u8],
+    mutators: u8,
+    fresh: u32,
+) -> Ran
+    requires mutators { (1 ≤ mutators) × (mutators ≤ 64) }
+    requires fresh { fresh ≤ 4096 }
+    ensures { IsEndOf result.plan.value result.finished }
+{
+    let roots = heap.roots().len() as u16;
+    let trace = parse(alloc, text, mutators, roots).expect(rt, "a trace");
+    match run_cycle(alloc, rt, heap, &trace, mutators, fresh) {
+        Ok(ran) => ran,
+        Err(_halt) => rt.panic("a run"),
+    }
+}
+
+/// The heap that follows with these marks, or why none does.
+pub fn followed(
+    rt: &impl Abort,
+    alloc: Global,
+    ran: Ran,
+    marks: &[u32],
+) -> Result<MarkedHeap, NotCycled>
+    requires { IsEndOf ran.plan.value ran.finished }
+{
+    let marks = marks.to_vec(alloc).expect(rt, "marks");
+    ran.finished.next_cycle(alloc, &*ran.plan, marks)
+}
+
+/// The heap that follows with these marks, which are accepted.
+pub fn follow(rt: &impl Abort, alloc: Global, ran: Ran, marks: &[u32]) -> MarkedHeap
+    requires { IsEndOf ran.plan.value ran.finished }
+{
+    match followed(rt, alloc, ran, marks) {
+        Ok(heap) => heap,
+        Err(_left) => rt.panic("a heap that follows"),
+    }
+}
+
+/// Page 0 of a plan, which has pages.
+pub fn first_page(rt: &impl Abort, alloc: Global, plan: &Plan) -> PageWords {
+    assert!(rt; 0 < plan.pages(), "no page");
+    plan.build_page(alloc, 0).expect(rt, "a page")
+}

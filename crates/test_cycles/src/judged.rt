@@ -1,0 +1,44 @@
+//! The last heap of several cycles is dumped, and the audit says yes to it.
+use crate::chains::{expect_so, follow, made};
+use crate::rows::{LINKED, linked};
+use comp_audit::auditing::audit;
+use comp_audit::verdict::Verdict;
+use comp_dump::dump::Dump;
+use trace_cycles::replay_cycles::replay_cycles;
+use page_plan::plan::Plan;
+use std::alloc::Global;
+use std::process::Abort;
+use std::thread::Threads;
+use trace_text::parsing::parse;
+use worked_heaps::heaps::three;
+
+// The marks that begin the second cycle.
+const MARKS: [u32; 2] = [2, 64];
+
+// Whether the audit says yes to this dump, where this plan compacted the heap.
+fn is_lawful(rt: &impl Abort, alloc: Global, plan: &Plan, dump: &Dump<'_>) -> bool {
+    let verdict = audit(alloc, plan, dump).expect(rt, "a verdict");
+    verdict == Verdict::Yes
+}
+
+#[test]
+fn last_heap_is_lawful(rt: HostRuntime) {
+    let alloc = rt.alloc();
+    let heap = made(&rt, three(alloc));
+    let roots = heap.roots().len() as u16;
+    let first = parse(alloc, LINKED, 1, roots).expect(&rt, "a trace");
+    let more = parse(alloc, LINKED, 1, roots).expect(&rt, "a trace");
+    let rest = [(MARKS.to_vec(alloc).expect(&rt, "marks"), more)];
+    let run = match replay_cycles(alloc, &rt, heap, &first, &rest, 1, 2) {
+        Ok(run) => run,
+        Err(_stopped) => rt.panic("two cycles"),
+    };
+    let dump = Dump::of(alloc, &run.finished, 1, 2).expect(&rt, "a dump");
+    let left = linked(&rt, alloc);
+    let before = left.plan.clone().expect(&rt, "the plan of the first cycle");
+    let last = follow(&rt, alloc, left, &MARKS);
+    let plan = Plan::new(alloc, &rt, last).expect(&rt, "a plan");
+    expect_so(&rt, "lawful", is_lawful(&rt, alloc, &plan, &dump), 0);
+    let by_first = is_lawful(&rt, alloc, &before, &dump);
+    expect_so(&rt, "lawful by the plan of the first cycle", !by_first, 0);
+}

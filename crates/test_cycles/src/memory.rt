@@ -1,0 +1,114 @@
+//! Where an allocation is refused, as the test run's own switch has it, cycles tell want of memory by its name, and show what was shown before.
+use crate::chains::expect_so;
+use call_refusals::refusal::Refusal;
+use trace_cycles::fault::CycleFault;
+use trace_cycles::replay_cycles::CyclesStopped;
+use trace_cycles::replay_cycles::replay_cycles;
+use heap_layout::edition::Edition;
+use heap_layout::fault::LayoutFault;
+use heap_layout::heap::MarkedHeap;
+use std::alloc::Global;
+use std::process::Abort;
+use std::thread::Threads;
+use trace_steps::shown::Shown;
+use trace_text::fault::TraceFault;
+use trace_text::parsing::parse;
+use worked_heaps::heaps::{F, THREE};
+
+// The first object's data word is shown, a new object stored, and in the second cycle it is shown again.
+const FIRST: &[u8] =
+    b"0 root 0 0\n0 load 1 0 0\n0 get 1 0\n0 new 2 1 0 9\n0 store 2 0 1\n0 store 0 0 2\n";
+
+const SECOND: &[u8] = b"0 root 0 0\n0 load 1 0 0\n0 load 2 1 0\n0 get 2 0\n";
+
+// What these faults say is that memory was refused.
+fn wants_memory(fault: CycleFault) -> bool {
+    match fault {
+        CycleFault::NotMarked(_, fault) => fault == LayoutFault::OutOfMemory,
+        CycleFault::Stopped(_, fault) => fault == TraceFault::OutOfMemory || is_refused(fault),
+        CycleFault::OutOfMemory(_) => true,
+    }
+}
+
+// A line whose call was refused memory.
+fn is_refused(fault: TraceFault) -> bool {
+    match fault {
+        TraceFault::Refused(_, refusal) => refusal == Refusal::OutOfMemory,
+        _ => false,
+    }
+}
+
+// The lines of the two cycles that show the data word.
+const SHOWING: [u64; 2] = [3, 4];
+
+// How many cycles have a list of values, at least and at most. A cycle whose lines had begun has one, and so have those before it.
+fn lists(fault: CycleFault) -> (u64, u64) {
+    match fault {
+        CycleFault::NotMarked(c, _fault) => (c.wrapping_add(1), c.wrapping_add(1)),
+        CycleFault::Stopped(c, _fault) => (c.wrapping_add(1), c.wrapping_add(1)),
+        CycleFault::OutOfMemory(c) => (c, c.wrapping_add(1)),
+    }
+}
+
+// Whether this line of cycle `c` had shown its value.
+fn had_shown(fault: CycleFault, c: u64, line: u64) -> bool {
+    match fault {
+        CycleFault::Stopped(at, fault) if at == c => match fault {
+            TraceFault::Refused(refused, _refusal) => line < refused,
+            _ => false,
+        },
+        _ => true,
+    }
+}
+
+// The values are those of the cycles before the one that was stopped, and of its lines before the refused one.
+fn expect_shown(rt: &impl Abort, stopped: &CyclesStopped) {
+    let (least, most) = lists(stopped.fault);
+    let count = stopped.shown.len() as u64;
+    expect_so(rt, "lists", least <= count && count <= most, count);
+    for (c, values) in stopped.shown.iter().enumerate() {
+        let line = SHOWING.get(c).copied().unwrap_or(0);
+        let wanted = match had_shown(stopped.fault, c as u64, line) {
+            true => Some(Shown { line, value: 11 }),
+            false => None,
+        };
+        expect_so(rt, "values", values.len() <= 1, c as u64);
+        expect_so(rt, "value", values.first().copied() == wanted, c as u64);
+    }
+}
+
+// The cycles; None where memory was wanting before they began.
+fn cycles(rt: &(impl Abort + Threads + Sync), alloc: Global) -> Option<Result<u64, CyclesStopped>> {
+    let words = THREE.to_vec(alloc).ok()?;
+    let marks = [0, 5].to_vec(alloc).ok()?;
+    let roots = [F + 5].to_vec(alloc).ok()?;
+    let heap = MarkedHeap::from_parts_of(Edition::One, words, marks, roots).ok()?;
+    let roots = heap.roots().len() as u16;
+    let first = parse(alloc, FIRST, 1, roots).ok()?;
+    let second = parse(alloc, SECOND, 1, roots).ok()?;
+    let rest = [([0, 2, 64].to_vec(alloc).ok()?, second)];
+    match replay_cycles(alloc, rt, heap, &first, &rest, 1, 2) {
+        Ok(run) => {
+            let mut sum = 0u64;
+            for values in &run.shown {
+                for value in values {
+                    sum = sum.wrapping_add(value.value);
+                }
+            }
+            Some(Ok(sum))
+        }
+        Err(stopped) => Some(Err(stopped)),
+    }
+}
+
+#[test]
+fn want_of_memory_is_told(rt: HostRuntime) {
+    match cycles(&rt, rt.alloc()) {
+        Some(Ok(sum)) => expect_so(&rt, "shown", sum == 22, sum),
+        Some(Err(stopped)) => {
+            expect_so(&rt, "fault", wants_memory(stopped.fault), 0);
+            expect_shown(&rt, &stopped);
+        }
+        None => {}
+    }
+}

@@ -1,0 +1,70 @@
+//! All cycles of a chain by one call: each shows what it showed when it was run alone.
+ghost use Rattle.std.specs.Prelude.{All};
+ghost use Rattle.trace_cycles.specs.CycleRuns.{IsParsedFor};
+
+use crate::chains::expect_so;
+use crate::random_chains::{FRESH, MUTATORS};
+use trace_cycles::replay_cycles::replay_cycles;
+use heap_layout::heap::MarkedHeap;
+use std::alloc::Global;
+use std::process::Abort;
+use std::thread::Threads;
+use trace_steps::shown::Shown;
+use trace_text::parsing::parse;
+use trace_text::trace::Trace;
+
+/// A cycle that was run: the marks with which its heap was made, none of the first; the text of its lines; and the values that they showed.
+#[derive(Drop)]
+pub struct Past {
+    pub marks: Vec<u32>,
+    pub text: String,
+    pub shown: Vec<u64>,
+}
+
+/// These values were shown, and no others.
+pub fn expect_values(rt: &impl Abort, shown: &[Shown], wanted: &[u64], name: &str) {
+    expect_so(rt, name, shown.len() == wanted.len(), 0);
+    for (value, wanted) in shown.iter().zip(wanted) {
+        expect_so(rt, name, value.value == *wanted, value.line);
+    }
+}
+
+// The traces of these cycles, each beside its marks.
+fn further(rt: &impl Abort, alloc: Global, past: &[Past], roots: u16) -> Vec<(Vec<u32>, Trace)>
+    ensures { All (λ one. IsParsedFor 2 roots one.1) result.items }
+{
+    let mut further = Vec::new(alloc);
+    for one in past {
+        let marks = one.marks.to_vec(alloc).expect(rt, "marks");
+        let trace = parse(alloc, one.text.as_bytes(), MUTATORS, roots).expect(rt, "a trace");
+        further
+            .push((marks, trace))
+            .expect(rt, "memory for a trace");
+    }
+    further
+}
+
+/// The cycles of a chain that began with this heap show what they showed.
+pub fn expect_past(
+    rt: &(impl Abort + Threads + Sync),
+    alloc: Global,
+    heap: MarkedHeap,
+    past: &[Past],
+    name: &str,
+) {
+    let (Some(first), Some(others)) = (past.first(), past.get(1..)) else {
+        return;
+    };
+    let roots = heap.roots().len() as u16;
+    let trace = parse(alloc, first.text.as_bytes(), MUTATORS, roots).expect(rt, "a trace");
+    let rest = further(rt, alloc, others, roots);
+    match replay_cycles(alloc, rt, heap, &trace, &rest, MUTATORS, FRESH) {
+        Ok(run) => {
+            expect_so(rt, name, run.shown.len() == past.len(), 0);
+            for (values, one) in run.shown.iter().zip(past) {
+                expect_values(rt, values, &one.shown, name);
+            }
+        }
+        Err(_stopped) => rt.panic("all cycles"),
+    }
+}

@@ -1,0 +1,230 @@
+//! Races: what lines show and refuse, in threads of their own. Each row is a text that is raced by all its mutators, and the size of the finished heap.
+use crate::expected::{expect_so, plan_of};
+use crate::flipped::Case;
+use crate::ran::raced;
+use crate::replays::{WEAK_TEXT, replay_rows, replay_weak_rows};
+use call_refusals::refusal::Refusal;
+use comp_mutator::finishing::Finished;
+use trace_race::race::Run;
+use heap_layout::header::Header;
+use page_plan::builder::Builder;
+use page_plan::plan::Plan;
+use std::alloc::Global;
+use std::marker::Brand;
+use std::process::Abort;
+use std::sync::Wait;
+use std::sync::ledger::Blank;
+use std::thread::Threads;
+use trace_text::fault::Stop;
+use worked_heaps::builders::Meeting;
+use worked_heaps::heaps::{F, heap, three, weak};
+
+// What is to come of a mutator's run.
+enum Wanted {
+    // It comes to its end, and shows nothing.
+    Nothing,
+    // So it does, but this line shows one of two values.
+    Shows(u64, u64, u64),
+    // This line is refused so, and nothing is shown.
+    Refused(u64, Refusal),
+}
+
+// A text, and what is to come of it.
+struct Row {
+    case: Case<'static>,
+    runs: &'static [Wanted],
+    live_words: u64,
+}
+
+// On the three objects.
+static ROWS: [Row; 5] = [
+    Row {
+        case: Case {
+            name: "shows what is read beside a write",
+            mutators: 2,
+            fresh_pages: 0,
+            text: b"0 root 0 0\n0 load 1 0 0\n0 put 1 0 7\n1 root 0 0\n1 load 1 0 0\n1 get 1 0\n",
+        },
+        runs: &[Wanted::Nothing, Wanted::Shows(6, 7, 11)],
+        live_words: 4,
+    },
+    Row {
+        case: Case {
+            name: "shows what the same mutator wrote",
+            mutators: 2,
+            fresh_pages: 0,
+            text: b"0 root 0 0\n0 load 1 0 0\n1 nil 3\n0 put 1 0 7\n0 get 1 0\n",
+        },
+        runs: &[Wanted::Shows(5, 7, 7), Wanted::Nothing],
+        live_words: 4,
+    },
+    Row {
+        case: Case {
+            name: "ends at a refused line",
+            mutators: 2,
+            fresh_pages: 0,
+            text: b"0 nil 0\n0 get 0 0\n0 root 0 0\n0 load 1 0 0\n0 get 1 0\n",
+        },
+        runs: &[Wanted::Refused(2, Refusal::Null), Wanted::Nothing],
+        live_words: 4,
+    },
+    Row {
+        case: Case {
+            name: "refuses an object that is too large",
+            mutators: 2,
+            fresh_pages: 0,
+            text: b"0 new 0 65535 65535 4294967295\n",
+        },
+        runs: &[Wanted::Refused(1, Refusal::ObjectTooLarge), Wanted::Nothing],
+        live_words: 4,
+    },
+    Row {
+        case: Case {
+            name: "makes an object alone, and stores it",
+            mutators: 1,
+            fresh_pages: 2,
+            text: b"0 root 0 0\n0 new 1 0 0 0\n0 store 0 0 1\n0 load 2 0 0\n0 store 0 0 2\n",
+        },
+        runs: &[Wanted::Nothing],
+        live_words: 5,
+    },
+];
+
+// On the three objects of edition two.
+static WEAK_ROWS: [Row; 3] = [
+    Row {
+        case: Case {
+            name: "writes a weak word that leads to a new object, and reads it",
+            mutators: 1,
+            fresh_pages: 1,
+            text: WEAK_TEXT,
+        },
+        runs: &[Wanted::Shows(6, 9, 9)],
+        live_words: 8,
+    },
+    Row {
+        case: Case {
+            name: "reads a weak word beside a write",
+            mutators: 2,
+            fresh_pages: 0,
+            text: b"0 root 0 0\n0 load 1 0 0\n0 wstore 1 1 1\n1 root 0 0\n1 load 1 0 0\n1 wload 2 1 1\n1 get 1 0\n",
+        },
+        runs: &[Wanted::Nothing, Wanted::Shows(7, 9, 9)],
+        live_words: 6,
+    },
+    Row {
+        case: Case {
+            name: "refuses a tag of 17 bits",
+            mutators: 2,
+            fresh_pages: 1,
+            text: b"0 new 0 0 0 65536\n1 root 0 0\n1 wload 1 0 0\n",
+        },
+        runs: &[
+            Wanted::Refused(1, Refusal::NotInEdition),
+            Wanted::Refused(3, Refusal::NoSuchField),
+        ],
+        live_words: 6,
+    },
+];
+
+// On an object of four pages, of which two are built only at one time.
+static SIDE_BY_SIDE: Row = Row {
+    case: Case {
+        name: "runs lines side by side",
+        mutators: 2,
+        fresh_pages: 0,
+        text: b"0 root 0 0\n0 get 0 0\n1 root 0 0\n1 get 0 63\n",
+    },
+    runs: &[Wanted::Shows(2, 0, 0), Wanted::Shows(4, 0, 0)],
+    live_words: 256,
+};
+
+// The run showed just one of these values, by this line.
+fn is_shown(run: &Run, line: u64, one: u64, other: u64) -> bool {
+    match run.shown.first() {
+        Some(shown) => {
+            run.shown.len() == 1
+                && shown.line == line
+                && (shown.value == one || shown.value == other)
+        }
+        None => false,
+    }
+}
+
+// The run came to what is wanted.
+fn is_run(run: &Run, wanted: &Wanted) -> bool {
+    match *wanted {
+        Wanted::Nothing => run.shown.is_empty() && run.fault.is_none(),
+        Wanted::Shows(line, one, other) => {
+            is_shown(run, line, one, other) && run.fault.is_none()
+        }
+        Wanted::Refused(line, refusal) => {
+            run.shown.is_empty() && run.fault == Some(Stop { line, refusal })
+        }
+    }
+}
+
+// All runs are what the row wants, and so is the size of the heap.
+fn expect_row(rt: &impl Abort, row: &Row, runs: &[Run], finished: &Finished) {
+    let live = finished.live_words();
+    let mut same = runs.len() == row.runs.len() && live == row.live_words;
+    for (k, run) in runs.iter().enumerate() {
+        if let Some(wanted) = row.runs.get(k) {
+            same = same && is_run(run, wanted);
+        }
+    }
+    expect_so(rt, row.case.name, same, live);
+}
+
+// The text of a row is raced on the heap of this builder, which this plan compacted, and the heap finished.
+fn race_row<B: Builder, R: Abort + Threads + Wait + Sync>(
+    rt: &R,
+    alloc: Global,
+    builder: B,
+    plan: &Plan,
+    row: &Row,
+) {
+    let blank = Blank::new(u64::from(row.case.mutators));
+    let (runs, finished) = raced::<Brand, B, R>(rt, alloc, blank, row.case, builder, plan);
+    expect_row(rt, row, &runs, &finished);
+}
+
+// The plan of one object of 255 data words, which are 0.
+fn zeros(rt: &(impl Abort + Threads + Sync), alloc: Global) -> Plan {
+    let mut words = [0u64; 256];
+    words[0] = Header::new(0, 255, 0).word();
+    plan_of(rt, alloc, heap(alloc, &words, &[0], &[F]))
+}
+
+// All rows on the three objects, whose plan this is.
+fn race_rows<R: Abort + Threads + Wait + Sync>(rt: &R, alloc: Global, plan: &Plan) {
+    for row in &ROWS {
+        race_row(rt, alloc, plan_of(rt, alloc, three(alloc)), plan, row);
+    }
+}
+
+// All rows on the three objects of edition two, whose plan this is.
+fn race_weak_rows<R: Abort + Threads + Wait + Sync>(rt: &R, alloc: Global, plan: &Plan) {
+    for row in &WEAK_ROWS {
+        race_row(rt, alloc, plan_of(rt, alloc, weak(alloc)), plan, row);
+    }
+}
+
+// The row on the object of four pages.
+fn race_side_by_side<R: Abort + Threads + Wait + Sync>(rt: &R, alloc: Global) {
+    let plan = zeros(rt, alloc);
+    let builder = Meeting::new(zeros(rt, alloc));
+    race_row(rt, alloc, builder, &plan, &SIDE_BY_SIDE);
+}
+
+#[test]
+fn replays_and_races_on_three_and_races_side_by_side(rt: HostRuntime) {
+    let alloc = rt.alloc();
+    let plan = plan_of(&rt, alloc, three(alloc));
+    replay_rows(&rt, alloc, &plan);
+    race_rows(&rt, alloc, &plan);
+    race_side_by_side(&rt, alloc);
+    let plan = plan_of(&rt, alloc, weak(alloc));
+    replay_weak_rows(&rt, alloc, &plan);
+    race_weak_rows(&rt, alloc, &plan);
+}

@@ -1,0 +1,64 @@
+//! Texts that are replayed or raced on flipped heaps, which then are finished and judged.
+ghost use Rattle.std.specs.Prelude.{◌≡◌};
+
+use crate::flipped::{Case, flipped, read_for, root_count};
+use crate::judged::finish_lawfully;
+use comp_mutator::finishing::Finished;
+use trace_race::race::Raced;
+use trace_race::race::Run;
+use trace_race::race::race;
+use trace_replay::replay::Stopped;
+use trace_replay::texts::replay_text;
+use page_plan::builder::Builder;
+use page_plan::plan::Plan;
+use std::alloc::Global;
+use std::process::Abort;
+use std::sync::Wait;
+use std::sync::ledger::{Blank, Ledger};
+use std::thread::Threads;
+use trace_steps::shown::Shown;
+
+/// What a text shows by one thread on the heap of this builder, and the finished heap, which is lawful for this plan.
+pub fn replayed<L: Ledger>(
+    rt: &impl Abort,
+    alloc: Global,
+    blank: Blank,
+    case: Case,
+    builder: Plan,
+    plan: &Plan,
+) -> (Result<Vec<Shown>, Stopped>, Finished)
+    requires name { blank.name ≡ L.name }
+    requires parts { blank.parts ≡ L.parts }
+    requires count { blank.parts ≡ case.mutators }
+{
+    let n = case.mutators;
+    let (space, mut mutators) = flipped::<L, Plan>(rt, alloc, blank, builder, case);
+    let roots = root_count(rt, &space);
+    let run = replay_text(alloc, case.text, n, roots, &space, &mut mutators);
+    let finished = finish_lawfully(rt, alloc, case, plan, space, mutators);
+    (run, finished)
+}
+
+/// What the lines of a text show in threads of their own on the heap of this builder, and the finished heap, which is lawful for this plan.
+pub fn raced<L: Ledger + Send + Sync, B: Builder, R: Abort + Threads + Wait + Sync>(
+    rt: &R,
+    alloc: Global,
+    blank: Blank,
+    case: Case,
+    builder: B,
+    plan: &Plan,
+) -> (Vec<Run>, Finished)
+    requires name { blank.name ≡ L.name }
+    requires parts { blank.parts ≡ L.parts }
+    requires count { blank.parts ≡ case.mutators }
+{
+    let (space, mutators) = flipped::<L, B>(rt, alloc, blank, builder, case);
+    let trace = read_for(rt, alloc, &space, case);
+    match race(alloc, rt, &trace, &space, mutators) {
+        Ok(Raced { mutators, runs }) => {
+            let finished = finish_lawfully(rt, alloc, case, plan, space, mutators);
+            (runs, finished)
+        }
+        Err(_not_raced) => rt.panic(case.name),
+    }
+}

@@ -1,0 +1,209 @@
+//! Traces that look random, raced by one mutator, just as objects kept plainly have it, and by several, and the history that they leave.
+use crate::drawn::Drawn;
+use crate::expected::{expect_plan, expect_so};
+use crate::finished::{expect_pages, take_history};
+use crate::ran::raced;
+use crate::random_traces::case_of;
+use call_refusals::refusal::Refusal;
+use comp_journal::entry::Entry;
+use comp_mutator::finishing::Finished;
+use trace_race::race::Run;
+use heap_layout::kind::Kind;
+use page_plan::plan::Plan;
+use plain_objects::objects::Objects;
+use plain_objects::two_live::{opening, two_live};
+use std::alloc::Global;
+use std::marker::Brand;
+use std::process::Abort;
+use std::sync::Wait;
+use std::sync::ledger::Blank;
+use std::thread::Threads;
+use trace_text::line::{Action, Line};
+
+// Why a line can be refused that waits and has memory.
+const STOPS: [Refusal; 5] = [
+    Refusal::Null,
+    Refusal::NoSuchField,
+    Refusal::ObjectTooLarge,
+    Refusal::OutOfPages,
+    Refusal::NotInEdition,
+];
+
+/// The data words of the two live objects, and those of a new object.
+const FIRST_VALUES: [u64; 4] = [10, 30, 31, 0];
+
+// A mutator's number and run, and what all mutators wrote.
+#[derive(Clone, Copy)]
+struct Deeds<'a> {
+    mutator: u8,
+    run: &'a Run,
+    objects: &'a Objects,
+}
+
+// What a line writes: of a reference or a weak word it is not told which. Of an object that its edition has not, none is told.
+fn write_of(objects: &Objects, action: Action) -> Option<(Kind, u64)> {
+    match action {
+        Action::Store { weak: false, .. } => Some((Kind::Reference, 0)),
+        Action::Store { .. } => Some((Kind::Weak, 0)),
+        Action::Put { value, .. } => Some((Kind::Data, value)),
+        Action::New {
+            refs,
+            weak,
+            data_words,
+            tag,
+            ..
+        } => {
+            let header = objects.header(refs, weak, data_words, tag).ok()?;
+            Some((Kind::Header, header.word()))
+        }
+        _ => None,
+    }
+}
+
+// An entry, of which it is not told to which object a reference or a weak word leads.
+fn told(entry: Entry) -> (Kind, u64) {
+    match entry.kind {
+        Kind::Reference => (Kind::Reference, 0),
+        Kind::Weak => (Kind::Weak, 0),
+        kind => (kind, entry.value),
+    }
+}
+
+// What a mutator wrote when it had written `count` times.
+fn write_at(objects: &Objects, mutator: u8, count: usize) -> Option<(Kind, u64)> {
+    let mut left = count;
+    for written in &objects.written {
+        if written.entry.writer == mutator {
+            if left == 0 {
+                return Some(told(written.entry));
+            }
+            left = left.wrapping_sub(1);
+        }
+    }
+    None
+}
+
+// The value was there at the beginning, or was written.
+fn is_known(objects: &Objects, value: u64) -> bool {
+    let mut known = FIRST_VALUES.contains(&value);
+    for written in &objects.written {
+        let entry = written.entry;
+        known = known || (entry.kind == Kind::Data && entry.value == value);
+    }
+    known
+}
+
+// What line `number` shows or writes is what its mutator did next, behind so many values that it showed and so many writes. A value was there or was written.
+fn is_next(
+    deeds: Deeds,
+    shown: &mut usize,
+    written: &mut usize,
+    number: u64,
+    action: Action,
+) -> bool {
+    if let Action::Get { .. } = action {
+        let count = *shown;
+        *shown = count.wrapping_add(1);
+        return match deeds.run.shown.get(count) {
+            Some(shown) => shown.line == number && is_known(deeds.objects, shown.value),
+            None => false,
+        };
+    }
+    let write = write_of(deeds.objects, action);
+    if write.is_none() {
+        return true;
+    }
+    let count = *written;
+    *written = count.wrapping_add(1);
+    write_at(deeds.objects, deeds.mutator, count) == write
+}
+
+// What a mutator showed and wrote is just what the lines say that it ran, in their order: its own, before the one that was refused, if any.
+fn is_told(lines: &[Line], deeds: Deeds) -> bool {
+    let end = match deeds.run.fault {
+        Some(stop) => stop.line,
+        None => u64::MAX,
+    };
+    let mut shown = 0;
+    let mut written = 0;
+    let mut same = true;
+    for (at, line) in lines.iter().enumerate() {
+        let number = (at as u64).wrapping_add(1);
+        if line.mutator == deeds.mutator && number < end {
+            same = is_next(deeds, &mut shown, &mut written, number, line.action) && same;
+        }
+    }
+    same && deeds.run.shown.len() == shown
+        && write_at(deeds.objects, deeds.mutator, written).is_none()
+}
+
+// What a mutator did is what its lines say. A refused line is its own, and the refusal is one that a line can have which waits and has memory.
+fn is_run(lines: &[Line], deeds: Deeds) -> bool {
+    if let Some(stop) = deeds.run.fault {
+        let at = stop.line.wrapping_sub(1) as usize;
+        let is_own = match lines.get(at) {
+            Some(line) => line.mutator == deeds.mutator && STOPS.contains(&stop.refusal),
+            None => false,
+        };
+        if !is_own {
+            return false;
+        }
+    }
+    is_told(lines, deeds)
+}
+
+// What each mutator wrote and showed is what its lines say.
+fn expect_runs(rt: &impl Abort, drawn: &Drawn, runs: &[Run], objects: &Objects) {
+    for (k, run) in runs.iter().enumerate() {
+        let mutator = (k % 256) as u8;
+        let deeds = Deeds {
+            mutator,
+            run,
+            objects,
+        };
+        expect_so(rt, &drawn.name, is_run(&drawn.lines, deeds), k as u64);
+    }
+}
+
+// A mutator that is alone showed the values of the plain run, and stopped where that did.
+fn expect_alone(rt: &impl Abort, drawn: &Drawn, runs: &[Run]) {
+    let run = runs.first().expect(rt, &drawn.name);
+    let same = run.shown.as_slice() == drawn.run.shown.as_slice() && run.fault == drawn.stop;
+    expect_so(rt, &drawn.name, same, 0);
+}
+
+// The finished heap has one history, which is what `n` mutators ran; of one that is alone it is the plain run.
+fn expect_raced(
+    rt: &impl Abort,
+    alloc: Global,
+    drawn: &Drawn,
+    n: u8,
+    runs: &[Run],
+    finished: &Finished,
+) {
+    let count = runs.len();
+    expect_so(rt, &drawn.name, count == usize::from(n), count as u64);
+    if n == 1 {
+        expect_alone(rt, drawn, runs);
+        expect_pages(rt, alloc, &drawn.name, finished, &drawn.run.objects);
+    }
+    let opened = opening(alloc, drawn.run.objects.edition, usize::from(n));
+    let mut objects = opened.expect(rt, "the two live objects");
+    take_history(rt, alloc, &drawn.name, finished, &mut objects);
+    expect_runs(rt, drawn, runs, &objects);
+}
+
+/// The trace, raced by `n` mutators, and the finished heap.
+pub fn race_drawn<R: Abort + Threads + Wait + Sync>(
+    rt: &R,
+    alloc: Global,
+    plan: &Plan,
+    n: u8,
+    drawn: &Drawn,
+) {
+    let case = case_of(drawn, n);
+    let blank = Blank::new(u64::from(case.mutators));
+    let builder = expect_plan(rt, two_live(alloc, rt, drawn.run.objects.edition));
+    let (runs, finished) = raced::<Brand, Plan, R>(rt, alloc, blank, case, builder, plan);
+    expect_raced(rt, alloc, drawn, n, &runs, &finished);
+}

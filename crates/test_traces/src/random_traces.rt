@@ -1,0 +1,128 @@
+//! A thousand traces of each edition that look random, replayed by one thread: just as objects kept plainly have it. Such traces are raced as well.
+use crate::drawn::{Drawn, draw_trace};
+use crate::expected::expect_plan;
+use crate::finished::expect_pages;
+use crate::flipped::Case;
+use crate::ran::replayed;
+use crate::random_races::race_drawn;
+use crate::replays::expect_replay;
+use crate::texts::expect_lines;
+use comp_mutator::finishing::Finished;
+use trace_replay::replay::Stopped;
+use heap_layout::edition::Edition;
+use page_plan::plan::Plan;
+use plain_objects::two_live::two_live;
+use std::alloc::Global;
+use std::marker::Brand;
+use std::process::Abort;
+use std::sync::Wait;
+use std::sync::ledger::Blank;
+use std::thread::Threads;
+use trace_steps::shown::Shown;
+use trace_text::fault::TraceFault;
+
+// Whether a trace is raced, or else replayed by one thread.
+#[derive(Clone, Copy)]
+enum Way {
+    Replayed,
+    Raced,
+}
+
+// A number of mutators, how many traces of theirs are drawn in each edition, and what is done with each.
+struct Draws(u8, u64, Way);
+
+static DRAWS: [Draws; 7] = [
+    Draws(1, 250, Way::Replayed),
+    Draws(2, 250, Way::Replayed),
+    Draws(3, 250, Way::Replayed),
+    Draws(4, 250, Way::Replayed),
+    Draws(1, 1_000, Way::Raced),
+    Draws(2, 100, Way::Raced),
+    Draws(4, 100, Way::Raced),
+];
+
+/// The case of a trace for `n` mutators.
+pub fn case_of(drawn: &Drawn, n: u8) -> Case<'_> {
+    Case {
+        name: &drawn.name,
+        mutators: n,
+        fresh_pages: 6,
+        text: drawn.text.as_bytes(),
+    }
+}
+
+// The values, the fault and the pages are those of the plain run.
+fn expect_drawn(
+    rt: &impl Abort,
+    alloc: Global,
+    drawn: &Drawn,
+    run: &Result<Vec<Shown>, Stopped>,
+    finished: &Finished,
+) {
+    let fault = drawn.stop.map(TraceFault::from);
+    expect_replay(rt, &drawn.name, run, &drawn.run.shown, fault);
+    expect_pages(rt, alloc, &drawn.name, finished, &drawn.run.objects);
+}
+
+// The trace, replayed by one thread, and the finished heap.
+fn replay_drawn(
+    rt: &(impl Abort + Threads + Sync),
+    alloc: Global,
+    plan: &Plan,
+    n: u8,
+    drawn: &Drawn,
+) {
+    let case = case_of(drawn, n);
+    let blank = Blank::new(u64::from(case.mutators));
+    let builder = expect_plan(rt, two_live(alloc, rt, drawn.run.objects.edition));
+    let (run, finished) = replayed::<Brand>(rt, alloc, blank, case, builder, plan);
+    expect_drawn(rt, alloc, drawn, &run, &finished);
+}
+
+// The trace, replayed or raced by `n` mutators. Its text, which is read for the three roots of the two live objects, has its lines.
+fn run_drawn<R: Abort + Threads + Wait + Sync>(
+    rt: &R,
+    alloc: Global,
+    plan: &Plan,
+    n: u8,
+    drawn: &Drawn,
+    way: Way,
+) {
+    let text = drawn.text.as_bytes();
+    expect_lines(rt, alloc, &drawn.name, text, n, 3, &drawn.lines);
+    match way {
+        Way::Replayed => replay_drawn(rt, alloc, plan, n, drawn),
+        Way::Raced => race_drawn(rt, alloc, plan, n, drawn),
+    }
+}
+
+// The trace of this seed.
+fn run_seed<R: Abort + Threads + Wait + Sync>(
+    rt: &R,
+    alloc: Global,
+    plan: &Plan,
+    edition: Edition,
+    n: u8,
+    seed: u64,
+    way: Way,
+) {
+    let drawn = draw_trace(rt, alloc, edition, n, seed);
+    run_drawn(rt, alloc, plan, n, &drawn, way);
+}
+
+// All traces on the two live objects of an edition.
+fn run_all<R: Abort + Threads + Wait + Sync>(rt: &R, alloc: Global, edition: Edition) {
+    let plan = expect_plan(rt, two_live(alloc, rt, edition));
+    for Draws(n, count, way) in &DRAWS {
+        for seed in 0..*count {
+            run_seed(rt, alloc, &plan, edition, *n, seed, *way);
+        }
+    }
+}
+
+#[test]
+fn replays_as_plain_objects_do_and_races_to_one_history(rt: HostRuntime) {
+    let alloc = rt.alloc();
+    run_all(&rt, alloc, Edition::One);
+    run_all(&rt, alloc, Edition::Two);
+}

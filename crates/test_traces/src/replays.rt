@@ -1,0 +1,324 @@
+//! Replays: what lines show, write and refuse, one after the other. Each row is a text that is replayed on the three objects, and the finished heap.
+use crate::expected::{expect_so, plan_of};
+use crate::flipped::Case;
+use crate::ran::replayed;
+use call_refusals::refusal::Refusal;
+use comp_journal::entry::Entry;
+use comp_mutator::finishing::Finished;
+use trace_replay::replay::Stopped;
+use heap_layout::kind::Kind;
+use page_plan::plan::Plan;
+use std::alloc::Global;
+use std::marker::Brand;
+use std::process::Abort;
+use std::sync::ledger::Blank;
+use std::thread::Threads;
+use trace_steps::shown::Shown;
+use trace_text::fault::TraceFault;
+use worked_heaps::heaps::{three, weak};
+
+// The only entry of a page, which mutator 0 wrote: the page's number, and the entry's stamp, kind, offset and value.
+struct Only(usize, u64, Kind, u8, u64);
+
+// A text, and what is to come of it.
+struct Row {
+    case: Case<'static>,
+    shown: &'static [Shown],
+    fault: Option<TraceFault>,
+    live_words: u64,
+    entries: &'static [Only],
+}
+
+static ROWS: [Row; 11] = [
+    Row {
+        case: Case {
+            name: "shows what another mutator wrote, and leaves it to the words that slid",
+            mutators: 2,
+            fresh_pages: 2,
+            text: b"0 root 0 0\n0 load 1 0 0\n0 put 1 0 7\n1 root 0 0\n1 load 1 0 0\n1 get 1 0\n",
+        },
+        shown: &[Shown { line: 6, value: 7 }],
+        fault: None,
+        live_words: 4,
+        entries: &[Only(0, 0, Kind::Data, 1, 7)],
+    },
+    Row {
+        case: Case {
+            name: "shows what another mutator wrote, without fresh pages",
+            mutators: 2,
+            fresh_pages: 0,
+            text: b"0 root 0 0\n0 load 1 0 0\n0 put 1 0 7\n1 root 0 0\n1 load 1 0 0\n1 get 1 0\n",
+        },
+        shown: &[Shown { line: 6, value: 7 }],
+        fault: None,
+        live_words: 4,
+        entries: &[],
+    },
+    Row {
+        case: Case {
+            name: "writes an object and then a reference to it",
+            mutators: 1,
+            fresh_pages: 2,
+            text: b"0 root 0 0\n0 new 1 0 0 0\n0 store 0 0 1\n",
+        },
+        shown: &[],
+        fault: None,
+        live_words: 5,
+        entries: &[
+            Only(1, 0, Kind::Header, 0, 0),
+            Only(0, 1, Kind::Reference, 3, 8_589_934_656),
+        ],
+    },
+    Row {
+        case: Case {
+            name: "shows nothing without lines",
+            mutators: 2,
+            fresh_pages: 0,
+            text: b"",
+        },
+        shown: &[],
+        fault: None,
+        live_words: 4,
+        entries: &[],
+    },
+    Row {
+        case: Case {
+            name: "shows what was there and what was written",
+            mutators: 2,
+            fresh_pages: 0,
+            text: b"1 root 15 0\n1 load 3 15 0\n0 root 2 0\n0 load 4 2 0\n1 get 3 0\n0 put 4 0 9\n1 get 3 0\n",
+        },
+        shown: &[Shown { line: 5, value: 11 }, Shown { line: 7, value: 9 }],
+        fault: None,
+        live_words: 4,
+        entries: &[],
+    },
+    Row {
+        case: Case {
+            name: "stops at a null register",
+            mutators: 2,
+            fresh_pages: 0,
+            text: b"0 nil 0\n0 get 0 0\n",
+        },
+        shown: &[],
+        fault: Some(TraceFault::Refused(2, Refusal::Null)),
+        live_words: 4,
+        entries: &[],
+    },
+    Row {
+        case: Case {
+            name: "keeps what was shown before a stop",
+            mutators: 2,
+            fresh_pages: 0,
+            text: b"0 root 0 0\n0 load 1 0 0\n0 get 1 0\n1 get 1 0\n0 get 1 0\n",
+        },
+        shown: &[Shown { line: 3, value: 11 }],
+        fault: Some(TraceFault::Refused(4, Refusal::Null)),
+        live_words: 4,
+        entries: &[],
+    },
+    Row {
+        case: Case {
+            name: "stops at an object that is too large",
+            mutators: 2,
+            fresh_pages: 0,
+            text: b"0 new 0 65535 65535 4294967295\n",
+        },
+        shown: &[],
+        fault: Some(TraceFault::Refused(1, Refusal::ObjectTooLarge)),
+        live_words: 4,
+        entries: &[],
+    },
+    Row {
+        case: Case {
+            name: "stops at an object with a weak word, which edition one has not",
+            mutators: 1,
+            fresh_pages: 0,
+            text: b"0 wnew 0 65535 1 65535 4294967295\n",
+        },
+        shown: &[],
+        fault: Some(TraceFault::Refused(1, Refusal::NotInEdition)),
+        live_words: 4,
+        entries: &[],
+    },
+    Row {
+        case: Case {
+            name: "stops at a weak field, which no object of edition one has",
+            mutators: 1,
+            fresh_pages: 1,
+            text: b"0 root 0 0\n0 load 1 0 0\n0 wnew 2 0 0 1 65536\n0 get 2 0\n0 wstore 1 0 2\n0 get 1 0\n",
+        },
+        shown: &[Shown { line: 4, value: 0 }],
+        fault: Some(TraceFault::Refused(5, Refusal::NoSuchField)),
+        live_words: 6,
+        entries: &[Only(1, 0, Kind::Header, 0, 281_474_976_776_192)],
+    },
+    Row {
+        case: Case {
+            name: "stops at a text that is none",
+            mutators: 2,
+            fresh_pages: 0,
+            text: b"0 nil 0\n0 root 0 1\n",
+        },
+        shown: &[],
+        fault: Some(TraceFault::NoSuchRoot(2)),
+        live_words: 4,
+        entries: &[],
+    },
+];
+
+// On the three objects of edition two.
+static WEAK_ROWS: [Row; 4] = [
+    Row {
+        case: Case {
+            name: "writes a weak word that leads to a new object, and reads it",
+            mutators: 1,
+            fresh_pages: 1,
+            text: WEAK_TEXT,
+        },
+        shown: &[Shown { line: 6, value: 9 }],
+        fault: None,
+        live_words: 8,
+        entries: &[
+            Only(1, 0, Kind::Header, 0, 1_407_379_178_520_576),
+            Only(0, 1, Kind::Weak, 1, 8_589_934_656),
+        ],
+    },
+    Row {
+        case: Case {
+            name: "reads a weak word that is null since its object did not slide",
+            mutators: 2,
+            fresh_pages: 0,
+            text: b"1 root 0 0\n1 load 1 0 0\n1 wload 2 1 1\n1 wload 3 1 0\n1 load 4 2 0\n1 get 4 0\n1 get 3 0\n",
+        },
+        shown: &[Shown { line: 6, value: 9 }],
+        fault: Some(TraceFault::Refused(7, Refusal::Null)),
+        live_words: 6,
+        entries: &[],
+    },
+    Row {
+        case: Case {
+            name: "stops at a weak field that is not there",
+            mutators: 1,
+            fresh_pages: 0,
+            text: b"0 root 0 0\n0 load 1 0 0\n0 get 1 0\n0 wload 2 1 2\n0 get 1 0\n",
+        },
+        shown: &[Shown { line: 3, value: 9 }],
+        fault: Some(TraceFault::Refused(4, Refusal::NoSuchField)),
+        live_words: 6,
+        entries: &[],
+    },
+    Row {
+        case: Case {
+            name: "stops at a tag of 17 bits",
+            mutators: 1,
+            fresh_pages: 0,
+            text: b"0 wnew 0 65535 65535 65535 65536\n",
+        },
+        shown: &[],
+        fault: Some(TraceFault::Refused(1, Refusal::NotInEdition)),
+        live_words: 6,
+        entries: &[],
+    },
+];
+
+/// An object is made that has a weak word, a weak word of the first object is to lead there, it is read, and so is the data word behind it.
+pub const WEAK_TEXT: &[u8] =
+    b"0 root 0 0\n0 load 1 0 0\n0 wnew 2 0 1 0 5\n0 wstore 1 0 2\n0 wload 3 1 0\n0 get 1 0\n";
+
+// Behind its text there are 1,025 lines `0 put 1 0 7`.
+static FULL: Row = Row {
+    case: Case {
+        name: "stops at a full journal",
+        mutators: 2,
+        fresh_pages: 0,
+        text: b"0 root 0 0\n0 load 1 0 0\n",
+    },
+    shown: &[],
+    fault: Some(TraceFault::Refused(1_027, Refusal::JournalFull(0))),
+    live_words: 4,
+    entries: &[],
+};
+
+/// The replay showed this, and stopped for this cause, if any.
+pub fn expect_replay(
+    rt: &impl Abort,
+    name: &str,
+    run: &Result<Vec<Shown>, Stopped>,
+    shown: &[Shown],
+    fault: Option<TraceFault>,
+) {
+    let (all, cause) = match run {
+        Ok(all) => (all, None),
+        Err(stopped) => (&stopped.shown, Some(stopped.fault)),
+    };
+    expect_so(rt, name, all.as_slice() == shown && cause == fault, 0);
+}
+
+// The page has just this entry.
+fn has_only(finished: &Finished, only: &Only) -> bool {
+    let Only(page, stamp, kind, offset, value) = *only;
+    let entry = Entry {
+        stamp,
+        writer: 0,
+        kind,
+        offset,
+        value,
+    };
+    match finished.pages().get(page) {
+        Some(Some(page)) => page.journal() == [entry].as_slice(),
+        _ => false,
+    }
+}
+
+// The finished heap has so many words, and these entries.
+fn expect_finished(rt: &impl Abort, row: &Row, finished: &Finished) {
+    let mut same = finished.live_words() == row.live_words;
+    for only in row.entries {
+        same = same && has_only(finished, only);
+    }
+    expect_so(rt, row.case.name, same, finished.live_words());
+}
+
+// This text of a row is replayed on the heap of this builder, which this plan compacted, and the heap finished.
+fn replay_row(rt: &impl Abort, alloc: Global, builder: Plan, plan: &Plan, row: &Row, text: &[u8]) {
+    let case = Case { text, ..row.case };
+    let blank = Blank::new(u64::from(row.case.mutators));
+    let (run, finished) = replayed::<Brand>(rt, alloc, blank, case, builder, plan);
+    expect_replay(rt, row.case.name, &run, row.shown, row.fault);
+    expect_finished(rt, row, &finished);
+}
+
+// So many writes into one page that its journal is full.
+fn replay_full(rt: &(impl Abort + Threads + Sync), alloc: Global, plan: &Plan) {
+    let mut text = FULL.case.text.to_vec(alloc).expect(rt, "a text");
+    for _ in 0..1_025 {
+        text.extend_from_slice(b"0 put 1 0 7\n")
+            .expect(rt, "a line");
+    }
+    replay_row(
+        rt,
+        alloc,
+        plan_of(rt, alloc, three(alloc)),
+        plan,
+        &FULL,
+        &text,
+    );
+}
+
+/// All rows on the three objects, whose plan this is.
+pub fn replay_rows(rt: &(impl Abort + Threads + Sync), alloc: Global, plan: &Plan) {
+    for row in &ROWS {
+        let builder = plan_of(rt, alloc, three(alloc));
+        replay_row(rt, alloc, builder, plan, row, row.case.text);
+    }
+    replay_full(rt, alloc, plan);
+}
+
+/// All rows on the three objects of edition two, whose plan this is.
+pub fn replay_weak_rows(rt: &(impl Abort + Threads + Sync), alloc: Global, plan: &Plan) {
+    for row in &WEAK_ROWS {
+        let builder = plan_of(rt, alloc, weak(alloc));
+        replay_row(rt, alloc, builder, plan, row, row.case.text);
+    }
+}

@@ -1,0 +1,25 @@
+use Rattle.std.proofs.Common.{subst, ◌∙◌}
+use Rattle.heap_layout.specs.Heap.{Heap}
+use Rattle.trace_text.specs.Traces.{lines_of}
+use Rattle.trace_replay.specs.Heaps.{HasRunOver}
+use Rattle.trace_cycles.proofs.LastRuns.{last_run}
+use Rattle.trace_cycles.proofs.cycle.run_cycle.Goals as goal
+
+pub returns-in-Ok-run_over-clause-run : goal.returns-in-Ok-run_over-clause-run
+returns-in-Ok-run_over-clause-run g c =
+    let m = c.args.mutators in
+    let fresh = c.args.fresh in
+    let lines = lines_of c.args.trace.now in
+    let run = c.in-Ok-run_over.run' in
+    last_run m fresh lines run.shown.items c.args.heap run.finished c.requires.fresh
+    (subst (λ (heap : Heap). HasRunOver m fresh lines run.shown.items heap run.finished) (c.in-Ok-clone.ensures.cases ∙ c.in-Ok-new.ensures.ok ∙ c.in-Ok.ensures) c.in-Ok-run_over.ensures.run)
+
+pub returns-in-Ok-run_over-clause-end : goal.returns-in-Ok-run_over-clause-end
+returns-in-Ok-run_over-clause-end g c =
+    let m = c.args.mutators in
+    let fresh = c.args.fresh in
+    let lines = lines_of c.args.trace.now in
+    let run = c.in-Ok-run_over.run' in
+    let last = last_run m fresh lines run.shown.items c.in-Ok-new.plan.value run.finished c.requires.fresh
+    (subst (λ (heap : Heap). HasRunOver m fresh lines run.shown.items heap run.finished) c.in-Ok-clone.ensures.cases c.in-Ok-run_over.ensures.run) in
+    last.end

@@ -1,0 +1,180 @@
+//! Several cycles, over each of which a trace is run.
+ghost use Rattle.std.specs.Prelude.{◌≡◌, ℕ, ◌+◌, ◌^◌, ◌<◌, ◌≤◌, ◌++◌, All, IfErr, IfOk, List, length, map, vec_capacity};
+ghost use Rattle.comp_cycles.specs.Ends.{IsEndOf};
+ghost use Rattle.comp_cycles.specs.Finishes.{IsOfFlip};
+ghost use Rattle.heap_layout.specs.Heap.{Heap};
+ghost use Rattle.trace_text.specs.declared.line.Line.{Line};
+ghost use Rattle.trace_text.specs.Traces.{lines_of};
+ghost use Rattle.trace_cycles.specs.CycleRuns.{HaveRun, IsCycleHaltOf, IsNextRun, IsParsedFor};
+ghost use Rattle.trace_cycles.specs.Stops.{marks_and_lines, some_values, values_of, IsNotNext, IsNotRunOver, StopsCycles};
+
+use crate::cycle::{CycleHalt, Ran, run_cycle};
+use crate::fault::CycleFault;
+use comp_cycles::finished::Finished;
+use comp_cycles::laws::{one_life, one_writing};
+use trace_replay::running::Halt;
+use heap_layout::heap::MarkedHeap;
+use page_plan::plan::Plan;
+use std::alloc::Global;
+use std::sync::Arc;
+use std::thread::Threads;
+use trace_steps::shown::Shown;
+use trace_text::trace::Trace;
+
+/// What is left of cycles over which traces were run.
+#[derive(Drop)]
+pub struct CyclesRun {
+    /// For each cycle the values that its `get` lines showed, in the order of the lines.
+    pub shown: Vec<Vec<Shown>>,
+    /// The heap at the end of the last cycle.
+    pub finished: Finished,
+}
+
+/// Why cycles were not run to their end.
+#[derive(Drop)]
+pub struct CyclesStopped {
+    /// The values of each cycle that came to its end. Where a cycle was begun but has no end, the values of its lines so far follow as one list more.
+    pub shown: Vec<Vec<Shown>>,
+    /// The fault, with the number of the cycle, from 0.
+    pub fault: CycleFault,
+}
+
+/// Why a cycle was not run to its end, and what it had shown where its lines had begun.
+#[derive(Drop)]
+struct NotRun {
+    shown: Option<Vec<Shown>>,
+    fault: CycleFault,
+}
+
+/// Why cycle `c` was not run to its end.
+fn not_run(c: u64, halt: CycleHalt) -> NotRun
+    ensures { (mutators fresh : ℕ) (lines : List Line) (heap : Heap) → IsCycleHaltOf mutators fresh lines heap halt → IsNotRunOver mutators fresh lines heap c result.shown result.fault }
+{
+    match halt {
+        CycleHalt::Halted(Halt::Cut(stopped)) => NotRun {
+            shown: Some(stopped.shown),
+            fault: CycleFault::Stopped(c, stopped.fault),
+        },
+        CycleHalt::Halted(Halt::Unfinished(shown)) => NotRun {
+            shown: Some(shown),
+            fault: CycleFault::OutOfMemory(c),
+        },
+        CycleHalt::Halted(Halt::Unflipped) | CycleHalt::Unplanned => NotRun {
+            shown: None,
+            fault: CycleFault::OutOfMemory(c),
+        },
+    }
+}
+
+/// Runs the cycle after cycle `c`: makes with these marks the heap that follows from what is left of cycle `c`, and runs the trace over it.
+fn run_next(
+    alloc: Global,
+    rt: &(impl Threads + Sync),
+    plan: Arc<Plan>,
+    finished: Finished,
+    marks: &[u32],
+    trace: &Trace,
+    mutators: u8,
+    fresh: u32,
+    c: u64,
+) -> Result<Ran, NotRun>
+    requires mutators { (1 ≤ mutators) × (mutators ≤ 64) }
+    requires fresh { fresh ≤ 4096 }
+    requires count { c < 2 ^ 63 }
+    requires end { IsEndOf plan.value finished }
+    requires parsed { IsParsedFor mutators (length plan.value.roots) trace.now }
+    ensures next { IfOk result (λ next. IsNextRun mutators fresh plan.value finished marks.now (lines_of trace.now) next.plan.value next.shown.items next.finished) }
+    ensures flipped { IfOk result (λ next. IsOfFlip mutators fresh next.finished) }
+    ensures refused { IfErr result (λ not. IsNotNext mutators fresh plan.value finished marks.now (lines_of trace.now) c not.shown not.fault) }
+{
+    let Ok(marks) = marks.to_vec(alloc) else {
+        return Err(NotRun {
+            shown: None,
+            fault: CycleFault::OutOfMemory(c),
+        });
+    };
+    match finished.next_cycle(alloc, &*plan, marks) {
+        Ok(heap) => match run_cycle(alloc, rt, heap, trace, mutators, fresh) {
+            Ok(ran) => Ok(ran),
+            Err(halt) => Err(not_run(c + 1, halt)),
+        },
+        Err(left) => Err(NotRun {
+            shown: None,
+            fault: CycleFault::NotMarked(c, left.fault),
+        }),
+    }
+}
+
+/// The values that were shown until a cycle was not run to its end, its own at the end of the list. The list has room for one more.
+fn stopped(mut shown: Vec<Vec<Shown>>, not: NotRun) -> CyclesStopped
+    requires { length shown.items < vec_capacity shown }
+    ensures shown { values_of result.shown.items ≡ values_of shown.items ++ some_values not.shown }
+    ensures fault { result.fault ≡ not.fault }
+{
+    let NotRun { shown: last, fault } = not;
+    if let Some(values) = last {
+        shown.push_reserved(values);
+    }
+    CyclesStopped { shown, fault }
+}
+
+/// Runs cycles, one after the other; one thread runs their lines. The first cycle runs the trace `first` over the heap. Each pair of `rest` is one cycle more: its marks
+/// make the heap that follows, as by `Finished::next_cycle`, and its trace runs over that heap. Each cycle is flipped for this many mutators, 1 to 64, and fresh pages,
+/// at most 4,096. Each trace was parsed for these mutators and for as many roots as the heap has.
+///
+/// An Err names a cycle `c`, counted from 0: `Stopped(c, ..)` where its trace stops, `NotMarked(c, ..)` where the marks handed in after it are refused, and
+/// `OutOfMemory(c)` where a growth is refused otherwise. It has the values that were shown until then; the heap is dropped.
+pub fn replay_cycles(
+    alloc: Global,
+    rt: &(impl Threads + Sync),
+    heap: MarkedHeap,
+    first: &Trace,
+    rest: &[(Vec<u32>, Trace)],
+    mutators: u8,
+    fresh_pages: u32,
+) -> Result<CyclesRun, CyclesStopped>
+    requires mutators { (1 ≤ mutators) × (mutators ≤ 64) }
+    requires fresh { fresh_pages ≤ 4096 }
+    requires first { IsParsedFor mutators (length heap.roots) first.now }
+    requires rest { All (λ further. IsParsedFor mutators (length heap.roots) further.1) rest.now }
+    ensures ran { IfOk result (λ run. HaveRun mutators fresh_pages heap (lines_of first.now) (map marks_and_lines rest.now) (values_of run.shown.items) run.finished) }
+    ensures flipped { IfOk result (λ run. IsOfFlip mutators fresh_pages run.finished) }
+    ensures stopped { IfErr result (λ stopped. StopsCycles mutators fresh_pages heap (lines_of first.now) (map marks_and_lines rest.now) (values_of stopped.shown.items) stopped.fault) }
+{
+    one_life();
+    one_writing();
+    let Ok(mut shown) = Vec::with_capacity(alloc, rest.len() + 1) else {
+        return Err(CyclesStopped {
+            shown: Vec::new(alloc),
+            fault: CycleFault::OutOfMemory(0),
+        });
+    };
+    let (mut plan, mut finished) = match run_cycle(alloc, rt, heap, first, mutators, fresh_pages) {
+        Ok(ran) => {
+            shown.push_reserved(ran.shown);
+            (ran.plan, ran.finished)
+        }
+        Err(halt) => return Err(stopped(shown, not_run(0, halt))),
+    };
+    for (c, further) in rest.iter().enumerate() {
+        match run_next(
+            alloc,
+            rt,
+            plan,
+            finished,
+            &further.0,
+            &further.1,
+            mutators,
+            fresh_pages,
+            c as u64,
+        ) {
+            Ok(ran) => {
+                shown.push_reserved(ran.shown);
+                plan = ran.plan;
+                finished = ran.finished;
+            }
+            Err(not) => return Err(stopped(shown, not)),
+        }
+    }
+    Ok(CyclesRun { shown, finished })
+}

@@ -1,0 +1,129 @@
+-- Lines of one mutator, chained from the last line to the first.
+use Rattle.std.proofs.Common.{◌≡◌, ◌≢◌, ◌⊎◌, ℕ, zero, suc, ◌+◌, ◌<◌, ◌≤◌, Bool, true, false, cond, List, [], ◌∷◌, length, drop, get_or, set, eqb, eq-eqb, ne_eqb, refl, sym, ap, subst, ◌∙◌, arith, inl, inr, get_or-set_same, get_or-set_other, length-set}
+use mathlib.Core.Option.{some, some-injective}
+use lib.ListN.{get_elem?}
+use Rattle.std.proofs.lemmas.Bool.{cases_eq}
+use Rattle.cell_steps.proofs.Sums.{is_inside}
+use Rattle.trace_race.specs.Races.{numbered, own_lines}
+use Rattle.trace_race.specs.Chains.{IsNextOwn}
+use Rattle.trace_text.specs.declared.line.Line.{Line}
+
+-- What is known of the lines from one place on.
+pub record ChainedFrom (lines : List Line) (place : ℕ) (firsts counts nexts : List ℕ) : Type 0 where
+  pub within : place ≤ length lines
+  pub numbers : (length firsts ≡ 256) × (length counts ≡ 256)
+  pub long : length nexts ≡ length lines
+  pub first : (number : ℕ) → number < 256 → IsNextOwn lines number place (get_or firsts number 0)
+  pub count : (number : ℕ) → number < 256 → get_or counts number 0 ≡ length (own_lines number (numbered (place + 1) (drop place lines)))
+  pub next : (i : ℕ) (line : Line) → place ≤ i → get_elem? lines i ≡ some line → IsNextOwn lines line.mutator (i + 1) (get_or nexts i 0)
+
+-- behind the last line there is none
+none_behind : (lines : List Line) (number : ℕ) → IsNextOwn lines number (length lines) (length lines)
+none_behind lines number = record {
+  above = omega arith;
+  inside = omega arith;
+  others = λ i line from lt at. absurd (omega (arith, from, lt));
+  own = λ line at. absurd (omega (arith, is_inside lines (length lines) line at));
+}
+
+drop_all : (lines : List Line) → drop (length lines) lines ≡ []
+drop_all [] = refl
+drop_all (x ∷ lines) = drop_all lines
+
+pub chained_none : (lines : List Line) (firsts counts nexts : List ℕ) → (length firsts ≡ 256) × (length counts ≡ 256) → length nexts ≡ length lines → ((i : ℕ) → i < 256 → get_or firsts i 0 ≡ length lines)
+    → ((i : ℕ) → i < 256 → get_or counts i 0 ≡ 0) → ChainedFrom lines (length lines) firsts counts nexts
+chained_none lines firsts counts nexts numbers long all none = record {
+  within = omega arith;
+  numbers = numbers;
+  long = long;
+  first = λ number lt. subst (IsNextOwn lines number (length lines)) (sym (all number lt)) (none_behind lines number);
+  count = λ number lt. none number lt ∙ sym (ap (λ (l : List Line). length (own_lines number (numbered (length lines + 1) l))) (drop_all lines));
+  next = λ i line from at. absurd (omega (arith, from, is_inside lines i line at));
+}
+
+drop_at : (lines : List Line) (k : ℕ) (line : Line) → get_elem? lines k ≡ some line → drop k lines ≡ line ∷ drop (suc k) lines
+drop_at [] k line at = absurd (omega (arith, is_inside [] k line at))
+drop_at (x ∷ lines) zero line at = ap (λ (l : Line). l ∷ lines) (some-injective x line at)
+drop_at (x ∷ lines) (suc k) line at = drop_at lines k line at
+
+-- how many lines a mutator has, with one line more
+count_own : (number n : ℕ) (x : Line) (lines : List Line) → x.mutator ≡ number → length (own_lines number (numbered n (x ∷ lines))) ≡ suc (length (own_lines number (numbered (n + 1) lines)))
+count_own number n x lines e = ap (λ (t : Bool). length (cond t ((n, x) ∷ own_lines number (numbered (n + 1) lines)) (own_lines number (numbered (n + 1) lines)))) (eq-eqb x.mutator number e)
+
+count_other : (number n : ℕ) (x : Line) (lines : List Line) → x.mutator ≢ number → length (own_lines number (numbered n (x ∷ lines))) ≡ length (own_lines number (numbered (n + 1) lines))
+count_other number n x lines ne = ap (λ (t : Bool). length (cond t ((n, x) ∷ own_lines number (numbered (n + 1) lines)) (own_lines number (numbered (n + 1) lines)))) (ne_eqb x.mutator number ne)
+
+-- no mutator has more lines than there are
+pub few_own : (number n : ℕ) (lines : List Line) → length (own_lines number (numbered n lines)) ≤ length lines
+few_own number n [] = omega arith
+few_own number n (x ∷ lines) =
+    let more = few_own number (n + 1) lines in
+    elim (eqb x.mutator number) as (λ (t : Bool). length (cond t ((n, x) ∷ own_lines number (numbered (n + 1) lines)) (own_lines number (numbered (n + 1) lines))) ≤ suc (length lines)) [
+      | true ↦ omega (arith, more)
+      | false ↦ omega (arith, more)
+    ]
+
+module _ (lines : List Line) (place : ℕ) (line : Line) (at : get_elem? lines place ≡ some line) where
+  -- the line itself is the next one of its mutator
+  here : IsNextOwn lines line.mutator place place
+  here = record {
+    above = omega arith;
+    inside = omega (arith, is_inside lines place line at);
+    others = λ i other from lt there. absurd (omega (arith, from, lt));
+    own = λ other there. ap (λ (l : Line). l.mutator) (some-injective other line (sym there ∙ at));
+  }
+
+  -- and is passed by any other
+  passed : (number next : ℕ) → number ≢ line.mutator → IsNextOwn lines number (place + 1) next → IsNextOwn lines number place next
+  passed number next ne h = record {
+    above = omega (arith, h.above);
+    inside = h.inside;
+    others = λ i other from lt there. elim (cases_eq i place) [
+      | inl same ↦ λ e. ne (sym e ∙ ap (λ (l : Line). l.mutator) (some-injective other line (sym there ∙ ap (get_elem? lines) same ∙ at)))
+      | inr apart ↦ h.others i other (omega (arith, from, apart)) lt there
+    ];
+    own = h.own;
+  }
+
+  -- one line more
+  pub chained_more : (firsts counts nexts : List ℕ) → line.mutator < 256 → ChainedFrom lines (place + 1) firsts counts nexts
+      → ChainedFrom lines place (set firsts line.mutator place) (set counts line.mutator (get_or counts line.mutator 0 + 1)) (set nexts place (get_or firsts line.mutator 0))
+  chained_more firsts counts nexts small h =
+      let number = line.mutator in
+      let behind = drop (suc place) lines in
+      let one : suc place ≡ place + 1 = omega arith in
+      let those : drop place lines ≡ line ∷ behind = drop_at lines place line at in
+      let before : (k : ℕ) → k < 256 → get_or counts k 0 ≡ length (own_lines k (numbered (place + 1 + 1) behind)) =
+      λ k lt. h.count k lt ∙ ap (λ (j : ℕ). length (own_lines k (numbered (place + 1 + 1) (drop j lines)))) (sym one) in
+      let all : (k : ℕ) → length (own_lines k (numbered (place + 1) (drop place lines))) ≡ length (own_lines k (numbered (place + 1) (line ∷ behind))) =
+      λ k. ap (λ (l : List Line). length (own_lines k (numbered (place + 1) l))) those in
+      let counted : (k : ℕ) → k < 256 → (k ≡ number) ⊎ (k ≢ number) → get_or (set counts number (get_or counts number 0 + 1)) k 0 ≡ length (own_lines k (numbered (place + 1) (drop place lines))) =
+      λ k lt which. elim which [
+        | inl same ↦
+            let more = count_own k (place + 1) line behind (sym same) in
+            ap (λ (j : ℕ). get_or (set counts number (get_or counts number 0 + 1)) j 0) same ∙ get_or-set_same counts number (get_or counts number 0 + 1) 0 (omega (arith, small, h.numbers.1))
+            ∙ ap (λ (j : ℕ). get_or counts j 0 + 1) (sym same) ∙ (let sum : get_or counts k 0 + 1 ≡ suc (length (own_lines k (numbered (place + 1 + 1) behind))) = omega (arith, before k lt) in sum) ∙ sym more ∙ sym (all k)
+        | inr ne ↦
+            get_or-set_other counts number k (get_or counts number 0 + 1) 0 ne ∙ before k lt ∙ sym (count_other k (place + 1) line behind (λ e. ne (sym e))) ∙ sym (all k)
+      ] in
+      record {
+        within = omega (arith, h.within);
+        numbers = (length-set firsts number place ∙ h.numbers.0, length-set counts number (get_or counts number 0 + 1) ∙ h.numbers.1);
+        long = length-set nexts place (get_or firsts number 0) ∙ h.long;
+        first = λ k lt. elim (cases_eq k number) [
+          | inl same ↦
+              subst (λ (j : ℕ). IsNextOwn lines j place (get_or (set firsts number place) j 0)) (sym same)
+              (subst (IsNextOwn lines number place) (sym (get_or-set_same firsts number place 0 (omega (arith, small, h.numbers.0)))) here)
+          | inr ne ↦ subst (IsNextOwn lines k place) (sym (get_or-set_other firsts number k place 0 ne)) (passed k (get_or firsts k 0) ne (h.first k lt))
+        ];
+        count = λ k lt. counted k lt (cases_eq k number);
+        next = λ i other from there. elim (cases_eq i place) [
+          | inl same ↦
+              let is : other ≡ line = some-injective other line (sym there ∙ ap (get_elem? lines) same ∙ at) in
+              subst (λ (l : Line). IsNextOwn lines l.mutator (i + 1) (get_or (set nexts place (get_or firsts number 0)) i 0)) (sym is)
+              (subst (λ (j : ℕ). IsNextOwn lines number (j + 1) (get_or (set nexts place (get_or firsts number 0)) j 0)) (sym same)
+              (subst (IsNextOwn lines number (place + 1)) (sym (get_or-set_same nexts place (get_or firsts number 0) 0 (omega (arith, h.long, h.within)))) (h.first number small)))
+          | inr apart ↦
+              subst (IsNextOwn lines other.mutator (i + 1)) (sym (get_or-set_other nexts place i (get_or firsts number 0) 0 apart)) (h.next i other (omega (arith, from, apart)) there)
+        ];
+      }

@@ -1,0 +1,136 @@
+-- Runners before and after a race.
+use Rattle.std.proofs.Common.{◌≡◌, ℕ, suc, ◌+◌, ◌≤◌, List, [], ◌∷◌, ◌++◌, map, length, take, drop, get_or, All, None, Vec, vec_capacity, sym, ap, ◌∙◌, ⊎_elim, arith, subst, append_assoc, append-nil, length-append}
+use Rattle.std.proofs.lemmas.List.{length-map}
+use mathlib.Core.Option.{some, some-injective}
+use lib.ListN.{get_elem?}
+use Rattle.page_plan.specs.declared.builder.Builder.{Ghosts}
+use Rattle.cell_steps.specs.Setup.{Setup}
+use Rattle.cell_steps.specs.Lists.{Each}
+use Rattle.cell_steps.proofs.Sums.{is_inside, there_at, take_suc, last_of, read_at}
+use Rattle.page_cells.proofs.Rows.{at_map, at_map_back}
+use Rattle.comp_mutator.specs.Mutators.{pass_of, setup_of, IsMutatorOf}
+use Rattle.comp_mutator.specs.Orders.{number_of_mutator}
+use Rattle.comp_mutator.specs.declared.mutator.Mutator.{Mutator}
+use Rattle.comp_mutator.specs.declared.space.Space.{Space}
+use Rattle.trace_race.specs.Races.{numbered, own_lines, HaveRaced, Ran}
+use Rattle.trace_steps.specs.AllMutators.{AreAll}
+use Rattle.trace_race.specs.Runners.{lines_for, mutator_of, room_in, room_of, run_of, HasRun, HaveRooms, IsBlank, IsReady}
+use Rattle.trace_text.specs.declared.line.Line.{Line}
+use Rattle.trace_race.specs.declared.race.Run.{Run}
+use Rattle.trace_race.specs.declared.runner.Runner.{Runner}
+use Rattle.trace_steps.specs.declared.shown.Shown.{Shown}
+use Rattle.trace_steps.proofs.Elements.{at_or, written_back}
+use Rattle.trace_race.proofs.OwnLines.{ran_number, HasRunFirst}
+
+-- What holds of a runner while it runs the first k lines.
+pub record Running {L : Type 0} {B : Type 0} {g : Ghosts B} (space : Space L B g) (lines : List Line) (k : ℕ) (before runner : Runner L) : Type 0 where
+  pub of : IsMutatorOf space runner.mutator
+  pub fault : runner.fault ≡ None
+  pub room : vec_capacity runner.shown ≡ vec_capacity before.shown
+  pub run : HasRunFirst (setup_of space) (numbered 1 lines) k (pass_of before.mutator) runner.registers runner.shown.items (pass_of runner.mutator)
+
+-- The line at a place, if there is one, is the runner's.
+pub record IsNextLine {L : Type 0} (lines : List Line) (place : ℕ) (runner : Runner L) : Type 0 where
+  pub inside : place ≤ length lines
+  pub own : (line : Line) → get_elem? lines place ≡ some line → line.mutator ≡ number_of_mutator runner.mutator
+
+-- what holds of all, by places
+pub all_at : {A : Type 0} (P : A → Type 0) (l : List A) → All P l → (k : ℕ) (a : A) → get_elem? l k ≡ some a → P a
+all_at P l h k a at = subst P (read_at l k a a at) (h k a (is_inside l k a at))
+
+pub at_all : {A : Type 0} (P : A → Type 0) (l : List A) → ((k : ℕ) (a : A) → get_elem? l k ≡ some a → P a) → All P l
+at_all P l h = λ k d lt. h k (get_or l k d) (at_or l k d lt)
+
+-- the mutators with their rooms are ready
+pub ready_of : {L : Type 0} {B : Type 0} {g : Ghosts B} {A : Type 0} (space : Space L B g) (lines : List Line) (mutators : List (Mutator L)) (rooms : List (Vec Shown A)) (runners : List (Runner L))
+    → map mutator_of runners ≡ mutators → map room_of runners ≡ map room_in rooms → Each runners IsBlank → HaveRooms lines mutators rooms → AreAll space mutators
+    → Each runners (IsReady space lines)
+ready_of {L} {B} {g} {A} space lines mutators rooms runners are have blank h all k runner at =
+    let there : get_elem? mutators k ≡ some runner.mutator = ap (λ l. get_elem? l k) (sym are) ∙ at_map mutator_of runners k runner at in
+    let room = at_map_back room_in rooms k (room_of runner) (ap (λ l. get_elem? l k) (sym have) ∙ at_map room_of runners k runner at) in
+    let fits = h.each k runner.mutator room.0 there room.1 in
+    record {
+      of = all_at (λ (m : Mutator L). IsMutatorOf space m) mutators all.of k runner.mutator there;
+      registers = (blank k runner at).0;
+      shown = ap (λ (x : List Shown × ℕ). x.0) (sym room.2) ∙ fits.0;
+      fault = (blank k runner at).1;
+      room = omega (arith, fits.1, ap (λ (x : List Shown × ℕ). x.1) room.2);
+    }
+
+-- what is known of a runner's lines, by its mutator and by what it is told
+moved : {L : Type 0} (u : Setup) (k : ℕ) (lines : List Line) (x y : Runner L) (old new : Mutator L) (run : Run) → mutator_of x ≡ old → mutator_of y ≡ new → run_of y ≡ run → number_of_mutator old ≡ k
+    → Ran u (lines_for lines x.mutator) (pass_of x.mutator) (pass_of y.mutator) y.shown.items y.fault
+    → Ran u (own_lines k (numbered 1 lines)) (pass_of old) (pass_of new) run.shown.items run.fault
+moved {L} u k lines x y old new run is becomes told number h =
+    let own : ℕ → List (ℕ × Line) = λ j. own_lines j (numbered 1 lines) in
+    subst (λ (z : Run). Ran u (own k) (pass_of old) (pass_of new) z.shown.items z.fault) told
+    (subst (λ (z : Mutator L). Ran u (own k) (pass_of old) (pass_of z) y.shown.items y.fault) becomes
+    (subst (λ (z : Mutator L). Ran u (own k) (pass_of z) (pass_of y.mutator) y.shown.items y.fault) is
+    (subst (λ (j : ℕ). Ran u (own j) (pass_of x.mutator) (pass_of y.mutator) y.shown.items y.fault) (ap number_of_mutator is ∙ number) h)))
+
+-- each ran its lines
+pub raced_of : {L : Type 0} {B : Type 0} {g : Ghosts B} (space : Space L B g) (lines : List Line) (mutators : List (Mutator L)) (runners after : List (Runner L)) → map mutator_of runners ≡ mutators
+    → length after ≡ length runners → AreAll space mutators
+    → ((k : ℕ) (x y : Runner L) → get_elem? runners k ≡ some x → get_elem? after k ≡ some y → HasRun space lines x y)
+    → HaveRaced space lines mutators (map mutator_of after) (map run_of after)
+raced_of {L} {B} {g} space lines mutators runners after are long all ran =
+    let u = setup_of space in
+    let counts : length after ≡ length mutators = long ∙ sym (length-map runners mutator_of) ∙ ap length are in
+    let before : (k : ℕ) (x : Runner L) → get_elem? runners k ≡ some x → get_elem? mutators k ≡ some x.mutator = λ k x at. ap (λ l. get_elem? l k) (sym are) ∙ at_map mutator_of runners k x at in
+    let ran_at : (k : ℕ) (y : Runner L) → get_elem? after k ≡ some y → (x : Runner L) × (get_elem? runners k ≡ some x) × HasRun space lines x y =
+    λ k y at. let x = there_at runners k (omega (arith, is_inside after k y at, long)) in (x.0, x.1, ran k x.0 y x.1 at) in
+    record {
+      all = record {
+        of = at_all (λ (m : Mutator L). IsMutatorOf space m) (map mutator_of after) (λ k m at.
+            let y = at_map_back mutator_of after k m at in
+            subst (λ (z : Mutator L). IsMutatorOf space z) y.2 (ran_at k y.0 y.1).2.of);
+        count = length-map after mutator_of ∙ counts ∙ all.count;
+        numbers = λ k m at.
+            let y = at_map_back mutator_of after k m at in
+            let x = ran_at k y.0 y.1 in
+            ap number_of_mutator (sym y.2) ∙ ran_number u (lines_for lines x.0.mutator) (pass_of x.0.mutator) (pass_of y.0.mutator) y.0.shown.items y.0.fault x.2.ran
+            ∙ all.numbers k x.0.mutator (before k x.0 x.1);
+      };
+      count = length-map after run_of ∙ counts;
+      ran = λ k old new run at now told.
+          let y = at_map_back mutator_of after k new now in
+          let z = at_map_back run_of after k run told in
+          let x = ran_at k y.0 y.1 in
+          let same : z.0 ≡ y.0 = some-injective z.0 y.0 (sym z.1 ∙ y.1) in
+          let old_is : mutator_of x.0 ≡ old = some-injective (mutator_of x.0) old (sym (before k x.0 x.1) ∙ at) in
+          moved u k lines x.0 y.0 old new run old_is y.2 (ap run_of (sym same) ∙ z.2) (all.numbers k old at) x.2.ran;
+    }
+
+-- no rooms are enough for no mutators
+pub no_rooms : {L : Type 0} {A : Type 0} (lines : List Line) (rooms : List (Vec Shown A)) → rooms ≡ [] → HaveRooms {L = L} lines [] rooms
+no_rooms lines rooms none = record { count = ap length none; each = λ k m room there has. absurd (omega (arith, is_inside [] k m there)) }
+
+-- one room more
+pub rooms_more : {L : Type 0} {A : Type 0} (lines : List Line) (mutators : List (Mutator L)) (rooms : List (Vec Shown A)) (k : ℕ) (m : Mutator L) (room : Vec Shown A) → HaveRooms lines (take k mutators) rooms
+    → get_elem? mutators k ≡ some m → room.items ≡ [] → length (lines_for lines m) ≤ vec_capacity room → HaveRooms lines (take (k + 1) mutators) (rooms ++ room ∷ [])
+rooms_more {L} {A} lines mutators rooms k m room h at none fits =
+    let one : k + 1 ≡ suc k = omega arith in
+    let more = ap (λ i. take i mutators) one ∙ take_suc mutators k m at in
+    record {
+      count = omega (arith, h.count, ap length more, length-append (take k mutators) (m ∷ []), length-append rooms (room ∷ []));
+      each = λ i x r there has. ⊎_elim
+          (λ t. ⊎_elim (λ s. h.each i x r s t) (λ s. absurd (omega (arith, is_inside rooms i r t, h.count, s.0))) (last_of (take k mutators) m x i (ap (λ l. get_elem? l i) (sym more) ∙ there)))
+          (λ t. ⊎_elim (λ s. absurd (omega (arith, is_inside (take k mutators) i x s, h.count, t.0)))
+          (λ s. subst (λ (y : Mutator L). (r.items ≡ []) × (length (lines_for lines y) ≤ vec_capacity r)) s.1 (subst (λ (z : Vec Shown A). (z.items ≡ []) × (length (lines_for lines m) ≤ vec_capacity z)) t.1 (none, fits)))
+          (last_of (take k mutators) m x i (ap (λ l. get_elem? l i) (sym more) ∙ there)))
+          (last_of rooms room r i has);
+    }
+
+-- one element more goes from what is left to what is done
+pub one_moved : {A B : Type 0} (f : A → B) (done more : List B) (x : A) (left rest : List A) (all : List B) → more ≡ done ++ f x ∷ [] → rest ≡ x ∷ left → done ++ map f rest ≡ all → more ++ map f left ≡ all
+one_moved f done more x left rest all e r h = ap (λ l. l ++ map f left) e ∙ append_assoc done (f x ∷ []) (map f left) ∙ ap (λ l. done ++ map f l) (sym r) ∙ h
+
+-- how many there are once they are written back
+pub written_count : {A B : Type 0} (f : A → B) (n : ℕ) (after before : List A) (all : List B) → map f before ≡ all → length after ≡ length before → n ≡ length before
+    → length (take n (after ++ drop (length after) before)) ≡ length all
+written_count f n after before all are long len = ap length (written_back n after before (len ∙ sym long)) ∙ long ∙ sym (length-map before f) ∙ ap length are
+
+-- once nothing is left, all is done
+pub nothing_left : {A : Type 0} (done left all : List A) → length left ≡ 0 → done ++ left ≡ all → done ≡ all
+nothing_left done [] all e h = sym (append-nil done) ∙ h
+nothing_left done (x ∷ xs) all e h = absurd (omega (arith, e))

@@ -1,0 +1,21 @@
+-- Lines of one mutator that follow one another among those of all.
+use Rattle.std.specs.Prelude.{◌≡◌, ◌≢◌, ℕ, ◌+◌, ◌<◌, ◌≤◌, List, length, slice_index}
+use mathlib.Core.Option.{some}
+use lib.ListN.{get_elem?}
+use Rattle.trace_race.specs.Races.{numbered, own_lines}
+use Rattle.trace_text.specs.declared.line.Line.{Line}
+use Rattle.trace_race.specs.declared.chains.Chains.{Chains}
+
+-- The first line of a mutator from one place on stands at another; it is the count of lines where there is none.
+pub record IsNextOwn (lines : List Line) (number start place : ℕ) : Type 0 where
+  pub above : start ≤ place
+  pub inside : place ≤ length lines
+  pub others : (i : ℕ) (line : Line) → start ≤ i → i < place → get_elem? lines i ≡ some line → line.mutator ≢ number
+  pub own : (line : Line) → get_elem? lines place ≡ some line → line.mutator ≡ number
+
+-- The chains are those of the lines.
+pub record AreChained (lines : List Line) (chains : Chains) : Type 0 where
+  pub firsts : (number : ℕ) → number < 256 → IsNextOwn lines number 0 (slice_index chains.firsts number)
+  pub counts : (number : ℕ) → number < 256 → slice_index chains.counts number ≡ length (own_lines number (numbered 1 lines))
+  pub long : length chains.nexts.items ≡ length lines
+  pub nexts : (i : ℕ) (line : Line) → get_elem? lines i ≡ some line → IsNextOwn lines line.mutator (i + 1) (slice_index chains.nexts.items i)

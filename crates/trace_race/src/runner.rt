@@ -1,0 +1,73 @@
+//! A mutator that runs its own lines.
+ghost use Rattle.std.specs.Prelude.{◌≡◌, ◌≤◌, [], None, length, vec_capacity};
+ghost use Rattle.comp_mutator.specs.Mutators.{pass_of, setup_of, IsMutatorOf};
+ghost use Rattle.comp_mutator.specs.Orders.{number_of_mutator};
+ghost use Rattle.trace_steps.specs.Acting.{null_registers};
+ghost use Rattle.trace_race.specs.Races.{numbered, own_lines, Ran};
+ghost use Rattle.trace_race.specs.Chains.{AreChained};
+ghost use Rattle.trace_steps.specs.Traces.{AllFit};
+
+use crate::chains::Chains;
+use crate::waiting::act_waiting;
+use comp_mutator::mutator::Mutator;
+use comp_mutator::space::Space;
+use page_plan::builder::Builder;
+use std::alloc::Global;
+use std::sync::Wait;
+use std::sync::ledger::Ledger;
+use trace_steps::shown::{Shown, show};
+use trace_text::fault::Stop;
+use trace_text::line::Line;
+
+/// A mutator that runs its lines: its registers, what its lines showed, and its refused line.
+#[derive(Drop)]
+pub(crate) struct Runner<L: Ledger> {
+    pub(crate) mutator: Mutator<L>,
+    pub(crate) registers: [u64; 16],
+    pub(crate) shown: Vec<Shown>,
+    pub(crate) fault: Option<Stop>,
+}
+
+/// Runs the lines of one mutator, in order, up to the first that is refused. The chains are those of the lines, and room for what the mutator's lines show is
+/// reserved.
+pub(crate) fn run_own<L: Ledger, B: Builder>(
+    alloc: Global,
+    rt: &impl Wait,
+    space: &Space<L, B>,
+    lines: &[Line],
+    chains: &Chains,
+    runner: &mut Runner<L>,
+)
+    requires of { IsMutatorOf space.now runner.old.mutator }
+    requires fits { AllFit (setup_of space.now) lines.now }
+    requires chained { AreChained lines.now chains.now }
+    requires new { (runner.old.registers ≡ null_registers) × (runner.old.shown.items ≡ []) × (runner.old.fault ≡ None) }
+    requires room { length (own_lines (number_of_mutator runner.old.mutator) (numbered 1 lines.now)) ≤ vec_capacity runner.old.shown }
+    ensures of { IsMutatorOf space.now runner.new.mutator }
+    ensures ran { Ran (setup_of space.now) (own_lines (number_of_mutator runner.old.mutator) (numbered 1 lines.now)) (pass_of runner.old.mutator) (pass_of runner.new.mutator) runner.new.shown.items runner.new.fault }
+{
+    let mut place = chains.firsts[runner.mutator.number() as usize];
+    while place < lines.len() {
+        let action = lines[place].action;
+        let number = place as u64 + 1;
+        let answer = act_waiting(
+            alloc,
+            rt,
+            space,
+            &mut runner.mutator,
+            &mut runner.registers,
+            action,
+        );
+        match answer {
+            Ok(value) => show(&mut runner.shown, number, action, value),
+            Err(refusal) => {
+                runner.fault = Some(Stop {
+                    line: number,
+                    refusal,
+                });
+                return;
+            }
+        }
+        place = chains.nexts[place];
+    }
+}

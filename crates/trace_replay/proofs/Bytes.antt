@@ -1,0 +1,119 @@
+-- What a replay shows is determined by bytes.
+use Rattle.std.proofs.Common.{◌≡◌, ℕ, zero, suc, ◌<◌, ◌++◌, ◌∙◌, List, [], ◌∷◌, Ok, length, refl, sym, ap, subst, arith}
+use mathlib.Core.Option.{some, some-ne-none}
+use lib.ListN.{get_elem?}
+use Rattle.heap_layout.specs.Encoding.{ImagesDiffer}
+use Rattle.heap_layout.specs.Heap.{Heap}
+use Rattle.page_plan.specs.declared.builder.Builder.{Ghosts}
+use Rattle.comp_journal.specs.declared.entry.Entry.{Entry}
+use Rattle.cell_steps.specs.Lists.{on}
+use Rattle.cell_steps.specs.Setup.{Setup}
+use Rattle.cell_steps.specs.Passes.{number_of, view_of}
+use Rattle.cell_steps.proofs.Sums.{is_inside, read_at, there_at}
+use Rattle.comp_history.specs.Merged.{written_by}
+use Rattle.comp_mutator.specs.Mutators.{pass_of, setup_of, IsMutatorOf}
+use Rattle.comp_mutator.specs.declared.mutator.Mutator.{Mutator}
+use Rattle.comp_mutator.specs.declared.space.Space.{Space}
+use Rattle.trace_replay.specs.Bytes.{flipped, no_entries, CutsShort, Interrupts, Shows, ShowOnce}
+use Rattle.trace_steps.specs.AllMutators.{AreAll}
+use Rattle.trace_steps.specs.Deeds.{deeds_of, DidNothingYet, HaveAll, KnowTheirs}
+use Rattle.trace_text.specs.Grammar.{parts, trace_of}
+use Rattle.trace_replay.specs.Replays.{HaveReplayed, HaveStopped}
+use Rattle.trace_replay.specs.Runs.{beginning, MayBegin, Runs}
+use Rattle.trace_text.specs.declared.fault.TraceFault.{TraceFault}
+use Rattle.trace_text.specs.declared.fault.TraceFault.TheVariants.{BadLine, NoSuchMutator, NoSuchRegister, NumberTooLarge, NoSuchRoot, Refused, OutOfMemory}
+use Rattle.trace_text.specs.declared.line.Line.{Line}
+use Rattle.trace_steps.specs.declared.shown.Shown.{Shown}
+use Rattle.trace_replay.proofs.Determined.{determined}
+use Rattle.trace_replay.proofs.Inside.{ok_is, read_inside, AreInside}
+
+shown_once : (heap : Heap) (mutators fresh : ℕ) (text : List ℕ) (shown other : List Shown) → Shows (flipped heap mutators fresh) text shown → Shows (flipped heap mutators fresh) text other → shown ≡ other
+shown_once heap mutators fresh text shown other x y =
+    let u = flipped heap mutators fresh in
+    let lines : x.lines ≡ y.lines = ok_is x.lines y.lines (sym x.text_is ∙ y.text_is) in
+    let begins : MayBegin u x.lines no_entries = record { slid = refl; lawful = λ p. tt; mutators = read_inside mutators (length heap.roots) 1 (parts 10 text) x.lines x.text_is } in
+    x.shown_is
+    ∙ (determined u x.lines no_entries no_entries begins (λ p. refl) x.end y.end x.runs (subst (λ (ls : List Line). Runs u no_entries 1 ls beginning y.end) (sym lines) y.runs)).shown
+    ∙ sym y.shown_is
+
+pub show_once : ImagesDiffer → ShowOnce
+show_once differ mutators fresh image text shown other x y =
+    let same : x.heap ≡ y.heap = differ x.heap y.heap x.stored y.stored x.counted y.counted (sym x.image_is ∙ y.image_is) in
+    shown_once x.heap mutators fresh text shown other x.shows (subst (λ (heap : Heap). Shows (flipped heap mutators fresh) text other) (sym same) y.shows)
+
+-- ---- where nothing was done
+
+pub deeds_none : {L : Type 0} (mutators : List (Mutator L)) → DidNothingYet mutators → (k : ℕ) → deeds_of mutators k ≡ []
+deeds_none [] none k = refl
+deeds_none (m ∷ mutators) none zero = none 0 m refl
+deeds_none (m ∷ mutators) none (suc k) = deeds_none mutators (λ j x at. none (suc j) x at) k
+
+pub have_none : {L : Type 0} (mutators : List (Mutator L)) → DidNothingYet mutators → HaveAll mutators no_entries
+have_none mutators none p = record { rises = (0, omega arith); own = λ k lt. sym (ap (on p) (deeds_none mutators none k)); strangers = λ k le. refl }
+
+know_none : {L : Type 0} (mutators : List (Mutator L)) → DidNothingYet mutators → KnowTheirs mutators
+know_none mutators none k m at p offset there = absurd (some-ne-none there.1 (sym (ap (λ (l : List (ℕ × Entry)). get_elem? (on p l) there.0) (sym (none k m at)) ∙ there.2)))
+
+pub shows_of : {L : Type 0} (u : Setup) (before after : List (Mutator L)) (text : List ℕ) (lines : List Line) (shown : List Shown) → DidNothingYet before
+    → trace_of u.mutators (length u.heap.roots) text ≡ Ok lines → HaveReplayed u before after lines shown → Shows u text shown
+shows_of u before after text lines shown none text_is h =
+    let ran = h no_entries (have_none before none) in
+    record { lines = lines; text_is = text_is; end = ran.0; runs = ran.1.runs; shown_is = ran.1.shows }
+
+line_inside : (ms : ℕ) (lines : List Line) (j : ℕ) (line : Line) → AreInside ms lines → get_elem? lines j ≡ some line → line.mutator < ms
+line_inside ms lines j line inside there = subst (λ (l : Line). l.mutator < ms) (read_at lines j line line there) (inside j line (is_inside lines j line there))
+
+-- All mutators of some space that is about this heap, by their numbers.
+pub record AreOf {L : Type 0} (u : Setup) (mutators : List (Mutator L)) : Type 0 where
+  pub count : length mutators ≡ u.mutators
+  pub numbers : (k : ℕ) (m : Mutator L) → get_elem? mutators k ≡ some m → number_of (pass_of m) ≡ k
+  pub about : (k : ℕ) (m : Mutator L) → get_elem? mutators k ≡ some m → (view_of (pass_of m)).about ≡ u
+
+pub are_of : {L : Type 0} {B : Type 0} {g : Ghosts B} (space : Space L B g) (mutators : List (Mutator L)) → AreAll space mutators → AreOf (setup_of space) mutators
+are_of {L} space mutators all = record {
+  count = all.count;
+  numbers = all.numbers;
+  about = λ k m at. (subst (IsMutatorOf space) (read_at mutators k m m at) (all.of k m (is_inside mutators k m at))).of.about;
+}
+
+pub cut_of : {L : Type 0} (u : Setup) (before after : List (Mutator L)) (lines : List Line) (shown : List Shown) (fault : TraceFault) → AreOf u before
+    → DidNothingYet before → AreInside u.mutators lines → HaveStopped u before after lines shown fault → CutsShort u lines shown fault
+cut_of u before after lines shown (Refused number refusal) all none lines_inside stopped =
+    let h = stopped no_entries (have_none before none) in
+    let inside : h.line.mutator < length before = omega (arith, all.count, line_inside u.mutators lines h.count h.line lines_inside h.there) in
+    let m = there_at before h.line.mutator inside in
+    let began = h.cause.began m.0 m.1 in
+    record {
+      numbered = began.number ∙ all.numbers h.line.mutator m.0 m.1;
+      about = began.about ∙ all.about h.line.mutator m.0 m.1;
+      wrote_none = h.cause.wrote_none;
+      built = h.built;
+      grows = h.cause.grows;
+      did = h.cause.did ∙ h.ran.did h.line.mutator inside ∙ ap (λ (l : List (ℕ × Entry)). l ++ written_by h.line.mutator h.end.added) (deeds_none before none h.line.mutator);
+      count = h.count;
+      number_is = h.number_is;
+      line = h.line;
+      there = h.there;
+      end = h.end;
+      runs = h.ran.runs;
+      shown_is = h.ran.shows;
+      old = h.cause.old;
+      new = h.cause.new;
+      knows = h.cause.knows;
+      starts = h.cause.starts (know_none before none);
+      refuses = h.cause.refuses;
+    }
+cut_of u before after lines shown OutOfMemory all none lines_inside h = h.0
+cut_of u before after lines shown (BadLine number) all none lines_inside h = absurd h
+cut_of u before after lines shown (NoSuchMutator number) all none lines_inside h = absurd h
+cut_of u before after lines shown (NoSuchRegister number) all none lines_inside h = absurd h
+cut_of u before after lines shown (NumberTooLarge number) all none lines_inside h = absurd h
+cut_of u before after lines shown (NoSuchRoot number) all none lines_inside h = absurd h
+
+pub interrupts_of : {L : Type 0} (u : Setup) (before after : List (Mutator L)) (text : List ℕ) (lines : List Line) (shown : List Shown) (fault : TraceFault) → AreOf u before
+    → DidNothingYet before → trace_of u.mutators (length u.heap.roots) text ≡ Ok lines → HaveStopped u before after lines shown fault → Interrupts u text shown fault
+interrupts_of u before after text lines shown fault all none text_is stopped = record {
+  lines = lines;
+  text_is = text_is;
+  cut = cut_of u before after lines shown fault all none (read_inside u.mutators (length u.heap.roots) 1 (parts 10 text) lines text_is) stopped;
+}

@@ -1,0 +1,104 @@
+-- What a replay shows, by the bytes of an image and the text of a trace.
+use Rattle.std.specs.Prelude.{◌≡◌, ◌⊎◌, ℕ, ◌+◌, true, List, [], Ok, Err, length, take}
+use mathlib.Core.Option.{some}
+use lib.ListN.{get_elem?}
+use Rattle.heap_layout.specs.Encoding.{encoding, AreCounted}
+use Rattle.heap_layout.specs.Heap.{live, Heap, IsStored}
+use Rattle.page_plan.specs.Sliding.{pages}
+use Rattle.cell_steps.specs.Locks.{Journals}
+use Rattle.cell_steps.specs.Passes.{did, number_of, seen, view_of, HasSeenBuilt, KnowsFresh}
+use Rattle.cell_steps.specs.Setup.{Setup}
+use Rattle.cell_steps.specs.declared.pass.Pass.{Pass}
+use Rattle.page_cells.specs.Calls.{Grows}
+use Rattle.cell_steps.specs.Lawful.{HasHead}
+use Rattle.comp_history.specs.Merged.{written_by}
+use Rattle.call_refusals.specs.declared.refusal.Refusal.{Refusal}
+use Rattle.trace_steps.specs.Acting.{Refuses}
+use Rattle.trace_steps.specs.Builds.{is_built}
+use Rattle.trace_text.specs.Grammar.{trace_of, IsReadAs}
+use Rattle.trace_replay.specs.Runs.{beginning, Moment, Runs}
+use Rattle.trace_steps.specs.Lines.{with_entries}
+use Rattle.trace_text.specs.declared.fault.TraceFault.{TraceFault}
+use Rattle.trace_text.specs.declared.fault.TraceFault.TheVariants.{BadLine, NoSuchMutator, NoSuchRegister, NumberTooLarge, NoSuchRoot, Refused, OutOfMemory}
+use Rattle.trace_text.specs.declared.line.Line.{Line}
+use Rattle.trace_steps.specs.declared.shown.Shown.{Shown}
+
+-- nothing was written
+abbrev pub no_entries : Journals
+no_entries p = []
+
+-- The text is a trace, whose run from no entries at all shows these values.
+pub record Shows (u : Setup) (text : List ℕ) (shown : List Shown) : Type 0 where
+  pub lines : List Line
+  pub text_is : trace_of u.mutators (length u.heap.roots) text ≡ Ok lines
+  pub end : Moment
+  pub runs : Runs u no_entries 1 lines beginning end
+  pub shown_is : shown ≡ end.shown
+
+-- The run of these lines from no entries at all shows these values before the line of this number. The call of that line was refused to the line's mutator of
+-- this very heap, which had done just what the run says of it, and knew all entries, all objects, and each page that was built. It wrote nothing, and forgot nothing.
+pub record IsCutShort (u : Setup) (lines : List Line) (shown : List Shown) (number : ℕ) (refusal : Refusal) : Type 0 where
+  pub count : ℕ
+  pub number_is : number ≡ count + 1
+  pub line : Line
+  pub there : get_elem? lines count ≡ some line
+  pub end : Moment
+  pub runs : Runs u no_entries 1 (take count lines) beginning end
+  pub shown_is : shown ≡ end.shown
+  pub old : Pass
+  pub new : Pass
+  pub numbered : number_of old ≡ line.mutator
+  pub about : (view_of old).about ≡ u
+  pub wrote_none : did new ≡ did old
+  pub did : did old ≡ written_by line.mutator end.added
+  pub knows : (p : ℕ) → seen old p ≡ with_entries no_entries end.added p
+  pub starts : (p offset : ℕ) → HasHead (with_entries no_entries end.added p) offset → KnowsFresh old p offset
+  pub built : (p : ℕ) → is_built end.built p ≡ true → HasSeenBuilt old p
+  pub grows : Grows old new
+  pub refuses : Refuses u line.action (end.registers line.mutator) old new refusal
+
+-- the run of these lines stopped: before the first of them, for want of memory, or at a refused line
+abbrev pub CutsShort : Setup → List Line → List Shown → TraceFault → Type 0
+CutsShort u lines shown (Refused number refusal) = IsCutShort u lines shown number refusal
+CutsShort u lines shown OutOfMemory = shown ≡ []
+CutsShort u lines shown (BadLine number) = ⊥
+CutsShort u lines shown (NoSuchMutator number) = ⊥
+CutsShort u lines shown (NoSuchRegister number) = ⊥
+CutsShort u lines shown (NumberTooLarge number) = ⊥
+CutsShort u lines shown (NoSuchRoot number) = ⊥
+
+-- all of these lines were run from no entries at all, and showed these values
+pub record RunsThrough (u : Setup) (lines : List Line) (shown : List Shown) : Type 0 where
+  pub end : Moment
+  pub runs : Runs u no_entries 1 lines beginning end
+  pub shown_is : shown ≡ end.shown
+
+-- The text is a trace, whose run was cut short so.
+pub record Interrupts (u : Setup) (text : List ℕ) (shown : List Shown) (fault : TraceFault) : Type 0 where
+  pub lines : List Line
+  pub text_is : trace_of u.mutators (length u.heap.roots) text ≡ Ok lines
+  pub cut : CutsShort u lines shown fault
+
+-- the text is no trace, by this fault, or reading it wanted memory
+abbrev pub IsNoTrace : Setup → List ℕ → TraceFault → Type 0
+IsNoTrace u text fault = IsReadAs {A = List Line} (λ lines. lines) (Err fault) (trace_of u.mutators (length u.heap.roots) text)
+
+-- why a text shows no more than these values
+abbrev pub StopsShowing : Setup → List ℕ → List Shown → TraceFault → Type 0
+StopsShowing u text shown fault = ((shown ≡ []) × IsNoTrace u text fault) ⊎ Interrupts u text shown fault
+
+-- what a flipped heap is about
+abbrev pub flipped : Heap → ℕ → ℕ → Setup
+flipped heap mutators fresh = record { heap = heap; compacted = pages (live heap); fresh = fresh; mutators = mutators }
+
+-- The image is a heap's, and the trace is run over that heap.
+pub record ReplayShows (mutators fresh : ℕ) (image text : List ℕ) (shown : List Shown) : Type 0 where
+  pub heap : Heap
+  pub stored : IsStored heap
+  pub counted : AreCounted heap
+  pub image_is : image ≡ encoding heap
+  pub shows : Shows (flipped heap mutators fresh) text shown
+
+-- the same bytes show the same values
+abbrev pub ShowOnce : Type 0
+ShowOnce = (mutators fresh : ℕ) (image text : List ℕ) (shown other : List Shown) → ReplayShows mutators fresh image text shown → ReplayShows mutators fresh image text other → shown ≡ other

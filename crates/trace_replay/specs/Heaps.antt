@@ -1,0 +1,35 @@
+-- A heap over which one thread runs a trace, from its flip to its end.
+use Rattle.std.specs.Prelude.{◌≡◌, ℕ, List, length, map}
+use Rattle.std.specs.List.{range_with_len}
+use Rattle.heap_layout.specs.Heap.{Heap, IsClosed}
+use Rattle.cell_steps.specs.declared.pass.Pass.{Pass}
+use Rattle.comp_cycles.specs.Finishes.{builds_in, history_of, IsFinished}
+use Rattle.comp_cycles.specs.declared.finished.Finished.{Finished}
+use Rattle.trace_steps.specs.Builds.{built_by}
+use Rattle.trace_steps.specs.declared.shown.Shown.{Shown}
+use Rattle.trace_text.specs.declared.line.Line.{Line}
+use Rattle.trace_replay.specs.Bytes.{flipped, no_entries, CutsShort, RunsThrough}
+use Rattle.trace_replay.specs.Runs.{beginning, Moment, Runs}
+use Rattle.trace_replay.specs.declared.running.Halt.{Halt}
+use Rattle.trace_replay.specs.declared.running.Halt.TheVariants.{Cut, Unflipped, Unfinished}
+
+-- The heap was flipped for so many mutators and fresh pages, one thread ran these lines, which showed these values, and this is the heap at the end.
+pub record HasRunOver (mutators fresh : ℕ) (lines : List Line) (shown : List Shown) (heap : Heap) (f : Finished) : Type 0 where
+  pub end : Moment
+  pub runs : Runs (flipped heap mutators fresh) no_entries 1 lines beginning end
+  pub shown_is : shown ≡ end.shown
+  -- what is known of the end, for a pass of each mutator
+  pub row : List Pass
+  pub crew : length row ≡ mutators
+  pub finished : IsFinished (flipped heap mutators fresh) row f
+  -- its history is what the run added, and each mutator built what the run says, in order
+  pub history : history_of (flipped heap mutators fresh) f ≡ end.added
+  pub builds : builds_in f ≡ map (λ (k : ℕ). built_by k end.built) (range_with_len 0 mutators)
+  -- the heap was accepted
+  pub closed : IsClosed heap
+
+-- why it does not come to its end: the run was cut short, or memory was wanted, for the flip, or for the finish, once the lines were run
+abbrev pub IsHaltOf : ℕ → ℕ → List Line → Heap → Halt → Type 0
+IsHaltOf mutators fresh lines heap (Cut stopped) = CutsShort (flipped heap mutators fresh) lines stopped.shown.items stopped.fault
+IsHaltOf mutators fresh lines heap Unflipped = Unit {0}
+IsHaltOf mutators fresh lines heap (Unfinished shown) = RunsThrough (flipped heap mutators fresh) lines shown.items

@@ -1,0 +1,156 @@
+//! Traces that are run by one thread.
+ghost use Rattle.std.specs.Prelude.{◌≡◌, ◌<◌, ◌≤◌, ◌+◌, length, replicate, vec_capacity, IfErr, IfOk, OnErr, OnOk};
+ghost use Rattle.comp_mutator.specs.Mutators.{setup_of};
+ghost use Rattle.trace_steps.specs.Acting.{null_registers, Fits};
+ghost use Rattle.trace_steps.specs.Deeds.{HaveSeenAll, HaveStart};
+ghost use Rattle.trace_steps.specs.AllMutators.{AreAll};
+ghost use Rattle.trace_replay.specs.Replays.{CannotGoOn, GoesOn, HaveReplayed, HaveStopped, IsRefusal, RanNothing};
+ghost use Rattle.trace_steps.specs.Rounds.{AreLater, DidNothing};
+ghost use Rattle.trace_steps.specs.Traces.{AllFit, IsParsedFor};
+ghost use Rattle.trace_text.specs.Traces.{lines_of};
+
+use call_refusals::refusal::Refusal;
+use comp_mutator::mutator::Mutator;
+use comp_mutator::space::Space;
+use page_plan::builder::Builder;
+use std::alloc::{AllocError, Global};
+use std::sync::ledger::Ledger;
+use trace_steps::shown::{Shown, show};
+use trace_steps::stepping::step;
+use trace_text::fault::TraceFault;
+use trace_text::line::Line;
+use trace_text::trace::Trace;
+
+/// The values that were shown before a replay stopped, and why it did.
+#[derive(Debug, Drop)]
+pub struct Stopped {
+    pub shown: Vec<Shown>,
+    pub fault: TraceFault,
+}
+
+/// Runs line `number`.
+fn run_line<L: Ledger, B: Builder>(
+    alloc: Global,
+    space: &Space<L, B>,
+    mutators: &mut [Mutator<L>],
+    registers: &mut [[u64; 16]],
+    line: Line,
+    number: u64,
+    shown: &mut Vec<Shown>,
+) -> Result<(), Refusal>
+    requires all { AreAll space.now mutators.old }
+    requires wide { length registers.old ≡ length mutators.old }
+    requires line { (line.mutator < length mutators.old) × Fits (setup_of space.now) line.action }
+    requires room { length shown.old.items < vec_capacity shown.old }
+    ensures all { AreAll space.now mutators.new }
+    ensures later { AreLater mutators.old mutators.new }
+    ensures seen { HaveSeenAll mutators.new }
+    ensures start { HaveStart (setup_of space.now) mutators.old }
+    ensures ran { OnOk result (GoesOn (setup_of space.now) line number mutators.old mutators.new registers.old registers.new shown.old.items shown.new.items) }
+    ensures room { (vec_capacity shown.new ≡ vec_capacity shown.old) × (length shown.new.items ≤ length shown.old.items + 1) }
+    ensures did { OnErr result (DidNothing mutators.old mutators.new × (shown.new.items ≡ shown.old.items)) }
+    ensures refused { IfErr result (CannotGoOn (setup_of space.now) line mutators.old mutators.new registers.old shown.old.items) }
+{
+    let i = usize::from(line.mutator);
+    let own = &mut registers[i];
+    let answer = step(alloc, space, mutators, own, i, line.action);
+    match answer {
+        Ok(value) => {
+            show(shown, number, line.action, value);
+            Ok(())
+        }
+        Err(refusal) => Err(refusal),
+    }
+}
+
+/// The registers of `n` mutators, which all are null.
+#[tactic(auto, using(crate::proofs::Standing::replicate_more))]
+fn all_null(alloc: Global, n: usize) -> Result<Vec<[u64; 16]>, AllocError>
+    ensures { IfOk result (λ registers. registers.items ≡ replicate n null_registers) }
+{
+    let mut registers = Vec::with_capacity(alloc, n)?;
+    for _i in 0..n {
+        registers.push_reserved([0; 16]);
+    }
+    Ok(registers)
+}
+
+/// Runs the lines in their order.
+fn run_lines<L: Ledger, B: Builder>(
+    alloc: Global,
+    lines: &[Line],
+    space: &Space<L, B>,
+    mutators: &mut [Mutator<L>],
+) -> Result<Vec<Shown>, Stopped>
+    requires all { AreAll space.now mutators.old }
+    requires lines { AllFit (setup_of space.now) lines.now }
+    ensures all { AreAll space.now mutators.new }
+    ensures later { AreLater mutators.old mutators.new }
+    ensures empty { length lines.now ≡ 0 → IfOk result (λ shown. RanNothing mutators.old mutators.new shown.items) }
+    ensures start { 0 < length lines.now → OnOk result (HaveStart (setup_of space.now) mutators.old) }
+    ensures started { IfErr result (λ stopped. IsRefusal stopped.fault → HaveStart (setup_of space.now) mutators.old) }
+    ensures ran { IfOk result (λ shown. HaveReplayed (setup_of space.now) mutators.old mutators.new lines.now shown.items) }
+    ensures stopped { IfErr result (λ stopped. HaveStopped (setup_of space.now) mutators.old mutators.new lines.now stopped.shown.items stopped.fault) }
+{
+    let Ok(mut shown) = Vec::with_capacity(alloc, lines.len()) else {
+        return Err(Stopped {
+            shown: Vec::new(alloc),
+            fault: TraceFault::OutOfMemory,
+        });
+    };
+    let Ok(mut registers) = all_null(alloc, mutators.len()) else {
+        return Err(Stopped {
+            shown: Vec::new(alloc),
+            fault: TraceFault::OutOfMemory,
+        });
+    };
+    for (j, line) in lines.iter().enumerate() {
+        let number = j as u64 + 1;
+        let ran = run_line(
+            alloc,
+            space,
+            mutators,
+            &mut registers,
+            *line,
+            number,
+            &mut shown,
+        );
+        match ran {
+            Ok(()) => {}
+            Err(refusal) => {
+                return Err(Stopped {
+                    shown,
+                    fault: TraceFault::Refused(number, refusal),
+                });
+            }
+        }
+    }
+    Ok(shown)
+}
+
+/// Runs the lines of a trace in their order by one thread, each call once. The mutators are all of the space's, in the order of their numbers. Before and after each
+/// line its mutator meets all others, so each line sees all that was done before it. The values are those that `get` lines show.
+///
+/// What the mutators had seen, built and known does not shrink, whatever is answered. Once a line was run, each of them has seen all that was there at the start, and
+/// all that the run added. A trace without lines shows nothing, and leaves the mutators as they were.
+///
+/// Where a line's call is refused, the lines before it stand, and the fault is `Refused` with its number, counted from 1, and the cause. Room for all that the lines can
+/// show is asked for first: where it is refused, the fault is `OutOfMemory`, and no line has run.
+pub fn replay<L: Ledger, B: Builder>(
+    alloc: Global,
+    trace: &Trace,
+    space: &Space<L, B>,
+    mutators: &mut Vec<Mutator<L>>,
+) -> Result<Vec<Shown>, Stopped>
+    requires all { AreAll space.now mutators.old.items }
+    requires parsed { IsParsedFor (setup_of space.now) trace.now }
+    ensures all { AreAll space.now mutators.new.items }
+    ensures later { AreLater mutators.old.items mutators.new.items }
+    ensures empty { length (lines_of trace.now) ≡ 0 → IfOk result (λ shown. RanNothing mutators.old.items mutators.new.items shown.items) }
+    ensures start { 0 < length (lines_of trace.now) → OnOk result (HaveStart (setup_of space.now) mutators.old.items) }
+    ensures started { IfErr result (λ stopped. IsRefusal stopped.fault → HaveStart (setup_of space.now) mutators.old.items) }
+    ensures ran { IfOk result (λ shown. HaveReplayed (setup_of space.now) mutators.old.items mutators.new.items (lines_of trace.now) shown.items) }
+    ensures stopped { IfErr result (λ stopped. HaveStopped (setup_of space.now) mutators.old.items mutators.new.items (lines_of trace.now) stopped.shown.items stopped.fault) }
+{
+    run_lines(alloc, trace.lines(), space, mutators)
+}

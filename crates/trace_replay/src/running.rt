@@ -1,0 +1,129 @@
+//! A heap over which a trace is run by one thread, from its flip to its end.
+ghost use Rattle.std.specs.Prelude.{◌≡◌, ◌≤◌, map, length, IfErr, IfOk};
+ghost use Rattle.heap_layout.specs.Heap.{live, IsClosed};
+ghost use Rattle.page_plan.specs.Sliding.{pages};
+ghost use Rattle.page_cells.specs.Cells.{steps_of, AreNew};
+ghost use Rattle.comp_cycles.specs.Finishes.{IsOfFlip};
+ghost use Rattle.comp_mutator.specs.Mutators.{cells_of, pass_of, setup_of, AreMutatorsOf};
+ghost use Rattle.trace_steps.specs.Traces.{IsParsedFor};
+ghost use Rattle.trace_text.specs.Traces.{lines_of, mutators_of, roots_of};
+ghost use Rattle.trace_replay.specs.Heaps.{HasRunOver, IsHaltOf};
+
+use crate::replay::{Stopped, replay};
+use comp_mutator::finishing::{FinishFault, Finished};
+use comp_mutator::flipping::flip;
+use comp_mutator::mutator::Mutator;
+use comp_mutator::refusal::FlipFault;
+use comp_mutator::space::Space;
+use page_plan::laws::heap_is_closed;
+use page_plan::plan::Plan;
+use std::alloc::Global;
+use std::marker::Brand;
+use std::sync::Arc;
+use std::sync::ledger::{Blank, Ledger};
+use trace_steps::shown::Shown;
+use trace_text::trace::Trace;
+
+/// A heap over which a trace was run, finished, and the values that the trace showed.
+#[derive(Drop)]
+pub struct Run {
+    /// What each `get` line showed, in order.
+    pub shown: Vec<Shown>,
+    /// What is left of the heap.
+    pub finished: Finished,
+}
+
+/// Why a heap does not come to its end.
+#[derive(Drop)]
+pub enum Halt {
+    /// A line was refused, or there was no memory for the values.
+    Cut(Stopped),
+    /// A growth was refused for the flip; no line has run.
+    Unflipped,
+    /// A growth was refused for the finish. All lines have run; these are the values that they showed, in order.
+    Unfinished(Vec<Shown>),
+}
+
+/// Flips the heap of a plan, runs a trace over it by one thread, and finishes it. There are 1 to 64 mutators and at most 4,096 fresh pages; the trace is one of these mutators
+/// and of the heap's roots.
+pub fn run_over(
+    alloc: Global,
+    plan: Arc<Plan>,
+    trace: &Trace,
+    mutators: u8,
+    fresh: u32,
+) -> Result<Run, Halt>
+    requires mutators { (1 ≤ mutators) × (mutators ≤ 64) }
+    requires fresh { fresh ≤ 4096 }
+    requires parsed { (mutators_of trace.now ≡ mutators) × (roots_of trace.now ≡ length plan.value.roots) }
+    ensures run { IfOk result (λ run. HasRunOver mutators fresh (lines_of trace.now) run.shown.items plan.value run.finished) }
+    ensures flipped { IfOk result (λ run. IsOfFlip mutators fresh run.finished) }
+    ensures halted { IfErr result (IsHaltOf mutators fresh (lines_of trace.now) plan.value) }
+{
+    heap_is_closed(&plan);
+    flipped_and_run::<Brand>(
+        alloc,
+        Blank::new(u64::from(mutators)),
+        plan,
+        trace,
+        mutators,
+        fresh,
+    )
+}
+
+// The same, with the name of a ledger.
+fn flipped_and_run<L: Ledger>(
+    alloc: Global,
+    blank: Blank,
+    plan: Arc<Plan>,
+    trace: &Trace,
+    mutators: u8,
+    fresh: u32,
+) -> Result<Run, Halt>
+    requires name { blank.name ≡ L.name }
+    requires parts { blank.parts ≡ L.parts }
+    requires count { blank.parts ≡ mutators }
+    requires mutators { (1 ≤ mutators) × (mutators ≤ 64) }
+    requires fresh { fresh ≤ 4096 }
+    requires closed { IsClosed plan.value }
+    requires parsed { (mutators_of trace.now ≡ mutators) × (roots_of trace.now ≡ length plan.value.roots) }
+    ensures run { IfOk result (λ run. HasRunOver mutators fresh (lines_of trace.now) run.shown.items plan.value run.finished) }
+    ensures flipped { IfOk result (λ run. IsOfFlip mutators fresh run.finished) }
+    ensures halted { IfErr result (IsHaltOf mutators fresh (lines_of trace.now) plan.value) }
+{
+    match flip::<L, Plan>(alloc, blank, plan, u32::from(mutators), fresh) {
+        Ok((space, made)) => run_and_finish(alloc, space, made, trace),
+        Err(FlipFault::OutOfMemory) => Err(Halt::Unflipped),
+        Err(FlipFault::BadCounts) => unreachable!(),
+    }
+}
+
+// Runs a trace over a space whose mutators did nothing yet, and finishes the space.
+fn run_and_finish<L: Ledger>(
+    alloc: Global,
+    space: Space<L, Plan>,
+    mut mutators: Vec<Mutator<L>>,
+    trace: &Trace,
+) -> Result<Run, Halt>
+    requires of { AreMutatorsOf space mutators.items }
+    requires new { AreNew (steps_of (cells_of space)) (setup_of space).mutators (map pass_of mutators.items) }
+    requires whole { (setup_of space).mutators ≡ L.parts }
+    requires compacted { (setup_of space).compacted ≡ pages (live (setup_of space).heap) }
+    requires closed { IsClosed (setup_of space).heap }
+    requires parsed { IsParsedFor (setup_of space) trace.now }
+    ensures run { IfOk result (λ run. HasRunOver (setup_of space).mutators (setup_of space).fresh (lines_of trace.now) run.shown.items (setup_of space).heap run.finished) }
+    ensures flipped { IfOk result (λ run. IsOfFlip (setup_of space).mutators (setup_of space).fresh run.finished) }
+    ensures halted { IfErr result (IsHaltOf (setup_of space).mutators (setup_of space).fresh (lines_of trace.now) (setup_of space).heap) }
+{
+    let _ = trace.lines();
+    match replay(alloc, trace, &space, &mut mutators) {
+        Ok(shown) => match space.finish(alloc, mutators) {
+            Ok(finished) => Ok(Run { shown, finished }),
+            Err(left) => match left.fault {
+                FinishFault::OutOfMemory => Err(Halt::Unfinished(shown)),
+                FinishFault::MutatorMissing(_) => unreachable!(),
+            },
+        },
+        Err(stopped) => Err(Halt::Cut(stopped)),
+    }
+}

@@ -1,0 +1,43 @@
+//! Texts of traces that are run.
+ghost use Rattle.std.specs.Prelude.{◌≡◌, length, IfErr, IfOk};
+ghost use Rattle.comp_mutator.specs.Mutators.{setup_of};
+ghost use Rattle.trace_steps.specs.Deeds.{DidNothingYet};
+ghost use Rattle.trace_replay.specs.Bytes.{Shows, StopsShowing};
+ghost use Rattle.trace_steps.specs.AllMutators.{AreAll};
+
+use crate::replay::{Stopped, replay};
+use comp_mutator::mutator::Mutator;
+use comp_mutator::space::Space;
+use page_plan::builder::Builder;
+use std::alloc::Global;
+use std::sync::ledger::Ledger;
+use trace_steps::shown::Shown;
+use trace_text::parsing::parse;
+
+/// Reads the text of a trace, and runs it over a space whose mutators have written nothing yet. There are `count` mutators and `roots` shared
+/// roots; the mutators are all of the space's, in the order of their numbers.
+///
+/// The fault is that of the text, and nothing is shown, or the one for which the replay stopped.
+pub fn replay_text<L: Ledger, B: Builder>(
+    alloc: Global,
+    text: &[u8],
+    count: u8,
+    roots: u16,
+    space: &Space<L, B>,
+    mutators: &mut Vec<Mutator<L>>,
+) -> Result<Vec<Shown>, Stopped>
+    requires all { AreAll space.now mutators.old.items }
+    requires new { DidNothingYet mutators.old.items }
+    requires counts { (count ≡ (setup_of space.now).mutators) × (roots ≡ length (setup_of space.now).heap.roots) }
+    ensures all { AreAll space.now mutators.new.items }
+    ensures shows { IfOk result (λ shown. Shows (setup_of space.now) text.now shown.items) }
+    ensures stopped { IfErr result (λ stopped. StopsShowing (setup_of space.now) text.now stopped.shown.items stopped.fault) }
+{
+    match parse(alloc, text, count, roots) {
+        Ok(trace) => replay(alloc, &trace, space, mutators),
+        Err(fault) => Err(Stopped {
+            shown: Vec::new(alloc),
+            fault,
+        }),
+    }
+}
