@@ -6,7 +6,7 @@ use std::alloc::Global;
 use std::process::Abort;
 use std::sync::Wait;
 use std::thread::Threads;
-use worked_heaps::heaps::three;
+use test_support::heaps::three;
 
 fn three_objects(rt: &impl Abort, alloc: Global) -> MarkedHeap {
     match three(alloc) {

@@ -5,7 +5,10 @@ use page_plan::plan::Plan;
 use std::alloc::Global;
 use std::sync::Arc;
 use std::thread::Threads;
-use worked_heaps::heaps::{F, THREE, judged, zeros_object};
+use test_support::heaps::F;
+use test_support::heaps::THREE;
+use test_support::heaps::judged;
+use test_support::heaps::zeros_object;
 
 /// The heap of a run.
 #[derive(Clone, Copy)]

@@ -4,7 +4,7 @@ use crate::playing::Case;
 use crate::rows::{Call, Row};
 use call_refusals::refusal::Refusal;
 use heap_layout::kind::Kind;
-use worked_heaps::heaps::T;
+use test_support::heaps::T;
 
 // The first address on the second page of to-space, and on the third.
 const SECOND: u64 = T + 64;

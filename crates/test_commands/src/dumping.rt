@@ -13,7 +13,8 @@ use std::process::Abort;
 use std::sync::Wait;
 use std::thread::Threads;
 use commands::replay::print_replay;
-use worked_files::writers::{Failure, Narrow};
+use test_support::writers::Failure;
+use test_support::writers::Narrow;
 
 // What writes a dump.
 #[derive(Clone, Copy)]

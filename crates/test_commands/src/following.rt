@@ -7,8 +7,10 @@ use heap_layout::fault::LayoutFault;
 use commands::next::print_next;
 use std::process::Abort;
 use std::thread::Threads;
-use worked_files::parts::{Part, bytes_of};
-use worked_files::writers::{Failure, Narrow};
+use test_support::parts::Part;
+use test_support::parts::bytes_of;
+use test_support::writers::Failure;
+use test_support::writers::Narrow;
 
 // A cycle in memory, and what has to come of it.
 #[derive(Clone, Copy)]

@@ -5,7 +5,8 @@ use std::process::Abort;
 use std::sync::Arc;
 use std::test::Fail;
 use std::thread::Threads;
-use worked_heaps::heaps::{planned, three};
+use test_support::heaps::planned;
+use test_support::heaps::three;
 
 // What was made.
 fn made<T>(rt: &impl Abort, found: Result<T, Fail>) -> T {

@@ -12,7 +12,7 @@ use std::process::Abort;
 use std::sync::Wait;
 use std::sync::ledger::Ledger as Named;
 use std::thread::{self, Threads};
-use worked_heaps::heaps::T;
+use test_support::heaps::T;
 
 /// What a mutator writes at this step: 100 times its number, and the step.
 pub fn value_at(number: u8, step: u64) -> u64 {

@@ -10,7 +10,7 @@ use std::alloc::Global;
 use std::process::Abort;
 use std::thread::Threads;
 use trace_text::parsing::parse;
-use worked_heaps::heaps::three;
+use test_support::heaps::three;
 
 // The marks that begin the second cycle.
 const MARKS: [u32; 2] = [2, 64];

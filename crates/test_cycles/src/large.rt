@@ -11,7 +11,7 @@ use std::alloc::Global;
 use std::process::Abort;
 use std::test::Fail;
 use std::thread::Threads;
-use worked_heaps::heaps::heap;
+use test_support::heaps::heap;
 
 // 769 objects of 1,024 words, which are 12,304 pages. All are marked.
 fn long_objects(alloc: Global) -> Result<MarkedHeap, Fail> {

@@ -13,7 +13,8 @@ use std::thread::Threads;
 use trace_steps::shown::Shown;
 use trace_text::fault::TraceFault;
 use trace_text::parsing::parse;
-use worked_heaps::heaps::{F, THREE};
+use test_support::heaps::F;
+use test_support::heaps::THREE;
 
 // The first object's data word is shown, a new object stored, and in the second cycle it is shown again.
 const FIRST: &[u8] =

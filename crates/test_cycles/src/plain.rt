@@ -5,7 +5,7 @@ use heap_layout::header::Header;
 use heap_layout::heap::MarkedHeap;
 use std::alloc::{AllocError, Global};
 use std::process::Abort;
-use worked_heaps::heaps::F;
+use test_support::heaps::F;
 
 /// Where an object is that was dropped.
 const NOWHERE: u64 = u64::MAX;

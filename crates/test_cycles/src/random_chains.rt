@@ -7,11 +7,12 @@ use crate::plain::{Field, Life, Plain};
 use heap_layout::edition::Edition;
 use heap_layout::header::Header;
 use heap_layout::heap::MarkedHeap;
-use plain_objects::random::Random;
+use test_support::random::Random;
 use std::alloc::{AllocError, Global};
 use std::process::Abort;
 use std::thread::Threads;
-use worked_heaps::heaps::{F, heap_of};
+use test_support::heaps::F;
+use test_support::heaps::heap_of;
 
 // How many chains there are of each edition, cycles of a chain, and lines that are drawn for a cycle.
 const CHAINS: u64 = 40;

@@ -13,7 +13,9 @@ use std::process::Abort;
 use std::thread::Threads;
 use trace_text::fault::TraceFault;
 use trace_text::parsing::parse;
-use worked_heaps::heaps::{F, T, three};
+use test_support::heaps::F;
+use test_support::heaps::T;
+use test_support::heaps::three;
 
 /// The last of the three objects gets a reference to a new one.
 pub const LINKED: &[u8] = b"0 root 0 0\n0 new 1 0 0 9\n0 store 0 0 1\n";

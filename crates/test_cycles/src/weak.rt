@@ -7,7 +7,10 @@ use page_plan::plan::Plan;
 use std::alloc::Global;
 use std::process::Abort;
 use std::thread::Threads;
-use worked_heaps::heaps::{F, T, WEAK, heap_of};
+use test_support::heaps::F;
+use test_support::heaps::T;
+use test_support::heaps::WEAK;
+use test_support::heaps::heap_of;
 
 fn weak_heap(rt: &impl Abort, alloc: Global, root: u64) -> MarkedHeap {
     made(rt, heap_of(alloc, Edition::Two, &WEAK, &[0, 5], &[root]))

@@ -5,7 +5,7 @@ use crate::planned::{Worked, plan_of};
 use comp_dump::fault::AuditFault;
 use comp_audit::verdict::Verdict;
 use comp_dump::fault::DumpFault;
-use worked_heaps::heaps::T;
+use test_support::heaps::T;
 
 const BAD_MAGIC: Becomes = Becomes::Is(Err(DumpFault::BadMagic));
 

@@ -4,7 +4,8 @@ use crate::judged::{Row, Told};
 use comp_dump::fault::AuditFault;
 use comp_audit::verdict::Verdict;
 use comp_dump::fault::DumpFault;
-use worked_heaps::heaps::{F, T};
+use test_support::heaps::F;
+use test_support::heaps::T;
 
 // Where fields of the dump lie.
 const VERSION: usize = 8;

@@ -15,9 +15,14 @@ use std::sync::Arc;
 use std::sync::ledger::{Blank, Ledger as Named};
 use std::test::Fail;
 use std::thread::Threads;
-use worked_heaps::heaps::{
-    counting_heap, empty, planned, seventeen_pages, smallest, three, weak, zeros_heap,
-};
+use test_support::heaps::counting_heap;
+use test_support::heaps::empty;
+use test_support::heaps::planned;
+use test_support::heaps::seventeen_pages;
+use test_support::heaps::smallest;
+use test_support::heaps::three;
+use test_support::heaps::weak;
+use test_support::heaps::zeros_heap;
 
 /// The heap of a case.
 #[derive(Clone, Copy)]

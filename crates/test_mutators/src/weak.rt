@@ -6,7 +6,7 @@ use crate::rows::Row;
 use call_refusals::refusal::Refusal;
 use comp_journal::entry::Entry;
 use heap_layout::kind::Kind;
-use worked_heaps::heaps::T;
+use test_support::heaps::T;
 
 // Where the second slid object starts.
 const SECOND: u64 = T + 4;

@@ -1,7 +1,7 @@
 //! Which words ask what.
 use command_line::words::{VERSION_LINE, read_task};
 use std::process::Abort;
-use worked_files::runs::words_of;
+use test_support::runs::words_of;
 
 // What is told of a line.
 #[derive(Clone, Copy)]

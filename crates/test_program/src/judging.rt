@@ -1,10 +1,18 @@
 //! Audits by the program.
-use worked_files::changes::{
-    Change, FIRST_DATA, HEADER_OFFSET, HEADER_STAMP, LAST_PAGE, LAST_WORD, REFERENCE,
-    REFERENCE_STAMP, REFERENCE_VALUE, ROOT, TOTAL, VERSION,
-};
-use worked_files::contents::Content;
-use worked_files::steps::Step;
+use test_support::changes::Change;
+use test_support::changes::FIRST_DATA;
+use test_support::changes::HEADER_OFFSET;
+use test_support::changes::HEADER_STAMP;
+use test_support::changes::LAST_PAGE;
+use test_support::changes::LAST_WORD;
+use test_support::changes::REFERENCE;
+use test_support::changes::REFERENCE_STAMP;
+use test_support::changes::REFERENCE_VALUE;
+use test_support::changes::ROOT;
+use test_support::changes::TOTAL;
+use test_support::changes::VERSION;
+use test_support::contents::Content;
+use test_support::steps::Step;
 
 /// Dumps that pass.
 pub const PASSED: &[Step] = &[

@@ -4,10 +4,14 @@ use std::rt::Files;
 use std::sync::Wait;
 use std::test::Fail;
 use std::thread::Threads;
-use worked_files::contents::Content;
-use worked_files::runs::{Run, Text, expect_ran, words_of};
-use worked_files::steps::Step;
-use worked_files::writers::{Failure, Narrow};
+use test_support::contents::Content;
+use test_support::runs::Run;
+use test_support::runs::Text;
+use test_support::runs::expect_ran;
+use test_support::runs::words_of;
+use test_support::steps::Step;
+use test_support::writers::Failure;
+use test_support::writers::Narrow;
 
 // What has to come of a line that is refused since it cannot print, or of one that is not refused. What it prints is not looked at.
 fn wanted_of(line: &'static str, refused: bool) -> Run {

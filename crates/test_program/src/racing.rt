@@ -1,7 +1,7 @@
 //! Traces whose mutators race over heaps: the lines, the dump, and what refusals leave.
 use crate::replaying::KEPT;
-use worked_files::contents::Content;
-use worked_files::steps::Step;
+use test_support::contents::Content;
+use test_support::steps::Step;
 
 // Each of both mutators shows a value, and reads a field of null then: mutator 1 in line 7, and mutator 0 in line 9.
 const STOPPED: Content = Content::Text(

@@ -1,6 +1,6 @@
 //! Traces that are run over heaps: the dump, the lines, and what a refusal leaves.
-use worked_files::contents::Content;
-use worked_files::steps::Step;
+use test_support::contents::Content;
+use test_support::steps::Step;
 
 /// Traces that are run to their end.
 pub const REPLAYED: &[Step] = &[

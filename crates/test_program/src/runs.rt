@@ -4,8 +4,12 @@ use std::rt::Files;
 use std::sync::Wait;
 use std::test::Fail;
 use std::thread::Threads;
-use worked_files::runs::{Run, expect_ran, words_of};
-use worked_files::steps::{Step, run_of, take_file_step};
+use test_support::runs::Run;
+use test_support::runs::expect_ran;
+use test_support::runs::words_of;
+use test_support::steps::Step;
+use test_support::steps::run_of;
+use test_support::steps::take_file_step;
 
 // Runs the program, and has come of it what has to.
 fn expect_run<R: Files + AllocGlobal + Threads + Wait + Sync>(

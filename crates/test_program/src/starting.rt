@@ -4,7 +4,7 @@ use std::env::FillError;
 use std::io::ErrorKind;
 use std::process::Abort;
 use std::rt::Env;
-use worked_files::runs::words_of;
+use test_support::runs::words_of;
 
 // A machine that gives these words, the program's name first.
 #[derive(Drop)]

@@ -1,8 +1,12 @@
 //! Runs on objects that have weak words.
 use crate::replaying::KEPT;
-use worked_files::changes::{Change, REFERENCE_KIND, REFERENCE_VALUE, SLID_WEAK_WORD, VERSION};
-use worked_files::contents::Content;
-use worked_files::steps::Step;
+use test_support::changes::Change;
+use test_support::changes::REFERENCE_KIND;
+use test_support::changes::REFERENCE_VALUE;
+use test_support::changes::SLID_WEAK_WORD;
+use test_support::changes::VERSION;
+use test_support::contents::Content;
+use test_support::steps::Step;
 
 // The audit of the dump that was written last.
 const AUDIT: &str = "audit weak.tests.img weak.tests.out";

@@ -5,7 +5,7 @@ use std::alloc::Global;
 use std::process::Abort;
 use std::test::Fail;
 use std::thread::Threads;
-use worked_heaps::heaps::planned;
+use test_support::heaps::planned;
 
 /// It is so. Where it is not, the test ends, and tells its name and a number: of a page, a mutator, a stamp or words.
 pub fn expect_so(rt: &impl Abort, name: &str, so: bool, number: u64) {

@@ -16,8 +16,11 @@ use std::sync::Wait;
 use std::sync::ledger::Blank;
 use std::thread::Threads;
 use trace_text::fault::Stop;
-use worked_heaps::builders::Meeting;
-use worked_heaps::heaps::{F, heap, three, weak};
+use test_support::builders::Meeting;
+use test_support::heaps::F;
+use test_support::heaps::heap;
+use test_support::heaps::three;
+use test_support::heaps::weak;
 
 // What is to come of a mutator's run.
 enum Wanted {

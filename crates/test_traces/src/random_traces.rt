@@ -11,7 +11,7 @@ use comp_mutator::finishing::Finished;
 use trace_replay::replay::Stopped;
 use heap_layout::edition::Edition;
 use page_plan::plan::Plan;
-use plain_objects::two_live::two_live;
+use test_support::two_live::two_live;
 use std::alloc::Global;
 use std::marker::Brand;
 use std::process::Abort;

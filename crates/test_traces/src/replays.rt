@@ -15,7 +15,8 @@ use std::sync::ledger::Blank;
 use std::thread::Threads;
 use trace_steps::shown::Shown;
 use trace_text::fault::TraceFault;
-use worked_heaps::heaps::{three, weak};
+use test_support::heaps::three;
+use test_support::heaps::weak;
 
 // The only entry of a page, which mutator 0 wrote: the page's number, and the entry's stamp, kind, offset and value.
 struct Only(usize, u64, Kind, u8, u64);

@@ -16,8 +16,11 @@ use std::process::Abort;
 use std::sync::Arc;
 use std::test::Fail;
 use std::thread::Threads;
-use worked_heaps::builders::{Meeting, Refusing};
-use worked_heaps::heaps::{planned, three, zeros_heap};
+use test_support::builders::Meeting;
+use test_support::builders::Refusing;
+use test_support::heaps::planned;
+use test_support::heaps::three;
+use test_support::heaps::zeros_heap;
 
 // What two passes do at once: the rows of the first, and those of the second.
 type Round = (&'static [Row], &'static [Row]);

@@ -15,7 +15,9 @@ use std::process::Abort;
 use std::sync::Arc;
 use std::sync::ledger::{Blank, Ledger as Named};
 use std::thread::Threads;
-use worked_heaps::heaps::{counting_object, judged, zeros_object};
+use test_support::heaps::counting_object;
+use test_support::heaps::judged;
+use test_support::heaps::zeros_object;
 
 // As many equal objects, one behind the other.
 fn equal_objects(rt: &impl Abort, alloc: Global, object: Object, objects: usize) -> Vec<u64> {

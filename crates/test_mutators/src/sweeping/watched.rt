@@ -4,7 +4,8 @@ use crate::sweeping::expected::expect;
 use comp_sweep::gate::Gate;
 use std::process::Abort;
 use std::sync::atomic::{AtomicU64, Ordering};
-use worked_heaps::builders::{both, met};
+use test_support::builders::both;
+use test_support::builders::met;
 
 /// The gate of a case. One that counts is told of three regions. One that holds counts the regions for which that was in vain.
 #[derive(Drop)]
