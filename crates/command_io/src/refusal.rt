@@ -4,7 +4,7 @@ ghost use Rattle.command_io.specs.declared.refusal.Refusal.TheVariants as refusa
 use comp_dump::fault::AuditFault;
 use call_refusals::refusal as mutators;
 use comp_dump::fault::DumpFault;
-use comp_sweep::refusal::SweepFault;
+use comp_sweep::fault::SweepFault;
 use heap_layout::fault::{self, LayoutFault};
 use std::alloc::AllocError;
 use std::fmt;

@@ -19,7 +19,7 @@ use Rattle.trace_text.specs.Grammar.{parts}
 use Rattle.trace_race.specs.Races.{numbered, own_lines, HaveRaced, Ran}
 use Rattle.trace_text.specs.declared.fault.Stop.{Stop}
 use Rattle.trace_text.specs.declared.line.Line.{Line}
-use Rattle.trace_race.specs.declared.race.Run.{Run}
+use Rattle.trace_race.specs.declared.racing.Run.{Run}
 use Rattle.trace_steps.specs.declared.shown.Shown.{Shown}
 use Rattle.trace_replay.proofs.Inside.{read_inside}
 use Rattle.commands.specs.ByLine.{AreByLine, AreOwn, HasEnded, IsLeastStop}

@@ -20,7 +20,7 @@ use Rattle.trace_race.specs.Races.{numbered, own_lines, Ran}
 use Rattle.trace_text.specs.declared.fault.TraceFault.{TraceFault}
 use Rattle.trace_text.specs.declared.fault.TraceFault.TheVariants as faults
 use Rattle.trace_text.specs.declared.line.Line.{Line}
-use Rattle.trace_race.specs.declared.race.Run.{Run}
+use Rattle.trace_race.specs.declared.racing.Run.{Run}
 use Rattle.trace_steps.specs.declared.shown.Shown.{Shown}
 use Rattle.comp_dump.specs.DumpEncoding.{dump_bytes}
 use Rattle.comp_dump.specs.declared.fault.DumpFault.TheVariants.{Device}

@@ -2,7 +2,7 @@
 ghost use Rattle.std.specs.Prelude.{◌≡◌, ℕ, ◌+◌, ◌<◌, ◌≤◌, [], All, drop, length, vec_capacity, IfSome};
 ghost use Rattle.commands.specs.ByLine.{earlier_of, told_of, AreByLine, AreOwn, IsFirstStop};
 
-use trace_race::race::Run;
+use trace_race::racing::Run;
 use trace_steps::shown::Shown;
 use trace_text::fault::Stop;
 use trace_text::line::Line;

@@ -20,7 +20,7 @@ use comp_dump::dump::Dump;
 use comp_mutator::finishing::{FinishFault, Finished};
 use comp_mutator::flipping::flip;
 use comp_mutator::mutator::Mutator;
-use comp_mutator::refusal::FlipFault;
+use comp_mutator::fault::FlipFault;
 use comp_mutator::space::Space;
 use comp_sweep::gate::Open;
 use comp_sweep::sweeping::sweep;

@@ -2,7 +2,8 @@
 ghost use Rattle.std.specs.Prelude.{◌≡◌, ◌≢◌};
 ghost use Rattle.std.specs.declared.io.ErrorKind.TheVariants as kinds;
 
-use crate::run::{MISUSED, told};
+use crate::running::MISUSED;
+use crate::running::told;
 use command_io::refusal::Refusal;
 use std::env;
 use std::io::{ErrorKind, Result as IoResult, Write};

@@ -18,7 +18,7 @@ use command_io::refusal::Refusal;
 use comp_mutator::flipping::flip;
 use comp_mutator::laws::alone_sees_its_own;
 use comp_mutator::mutator::Mutator;
-use comp_mutator::refusal::FlipFault;
+use comp_mutator::fault::FlipFault;
 use comp_mutator::space::Space;
 use heap_layout::counted::Counted;
 use heap_layout::image::read_image;

@@ -1,8 +1,8 @@
 -- Ledgers, and why one is not gathered.
 use Rattle.std.specs.Prelude.{ℕ, ◌+◌, ◌<◌, List, sum}
 use Rattle.comp_ledger.specs.declared.ledger.Ledger.{Ledger}
-use Rattle.comp_ledger.specs.declared.refusal.LedgerFault.{LedgerFault}
-use Rattle.comp_ledger.specs.declared.refusal.LedgerFault.TheVariants.{OverCapacity, ShareMissing}
+use Rattle.comp_ledger.specs.declared.fault.LedgerFault.{LedgerFault}
+use Rattle.comp_ledger.specs.declared.fault.LedgerFault.TheVariants.{OverCapacity, ShareMissing}
 use Rattle.comp_ledger.specs.declared.share.Share.{Share}
 use Rattle.comp_ledger.specs.Shares.{total_posted, IsLeastMissing, NoneMissing}
 

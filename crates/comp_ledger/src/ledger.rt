@@ -3,7 +3,7 @@ ghost use Rattle.std.specs.List.{range_with_len};
 
 use crate::gathering::{last_within, least_missing, merged};
 use crate::posted::Posted;
-use crate::refusal::LedgerFault;
+use crate::fault::LedgerFault;
 use crate::share::Share;
 use heap_layout::fault::OutOfMemory;
 use std::alloc::Global;
@@ -35,7 +35,7 @@ pub struct NotGathered<L: Named> {
 impl<L: Named> Ledger<L> {
     ghost use Rattle.comp_ledger.specs.Ledgers.{capacity_of, live_of, share_count, GatherRefused};
     ghost use Rattle.comp_ledger.specs.Shares.{number_of, numbers_of, posted_of, total_posted, NoneMissing};
-    ghost use Rattle.comp_ledger.specs.declared.refusal.LedgerFault.TheVariants.{OverCapacity};
+    ghost use Rattle.comp_ledger.specs.declared.fault.LedgerFault.TheVariants.{OverCapacity};
 
     /// A ledger of `live` words at the start, which may become `capacity` words, and its `n` shares, with which nothing is posted: number k stands at
     /// place k. Its one refusal is want of memory.

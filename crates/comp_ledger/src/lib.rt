@@ -4,5 +4,5 @@
 mod gathering;
 pub mod ledger;
 mod posted;
-pub mod refusal;
+pub mod fault;
 pub mod share;

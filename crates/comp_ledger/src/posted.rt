@@ -1,6 +1,6 @@
 ghost use Rattle.std.specs.Prelude.{◌≡◌, ◌↔◌, ◌+◌, ◌^◌, ◌<◌, ◌≤◌, Err, IsErr, OnOk, OnErr};
 
-use crate::refusal::LedgerFault;
+use crate::fault::LedgerFault;
 use crate::share::Share;
 use std::sync::ledger::{Book, Ledger as Named, Share as Token};
 
@@ -14,7 +14,7 @@ pub(crate) struct Posted<L: Named> {
 
 impl<L: Named> Posted<L> {
     ghost use Rattle.comp_ledger.specs.Shares.{number_of, posted_of};
-    ghost use Rattle.comp_ledger.specs.declared.refusal.LedgerFault.TheVariants.{OverCapacity};
+    ghost use Rattle.comp_ledger.specs.declared.fault.LedgerFault.TheVariants.{OverCapacity};
 
     /// A book in which nothing is posted.
     pub(crate) fn new(book: Book<L>) -> Posted<L>

@@ -3,7 +3,7 @@
 
 ghost use Rattle.std.specs.Prelude.{◌≤◌};
 
-use commands::run::run;
+use commands::running::run;
 use commands::starting::{fetch_words, tell_unstarted};
 use std::io::{self, BufWriter, ErrorKind, Write};
 use std::process::ExitCode;

@@ -9,7 +9,7 @@ ghost use Rattle.trace_steps.specs.Traces.{IsParsedFor};
 use comp_mutator::finishing::Finished;
 use comp_mutator::mutator::Mutator;
 use comp_mutator::space::Space;
-use trace_replay::replay::replay;
+use trace_replay::replaying::replay;
 use page_plan::builder::Builder;
 use std::alloc::Global;
 use std::sync::ledger::Ledger as Named;

@@ -2,8 +2,8 @@
 use crate::heaps::{Heap, heap_of};
 use call_refusals::refusal::Refusal;
 use trace_cycles::fault::CycleFault;
-use trace_cycles::replay_cycles::CyclesStopped;
-use trace_cycles::replay_cycles::replay_cycles;
+use trace_cycles::replaying::CyclesStopped;
+use trace_cycles::replaying::replay_cycles;
 use heap_layout::fault::LayoutFault;
 use std::alloc::Global;
 use std::thread::Threads;

@@ -6,7 +6,7 @@ ghost use Rattle.comp_mutator.specs.Mutators.{setup_of, AreMutatorsOf};
 use comp_mutator::finishing::{FinishFault, Finished, Unfinished};
 use comp_mutator::mutator::Mutator;
 use comp_mutator::space::Space;
-use comp_sweep::refusal::SweepFault;
+use comp_sweep::fault::SweepFault;
 use comp_sweep::gate::Open;
 use comp_sweep::sweeping::sweep;
 use page_plan::plan::Plan;

@@ -2,7 +2,7 @@
 ghost use Rattle.std.specs.Prelude.{◌≡◌};
 
 use comp_ledger::ledger::Ledger;
-use comp_ledger::refusal::LedgerFault;
+use comp_ledger::fault::LedgerFault;
 use std::alloc::Global;
 use std::marker::Brand;
 use std::sync::Wait;

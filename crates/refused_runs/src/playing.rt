@@ -9,7 +9,7 @@ use crate::rows::Row;
 use comp_mutator::finishing::Finished;
 use comp_mutator::flipping::flip;
 use comp_mutator::mutator::Mutator;
-use comp_mutator::refusal::FlipFault;
+use comp_mutator::fault::FlipFault;
 use comp_mutator::space::Space;
 use page_plan::plan::Plan;
 use std::alloc::Global;

@@ -11,7 +11,7 @@ use crate::judging::is_lawful;
 use call_refusals::refusal::Refusal;
 use comp_mutator::mutator::Mutator;
 use comp_mutator::space::Space;
-use trace_replay::replay::Stopped;
+use trace_replay::replaying::Stopped;
 use trace_replay::texts::replay_text;
 use page_plan::plan::Plan;
 use std::alloc::Global;

@@ -4,7 +4,7 @@ use crate::rows::{LINKED, linked};
 use comp_audit::auditing::audit;
 use comp_audit::verdict::Verdict;
 use comp_dump::dump::Dump;
-use trace_cycles::replay_cycles::replay_cycles;
+use trace_cycles::replaying::replay_cycles;
 use page_plan::plan::Plan;
 use std::alloc::Global;
 use std::process::Abort;

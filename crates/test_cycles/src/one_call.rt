@@ -4,7 +4,7 @@ ghost use Rattle.trace_cycles.specs.CycleRuns.{IsParsedFor};
 
 use crate::chains::expect_so;
 use crate::random_chains::{FRESH, MUTATORS};
-use trace_cycles::replay_cycles::replay_cycles;
+use trace_cycles::replaying::replay_cycles;
 use heap_layout::heap::MarkedHeap;
 use std::alloc::Global;
 use std::process::Abort;

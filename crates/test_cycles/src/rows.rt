@@ -5,7 +5,7 @@ use crate::chains::{expect_so, first_page, follow, followed, made, ran};
 use call_refusals::refusal::Refusal;
 use trace_cycles::cycle::Ran;
 use trace_cycles::fault::CycleFault;
-use trace_cycles::replay_cycles::replay_cycles;
+use trace_cycles::replaying::replay_cycles;
 use heap_layout::fault::LayoutFault;
 use page_plan::plan::Plan;
 use std::alloc::Global;

@@ -1,5 +1,5 @@
 //! Runs whose output takes only so much, by three bytes at a time.
-use commands::run::run;
+use commands::running::run;
 use std::rt::Files;
 use std::sync::Wait;
 use std::test::Fail;

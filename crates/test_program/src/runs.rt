@@ -1,5 +1,5 @@
 //! Runs of the program on the words of a line, and tests that are lists of steps.
-use commands::run::run;
+use commands::running::run;
 use std::rt::Files;
 use std::sync::Wait;
 use std::test::Fail;

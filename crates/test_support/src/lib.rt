@@ -9,7 +9,7 @@ pub mod call;
 pub mod object;
 pub mod objects;
 pub mod random;
-pub mod two_live;
+pub mod two_live_objects;
 pub mod changes;
 pub mod contents;
 pub mod images;

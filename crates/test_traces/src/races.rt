@@ -5,7 +5,7 @@ use crate::ran::raced;
 use crate::replays::{WEAK_TEXT, replay_rows, replay_weak_rows};
 use call_refusals::refusal::Refusal;
 use comp_mutator::finishing::Finished;
-use trace_race::race::Run;
+use trace_race::racing::Run;
 use heap_layout::header::Header;
 use page_plan::builder::Builder;
 use page_plan::plan::Plan;

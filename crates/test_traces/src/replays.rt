@@ -5,7 +5,7 @@ use crate::ran::replayed;
 use call_refusals::refusal::Refusal;
 use comp_journal::entry::Entry;
 use comp_mutator::finishing::Finished;
-use trace_replay::replay::Stopped;
+use trace_replay::replaying::Stopped;
 use heap_layout::kind::Kind;
 use page_plan::plan::Plan;
 use std::alloc::Global;

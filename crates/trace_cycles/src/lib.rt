@@ -3,4 +3,4 @@
 
 pub mod cycle;
 pub mod fault;
-pub mod replay_cycles;
+pub mod replaying;

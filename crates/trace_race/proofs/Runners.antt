@@ -16,7 +16,7 @@ use Rattle.trace_race.specs.Races.{numbered, own_lines, HaveRaced, Ran}
 use Rattle.trace_steps.specs.AllMutators.{AreAll}
 use Rattle.trace_race.specs.Runners.{lines_for, mutator_of, room_in, room_of, run_of, HasRun, HaveRooms, IsBlank, IsReady}
 use Rattle.trace_text.specs.declared.line.Line.{Line}
-use Rattle.trace_race.specs.declared.race.Run.{Run}
+use Rattle.trace_race.specs.declared.racing.Run.{Run}
 use Rattle.trace_race.specs.declared.runner.Runner.{Runner}
 use Rattle.trace_steps.specs.declared.shown.Shown.{Shown}
 use Rattle.trace_steps.proofs.Elements.{at_or, written_back}

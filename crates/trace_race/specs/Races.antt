@@ -14,7 +14,7 @@ use Rattle.comp_mutator.specs.declared.space.Space.{Space}
 use Rattle.trace_steps.specs.Acting.{null_registers, registers_after, shown_at, Refuses, Steps}
 use Rattle.trace_text.specs.declared.fault.Stop.{Stop}
 use Rattle.trace_text.specs.declared.line.Line.{Line}
-use Rattle.trace_race.specs.declared.race.Run.{Run}
+use Rattle.trace_race.specs.declared.racing.Run.{Run}
 use Rattle.trace_steps.specs.declared.shown.Shown.{Shown}
 use Rattle.trace_steps.specs.AllMutators.{AreAll}
 

@@ -10,7 +10,7 @@ use Rattle.comp_mutator.specs.declared.space.Space.{Space}
 use Rattle.trace_steps.specs.Acting.{null_registers}
 use Rattle.trace_race.specs.Races.{numbered, own_lines, Ran}
 use Rattle.trace_text.specs.declared.line.Line.{Line}
-use Rattle.trace_race.specs.declared.race.Run.{Run}
+use Rattle.trace_race.specs.declared.racing.Run.{Run}
 use Rattle.trace_race.specs.declared.runner.Runner.{Runner}
 use Rattle.trace_steps.specs.declared.shown.Shown.{Shown}
 

@@ -2,6 +2,6 @@
 #![tactic(auto)]
 
 mod chains;
-pub mod race;
+pub mod racing;
 mod runner;
 mod waiting;

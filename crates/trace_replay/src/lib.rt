@@ -2,6 +2,6 @@
 #![tactic(auto)]
 
 pub mod laws;
-pub mod replay;
+pub mod replaying;
 pub mod running;
 pub mod texts;

@@ -9,11 +9,12 @@ ghost use Rattle.trace_steps.specs.Traces.{IsParsedFor};
 ghost use Rattle.trace_text.specs.Traces.{lines_of, mutators_of, roots_of};
 ghost use Rattle.trace_replay.specs.Heaps.{HasRunOver, IsHaltOf};
 
-use crate::replay::{Stopped, replay};
+use crate::replaying::Stopped;
+use crate::replaying::replay;
 use comp_mutator::finishing::{FinishFault, Finished};
 use comp_mutator::flipping::flip;
 use comp_mutator::mutator::Mutator;
-use comp_mutator::refusal::FlipFault;
+use comp_mutator::fault::FlipFault;
 use comp_mutator::space::Space;
 use page_plan::laws::heap_is_closed;
 use page_plan::plan::Plan;

@@ -5,7 +5,8 @@ ghost use Rattle.trace_steps.specs.Deeds.{DidNothingYet};
 ghost use Rattle.trace_replay.specs.Bytes.{Shows, StopsShowing};
 ghost use Rattle.trace_steps.specs.AllMutators.{AreAll};
 
-use crate::replay::{Stopped, replay};
+use crate::replaying::Stopped;
+use crate::replaying::replay;
 use comp_mutator::mutator::Mutator;
 use comp_mutator::space::Space;
 use page_plan::builder::Builder;

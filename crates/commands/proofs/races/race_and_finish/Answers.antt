@@ -6,7 +6,7 @@ use Rattle.cell_steps.specs.Lists.{Each}
 use Rattle.trace_text.specs.Traces.{lines_of}
 use Rattle.trace_text.specs.declared.line.Line.{Line}
 use Rattle.trace_steps.proofs.Callers.{all_of}
-use Rattle.trace_race.specs.declared.race.Run.{Run}
+use Rattle.trace_race.specs.declared.racing.Run.{Run}
 use Rattle.commands.specs.ByLine.{AreByLine, AreOwn, HasEnded, IsLeastStop}
 use Rattle.commands.proofs.Racing.{all_inside, each_own, many_runs, raced_heap, stopped_race}
 use Rattle.trace_replay.proofs.Runnings.{all_row, all_there}
