@@ -19,7 +19,7 @@ use crate::setting::Setting;
 use crate::stamps::check_stamps;
 use crate::starts::starts_of;
 use crate::totals::check_total;
-use comp_dump::page::DumpedPage;
+use comp_dump::DumpedPage;
 use std::alloc::Global;
 
 /// All checks of a dump of the setting's edition, with these roots, lists of builds, pages and total: each tells its first fault, in the order in which

@@ -2,8 +2,8 @@
 ghost use Rattle.std.specs.Prelude.{◌≡◌};
 ghost use Rattle.audit_checks.specs.declared.fault.Stop.TheVariants as stop;
 
-use comp_dump::fault::AuditFault;
-use heap_layout::fault::OutOfMemory;
+use comp_dump::AuditFault;
+use heap_layout::OutOfMemory;
 use std::alloc::{AllocError, AllocFailed};
 
 /// Why a check ends early: a growth was refused, or there is a fault.

@@ -7,9 +7,9 @@ ghost use Rattle.audit_checks.specs.Noted.{setup_at};
 
 use crate::fault::Stop;
 use crate::setting::Setting;
-use comp_dump::fault::AuditFault;
-use comp_dump::page::DumpedPage;
-use heap_layout::edition::Edition;
+use comp_dump::AuditFault;
+use comp_dump::DumpedPage;
+use heap_layout::Edition;
 use std::alloc::Global;
 
 /// The dump is of the plan's edition, there is a place for each compacted page and each fresh one, and the roots lead where the plan forwards them.

@@ -2,7 +2,7 @@
 ghost use Rattle.std.specs.Prelude.{◌≡◌, slice_get};
 ghost use Rattle.audit_checks.specs.Checks.{is_kind, some_refers};
 
-use heap_layout::kind::Kind;
+use heap_layout::Kind;
 
 /// Whether a word, if there is one, is of this kind.
 pub fn is_word_of(found: Option<Kind>, kind: Kind) -> bool

@@ -9,10 +9,10 @@ ghost use Rattle.comp_dump.specs.declared.fault.AuditFault.TheVariants.{BadEntry
 use crate::fault::Stop;
 use crate::record::journal_of;
 use crate::starts::Starts;
-use comp_dump::fault::AuditFault;
-use comp_dump::page::DumpedPage;
-use comp_journal::entry::Entry;
-use page_plan::plan::Plan;
+use comp_dump::AuditFault;
+use comp_dump::DumpedPage;
+use comp_journal::Entry;
+use page_plan::Plan;
 
 /// An entry that is a reference or weak word and leads to what was not there: its stamp, its page, and its number on that page.
 #[derive(Clone, Copy)]

@@ -1,9 +1,9 @@
 //! The checks of the audit: what can be wrong with a dump, and the first thing that is.
 #![tactic(auto)]
 
-pub mod checks;
+mod checks;
 mod claims;
-pub mod fault;
+mod fault;
 mod head;
 mod journals;
 mod kinds;
@@ -11,7 +11,11 @@ mod late;
 mod page_words;
 mod record;
 mod references;
-pub mod setting;
+mod setting;
 mod stamps;
 mod starts;
 mod totals;
+
+pub use checks::check;
+pub use fault::Stop;
+pub use setting::Setting;

@@ -9,11 +9,11 @@ ghost use Rattle.audit_checks.specs.Noted.{setup_at};
 
 use crate::fault::Stop;
 use crate::setting::Setting;
-use comp_dump::fault::AuditFault;
-use comp_dump::page::DumpedPage;
-use comp_journal::entry::Entry;
-use heap_layout::fault::OutOfMemory;
-use heap_layout::page_words::PageWords;
+use comp_dump::AuditFault;
+use comp_dump::DumpedPage;
+use comp_journal::Entry;
+use heap_layout::OutOfMemory;
+use heap_layout::PageWords;
 use page_plan::TO_SPACE;
 use std::alloc::Global;
 

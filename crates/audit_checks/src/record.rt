@@ -1,8 +1,8 @@
 ghost use Rattle.std.specs.Prelude.{◌≡◌};
 ghost use Rattle.audit_checks.specs.Checks.{journal_of};
 
-use comp_dump::page::DumpedPage;
-use comp_journal::entry::Entry;
+use comp_dump::DumpedPage;
+use comp_journal::Entry;
 
 /// The entries of a page, where it was built; else none.
 pub(crate) fn journal_of<'a>(place: &'a Option<DumpedPage<'_>>) -> &'a [Entry]

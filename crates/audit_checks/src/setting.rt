@@ -1,5 +1,5 @@
-use heap_layout::edition::Edition;
-use page_plan::plan::Plan;
+use heap_layout::Edition;
+use page_plan::Plan;
 
 /// What a dump is held against: the plan of the compaction; and of the dump itself the edition, and how many fresh pages and mutators there were.
 #[derive(Clone, Copy)]

@@ -6,9 +6,9 @@ ghost use Rattle.audit_checks.specs.Told.{Tells};
 
 use crate::fault::Stop;
 use crate::record::journal_of;
-use comp_dump::fault::AuditFault;
-use comp_dump::page::DumpedPage;
-use comp_journal::entry::Entry;
+use comp_dump::AuditFault;
+use comp_dump::DumpedPage;
+use comp_journal::Entry;
 use std::alloc::{AllocError, Global};
 
 /// The stamps of all entries are the numbers below their count, each once.

@@ -11,11 +11,11 @@ ghost use Rattle.audit_checks.specs.Noted.{is_below, is_noted_before, leads, set
 
 use crate::record::journal_of;
 use crate::setting::Setting;
-use comp_dump::page::DumpedPage;
-use comp_journal::entry::Entry;
-use heap_layout::kind::Kind;
+use comp_dump::DumpedPage;
+use comp_journal::Entry;
+use heap_layout::Kind;
 use page_plan::TO_SPACE;
-use page_plan::plan::Plan;
+use page_plan::Plan;
 use std::alloc::{AllocError, Global};
 use std::marker::Model;
 

@@ -9,13 +9,13 @@ ghost use Rattle.audit_checks.specs.Told.{Tells};
 
 use crate::fault::Stop;
 use crate::record::journal_of;
-use comp_dump::fault::AuditFault;
-use comp_dump::page::DumpedPage;
-use comp_journal::entry::Entry;
-use heap_layout::edition::Edition;
-use heap_layout::header::Header;
-use heap_layout::kind::Kind;
-use page_plan::plan::Plan;
+use comp_dump::AuditFault;
+use comp_dump::DumpedPage;
+use comp_journal::Entry;
+use heap_layout::Edition;
+use heap_layout::Header;
+use heap_layout::Kind;
+use page_plan::Plan;
 
 /// The total is that of the words that slid and of all objects that were made.
 pub fn check_total(plan: &Plan, total: u64, records: &[Option<DumpedPage<'_>>]) -> Result<(), Stop>

@@ -4,9 +4,9 @@ ghost use Rattle.command_io.specs.Images.{IsImageOf, RefusesAt, RefusesImage, So
 ghost use Rattle.command_io.specs.Printing.{IsOfOpening};
 
 use crate::refusal::{Input, Refusal};
-use heap_layout::counted::Counted;
-use heap_layout::image::read_image;
-use heap_layout::heap::MarkedHeap;
+use heap_layout::Counted;
+use heap_layout::read_image;
+use heap_layout::MarkedHeap;
 use std::alloc::Global;
 use std::fs;
 use std::io::{BufReader, Read};

@@ -9,10 +9,10 @@ ghost use Rattle.command_io.specs.NewImages.{IsOfWritingImage};
 
 use crate::dumps::Dumps;
 use crate::refusal::Refusal;
-use heap_layout::counted::Counted;
-use heap_layout::writing::write_image;
-use heap_layout::fault::LayoutFault;
-use heap_layout::heap::MarkedHeap;
+use heap_layout::Counted;
+use heap_layout::write_image;
+use heap_layout::LayoutFault;
+use heap_layout::MarkedHeap;
 use std::io::Write;
 
 /// Writes the image of a heap to a path. Where a call of its writer fails, that writer has taken a beginning of the image.

@@ -6,7 +6,7 @@ ghost use Rattle.heap_layout.specs.Counted.{inner_of, failures_of, is_flushed_of
 ghost use Rattle.command_io.specs.Printing.{help_lines, named, numbered, CountsPrint};
 
 use crate::refusal::Refusal;
-use heap_layout::counted::Counted;
+use heap_layout::Counted;
 use itoa::Buffer;
 use std::io::Write;
 

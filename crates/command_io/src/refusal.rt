@@ -1,15 +1,14 @@
 ghost use Rattle.std.specs.Prelude.{◌≡◌, Some};
 ghost use Rattle.command_io.specs.declared.refusal.Refusal.TheVariants as refusal;
 
-use comp_dump::fault::AuditFault;
-use call_refusals::refusal as mutators;
-use comp_dump::fault::DumpFault;
-use comp_sweep::fault::SweepFault;
-use heap_layout::fault::{self, LayoutFault};
+use comp_dump::AuditFault;
+use comp_dump::DumpFault;
+use comp_sweep::SweepFault;
+use heap_layout::LayoutFault;
 use std::alloc::AllocError;
 use std::fmt;
 use thiserror::Error;
-use trace_text::fault::TraceFault;
+use trace_text::TraceFault;
 
 /// A file that the program is given.
 #[derive(Clone, Copy, Debug, PartialEq, Eq)]
@@ -63,7 +62,7 @@ pub enum Refusal {
     Layout(LayoutFault),
     /// A mutator is refused what it asked.
     #[error(transparent)]
-    Mutator(mutators::Refusal),
+    Mutator(call_refusals::Refusal),
     /// The heap was not swept.
     #[error(transparent)]
     Sweep(SweepFault),
@@ -107,10 +106,10 @@ impl From<LayoutFault> for Refusal {
     }
 }
 
-impl From<mutators::Refusal> for Refusal {
+impl From<call_refusals::Refusal> for Refusal {
     ghost from_gives = { λ refused given. given ≡ refusal.Mutator refused };
 
-    fn from(refused: mutators::Refusal) -> Refusal {
+    fn from(refused: call_refusals::Refusal) -> Refusal {
         Refusal::Mutator(refused)
     }
 }
@@ -131,10 +130,10 @@ impl From<DumpFault> for Refusal {
     }
 }
 
-impl From<fault::OutOfMemory> for Refusal {
+impl From<heap_layout::OutOfMemory> for Refusal {
     ghost from_gives = { λ _ given. given ≡ refusal.OutOfMemory };
 
-    fn from(_fault: fault::OutOfMemory) -> Refusal {
+    fn from(_fault: heap_layout::OutOfMemory) -> Refusal {
         Refusal::OutOfMemory
     }
 }

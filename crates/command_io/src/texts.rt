@@ -3,7 +3,7 @@ ghost use Rattle.std.specs.Prelude.{◌≡◌, ◌-◌, ◌^◌, ◌<◌, length
 ghost use Rattle.heap_layout.specs.Counted.{inner_of, failures_of};
 ghost use Rattle.command_io.specs.Texts.{CountsUnread};
 
-use heap_layout::counted::Counted;
+use heap_layout::Counted;
 use std::alloc::Global;
 use std::io::Read;
 

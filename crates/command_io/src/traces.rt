@@ -8,14 +8,14 @@ ghost use Rattle.command_io.specs.Texts.{CountsText, IsOfOpeningText, IsTextOf, 
 
 use crate::refusal::{Input, Refusal};
 use crate::texts::{Unread, text_in};
-use heap_layout::counted::Counted;
+use heap_layout::Counted;
 use std::alloc::Global;
 use std::fs;
 use std::io::{BufReader, Read};
 use std::rt::Files;
-use trace_text::fault::TraceFault;
-use trace_text::parsing::parse;
-use trace_text::trace::Trace;
+use trace_text::TraceFault;
+use trace_text::parse;
+use trace_text::Trace;
 
 /// Where the traces and the marks lie that the program is given by their paths.
 pub trait Traces {

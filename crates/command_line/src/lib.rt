@@ -2,6 +2,12 @@
 #![tactic(auto)]
 
 mod arguments;
-pub mod next;
+mod next;
 mod values;
-pub mod words;
+mod words;
+
+pub use next::NextRun;
+pub use words::Task;
+pub use words::TraceRun;
+pub use words::VERSION_LINE;
+pub use words::read_task;

@@ -11,22 +11,23 @@ ghost use Rattle.command_io.specs.Dumps.{RefusedUncreated};
 ghost use Rattle.command_io.specs.Images.{IsImageOf, SomeGiven, RefusesAt};
 ghost use Rattle.command_io.specs.Printing.{CountsPrint, CountsRead, RefusedUnprinted};
 
-use call_refusals::refusal as mutators;
-use command_io::dumps::{Dumps, write_to};
-use command_io::images::Images;
-use command_io::print::print_line;
-use command_io::refusal::Refusal;
-use comp_dump::dump::Dump;
-use comp_mutator::finishing::{FinishFault, Finished};
-use comp_mutator::flipping::flip;
-use comp_mutator::mutator::Mutator;
-use comp_mutator::fault::FlipFault;
-use comp_mutator::space::Space;
-use comp_sweep::gate::Open;
-use comp_sweep::sweeping::sweep;
-use heap_layout::counted::Counted;
-use heap_layout::image::read_image;
-use page_plan::plan::Plan;
+use command_io::Dumps;
+use command_io::write_to;
+use command_io::Images;
+use command_io::print_line;
+use command_io::Refusal;
+use comp_dump::Dump;
+use comp_mutator::FinishFault;
+use comp_mutator::Finished;
+use comp_mutator::flip;
+use comp_mutator::Mutator;
+use comp_mutator::FlipFault;
+use comp_mutator::Space;
+use comp_sweep::Open;
+use comp_sweep::sweep;
+use heap_layout::Counted;
+use heap_layout::read_image;
+use page_plan::Plan;
 use std::alloc::Global;
 use std::io::{Read, Write};
 use std::marker::Brand;
@@ -141,7 +142,7 @@ fn flipped_and_swept<L: Ledger + Send, R: Threads + Wait + Sync>(
 {
     match flip::<L, Plan>(alloc, blank, plan, u32::from(workers), 0) {
         Ok((space, mutators)) => sweep_and_finish(alloc, rt, space, mutators),
-        Err(FlipFault::OutOfMemory) => Err(mutators::Refusal::OutOfMemory.into()),
+        Err(FlipFault::OutOfMemory) => Err(call_refusals::Refusal::OutOfMemory.into()),
         Err(FlipFault::BadCounts) => unreachable!(),
     }
 }
@@ -170,7 +171,7 @@ fn sweep_and_finish<L: Ledger + Send, R: Threads + Wait + Sync>(
     match space.finish(alloc, back) {
         Ok(finished) => Ok(finished),
         Err(left) => match left.fault {
-            FinishFault::OutOfMemory => Err(mutators::Refusal::OutOfMemory.into()),
+            FinishFault::OutOfMemory => Err(call_refusals::Refusal::OutOfMemory.into()),
             FinishFault::MutatorMissing(_) => unreachable!(),
         },
     }

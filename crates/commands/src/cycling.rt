@@ -5,21 +5,21 @@ ghost use Rattle.trace_cycles.specs.CycleRuns.{IsParsedFor};
 ghost use Rattle.trace_text.specs.Traces.{lines_of};
 ghost use Rattle.commands.specs.Cycled.{IsCycledHeap, IsNextHeap, IsUncycled, IsUnmarked};
 
-use call_refusals::refusal::Refusal as MutatorRefusal;
-use command_io::refusal::Refusal;
-use comp_cycles::finished::Finished;
-use trace_replay::running::Halt;
-use trace_cycles::cycle::CycleHalt;
-use trace_cycles::cycle::run_cycle;
-use heap_layout::heap::MarkedHeap;
-use page_plan::plan::Plan;
+use call_refusals::Refusal as MutatorRefusal;
+use command_io::Refusal;
+use comp_cycles::Finished;
+use trace_replay::Halt;
+use trace_cycles::CycleHalt;
+use trace_cycles::run_cycle;
+use heap_layout::MarkedHeap;
+use page_plan::Plan;
 use std::alloc::Global;
 use std::sync::Arc;
 use std::thread::Threads;
 use crate::replays::Halted;
 use crate::replays::unshown;
-use trace_steps::shown::Shown;
-use trace_text::trace::Trace;
+use trace_steps::Shown;
+use trace_text::Trace;
 
 /// A cycle that is followed by another.
 #[derive(Drop)]

@@ -7,12 +7,13 @@ ghost use Rattle.command_io.specs.Printing.{CountsPrint, CountsRead, RefusedUnpr
 ghost use Rattle.commands.specs.Plan.{plan_text, count_lines, page_lines, root_lines, IsOfPrinting, PrintsPlan, RefusesPlan};
 ghost use Rattle.command_io.specs.Images.{IsImageOf, SomeGiven, RefusesAt};
 
-use command_io::images::Images;
-use command_io::print::{print_line, print_numbered};
-use command_io::refusal::Refusal;
-use heap_layout::counted::Counted;
-use heap_layout::image::read_image;
-use page_plan::plan::Plan;
+use command_io::Images;
+use command_io::print_line;
+use command_io::print_numbered;
+use command_io::Refusal;
+use heap_layout::Counted;
+use heap_layout::read_image;
+use page_plan::Plan;
 use std::alloc::Global;
 use std::io::{Read, Write};
 use std::thread::Threads;

@@ -8,12 +8,12 @@ ghost use Rattle.commands.specs.Replays.{SomeRun, StopsUnprinted};
 
 use crate::races::race_heap;
 use crate::replay::{inputs_at, write_outcome};
-use command_io::dumps::Dumps;
-use command_io::images::Images;
-use command_io::refusal::Refusal;
-use command_io::traces::Traces;
-use command_line::words::TraceRun;
-use heap_layout::counted::Counted;
+use command_io::Dumps;
+use command_io::Images;
+use command_io::Refusal;
+use command_io::Traces;
+use command_line::TraceRun;
+use heap_layout::Counted;
 use std::alloc::Global;
 use std::io::Write;
 use std::sync::Wait;

@@ -4,18 +4,18 @@ ghost use Rattle.comp_cycles.specs.Finishes.{IsOfFlip};
 ghost use Rattle.trace_text.specs.Traces.{lines_of, mutators_of, roots_of};
 ghost use Rattle.commands.specs.Replays.{IsHalted, IsReplayedHeap};
 
-use call_refusals::refusal::Refusal as MutatorRefusal;
-use command_io::refusal::Refusal;
-use comp_mutator::finishing::Finished;
-use trace_replay::running::Halt;
-use trace_replay::running::run_over;
-use heap_layout::heap::MarkedHeap;
-use page_plan::plan::Plan;
+use call_refusals::Refusal as MutatorRefusal;
+use command_io::Refusal;
+use comp_mutator::Finished;
+use trace_replay::Halt;
+use trace_replay::run_over;
+use heap_layout::MarkedHeap;
+use page_plan::Plan;
 use std::alloc::Global;
 use std::sync::Arc;
 use std::thread::Threads;
-use trace_steps::shown::Shown;
-use trace_text::trace::Trace;
+use trace_steps::Shown;
+use trace_text::Trace;
 
 /// A heap over which a trace was run, finished, and the values that the trace showed.
 #[derive(Drop)]

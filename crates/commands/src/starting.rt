@@ -4,7 +4,7 @@ ghost use Rattle.std.specs.declared.io.ErrorKind.TheVariants as kinds;
 
 use crate::running::MISUSED;
 use crate::running::told;
-use command_io::refusal::Refusal;
+use command_io::Refusal;
 use std::env;
 use std::io::{ErrorKind, Result as IoResult, Write};
 use std::rt::Env;

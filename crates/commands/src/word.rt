@@ -11,19 +11,19 @@ ghost use Rattle.command_io.specs.Printing.{line_of, CountsPrint, CountsRead, Re
 ghost use Rattle.command_io.specs.Images.{IsImageOf, SomeGiven, RefusesAt};
 ghost use Rattle.commands.specs.Word.{IsWordAt, IsPast, PrintsWordAt, RefusesWord, RefusesPrint};
 
-use call_refusals::refusal as mutators;
-use command_io::images::Images;
-use command_io::print::{print_digits, print_text};
-use command_io::refusal::Refusal;
-use comp_mutator::flipping::flip;
-use comp_mutator::laws::alone_sees_its_own;
-use comp_mutator::mutator::Mutator;
-use comp_mutator::fault::FlipFault;
-use comp_mutator::space::Space;
-use heap_layout::counted::Counted;
-use heap_layout::image::read_image;
-use page_plan::laws::pages_are_parts;
-use page_plan::plan::Plan;
+use command_io::Images;
+use command_io::print_digits;
+use command_io::print_text;
+use command_io::Refusal;
+use comp_mutator::flip;
+use comp_mutator::alone_sees_its_own;
+use comp_mutator::Mutator;
+use comp_mutator::FlipFault;
+use comp_mutator::Space;
+use heap_layout::Counted;
+use heap_layout::read_image;
+use page_plan::pages_are_parts;
+use page_plan::Plan;
 use std::alloc::Global;
 use std::io::{Read, Write};
 use std::marker::Brand;
@@ -123,7 +123,7 @@ fn flipped_word<L: Ledger>(
     blank: Blank,
     plan: Arc<Plan>,
     index: u64,
-) -> Result<u64, mutators::Refusal>
+) -> Result<u64, call_refusals::Refusal>
     requires name { blank.name ≡ L.name }
     requires parts { blank.parts ≡ L.parts }
     requires one { blank.parts ≡ 1 }
@@ -140,7 +140,7 @@ fn flip_alone<L: Ledger>(
     alloc: Global,
     blank: Blank,
     plan: Arc<Plan>,
-) -> Result<(Space<L, Plan>, Vec<Mutator<L>>), mutators::Refusal>
+) -> Result<(Space<L, Plan>, Vec<Mutator<L>>), call_refusals::Refusal>
     requires name { blank.name ≡ L.name }
     requires parts { blank.parts ≡ L.parts }
     requires one { blank.parts ≡ 1 }
@@ -152,7 +152,7 @@ fn flip_alone<L: Ledger>(
 {
     match flip(alloc, blank, plan, 1, 0) {
         Ok(flipped) => Ok(flipped),
-        Err(FlipFault::OutOfMemory) => Err(mutators::Refusal::OutOfMemory),
+        Err(FlipFault::OutOfMemory) => Err(call_refusals::Refusal::OutOfMemory),
         Err(FlipFault::BadCounts) => unreachable!(),
     }
 }
@@ -163,7 +163,7 @@ fn copied_word<L: Ledger>(
     space: &Space<L, Plan>,
     m: &mut Mutator<L>,
     index: u64,
-) -> Result<u64, mutators::Refusal>
+) -> Result<u64, call_refusals::Refusal>
     requires alone { (setup_of space.now).mutators ≡ 1 }
     requires new { IsNew (steps_of (cells_of space.now)) 1 0 (pass_of m.old) }
     requires inside { index / 64 < (setup_of space.now).compacted }

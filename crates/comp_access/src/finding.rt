@@ -13,13 +13,13 @@ ghost use Rattle.call_refusals.specs.declared.refusal.Refusal.TheVariants.{Busy}
 
 use crate::places::{offset_at, page_at};
 use crate::taking::{load, take};
-use call_refusals::refusal::Refusal;
-use cell_steps::pass::Pass;
-use heap_layout::header::Header;
-use heap_layout::kind::Kind;
-use page_cells::cells::Cells;
-use page_cells::taking::Taken;
-use page_plan::builder::Builder;
+use call_refusals::Refusal;
+use cell_steps::Pass;
+use heap_layout::Header;
+use heap_layout::Kind;
+use page_cells::Cells;
+use page_cells::Taken;
+use page_plan::Builder;
 use std::alloc::Global;
 
 /// The field that a call is about: of this object, the field of this kind and index.

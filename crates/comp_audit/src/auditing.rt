@@ -3,13 +3,13 @@ ghost use Rattle.std.specs.Prelude.{IfOk};
 ghost use Rattle.comp_audit.specs.Judged.{faults, Judges};
 
 use crate::verdict::Verdict;
-use audit_checks::checks::check;
-use audit_checks::fault::Stop;
-use audit_checks::setting::Setting;
-use comp_dump::dump::Dump;
-use comp_dump::laws::dump_is_stored;
-use heap_layout::fault::OutOfMemory;
-use page_plan::plan::Plan;
+use audit_checks::check;
+use audit_checks::Stop;
+use audit_checks::Setting;
+use comp_dump::Dump;
+use comp_dump::dump_is_stored;
+use heap_layout::OutOfMemory;
+use page_plan::Plan;
 use std::alloc::Global;
 
 /// Whether a dump is what a compaction by this plan can have left: yes, or the first fault.

@@ -1,4 +1,4 @@
-use comp_dump::fault::AuditFault;
+use comp_dump::AuditFault;
 
 /// What an audit found: nothing wrong, or the first fault.
 #[derive(Clone, Copy, Debug, PartialEq, Eq)]

@@ -1,8 +1,8 @@
 //! The heap at the end of a cycle.
 ghost use Rattle.std.specs.Prelude.{◌≡◌, length};
 
-use comp_journal::journaled_page::JournaledPage;
-use heap_layout::edition::Edition;
+use comp_journal::JournaledPage;
+use heap_layout::Edition;
 
 /// A compacted heap, once all its mutators are back. `Space::finish` of comp_mutator makes it, and promises what is known of it.
 #[derive(Drop)]

@@ -10,13 +10,13 @@ ghost use Rattle.comp_cycles.specs.Ends.{setup_in, words_at, AreMoved, IsEndOf};
 ghost use Rattle.comp_cycles.specs.NextHeap.{kind_in, lowered_as, word_in};
 
 use crate::finished::Finished;
-use comp_history::kinds::kinds_on;
-use comp_journal::entry::Entry;
-use heap_layout::bits::set;
-use heap_layout::checks::FROM_SPACE;
-use heap_layout::fault::OutOfMemory;
-use heap_layout::kind::Kind;
-use page_plan::builder::Builder;
+use comp_history::kinds_on;
+use comp_journal::Entry;
+use heap_layout::set;
+use heap_layout::FROM_SPACE;
+use heap_layout::OutOfMemory;
+use heap_layout::Kind;
+use page_plan::Builder;
 use std::alloc::{AllocError, Global};
 
 /// The words of the next heap, and for each a bit, which is set where an object starts.

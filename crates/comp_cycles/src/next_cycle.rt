@@ -13,11 +13,13 @@ ghost use Rattle.comp_cycles.specs.Finishes.{journals_of};
 use crate::finished::Finished;
 use crate::laws::one_chapter;
 use crate::moving::moved_words;
-use heap_layout::bits::is_set;
-use heap_layout::checks::{FROM_SPACE, check_sizes};
-use heap_layout::fault::{LayoutFault, OutOfMemory};
-use heap_layout::heap::MarkedHeap;
-use page_plan::builder::Builder;
+use heap_layout::is_set;
+use heap_layout::FROM_SPACE;
+use heap_layout::check_sizes;
+use heap_layout::LayoutFault;
+use heap_layout::OutOfMemory;
+use heap_layout::MarkedHeap;
+use page_plan::Builder;
 use std::alloc::Global;
 
 /// A finished heap that is not followed by another, and why.

@@ -3,7 +3,7 @@ ghost use Rattle.page_cells.specs.Ends.{lists as items_of};
 ghost use Rattle.comp_dump.specs.Dumped.{IsStored};
 
 use crate::page::DumpedPage;
-use heap_layout::edition::Edition;
+use heap_layout::Edition;
 use std::marker::Model;
 
 /// What a cycle left: the edition of the heap, its pages with their journals, the roots, what each mutator built, and the live words. A dump of a finished

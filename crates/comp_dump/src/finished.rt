@@ -6,9 +6,9 @@ ghost use Rattle.comp_dump.specs.Lent.{record_of, IsTypedRecord};
 
 use crate::dump::Dump;
 use crate::page::{DumpedPage, numbers_are_typed};
-use comp_cycles::finished::Finished;
-use comp_journal::journaled_page::JournaledPage;
-use heap_layout::fault::OutOfMemory;
+use comp_cycles::Finished;
+use comp_journal::JournaledPage;
+use heap_layout::OutOfMemory;
 use std::alloc::Global;
 
 impl<'a> Dump<'a> {

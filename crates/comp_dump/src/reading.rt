@@ -16,8 +16,8 @@ use crate::dump::Dump;
 use crate::fault::DumpFault;
 use crate::reading::fields::{MAGIC, expect, expect_end, read_edition, read_eight, read_four};
 use crate::reading::pages::read_pages;
-use heap_layout::counted::Counted;
-use heap_layout::edition::Edition;
+use heap_layout::Counted;
+use heap_layout::Edition;
 use std::alloc::Global;
 use std::io::Read;
 

@@ -15,15 +15,15 @@ use crate::fault::DumpFault;
 use crate::page::DumpedPage;
 use crate::reading::fields::MAGIC;
 use byteorder::{ByteOrder, LittleEndian};
-use comp_journal::entry::Entry;
-use heap_layout::counted::Counted;
-use heap_layout::writing::write_four;
-use heap_layout::writing::write_numbers;
-use heap_layout::writing::write_part;
-use heap_layout::writing::write_version;
-use heap_layout::writing::write_words;
-use heap_layout::edition::Edition;
-use heap_layout::kind::Kind;
+use comp_journal::Entry;
+use heap_layout::Counted;
+use heap_layout::write_four;
+use heap_layout::write_numbers;
+use heap_layout::write_part;
+use heap_layout::write_version;
+use heap_layout::write_words;
+use heap_layout::Edition;
+use heap_layout::Kind;
 use std::io::Write;
 
 /// A number of one byte.

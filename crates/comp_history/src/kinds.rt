@@ -5,11 +5,11 @@ ghost use Rattle.page_plan.specs.Sliding as sliding;
 ghost use Rattle.cell_steps.specs.Lawful.{filled, kind_at, kinds_by, kinds_in, kinds_of_header};
 ghost use Rattle.cell_steps.specs.Setup.{Setup};
 
-use comp_journal::entry::Entry;
-use heap_layout::edition::Edition;
-use heap_layout::header::Header;
-use heap_layout::kind::Kind;
-use page_plan::plan::Plan;
+use comp_journal::Entry;
+use heap_layout::Edition;
+use heap_layout::Header;
+use heap_layout::Kind;
+use page_plan::Plan;
 use std::alloc::{AllocError, Global};
 
 /// What each word of page `p` is, where it has this journal, whose objects have room on a page.

@@ -5,7 +5,8 @@ ghost use Rattle.comp_journal.specs.declared.refusal.JournalRefusal.TheVariants.
 use crate::base_words::keep;
 use crate::entry::Entry;
 use crate::refusal::JournalRefusal;
-use heap_layout::page_words::{PAGE_WORDS, PageWords};
+use heap_layout::PAGE_WORDS;
+use heap_layout::PageWords;
 use std::alloc::Global;
 use std::marker::Model;
 

@@ -5,7 +5,7 @@ use crate::gathering::{last_within, least_missing, merged};
 use crate::posted::Posted;
 use crate::fault::LedgerFault;
 use crate::share::Share;
-use heap_layout::fault::OutOfMemory;
+use heap_layout::OutOfMemory;
 use std::alloc::Global;
 use std::sync::ledger::{Blank, Ledger as Named};
 use std::sync::{Mutex, Wait};

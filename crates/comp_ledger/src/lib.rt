@@ -1,8 +1,13 @@
 //! The ledger: how many words live objects have. Each of those who make objects has a share, and posts with it.
 #![tactic(auto)]
 
+mod fault;
 mod gathering;
-pub mod ledger;
+mod ledger;
 mod posted;
-pub mod fault;
-pub mod share;
+mod share;
+
+pub use fault::LedgerFault;
+pub use ledger::Ledger;
+pub use ledger::NotGathered;
+pub use share::Share;

@@ -1,7 +1,7 @@
 ghost use Rattle.std.specs.Prelude.{◌≡◌};
 ghost use Rattle.comp_mutator.specs.declared.fault.FlipFault.TheVariants as flip;
 
-use heap_layout::fault::OutOfMemory;
+use heap_layout::OutOfMemory;
 use thiserror::Error;
 
 /// Why a heap was not flipped.

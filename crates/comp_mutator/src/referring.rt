@@ -12,10 +12,9 @@ ghost use Rattle.call_refusals.specs.declared.refusal.Refusal.TheVariants.{Busy}
 use crate::mutator::{Hand, Mutator};
 use crate::space::Space;
 use crate::waiting::is_busy;
-use call_refusals::refusal::Refusal;
-use comp_access::{reading, writing};
-use heap_layout::kind::Kind;
-use page_plan::builder::Builder;
+use call_refusals::Refusal;
+use heap_layout::Kind;
+use page_plan::Builder;
 use std::alloc::Global;
 use std::sync::Wait;
 use std::sync::ledger::Ledger as Named;
@@ -52,7 +51,7 @@ impl<L: Named, B: Builder> Space<L, B> {
             lows: _,
             unposted: _,
         } = hand;
-        reading::try_read_referring(alloc, &self.cells, pass, kind, object, field)
+        comp_access::try_read_referring(alloc, &self.cells, pass, kind, object, field)
     }
 
     /// As `try_read_referring`, which it repeats while the page is busy; it asks the same.
@@ -116,7 +115,7 @@ impl<L: Named, B: Builder> Space<L, B> {
             lows: _,
             unposted: _,
         } = hand;
-        writing::try_write_referring(alloc, &self.cells, pass, kind, object, field, value)
+        comp_access::try_write_referring(alloc, &self.cells, pass, kind, object, field, value)
     }
 
     /// As `try_write_referring`, which it repeats while the page is busy; it asks the same.

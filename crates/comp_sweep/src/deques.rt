@@ -4,7 +4,7 @@ ghost use Rattle.crossbeam_deque.specs.Handles.{view, worker_flavor, worker_port
 
 use crate::dealing::{Hand, Owner, Puts, Steals, Takes, Thief, Ways};
 use crossbeam_deque::{Pass, Steal};
-use heap_layout::fault::OutOfMemory;
+use heap_layout::OutOfMemory;
 use std::alloc::Global;
 use std::sync::Wait;
 

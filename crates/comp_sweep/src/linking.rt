@@ -3,7 +3,7 @@ ghost use Rattle.std.specs.Prelude.{◌<◌, [], length, OnOk};
 ghost use Rattle.comp_sweep.specs.Lots.{HasLinked, Linked, standings};
 
 use crate::lots::Lot;
-use heap_layout::fault::OutOfMemory;
+use heap_layout::OutOfMemory;
 
 /// A way from worker `from` to the deque of worker `to`.
 fn link_to(lots: &mut Vec<Lot>, from: usize, to: usize) -> Result<(), OutOfMemory>

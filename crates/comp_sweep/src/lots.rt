@@ -2,7 +2,7 @@
 ghost use Rattle.std.specs.Prelude.{◌≡◌};
 
 use crate::deques::{Own, Way};
-use heap_layout::fault::OutOfMemory;
+use heap_layout::OutOfMemory;
 use std::alloc::Global;
 use std::mem;
 use std::sync::Wait;

@@ -4,7 +4,7 @@ ghost use Rattle.comp_sweep.specs.Lots.{AreDealt, standings, taken_in};
 
 use crate::linking::link;
 use crate::lots::Lot;
-use heap_layout::fault::OutOfMemory;
+use heap_layout::OutOfMemory;
 use std::alloc::Global;
 
 /// A lot for each worker, with no region and no way, and with room for so many regions in each.

@@ -3,8 +3,9 @@
 
 ghost use Rattle.std.specs.Prelude.{◌≤◌};
 
-use commands::running::run;
-use commands::starting::{fetch_words, tell_unstarted};
+use commands::run;
+use commands::fetch_words;
+use commands::tell_unstarted;
 use std::io::{self, BufWriter, ErrorKind, Write};
 use std::process::ExitCode;
 use std::rt::{Env, Files};

@@ -1,6 +1,6 @@
 //! An example of a runtime: it compacts its heap while one mutator goes on and two sweep, and audits what is left.
 #![tactic(auto)]
 
-pub mod cycle;
+mod cycle;
 #[cfg(test)]
 mod three;

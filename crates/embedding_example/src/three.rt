@@ -1,12 +1,12 @@
 //! The example on a heap of three objects.
 use crate::cycle::compact;
-use comp_audit::verdict::Verdict;
-use heap_layout::heap::MarkedHeap;
+use comp_audit::Verdict;
+use heap_layout::MarkedHeap;
 use std::alloc::Global;
 use std::process::Abort;
 use std::sync::Wait;
 use std::thread::Threads;
-use test_support::heaps::three;
+use test_support::three;
 
 fn three_objects(rt: &impl Abort, alloc: Global) -> MarkedHeap {
     match three(alloc) {

@@ -13,12 +13,12 @@ ghost use Rattle.page_cells.specs.Calls.{Grows};
 
 use crate::cells::Cells;
 use crate::taking::Taken;
-use cell_steps::pass::Pass;
-use comp_journal::entry::Entry;
-use comp_journal::journaled_page::MOST_ENTRIES;
-use comp_journal::refusal::JournalRefusal;
-use heap_layout::kind::Kind;
-use page_plan::builder::Builder;
+use cell_steps::Pass;
+use comp_journal::Entry;
+use comp_journal::MOST_ENTRIES;
+use comp_journal::JournalRefusal;
+use heap_layout::Kind;
+use page_plan::Builder;
 
 impl<B: Builder> Cells<B> {
     /// Writes one entry into the page that the pass has taken, and answers its stamp. After a header the start bit of the new object is set.

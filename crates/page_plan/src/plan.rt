@@ -6,14 +6,14 @@ ghost use Rattle.page_plan.specs.Sliding.{first_object, forward, kind, live_word
 
 use crate::places::TO_SPACE;
 use crate::{first_objects, page_builder, places, starts};
-use heap_layout::bits::is_set;
-use heap_layout::checks::FROM_SPACE;
-use heap_layout::fault::OutOfMemory;
-use heap_layout::header::Header;
-use heap_layout::heap::MarkedHeap;
-use heap_layout::kind::Kind;
-use heap_layout::page_words::PageWords;
-use mark_tables::tables::Tables;
+use heap_layout::is_set;
+use heap_layout::FROM_SPACE;
+use heap_layout::OutOfMemory;
+use heap_layout::Header;
+use heap_layout::MarkedHeap;
+use heap_layout::Kind;
+use heap_layout::PageWords;
+use mark_tables::Tables;
 use std::alloc::Global;
 use std::marker::Model;
 use std::thread::Threads;

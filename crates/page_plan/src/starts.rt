@@ -6,9 +6,9 @@ ghost use Rattle.page_plan.specs.Planned.{AreStarts, Covers};
 ghost use Rattle.page_plan.specs.Sliding.{live_words};
 
 use crate::plan::Plan;
-use heap_layout::bits::set;
-use heap_layout::heap::MarkedHeap;
-use mark_tables::tables::Tables;
+use heap_layout::set;
+use heap_layout::MarkedHeap;
+use mark_tables::Tables;
 use std::alloc::{AllocError, Global};
 
 /// The bits of the slid words: that of a word is set where an object starts. It asks for the tables of the heap.

@@ -2,12 +2,10 @@
 ghost use Rattle.std.specs.Prelude.{◌≡◌, IfOk};
 ghost use Rattle.comp_mutator.specs.Mutators.{setup_of, IsMutatorOf};
 
-use call_refusals::refusal::Refusal;
-use comp_mutator::laws;
-use comp_mutator::mutator::Mutator;
-use comp_mutator::space::Space;
-use page_cells::laws as pages;
-use page_plan::builder::Builder;
+use call_refusals::Refusal;
+use comp_mutator::Mutator;
+use comp_mutator::Space;
+use page_plan::Builder;
 use std::alloc::Global;
 use std::sync::ledger::Ledger as Named;
 
@@ -26,9 +24,9 @@ pub fn write_and_read<L: Named, B: Builder>(
 {
     let stamp = space.try_write_data(alloc, m, object, field, value);
     let word = space.try_read_data(alloc, m, object, field);
-    laws::alone_sees_its_own(space);
-    laws::places_are_one(space);
-    pages::last_written();
+    comp_mutator::alone_sees_its_own(space);
+    comp_mutator::places_are_one(space);
+    page_cells::last_written();
     (stamp, word)
 }
 
@@ -47,9 +45,9 @@ pub fn write_weak_and_read<L: Named, B: Builder>(
 {
     let stamp = space.try_write_weak(alloc, m, object, field, value);
     let word = space.try_read_weak(alloc, m, object, field);
-    laws::alone_sees_its_own(space);
-    laws::places_are_one(space);
-    pages::last_written();
+    comp_mutator::alone_sees_its_own(space);
+    comp_mutator::places_are_one(space);
+    page_cells::last_written();
     (stamp, word)
 }
 
@@ -85,9 +83,9 @@ pub fn make_and_read<L: Named, B: Builder>(
     let object = space.try_alloc(alloc, m, 1, 1, tag)?;
     let reference = space.try_read_ref(alloc, m, object, 0);
     let data = space.try_read_data(alloc, m, object, 0);
-    laws::alone_sees_its_own(space);
-    laws::places_are_one(space);
-    laws::made_objects_start(space);
+    comp_mutator::alone_sees_its_own(space);
+    comp_mutator::places_are_one(space);
+    comp_mutator::made_objects_start(space);
     Ok((reference, data))
 }
 
@@ -104,8 +102,8 @@ pub fn make_weak_and_read<L: Named, B: Builder>(
 {
     let object = space.try_alloc_weak(alloc, m, 0, 1, 0, tag)?;
     let weak = space.try_read_weak(alloc, m, object, 0);
-    laws::alone_sees_its_own(space);
-    laws::places_are_one(space);
-    laws::made_objects_start(space);
+    comp_mutator::alone_sees_its_own(space);
+    comp_mutator::places_are_one(space);
+    comp_mutator::made_objects_start(space);
     Ok(weak)
 }

@@ -10,13 +10,14 @@ ghost use Rattle.comp_mutator.specs.Mutators.{pass_of, setup_of, IsMutatorOf};
 ghost use Rattle.comp_access.specs.declared.pages.Touched.TheVariants.{AlreadyBuilt};
 ghost use Rattle.call_refusals.specs.declared.refusal.Refusal.TheVariants.{NotAStart, OutOfMemory};
 
-use call_refusals::refusal::Refusal;
-use comp_access::pages::{PageCopy, Touched};
-use comp_journal::entry::Entry;
-use comp_mutator::mutator::Mutator;
-use comp_mutator::space::Space;
+use call_refusals::Refusal;
+use comp_access::PageCopy;
+use comp_access::Touched;
+use comp_journal::Entry;
+use comp_mutator::Mutator;
+use comp_mutator::Space;
 use page_plan::TO_SPACE;
-use page_plan::builder::Builder;
+use page_plan::Builder;
 use std::alloc::Global;
 use std::sync::ledger::Ledger as Named;
 

@@ -1,8 +1,21 @@
 //! What callers conclude from the contracts of the calls of mutators, of the sweep and of replays, and from the laws, and from nothing else.
 #![tactic(auto)]
 
-pub mod alone;
-pub mod copied;
-pub mod meetings;
-pub mod replayed;
-pub mod swept;
+mod alone;
+mod copied;
+mod meetings;
+mod replayed;
+mod swept;
+
+pub use alone::make_and_read;
+pub use alone::make_weak_and_read;
+pub use alone::write_seven_and_read;
+pub use alone::write_weak_and_read;
+pub use copied::read_again;
+pub use copied::store_made;
+pub use copied::store_reference;
+pub use copied::touch_copied;
+pub use meetings::read_after_meeting;
+pub use replayed::read_replay_and_finish;
+pub use swept::flip_and_sweep;
+pub use swept::sweep_and_finish;

@@ -4,12 +4,10 @@ ghost use Rattle.cell_steps.specs.Lists.{StartsWith};
 ghost use Rattle.cell_steps.specs.Passes.{number_of, seen};
 ghost use Rattle.comp_mutator.specs.Mutators.{pass_of, setup_of, IsMutatorOf};
 
-use call_refusals::refusal::Refusal;
-use comp_mutator::laws;
-use comp_mutator::mutator::Mutator;
-use comp_mutator::space::Space;
-use page_cells::laws as pages;
-use page_plan::builder::Builder;
+use call_refusals::Refusal;
+use comp_mutator::Mutator;
+use comp_mutator::Space;
+use page_plan::Builder;
 use std::alloc::Global;
 use std::sync::ledger::Ledger as Named;
 
@@ -34,7 +32,7 @@ pub fn read_after_meeting<L: Named, B: Builder>(
     space.meet(m0, m1);
     let word = space.try_read_data(alloc, m1, object, field);
     space.meet(m0, m1);
-    laws::places_are_one(space);
-    pages::last_written();
+    comp_mutator::places_are_one(space);
+    page_cells::last_written();
     (stamp, word)
 }

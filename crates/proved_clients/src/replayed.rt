@@ -6,14 +6,14 @@ ghost use Rattle.proved_clients.specs.Histories.{StandsInHistory};
 ghost use Rattle.trace_steps.specs.AllMutators.{AreAll};
 ghost use Rattle.trace_steps.specs.Traces.{IsParsedFor};
 
-use comp_mutator::finishing::Finished;
-use comp_mutator::mutator::Mutator;
-use comp_mutator::space::Space;
-use trace_replay::replaying::replay;
-use page_plan::builder::Builder;
+use comp_mutator::Finished;
+use comp_mutator::Mutator;
+use comp_mutator::Space;
+use trace_replay::replay;
+use page_plan::Builder;
 use std::alloc::Global;
 use std::sync::ledger::Ledger as Named;
-use trace_text::trace::Trace;
+use trace_text::Trace;
 
 /// A mutator reads a data word, a trace is replayed by all of them, and the heap is finished: where all three are done, that read stands in the one history.
 pub fn read_replay_and_finish<L: Named, B: Builder>(

@@ -6,12 +6,12 @@ ghost use Rattle.cell_steps.specs.Closing.{page_at};
 ghost use Rattle.comp_cycles.specs.Finishes.{pages_of};
 ghost use Rattle.comp_sweep.specs.Sweeps.{SomeSeesBuilt};
 
-use comp_mutator::finishing::Finished;
-use comp_mutator::flipping::flip;
-use comp_sweep::gate::Open;
-use comp_sweep::report::SweepReport;
-use comp_sweep::sweeping::sweep;
-use page_plan::builder::Builder;
+use comp_mutator::Finished;
+use comp_mutator::flip;
+use comp_sweep::Open;
+use comp_sweep::SweepReport;
+use comp_sweep::sweep;
+use page_plan::Builder;
 use std::alloc::Global;
 use std::sync::ledger::{Blank, Ledger as Named};
 use std::sync::{Arc, Wait};

@@ -2,12 +2,12 @@
 ghost use Rattle.comp_mutator.specs.Mutators.{IsMutatorOf};
 
 use crate::rows::{Call, Row};
-use call_refusals::refusal::Refusal;
-use comp_access::pages::Touched;
-use comp_mutator::mutator::Mutator;
-use comp_mutator::space::Space;
-use heap_layout::kind::Kind;
-use page_plan::plan::Plan;
+use call_refusals::Refusal;
+use comp_access::Touched;
+use comp_mutator::Mutator;
+use comp_mutator::Space;
+use heap_layout::Kind;
+use page_plan::Plan;
 use std::alloc::Global;
 use std::sync::ledger::Ledger as Named;
 

@@ -1,15 +1,15 @@
 //! Two cycles of a heap, which begin anew where memory was refused in either.
 use crate::heaps::{Heap, heap_of};
-use call_refusals::refusal::Refusal;
-use trace_cycles::fault::CycleFault;
-use trace_cycles::replaying::CyclesStopped;
-use trace_cycles::replaying::replay_cycles;
-use heap_layout::fault::LayoutFault;
+use call_refusals::Refusal;
+use trace_cycles::CycleFault;
+use trace_cycles::CyclesStopped;
+use trace_cycles::replay_cycles;
+use heap_layout::LayoutFault;
 use std::alloc::Global;
 use std::thread::Threads;
-use trace_steps::shown::Shown;
-use trace_text::fault::TraceFault;
-use trace_text::parsing::parse;
+use trace_steps::Shown;
+use trace_text::TraceFault;
+use trace_text::parse;
 
 // The data word of the first object is shown, and a new object stored.
 const FIRST: &[u8] =

@@ -4,10 +4,10 @@ ghost use Rattle.comp_mutator.specs.Mutators.{setup_of};
 ghost use Rattle.trace_steps.specs.AllMutators.{AreAll};
 ghost use Rattle.trace_steps.specs.Deeds.{DidNothingYet};
 
-use comp_mutator::flipping::flip;
-use comp_mutator::mutator::Mutator;
-use comp_mutator::space::Space;
-use page_plan::plan::Plan;
+use comp_mutator::flip;
+use comp_mutator::Mutator;
+use comp_mutator::Space;
+use page_plan::Plan;
 use std::alloc::Global;
 use std::sync::Arc;
 use std::sync::ledger::{Blank, Ledger as Named};

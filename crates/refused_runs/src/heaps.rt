@@ -1,14 +1,14 @@
 //! The heaps of the runs.
-use heap_layout::edition::Edition;
-use heap_layout::heap::MarkedHeap;
-use page_plan::plan::Plan;
+use heap_layout::Edition;
+use heap_layout::MarkedHeap;
+use page_plan::Plan;
 use std::alloc::Global;
 use std::sync::Arc;
 use std::thread::Threads;
-use test_support::heaps::F;
-use test_support::heaps::THREE;
-use test_support::heaps::judged;
-use test_support::heaps::zeros_object;
+use test_support::F;
+use test_support::THREE;
+use test_support::judged;
+use test_support::zeros_object;
 
 /// The heap of a run.
 #[derive(Clone, Copy)]

@@ -1,15 +1,15 @@
 //! Dumps that are made, written, read and judged, each again where memory was refused.
 ghost use Rattle.comp_cycles.specs.Finishes.{IsOfFlip};
 
-use comp_audit::auditing::audit;
-use comp_audit::verdict::Verdict;
-use comp_dump::dump::Dump;
-use comp_dump::fault::DumpFault;
-use comp_dump::reading::read_dump;
-use comp_dump::writing::write_dump;
-use comp_mutator::finishing::Finished;
-use heap_layout::counted::Counted;
-use page_plan::plan::Plan;
+use comp_audit::audit;
+use comp_audit::Verdict;
+use comp_dump::Dump;
+use comp_dump::DumpFault;
+use comp_dump::read_dump;
+use comp_dump::write_dump;
+use comp_mutator::Finished;
+use heap_layout::Counted;
+use page_plan::Plan;
 use std::alloc::Global;
 
 // The dump of a finished heap of two mutators and 64 fresh pages.

@@ -1,6 +1,6 @@
 //! What a mutator is asked for, and what it answers.
-use call_refusals::refusal::Refusal;
-use heap_layout::kind::Kind;
+use call_refusals::Refusal;
+use heap_layout::Kind;
 
 /// A call of a mutator.
 #[derive(Clone, Copy)]

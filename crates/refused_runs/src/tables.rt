@@ -2,9 +2,9 @@
 use crate::heaps::Heap;
 use crate::playing::Case;
 use crate::rows::{Call, Row};
-use call_refusals::refusal::Refusal;
-use heap_layout::kind::Kind;
-use test_support::heaps::T;
+use call_refusals::Refusal;
+use heap_layout::Kind;
+use test_support::T;
 
 // The first address on the second page of to-space, and on the third.
 const SECOND: u64 = T + 64;

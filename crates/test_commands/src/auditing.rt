@@ -1,26 +1,26 @@
 //! Forged dumps that are judged.
 use crate::places::{File, Memory};
 use crate::printing::{Asked, is_answered};
-use comp_dump::fault::AuditFault;
-use command_io::refusal::Refusal;
-use comp_dump::fault::DumpFault;
+use comp_dump::AuditFault;
+use command_io::Refusal;
+use comp_dump::DumpFault;
 use std::process::Abort;
 use std::thread::Threads;
-use test_support::changes::Change;
-use test_support::changes::FIRST_DATA;
-use test_support::changes::HEADER_OFFSET;
-use test_support::changes::HEADER_STAMP;
-use test_support::changes::LAST_PAGE;
-use test_support::changes::LAST_WORD;
-use test_support::changes::REFERENCE;
-use test_support::changes::REFERENCE_KIND;
-use test_support::changes::REFERENCE_STAMP;
-use test_support::changes::REFERENCE_VALUE;
-use test_support::changes::ROOT;
-use test_support::changes::TOTAL;
-use test_support::changes::VERSION;
-use test_support::contents::Content;
-use test_support::contents::bytes_in;
+use test_support::Change;
+use test_support::FIRST_DATA;
+use test_support::HEADER_OFFSET;
+use test_support::HEADER_STAMP;
+use test_support::LAST_PAGE;
+use test_support::LAST_WORD;
+use test_support::REFERENCE;
+use test_support::REFERENCE_KIND;
+use test_support::REFERENCE_STAMP;
+use test_support::REFERENCE_VALUE;
+use test_support::ROOT;
+use test_support::TOTAL;
+use test_support::VERSION;
+use test_support::Content;
+use test_support::bytes_in;
 
 // A forged dump: its name, two changes, and what is refused.
 type Forgery = (&'static str, Change, Change, Refusal);

@@ -2,19 +2,20 @@
 use crate::dumps::{Dump, dump_of};
 use crate::places::{File, Memory, Place};
 use crate::printing::{Asked, is_answered};
-use command_io::refusal::{Input, Refusal};
-use command_line::words::TraceRun;
-use comp_dump::fault::DumpFault;
-use commands::compact::Compaction;
-use commands::compact::print_compact;
-use heap_layout::counted::Counted;
-use heap_layout::fault::LayoutFault;
+use command_io::Input;
+use command_io::Refusal;
+use command_line::TraceRun;
+use comp_dump::DumpFault;
+use commands::Compaction;
+use commands::print_compact;
+use heap_layout::Counted;
+use heap_layout::LayoutFault;
 use std::process::Abort;
 use std::sync::Wait;
 use std::thread::Threads;
-use commands::replay::print_replay;
-use test_support::writers::Failure;
-use test_support::writers::Narrow;
+use commands::print_replay;
+use test_support::Failure;
+use test_support::Narrow;
 
 // What writes a dump.
 #[derive(Clone, Copy)]

@@ -1,15 +1,18 @@
 //! Dumps and new images that go into files of a device that is soon full, that renames none, or that takes no permissions: what was at the path stays, and no
 //! other file is left.
-use command_io::dumps::{Dumps, FileDumps, write_to};
-use command_io::new_images::write_image_to;
-use command_io::refusal::{Output, Refusal};
-use comp_dump::dump::Dump;
-use comp_dump::fault::DumpFault;
-use comp_dump::reading::read_dump;
-use heap_layout::counted::Counted;
-use heap_layout::image::read_image;
-use heap_layout::fault::LayoutFault;
-use heap_layout::heap::MarkedHeap;
+use command_io::Dumps;
+use command_io::FileDumps;
+use command_io::write_to;
+use command_io::write_image_to;
+use command_io::Output;
+use command_io::Refusal;
+use comp_dump::Dump;
+use comp_dump::DumpFault;
+use comp_dump::read_dump;
+use heap_layout::Counted;
+use heap_layout::read_image;
+use heap_layout::LayoutFault;
+use heap_layout::MarkedHeap;
 use std::alloc::Allocator;
 use std::fs::{self, Metadata, OpenFile, OpenOptions, Permissions};
 use std::io::{Error, ErrorKind, Read, Result as IoResult, Seek, SeekFrom, Write};

@@ -1,12 +1,12 @@
 //! The heap of three objects, to be flipped.
-use page_plan::plan::Plan;
+use page_plan::Plan;
 use std::alloc::Global;
 use std::process::Abort;
 use std::sync::Arc;
 use std::test::Fail;
 use std::thread::Threads;
-use test_support::heaps::planned;
-use test_support::heaps::three;
+use test_support::planned;
+use test_support::three;
 
 // What was made.
 fn made<T>(rt: &impl Abort, found: Result<T, Fail>) -> T {

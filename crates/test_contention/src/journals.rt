@@ -2,10 +2,10 @@
 use crate::expected::expect_so;
 use crate::fights::Fight;
 use crate::writing::value_at;
-use comp_journal::entry::Entry;
-use comp_journal::journaled_page::JournaledPage;
-use comp_mutator::finishing::Finished;
-use heap_layout::kind::Kind;
+use comp_journal::Entry;
+use comp_journal::JournaledPage;
+use comp_mutator::Finished;
+use heap_layout::Kind;
 use std::process::Abort;
 
 // An entry that this stamp has: of a mutator's, into the first data word of the first object.

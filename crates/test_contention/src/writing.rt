@@ -3,16 +3,16 @@ ghost use Rattle.comp_mutator.specs.Mutators.{AreMutatorsOf, IsMutatorOf};
 
 use crate::expected::expect_so;
 use crate::fights::Fight;
-use call_refusals::refusal::Refusal;
-use comp_mutator::mutator::Mutator;
-use comp_mutator::space::Space;
-use page_plan::builder::Builder;
+use call_refusals::Refusal;
+use comp_mutator::Mutator;
+use comp_mutator::Space;
+use page_plan::Builder;
 use std::alloc::Global;
 use std::process::Abort;
 use std::sync::Wait;
 use std::sync::ledger::Ledger as Named;
 use std::thread::{self, Threads};
-use test_support::heaps::T;
+use test_support::T;
 
 /// What a mutator writes at this step: 100 times its number, and the step.
 pub fn value_at(number: u8, step: u64) -> u64 {

@@ -2,17 +2,17 @@
 ghost use Rattle.std.specs.Prelude.{◌≤◌};
 ghost use Rattle.comp_cycles.specs.Ends.{IsEndOf};
 
-use comp_cycles::next_cycle::NotCycled;
-use trace_cycles::cycle::Ran;
-use trace_cycles::cycle::run_cycle;
-use heap_layout::heap::MarkedHeap;
-use heap_layout::page_words::PageWords;
-use page_plan::plan::Plan;
+use comp_cycles::NotCycled;
+use trace_cycles::Ran;
+use trace_cycles::run_cycle;
+use heap_layout::MarkedHeap;
+use heap_layout::PageWords;
+use page_plan::Plan;
 use std::alloc::Global;
 use std::process::Abort;
 use std::test::Fail;
 use std::thread::Threads;
-use trace_text::parsing::parse;
+use trace_text::parse;
 
 /// It is so. Where it is not, the test ends, and tells its name and a number.
 pub fn expect_so(rt: &impl Abort, name: &str, so: bool, number: u64) {

@@ -1,11 +1,11 @@
 //! Images of heaps that follow.
 use crate::chains::{expect_so, follow};
 use crate::rows::linked;
-use heap_layout::counted::Counted;
-use heap_layout::image::read_image;
-use heap_layout::writing::write_image;
-use heap_layout::edition::Edition;
-use heap_layout::heap::MarkedHeap;
+use heap_layout::Counted;
+use heap_layout::read_image;
+use heap_layout::write_image;
+use heap_layout::Edition;
+use heap_layout::MarkedHeap;
 use std::alloc::Global;
 use std::process::Abort;
 

@@ -1,16 +1,16 @@
 //! The last heap of several cycles is dumped, and the audit says yes to it.
 use crate::chains::{expect_so, follow, made};
 use crate::rows::{LINKED, linked};
-use comp_audit::auditing::audit;
-use comp_audit::verdict::Verdict;
-use comp_dump::dump::Dump;
-use trace_cycles::replaying::replay_cycles;
-use page_plan::plan::Plan;
+use comp_audit::audit;
+use comp_audit::Verdict;
+use comp_dump::Dump;
+use trace_cycles::replay_cycles;
+use page_plan::Plan;
 use std::alloc::Global;
 use std::process::Abort;
 use std::thread::Threads;
-use trace_text::parsing::parse;
-use test_support::heaps::three;
+use trace_text::parse;
+use test_support::three;
 
 // The marks that begin the second cycle.
 const MARKS: [u32; 2] = [2, 64];

@@ -3,15 +3,15 @@ ghost use Rattle.std.specs.Prelude.{◌≤◌};
 
 use crate::chains::{expect_so, followed, made, ran};
 use crate::rows::linked;
-use comp_cycles::next_cycle::NotCycled;
-use heap_layout::fault::LayoutFault;
-use heap_layout::header::Header;
-use heap_layout::heap::MarkedHeap;
+use comp_cycles::NotCycled;
+use heap_layout::LayoutFault;
+use heap_layout::Header;
+use heap_layout::MarkedHeap;
 use std::alloc::Global;
 use std::process::Abort;
 use std::test::Fail;
 use std::thread::Threads;
-use test_support::heaps::heap;
+use test_support::heap;
 
 // 769 objects of 1,024 words, which are 12,304 pages. All are marked.
 fn long_objects(alloc: Global) -> Result<MarkedHeap, Fail> {

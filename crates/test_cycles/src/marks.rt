@@ -2,7 +2,8 @@
 use crate::chains::expect_so;
 use std::alloc::{AllocError, Global};
 use std::process::Abort;
-use trace_text::marks::{MarksFault, read_marks};
+use trace_text::MarksFault;
+use trace_text::read_marks;
 
 const TEXT: &[u8] = b"0\n7\n64\n100\n4294967295\n";
 

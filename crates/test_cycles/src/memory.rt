@@ -1,20 +1,20 @@
 //! Where an allocation is refused, as the test run's own switch has it, cycles tell want of memory by its name, and show what was shown before.
 use crate::chains::expect_so;
-use call_refusals::refusal::Refusal;
-use trace_cycles::fault::CycleFault;
-use trace_cycles::replaying::CyclesStopped;
-use trace_cycles::replaying::replay_cycles;
-use heap_layout::edition::Edition;
-use heap_layout::fault::LayoutFault;
-use heap_layout::heap::MarkedHeap;
+use call_refusals::Refusal;
+use trace_cycles::CycleFault;
+use trace_cycles::CyclesStopped;
+use trace_cycles::replay_cycles;
+use heap_layout::Edition;
+use heap_layout::LayoutFault;
+use heap_layout::MarkedHeap;
 use std::alloc::Global;
 use std::process::Abort;
 use std::thread::Threads;
-use trace_steps::shown::Shown;
-use trace_text::fault::TraceFault;
-use trace_text::parsing::parse;
-use test_support::heaps::F;
-use test_support::heaps::THREE;
+use trace_steps::Shown;
+use trace_text::TraceFault;
+use trace_text::parse;
+use test_support::F;
+use test_support::THREE;
 
 // The first object's data word is shown, a new object stored, and in the second cycle it is shown again.
 const FIRST: &[u8] =

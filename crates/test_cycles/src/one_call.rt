@@ -4,14 +4,14 @@ ghost use Rattle.trace_cycles.specs.CycleRuns.{IsParsedFor};
 
 use crate::chains::expect_so;
 use crate::random_chains::{FRESH, MUTATORS};
-use trace_cycles::replaying::replay_cycles;
-use heap_layout::heap::MarkedHeap;
+use trace_cycles::replay_cycles;
+use heap_layout::MarkedHeap;
 use std::alloc::Global;
 use std::process::Abort;
 use std::thread::Threads;
-use trace_steps::shown::Shown;
-use trace_text::parsing::parse;
-use trace_text::trace::Trace;
+use trace_steps::Shown;
+use trace_text::parse;
+use trace_text::Trace;
 
 /// A cycle that was run: the marks with which its heap was made, none of the first; the text of its lines; and the values that they showed.
 #[derive(Drop)]

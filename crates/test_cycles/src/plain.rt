@@ -1,11 +1,11 @@
 //! Objects that never move. Cycles only tell where they are.
 use crate::chains::expect_so;
-use heap_layout::edition::Edition;
-use heap_layout::header::Header;
-use heap_layout::heap::MarkedHeap;
+use heap_layout::Edition;
+use heap_layout::Header;
+use heap_layout::MarkedHeap;
 use std::alloc::{AllocError, Global};
 use std::process::Abort;
-use test_support::heaps::F;
+use test_support::F;
 
 /// Where an object is that was dropped.
 const NOWHERE: u64 = u64::MAX;

@@ -4,15 +4,15 @@ use crate::chains::{follow, made, ran};
 use crate::images::image;
 use crate::one_call::{Past, expect_past, expect_values};
 use crate::plain::{Field, Life, Plain};
-use heap_layout::edition::Edition;
-use heap_layout::header::Header;
-use heap_layout::heap::MarkedHeap;
-use test_support::random::Random;
+use heap_layout::Edition;
+use heap_layout::Header;
+use heap_layout::MarkedHeap;
+use test_support::Random;
 use std::alloc::{AllocError, Global};
 use std::process::Abort;
 use std::thread::Threads;
-use test_support::heaps::F;
-use test_support::heaps::heap_of;
+use test_support::F;
+use test_support::heap_of;
 
 // How many chains there are of each edition, cycles of a chain, and lines that are drawn for a cycle.
 const CHAINS: u64 = 40;

@@ -2,20 +2,20 @@
 ghost use Rattle.comp_cycles.specs.Ends.{IsEndOf};
 
 use crate::chains::{expect_so, first_page, follow, followed, made, ran};
-use call_refusals::refusal::Refusal;
-use trace_cycles::cycle::Ran;
-use trace_cycles::fault::CycleFault;
-use trace_cycles::replaying::replay_cycles;
-use heap_layout::fault::LayoutFault;
-use page_plan::plan::Plan;
+use call_refusals::Refusal;
+use trace_cycles::Ran;
+use trace_cycles::CycleFault;
+use trace_cycles::replay_cycles;
+use heap_layout::LayoutFault;
+use page_plan::Plan;
 use std::alloc::Global;
 use std::process::Abort;
 use std::thread::Threads;
-use trace_text::fault::TraceFault;
-use trace_text::parsing::parse;
-use test_support::heaps::F;
-use test_support::heaps::T;
-use test_support::heaps::three;
+use trace_text::TraceFault;
+use trace_text::parse;
+use test_support::F;
+use test_support::T;
+use test_support::three;
 
 /// The last of the three objects gets a reference to a new one.
 pub const LINKED: &[u8] = b"0 root 0 0\n0 new 1 0 0 9\n0 store 0 0 1\n";

@@ -1,16 +1,16 @@
 //! The heap with weak words, and those that follow.
 use crate::chains::{expect_so, first_page, follow, made, ran};
 use crate::images::image;
-use heap_layout::edition::Edition;
-use heap_layout::heap::MarkedHeap;
-use page_plan::plan::Plan;
+use heap_layout::Edition;
+use heap_layout::MarkedHeap;
+use page_plan::Plan;
 use std::alloc::Global;
 use std::process::Abort;
 use std::thread::Threads;
-use test_support::heaps::F;
-use test_support::heaps::T;
-use test_support::heaps::WEAK;
-use test_support::heaps::heap_of;
+use test_support::F;
+use test_support::T;
+use test_support::WEAK;
+use test_support::heap_of;
 
 fn weak_heap(rt: &impl Abort, alloc: Global, root: u64) -> MarkedHeap {
     made(rt, heap_of(alloc, Edition::Two, &WEAK, &[0, 5], &[root]))

@@ -2,10 +2,10 @@
 use crate::encoded::{Whole, encoded};
 use crate::expected::expect_so;
 use crate::judged::{Told, told};
-use comp_dump::fault::AuditFault;
-use comp_audit::verdict::Verdict;
-use comp_dump::fault::DumpFault;
-use page_plan::plan::Plan;
+use comp_dump::AuditFault;
+use comp_audit::Verdict;
+use comp_dump::DumpFault;
+use page_plan::Plan;
 use std::alloc::Global;
 use std::process::Abort;
 

@@ -2,10 +2,10 @@
 use crate::changed_bytes::{Becomes, Rule, expect_bytes};
 use crate::encoded::Whole;
 use crate::planned::{Worked, plan_of};
-use comp_dump::fault::AuditFault;
-use comp_audit::verdict::Verdict;
-use comp_dump::fault::DumpFault;
-use test_support::heaps::T;
+use comp_dump::AuditFault;
+use comp_audit::Verdict;
+use comp_dump::DumpFault;
+use test_support::T;
 
 const BAD_MAGIC: Becomes = Becomes::Is(Err(DumpFault::BadMagic));
 

@@ -1,11 +1,11 @@
 //! Dumps of edition two with some fields changed, dumps of the other edition, and what is told of them.
 use crate::encoded::{Change, Whole};
 use crate::judged::{Row, Told};
-use comp_dump::fault::AuditFault;
-use comp_audit::verdict::Verdict;
-use comp_dump::fault::DumpFault;
-use test_support::heaps::F;
-use test_support::heaps::T;
+use comp_dump::AuditFault;
+use comp_audit::Verdict;
+use comp_dump::DumpFault;
+use test_support::F;
+use test_support::T;
 
 // Where fields of the dump lie.
 const VERSION: usize = 8;

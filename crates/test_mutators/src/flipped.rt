@@ -3,26 +3,28 @@ ghost use Rattle.std.specs.Prelude.{◌≡◌};
 ghost use Rattle.comp_mutator.specs.Mutators.{setup_of, AreMutatorsOf};
 
 use crate::expected::{At, expect_so};
-use comp_mutator::finishing::{FinishFault, Finished, Unfinished};
-use comp_mutator::flipping::flip;
-use comp_mutator::mutator::Mutator;
-use comp_mutator::space::Space;
-use page_plan::builder::Builder;
-use page_plan::plan::Plan;
+use comp_mutator::FinishFault;
+use comp_mutator::Finished;
+use comp_mutator::Unfinished;
+use comp_mutator::flip;
+use comp_mutator::Mutator;
+use comp_mutator::Space;
+use page_plan::Builder;
+use page_plan::Plan;
 use std::alloc::Global;
 use std::process::Abort;
 use std::sync::Arc;
 use std::sync::ledger::{Blank, Ledger as Named};
 use std::test::Fail;
 use std::thread::Threads;
-use test_support::heaps::counting_heap;
-use test_support::heaps::empty;
-use test_support::heaps::planned;
-use test_support::heaps::seventeen_pages;
-use test_support::heaps::smallest;
-use test_support::heaps::three;
-use test_support::heaps::weak;
-use test_support::heaps::zeros_heap;
+use test_support::counting_heap;
+use test_support::empty;
+use test_support::planned;
+use test_support::seventeen_pages;
+use test_support::smallest;
+use test_support::three;
+use test_support::weak;
+use test_support::zeros_heap;
 
 /// The heap of a case.
 #[derive(Clone, Copy)]

@@ -3,10 +3,10 @@ use crate::cases::{BuiltBy, Case};
 use crate::endings::{End, Ending};
 use crate::flipped::Heap;
 use crate::rows::Row;
-use call_refusals::refusal::Refusal;
-use comp_journal::entry::Entry;
-use heap_layout::kind::Kind;
-use test_support::heaps::T;
+use call_refusals::Refusal;
+use comp_journal::Entry;
+use heap_layout::Kind;
+use test_support::T;
 
 // Where the second slid object starts.
 const SECOND: u64 = T + 4;

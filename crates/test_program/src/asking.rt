@@ -1,7 +1,8 @@
 //! Which words ask what.
-use command_line::words::{VERSION_LINE, read_task};
+use command_line::VERSION_LINE;
+use command_line::read_task;
 use std::process::Abort;
-use test_support::runs::words_of;
+use test_support::words_of;
 
 // What is told of a line.
 #[derive(Clone, Copy)]

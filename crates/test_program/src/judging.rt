@@ -1,18 +1,18 @@
 //! Audits by the program.
-use test_support::changes::Change;
-use test_support::changes::FIRST_DATA;
-use test_support::changes::HEADER_OFFSET;
-use test_support::changes::HEADER_STAMP;
-use test_support::changes::LAST_PAGE;
-use test_support::changes::LAST_WORD;
-use test_support::changes::REFERENCE;
-use test_support::changes::REFERENCE_STAMP;
-use test_support::changes::REFERENCE_VALUE;
-use test_support::changes::ROOT;
-use test_support::changes::TOTAL;
-use test_support::changes::VERSION;
-use test_support::contents::Content;
-use test_support::steps::Step;
+use test_support::Change;
+use test_support::FIRST_DATA;
+use test_support::HEADER_OFFSET;
+use test_support::HEADER_STAMP;
+use test_support::LAST_PAGE;
+use test_support::LAST_WORD;
+use test_support::REFERENCE;
+use test_support::REFERENCE_STAMP;
+use test_support::REFERENCE_VALUE;
+use test_support::ROOT;
+use test_support::TOTAL;
+use test_support::VERSION;
+use test_support::Content;
+use test_support::Step;
 
 /// Dumps that pass.
 pub const PASSED: &[Step] = &[

@@ -1,17 +1,17 @@
 //! Runs whose output takes only so much, by three bytes at a time.
-use commands::running::run;
+use commands::run;
 use std::rt::Files;
 use std::sync::Wait;
 use std::test::Fail;
 use std::thread::Threads;
-use test_support::contents::Content;
-use test_support::runs::Run;
-use test_support::runs::Text;
-use test_support::runs::expect_ran;
-use test_support::runs::words_of;
-use test_support::steps::Step;
-use test_support::writers::Failure;
-use test_support::writers::Narrow;
+use test_support::Content;
+use test_support::Run;
+use test_support::Text;
+use test_support::expect_ran;
+use test_support::words_of;
+use test_support::Step;
+use test_support::Failure;
+use test_support::Narrow;
 
 // What has to come of a line that is refused since it cannot print, or of one that is not refused. What it prints is not looked at.
 fn wanted_of(line: &'static str, refused: bool) -> Run {

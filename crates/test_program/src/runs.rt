@@ -1,15 +1,15 @@
 //! Runs of the program on the words of a line, and tests that are lists of steps.
-use commands::running::run;
+use commands::run;
 use std::rt::Files;
 use std::sync::Wait;
 use std::test::Fail;
 use std::thread::Threads;
-use test_support::runs::Run;
-use test_support::runs::expect_ran;
-use test_support::runs::words_of;
-use test_support::steps::Step;
-use test_support::steps::run_of;
-use test_support::steps::take_file_step;
+use test_support::Run;
+use test_support::expect_ran;
+use test_support::words_of;
+use test_support::Step;
+use test_support::run_of;
+use test_support::take_file_step;
 
 // Runs the program, and has come of it what has to.
 fn expect_run<R: Files + AllocGlobal + Threads + Wait + Sync>(

@@ -1,10 +1,11 @@
 //! How runs begin: words of a machine in memory, and what is told where they cannot be had.
-use commands::starting::{fetch_words, tell_unstarted};
+use commands::fetch_words;
+use commands::tell_unstarted;
 use std::env::FillError;
 use std::io::ErrorKind;
 use std::process::Abort;
 use std::rt::Env;
-use test_support::runs::words_of;
+use test_support::words_of;
 
 // A machine that gives these words, the program's name first.
 #[derive(Drop)]

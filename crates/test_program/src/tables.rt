@@ -6,7 +6,7 @@ use std::rt::Files;
 use std::sync::Wait;
 use std::test::Fail;
 use std::thread::Threads;
-use test_support::steps::Step;
+use test_support::Step;
 
 // All tables, the last of which writes the image that the lines print of. As a constant they would cost the proof of the test five times as much.
 fn tables() -> [&'static [Step]; 16] {

@@ -1,12 +1,12 @@
 //! Runs on objects that have weak words.
 use crate::replaying::KEPT;
-use test_support::changes::Change;
-use test_support::changes::REFERENCE_KIND;
-use test_support::changes::REFERENCE_VALUE;
-use test_support::changes::SLID_WEAK_WORD;
-use test_support::changes::VERSION;
-use test_support::contents::Content;
-use test_support::steps::Step;
+use test_support::Change;
+use test_support::REFERENCE_KIND;
+use test_support::REFERENCE_VALUE;
+use test_support::SLID_WEAK_WORD;
+use test_support::VERSION;
+use test_support::Content;
+use test_support::Step;
 
 // The audit of the dump that was written last.
 const AUDIT: &str = "audit weak.tests.img weak.tests.out";

@@ -1,8 +1,8 @@
 //! Builders that tests watch, refuse or hold.
-use heap_layout::fault::OutOfMemory;
-use heap_layout::page_words::PageWords;
-use page_plan::builder::Builder;
-use page_plan::plan::Plan;
+use heap_layout::OutOfMemory;
+use heap_layout::PageWords;
+use page_plan::Builder;
+use page_plan::Plan;
 use std::alloc::Global;
 use std::hint;
 use std::sync::atomic::{AtomicU64, Ordering};

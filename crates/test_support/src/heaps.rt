@@ -1,9 +1,9 @@
 //! The heaps of the tests, written by a second hand.
-use heap_layout::edition::Edition;
-use heap_layout::fault::LayoutFault;
-use heap_layout::header::Header;
-use heap_layout::heap::MarkedHeap;
-use page_plan::plan::Plan;
+use heap_layout::Edition;
+use heap_layout::LayoutFault;
+use heap_layout::Header;
+use heap_layout::MarkedHeap;
+use page_plan::Plan;
 use std::alloc::{AllocError, Global};
 use std::test::Fail;
 use std::thread::Threads;

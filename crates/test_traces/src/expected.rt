@@ -1,11 +1,11 @@
 //! What tests expect.
-use heap_layout::heap::MarkedHeap;
-use page_plan::plan::Plan;
+use heap_layout::MarkedHeap;
+use page_plan::Plan;
 use std::alloc::Global;
 use std::process::Abort;
 use std::test::Fail;
 use std::thread::Threads;
-use test_support::heaps::planned;
+use test_support::planned;
 
 /// It is so. Where it is not, the test ends, and tells its name and a number: of a page, a mutator, a stamp or words.
 pub fn expect_so(rt: &impl Abort, name: &str, so: bool, number: u64) {

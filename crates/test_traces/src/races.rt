@@ -3,24 +3,24 @@ use crate::expected::{expect_so, plan_of};
 use crate::flipped::Case;
 use crate::ran::raced;
 use crate::replays::{WEAK_TEXT, replay_rows, replay_weak_rows};
-use call_refusals::refusal::Refusal;
-use comp_mutator::finishing::Finished;
-use trace_race::racing::Run;
-use heap_layout::header::Header;
-use page_plan::builder::Builder;
-use page_plan::plan::Plan;
+use call_refusals::Refusal;
+use comp_mutator::Finished;
+use trace_race::Run;
+use heap_layout::Header;
+use page_plan::Builder;
+use page_plan::Plan;
 use std::alloc::Global;
 use std::marker::Brand;
 use std::process::Abort;
 use std::sync::Wait;
 use std::sync::ledger::Blank;
 use std::thread::Threads;
-use trace_text::fault::Stop;
-use test_support::builders::Meeting;
-use test_support::heaps::F;
-use test_support::heaps::heap;
-use test_support::heaps::three;
-use test_support::heaps::weak;
+use trace_text::Stop;
+use test_support::Meeting;
+use test_support::F;
+use test_support::heap;
+use test_support::three;
+use test_support::weak;
 
 // What is to come of a mutator's run.
 enum Wanted {

@@ -3,20 +3,20 @@ ghost use Rattle.std.specs.Prelude.{◌≡◌};
 
 use crate::flipped::{Case, flipped, read_for, root_count};
 use crate::judged::finish_lawfully;
-use comp_mutator::finishing::Finished;
-use trace_race::racing::Raced;
-use trace_race::racing::Run;
-use trace_race::racing::race;
-use trace_replay::replaying::Stopped;
-use trace_replay::texts::replay_text;
-use page_plan::builder::Builder;
-use page_plan::plan::Plan;
+use comp_mutator::Finished;
+use trace_race::Raced;
+use trace_race::Run;
+use trace_race::race;
+use trace_replay::Stopped;
+use trace_replay::replay_text;
+use page_plan::Builder;
+use page_plan::Plan;
 use std::alloc::Global;
 use std::process::Abort;
 use std::sync::Wait;
 use std::sync::ledger::{Blank, Ledger};
 use std::thread::Threads;
-use trace_steps::shown::Shown;
+use trace_steps::Shown;
 
 /// What a text shows by one thread on the heap of this builder, and the finished heap, which is lawful for this plan.
 pub fn replayed<L: Ledger>(

@@ -4,22 +4,23 @@ use crate::expected::{expect_plan, expect_so};
 use crate::finished::{expect_pages, take_history};
 use crate::ran::raced;
 use crate::random_traces::case_of;
-use call_refusals::refusal::Refusal;
-use comp_journal::entry::Entry;
-use comp_mutator::finishing::Finished;
-use trace_race::racing::Run;
-use heap_layout::kind::Kind;
-use page_plan::plan::Plan;
-use test_support::objects::Objects;
-use test_support::two_live_objects::opening;
-use test_support::two_live_objects::two_live;
+use call_refusals::Refusal;
+use comp_journal::Entry;
+use comp_mutator::Finished;
+use trace_race::Run;
+use heap_layout::Kind;
+use page_plan::Plan;
+use test_support::Objects;
+use test_support::opening;
+use test_support::two_live;
 use std::alloc::Global;
 use std::marker::Brand;
 use std::process::Abort;
 use std::sync::Wait;
 use std::sync::ledger::Blank;
 use std::thread::Threads;
-use trace_text::line::{Action, Line};
+use trace_text::Action;
+use trace_text::Line;
 
 // Why a line can be refused that waits and has memory.
 const STOPS: [Refusal; 5] = [

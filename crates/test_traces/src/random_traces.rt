@@ -7,19 +7,19 @@ use crate::ran::replayed;
 use crate::random_races::race_drawn;
 use crate::replays::expect_replay;
 use crate::texts::expect_lines;
-use comp_mutator::finishing::Finished;
-use trace_replay::replaying::Stopped;
-use heap_layout::edition::Edition;
-use page_plan::plan::Plan;
-use test_support::two_live_objects::two_live;
+use comp_mutator::Finished;
+use trace_replay::Stopped;
+use heap_layout::Edition;
+use page_plan::Plan;
+use test_support::two_live;
 use std::alloc::Global;
 use std::marker::Brand;
 use std::process::Abort;
 use std::sync::Wait;
 use std::sync::ledger::Blank;
 use std::thread::Threads;
-use trace_steps::shown::Shown;
-use trace_text::fault::TraceFault;
+use trace_steps::Shown;
+use trace_text::TraceFault;
 
 // Whether a trace is raced, or else replayed by one thread.
 #[derive(Clone, Copy)]

@@ -2,21 +2,21 @@
 use crate::expected::{expect_so, plan_of};
 use crate::flipped::Case;
 use crate::ran::replayed;
-use call_refusals::refusal::Refusal;
-use comp_journal::entry::Entry;
-use comp_mutator::finishing::Finished;
-use trace_replay::replaying::Stopped;
-use heap_layout::kind::Kind;
-use page_plan::plan::Plan;
+use call_refusals::Refusal;
+use comp_journal::Entry;
+use comp_mutator::Finished;
+use trace_replay::Stopped;
+use heap_layout::Kind;
+use page_plan::Plan;
 use std::alloc::Global;
 use std::marker::Brand;
 use std::process::Abort;
 use std::sync::ledger::Blank;
 use std::thread::Threads;
-use trace_steps::shown::Shown;
-use trace_text::fault::TraceFault;
-use test_support::heaps::three;
-use test_support::heaps::weak;
+use trace_steps::Shown;
+use trace_text::TraceFault;
+use test_support::three;
+use test_support::weak;
 
 // The only entry of a page, which mutator 0 wrote: the page's number, and the entry's stamp, kind, offset and value.
 struct Only(usize, u64, Kind, u8, u64);

@@ -5,16 +5,16 @@ ghost use Rattle.comp_cycles.specs.Finishes.{IsOfFlip};
 ghost use Rattle.trace_text.specs.Traces.{lines_of};
 ghost use Rattle.trace_cycles.specs.CycleRuns.{IsCycleHaltOf, IsLastRun, IsParsedFor};
 
-use comp_cycles::finished::Finished;
-use trace_replay::running::Halt;
-use trace_replay::running::run_over;
-use heap_layout::heap::MarkedHeap;
-use page_plan::plan::Plan;
+use comp_cycles::Finished;
+use trace_replay::Halt;
+use trace_replay::run_over;
+use heap_layout::MarkedHeap;
+use page_plan::Plan;
 use std::alloc::Global;
 use std::sync::Arc;
 use std::thread::Threads;
-use trace_steps::shown::Shown;
-use trace_text::trace::Trace;
+use trace_steps::Shown;
+use trace_text::Trace;
 
 /// A cycle that was run.
 #[derive(Drop)]

@@ -1,6 +1,6 @@
-use heap_layout::fault::LayoutFault;
+use heap_layout::LayoutFault;
 use thiserror::Error;
-use trace_text::fault::TraceFault;
+use trace_text::TraceFault;
 
 /// Why cycles were not run to their end. Cycles are counted from 0.
 #[derive(Clone, Copy, Debug, PartialEq, Eq, Error)]

@@ -10,16 +10,17 @@ ghost use Rattle.trace_cycles.specs.Stops.{marks_and_lines, some_values, values_
 
 use crate::cycle::{CycleHalt, Ran, run_cycle};
 use crate::fault::CycleFault;
-use comp_cycles::finished::Finished;
-use comp_cycles::laws::{one_life, one_writing};
-use trace_replay::running::Halt;
-use heap_layout::heap::MarkedHeap;
-use page_plan::plan::Plan;
+use comp_cycles::Finished;
+use comp_cycles::one_life;
+use comp_cycles::one_writing;
+use trace_replay::Halt;
+use heap_layout::MarkedHeap;
+use page_plan::Plan;
 use std::alloc::Global;
 use std::sync::Arc;
 use std::thread::Threads;
-use trace_steps::shown::Shown;
-use trace_text::trace::Trace;
+use trace_steps::Shown;
+use trace_text::Trace;
 
 /// What is left of cycles over which traces were run.
 #[derive(Drop)]

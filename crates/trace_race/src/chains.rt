@@ -2,9 +2,9 @@
 ghost use Rattle.std.specs.Prelude.{IfOk};
 ghost use Rattle.trace_race.specs.Chains.{AreChained};
 
-use heap_layout::fault::OutOfMemory;
+use heap_layout::OutOfMemory;
 use std::alloc::Global;
-use trace_text::line::Line;
+use trace_text::Line;
 
 /// How many numbers of mutators a line can name.
 const NUMBERS: usize = 256;

@@ -2,6 +2,11 @@
 #![tactic(auto)]
 
 mod chains;
-pub mod racing;
+mod racing;
 mod runner;
 mod waiting;
+
+pub use racing::NotRaced;
+pub use racing::Raced;
+pub use racing::Run;
+pub use racing::race;

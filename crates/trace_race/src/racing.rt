@@ -13,19 +13,20 @@ ghost use Rattle.trace_text.specs.Traces.{lines_of};
 
 use crate::chains::{Chains, chained};
 use crate::runner::{Runner, run_own};
-use comp_mutator::mutator::Mutator;
-use comp_mutator::space::Space;
-use heap_layout::fault::OutOfMemory;
-use page_plan::builder::Builder;
+use comp_mutator::Mutator;
+use comp_mutator::Space;
+use heap_layout::OutOfMemory;
+use page_plan::Builder;
 use std::alloc::Global;
 use std::sync::Wait;
 use std::sync::ledger::Ledger;
 use std::thread;
 use std::thread::Threads;
-use trace_steps::shown::Shown;
-use trace_text::fault::{Stop, TraceFault};
-use trace_text::line::Line;
-use trace_text::trace::Trace;
+use trace_steps::Shown;
+use trace_text::Stop;
+use trace_text::TraceFault;
+use trace_text::Line;
+use trace_text::Trace;
 
 /// What a mutator's lines showed, and the one that was refused, if any.
 #[derive(Debug, Drop)]

@@ -9,15 +9,16 @@ ghost use Rattle.trace_steps.specs.Traces.{AllFit};
 
 use crate::chains::Chains;
 use crate::waiting::act_waiting;
-use comp_mutator::mutator::Mutator;
-use comp_mutator::space::Space;
-use page_plan::builder::Builder;
+use comp_mutator::Mutator;
+use comp_mutator::Space;
+use page_plan::Builder;
 use std::alloc::Global;
 use std::sync::Wait;
 use std::sync::ledger::Ledger;
-use trace_steps::shown::{Shown, show};
-use trace_text::fault::Stop;
-use trace_text::line::Line;
+use trace_steps::Shown;
+use trace_steps::show;
+use trace_text::Stop;
+use trace_text::Line;
 
 /// A mutator that runs its lines: its registers, what its lines showed, and its refused line.
 #[derive(Drop)]

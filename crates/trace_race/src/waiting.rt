@@ -7,15 +7,17 @@ ghost use Rattle.comp_mutator.specs.Mutators.{pass_of, setup_of, IsMutatorOf};
 ghost use Rattle.call_refusals.specs.declared.refusal.Refusal.TheVariants.{Busy};
 ghost use Rattle.trace_steps.specs.Acting.{registers_after, Fits, Refuses, Steps};
 
-use call_refusals::refusal::Refusal;
-use comp_mutator::mutator::Mutator;
-use comp_mutator::space::Space;
-use page_plan::builder::Builder;
+use call_refusals::Refusal;
+use comp_mutator::Mutator;
+use comp_mutator::Space;
+use page_plan::Builder;
 use std::alloc::Global;
 use std::sync::Wait;
 use std::sync::ledger::Ledger;
-use trace_steps::registers::{held, kind_if, root_at};
-use trace_text::line::Action;
+use trace_steps::held;
+use trace_steps::kind_if;
+use trace_steps::root_at;
+use trace_text::Action;
 
 /// Does what a line says, and answers what its call does: 0 for a register that becomes null.
 pub(crate) fn act_waiting<L: Ledger, B: Builder>(

@@ -5,7 +5,7 @@ ghost use Rattle.trace_replay.specs.Bytes.{ShowOnce};
 ghost use Rattle.trace_replay.specs.Runs.{IsDetermined};
 ghost use Rattle.trace_text.specs.declared.line.Line.{Line};
 
-use heap_layout::laws::images_differ;
+use heap_layout::images_differ;
 
 /// The run of a trace by one thread is determined by the heap, the numbers of mutators and of fresh pages, the entries at the start, and the lines: what is shown, what
 /// registers hold, which mutator builds which page, and the entries that are added, but for their stamps.

@@ -9,17 +9,18 @@ ghost use Rattle.trace_steps.specs.Rounds.{AreLater, DidNothing};
 ghost use Rattle.trace_steps.specs.Traces.{AllFit, IsParsedFor};
 ghost use Rattle.trace_text.specs.Traces.{lines_of};
 
-use call_refusals::refusal::Refusal;
-use comp_mutator::mutator::Mutator;
-use comp_mutator::space::Space;
-use page_plan::builder::Builder;
+use call_refusals::Refusal;
+use comp_mutator::Mutator;
+use comp_mutator::Space;
+use page_plan::Builder;
 use std::alloc::{AllocError, Global};
 use std::sync::ledger::Ledger;
-use trace_steps::shown::{Shown, show};
-use trace_steps::stepping::step;
-use trace_text::fault::TraceFault;
-use trace_text::line::Line;
-use trace_text::trace::Trace;
+use trace_steps::Shown;
+use trace_steps::show;
+use trace_steps::step;
+use trace_text::TraceFault;
+use trace_text::Line;
+use trace_text::Trace;
 
 /// The values that were shown before a replay stopped, and why it did.
 #[derive(Debug, Drop)]

@@ -11,19 +11,20 @@ ghost use Rattle.trace_replay.specs.Heaps.{HasRunOver, IsHaltOf};
 
 use crate::replaying::Stopped;
 use crate::replaying::replay;
-use comp_mutator::finishing::{FinishFault, Finished};
-use comp_mutator::flipping::flip;
-use comp_mutator::mutator::Mutator;
-use comp_mutator::fault::FlipFault;
-use comp_mutator::space::Space;
-use page_plan::laws::heap_is_closed;
-use page_plan::plan::Plan;
+use comp_mutator::FinishFault;
+use comp_mutator::Finished;
+use comp_mutator::flip;
+use comp_mutator::Mutator;
+use comp_mutator::FlipFault;
+use comp_mutator::Space;
+use page_plan::heap_is_closed;
+use page_plan::Plan;
 use std::alloc::Global;
 use std::marker::Brand;
 use std::sync::Arc;
 use std::sync::ledger::{Blank, Ledger};
-use trace_steps::shown::Shown;
-use trace_text::trace::Trace;
+use trace_steps::Shown;
+use trace_text::Trace;
 
 /// A heap over which a trace was run, finished, and the values that the trace showed.
 #[derive(Drop)]

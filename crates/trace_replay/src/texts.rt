@@ -7,13 +7,13 @@ ghost use Rattle.trace_steps.specs.AllMutators.{AreAll};
 
 use crate::replaying::Stopped;
 use crate::replaying::replay;
-use comp_mutator::mutator::Mutator;
-use comp_mutator::space::Space;
-use page_plan::builder::Builder;
+use comp_mutator::Mutator;
+use comp_mutator::Space;
+use page_plan::Builder;
 use std::alloc::Global;
 use std::sync::ledger::Ledger;
-use trace_steps::shown::Shown;
-use trace_text::parsing::parse;
+use trace_steps::Shown;
+use trace_text::parse;
 
 /// Reads the text of a trace, and runs it over a space whose mutators have written nothing yet. There are `count` mutators and `roots` shared
 /// roots; the mutators are all of the space's, in the order of their numbers.

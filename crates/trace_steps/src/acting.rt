@@ -6,13 +6,13 @@ ghost use Rattle.comp_mutator.specs.Mutators.{pass_of, setup_of, IsMutatorOf};
 ghost use Rattle.trace_steps.specs.Acting.{registers_after, Fits, Refuses, Steps};
 
 use crate::registers::{held, kind_if, root_at};
-use call_refusals::refusal::Refusal;
-use comp_mutator::mutator::Mutator;
-use comp_mutator::space::Space;
-use page_plan::builder::Builder;
+use call_refusals::Refusal;
+use comp_mutator::Mutator;
+use comp_mutator::Space;
+use page_plan::Builder;
 use std::alloc::Global;
 use std::sync::ledger::Ledger;
-use trace_text::line::Action;
+use trace_text::Action;
 
 /// Does what a line says, and answers what its call does: 0 for a register that becomes null. A busy page is not waited for.
 pub(crate) fn act<L: Ledger, B: Builder>(

@@ -2,6 +2,13 @@
 #![tactic(auto)]
 
 mod acting;
-pub mod registers;
-pub mod shown;
-pub mod stepping;
+mod registers;
+mod shown;
+mod stepping;
+
+pub use registers::held;
+pub use registers::kind_if;
+pub use registers::root_at;
+pub use shown::Shown;
+pub use shown::show;
+pub use stepping::step;

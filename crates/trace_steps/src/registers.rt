@@ -6,9 +6,9 @@ ghost use Rattle.page_plan.specs.Sliding.{forward};
 ghost use Rattle.comp_mutator.specs.Mutators.{setup_of};
 ghost use Rattle.trace_steps.specs.Builds.{kind_if};
 
-use comp_mutator::space::Space;
-use heap_layout::kind::Kind;
-use page_plan::builder::Builder;
+use comp_mutator::Space;
+use heap_layout::Kind;
+use page_plan::Builder;
 use std::sync::ledger::Ledger;
 
 /// What a register, one of 16, holds.

@@ -2,7 +2,7 @@
 ghost use Rattle.std.specs.Prelude.{◌≡◌, ◌+◌, ◌≤◌, ◌++◌, length, vec_capacity};
 ghost use Rattle.trace_steps.specs.Acting.{shown_at};
 
-use trace_text::line::Action;
+use trace_text::Action;
 
 /// A value that a line showed, with the number of the line, counted from 1.
 #[derive(Clone, Copy, Debug, PartialEq, Eq)]

@@ -8,13 +8,13 @@ ghost use Rattle.trace_steps.specs.AllMutators.{AreAll};
 ghost use Rattle.trace_steps.specs.Rounds.{AreLater, DidNothing, HasMetAll, HaveMet, RanLine, WasTurnedDown};
 
 use crate::acting::act;
-use call_refusals::refusal::Refusal;
-use comp_mutator::mutator::Mutator;
-use comp_mutator::space::Space;
-use page_plan::builder::Builder;
+use call_refusals::Refusal;
+use comp_mutator::Mutator;
+use comp_mutator::Space;
+use page_plan::Builder;
 use std::alloc::Global;
 use std::sync::ledger::Ledger;
-use trace_text::line::Action;
+use trace_text::Action;
 
 /// The mutators at places `k` and `i` meet.
 fn meet_at<L: Ledger, B: Builder>(

@@ -1,7 +1,7 @@
 ghost use Rattle.std.specs.Prelude.{◌≡◌};
 ghost use Rattle.trace_text.specs.declared.fault.TraceFault.TheVariants as faults;
 
-use call_refusals::refusal::Refusal;
+use call_refusals::Refusal;
 use std::alloc::{AllocError, AllocFailed};
 use thiserror::Error;
 

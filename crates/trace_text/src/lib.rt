@@ -1,11 +1,20 @@
 //! Texts of traces and of marks, and how they are read.
 #![tactic(auto)]
 
-pub mod fault;
-pub mod line;
-pub mod marks;
+mod fault;
+mod line;
+mod marks;
 mod name;
 mod numbers;
-pub mod parsing;
+mod parsing;
 mod reading;
-pub mod trace;
+mod trace;
+
+pub use fault::Stop;
+pub use fault::TraceFault;
+pub use line::Action;
+pub use line::Line;
+pub use marks::MarksFault;
+pub use marks::read_marks;
+pub use parsing::parse;
+pub use trace::Trace;

@@ -1,7 +1,7 @@
 //! The cases, and the refusals as they are printed.
 use crate::sweeping::expected::expect;
 use crate::sweeping::played::play_case;
-use comp_sweep::fault::SweepFault;
+use comp_sweep::SweepFault;
 
 /// What goes on beside the sweep of a case.
 #[derive(Clone, Copy)]

@@ -3,21 +3,21 @@ ghost use Rattle.std.specs.Prelude.{◌≡◌};
 ghost use Rattle.comp_mutator.specs.Mutators.{setup_of, AreMutatorsOf, IsMutatorOf};
 
 use crate::sweeping::cases::{Case, Object};
-use comp_mutator::finishing::Finished;
-use comp_mutator::flipping::flip;
-use comp_mutator::mutator::Mutator;
-use comp_mutator::space::Space;
-use heap_layout::edition::Edition;
-use page_plan::builder::Builder;
-use page_plan::plan::Plan;
+use comp_mutator::Finished;
+use comp_mutator::flip;
+use comp_mutator::Mutator;
+use comp_mutator::Space;
+use heap_layout::Edition;
+use page_plan::Builder;
+use page_plan::Plan;
 use std::alloc::Global;
 use std::process::Abort;
 use std::sync::Arc;
 use std::sync::ledger::{Blank, Ledger as Named};
 use std::thread::Threads;
-use test_support::heaps::counting_object;
-use test_support::heaps::judged;
-use test_support::heaps::zeros_object;
+use test_support::counting_object;
+use test_support::judged;
+use test_support::zeros_object;
 
 // As many equal objects, one behind the other.
 fn equal_objects(rt: &impl Abort, alloc: Global, object: Object, objects: usize) -> Vec<u64> {

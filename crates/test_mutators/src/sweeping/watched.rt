@@ -1,11 +1,11 @@
 //! A gate that is told of regions.
 use crate::sweeping::cases::Beside;
 use crate::sweeping::expected::expect;
-use comp_sweep::gate::Gate;
+use comp_sweep::Gate;
 use std::process::Abort;
 use std::sync::atomic::{AtomicU64, Ordering};
-use test_support::builders::both;
-use test_support::builders::met;
+use test_support::both;
+use test_support::met;
 
 /// The gate of a case. One that counts is told of three regions. One that holds counts the regions for which that was in vain.
 #[derive(Drop)]
