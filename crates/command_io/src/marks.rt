@@ -11,8 +11,8 @@ use crate::traces::Traces;
 use heap_layout::Counted;
 use std::alloc::Global;
 use std::io::Read;
-use trace_text::MarksFault;
-use trace_text::read_marks;
+use comp_trace::MarksFault;
+use comp_trace::read_marks;
 
 /// The marks whose text lies at a path. Refused are marks that cannot be opened or read, a text with a line that is no mark, by the number of the first of those, and a growth.
 pub fn marks_at<T: Traces>(alloc: Global, traces: &T, path: &str) -> Result<Vec<u32>, Refusal>

@@ -8,7 +8,7 @@ use heap_layout::LayoutFault;
 use std::alloc::AllocError;
 use std::fmt;
 use thiserror::Error;
-use trace_text::TraceFault;
+use comp_trace::TraceFault;
 
 /// A file that the program is given.
 #[derive(Clone, Copy, Debug, PartialEq, Eq)]

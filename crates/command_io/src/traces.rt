@@ -13,9 +13,9 @@ use std::alloc::Global;
 use std::fs;
 use std::io::{BufReader, Read};
 use std::rt::Files;
-use trace_text::TraceFault;
-use trace_text::parse;
-use trace_text::Trace;
+use comp_trace::TraceFault;
+use comp_trace::parse;
+use comp_trace::Trace;
 
 /// Where the traces and the marks lie that the program is given by their paths.
 pub trait Traces {

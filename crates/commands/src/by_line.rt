@@ -2,10 +2,10 @@
 ghost use Rattle.std.specs.Prelude.{◌≡◌, ℕ, ◌+◌, ◌<◌, ◌≤◌, [], All, drop, length, vec_capacity, IfSome};
 ghost use Rattle.commands.specs.ByLine.{earlier_of, told_of, AreByLine, AreOwn, IsFirstStop};
 
-use trace_race::Run;
-use trace_steps::Shown;
-use trace_text::Stop;
-use trace_text::Line;
+use comp_trace::Run;
+use comp_trace::Shown;
+use comp_trace::Stop;
+use comp_trace::Line;
 
 /// The values of all runs, in the order of their lines, of which each has its own. There are 64 runs at most.
 pub fn by_line(lines: &[Line], runs: &[Run], mut shown: Vec<Shown>) -> Vec<Shown>

@@ -16,7 +16,7 @@ use command_io::write_to;
 use command_io::Images;
 use command_io::print_line;
 use command_io::Refusal;
-use comp_dump::Dump;
+use comp_audit::Dump;
 use comp_mutator::FinishFault;
 use comp_mutator::Finished;
 use comp_mutator::flip;
@@ -142,7 +142,7 @@ fn flipped_and_swept<L: Ledger + Send, R: Threads + Wait + Sync>(
 {
     match flip::<L, Plan>(alloc, blank, plan, u32::from(workers), 0) {
         Ok((space, mutators)) => sweep_and_finish(alloc, rt, space, mutators),
-        Err(FlipFault::OutOfMemory) => Err(call_refusals::Refusal::OutOfMemory.into()),
+        Err(FlipFault::OutOfMemory) => Err(comp_mutator::Refusal::OutOfMemory.into()),
         Err(FlipFault::BadCounts) => unreachable!(),
     }
 }
@@ -171,7 +171,7 @@ fn sweep_and_finish<L: Ledger + Send, R: Threads + Wait + Sync>(
     match space.finish(alloc, back) {
         Ok(finished) => Ok(finished),
         Err(left) => match left.fault {
-            FinishFault::OutOfMemory => Err(call_refusals::Refusal::OutOfMemory.into()),
+            FinishFault::OutOfMemory => Err(comp_mutator::Refusal::OutOfMemory.into()),
             FinishFault::MutatorMissing(_) => unreachable!(),
         },
     }

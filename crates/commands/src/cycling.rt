@@ -5,12 +5,12 @@ ghost use Rattle.trace_cycles.specs.CycleRuns.{IsParsedFor};
 ghost use Rattle.trace_text.specs.Traces.{lines_of};
 ghost use Rattle.commands.specs.Cycled.{IsCycledHeap, IsNextHeap, IsUncycled, IsUnmarked};
 
-use call_refusals::Refusal as MutatorRefusal;
+use comp_mutator::Refusal as MutatorRefusal;
 use command_io::Refusal;
-use comp_cycles::Finished;
-use trace_replay::Halt;
-use trace_cycles::CycleHalt;
-use trace_cycles::run_cycle;
+use comp_mutator::Finished;
+use comp_trace::Halt;
+use comp_trace::CycleHalt;
+use comp_trace::run_cycle;
 use heap_layout::MarkedHeap;
 use page_plan::Plan;
 use std::alloc::Global;
@@ -18,8 +18,8 @@ use std::sync::Arc;
 use std::thread::Threads;
 use crate::replays::Halted;
 use crate::replays::unshown;
-use trace_steps::Shown;
-use trace_text::Trace;
+use comp_trace::Shown;
+use comp_trace::Trace;
 
 /// A cycle that is followed by another.
 #[derive(Drop)]

@@ -22,13 +22,13 @@ use command_io::Refusal;
 use command_io::Traces;
 use command_io::trace_at;
 use command_line::TraceRun;
-use comp_dump::Dump;
+use comp_audit::Dump;
 use heap_layout::Counted;
 use heap_layout::MarkedHeap;
 use std::alloc::Global;
 use std::io::Write;
 use std::thread::Threads;
-use trace_text::Trace;
+use comp_trace::Trace;
 
 /// Runs the trace at a path over the heap whose image lies at another, by one thread; the dump of what is left is written, and then the values that lines showed are
 /// printed, and the live words. Where a line is refused, the values of those before it are printed, and no dump is created.

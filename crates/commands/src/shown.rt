@@ -11,7 +11,7 @@ use command_io::Refusal;
 use heap_layout::Counted;
 use itoa::write_digits;
 use std::io::Write;
-use trace_steps::Shown;
+use comp_trace::Shown;
 
 /// How many bytes the line of a shown value has at most: two numbers of twenty digits, the space between them, and the line feed.
 const LONGEST: usize = 42;

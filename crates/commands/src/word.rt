@@ -123,7 +123,7 @@ fn flipped_word<L: Ledger>(
     blank: Blank,
     plan: Arc<Plan>,
     index: u64,
-) -> Result<u64, call_refusals::Refusal>
+) -> Result<u64, comp_mutator::Refusal>
     requires name { blank.name ≡ L.name }
     requires parts { blank.parts ≡ L.parts }
     requires one { blank.parts ≡ 1 }
@@ -140,7 +140,7 @@ fn flip_alone<L: Ledger>(
     alloc: Global,
     blank: Blank,
     plan: Arc<Plan>,
-) -> Result<(Space<L, Plan>, Vec<Mutator<L>>), call_refusals::Refusal>
+) -> Result<(Space<L, Plan>, Vec<Mutator<L>>), comp_mutator::Refusal>
     requires name { blank.name ≡ L.name }
     requires parts { blank.parts ≡ L.parts }
     requires one { blank.parts ≡ 1 }
@@ -152,7 +152,7 @@ fn flip_alone<L: Ledger>(
 {
     match flip(alloc, blank, plan, 1, 0) {
         Ok(flipped) => Ok(flipped),
-        Err(FlipFault::OutOfMemory) => Err(call_refusals::Refusal::OutOfMemory),
+        Err(FlipFault::OutOfMemory) => Err(comp_mutator::Refusal::OutOfMemory),
         Err(FlipFault::BadCounts) => unreachable!(),
     }
 }
@@ -163,7 +163,7 @@ fn copied_word<L: Ledger>(
     space: &Space<L, Plan>,
     m: &mut Mutator<L>,
     index: u64,
-) -> Result<u64, call_refusals::Refusal>
+) -> Result<u64, comp_mutator::Refusal>
     requires alone { (setup_of space.now).mutators ≡ 1 }
     requires new { IsNew (steps_of (cells_of space.now)) 1 0 (pass_of m.old) }
     requires inside { index / 64 < (setup_of space.now).compacted }

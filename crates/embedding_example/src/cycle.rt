@@ -6,7 +6,7 @@ ghost use Rattle.comp_mutator.specs.Mutators.{AreMutatorsOf, IsMutatorOf};
 use comp_audit::audit;
 use comp_audit::lawful_is_yes;
 use comp_audit::Verdict;
-use comp_dump::Dump;
+use comp_audit::Dump;
 use comp_dump::dump_is_stored;
 use comp_mutator::flip;
 use comp_mutator::Mutator;

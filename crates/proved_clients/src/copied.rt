@@ -10,14 +10,14 @@ ghost use Rattle.comp_mutator.specs.Mutators.{pass_of, setup_of, IsMutatorOf};
 ghost use Rattle.comp_access.specs.declared.pages.Touched.TheVariants.{AlreadyBuilt};
 ghost use Rattle.call_refusals.specs.declared.refusal.Refusal.TheVariants.{NotAStart, OutOfMemory};
 
-use call_refusals::Refusal;
-use comp_access::PageCopy;
-use comp_access::Touched;
+use comp_mutator::Refusal;
+use comp_mutator::PageCopy;
+use comp_mutator::Touched;
 use comp_journal::Entry;
 use comp_mutator::Mutator;
 use comp_mutator::Space;
 use page_plan::TO_SPACE;
-use page_plan::Builder;
+use comp_mutator::Builder;
 use std::alloc::Global;
 use std::sync::ledger::Ledger as Named;
 

@@ -4,10 +4,10 @@ ghost use Rattle.cell_steps.specs.Lists.{StartsWith};
 ghost use Rattle.cell_steps.specs.Passes.{number_of, seen};
 ghost use Rattle.comp_mutator.specs.Mutators.{pass_of, setup_of, IsMutatorOf};
 
-use call_refusals::Refusal;
+use comp_mutator::Refusal;
 use comp_mutator::Mutator;
 use comp_mutator::Space;
-use page_plan::Builder;
+use comp_mutator::Builder;
 use std::alloc::Global;
 use std::sync::ledger::Ledger as Named;
 

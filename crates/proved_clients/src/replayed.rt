@@ -9,11 +9,11 @@ ghost use Rattle.trace_steps.specs.Traces.{IsParsedFor};
 use comp_mutator::Finished;
 use comp_mutator::Mutator;
 use comp_mutator::Space;
-use trace_replay::replay;
-use page_plan::Builder;
+use comp_trace::replay;
+use comp_mutator::Builder;
 use std::alloc::Global;
 use std::sync::ledger::Ledger as Named;
-use trace_text::Trace;
+use comp_trace::Trace;
 
 /// A mutator reads a data word, a trace is replayed by all of them, and the heap is finished: where all three are done, that read stands in the one history.
 pub fn read_replay_and_finish<L: Named, B: Builder>(

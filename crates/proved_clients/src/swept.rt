@@ -11,7 +11,7 @@ use comp_mutator::flip;
 use comp_sweep::Open;
 use comp_sweep::SweepReport;
 use comp_sweep::sweep;
-use page_plan::Builder;
+use comp_mutator::Builder;
 use std::alloc::Global;
 use std::sync::ledger::{Blank, Ledger as Named};
 use std::sync::{Arc, Wait};

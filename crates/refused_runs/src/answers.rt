@@ -2,8 +2,8 @@
 ghost use Rattle.comp_mutator.specs.Mutators.{IsMutatorOf};
 
 use crate::rows::{Call, Row};
-use call_refusals::Refusal;
-use comp_access::Touched;
+use comp_mutator::Refusal;
+use comp_mutator::Touched;
 use comp_mutator::Mutator;
 use comp_mutator::Space;
 use heap_layout::Kind;

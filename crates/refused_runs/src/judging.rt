@@ -3,10 +3,10 @@ ghost use Rattle.comp_cycles.specs.Finishes.{IsOfFlip};
 
 use comp_audit::audit;
 use comp_audit::Verdict;
-use comp_dump::Dump;
-use comp_dump::DumpFault;
-use comp_dump::read_dump;
-use comp_dump::write_dump;
+use comp_audit::Dump;
+use comp_audit::DumpFault;
+use comp_audit::read_dump;
+use comp_audit::write_dump;
 use comp_mutator::Finished;
 use heap_layout::Counted;
 use page_plan::Plan;

@@ -1,5 +1,5 @@
 //! What a mutator is asked for, and what it answers.
-use call_refusals::Refusal;
+use comp_mutator::Refusal;
 use heap_layout::Kind;
 
 /// A call of a mutator.

@@ -2,7 +2,7 @@
 use crate::heaps::Heap;
 use crate::playing::Case;
 use crate::rows::{Call, Row};
-use call_refusals::Refusal;
+use comp_mutator::Refusal;
 use heap_layout::Kind;
 use test_support::T;
 

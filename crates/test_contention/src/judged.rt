@@ -9,7 +9,7 @@ use crate::journals::expect_page;
 use crate::writing::{count_entries, expect_full, write_at_once};
 use comp_audit::audit;
 use comp_audit::Verdict;
-use comp_dump::Dump;
+use comp_audit::Dump;
 use comp_mutator::Finished;
 use comp_mutator::flip;
 use comp_mutator::Mutator;

@@ -3,10 +3,10 @@ ghost use Rattle.comp_mutator.specs.Mutators.{AreMutatorsOf, IsMutatorOf};
 
 use crate::expected::expect_so;
 use crate::fights::Fight;
-use call_refusals::Refusal;
+use comp_mutator::Refusal;
 use comp_mutator::Mutator;
 use comp_mutator::Space;
-use page_plan::Builder;
+use comp_mutator::Builder;
 use std::alloc::Global;
 use std::process::Abort;
 use std::sync::Wait;

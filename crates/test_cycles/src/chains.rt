@@ -3,8 +3,8 @@ ghost use Rattle.std.specs.Prelude.{◌≤◌};
 ghost use Rattle.comp_cycles.specs.Ends.{IsEndOf};
 
 use comp_cycles::NotCycled;
-use trace_cycles::Ran;
-use trace_cycles::run_cycle;
+use comp_trace::Ran;
+use comp_trace::run_cycle;
 use heap_layout::MarkedHeap;
 use heap_layout::PageWords;
 use page_plan::Plan;
@@ -12,7 +12,7 @@ use std::alloc::Global;
 use std::process::Abort;
 use std::test::Fail;
 use std::thread::Threads;
-use trace_text::parse;
+use comp_trace::parse;
 
 /// It is so. Where it is not, the test ends, and tells its name and a number.
 pub fn expect_so(rt: &impl Abort, name: &str, so: bool, number: u64) {

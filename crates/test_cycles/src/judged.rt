@@ -3,13 +3,13 @@ use crate::chains::{expect_so, follow, made};
 use crate::rows::{LINKED, linked};
 use comp_audit::audit;
 use comp_audit::Verdict;
-use comp_dump::Dump;
-use trace_cycles::replay_cycles;
+use comp_audit::Dump;
+use comp_trace::replay_cycles;
 use page_plan::Plan;
 use std::alloc::Global;
 use std::process::Abort;
 use std::thread::Threads;
-use trace_text::parse;
+use comp_trace::parse;
 use test_support::three;
 
 // The marks that begin the second cycle.

@@ -2,8 +2,8 @@
 use crate::chains::expect_so;
 use std::alloc::{AllocError, Global};
 use std::process::Abort;
-use trace_text::MarksFault;
-use trace_text::read_marks;
+use comp_trace::MarksFault;
+use comp_trace::read_marks;
 
 const TEXT: &[u8] = b"0\n7\n64\n100\n4294967295\n";
 

@@ -1,18 +1,18 @@
 //! Where an allocation is refused, as the test run's own switch has it, cycles tell want of memory by its name, and show what was shown before.
 use crate::chains::expect_so;
 use call_refusals::Refusal;
-use trace_cycles::CycleFault;
-use trace_cycles::CyclesStopped;
-use trace_cycles::replay_cycles;
+use comp_trace::CycleFault;
+use comp_trace::CyclesStopped;
+use comp_trace::replay_cycles;
 use heap_layout::Edition;
 use heap_layout::LayoutFault;
 use heap_layout::MarkedHeap;
 use std::alloc::Global;
 use std::process::Abort;
 use std::thread::Threads;
-use trace_steps::Shown;
-use trace_text::TraceFault;
-use trace_text::parse;
+use comp_trace::Shown;
+use comp_trace::TraceFault;
+use comp_trace::parse;
 use test_support::F;
 use test_support::THREE;
 

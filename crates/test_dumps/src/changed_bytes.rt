@@ -2,9 +2,9 @@
 use crate::encoded::{Whole, encoded};
 use crate::expected::expect_so;
 use crate::judged::{Told, told};
-use comp_dump::AuditFault;
+use comp_audit::AuditFault;
 use comp_audit::Verdict;
-use comp_dump::DumpFault;
+use comp_audit::DumpFault;
 use page_plan::Plan;
 use std::alloc::Global;
 use std::process::Abort;

@@ -2,9 +2,9 @@
 use crate::changed_bytes::{Becomes, Rule, expect_bytes};
 use crate::encoded::Whole;
 use crate::planned::{Worked, plan_of};
-use comp_dump::AuditFault;
+use comp_audit::AuditFault;
 use comp_audit::Verdict;
-use comp_dump::DumpFault;
+use comp_audit::DumpFault;
 use test_support::T;
 
 const BAD_MAGIC: Becomes = Becomes::Is(Err(DumpFault::BadMagic));

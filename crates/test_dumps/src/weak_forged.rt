@@ -1,9 +1,9 @@
 //! Dumps of edition two with some fields changed, dumps of the other edition, and what is told of them.
 use crate::encoded::{Change, Whole};
 use crate::judged::{Row, Told};
-use comp_dump::AuditFault;
+use comp_audit::AuditFault;
 use comp_audit::Verdict;
-use comp_dump::DumpFault;
+use comp_audit::DumpFault;
 use test_support::F;
 use test_support::T;
 

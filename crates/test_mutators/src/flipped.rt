@@ -9,7 +9,7 @@ use comp_mutator::Unfinished;
 use comp_mutator::flip;
 use comp_mutator::Mutator;
 use comp_mutator::Space;
-use page_plan::Builder;
+use comp_mutator::Builder;
 use page_plan::Plan;
 use std::alloc::Global;
 use std::process::Abort;

@@ -3,7 +3,7 @@ use crate::cases::{BuiltBy, Case};
 use crate::endings::{End, Ending};
 use crate::flipped::Heap;
 use crate::rows::Row;
-use call_refusals::Refusal;
+use comp_mutator::Refusal;
 use comp_journal::Entry;
 use heap_layout::Kind;
 use test_support::T;

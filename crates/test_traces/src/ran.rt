@@ -4,19 +4,19 @@ ghost use Rattle.std.specs.Prelude.{◌≡◌};
 use crate::flipped::{Case, flipped, read_for, root_count};
 use crate::judged::finish_lawfully;
 use comp_mutator::Finished;
-use trace_race::Raced;
-use trace_race::Run;
-use trace_race::race;
-use trace_replay::Stopped;
-use trace_replay::replay_text;
-use page_plan::Builder;
+use comp_trace::Raced;
+use comp_trace::Run;
+use comp_trace::race;
+use comp_trace::Stopped;
+use comp_trace::replay_text;
+use comp_mutator::Builder;
 use page_plan::Plan;
 use std::alloc::Global;
 use std::process::Abort;
 use std::sync::Wait;
 use std::sync::ledger::{Blank, Ledger};
 use std::thread::Threads;
-use trace_steps::Shown;
+use comp_trace::Shown;
 
 /// What a text shows by one thread on the heap of this builder, and the finished heap, which is lawful for this plan.
 pub fn replayed<L: Ledger>(

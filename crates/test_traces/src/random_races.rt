@@ -4,10 +4,10 @@ use crate::expected::{expect_plan, expect_so};
 use crate::finished::{expect_pages, take_history};
 use crate::ran::raced;
 use crate::random_traces::case_of;
-use call_refusals::Refusal;
+use comp_mutator::Refusal;
 use comp_journal::Entry;
 use comp_mutator::Finished;
-use trace_race::Run;
+use comp_trace::Run;
 use heap_layout::Kind;
 use page_plan::Plan;
 use test_support::Objects;
@@ -19,8 +19,8 @@ use std::process::Abort;
 use std::sync::Wait;
 use std::sync::ledger::Blank;
 use std::thread::Threads;
-use trace_text::Action;
-use trace_text::Line;
+use comp_trace::Action;
+use comp_trace::Line;
 
 // Why a line can be refused that waits and has memory.
 const STOPS: [Refusal; 5] = [

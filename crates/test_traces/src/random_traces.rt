@@ -8,7 +8,7 @@ use crate::random_races::race_drawn;
 use crate::replays::expect_replay;
 use crate::texts::expect_lines;
 use comp_mutator::Finished;
-use trace_replay::Stopped;
+use comp_trace::Stopped;
 use heap_layout::Edition;
 use page_plan::Plan;
 use test_support::two_live;
@@ -18,8 +18,8 @@ use std::process::Abort;
 use std::sync::Wait;
 use std::sync::ledger::Blank;
 use std::thread::Threads;
-use trace_steps::Shown;
-use trace_text::TraceFault;
+use comp_trace::Shown;
+use comp_trace::TraceFault;
 
 // Whether a trace is raced, or else replayed by one thread.
 #[derive(Clone, Copy)]

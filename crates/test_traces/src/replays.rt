@@ -2,10 +2,10 @@
 use crate::expected::{expect_so, plan_of};
 use crate::flipped::Case;
 use crate::ran::replayed;
-use call_refusals::Refusal;
+use comp_mutator::Refusal;
 use comp_journal::Entry;
 use comp_mutator::Finished;
-use trace_replay::Stopped;
+use comp_trace::Stopped;
 use heap_layout::Kind;
 use page_plan::Plan;
 use std::alloc::Global;
@@ -13,8 +13,8 @@ use std::marker::Brand;
 use std::process::Abort;
 use std::sync::ledger::Blank;
 use std::thread::Threads;
-use trace_steps::Shown;
-use trace_text::TraceFault;
+use comp_trace::Shown;
+use comp_trace::TraceFault;
 use test_support::three;
 use test_support::weak;
 

@@ -16,7 +16,7 @@ use crate::runner::{Runner, run_own};
 use comp_mutator::Mutator;
 use comp_mutator::Space;
 use heap_layout::OutOfMemory;
-use page_plan::Builder;
+use comp_mutator::Builder;
 use std::alloc::Global;
 use std::sync::Wait;
 use std::sync::ledger::Ledger;

@@ -11,7 +11,7 @@ use crate::chains::Chains;
 use crate::waiting::act_waiting;
 use comp_mutator::Mutator;
 use comp_mutator::Space;
-use page_plan::Builder;
+use comp_mutator::Builder;
 use std::alloc::Global;
 use std::sync::Wait;
 use std::sync::ledger::Ledger;

@@ -9,10 +9,10 @@ ghost use Rattle.trace_steps.specs.Rounds.{AreLater, DidNothing};
 ghost use Rattle.trace_steps.specs.Traces.{AllFit, IsParsedFor};
 ghost use Rattle.trace_text.specs.Traces.{lines_of};
 
-use call_refusals::Refusal;
+use comp_mutator::Refusal;
 use comp_mutator::Mutator;
 use comp_mutator::Space;
-use page_plan::Builder;
+use comp_mutator::Builder;
 use std::alloc::{AllocError, Global};
 use std::sync::ledger::Ledger;
 use trace_steps::Shown;

@@ -9,7 +9,7 @@ use crate::replaying::Stopped;
 use crate::replaying::replay;
 use comp_mutator::Mutator;
 use comp_mutator::Space;
-use page_plan::Builder;
+use comp_mutator::Builder;
 use std::alloc::Global;
 use std::sync::ledger::Ledger;
 use trace_steps::Shown;

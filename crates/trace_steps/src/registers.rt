@@ -8,7 +8,7 @@ ghost use Rattle.trace_steps.specs.Builds.{kind_if};
 
 use comp_mutator::Space;
 use heap_layout::Kind;
-use page_plan::Builder;
+use comp_mutator::Builder;
 use std::sync::ledger::Ledger;
 
 /// What a register, one of 16, holds.

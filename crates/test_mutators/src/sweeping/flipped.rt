@@ -8,7 +8,7 @@ use comp_mutator::flip;
 use comp_mutator::Mutator;
 use comp_mutator::Space;
 use heap_layout::Edition;
-use page_plan::Builder;
+use comp_mutator::Builder;
 use page_plan::Plan;
 use std::alloc::Global;
 use std::process::Abort;
