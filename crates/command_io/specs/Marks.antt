@@ -1,6 +1,6 @@
 -- What is promised from the path of marks on.
 use Rattle.std.specs.Prelude.{◌≡◌, ℕ, List, Option, Ok, Err}
-use Rattle.trace_text.specs.Marks.{marks_of}
+use Rattle.comp_trace.specs.Marks.{marks_of}
 use Rattle.command_io.specs.Images.{SomeGiven}
 use Rattle.command_io.specs.Texts.{SomeText}
 use Rattle.command_io.specs.declared.refusal.Input.TheVariants as inputs

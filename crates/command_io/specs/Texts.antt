@@ -1,7 +1,7 @@
 -- What is promised from the path of a trace on.
 use Rattle.std.specs.Prelude.{◌≡◌, ℕ, ◌+◌, List, Option, IfSome, Result, Ok, Err}
-use Rattle.trace_text.specs.Grammar.{trace_of, IsReadAs}
-use Rattle.trace_text.specs.declared.line.Line.{Line}
+use Rattle.comp_trace.specs.Grammar.{trace_of, IsReadAs}
+use Rattle.comp_trace.specs.Line.{Line}
 use Rattle.command_io.specs.Images.{SomeGiven}
 use Rattle.command_io.specs.declared.refusal.Input.TheVariants as inputs
 use Rattle.command_io.specs.declared.refusal.Refusal.{Refusal}

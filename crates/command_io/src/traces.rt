@@ -1,7 +1,7 @@
 //! Where the traces and the marks lie, and how the texts of traces are read.
 ghost use Rattle.std.specs.Prelude.{◌≡◌, ℕ, ◌-◌, ◌^◌, ◌<◌, List, IfOk, IfErr};
 ghost use Rattle.heap_layout.specs.Counted.{inner_of, failures_of};
-ghost use Rattle.trace_text.specs.Traces.{lines_of, mutators_of, roots_of};
+ghost use Rattle.comp_trace.specs.Traces.{lines_of, mutators_of, roots_of};
 ghost use Rattle.command_io.specs.Images.{SomeGiven};
 ghost use Rattle.command_io.specs.Marks.{IsOfOpeningMarks};
 ghost use Rattle.command_io.specs.Texts.{CountsText, IsOfOpeningText, IsTextOf, RefusesText, RefusesTextAt};

@@ -3,8 +3,8 @@ use Rattle.std.proofs.Common.{◌≡◌, ℕ, List, Option, Result, Ok, Err, IfE
 use Rattle.std.specs.Io.KnownBytes.{Appends}
 use Rattle.heap_layout.specs.Heap.{Heap, live}
 use Rattle.page_plan.specs.Sliding.{forwarded, live_words}
-use Rattle.comp_cycles.specs.Finishes.{edition_in, builds_in, live_of, pages_of, roots_of}
-use Rattle.comp_cycles.specs.declared.finished.Finished.{Finished}
+use Rattle.comp_mutator.specs.Finishes.{edition_in, builds_in, live_of, pages_of, roots_of}
+use Rattle.comp_mutator.specs.Finished.{Finished}
 use Rattle.comp_dump.specs.Dumped.{Dumped}
 use Rattle.comp_dump.specs.DumpEncoding.{dump_bytes}
 use Rattle.comp_dump.specs.Lent.{record_of}

@@ -1,13 +1,13 @@
 -- A heap over which a trace was run, and the next heap.
 use Rattle.std.proofs.Common.{◌≡◌, ℕ, List, [], refl, subst, ◌∙◌}
 use Rattle.heap_layout.specs.Heap.{Heap}
-use Rattle.comp_cycles.specs.Cycles.{heap_after, IsCycleOf}
-use Rattle.comp_cycles.specs.Ends.{cycle_of}
-use Rattle.comp_cycles.specs.declared.finished.Finished.{Finished}
+use Rattle.comp_mutator.specs.Cycles.{heap_after, IsCycleOf}
+use Rattle.comp_mutator.specs.Ends.{cycle_of}
+use Rattle.comp_mutator.specs.Finished.{Finished}
 use Rattle.trace_cycles.specs.CycleRuns.{IsLastRun}
 use Rattle.trace_cycles.proofs.Runs.{marked}
 use Rattle.trace_steps.specs.declared.shown.Shown.{Shown}
-use Rattle.trace_text.specs.declared.line.Line.{Line}
+use Rattle.comp_trace.specs.Line.{Line}
 use Rattle.command_io.specs.declared.refusal.Refusal.{Refusal}
 use Rattle.command_io.specs.declared.refusal.Refusal.TheVariants.{Layout, Mutator, Sweep, Trace, Dump, Audit, CannotOpen, CannotCreate, ReadFailed, CannotPrint, NoSuchWord, BadMarks, OutOfMemory}
 use Rattle.commands.specs.Outcomes.{IsHaltedBy}

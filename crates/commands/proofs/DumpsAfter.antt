@@ -4,8 +4,8 @@ use Rattle.std.proofs.lemmas.List.{length-map, get_or-map, get_or_past}
 use Rattle.std.specs.List.{range_with_len}
 use Rattle.heap_layout.specs.Heap.{live, Heap}
 use Rattle.page_plan.specs.Sliding.{forward, live_words}
-use Rattle.comp_journal.specs.Journal.{replayed}
-use Rattle.comp_journal.specs.declared.entry.Entry.{Entry}
+use Rattle.comp_mutator.specs.Journal.{replayed}
+use Rattle.comp_mutator.specs.Entry.{Entry}
 use Rattle.cell_steps.specs.Closing.{journal_in, page_at, HasBase}
 use Rattle.cell_steps.specs.Lists.{on}
 use Rattle.cell_steps.specs.Passes.{builds_of}
@@ -14,13 +14,13 @@ use Rattle.cell_steps.specs.View.{Slot}
 use Rattle.cell_steps.specs.declared.pass.Pass.{Pass}
 use Rattle.comp_history.specs.Merged.{stamp_of}
 use Rattle.comp_history.specs.Shares.{allocated}
-use Rattle.comp_cycles.specs.Finishes.{history_of, journals_of, pages_of, roots_of, there, IsFinished}
-use Rattle.comp_cycles.specs.declared.finished.Finished.{Finished}
+use Rattle.comp_mutator.specs.Finishes.{history_of, journals_of, pages_of, roots_of, there, IsFinished}
+use Rattle.comp_mutator.specs.Finished.{Finished}
 use Rattle.comp_dump.specs.Lent.{record_of}
 use Rattle.trace_replay.specs.Bytes.{flipped}
 use Rattle.trace_replay.specs.Heaps.{HasRunOver}
 use Rattle.trace_steps.specs.declared.shown.Shown.{Shown}
-use Rattle.trace_text.specs.declared.line.Line.{Line}
+use Rattle.comp_trace.specs.Line.{Line}
 use Rattle.commands.specs.Replays.{dumped_of, page_in, times_built, IsDumpAfter, IsPageAfter, IsReplayedHeap}
 use Rattle.command_io.proofs.Lines.{each-given}
 

@@ -6,13 +6,13 @@ use Rattle.heap_layout.specs.Encoding.{AreCounted, ImagesDiffer}
 use Rattle.heap_layout.specs.Faults.{IsAccepted}
 use Rattle.heap_layout.specs.Heap.{Heap}
 use Rattle.heap_layout.proofs.Marked.{passed, sizes-few}
-use Rattle.comp_journal.specs.declared.entry.Entry.{Entry}
+use Rattle.comp_mutator.specs.Entry.{Entry}
 use Rattle.cell_steps.specs.Setup.{pages, Setup}
 use Rattle.comp_history.specs.Merged.{stamp_of}
 use Rattle.trace_replay.specs.Bytes.{flipped, no_entries}
-use Rattle.trace_text.specs.Grammar.{parts}
+use Rattle.comp_trace.specs.Grammar.{parts}
 use Rattle.trace_replay.specs.Runs.{beginning, unstamped_on, AreAlike, MayBegin, Moment, Runs}
-use Rattle.trace_text.specs.declared.line.Line.{Line}
+use Rattle.comp_trace.specs.Line.{Line}
 use Rattle.trace_steps.specs.declared.shown.Shown.{Shown}
 use Rattle.trace_replay.proofs.Determined.{determined}
 use Rattle.trace_replay.proofs.Inside.{ok_is, read_inside}

@@ -3,12 +3,12 @@ use Rattle.std.proofs.Common.{◌≡◌, ℕ, List, Option, Result, Ok, Err, IfE
 use Rattle.std.proofs.KnownBytes.{Appends-kept}
 use Rattle.std.specs.Io.KnownBytes.{Appends, Keeps}
 use Rattle.heap_layout.specs.Heap.{Heap}
-use Rattle.comp_cycles.specs.Finishes.{live_of}
-use Rattle.comp_cycles.specs.declared.finished.Finished.{Finished}
-use Rattle.trace_text.specs.declared.fault.TraceFault.{TraceFault}
-use Rattle.trace_text.specs.declared.fault.TraceFault.TheVariants.{BadLine, NoSuchMutator, NoSuchRegister, NumberTooLarge, NoSuchRoot, Refused}
-use Rattle.trace_text.specs.declared.fault.TraceFault.TheVariants as traces
-use Rattle.trace_text.specs.declared.line.Line.{Line}
+use Rattle.comp_mutator.specs.Finishes.{live_of}
+use Rattle.comp_mutator.specs.Finished.{Finished}
+use Rattle.comp_trace.specs.TraceFault.{TraceFault}
+use Rattle.comp_trace.specs.TraceFault.TheVariants.{BadLine, NoSuchMutator, NoSuchRegister, NumberTooLarge, NoSuchRoot, Refused}
+use Rattle.comp_trace.specs.TraceFault.TheVariants as traces
+use Rattle.comp_trace.specs.Line.{Line}
 use Rattle.trace_steps.specs.declared.shown.Shown.{Shown}
 use Rattle.comp_dump.specs.DumpEncoding.{dump_bytes}
 use Rattle.comp_dump.specs.declared.fault.DumpFault.TheVariants.{Truncated, TrailingBytes, BadMagic, BadField, Device}

@@ -10,16 +10,16 @@ use Rattle.cell_steps.specs.declared.pass.Pass.{Pass}
 use Rattle.cell_steps.proofs.Sums.{is_inside, there_at}
 use Rattle.page_cells.specs.Cells.{steps_of, AreNew}
 use Rattle.page_cells.proofs.Rows.{at_map_back}
-use Rattle.comp_cycles.specs.Finishes.{history_of, IsFinished}
+use Rattle.comp_mutator.specs.Finishes.{history_of, IsFinished}
 use Rattle.comp_mutator.specs.Mutators.{cells_of, pass_of, setup_of}
-use Rattle.comp_cycles.specs.declared.finished.Finished.{Finished}
+use Rattle.comp_mutator.specs.Finished.{Finished}
 use Rattle.comp_mutator.specs.declared.mutator.Mutator.{Mutator}
 use Rattle.comp_mutator.specs.declared.space.Space.{Space}
-use Rattle.trace_text.specs.Grammar.{parts}
-use Rattle.trace_race.specs.Races.{numbered, own_lines, HaveRaced, Ran}
-use Rattle.trace_text.specs.declared.fault.Stop.{Stop}
-use Rattle.trace_text.specs.declared.line.Line.{Line}
-use Rattle.trace_race.specs.declared.racing.Run.{Run}
+use Rattle.comp_trace.specs.Grammar.{parts}
+use Rattle.comp_trace.specs.Races.{numbered, own_lines, HaveRaced, Ran}
+use Rattle.comp_trace.specs.Stop.{Stop}
+use Rattle.comp_trace.specs.Line.{Line}
+use Rattle.comp_trace.specs.Run.{Run}
 use Rattle.trace_steps.specs.declared.shown.Shown.{Shown}
 use Rattle.trace_replay.proofs.Inside.{read_inside}
 use Rattle.commands.specs.ByLine.{AreByLine, AreOwn, HasEnded, IsLeastStop}

@@ -7,13 +7,13 @@ use Rattle.heap_layout.specs.Heap.{live, Heap}
 use Rattle.page_plan.specs.Sliding.{live_words}
 use Rattle.cell_steps.specs.Setup.{Setup}
 use Rattle.comp_history.specs.Shares.{allocated}
-use Rattle.comp_cycles.specs.Finishes.{edition_in, builds_in, live_of, pages_of, roots_of}
-use Rattle.comp_cycles.specs.declared.finished.Finished.{Finished}
+use Rattle.comp_mutator.specs.Finishes.{edition_in, builds_in, live_of, pages_of, roots_of}
+use Rattle.comp_mutator.specs.Finished.{Finished}
 use Rattle.trace_replay.specs.Bytes.{flipped, CutsShort}
-use Rattle.trace_text.specs.declared.fault.TraceFault.{TraceFault}
-use Rattle.trace_text.specs.declared.fault.TraceFault.TheVariants.{BadLine, NoSuchMutator, NoSuchRegister, NumberTooLarge, NoSuchRoot, Refused}
-use Rattle.trace_text.specs.declared.fault.TraceFault.TheVariants as traces
-use Rattle.trace_text.specs.declared.line.Line.{Line}
+use Rattle.comp_trace.specs.TraceFault.{TraceFault}
+use Rattle.comp_trace.specs.TraceFault.TheVariants.{BadLine, NoSuchMutator, NoSuchRegister, NumberTooLarge, NoSuchRoot, Refused}
+use Rattle.comp_trace.specs.TraceFault.TheVariants as traces
+use Rattle.comp_trace.specs.Line.{Line}
 use Rattle.trace_steps.specs.declared.shown.Shown.{Shown}
 use Rattle.comp_dump.specs.Dumped.{Dumped}
 use Rattle.comp_dump.specs.DumpEncoding.{dump_bytes}

@@ -11,8 +11,8 @@ use Rattle.heap_layout.specs.Heap.{live}
 use Rattle.page_plan.specs.Sliding as sliding
 use Rattle.page_plan.specs.Sliding.{forward, live_words}
 use Rattle.page_plan.specs.declared.builder.Builder.{Ghosts}
-use Rattle.comp_journal.specs.Journal.{replayed}
-use Rattle.comp_journal.specs.declared.entry.Entry.{Entry}
+use Rattle.comp_mutator.specs.Journal.{replayed}
+use Rattle.comp_mutator.specs.Entry.{Entry}
 use Rattle.cell_steps.specs.Setup.{Setup, base_of}
 use Rattle.cell_steps.specs.Lists.{on}
 use Rattle.cell_steps.specs.View.{Slot}
@@ -24,10 +24,10 @@ use Rattle.page_cells.specs.Cells.{steps_of, AreNew}
 use Rattle.page_cells.proofs.Rows.{at_map, at_map_back}
 use Rattle.comp_history.specs.Merged.{written_by}
 use Rattle.comp_history.specs.Shares.{allocated}
-use Rattle.comp_cycles.specs.Finishes.{builds_in, history_of, journals_of, live_of, pages_of, roots_of, there, IsFinished}
+use Rattle.comp_mutator.specs.Finishes.{builds_in, history_of, journals_of, live_of, pages_of, roots_of, there, IsFinished}
 use Rattle.comp_mutator.specs.Mutators.{cells_of, pass_of, setup_of}
 use Rattle.comp_mutator.specs.Orders.{HasNumber, IsRow}
-use Rattle.comp_cycles.specs.declared.finished.Finished.{Finished}
+use Rattle.comp_mutator.specs.Finished.{Finished}
 use Rattle.comp_mutator.specs.declared.mutator.Mutator.{Mutator}
 use Rattle.comp_mutator.specs.declared.space.Space.{Space}
 use Rattle.comp_sweep.specs.Sweeps.{HandsBack, SomeSeesBuilt, Sweeps}

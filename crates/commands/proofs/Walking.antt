@@ -12,12 +12,12 @@ use Rattle.cell_steps.specs.declared.pass.Pass.{Pass}
 use Rattle.cell_steps.proofs.Sums.{at_last, but-other, but-same, each-append, each-one, last_of}
 use Rattle.comp_history.proofs.Sorted.{at_in, in_at, in_front, in_behind, in_parts, In}
 use Rattle.trace_steps.specs.Acting.{null_registers, registers_after, shown_at}
-use Rattle.trace_race.specs.Races.{numbered, own_lines, Ran, Went}
-use Rattle.trace_text.specs.declared.fault.Stop.{Stop}
-use Rattle.trace_text.specs.declared.line.Action.{Action}
-use Rattle.trace_text.specs.declared.line.Action.TheVariants.{Root, Load, Get, Store, Put, New, Nil}
-use Rattle.trace_text.specs.declared.line.Line.{Line}
-use Rattle.trace_race.specs.declared.racing.Run.{Run}
+use Rattle.comp_trace.specs.Races.{numbered, own_lines, Ran, Went}
+use Rattle.comp_trace.specs.Stop.{Stop}
+use Rattle.comp_trace.specs.Action.{Action}
+use Rattle.comp_trace.specs.Action.TheVariants.{Root, Load, Get, Store, Put, New, Nil}
+use Rattle.comp_trace.specs.Line.{Line}
+use Rattle.comp_trace.specs.Run.{Run}
 use Rattle.trace_steps.specs.declared.shown.Shown.{Shown}
 use Rattle.commands.specs.ByLine.{earlier_of, told_of, AreByLine, AreOf, AreOwn, HasEnded, IsFirstStop, IsLeastStop, LinesRise}
 

@@ -2,18 +2,18 @@
 use Rattle.std.specs.Prelude.{◌≡◌, ℕ, List, []}
 use Rattle.heap_layout.specs.Heap.{Heap}
 use Rattle.heap_layout.specs.declared.fault.LayoutFault.{LayoutFault}
-use Rattle.call_refusals.specs.declared.refusal.Refusal.TheVariants as refusals
-use Rattle.comp_cycles.specs.Cycles.{Cycle, heap_after, IsChapter, IsCycleOf}
-use Rattle.comp_cycles.specs.Ends.{cycle_of, setup_in, IsRefusedFor}
-use Rattle.comp_cycles.specs.Finishes.{journals_of}
-use Rattle.comp_cycles.specs.NextHeap.{next_faults}
-use Rattle.comp_cycles.specs.Stable.{StableHeap}
-use Rattle.comp_cycles.specs.Told.{IsToldAs}
-use Rattle.comp_cycles.specs.declared.finished.Finished.{Finished}
+use Rattle.comp_mutator.specs.Refusal.TheVariants as refusals
+use Rattle.comp_mutator.specs.Cycles.{Cycle, heap_after, IsChapter, IsCycleOf}
+use Rattle.comp_mutator.specs.Ends.{cycle_of, setup_in, IsRefusedFor}
+use Rattle.comp_mutator.specs.Finishes.{journals_of}
+use Rattle.comp_mutator.specs.NextHeap.{next_faults}
+use Rattle.comp_mutator.specs.Stable.{StableHeap}
+use Rattle.comp_mutator.specs.Told.{IsToldAs}
+use Rattle.comp_mutator.specs.Finished.{Finished}
 use Rattle.trace_replay.specs.Bytes.{flipped, CutsShort}
 use Rattle.trace_cycles.specs.CycleRuns.{IsLastRun, IsPart}
 use Rattle.trace_steps.specs.declared.shown.Shown.{Shown}
-use Rattle.trace_text.specs.declared.line.Line.{Line}
+use Rattle.comp_trace.specs.Line.{Line}
 use Rattle.command_io.specs.declared.refusal.Refusal.{Refusal}
 use Rattle.command_io.specs.declared.refusal.Refusal.TheVariants.{Layout, Mutator, OutOfMemory, Trace}
 

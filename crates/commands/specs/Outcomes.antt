@@ -2,8 +2,8 @@
 use Rattle.std.specs.Prelude.{◌≡◌, ◌⊎◌, ℕ, List, [], length, Option, Result, Ok, Err}
 use Rattle.std.specs.Io.KnownBytes.{Appends}
 use Rattle.heap_layout.specs.Heap.{Heap}
-use Rattle.comp_cycles.specs.Finishes.{live_of}
-use Rattle.trace_text.specs.declared.fault.TraceFault.TheVariants.{Refused}
+use Rattle.comp_mutator.specs.Finishes.{live_of}
+use Rattle.comp_trace.specs.TraceFault.TheVariants.{Refused}
 use Rattle.trace_steps.specs.declared.shown.Shown.{Shown}
 use Rattle.comp_dump.specs.DumpEncoding.{dump_bytes}
 use Rattle.command_io.specs.Dumps.{WritesWhole}

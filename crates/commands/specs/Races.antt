@@ -11,16 +11,16 @@ use Rattle.cell_steps.specs.Passes.{about}
 use Rattle.cell_steps.specs.declared.pass.Pass.{Pass}
 use Rattle.cell_steps.specs.declared.steps.Steps.{Steps}
 use Rattle.page_cells.specs.Cells.{AreNew}
-use Rattle.comp_cycles.specs.Finishes.{history_of, live_of, IsFinished}
-use Rattle.comp_cycles.specs.declared.finished.Finished.{Finished}
-use Rattle.call_refusals.specs.declared.refusal.Refusal.{Refusal as CallRefusal}
-use Rattle.call_refusals.specs.declared.refusal.Refusal.TheVariants as refusals
+use Rattle.comp_mutator.specs.Finishes.{history_of, live_of, IsFinished}
+use Rattle.comp_mutator.specs.Finished.{Finished}
+use Rattle.comp_mutator.specs.Refusal.{Refusal as CallRefusal}
+use Rattle.comp_mutator.specs.Refusal.TheVariants as refusals
 use Rattle.trace_replay.specs.Bytes.{flipped}
-use Rattle.trace_race.specs.Races.{numbered, own_lines, Ran}
-use Rattle.trace_text.specs.declared.fault.TraceFault.{TraceFault}
-use Rattle.trace_text.specs.declared.fault.TraceFault.TheVariants as faults
-use Rattle.trace_text.specs.declared.line.Line.{Line}
-use Rattle.trace_race.specs.declared.racing.Run.{Run}
+use Rattle.comp_trace.specs.Races.{numbered, own_lines, Ran}
+use Rattle.comp_trace.specs.TraceFault.{TraceFault}
+use Rattle.comp_trace.specs.TraceFault.TheVariants as faults
+use Rattle.comp_trace.specs.Line.{Line}
+use Rattle.comp_trace.specs.Run.{Run}
 use Rattle.trace_steps.specs.declared.shown.Shown.{Shown}
 use Rattle.comp_dump.specs.DumpEncoding.{dump_bytes}
 use Rattle.comp_dump.specs.declared.fault.DumpFault.TheVariants.{Device}

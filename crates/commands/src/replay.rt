@@ -1,13 +1,13 @@
 //! The command `replay`.
 ghost use Rattle.std.specs.Prelude.{◌≡◌, ◌-◌, ◌^◌, ◌<◌, ◌≤◌, length, IfErr, IfOk, OnOk};
 ghost use Rattle.heap_layout.specs.Counted.{inner_of, failures_of, writer_of};
-ghost use Rattle.comp_cycles.specs.Finishes.{live_of, IsOfFlip};
+ghost use Rattle.comp_mutator.specs.Finishes.{live_of, IsOfFlip};
 ghost use Rattle.comp_dump.specs.DumpEncoding.{dump_bytes};
 ghost use Rattle.command_io.specs.Dumps.{RefusedUncreated, WritesWhole};
 ghost use Rattle.command_io.specs.Images.{IsImageOf, SomeGiven};
 ghost use Rattle.command_io.specs.Printing.{CountsPrint};
 ghost use Rattle.command_io.specs.Texts.{IsTextOf};
-ghost use Rattle.trace_text.specs.Traces.{lines_of, mutators_of, roots_of};
+ghost use Rattle.comp_trace.specs.Traces.{lines_of, mutators_of, roots_of};
 ghost use Rattle.commands.specs.Outcomes.{IsHaltedBy, IsOfHalt, IsWritten, RefusesInputs, RefusesOutcome};
 ghost use Rattle.commands.specs.Replays.{dumped_of, IsOfWritingRun, PrintsRun, RefusesReplay, Replays, SomeRun, StopsUnprinted};
 

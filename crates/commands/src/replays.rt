@@ -1,7 +1,7 @@
 //! Heaps over which a trace is run by one thread.
 ghost use Rattle.std.specs.Prelude.{◌≡◌, ◌≤◌, [], length, IfOk, IfErr};
-ghost use Rattle.comp_cycles.specs.Finishes.{IsOfFlip};
-ghost use Rattle.trace_text.specs.Traces.{lines_of, mutators_of, roots_of};
+ghost use Rattle.comp_mutator.specs.Finishes.{IsOfFlip};
+ghost use Rattle.comp_trace.specs.Traces.{lines_of, mutators_of, roots_of};
 ghost use Rattle.commands.specs.Replays.{IsHalted, IsReplayedHeap};
 
 use comp_mutator::Refusal as MutatorRefusal;

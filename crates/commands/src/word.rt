@@ -5,7 +5,7 @@ ghost use Rattle.heap_layout.specs.Heap.{live};
 ghost use Rattle.page_plan.specs.Sliding.{pages, slid_words};
 ghost use Rattle.page_cells.specs.Cells.{steps_of, AreNew, IsNew};
 ghost use Rattle.comp_mutator.specs.Mutators.{cells_of, pass_of, setup_of};
-ghost use Rattle.call_refusals.specs.declared.refusal.Refusal.TheVariants as refusals;
+ghost use Rattle.comp_mutator.specs.Refusal.TheVariants as refusals;
 ghost use Rattle.std.specs.Io.KnownBytes.{Appends};
 ghost use Rattle.command_io.specs.Printing.{line_of, CountsPrint, CountsRead, RefusedUnprinted};
 ghost use Rattle.command_io.specs.Images.{IsImageOf, SomeGiven, RefusesAt};

@@ -3,7 +3,7 @@ use Rattle.std.proofs.Common.{◌≡◌, ℕ, zero, suc, ◌+◌, ◌<◌, ◌�
 use Rattle.std.proofs.lemmas.List.{length-map}
 use Rattle.std.proofs.lemmas.Bool.{cases_lt, cases_eq, leb-true, eq-eqb}
 use Rattle.std.specs.List.{flat_map, range_with_len}
-use Rattle.comp_journal.specs.declared.entry.Entry.{Entry}
+use Rattle.comp_dump.specs.Entry.{Entry}
 use Rattle.cell_steps.specs.Lists.{times, total, only, below, stamps}
 use Rattle.cell_steps.specs.Locks.{Journals}
 use Rattle.cell_steps.proofs.Sums.{below-at, below-ext, below-zero, times-cons, times-other}

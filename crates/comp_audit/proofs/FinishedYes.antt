@@ -5,17 +5,17 @@ use Rattle.std.proofs.Math.Path.{fun_ext}
 use Rattle.std.proofs.lemmas.List.{length-map}
 use Rattle.heap_layout.specs.Heap.{live}
 use Rattle.page_plan.specs.Sliding.{forward, live_words}
-use Rattle.comp_journal.specs.Journal.{replayed}
-use Rattle.comp_journal.specs.declared.entry.Entry.{Entry}
+use Rattle.comp_dump.specs.Journal.{replayed}
+use Rattle.comp_dump.specs.Entry.{Entry}
 use Rattle.cell_steps.specs.Setup.{Setup, base_of}
 use Rattle.cell_steps.specs.View.{Slot}
 use Rattle.cell_steps.specs.Closing.{journal_in, page_at, HasBase}
 use Rattle.comp_history.specs.Merged.{history, CanMerge}
 use Rattle.comp_history.specs.Shares.{allocated}
-use Rattle.comp_cycles.specs.Finishes as finished
+use Rattle.comp_dump.specs.Finishes as finished
 use Rattle.comp_history.specs.Builds.{named}
-use Rattle.comp_cycles.specs.Finishes.{pages_of, there, IsOfFlip}
-use Rattle.comp_cycles.specs.declared.finished.Finished.{Finished}
+use Rattle.comp_dump.specs.Finishes.{pages_of, there, IsOfFlip}
+use Rattle.comp_dump.specs.Finished.{Finished}
 use Rattle.comp_dump.specs.Dumped.{BuiltPage, Dumped}
 use Rattle.comp_dump.specs.Lent.{record_of, built_of}
 use Rattle.audit_checks.specs.Checks.{setup_for, journal_of}

@@ -17,8 +17,8 @@ use Rattle.heap_layout.specs.Kinds.{refers}
 use Rattle.heap_layout.specs.declared.kind.Kind.{Kind}
 use Rattle.heap_layout.specs.declared.kind.Kind.TheVariants.{Header}
 use Rattle.page_plan.specs.Sliding.{forwarded, live_words, shape_at}
-use Rattle.comp_journal.specs.Journal.{replayed}
-use Rattle.comp_journal.specs.declared.entry.Entry.{Entry}
+use Rattle.comp_dump.specs.Journal.{replayed}
+use Rattle.comp_dump.specs.Entry.{Entry}
 use Rattle.cell_steps.specs.Setup.{Setup, pages, address, base_of}
 use Rattle.cell_steps.specs.Lists.{times}
 use Rattle.cell_steps.specs.Locks.{Journals}

@@ -1,2 +1,3 @@
 pub mod Judged
 pub mod Meant
+pub use Rattle.audit_checks.specs.Told

@@ -2,15 +2,15 @@
 use Rattle.std.specs.Prelude.{◌≡◌, ℕ, ◌+◌, ◌<◌, List, [], length, map, slice_index_or, Option, Some, None}
 use Rattle.heap_layout.specs.Heap.{Heap, live, IsClosed}
 use Rattle.page_plan.specs.Sliding.{forwarded, live_words}
-use Rattle.comp_journal.specs.Journal.{replayed}
-use Rattle.comp_journal.specs.declared.entry.Entry.{Entry}
+use Rattle.comp_dump.specs.Journal.{replayed}
+use Rattle.comp_dump.specs.Entry.{Entry}
 use Rattle.cell_steps.specs.Setup.{Setup, pages, base_of}
 use Rattle.page_cells.specs.Objects.{ReferencesAreStarts}
 use Rattle.comp_history.specs.Merged.{history, CanMerge, IsOneHistory}
 use Rattle.comp_history.specs.Shares.{allocated}
 use Rattle.comp_history.specs.Builds.{named}
-use Rattle.comp_cycles.specs.Finishes.{builds_in, edition_in, live_of, pages_of, roots_of, IsOfFlip}
-use Rattle.comp_cycles.specs.declared.finished.Finished.{Finished}
+use Rattle.comp_dump.specs.Finishes.{builds_in, edition_in, live_of, pages_of, roots_of, IsOfFlip}
+use Rattle.comp_dump.specs.Finished.{Finished}
 use Rattle.comp_dump.specs.Dumped.{BuiltPage, Dumped, IsStored}
 use Rattle.comp_dump.specs.Lent.{record_of}
 use Rattle.audit_checks.specs.Checks.{setup_for, journals_in}

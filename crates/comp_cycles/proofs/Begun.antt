@@ -15,8 +15,8 @@ use Rattle.page_plan.proofs.Objects.{live-at, live_words-next, live_words-all, s
 use Rattle.page_plan.proofs.Forwarding.{forward-none}
 use Rattle.page_plan.proofs.References.{place-is, place-only}
 use Rattle.page_plan.proofs.Pages.{page-at}
-use Rattle.cell_steps.specs.Setup.{Setup, base_of}
-use Rattle.cell_steps.specs.Starts.{IsPlace}
+use Rattle.comp_history.specs.Setup.{Setup, base_of}
+use Rattle.comp_history.specs.Starts.{IsPlace}
 use Rattle.page_cells.specs.Objects.{page_at, offset_at, IsMadeAt}
 use Rattle.page_cells.proofs.Leading.{slid_base}
 use Rattle.page_cells.proofs.Rows.{at_value}

@@ -13,9 +13,9 @@ use Rattle.page_plan.proofs.References.{place-is}
 use Rattle.page_plan.proofs.Forwarding.{forward-none}
 use Rattle.page_plan.proofs.Objects.{live-at}
 use Rattle.comp_journal.specs.declared.entry.Entry.{Entry}
-use Rattle.cell_steps.specs.Setup.{Setup, pages, address}
-use Rattle.cell_steps.specs.Lists.{StartsWith}
-use Rattle.cell_steps.specs.Locks.{Journals}
+use Rattle.comp_history.specs.Setup.{Setup, pages, address}
+use Rattle.comp_history.specs.Lists.{StartsWith}
+use Rattle.comp_history.specs.Locks.{Journals}
 use Rattle.page_cells.specs.Objects.{IsObjectAt}
 use Rattle.comp_history.specs.Merged.{history, CanMerge, IsOneHistory}
 use Rattle.comp_cycles.specs.Forwarded.{AreForwarded}

@@ -18,10 +18,10 @@ use Rattle.page_plan.proofs.References.{place-only}
 use Rattle.page_plan.proofs.Shapes.{field-inside, shape-found}
 use Rattle.comp_journal.specs.Journal.{written, replayed}
 use Rattle.comp_journal.specs.declared.entry.Entry.{Entry}
-use Rattle.cell_steps.specs.Setup.{Setup, pages, fresh_page, base_of}
-use Rattle.cell_steps.specs.Lawful.{kind_at, kinds_in, filled, Fits, HasHead, LawfulAfter}
-use Rattle.cell_steps.specs.Locks.{Journals}
-use Rattle.cell_steps.specs.Starts.{IsPlace}
+use Rattle.comp_history.specs.Setup.{Setup, pages, fresh_page, base_of}
+use Rattle.comp_history.specs.Lawful.{kind_at, kinds_in, filled, Fits, HasHead, LawfulAfter}
+use Rattle.comp_history.specs.Locks.{Journals}
+use Rattle.comp_history.specs.Starts.{IsPlace}
 use Rattle.page_cells.specs.Objects.{IsObjectAt, IsMadeAt}
 use Rattle.page_cells.proofs.Heads.{all_made, field_kind, head_word, header_stays, none_behind, fresh_kind, IsMade}
 use Rattle.page_cells.proofs.Fields.{compacted_kind, fresh_base}

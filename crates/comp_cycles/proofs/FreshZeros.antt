@@ -3,10 +3,10 @@ use Rattle.std.proofs.Common.{◌≡◌, ℕ, ◌+◌, ◌<◌, List, [], ◌∷
 use Rattle.std.proofs.lemmas.List.{get_or-replicate}
 use Rattle.heap_layout.specs.Header.{header_of, size_of}
 use Rattle.comp_journal.specs.declared.entry.Entry.{Entry}
-use Rattle.cell_steps.specs.Setup.{Setup, pages, address, base_of}
-use Rattle.cell_steps.specs.Lists.{on}
-use Rattle.cell_steps.specs.Lawful.{FitsEntry, IsLawful}
-use Rattle.cell_steps.specs.Locks.{Journals}
+use Rattle.comp_history.specs.Setup.{Setup, pages, address, base_of}
+use Rattle.comp_history.specs.Lists.{on}
+use Rattle.comp_history.specs.Lawful.{FitsEntry, IsLawful}
+use Rattle.comp_history.specs.Locks.{Journals}
 use Rattle.page_cells.proofs.Heads.{is_fresh, next_of, none_behind}
 use Rattle.page_cells.proofs.Fields.{fresh_base}
 use Rattle.comp_history.specs.Merged.{CanMerge}

@@ -15,9 +15,9 @@ use Rattle.page_plan.specs.Sliding.{to_address}
 use Rattle.page_plan.proofs.Objects.{reference-target}
 use Rattle.page_plan.proofs.Owners.{objects_stand}
 use Rattle.page_plan.proofs.Shapes.{field-inside}
-use Rattle.cell_steps.specs.Setup.{Setup, pages}
-use Rattle.cell_steps.specs.Locks.{Journals}
-use Rattle.cell_steps.specs.Starts.{IsPlace}
+use Rattle.comp_history.specs.Setup.{Setup, pages}
+use Rattle.comp_history.specs.Locks.{Journals}
+use Rattle.comp_history.specs.Starts.{IsPlace}
 use Rattle.page_cells.specs.Objects.{IsObjectAt, IsMadeAt}
 use Rattle.page_cells.proofs.Rows.{at_map_back, at_below, read_at}
 use Rattle.comp_history.specs.Merged.{CanMerge}

@@ -8,7 +8,7 @@ use Rattle.heap_layout.specs.Kinds.{refers, count_of, first_of}
 use Rattle.heap_layout.specs.declared.kind.Kind.{Kind}
 use Rattle.heap_layout.specs.declared.kind.Kind.TheVariants.{Header, Reference, Weak, Data}
 use Rattle.comp_journal.specs.declared.entry.Entry.{Entry}
-use Rattle.cell_steps.specs.Lists.{but}
+use Rattle.comp_history.specs.Lists.{but}
 use Rattle.page_plan.proofs.Shapes.{field-inside}
 use Rattle.comp_history.specs.OneThread.{OneThreadHeap, HasStart, IsFree, IsFieldIn, IsNullOrStart, MayWrite, IsLegal, header_in, address_of, after, result_of}
 use Rattle.comp_cycles.specs.Stable.{StableHeap, Step, Writes, IsNullOrAmong, MayStep, with_word, stepped, IsLife, lived}

@@ -10,7 +10,7 @@ use Rattle.heap_layout.specs.Header.{Head, header_of, refs_of, weak_of, size_of}
 use Rattle.heap_layout.specs.Kinds.{refers, count_of, first_of}
 use Rattle.heap_layout.specs.declared.kind.Kind.{Kind}
 use Rattle.heap_layout.specs.declared.kind.Kind.TheVariants.{Header, Reference, Weak, Data}
-use Rattle.cell_steps.specs.Lists.{but}
+use Rattle.comp_history.specs.Lists.{but}
 use Rattle.comp_history.specs.OneThread.{OneThreadHeap, HasStart, IsFree, IsNullOrStart, header_in, starts_after}
 use Rattle.comp_cycles.specs.Stable.{StableHeap, Makes, IsNullOrAmong, head_of, with_word, stepped}
 use Rattle.comp_cycles.specs.Told.{Names, number_at, pointers_of, told_value, told_word, owner, AreTold}

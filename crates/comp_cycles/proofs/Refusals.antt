@@ -9,8 +9,8 @@ use Rattle.heap_layout.specs.declared.edition.Edition.{Edition}
 use Rattle.heap_layout.specs.declared.fault.LayoutFault.{LayoutFault}
 use Rattle.heap_layout.specs.declared.fault.LayoutFault.TheVariants.{TooLarge, ObjectPastEnd, ObjectTooLong, MarkNotStart, MarksNotRising, BadRoot, UnmarkedTarget, Truncated, TrailingBytes, BadMagic, OutOfMemory, Device, BadWeak}
 use Rattle.page_plan.proofs.Objects.{live_words-few}
-use Rattle.cell_steps.specs.Setup.{Setup, pages}
-use Rattle.cell_steps.specs.Locks.{Journals}
+use Rattle.comp_history.specs.Setup.{Setup, pages}
+use Rattle.comp_history.specs.Locks.{Journals}
 use Rattle.comp_cycles.specs.Finishes.{pages_of, roots_of, journals_of}
 use Rattle.comp_history.specs.Merged.{CanMerge}
 use Rattle.comp_cycles.specs.declared.finished.Finished.{Finished}

@@ -15,8 +15,8 @@ use Rattle.heap_layout.specs.declared.kind.Kind.TheVariants.{Header, Reference, 
 use Rattle.heap_layout.proofs.Rows.{append-none, unless-none, starts_at-step, starts_at-past, faults-behind}
 use Rattle.heap_layout.specs.Kinds.{first_of}
 use Rattle.heap_layout.proofs.Marked.{closed, marks-started}
-use Rattle.cell_steps.specs.Setup.{Setup, pages}
-use Rattle.cell_steps.specs.Locks.{Journals}
+use Rattle.comp_history.specs.Setup.{Setup, pages}
+use Rattle.comp_history.specs.Locks.{Journals}
 use Rattle.comp_history.specs.Merged.{CanMerge}
 use Rattle.comp_history.proofs.Words.{some_field}
 use Rattle.comp_cycles.specs.NextHeap.{word_in, kind_in, lowered_as, next_word, next_heap, is_header, object_starts, next_faults}

@@ -13,9 +13,9 @@ use Rattle.heap_layout.specs.declared.kind.Kind.TheVariants.{Header, Weak}
 use Rattle.heap_layout.proofs.Marked.{marks-started}
 use Rattle.page_plan.specs.Sliding.{to_address}
 use Rattle.page_plan.proofs.Owners.{objects_stand}
-use Rattle.cell_steps.specs.Setup.{Setup, pages}
-use Rattle.cell_steps.specs.Locks.{Journals}
-use Rattle.cell_steps.specs.Starts.{IsPlace}
+use Rattle.comp_history.specs.Setup.{Setup, pages}
+use Rattle.comp_history.specs.Locks.{Journals}
+use Rattle.comp_history.specs.Starts.{IsPlace}
 use Rattle.page_cells.specs.Objects.{IsMadeAt, IsObjectAt, LeadsToObject}
 use Rattle.page_cells.proofs.Leading.{each_leads, older_closed}
 use Rattle.comp_history.specs.Merged.{CanMerge}

@@ -6,9 +6,9 @@ use Rattle.heap_layout.specs.Heap.{Heap, live}
 use Rattle.page_plan.specs.Sliding.{forward, to_address}
 use Rattle.comp_journal.specs.Journal.{replayed}
 use Rattle.comp_journal.specs.declared.entry.Entry.{Entry}
-use Rattle.cell_steps.specs.Setup.{Setup, address, base_of, pages}
-use Rattle.cell_steps.specs.Lists.{on, StartsWith}
-use Rattle.cell_steps.specs.Locks.{Journals}
+use Rattle.comp_history.specs.Setup.{Setup, address, base_of, pages}
+use Rattle.comp_history.specs.Lists.{on, StartsWith}
+use Rattle.comp_history.specs.Locks.{Journals}
 use Rattle.comp_history.specs.Merged.{history, CanMerge}
 use Rattle.comp_history.specs.OneThread.{first_heap, header_in, result_of, HasStart}
 use Rattle.comp_cycles.specs.Forwarded.{AreForwarded}

@@ -3,7 +3,7 @@
 use Rattle.std.specs.Prelude.{ℕ, zero, suc, List, [], ◌∷◌, map}
 use Rattle.heap_layout.specs.Header.{header_word}
 use Rattle.heap_layout.specs.declared.kind.Kind.TheVariants.{Header, Reference}
-use Rattle.cell_steps.specs.Locks.{Journals}
+use Rattle.comp_history.specs.Locks.{Journals}
 use Rattle.comp_history.specs.Drawn.{entry, t, three_objects}
 use Rattle.comp_cycles.specs.Cycles.{Cycle, heap_after}
 use Rattle.comp_cycles.specs.Stable.{StableHeap}

@@ -7,9 +7,9 @@ use Rattle.heap_layout.specs.declared.fault.LayoutFault.{LayoutFault}
 use Rattle.heap_layout.specs.declared.fault.LayoutFault.TheVariants.{OutOfMemory}
 use Rattle.page_plan.specs.Sliding as sliding
 use Rattle.comp_journal.specs.Journal.{replayed}
-use Rattle.cell_steps.specs.Setup.{Setup, base_of}
-use Rattle.cell_steps.specs.Locks.{Journals}
-use Rattle.cell_steps.specs.declared.pass.Pass.{Pass}
+use Rattle.comp_history.specs.Setup.{Setup, base_of}
+use Rattle.comp_history.specs.Locks.{Journals}
+use Rattle.comp_history.specs.Pass.{Pass}
 use Rattle.comp_cycles.specs.Finishes.{pages_of, roots_of, builds_in, journals_of, IsFinished}
 use Rattle.comp_cycles.specs.declared.finished.Finished.{Finished}
 use Rattle.comp_cycles.specs.NextHeap.{next_word, kind_in, is_header}

@@ -6,13 +6,13 @@ use Rattle.heap_layout.specs.Heap.{live, IsClosed}
 use Rattle.heap_layout.specs.declared.edition.Edition.{Edition}
 use Rattle.page_plan.specs.Sliding.{live_words}
 use Rattle.comp_journal.specs.declared.entry.Entry.{Entry}
-use Rattle.cell_steps.specs.Setup.{Setup, pages}
-use Rattle.cell_steps.specs.Lists.{total, StartsWith}
-use Rattle.cell_steps.specs.Locks.{Journals}
-use Rattle.cell_steps.specs.View.{Slot}
-use Rattle.cell_steps.specs.Closing.{journal_at, page_at, HasBase}
-use Rattle.cell_steps.specs.Passes.{edition_of, builds_of, did, seen, HasSeenBuilt}
-use Rattle.cell_steps.specs.declared.pass.Pass.{Pass}
+use Rattle.comp_history.specs.Setup.{Setup, pages}
+use Rattle.comp_history.specs.Lists.{total, StartsWith}
+use Rattle.comp_history.specs.Locks.{Journals}
+use Rattle.comp_history.specs.View.{Slot}
+use Rattle.comp_history.specs.Closing.{journal_at, page_at, HasBase}
+use Rattle.comp_history.specs.Passes.{edition_of, builds_of, did, seen, HasSeenBuilt}
+use Rattle.comp_history.specs.Pass.{Pass}
 use Rattle.page_cells.specs.Ends.{lists}
 use Rattle.page_cells.specs.Objects.{AreLawful, ReferencesAreStarts}
 use Rattle.comp_history.specs.Merged.{history, written_by, CanMerge, IsOneHistory, IsPoint}

@@ -7,9 +7,9 @@ use Rattle.heap_layout.specs.Kinds.{refers}
 use Rattle.heap_layout.specs.declared.fault.LayoutFault.{LayoutFault}
 use Rattle.heap_layout.specs.declared.kind.Kind.{Kind}
 use Rattle.heap_layout.specs.declared.kind.Kind.TheVariants.{Header, Reference, Weak, Data}
-use Rattle.cell_steps.specs.Setup.{Setup, pages}
-use Rattle.cell_steps.specs.Lawful.{kind_at}
-use Rattle.cell_steps.specs.Locks.{Journals}
+use Rattle.comp_history.specs.Setup.{Setup, pages}
+use Rattle.comp_history.specs.Lawful.{kind_at}
+use Rattle.comp_history.specs.Locks.{Journals}
 use Rattle.page_cells.specs.Objects.{word_on}
 
 -- the to-space word i at the end, and what it is

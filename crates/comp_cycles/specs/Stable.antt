@@ -9,7 +9,7 @@ use Rattle.heap_layout.specs.Kinds.{refers, count_of, first_of}
 use Rattle.heap_layout.specs.declared.edition.Edition.{Edition}
 use Rattle.heap_layout.specs.declared.kind.Kind.{Kind}
 use Rattle.heap_layout.specs.declared.kind.Kind.TheVariants.{Weak, Data}
-use Rattle.cell_steps.specs.Lists.{but}
+use Rattle.comp_history.specs.Lists.{but}
 
 pub record StableHeap : Type 0 where
   -- how headers are read

@@ -7,7 +7,7 @@ use Rattle.heap_layout.specs.Heap.{Heap, Object, live, from_address}
 use Rattle.heap_layout.specs.declared.kind.Kind.{Kind}
 use Rattle.heap_layout.specs.declared.kind.Kind.TheVariants.{Header, Reference, Weak, Data}
 use Rattle.comp_journal.specs.declared.entry.Entry.{Entry}
-use Rattle.cell_steps.specs.Lists.{look}
+use Rattle.comp_history.specs.Lists.{look}
 use Rattle.comp_history.specs.OneThread.{OneThreadHeap, HasStart, header_in, address_of, after}
 use Rattle.comp_cycles.specs.Stable.{StableHeap, Step, Makes, Writes, IsAmong}
 

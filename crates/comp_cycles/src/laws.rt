@@ -1,7 +1,7 @@
 //! Laws of cycles, each the contract of a function that does nothing.
 ghost use Rattle.std.specs.Prelude.{◌≡◌, ℕ, [], List};
-ghost use Rattle.cell_steps.specs.Locks.{Journals};
-ghost use Rattle.cell_steps.specs.Setup.{Setup};
+ghost use Rattle.comp_history.specs.Locks.{Journals};
+ghost use Rattle.comp_history.specs.Setup.{Setup};
 ghost use Rattle.heap_layout.specs.Faults.{mark_faults, weak_faults};
 ghost use Rattle.heap_layout.specs.Heap.{Heap, IsClosed};
 ghost use Rattle.comp_history.specs.Merged.{CanMerge};

@@ -1,9 +1,9 @@
 //! The to-space words of a finished heap, moved over to be the from-space words of the next one.
 ghost use Rattle.std.specs.Prelude.{◌≡◌, ℕ, ◌+◌, ◌*◌, ◌^◌, ◌<◌, ◌≤◌, IfOk, OnOk, length, slice_index, slice_index_or, vec_capacity, vec_len, Some, None};
 ghost use Rattle.heap_layout.specs.Bits.{bit};
-ghost use Rattle.cell_steps.specs.Lawful.{kind_at};
-ghost use Rattle.cell_steps.specs.Locks.{Journals};
-ghost use Rattle.cell_steps.specs.Setup.{Setup};
+ghost use Rattle.comp_history.specs.Lawful.{kind_at};
+ghost use Rattle.comp_history.specs.Locks.{Journals};
+ghost use Rattle.comp_history.specs.Setup.{Setup};
 ghost use Rattle.page_cells.specs.Objects.{word_on};
 ghost use Rattle.comp_cycles.specs.Finishes.{journals_of, pages_of};
 ghost use Rattle.comp_cycles.specs.Ends.{setup_in, words_at, AreMoved, IsEndOf};

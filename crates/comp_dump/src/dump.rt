@@ -1,5 +1,5 @@
 ghost use Rattle.std.specs.Prelude.{◌≡◌};
-ghost use Rattle.page_cells.specs.Ends.{lists as items_of};
+ghost use Rattle.comp_cycles.specs.PageCellsEnds.{lists as items_of};
 ghost use Rattle.comp_dump.specs.Dumped.{IsStored};
 
 use crate::page::DumpedPage;
@@ -21,7 +21,7 @@ pub struct Dump<'a> {
 }
 
 impl<'a> Model for Dump<'a> {
-    ghost use Rattle.page_cells.specs.Ends.{lists as items_of};
+    ghost use Rattle.comp_cycles.specs.PageCellsEnds.{lists as items_of};
     ghost use Rattle.comp_dump.specs.Dumped.{Dumped, IsStored};
 
     ghost Value = { Dumped };

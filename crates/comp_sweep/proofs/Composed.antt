@@ -2,7 +2,7 @@
 use Rattle.std.proofs.Common.{◌≡◌, ℕ, ◌<◌, [], ◌∷◌, ◌++◌, Option, Result, Ok, refl, sym, ap, ◌∙◌, arith, append_assoc}
 use Rattle.std.proofs.lemmas.List.{append-nil}
 use Rattle.std.proofs.lemmas.List.Elements.{All-append, All-cons, All-nil}
-use Rattle.page_plan.specs.declared.builder.Builder.{Ghosts}
+use Rattle.comp_mutator.specs.Builder.{Ghosts}
 use Rattle.cell_steps.specs.Setup.{Setup}
 use Rattle.cell_steps.specs.Passes.{did, builds_of}
 use Rattle.cell_steps.specs.declared.pass.Pass.{Pass}
@@ -13,9 +13,9 @@ use Rattle.comp_access.specs.Reads.{KnowsBuilt}
 use Rattle.comp_access.specs.Copies.{builds_after, PageRefused}
 use Rattle.comp_access.specs.declared.pages.Touched.{Touched}
 use Rattle.comp_access.specs.declared.pages.Touched.TheVariants.{Built, AlreadyBuilt}
-use Rattle.call_refusals.specs.declared.refusal.Refusal.{Refusal}
-use Rattle.call_refusals.specs.declared.refusal.Refusal.TheVariants.{Null, NotAStart, NoSuchField, NotInEdition, ObjectTooLarge, OutOfPages, Busy, JournalFull, OutOfMemory}
-use Rattle.comp_history.specs.Shares.{allocated}
+use Rattle.comp_mutator.specs.Refusal.{Refusal}
+use Rattle.comp_mutator.specs.Refusal.TheVariants.{Null, NotAStart, NoSuchField, NotInEdition, ObjectTooLarge, OutOfPages, Busy, JournalFull, OutOfMemory}
+use Rattle.comp_mutator.specs.Shares.{allocated}
 use Rattle.comp_mutator.specs.declared.space.Space.{Space}
 use Rattle.comp_mutator.specs.declared.mutator.Mutator.{Mutator}
 use Rattle.comp_access.proofs.Growing.{known_more}

@@ -5,14 +5,14 @@ use Rattle.std.proofs.Common.{◌≡◌, ◌≢◌, ⊎_elim, ℕ, zero, suc, �
 use Rattle.std.proofs.lemmas.List.{length-map, map-set}
 use mathlib.Core.Option.{some}
 use lib.ListN.{get_elem?}
-use Rattle.page_plan.specs.declared.builder.Builder.{Ghosts}
+use Rattle.comp_mutator.specs.Builder.{Ghosts}
 use Rattle.cell_steps.specs.Setup.{Setup}
 use Rattle.cell_steps.specs.Lists.{times, Each}
 use Rattle.cell_steps.specs.declared.pass.Pass.{Pass}
 use Rattle.cell_steps.proofs.Sums.{total-set}
 use Rattle.page_cells.specs.Ends.{lists}
 use Rattle.page_cells.proofs.Rows.{at_map, at_set, at_value}
-use Rattle.comp_history.specs.Builds.{named}
+use Rattle.comp_mutator.specs.Builds.{named}
 use Rattle.comp_access.proofs.Growing.{known_more}
 use Rattle.comp_mutator.specs.Mutators.{pass_of, IsMutatorOf}
 use Rattle.comp_mutator.specs.declared.space.Space.{Space}

@@ -1,13 +1,13 @@
 -- The audit says yes to the dump of a heap that was finished.
 use Rattle.std.proofs.Common.{◌≡◌, List, [], length, refl, subst, arith}
 use Rattle.heap_layout.specs.Heap.{IsClosed}
-use Rattle.cell_steps.specs.Setup.{Setup}
-use Rattle.cell_steps.specs.declared.pass.Pass.{Pass}
-use Rattle.comp_cycles.specs.Finishes.{IsFinished, IsOfFlip}
-use Rattle.comp_cycles.specs.declared.finished.Finished.{Finished}
+use Rattle.comp_mutator.specs.Setup.{Setup}
+use Rattle.comp_mutator.specs.Pass.{Pass}
+use Rattle.comp_mutator.specs.Finishes.{IsFinished, IsOfFlip}
+use Rattle.comp_mutator.specs.Finished.{Finished}
 use Rattle.comp_dump.specs.Dumped.{Dumped, IsStored}
 use Rattle.comp_dump.specs.declared.fault.AuditFault.{AuditFault}
-use Rattle.audit_checks.specs.Told.{IsFirst}
+use Rattle.comp_audit.specs.Told.{IsFirst}
 use Rattle.comp_audit.specs.Judged.{faults, Judges}
 use Rattle.comp_audit.specs.Meant.{FinishedIsYes, IsDumpOf}
 use Rattle.comp_audit.specs.declared.verdict.Verdict.{Verdict}

@@ -2,7 +2,7 @@
 use Rattle.std.proofs.Common.{◌≡◌, ℕ, ◌<◌, List, length, map, set, sym, ap, subst, ◌∙◌, ⊎_elim, arith, get_or-set_same, length-set}
 use mathlib.Core.Option.{some}
 use lib.ListN.{get_elem?}
-use Rattle.heap_layout.specs.declared.kind.Kind.{Kind}
+use Rattle.page_plan.specs.Kind.{Kind}
 use Rattle.page_plan.specs.declared.builder.Builder.{Ghosts}
 use Rattle.comp_journal.specs.declared.entry.Entry.{Entry}
 use Rattle.cell_steps.specs.Lists.{StartsWith}
@@ -11,9 +11,9 @@ use Rattle.cell_steps.specs.Setup.{Setup}
 use Rattle.cell_steps.proofs.Sums.{there_at}
 use Rattle.page_cells.proofs.Growing.{begins_then}
 use Rattle.page_cells.proofs.Rows.{at_map, at_set}
-use Rattle.comp_access.specs.Reads.{Reads}
-use Rattle.comp_cycles.specs.Finishes.{journals_of, IsFinished}
-use Rattle.comp_cycles.specs.declared.finished.Finished.{Finished}
+use Rattle.comp_mutator.specs.Reads.{Reads}
+use Rattle.comp_mutator.specs.Finishes.{journals_of, IsFinished}
+use Rattle.comp_mutator.specs.Finished.{Finished}
 use Rattle.comp_mutator.specs.Mutators.{pass_of, setup_of, IsMutatorOf}
 use Rattle.comp_mutator.specs.Orders.{number_of_mutator, IsRow}
 use Rattle.comp_mutator.specs.declared.mutator.Mutator.{Mutator}

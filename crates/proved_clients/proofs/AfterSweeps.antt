@@ -7,10 +7,10 @@ use Rattle.cell_steps.specs.Setup.{Setup}
 use Rattle.cell_steps.specs.Closing.{page_at}
 use Rattle.page_cells.specs.Cells.{steps_of, AreNew}
 use Rattle.page_cells.proofs.Rows.{at_map}
-use Rattle.comp_cycles.specs.Finishes.{pages_of, IsFinished}
+use Rattle.comp_mutator.specs.Finishes.{pages_of, IsFinished}
 use Rattle.comp_mutator.specs.Mutators.{cells_of, pass_of}
 use Rattle.comp_mutator.specs.Orders.{IsRow}
-use Rattle.comp_cycles.specs.declared.finished.Finished.{Finished}
+use Rattle.comp_mutator.specs.Finished.{Finished}
 use Rattle.comp_mutator.specs.declared.mutator.Mutator.{Mutator}
 use Rattle.comp_mutator.specs.declared.space.Space.{Space}
 use Rattle.comp_sweep.specs.Sweeps.{HandsBack, SomeSeesBuilt, Sweeps}

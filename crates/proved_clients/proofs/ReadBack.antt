@@ -1,12 +1,12 @@
 -- What a mutator that is alone reads.
 use Rattle.std.proofs.Common.{◌≡◌, ℕ, ◌+◌, ◌<◌, ◌==◌, Bool, true, false, cond, List, [], ◌∷◌, ◌++◌, get_or, Some, None, Result, Ok, Err, IfOk, refl, sym, ap, ◌∙◌, arith, eqb-true}
 use Rattle.std.specs.Prelude.{◌^◌, nat_lt}
-use Rattle.heap_layout.specs.Header.{data_of, header_of, header_with, header_word, refs_of, size_of, weak_header_word, weak_of, Head}
-use Rattle.heap_layout.specs.Kinds.{count_of, first_of}
-use Rattle.heap_layout.specs.declared.edition.Edition.{Edition}
-use Rattle.heap_layout.specs.declared.edition.Edition.TheVariants.{One, Two}
-use Rattle.heap_layout.specs.declared.kind.Kind.{Kind}
-use Rattle.heap_layout.specs.declared.kind.Kind.TheVariants.{Header, Reference, Weak, Data}
+use Rattle.page_plan.specs.Header.{data_of, header_of, header_with, header_word, refs_of, size_of, weak_header_word, weak_of, Head}
+use Rattle.page_plan.specs.Kinds.{count_of, first_of}
+use Rattle.page_plan.specs.Edition.{Edition}
+use Rattle.page_plan.specs.Edition.TheVariants.{One, Two}
+use Rattle.page_plan.specs.Kind.{Kind}
+use Rattle.page_plan.specs.Kind.TheVariants.{Header, Reference, Weak, Data}
 use Rattle.page_plan.proofs.Shapes.{field-inside}
 use Rattle.comp_journal.specs.Journal.{replayed}
 use Rattle.comp_journal.specs.declared.entry.Entry.{Entry}
@@ -14,11 +14,11 @@ use Rattle.cell_steps.specs.Setup.{Setup, base_of}
 use Rattle.cell_steps.specs.Passes.{number_of, seen}
 use Rattle.cell_steps.specs.declared.pass.Pass.{Pass}
 use Rattle.page_cells.specs.Objects.{page_at, offset_at, word_at, HasShape}
-use Rattle.comp_access.specs.Allocations.{own_page, used, Allocates, AllocatesAsked}
-use Rattle.comp_access.specs.Fields.{IsFieldOf}
-use Rattle.comp_access.specs.Reads.{Reads}
-use Rattle.comp_access.specs.Writes.{entry_by, Writes}
-use Rattle.call_refusals.specs.declared.refusal.Refusal.{Refusal}
+use Rattle.comp_mutator.specs.Allocations.{own_page, used, Allocates, AllocatesAsked}
+use Rattle.comp_mutator.specs.Fields.{IsFieldOf}
+use Rattle.comp_mutator.specs.Reads.{Reads}
+use Rattle.comp_mutator.specs.Writes.{entry_by, Writes}
+use Rattle.comp_mutator.specs.Refusal.{Refusal}
 
 -- what holds of two answers holds where both are Ok
 pub both_ok : (s w : Result ℕ Refusal) (P Q R : ℕ → Type 0) → IfOk s P → IfOk w Q → ((a b : ℕ) → P a → Q b → R b) → IfOk s (λ a. IfOk w R)

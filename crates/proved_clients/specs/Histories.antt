@@ -1,12 +1,12 @@
 -- Reads in the history of a finished heap.
 use Rattle.std.specs.Prelude.{ℕ}
-use Rattle.heap_layout.specs.declared.kind.Kind.{Kind}
+use Rattle.page_plan.specs.Kind.{Kind}
 use Rattle.cell_steps.specs.Lists.{on, StartsWith}
 use Rattle.cell_steps.specs.Locks.{Journals}
 use Rattle.cell_steps.specs.Setup.{Setup}
-use Rattle.comp_access.specs.Reads.{Reads}
-use Rattle.comp_cycles.specs.Finishes.{history_of}
-use Rattle.comp_cycles.specs.declared.finished.Finished.{Finished}
+use Rattle.comp_mutator.specs.Reads.{Reads}
+use Rattle.comp_mutator.specs.Finishes.{history_of}
+use Rattle.comp_mutator.specs.Finished.{Finished}
 
 -- The word is the one of the object's field where each page has a beginning of what the one history writes to it.
 pub record StandsInHistory (u : Setup) (f : Finished) (kind : Kind) (object field word : ℕ) : Type 0 where

@@ -2,13 +2,13 @@
 ghost use Rattle.std.specs.Prelude.{◌≡◌, ◌+◌, ◌*◌, ◌^◌, ◌<◌, ℕ, Ok, IfOk, IsErrOf};
 ghost use mathlib.Core.Option.{some};
 ghost use lib.ListN.{get_elem?};
-ghost use Rattle.heap_layout.specs.declared.kind.Kind.TheVariants.{Header, Reference};
+ghost use Rattle.page_plan.specs.Kind.TheVariants.{Header, Reference};
 ghost use Rattle.cell_steps.specs.Lawful.{IsField};
 ghost use Rattle.cell_steps.specs.Setup.{pages};
-ghost use Rattle.comp_access.specs.Copies.{IsCopy};
+ghost use Rattle.comp_mutator.specs.Copies.{IsCopy};
 ghost use Rattle.comp_mutator.specs.Mutators.{pass_of, setup_of, IsMutatorOf};
-ghost use Rattle.comp_access.specs.declared.pages.Touched.TheVariants.{AlreadyBuilt};
-ghost use Rattle.call_refusals.specs.declared.refusal.Refusal.TheVariants.{NotAStart, OutOfMemory};
+ghost use Rattle.comp_mutator.specs.Touched.TheVariants.{AlreadyBuilt};
+ghost use Rattle.comp_mutator.specs.Refusal.TheVariants.{NotAStart, OutOfMemory};
 
 use comp_mutator::Refusal;
 use comp_mutator::PageCopy;

@@ -1,6 +1,6 @@
 //! What a caller concludes of a word that was read before a trace was replayed.
 ghost use Rattle.std.specs.Prelude.{◌≡◌, ◌<◌, length, IfSome};
-ghost use Rattle.heap_layout.specs.declared.kind.Kind.TheVariants.{Data};
+ghost use Rattle.page_plan.specs.Kind.TheVariants.{Data};
 ghost use Rattle.comp_mutator.specs.Mutators.{setup_of};
 ghost use Rattle.proved_clients.specs.Histories.{StandsInHistory};
 ghost use Rattle.trace_steps.specs.AllMutators.{AreAll};

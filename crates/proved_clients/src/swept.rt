@@ -1,9 +1,9 @@
 //! What a caller concludes of a heap that it swept.
 ghost use Rattle.std.specs.Prelude.{◌≡◌, ℕ, ◌<◌, IfSome, IsSome};
-ghost use Rattle.heap_layout.specs.Heap.{live};
+ghost use Rattle.page_plan.specs.Heap.{live};
 ghost use Rattle.page_plan.specs.Sliding.{pages};
 ghost use Rattle.cell_steps.specs.Closing.{page_at};
-ghost use Rattle.comp_cycles.specs.Finishes.{pages_of};
+ghost use Rattle.comp_mutator.specs.Finishes.{pages_of};
 ghost use Rattle.comp_sweep.specs.Sweeps.{SomeSeesBuilt};
 
 use comp_mutator::Finished;

@@ -1,6 +1,6 @@
 //! Heaps that are swept and finished, again where memory was refused.
 ghost use Rattle.std.specs.Prelude.{◌≡◌, IfSome};
-ghost use Rattle.comp_cycles.specs.Finishes.{IsOfFlip};
+ghost use Rattle.comp_mutator.specs.Finishes.{IsOfFlip};
 ghost use Rattle.comp_mutator.specs.Mutators.{setup_of, AreMutatorsOf};
 
 use comp_mutator::FinishFault;

@@ -1,5 +1,5 @@
 //! Dumps that are made, written, read and judged, each again where memory was refused.
-ghost use Rattle.comp_cycles.specs.Finishes.{IsOfFlip};
+ghost use Rattle.comp_mutator.specs.Finishes.{IsOfFlip};
 
 use comp_audit::audit;
 use comp_audit::Verdict;

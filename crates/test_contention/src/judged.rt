@@ -1,6 +1,6 @@
 //! A fight from the flip to the audit.
 ghost use Rattle.std.specs.Prelude.{◌≡◌};
-ghost use Rattle.comp_cycles.specs.Finishes.{IsOfFlip};
+ghost use Rattle.comp_mutator.specs.Finishes.{IsOfFlip};
 ghost use Rattle.comp_mutator.specs.Mutators.{setup_of, AreMutatorsOf};
 
 use crate::expected::expect_so;

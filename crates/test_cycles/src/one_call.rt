@@ -1,6 +1,6 @@
 //! All cycles of a chain by one call: each shows what it showed when it was run alone.
 ghost use Rattle.std.specs.Prelude.{All};
-ghost use Rattle.trace_cycles.specs.CycleRuns.{IsParsedFor};
+ghost use Rattle.comp_trace.specs.CycleRuns.{IsParsedFor};
 
 use crate::chains::expect_so;
 use crate::random_chains::{FRESH, MUTATORS};

@@ -3,9 +3,9 @@ use Rattle.std.proofs.Common.{◌≡◌, ℕ, ◌-◌, ◌≤◌, List, length, 
 use Rattle.std.proofs.lemmas.List.{length-map}
 use Rattle.heap_layout.specs.Heap.{live, Heap}
 use Rattle.page_plan.specs.Sliding as sliding
-use Rattle.cell_steps.specs.Passes.{builds_of}
-use Rattle.cell_steps.specs.Setup.{Setup}
-use Rattle.comp_history.specs.Merged.{history}
+use Rattle.comp_cycles.specs.Passes.{builds_of}
+use Rattle.comp_cycles.specs.Setup.{Setup}
+use Rattle.comp_cycles.specs.Merged.{history}
 use Rattle.comp_cycles.specs.Ends.{setup_in}
 use Rattle.comp_cycles.specs.Finishes.{builds_in, journals_of, pages_of, IsFinished}
 use Rattle.comp_cycles.specs.declared.finished.Finished.{Finished}

@@ -7,7 +7,7 @@ use Rattle.trace_text.specs.declared.line.Line.{Line}
 use Rattle.comp_cycles.specs.Cycles.{Cycle, heap_after, numbers_left, story, Follow, IsCycleOf, IsOneLife, IsWriting}
 use Rattle.comp_cycles.specs.Stable.{StableHeap, lived}
 use Rattle.comp_cycles.specs.Told.{first_numbers, first_told, IsToldAs}
-use Rattle.comp_history.specs.Merged.{CanMerge}
+use Rattle.comp_cycles.specs.Merged.{CanMerge}
 use Rattle.comp_cycles.specs.Ends.{cycle_of, setup_in, IsEndOf}
 use Rattle.comp_cycles.proofs.Chapters.{rising}
 use Rattle.trace_cycles.specs.CycleRuns.{last_heap, AreRuns, HaveRun, IsLastRun, IsRun}

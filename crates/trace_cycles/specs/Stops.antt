@@ -12,7 +12,7 @@ use Rattle.trace_text.specs.declared.trace.Trace.{Trace}
 use Rattle.comp_cycles.specs.Cycles.{heap_after, IsCycleOf}
 use Rattle.comp_cycles.specs.Ends.{cycle_of, setup_in, IsRefusedFor}
 use Rattle.comp_cycles.specs.NextHeap.{next_faults}
-use Rattle.cell_steps.specs.Setup.{Setup}
+use Rattle.comp_cycles.specs.Setup.{Setup}
 use Rattle.trace_replay.specs.Bytes.{flipped, CutsShort, RunsThrough}
 use Rattle.trace_cycles.specs.CycleRuns.{last_heap, HaveRun}
 use Rattle.trace_cycles.specs.declared.fault.CycleFault.{CycleFault}

@@ -1,7 +1,7 @@
 -- Calls of lines that answer: they met no busy page.
 use Rattle.std.proofs.Common.{ℕ, IsErrOf, Ok}
-use Rattle.call_refusals.specs.declared.refusal.Refusal.{Refusal}
-use Rattle.call_refusals.specs.declared.refusal.Refusal.TheVariants.{Busy}
+use Rattle.comp_mutator.specs.Refusal.{Refusal}
+use Rattle.comp_mutator.specs.Refusal.TheVariants.{Busy}
 
 -- what was answered is no busy page
 pub ok_waits : (a p : ℕ) → IsErrOf {T = ℕ} {E = Refusal} (Ok a) (Busy p) → ⊥

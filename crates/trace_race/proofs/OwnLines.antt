@@ -10,7 +10,7 @@ use Rattle.cell_steps.specs.Passes.{did, number_of}
 use Rattle.cell_steps.specs.Setup.{Setup}
 use Rattle.cell_steps.specs.declared.pass.Pass.{Pass}
 use Rattle.page_cells.specs.Calls.{Grows}
-use Rattle.call_refusals.specs.declared.refusal.Refusal.TheVariants.{Busy}
+use Rattle.comp_mutator.specs.Refusal.TheVariants.{Busy}
 use Rattle.trace_steps.specs.Acting.{null_registers, registers_after, shown_at, Refuses, Steps}
 use Rattle.trace_race.specs.Races.{numbered, own_lines, Ends, Ran, Went}
 use Rattle.trace_race.specs.Chains.{IsNextOwn}

@@ -3,7 +3,7 @@ use Rattle.std.proofs.Common.{◌≡◌, ℕ, suc, ◌+◌, ◌≤◌, List, [],
 use Rattle.std.proofs.lemmas.List.{length-map}
 use mathlib.Core.Option.{some, some-injective}
 use lib.ListN.{get_elem?}
-use Rattle.page_plan.specs.declared.builder.Builder.{Ghosts}
+use Rattle.comp_mutator.specs.Builder.{Ghosts}
 use Rattle.cell_steps.specs.Setup.{Setup}
 use Rattle.cell_steps.specs.Lists.{Each}
 use Rattle.cell_steps.proofs.Sums.{is_inside, there_at, take_suc, last_of, read_at}

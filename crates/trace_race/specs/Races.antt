@@ -2,14 +2,14 @@
 use Rattle.std.specs.Prelude.{◌≡◌, ℕ, ◌+◌, ◌≤◌, ◌==◌, cond, List, [], ◌∷◌, ◌++◌, length, take, Option, None, Some}
 use mathlib.Core.Option.{some}
 use lib.ListN.{get_elem?}
-use Rattle.page_plan.specs.declared.builder.Builder.{Ghosts}
+use Rattle.comp_mutator.specs.Builder.{Ghosts}
 use Rattle.cell_steps.specs.Setup.{Setup}
 use Rattle.cell_steps.specs.Passes.{did}
 use Rattle.cell_steps.specs.declared.pass.Pass.{Pass}
 use Rattle.page_cells.specs.Calls.{Grows}
 use Rattle.comp_mutator.specs.Mutators.{pass_of, setup_of}
 use Rattle.comp_mutator.specs.declared.mutator.Mutator.{Mutator}
-use Rattle.call_refusals.specs.declared.refusal.Refusal.TheVariants.{Busy}
+use Rattle.comp_mutator.specs.Refusal.TheVariants.{Busy}
 use Rattle.comp_mutator.specs.declared.space.Space.{Space}
 use Rattle.trace_steps.specs.Acting.{null_registers, registers_after, shown_at, Refuses, Steps}
 use Rattle.trace_text.specs.declared.fault.Stop.{Stop}

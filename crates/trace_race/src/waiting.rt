@@ -4,7 +4,7 @@ ghost use Rattle.cell_steps.specs.Passes.{did};
 ghost use Rattle.cell_steps.specs.Setup.{Setup};
 ghost use Rattle.page_cells.specs.Calls.{Grows};
 ghost use Rattle.comp_mutator.specs.Mutators.{pass_of, setup_of, IsMutatorOf};
-ghost use Rattle.call_refusals.specs.declared.refusal.Refusal.TheVariants.{Busy};
+ghost use Rattle.comp_mutator.specs.Refusal.TheVariants.{Busy};
 ghost use Rattle.trace_steps.specs.Acting.{registers_after, Fits, Refuses, Steps};
 
 use comp_mutator::Refusal;

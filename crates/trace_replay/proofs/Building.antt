@@ -11,9 +11,9 @@ use Rattle.cell_steps.specs.Setup.{Setup}
 use Rattle.cell_steps.specs.View.{Slot}
 use Rattle.cell_steps.proofs.Sums.{there_at}
 use Rattle.page_cells.proofs.Rows.{at_map}
-use Rattle.comp_cycles.specs.Finishes.{builds_in, pages_of, there, HasPages}
+use Rattle.comp_mutator.specs.Finishes.{builds_in, pages_of, there, HasPages}
 use Rattle.comp_mutator.specs.Mutators.{pass_of}
-use Rattle.comp_cycles.specs.declared.finished.Finished.{Finished}
+use Rattle.comp_mutator.specs.Finished.{Finished}
 use Rattle.comp_mutator.specs.declared.mutator.Mutator.{Mutator}
 use Rattle.trace_steps.specs.Builds.{built_by, HaveBuilt}
 

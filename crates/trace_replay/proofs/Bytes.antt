@@ -5,7 +5,7 @@ use lib.ListN.{get_elem?}
 use Rattle.heap_layout.specs.Encoding.{ImagesDiffer}
 use Rattle.heap_layout.specs.Heap.{Heap}
 use Rattle.page_plan.specs.declared.builder.Builder.{Ghosts}
-use Rattle.comp_journal.specs.declared.entry.Entry.{Entry}
+use Rattle.comp_mutator.specs.Entry.{Entry}
 use Rattle.cell_steps.specs.Lists.{on}
 use Rattle.cell_steps.specs.Setup.{Setup}
 use Rattle.cell_steps.specs.Passes.{number_of, view_of}

@@ -16,8 +16,8 @@ use Rattle.heap_layout.specs.declared.kind.Kind.TheVariants.{Header, Reference, 
 use Rattle.page_plan.specs.Sliding as sliding
 use Rattle.page_plan.specs.Sliding.{to_address}
 use Rattle.page_plan.proofs.Shapes.{shape-behind}
-use Rattle.comp_journal.specs.declared.entry.Entry.{Entry}
-use Rattle.comp_journal.specs.Journal.{replayed, written}
+use Rattle.comp_mutator.specs.Entry.{Entry}
+use Rattle.comp_mutator.specs.Journal.{replayed, written}
 use Rattle.cell_steps.specs.Setup.{Setup, base_of, address, fresh_page}
 use Rattle.cell_steps.specs.Lists.{but, by, on}
 use Rattle.cell_steps.specs.Lawful.{kinds_by, kinds_in, kinds_of_header, filled, Fits, IsFreshOf, IsNext, LawfulAfter}

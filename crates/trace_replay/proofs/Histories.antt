@@ -6,7 +6,7 @@ use mathlib.Core.Option.{some}
 use lib.ListN.{get_elem?}
 use Rattle.heap_layout.specs.Header.{Head, header_with}
 use Rattle.heap_layout.specs.declared.kind.Kind.{Kind}
-use Rattle.comp_journal.specs.declared.entry.Entry.{Entry}
+use Rattle.comp_mutator.specs.Entry.{Entry}
 use Rattle.cell_steps.specs.Lists.{on}
 use Rattle.cell_steps.specs.Locks.{Journals}
 use Rattle.cell_steps.specs.Passes.{did}
@@ -17,8 +17,8 @@ use Rattle.comp_history.specs.Merged.{history, stamp_of, written_by, CanMerge}
 use Rattle.comp_history.proofs.Merging.{rises_all}
 use Rattle.comp_history.proofs.Pages.{on_in}
 use Rattle.comp_history.proofs.Sorted.{filter_has, in_filter, in_parts, same_rising, In, Rise}
-use Rattle.comp_cycles.specs.Finishes.{history_of, journals_of, IsFinished}
-use Rattle.comp_cycles.specs.declared.finished.Finished.{Finished}
+use Rattle.comp_mutator.specs.Finishes.{history_of, journals_of, IsFinished}
+use Rattle.comp_mutator.specs.Finished.{Finished}
 use Rattle.trace_replay.specs.Bytes.{no_entries}
 use Rattle.trace_steps.specs.Lines.{with_entries, Acts, IsAboveAll, IsOneEntry, MakesAsked}
 use Rattle.trace_replay.specs.Runs.{Moment, Runs}

@@ -5,7 +5,7 @@ use Rattle.std.proofs.lemmas.List.Elements.{filter-append}
 use native.Mathlib.Decide.{ℕ_discrete}
 use mathlib.Core.Logic.{dite}
 use mathlib.Core.Option.{some-injective}
-use Rattle.comp_journal.specs.declared.entry.Entry.{Entry}
+use Rattle.comp_mutator.specs.Entry.{Entry}
 use Rattle.cell_steps.specs.Lists.{but, on}
 use Rattle.cell_steps.specs.Locks.{Journals}
 use Rattle.cell_steps.specs.Setup.{Setup}
@@ -16,7 +16,7 @@ use Rattle.comp_history.specs.Merged.{written_by}
 use Rattle.comp_access.proofs.OwnPages.{on_append}
 use Rattle.comp_mutator.specs.Mutators.{pass_of}
 use Rattle.comp_mutator.specs.declared.mutator.Mutator.{Mutator}
-use Rattle.call_refusals.specs.declared.refusal.Refusal.{Refusal}
+use Rattle.comp_mutator.specs.Refusal.{Refusal}
 use Rattle.trace_steps.specs.Acting.{null_registers, registers_after, shown_at}
 use Rattle.trace_steps.specs.Builds.{built_after, touched, BuildOn, HaveBuilt, HaveSeenBuilt, SeeBuiltOn}
 use Rattle.trace_steps.specs.Deeds.{deeds_of, AreMerged, Deeds, HaveSeen, HaveSeenAll, HaveStart, IsMerged, KnowTheirs}

@@ -12,7 +12,7 @@ use Rattle.cell_steps.specs.declared.pass.Pass.{Pass}
 use Rattle.page_cells.specs.Calls.{Grows}
 use Rattle.cell_steps.specs.Lawful.{HasHead}
 use Rattle.comp_history.specs.Merged.{written_by}
-use Rattle.call_refusals.specs.declared.refusal.Refusal.{Refusal}
+use Rattle.comp_mutator.specs.Refusal.{Refusal}
 use Rattle.trace_steps.specs.Acting.{Refuses}
 use Rattle.trace_steps.specs.Builds.{is_built}
 use Rattle.trace_text.specs.Grammar.{trace_of, IsReadAs}

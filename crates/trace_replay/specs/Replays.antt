@@ -7,7 +7,7 @@ use Rattle.cell_steps.specs.Locks.{Journals}
 use Rattle.cell_steps.specs.Passes.{HasSeenBuilt}
 use Rattle.comp_history.specs.Merged.{written_by}
 use Rattle.comp_mutator.specs.declared.mutator.Mutator.{Mutator}
-use Rattle.call_refusals.specs.declared.refusal.Refusal.{Refusal}
+use Rattle.comp_mutator.specs.Refusal.{Refusal}
 use Rattle.trace_steps.specs.Builds.{is_built, HaveBuilt, HaveSeenBuilt}
 use Rattle.trace_steps.specs.Deeds.{deeds_of, AreMerged, Deeds, HaveAll, HaveSeen}
 use Rattle.trace_steps.specs.Rounds.{IsTurnedDown}

@@ -2,7 +2,7 @@
 use Rattle.std.specs.Prelude.{◌≡◌, ℕ, ◌+◌, ◌<◌, List, [], ◌∷◌, ◌++◌, All, map}
 use Rattle.heap_layout.specs.Heap.{live}
 use Rattle.page_plan.specs.Sliding as sliding
-use Rattle.comp_journal.specs.declared.entry.Entry.{Entry}
+use Rattle.comp_mutator.specs.Entry.{Entry}
 use Rattle.cell_steps.specs.Setup.{Setup}
 use Rattle.cell_steps.specs.Lists.{but}
 use Rattle.cell_steps.specs.Lawful.{IsLawful}

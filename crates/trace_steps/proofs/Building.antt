@@ -9,7 +9,7 @@ use mathlib.Core.Logic.{dite, ⊎_elim}
 use Rattle.heap_layout.specs.Heap.{live}
 use Rattle.heap_layout.specs.declared.kind.Kind.{Kind}
 use Rattle.heap_layout.specs.Header.{Head}
-use Rattle.page_plan.specs.Sliding.{shape_at}
+use Rattle.comp_mutator.specs.Sliding.{shape_at}
 use Rattle.cell_steps.specs.Lists.{only, times}
 use Rattle.cell_steps.specs.Passes.{builds_of, number_of, HasSeenBuilt}
 use Rattle.cell_steps.specs.Setup.{Setup, address}

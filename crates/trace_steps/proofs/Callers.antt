@@ -2,12 +2,12 @@
 use Rattle.std.proofs.Common.{◌≡◌, ℕ, List, [], length, map, Some, inl, sym, ap, ◌∙◌}
 use Rattle.std.proofs.lemmas.List.{length-map}
 use Rattle.heap_layout.specs.Heap.{Heap, live}
-use Rattle.page_plan.specs.Sliding.{forward}
-use Rattle.page_plan.specs.declared.builder.Builder.{Ghosts}
+use Rattle.comp_mutator.specs.Sliding.{forward}
+use Rattle.comp_mutator.specs.Builder.{Ghosts}
 use Rattle.cell_steps.specs.declared.steps.Steps.{Steps}
 use Rattle.page_cells.specs.Cells.{steps_of, AreNew}
 use Rattle.page_cells.proofs.Rows.{at_map}
-use Rattle.comp_cycles.specs.Forwarded.{AreForwarded}
+use Rattle.comp_mutator.specs.Forwarded.{AreForwarded}
 use Rattle.comp_mutator.specs.Mutators.{cells_of, pass_of, setup_of, AreMutatorsOf}
 use Rattle.comp_mutator.specs.declared.mutator.Mutator.{Mutator}
 use Rattle.comp_mutator.specs.declared.space.Space.{Space}

@@ -9,7 +9,7 @@ use Rattle.heap_layout.specs.declared.kind.Kind.{Kind}
 use Rattle.heap_layout.specs.declared.kind.Kind.TheVariants.{Header}
 use Rattle.heap_layout.specs.Header.{Head}
 use Rattle.heap_layout.specs.declared.edition.Edition.{Edition}
-use Rattle.comp_journal.specs.declared.entry.Entry.{Entry}
+use Rattle.comp_mutator.specs.Entry.{Entry}
 use Rattle.cell_steps.specs.Lists.{on}
 use Rattle.cell_steps.specs.Locks.{Journals}
 use Rattle.cell_steps.specs.Setup.{Setup}

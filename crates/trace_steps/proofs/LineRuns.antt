@@ -7,7 +7,7 @@ use mathlib.Core.Logic.{dite}
 use Rattle.heap_layout.specs.Header.{header_with, size_of, Head}
 use Rattle.heap_layout.specs.declared.kind.Kind.{Kind}
 use Rattle.heap_layout.specs.declared.kind.Kind.TheVariants.{Header, Data}
-use Rattle.comp_journal.specs.declared.entry.Entry.{Entry}
+use Rattle.comp_mutator.specs.Entry.{Entry}
 use Rattle.cell_steps.specs.Setup.{Setup, address}
 use Rattle.cell_steps.specs.Lawful.{filled, HasHead}
 use Rattle.cell_steps.specs.Lists.{on}
@@ -17,7 +17,7 @@ use Rattle.cell_steps.specs.declared.pass.Pass.{Pass}
 use Rattle.cell_steps.specs.declared.steps.Steps.{Steps}
 use Rattle.page_cells.specs.Objects.{page_at, offset_at}
 use Rattle.page_cells.proofs.Growing.{grows_none, grows_then}
-use Rattle.comp_history.specs.Merged.{written_by}
+use Rattle.comp_mutator.specs.Merged.{written_by}
 use Rattle.comp_access.specs.Fields.{IsFieldOf}
 use Rattle.comp_access.specs.Reads.{Reads}
 use Rattle.comp_access.specs.Writes.{entry_by, Adds, Writes}

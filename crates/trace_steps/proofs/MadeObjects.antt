@@ -8,7 +8,7 @@ use mathlib.Core.Logic.{dite, ⊎_elim}
 use native.Mathlib.Decide.{ℕ_discrete}
 use lib.ListN.{get_elem?}
 use Rattle.heap_layout.specs.declared.kind.Kind.TheVariants.{Header}
-use Rattle.comp_journal.specs.declared.entry.Entry.{Entry}
+use Rattle.comp_mutator.specs.Entry.{Entry}
 use Rattle.cell_steps.specs.Lists.{by, on}
 use Rattle.cell_steps.specs.Setup.{Setup}
 use Rattle.cell_steps.specs.declared.pass.Pass.{Pass}
@@ -19,7 +19,7 @@ use Rattle.comp_access.proofs.OwnPages.{on_append}
 use Rattle.comp_access.specs.Allocations.{AllocatesAsked}
 use Rattle.heap_layout.specs.Header.{header_with, Head}
 use Rattle.trace_steps.specs.Builds.{kind_if}
-use Rattle.call_refusals.specs.declared.refusal.Refusal.{Refusal}
+use Rattle.comp_mutator.specs.Refusal.{Refusal}
 use Rattle.trace_steps.specs.Acting.{Answers, Steps}
 use Rattle.trace_steps.specs.Deeds.{Deeds, IsMerged, KnowsMade}
 use Rattle.trace_steps.specs.Rounds.{Learns}

@@ -4,7 +4,7 @@ use Rattle.std.specs.Prelude.{◌⊎◌}
 use Rattle.std.proofs.lemmas.List.{append-nil}
 use native.Mathlib.Decide.{ℕ_discrete}
 use mathlib.Core.Logic.{dite, ⊎_elim}
-use Rattle.comp_journal.specs.declared.entry.Entry.{Entry}
+use Rattle.comp_mutator.specs.Entry.{Entry}
 use Rattle.cell_steps.specs.Lists.{StartsWith}
 use Rattle.cell_steps.specs.Passes.{builds_of, did, seen, HasSeenBuilt, KnowsFresh}
 use Rattle.cell_steps.specs.declared.pass.Pass.{Pass}

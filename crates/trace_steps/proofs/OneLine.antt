@@ -7,7 +7,7 @@ use Rattle.page_cells.proofs.Rows.{at_map, at_map_back}
 use Rattle.std.specs.Prelude.{Bool, Option, None, OnErr, OnOk}
 use Rattle.heap_layout.specs.Heap.{live}
 use Rattle.heap_layout.specs.Header.{header_with, Head}
-use Rattle.page_plan.specs.Sliding.{forward}
+use Rattle.comp_mutator.specs.Sliding.{forward}
 use Rattle.heap_layout.specs.declared.kind.Kind.{Kind}
 use Rattle.heap_layout.specs.declared.kind.Kind.TheVariants.{Data}
 use Rattle.cell_steps.specs.Setup.{Setup}
@@ -19,7 +19,7 @@ use Rattle.page_cells.proofs.Growing.{grows_none}
 use Rattle.comp_access.specs.Allocations.{AllocatesAsked}
 use Rattle.comp_access.specs.Reads.{FieldRefused, MayBuildTouched, Reads}
 use Rattle.comp_access.specs.Writes.{ReferenceRefused, Writes}
-use Rattle.call_refusals.specs.declared.refusal.Refusal.{Refusal}
+use Rattle.comp_mutator.specs.Refusal.{Refusal}
 use Rattle.trace_steps.specs.Acting.{shown_at, Steps}
 use Rattle.trace_steps.specs.Builds.{kind_if, slid_page, BuildsTouched}
 use Rattle.trace_text.specs.declared.line.Action.{Action}

@@ -3,7 +3,7 @@ use Rattle.std.proofs.Common.{◌≡◌, ℕ, ◌<◌, List, length, get_or, set
 use Rattle.std.specs.Prelude.{◌⊎◌, IfErr, OnErr, Option, Result, Ok, Err}
 use native.Mathlib.Decide.{ℕ_discrete}
 use mathlib.Core.Logic.{dite}
-use Rattle.page_plan.specs.declared.builder.Builder.{Ghosts}
+use Rattle.comp_mutator.specs.Builder.{Ghosts}
 use Rattle.cell_steps.specs.Locks.{Journals}
 use Rattle.cell_steps.specs.Passes.{did, number_of, seen}
 use Rattle.cell_steps.specs.Setup.{Setup}
@@ -13,7 +13,7 @@ use Rattle.page_cells.specs.Calls.{Grows}
 use Rattle.page_cells.specs.Cells.{steps_of}
 use Rattle.comp_mutator.specs.Mutators.{cells_of, pass_of, setup_of, AreMutatorsOf}
 use Rattle.comp_mutator.specs.declared.mutator.Mutator.{Mutator}
-use Rattle.call_refusals.specs.declared.refusal.Refusal.{Refusal}
+use Rattle.comp_mutator.specs.Refusal.{Refusal}
 use Rattle.comp_mutator.specs.declared.space.Space.{Space}
 use Rattle.trace_steps.specs.Acting.{Answers, Refuses}
 use Rattle.trace_steps.specs.Builds.{built_after, BuildOn, BuildsTouched, SeeBuiltOn}

@@ -3,7 +3,7 @@ use Rattle.std.specs.Prelude.{◌≡◌, ℕ, ◌<◌, List, [], ◌∷◌, leng
 use Rattle.heap_layout.specs.Heap.{live}
 use Rattle.heap_layout.specs.Header.{header_with}
 use Rattle.heap_layout.specs.declared.kind.Kind.TheVariants as kinds
-use Rattle.page_plan.specs.Sliding.{forward}
+use Rattle.comp_mutator.specs.Sliding.{forward}
 use Rattle.cell_steps.specs.Setup.{Setup}
 use Rattle.cell_steps.specs.Passes.{did, seen, MayRefer}
 use Rattle.cell_steps.specs.declared.pass.Pass.{Pass}
@@ -11,7 +11,7 @@ use Rattle.page_cells.specs.Calls.{Grows}
 use Rattle.comp_access.specs.Allocations.{AllocatesAsked, AskedRefused}
 use Rattle.comp_access.specs.Reads.{FieldRefused, Reads}
 use Rattle.comp_access.specs.Writes.{DataRefused, ReferenceRefused, Writes}
-use Rattle.call_refusals.specs.declared.refusal.Refusal.{Refusal}
+use Rattle.comp_mutator.specs.Refusal.{Refusal}
 use Rattle.trace_text.specs.declared.line.Action.{Action}
 use Rattle.trace_text.specs.declared.line.Action.TheVariants.{Root, Load, Get, Store, Put, New, Nil}
 use Rattle.trace_steps.specs.Builds.{kind_if, touched, BuildsTouched}

@@ -2,7 +2,7 @@
 use Rattle.std.specs.Prelude.{◌≡◌, ℕ, List, length}
 use mathlib.Core.Option.{some}
 use lib.ListN.{get_elem?}
-use Rattle.page_plan.specs.declared.builder.Builder.{Ghosts}
+use Rattle.comp_mutator.specs.Builder.{Ghosts}
 use Rattle.comp_mutator.specs.Mutators.{setup_of, AreMutatorsOf}
 use Rattle.comp_mutator.specs.Orders.{number_of_mutator}
 use Rattle.comp_mutator.specs.declared.mutator.Mutator.{Mutator}

@@ -7,7 +7,7 @@ use Rattle.heap_layout.specs.Heap.{live}
 use Rattle.heap_layout.specs.declared.kind.Kind.{Kind}
 use Rattle.heap_layout.specs.declared.kind.Kind.TheVariants.{Reference, Weak, Data}
 use Rattle.heap_layout.specs.Header.{Head}
-use Rattle.page_plan.specs.Sliding.{shape_at}
+use Rattle.comp_mutator.specs.Sliding.{shape_at}
 use Rattle.cell_steps.specs.Lists.{times, Each}
 use Rattle.cell_steps.specs.Passes.{builds_of, HasSeenBuilt}
 use Rattle.cell_steps.specs.Setup.{Setup}

@@ -1,6 +1,6 @@
 -- What the mutators of a space did, and the journals that have just this.
 use Rattle.std.specs.Prelude.{◌≡◌, ℕ, zero, suc, ◌<◌, ◌≤◌, List, [], ◌∷◌, length}
-use Rattle.comp_journal.specs.declared.entry.Entry.{Entry}
+use Rattle.comp_mutator.specs.Entry.{Entry}
 use Rattle.cell_steps.specs.Setup.{Setup}
 use Rattle.cell_steps.specs.Lawful.{HasHead, IsLawful}
 use Rattle.cell_steps.specs.Lists.{by, on, Each, Rises}

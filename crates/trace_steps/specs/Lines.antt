@@ -2,10 +2,10 @@
 use Rattle.std.specs.Prelude.{◌≡◌, ℕ, ◌+◌, ◌*◌, ◌<◌, ◌≤◌, List, [], ◌∷◌, ◌++◌, All, Option, None, Some, slice_index}
 use Rattle.heap_layout.specs.Header.{header_with, size_of, Head}
 use Rattle.heap_layout.specs.Heap.{live}
-use Rattle.page_plan.specs.Sliding as sliding
+use Rattle.comp_mutator.specs.Sliding as sliding
 use Rattle.heap_layout.specs.declared.kind.Kind.{Kind}
 use Rattle.heap_layout.specs.declared.kind.Kind.TheVariants.{Header, Data}
-use Rattle.comp_journal.specs.declared.entry.Entry.{Entry}
+use Rattle.comp_mutator.specs.Entry.{Entry}
 use Rattle.cell_steps.specs.Setup.{Setup, address}
 use Rattle.cell_steps.specs.Lists.{by, on}
 use Rattle.cell_steps.specs.Lawful.{filled}

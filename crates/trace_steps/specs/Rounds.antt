@@ -2,7 +2,7 @@
 use Rattle.std.specs.Prelude.{◌≡◌, ◌≢◌, ℕ, ◌<◌, ◌++◌, List, length}
 use mathlib.Core.Option.{some}
 use lib.ListN.{get_elem?, get_or}
-use Rattle.comp_journal.specs.declared.entry.Entry.{Entry}
+use Rattle.comp_mutator.specs.Entry.{Entry}
 use Rattle.cell_steps.specs.Setup.{Setup}
 use Rattle.cell_steps.specs.Lawful.{HasHead}
 use Rattle.cell_steps.specs.Locks.{Journals}
@@ -10,10 +10,10 @@ use Rattle.cell_steps.specs.Lists.{StartsWith}
 use Rattle.cell_steps.specs.Passes.{builds_of, did, seen, HasSeenBuilt, KnowsFresh}
 use Rattle.cell_steps.specs.declared.pass.Pass.{Pass}
 use Rattle.page_cells.specs.Calls.{Grows, Meets}
-use Rattle.comp_history.specs.Merged.{written_by}
+use Rattle.comp_mutator.specs.Merged.{written_by}
 use Rattle.comp_mutator.specs.Mutators.{pass_of}
 use Rattle.comp_mutator.specs.declared.mutator.Mutator.{Mutator}
-use Rattle.call_refusals.specs.declared.refusal.Refusal.{Refusal}
+use Rattle.comp_mutator.specs.Refusal.{Refusal}
 use Rattle.trace_steps.specs.Acting.{Refuses}
 use Rattle.trace_steps.specs.Deeds.{deeds_of, AreMerged, Deeds, HaveAll, KnowsMade, KnowTheirs}
 use Rattle.trace_steps.specs.Lines.{with_entries, Acts}

@@ -2,7 +2,7 @@
 ghost use Rattle.std.specs.Prelude.{◌≡◌, ◌<◌, Some, true, length, slice_index};
 ghost use Rattle.heap_layout.specs.Kinds.{refers};
 ghost use Rattle.heap_layout.specs.Heap.{live};
-ghost use Rattle.page_plan.specs.Sliding.{forward};
+ghost use Rattle.comp_mutator.specs.Sliding.{forward};
 ghost use Rattle.comp_mutator.specs.Mutators.{setup_of};
 ghost use Rattle.trace_steps.specs.Builds.{kind_if};
 

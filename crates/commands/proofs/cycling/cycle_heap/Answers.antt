@@ -1,6 +1,6 @@
 use Rattle.std.proofs.Common.{subst}
 use Rattle.heap_layout.specs.Heap.{Heap}
-use Rattle.trace_text.specs.Traces.{lines_of}
+use Rattle.comp_trace.specs.Traces.{lines_of}
 use Rattle.commands.specs.Cycled.{IsNextHeap, IsUnmarked}
 use Rattle.commands.proofs.CycledHeaps.{cycled, uncycled}
 use Rattle.commands.proofs.cycling.cycle_heap.Goals as goal

@@ -1,7 +1,7 @@
 use Rattle.std.proofs.KnownBytes.{Keeps-refl}
 use Rattle.std.proofs.lemmas.Result.{err_from_is_err_and, IfErr-weaker}
 use Rattle.heap_layout.specs.Counted.{inner_of, failures_of}
-use Rattle.trace_text.specs.Traces.{lines_of}
+use Rattle.comp_trace.specs.Traces.{lines_of}
 use Rattle.command_io.proofs.Outcomes.{uncreated}
 use Rattle.commands.proofs.RaceRuns.{of_inputs, of_outcome_err, of_outcome_ok, race_halted_by}
 use Rattle.commands.proofs.ReplayRuns.{inputs_uncounted, unprinted_halt}

@@ -3,10 +3,10 @@ use Rattle.comp_mutator.specs.Unfinished.{IsUnfinishedFor}
 use Rattle.comp_mutator.specs.Mutators.{setup_of}
 use Rattle.comp_mutator.specs.declared.finishing.FinishFault.{FinishFault}
 use Rattle.cell_steps.specs.Lists.{Each}
-use Rattle.trace_text.specs.Traces.{lines_of}
-use Rattle.trace_text.specs.declared.line.Line.{Line}
+use Rattle.comp_trace.specs.Traces.{lines_of}
+use Rattle.comp_trace.specs.Line.{Line}
 use Rattle.trace_steps.proofs.Callers.{all_of}
-use Rattle.trace_race.specs.declared.racing.Run.{Run}
+use Rattle.comp_trace.specs.Run.{Run}
 use Rattle.commands.specs.ByLine.{AreByLine, AreOwn, HasEnded, IsLeastStop}
 use Rattle.commands.proofs.Racing.{all_inside, each_own, many_runs, raced_heap, stopped_race}
 use Rattle.trace_replay.proofs.Runnings.{all_row, all_there}

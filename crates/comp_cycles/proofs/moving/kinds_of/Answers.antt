@@ -3,7 +3,7 @@ use Rattle.std.proofs.lemmas.Result.{IfOk-weaker}
 use Rattle.heap_layout.specs.Heap.{Heap, live}
 use Rattle.page_plan.specs.Sliding.{pages}
 use Rattle.comp_journal.specs.declared.entry.Entry.{Entry}
-use Rattle.cell_steps.specs.Lawful.{filled, kind_at}
+use Rattle.comp_history.specs.Lawful.{filled, kind_at}
 use Rattle.comp_history.proofs.JournalKinds.{room_on}
 use Rattle.comp_cycles.specs.Finishes.{journals_of}
 use Rattle.comp_cycles.specs.Ends.{setup_in}

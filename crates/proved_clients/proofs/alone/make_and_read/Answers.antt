@@ -1,6 +1,6 @@
 use Rattle.std.proofs.Common.{◌≡◌, ℕ, ◌∙◌, ap, sym, arith}
 use Rattle.std.proofs.lemmas.Result.{IfOk-weaker}
-use Rattle.heap_layout.specs.declared.kind.Kind.TheVariants.{Reference, Data}
+use Rattle.page_plan.specs.Kind.TheVariants.{Reference, Data}
 use Rattle.cell_steps.specs.Lists.{on}
 use Rattle.cell_steps.specs.Passes.{seen}
 use Rattle.page_cells.proofs.Growing.{grows_then}

@@ -1,6 +1,6 @@
 use Rattle.std.proofs.Common.{◌≡◌, ℕ, ◌∙◌, ap, sym, arith}
 use Rattle.std.proofs.lemmas.Result.{IfOk-weaker}
-use Rattle.heap_layout.specs.declared.kind.Kind.TheVariants.{Weak}
+use Rattle.page_plan.specs.Kind.TheVariants.{Weak}
 use Rattle.cell_steps.specs.Lists.{on}
 use Rattle.cell_steps.specs.Passes.{seen}
 use Rattle.comp_mutator.specs.Mutators.{pass_of, setup_of}

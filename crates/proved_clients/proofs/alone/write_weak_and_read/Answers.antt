@@ -1,10 +1,10 @@
 use Rattle.std.proofs.Common.{◌≡◌, ℕ, ◌∙◌, ap, sym}
-use Rattle.heap_layout.specs.declared.kind.Kind.TheVariants.{Weak}
+use Rattle.page_plan.specs.Kind.TheVariants.{Weak}
 use Rattle.cell_steps.specs.Lists.{on}
 use Rattle.cell_steps.specs.Passes.{seen}
 use Rattle.comp_mutator.specs.Mutators.{pass_of, setup_of}
-use Rattle.comp_access.specs.Reads.{Reads}
-use Rattle.comp_access.specs.Writes.{Writes}
+use Rattle.comp_mutator.specs.Reads.{Reads}
+use Rattle.comp_mutator.specs.Writes.{Writes}
 use Rattle.proved_clients.proofs.ReadBack.{both_ok, reads_back}
 use Rattle.proved_clients.proofs.alone.write_weak_and_read.Goals as goal
 

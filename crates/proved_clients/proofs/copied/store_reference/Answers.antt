@@ -1,5 +1,5 @@
 use Rattle.std.proofs.Common.{rules, refl, sym, subst}
-use Rattle.heap_layout.specs.declared.kind.Kind.TheVariants.{Reference}
+use Rattle.page_plan.specs.Kind.TheVariants.{Reference}
 use Rattle.cell_steps.specs.Passes.{MayRefer}
 use Rattle.comp_mutator.specs.Mutators.{pass_of}
 use Rattle.proved_clients.proofs.copied.store_reference.Goals as goal

@@ -1,12 +1,12 @@
 use Rattle.std.proofs.Common.{◌≡◌, ℕ, ◌∙◌, sym, subst}
-use Rattle.heap_layout.specs.declared.kind.Kind.TheVariants.{Data}
+use Rattle.page_plan.specs.Kind.TheVariants.{Data}
 use Rattle.cell_steps.specs.Lists.{StartsWith}
 use Rattle.cell_steps.specs.Passes.{seen}
 use Rattle.cell_steps.proofs.Sums.{starts-refl}
 use Rattle.page_cells.proofs.Growing.{begins_then}
 use Rattle.comp_mutator.specs.Mutators.{pass_of, setup_of}
-use Rattle.comp_access.specs.Reads.{Reads}
-use Rattle.comp_access.specs.Writes.{Writes}
+use Rattle.comp_mutator.specs.Reads.{Reads}
+use Rattle.comp_mutator.specs.Writes.{Writes}
 use Rattle.proved_clients.proofs.Between.{sees_what_it_met}
 use Rattle.proved_clients.proofs.ReadBack.{both_ok, reads_back}
 use Rattle.proved_clients.proofs.meetings.read_after_meeting.Goals as goal

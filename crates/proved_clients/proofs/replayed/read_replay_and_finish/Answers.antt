@@ -1,5 +1,5 @@
 use Rattle.std.proofs.Common.{set, arith, length-set}
-use Rattle.heap_layout.specs.declared.kind.Kind.TheVariants.{Data}
+use Rattle.page_plan.specs.Kind.TheVariants.{Data}
 use Rattle.page_cells.proofs.Rows.{at_value}
 use Rattle.comp_mutator.specs.Mutators.{setup_of}
 use Rattle.proved_clients.proofs.AfterReplays.{all_set, row_of, set_there, still_reads}

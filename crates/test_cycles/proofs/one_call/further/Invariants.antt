@@ -1,5 +1,5 @@
 use Rattle.std.proofs.Common.{All}
-use Rattle.trace_cycles.specs.CycleRuns.{IsParsedFor}
+use Rattle.comp_trace.specs.CycleRuns.{IsParsedFor}
 use Rattle.test_cycles.proofs.one_call.further.Given as goal
 
 abbrev pub invariant-loop-one : goal.invariant-loop-one

@@ -1,7 +1,7 @@
 use Rattle.std.specs.Prelude.{◌≡◌, Some}
 use Rattle.std.proofs.Common.{ℕ, get_or, subst, sym}
 use Rattle.heap_layout.specs.Heap.{live}
-use Rattle.page_plan.specs.Sliding.{forward}
+use Rattle.comp_mutator.specs.Sliding.{forward}
 use Rattle.comp_mutator.specs.Mutators.{setup_of}
 use Rattle.trace_steps.proofs.OneLine.{leads_at}
 use Rattle.trace_steps.proofs.registers.root_at.Goals as goal

@@ -1,0 +1,10 @@
+pub use Rattle.trace_text.specs.declared.line.Action
+pub use Rattle.trace_cycles.specs.CycleRuns
+pub use Rattle.trace_text.specs.Grammar
+pub use Rattle.trace_text.specs.declared.line.Line
+pub use Rattle.trace_text.specs.Marks
+pub use Rattle.trace_race.specs.Races
+pub use Rattle.trace_race.specs.declared.racing.Run
+pub use Rattle.trace_text.specs.declared.fault.Stop
+pub use Rattle.trace_text.specs.declared.fault.TraceFault
+pub use Rattle.trace_text.specs.Traces
