@@ -45,8 +45,8 @@ pub fn print_audit<I: Images, O: Write>(
     print_line("ok ", words, out)
 }
 
-/// The live words of the dump at a path, which is one that a compaction of the heap can have left whose image lies at another. The image is read first.
-pub fn audited_at<I: Images>(
+// The live words of the dump at a path, which is one that a compaction of the heap can have left whose image lies at another. The image is read first.
+fn audited_at<I: Images>(
     alloc: Global,
     rt: &(impl Threads + Sync),
     images: &I,
@@ -64,8 +64,8 @@ pub fn audited_at<I: Images>(
     }
 }
 
-/// Whether a dump is one that a compaction of the heap can have left. The only refusal is for want of memory.
-pub fn verdict_of(
+// Whether a dump is one that a compaction of the heap can have left. The only refusal is for want of memory.
+fn verdict_of(
     alloc: Global,
     rt: &(impl Threads + Sync),
     heap: MarkedHeap,
@@ -78,8 +78,8 @@ pub fn verdict_of(
     Ok(audit(alloc, &plan, dump)?)
 }
 
-/// The dump that lies at a path, where the images lie.
-pub fn dump_at<I: Images>(alloc: Global, images: &I, path: &str) -> Result<Dump<'static>, Refusal>
+// The dump that lies at a path, where the images lie.
+fn dump_at<I: Images>(alloc: Global, images: &I, path: &str) -> Result<Dump<'static>, Refusal>
     ensures dump { IfOk result (λ dump. SomeGiven (I.gives images.now path.now) I.Reader.remaining (IsDumpIn (λ other. other ≡ dump))) }
     ensures cause { IfErr result (RefusesDumpAt (I.lacks images.now path.now) (I.gives images.now path.now) I.Reader.remaining) }
 {

@@ -87,8 +87,8 @@ fn swept_at<R: Threads + Wait + Sync, I: Images>(
     swept_in(alloc, rt, &mut reader, workers)
 }
 
-/// The finished heap whose image is all that the reader has left, swept by so many workers, 1 to 64.
-pub fn swept_in<S: Read, R: Threads + Wait + Sync>(
+// The finished heap whose image is all that the reader has left, swept by so many workers, 1 to 64.
+fn swept_in<S: Read, R: Threads + Wait + Sync>(
     alloc: Global,
     rt: &R,
     r: &mut Counted<S>,

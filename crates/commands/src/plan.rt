@@ -38,9 +38,9 @@ pub fn print_plan<I: Images, O: Write>(
     print_plan_in(alloc, rt, &mut reader, out)
 }
 
-/// Prints the plan of the heap whose image is all that the reader has left: the live words, the pages, the first object of each page and where each
-/// root leads, a line each.
-pub fn print_plan_in<R: Read, O: Write>(
+// Prints the plan of the heap whose image is all that the reader has left: the live words, the pages, the first object of each page and where each
+// root leads, a line each.
+fn print_plan_in<R: Read, O: Write>(
     alloc: Global,
     rt: &(impl Threads + Sync),
     r: &mut Counted<R>,

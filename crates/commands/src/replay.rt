@@ -142,8 +142,8 @@ pub fn print_halted<O: Write>(halted: &Halted, out: &mut Counted<&mut O>) -> Res
     Err(halted.refusal)
 }
 
-/// Writes the dump of a run, and prints the values that it showed, and the live words.
-pub fn write_run<D: Dumps, O: Write>(
+// Writes the dump of a run, and prints the values that it showed, and the live words.
+fn write_run<D: Dumps, O: Write>(
     alloc: Global,
     dumps: &mut D,
     asked: TraceRun<'_>,

@@ -72,8 +72,8 @@ pub fn run<R: Files + AllocGlobal + Threads + Wait + Sync, O: Write, E: Write>(
     )
 }
 
-/// Does what is asked, and answers the status. A refusal is one line on `err`; a call of `out` that fails is one.
-pub fn respond<R: Threads + Wait + Sync, I: Images, T: Traces, D: Dumps, O: Write, E: Write>(
+// Does what is asked, and answers the status. A refusal is one line on `err`; a call of `out` that fails is one.
+fn respond<R: Threads + Wait + Sync, I: Images, T: Traces, D: Dumps, O: Write, E: Write>(
     alloc: Global,
     rt: &R,
     images: &I,
@@ -107,8 +107,8 @@ pub fn respond<R: Threads + Wait + Sync, I: Images, T: Traces, D: Dumps, O: Writ
     }
 }
 
-/// Does a task.
-pub fn perform<R: Threads + Wait + Sync, I: Images, T: Traces, D: Dumps, O: Write>(
+// Does a task.
+fn perform<R: Threads + Wait + Sync, I: Images, T: Traces, D: Dumps, O: Write>(
     alloc: Global,
     rt: &R,
     images: &I,

@@ -52,8 +52,8 @@ pub fn print_word<I: Images, O: Write>(
     print_word_in(alloc, rt, &mut reader, index, out)
 }
 
-/// Prints the slid word at an index, of the heap whose image is all that the reader has left: its decimal digits and a line feed.
-pub fn print_word_in<R: Read, O: Write>(
+// Prints the slid word at an index, of the heap whose image is all that the reader has left: its decimal digits and a line feed.
+fn print_word_in<R: Read, O: Write>(
     alloc: Global,
     rt: &(impl Threads + Sync),
     r: &mut Counted<R>,
@@ -103,8 +103,8 @@ pub fn word_in<R: Read>(
     word_of(alloc, plan, index)
 }
 
-/// The slid word at an index. The heap is flipped for one mutator, with no fresh page, and the word is that of the mutator's copy of its page.
-pub fn word_of(alloc: Global, plan: Plan, index: u64) -> Result<u64, Refusal>
+// The slid word at an index. The heap is flipped for one mutator, with no fresh page, and the word is that of the mutator's copy of its page.
+fn word_of(alloc: Global, plan: Plan, index: u64) -> Result<u64, Refusal>
     ensures word { IfOk result (λ word. IsWordAt index word plan) }
     ensures cause { IfErr result (IsPast index plan) }
 {

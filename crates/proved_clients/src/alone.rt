@@ -9,8 +9,8 @@ use comp_mutator::Builder;
 use std::alloc::Global;
 use std::sync::ledger::Ledger as Named;
 
-/// Writes a value into a data field and reads the field: where both are done, the word is the value.
-pub fn write_and_read<L: Named, B: Builder>(
+// Writes a value into a data field and reads the field: where both are done, the word is the value.
+fn write_and_read<L: Named, B: Builder>(
     alloc: Global,
     space: &Space<L, B>,
     m: &mut Mutator<L>,
