@@ -1,7 +1,7 @@
 -- How often a page stands in lists of builds.
 use Rattle.std.proofs.Common.{◌≡◌, ℕ, suc, ◌+◌, ◌<◌, min, List, drop, length, get_or, sym, ap, ◌∙◌, arith}
 use Rattle.std.proofs.Math.Seq.{drop-cons}
-use Rattle.cell_steps.specs.Lists.{times}
+use Rattle.comp_history.specs.Lists.{times}
 use Rattle.comp_history.specs.Builds.{named}
 
 -- one list more was counted

@@ -3,10 +3,10 @@ use Rattle.std.proofs.Common.{◌≡◌, ℕ, ◌+◌, ◌<◌, inl, inr, List, 
 use Rattle.std.proofs.Math.ListN.{get_or-eq_default}
 use Rattle.std.proofs.lemmas.Bool.{cases_lt}
 use Rattle.std.proofs.lemmas.List.{get_or_default}
-use Rattle.cell_steps.specs.Lists.{Rises}
-use Rattle.cell_steps.specs.Setup.{Setup}
-use Rattle.cell_steps.specs.Lawful.{IsLawful}
-use Rattle.page_cells.specs.Objects.{AreLawful}
+use Rattle.comp_history.specs.Lists.{Rises}
+use Rattle.comp_history.specs.Setup.{Setup}
+use Rattle.comp_history.specs.Lawful.{IsLawful}
+use Rattle.comp_history.specs.Objects.{AreLawful}
 use Rattle.comp_dump.specs.Dumped.{BuiltPage}
 use Rattle.comp_dump.specs.declared.fault.AuditFault.{AuditFault}
 use Rattle.audit_checks.specs.Checks.{of_built, each_built, journal_of, journals_in, build_faults, journal_faults, word_faults}

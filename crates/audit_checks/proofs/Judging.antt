@@ -1,7 +1,7 @@
 -- What the checks between pages tell together.
 use Rattle.std.proofs.Common.{◌≡◌, ℕ, Bool, ◌||◌, List, [], ◌++◌, Option, Result, Err, sym, ap, subst, ◌∙◌, append_assoc}
 use Rattle.std.proofs.Math.Path.{fun_ext}
-use Rattle.cell_steps.specs.Setup.{Setup}
+use Rattle.comp_history.specs.Setup.{Setup}
 use Rattle.comp_dump.specs.Dumped.{BuiltPage}
 use Rattle.comp_dump.specs.declared.fault.AuditFault.{AuditFault}
 use Rattle.audit_checks.specs.declared.fault.Stop.{Stop}

@@ -5,9 +5,9 @@ use Rattle.heap_layout.specs.Header.{header_of, size_of}
 use Rattle.heap_layout.specs.declared.kind.Kind.{Kind}
 use Rattle.heap_layout.specs.declared.kind.Kind.TheVariants.{Header, Reference, Weak, Data}
 use Rattle.comp_journal.specs.declared.entry.Entry.{Entry}
-use Rattle.cell_steps.specs.Lists.{Rises}
-use Rattle.cell_steps.specs.Setup.{Setup, pages}
-use Rattle.cell_steps.specs.Lawful.{filled, kind_at, Fits, IsField, LawfulAfter}
+use Rattle.comp_history.specs.Lists.{Rises}
+use Rattle.comp_history.specs.Setup.{Setup, pages}
+use Rattle.comp_history.specs.Lawful.{filled, kind_at, Fits, IsField, LawfulAfter}
 use Rattle.comp_dump.specs.declared.fault.AuditFault.{AuditFault}
 use Rattle.comp_dump.specs.declared.fault.AuditFault.TheVariants.{BadEntry}
 use Rattle.audit_checks.specs.Checks.{unless, entry_faults, fits, is_kind, is_fresh_of}

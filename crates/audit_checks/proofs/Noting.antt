@@ -7,10 +7,10 @@ use Rattle.heap_layout.specs.declared.kind.Kind.{Kind}
 use Rattle.heap_layout.specs.declared.kind.Kind.TheVariants.{Header, Reference, Weak, Data}
 use Rattle.comp_journal.specs.declared.entry.Entry.{Entry}
 use Rattle.page_plan.specs.Sliding.{to_address}
-use Rattle.cell_steps.specs.Setup.{Setup, pages, address}
-use Rattle.cell_steps.specs.Lawful.{IsLawful}
-use Rattle.cell_steps.proofs.Sums.{there_at, read_at}
-use Rattle.page_cells.proofs.Heads.{all_made}
+use Rattle.comp_history.specs.Setup.{Setup, pages, address}
+use Rattle.comp_history.specs.Lawful.{IsLawful}
+use Rattle.comp_history.proofs.Sums.{there_at, read_at}
+use Rattle.comp_history.proofs.Heads.{all_made}
 use Rattle.comp_history.specs.Merged.{entries_below, stamp_of, with_page}
 use Rattle.comp_history.specs.OneThread.{address_of}
 use Rattle.comp_dump.specs.Dumped.{BuiltPage}

@@ -13,10 +13,10 @@ use Rattle.page_plan.specs.Sliding as sliding
 use Rattle.page_plan.specs.Sliding.{live_words, forwarded, shape_at}
 use Rattle.comp_journal.specs.Journal.{replayed}
 use Rattle.comp_journal.specs.declared.entry.Entry.{Entry}
-use Rattle.cell_steps.specs.Lists.{times}
-use Rattle.cell_steps.specs.Locks.{Journals}
-use Rattle.cell_steps.specs.Setup.{Setup, pages, address, base_of}
-use Rattle.cell_steps.specs.Lawful.{kind_at, filled}
+use Rattle.comp_history.specs.Lists.{times}
+use Rattle.comp_history.specs.Locks.{Journals}
+use Rattle.comp_history.specs.Setup.{Setup, pages, address, base_of}
+use Rattle.comp_history.specs.Lawful.{kind_at, filled}
 use Rattle.comp_history.specs.Merged.{entries_below, stamp_of}
 use Rattle.comp_history.specs.OneThread.{address_of}
 use Rattle.comp_history.specs.Shares.{allocated}

@@ -1,9 +1,9 @@
 -- What a journal without a fault is, in the words of the cells.
 use Rattle.std.specs.Prelude.{◌≡◌, ◌↔◌, ℕ, List, []}
 use Rattle.comp_journal.specs.declared.entry.Entry.{Entry}
-use Rattle.cell_steps.specs.Lists.{Rises}
-use Rattle.cell_steps.specs.Setup.{Setup}
-use Rattle.cell_steps.specs.Lawful.{IsLawful}
+use Rattle.comp_history.specs.Lists.{Rises}
+use Rattle.comp_history.specs.Setup.{Setup}
+use Rattle.comp_history.specs.Lawful.{IsLawful}
 use Rattle.audit_checks.specs.Checks.{entry_faults}
 
 -- a journal has no fault where it is lawful and its stamps rise, and only there

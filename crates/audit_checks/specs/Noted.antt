@@ -3,7 +3,7 @@ use Rattle.std.specs.Prelude.{◌≡◌, ℕ, ◌-◌, ◌<◌, ◌||◌, Bool, 
 use Rattle.std.specs.List.{list_any}
 use Rattle.heap_layout.specs.Heap.{Heap}
 use Rattle.comp_journal.specs.declared.entry.Entry.{Entry}
-use Rattle.cell_steps.specs.Setup.{Setup}
+use Rattle.comp_history.specs.Setup.{Setup}
 use Rattle.audit_checks.specs.Checks.{setup_for, is_place, makes, is_made_before}
 use Rattle.audit_checks.specs.Told.{IsFirst}
 use Rattle.comp_dump.specs.declared.fault.AuditFault.{AuditFault}

@@ -1,7 +1,7 @@
 -- What the checks tell. The faults of a dump stand in one list, in the order of the checks.
 use Rattle.std.specs.Prelude.{◌≡◌, ℕ, List, [], ◌∷◌, ◌++◌, Option, Result, Ok, Err}
 use Rattle.heap_layout.specs.declared.edition.Edition.{Edition}
-use Rattle.cell_steps.specs.Setup.{Setup}
+use Rattle.comp_history.specs.Setup.{Setup}
 use Rattle.comp_dump.specs.Dumped.{BuiltPage}
 use Rattle.audit_checks.specs.Checks.{all_entries, all_stamps, each_built, head_faults, build_faults, journal_faults, word_faults, is_start, reference_faults, repeat_faults, missing_faults, is_made_before, is_led, late_faults, total_faults}
 use Rattle.comp_dump.specs.declared.fault.AuditFault.{AuditFault}

@@ -1,8 +1,8 @@
 //! The checks of a dump: nine of them, each of which tells its first fault, in the order in which their faults count.
 ghost use Rattle.std.specs.Prelude.{◌≡◌, ◌<◌, ◌≤◌, All, length};
-ghost use Rattle.cell_steps.specs.Setup.{pages};
-ghost use Rattle.page_cells.specs.Ends.{lists as items_of};
-ghost use Rattle.page_cells.specs.Objects.{AreLawful};
+ghost use Rattle.comp_history.specs.Setup.{pages};
+ghost use Rattle.comp_history.specs.Ends.{lists as items_of};
+ghost use Rattle.comp_history.specs.Objects.{AreLawful};
 ghost use Rattle.comp_dump.specs.Dumped.{IsStoredList, IsStoredRecord};
 ghost use Rattle.audit_checks.specs.Checks.{journals_in};
 ghost use Rattle.audit_checks.specs.Noted.{setup_at};

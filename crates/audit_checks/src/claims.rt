@@ -1,7 +1,7 @@
 //! The second check: each page that was built stands once in the lists of builds.
 ghost use Rattle.std.specs.Prelude.{◌≡◌, ℕ, List, ◌+◌, ◌<◌, ◌≤◌, All, IfOk, length, min, slice_index};
-ghost use Rattle.cell_steps.specs.Lists.{times};
-ghost use Rattle.page_cells.specs.Ends.{lists as items_of};
+ghost use Rattle.comp_history.specs.Lists.{times};
+ghost use Rattle.comp_history.specs.Ends.{lists as items_of};
 ghost use Rattle.comp_history.specs.Builds.{named};
 ghost use Rattle.audit_checks.specs.Checks.{build_faults, is_claimed};
 ghost use Rattle.comp_dump.specs.Dumped.{IsStoredList};

@@ -1,6 +1,6 @@
 //! The first check: the edition, how many pages there are, and where the roots lead.
 ghost use Rattle.std.specs.Prelude.{◌≡◌, ◌≤◌, OnOk, length};
-ghost use Rattle.cell_steps.specs.Setup.{pages};
+ghost use Rattle.comp_history.specs.Setup.{pages};
 ghost use Rattle.audit_checks.specs.Checks.{head_faults, is_edition};
 ghost use Rattle.audit_checks.specs.Told.{Tells};
 ghost use Rattle.audit_checks.specs.Noted.{setup_at};

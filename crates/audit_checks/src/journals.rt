@@ -3,8 +3,8 @@ ghost use Rattle.std.specs.Prelude.{◌≡◌, ℕ, List, ◌+◌, ◌*◌, ◌<
 ghost use Rattle.heap_layout.specs.Heap.{Heap, live};
 ghost use Rattle.page_plan.specs.Sliding.{kind};
 ghost use Rattle.comp_journal.specs.declared.entry.Entry.{Entry};
-ghost use Rattle.cell_steps.specs.Setup.{fresh_page, pages, Setup};
-ghost use Rattle.cell_steps.specs.Lawful.{kinds_by, kinds_in};
+ghost use Rattle.comp_history.specs.Setup.{fresh_page, pages, Setup};
+ghost use Rattle.comp_history.specs.Lawful.{kinds_by, kinds_in};
 ghost use Rattle.audit_checks.specs.Checks.{each_built, entry_faults, fits, journal_faults, setup_for};
 ghost use Rattle.comp_dump.specs.Dumped.{IsStoredEntry, IsStoredRecord};
 ghost use Rattle.audit_checks.specs.Told.{Tells};

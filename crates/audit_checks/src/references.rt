@@ -1,8 +1,8 @@
 //! The fifth check: each reference and weak word is null, or leads to the start of an object.
 ghost use Rattle.std.specs.Prelude.{◌≡◌, ◌<◌, ◌≤◌, All, length, slice_index_or, None};
-ghost use Rattle.cell_steps.specs.Lawful.{IsLawful};
-ghost use Rattle.cell_steps.specs.Setup.{pages};
-ghost use Rattle.page_cells.specs.Objects.{AreLawful};
+ghost use Rattle.comp_history.specs.Lawful.{IsLawful};
+ghost use Rattle.comp_history.specs.Setup.{pages};
+ghost use Rattle.comp_history.specs.Objects.{AreLawful};
 ghost use Rattle.audit_checks.specs.Checks.{each_built, some_refers, journals_in, loose_faults, reference_faults};
 ghost use Rattle.comp_dump.specs.Dumped.{IsStoredPage, IsStoredRecord};
 ghost use Rattle.audit_checks.specs.Told.{Tells};

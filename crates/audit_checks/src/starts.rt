@@ -2,8 +2,8 @@
 ghost use Rattle.std.specs.Prelude.{◌≡◌, ◌≢◌, ℕ, List, ◌+◌, ◌*◌, ◌<◌, ◌≤◌, [], ◌∷◌, ◌++◌, ◌||◌, IfOk, All, length, nat_lt, is_some, true, Some, None};
 ghost use Rattle.heap_layout.specs.declared.kind.Kind.TheVariants as sorts;
 ghost use Rattle.comp_journal.specs.declared.entry.Entry.{Entry};
-ghost use Rattle.cell_steps.specs.Setup.{address, pages};
-ghost use Rattle.page_cells.specs.Objects.{AreLawful};
+ghost use Rattle.comp_history.specs.Setup.{address, pages};
+ghost use Rattle.comp_history.specs.Objects.{AreLawful};
 ghost use Rattle.comp_history.specs.Merged.{with_page};
 ghost use Rattle.audit_checks.specs.Checks.{all_entries, journals_in};
 ghost use Rattle.comp_dump.specs.Dumped.{IsStoredRecord};

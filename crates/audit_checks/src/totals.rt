@@ -1,7 +1,7 @@
 //! The ninth check: the total is that of the words that slid and of all objects that were made.
 ghost use Rattle.std.specs.Prelude.{◌≡◌, ◌^◌, ◌<◌, ◌≤◌, All, length};
 ghost use Rattle.comp_journal.specs.declared.entry.Entry.{Entry};
-ghost use Rattle.cell_steps.specs.Lists.{total as added};
+ghost use Rattle.comp_history.specs.Lists.{total as added};
 ghost use Rattle.comp_history.specs.Shares.{allocated, words_by};
 ghost use Rattle.audit_checks.specs.Checks.{all_entries, total_faults};
 ghost use Rattle.comp_dump.specs.Dumped.{HasFewEntries};

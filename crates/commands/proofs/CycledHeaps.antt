@@ -4,9 +4,9 @@ use Rattle.heap_layout.specs.Heap.{Heap}
 use Rattle.comp_mutator.specs.Cycles.{heap_after, IsCycleOf}
 use Rattle.comp_mutator.specs.Ends.{cycle_of}
 use Rattle.comp_mutator.specs.Finished.{Finished}
-use Rattle.trace_cycles.specs.CycleRuns.{IsLastRun}
-use Rattle.trace_cycles.proofs.Runs.{marked}
-use Rattle.trace_steps.specs.declared.shown.Shown.{Shown}
+use Rattle.comp_trace.specs.CycleRuns.{IsLastRun}
+use Rattle.comp_trace.proofs.Runs.{marked}
+use Rattle.comp_trace.specs.Shown.{Shown}
 use Rattle.comp_trace.specs.Line.{Line}
 use Rattle.command_io.specs.declared.refusal.Refusal.{Refusal}
 use Rattle.command_io.specs.declared.refusal.Refusal.TheVariants.{Layout, Mutator, Sweep, Trace, Dump, Audit, CannotOpen, CannotCreate, ReadFailed, CannotPrint, NoSuchWord, BadMarks, OutOfMemory}

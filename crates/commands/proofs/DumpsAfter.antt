@@ -6,20 +6,20 @@ use Rattle.heap_layout.specs.Heap.{live, Heap}
 use Rattle.page_plan.specs.Sliding.{forward, live_words}
 use Rattle.comp_mutator.specs.Journal.{replayed}
 use Rattle.comp_mutator.specs.Entry.{Entry}
-use Rattle.cell_steps.specs.Closing.{journal_in, page_at, HasBase}
-use Rattle.cell_steps.specs.Lists.{on}
-use Rattle.cell_steps.specs.Passes.{builds_of}
-use Rattle.cell_steps.specs.Setup.{Setup, base_of, pages}
-use Rattle.cell_steps.specs.View.{Slot}
-use Rattle.cell_steps.specs.declared.pass.Pass.{Pass}
-use Rattle.comp_history.specs.Merged.{stamp_of}
-use Rattle.comp_history.specs.Shares.{allocated}
+use Rattle.comp_mutator.specs.Closing.{journal_in, page_at, HasBase}
+use Rattle.comp_mutator.specs.Lists.{on}
+use Rattle.comp_mutator.specs.Passes.{builds_of}
+use Rattle.comp_mutator.specs.Setup.{Setup, base_of, pages}
+use Rattle.comp_mutator.specs.View.{Slot}
+use Rattle.comp_mutator.specs.Pass.{Pass}
+use Rattle.comp_mutator.specs.Merged.{stamp_of}
+use Rattle.comp_mutator.specs.Shares.{allocated}
 use Rattle.comp_mutator.specs.Finishes.{history_of, journals_of, pages_of, roots_of, there, IsFinished}
 use Rattle.comp_mutator.specs.Finished.{Finished}
 use Rattle.comp_dump.specs.Lent.{record_of}
-use Rattle.trace_replay.specs.Bytes.{flipped}
-use Rattle.trace_replay.specs.Heaps.{HasRunOver}
-use Rattle.trace_steps.specs.declared.shown.Shown.{Shown}
+use Rattle.comp_trace.specs.Bytes.{flipped}
+use Rattle.comp_trace.specs.Heaps.{HasRunOver}
+use Rattle.comp_trace.specs.Shown.{Shown}
 use Rattle.comp_trace.specs.Line.{Line}
 use Rattle.commands.specs.Replays.{dumped_of, page_in, times_built, IsDumpAfter, IsPageAfter, IsReplayedHeap}
 use Rattle.command_io.proofs.Lines.{each-given}

@@ -7,17 +7,17 @@ use Rattle.heap_layout.specs.Faults.{IsAccepted}
 use Rattle.heap_layout.specs.Heap.{Heap}
 use Rattle.heap_layout.proofs.Marked.{passed, sizes-few}
 use Rattle.comp_mutator.specs.Entry.{Entry}
-use Rattle.cell_steps.specs.Setup.{pages, Setup}
-use Rattle.comp_history.specs.Merged.{stamp_of}
-use Rattle.trace_replay.specs.Bytes.{flipped, no_entries}
+use Rattle.comp_mutator.specs.Setup.{pages, Setup}
+use Rattle.comp_mutator.specs.Merged.{stamp_of}
+use Rattle.comp_trace.specs.Bytes.{flipped, no_entries}
 use Rattle.comp_trace.specs.Grammar.{parts}
-use Rattle.trace_replay.specs.Runs.{beginning, unstamped_on, AreAlike, MayBegin, Moment, Runs}
+use Rattle.comp_trace.specs.Runs.{beginning, unstamped_on, AreAlike, MayBegin, Moment, Runs}
 use Rattle.comp_trace.specs.Line.{Line}
-use Rattle.trace_steps.specs.declared.shown.Shown.{Shown}
-use Rattle.trace_replay.proofs.Determined.{determined}
-use Rattle.trace_replay.proofs.Inside.{ok_is, read_inside}
+use Rattle.comp_trace.specs.Shown.{Shown}
+use Rattle.comp_trace.proofs.Determined.{determined}
+use Rattle.comp_trace.proofs.Inside.{ok_is, read_inside}
 use Rattle.comp_dump.specs.Dumped.{BuiltPage, Dumped}
-use Rattle.comp_history.specs.Builds.{named}
+use Rattle.comp_mutator.specs.Builds.{named}
 use Rattle.commands.specs.Replays.{page_in, times_built, AreOne, IsDumpOfRun, IsPageAfter, ReplaysAreOne}
 use Rattle.command_io.specs.Texts.{HasLines}
 use Rattle.command_io.proofs.Outcomes.{same_parts}

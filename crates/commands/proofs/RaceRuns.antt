@@ -9,7 +9,7 @@ use Rattle.comp_trace.specs.TraceFault.{TraceFault}
 use Rattle.comp_trace.specs.TraceFault.TheVariants.{BadLine, NoSuchMutator, NoSuchRegister, NumberTooLarge, NoSuchRoot, Refused}
 use Rattle.comp_trace.specs.TraceFault.TheVariants as traces
 use Rattle.comp_trace.specs.Line.{Line}
-use Rattle.trace_steps.specs.declared.shown.Shown.{Shown}
+use Rattle.comp_trace.specs.Shown.{Shown}
 use Rattle.comp_dump.specs.DumpEncoding.{dump_bytes}
 use Rattle.comp_dump.specs.declared.fault.DumpFault.TheVariants.{Truncated, TrailingBytes, BadMagic, BadField, Device}
 use Rattle.comp_dump.specs.declared.fault.DumpFault.TheVariants as faults

@@ -4,12 +4,12 @@ use Rattle.std.proofs.lemmas.List.{length-map}
 use Rattle.heap_layout.specs.Heap.{live}
 use Rattle.page_plan.specs.Sliding as sliding
 use Rattle.page_plan.specs.declared.builder.Builder.{Ghosts}
-use Rattle.cell_steps.specs.Lists.{Each}
-use Rattle.cell_steps.specs.Setup.{Setup}
-use Rattle.cell_steps.specs.declared.pass.Pass.{Pass}
-use Rattle.cell_steps.proofs.Sums.{is_inside, there_at}
-use Rattle.page_cells.specs.Cells.{steps_of, AreNew}
-use Rattle.page_cells.proofs.Rows.{at_map_back}
+use Rattle.comp_mutator.specs.Lists.{Each}
+use Rattle.comp_mutator.specs.Setup.{Setup}
+use Rattle.comp_mutator.specs.Pass.{Pass}
+use Rattle.comp_mutator.proofs.Sums.{is_inside, there_at}
+use Rattle.comp_mutator.specs.Cells.{steps_of, AreNew}
+use Rattle.comp_mutator.proofs.Rows.{at_map_back}
 use Rattle.comp_mutator.specs.Finishes.{history_of, IsFinished}
 use Rattle.comp_mutator.specs.Mutators.{cells_of, pass_of, setup_of}
 use Rattle.comp_mutator.specs.Finished.{Finished}
@@ -20,13 +20,13 @@ use Rattle.comp_trace.specs.Races.{numbered, own_lines, HaveRaced, Ran}
 use Rattle.comp_trace.specs.Stop.{Stop}
 use Rattle.comp_trace.specs.Line.{Line}
 use Rattle.comp_trace.specs.Run.{Run}
-use Rattle.trace_steps.specs.declared.shown.Shown.{Shown}
-use Rattle.trace_replay.proofs.Inside.{read_inside}
+use Rattle.comp_trace.specs.Shown.{Shown}
+use Rattle.comp_trace.proofs.Inside.{read_inside}
 use Rattle.commands.specs.ByLine.{AreByLine, AreOwn, HasEnded, IsLeastStop}
 use Rattle.commands.specs.Races.{HaveRun, IsRacedHeap, IsStoppedRace}
 use Rattle.commands.specs.Replays.{dumped_of, IsDumpAfter}
 use Rattle.command_io.specs.Texts.{HasLines}
-use Rattle.trace_replay.proofs.Runnings.{setup_is}
+use Rattle.comp_trace.proofs.Runnings.{setup_is}
 use Rattle.commands.proofs.DumpsAfter.{dump_after}
 use Rattle.commands.proofs.Walking.{of_run}
 

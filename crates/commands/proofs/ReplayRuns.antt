@@ -5,16 +5,16 @@ use Rattle.std.proofs.KnownBytes.{Appends-kept, Appends-trans, Keeps-refl}
 use Rattle.std.specs.Io.KnownBytes.{Appends, Keeps}
 use Rattle.heap_layout.specs.Heap.{live, Heap}
 use Rattle.page_plan.specs.Sliding.{live_words}
-use Rattle.cell_steps.specs.Setup.{Setup}
-use Rattle.comp_history.specs.Shares.{allocated}
+use Rattle.comp_mutator.specs.Setup.{Setup}
+use Rattle.comp_mutator.specs.Shares.{allocated}
 use Rattle.comp_mutator.specs.Finishes.{edition_in, builds_in, live_of, pages_of, roots_of}
 use Rattle.comp_mutator.specs.Finished.{Finished}
-use Rattle.trace_replay.specs.Bytes.{flipped, CutsShort}
+use Rattle.comp_trace.specs.Bytes.{flipped, CutsShort}
 use Rattle.comp_trace.specs.TraceFault.{TraceFault}
 use Rattle.comp_trace.specs.TraceFault.TheVariants.{BadLine, NoSuchMutator, NoSuchRegister, NumberTooLarge, NoSuchRoot, Refused}
 use Rattle.comp_trace.specs.TraceFault.TheVariants as traces
 use Rattle.comp_trace.specs.Line.{Line}
-use Rattle.trace_steps.specs.declared.shown.Shown.{Shown}
+use Rattle.comp_trace.specs.Shown.{Shown}
 use Rattle.comp_dump.specs.Dumped.{Dumped}
 use Rattle.comp_dump.specs.DumpEncoding.{dump_bytes}
 use Rattle.comp_dump.specs.Lent.{record_of}

@@ -13,17 +13,17 @@ use Rattle.page_plan.specs.Sliding.{forward, live_words}
 use Rattle.page_plan.specs.declared.builder.Builder.{Ghosts}
 use Rattle.comp_mutator.specs.Journal.{replayed}
 use Rattle.comp_mutator.specs.Entry.{Entry}
-use Rattle.cell_steps.specs.Setup.{Setup, base_of}
-use Rattle.cell_steps.specs.Lists.{on}
-use Rattle.cell_steps.specs.View.{Slot}
-use Rattle.cell_steps.specs.Closing.{journal_in, page_at, HasBase}
-use Rattle.cell_steps.specs.Passes.{builds_of, did}
-use Rattle.cell_steps.specs.declared.pass.Pass.{Pass}
-use Rattle.cell_steps.proofs.Sums.{there_at}
-use Rattle.page_cells.specs.Cells.{steps_of, AreNew}
-use Rattle.page_cells.proofs.Rows.{at_map, at_map_back}
-use Rattle.comp_history.specs.Merged.{written_by}
-use Rattle.comp_history.specs.Shares.{allocated}
+use Rattle.comp_mutator.specs.Setup.{Setup, base_of}
+use Rattle.comp_mutator.specs.Lists.{on}
+use Rattle.comp_mutator.specs.View.{Slot}
+use Rattle.comp_mutator.specs.Closing.{journal_in, page_at, HasBase}
+use Rattle.comp_mutator.specs.Passes.{builds_of, did}
+use Rattle.comp_mutator.specs.Pass.{Pass}
+use Rattle.comp_mutator.proofs.Sums.{there_at}
+use Rattle.comp_mutator.specs.Cells.{steps_of, AreNew}
+use Rattle.comp_mutator.proofs.Rows.{at_map, at_map_back}
+use Rattle.comp_mutator.specs.Merged.{written_by}
+use Rattle.comp_mutator.specs.Shares.{allocated}
 use Rattle.comp_mutator.specs.Finishes.{builds_in, history_of, journals_of, live_of, pages_of, roots_of, there, IsFinished}
 use Rattle.comp_mutator.specs.Mutators.{cells_of, pass_of, setup_of}
 use Rattle.comp_mutator.specs.Orders.{HasNumber, IsRow}

@@ -6,19 +6,19 @@ use Rattle.std.proofs.lemmas.Bool.Decides.{eqb_tells}
 use Rattle.std.proofs.lemmas.List.{drop-drop, length-replicate, get_or-replicate, get_or-set_other, get_or-set_same, take_more}
 use mathlib.Core.Option.{some, some-injective, some-ne-none}
 use lib.ListN.{get_elem?}
-use Rattle.cell_steps.specs.Lists.{but, Each}
-use Rattle.cell_steps.specs.Setup.{Setup}
-use Rattle.cell_steps.specs.declared.pass.Pass.{Pass}
-use Rattle.cell_steps.proofs.Sums.{at_last, but-other, but-same, each-append, each-one, last_of}
-use Rattle.comp_history.proofs.Sorted.{at_in, in_at, in_front, in_behind, in_parts, In}
-use Rattle.trace_steps.specs.Acting.{null_registers, registers_after, shown_at}
+use Rattle.comp_mutator.specs.Lists.{but, Each}
+use Rattle.comp_mutator.specs.Setup.{Setup}
+use Rattle.comp_mutator.specs.Pass.{Pass}
+use Rattle.comp_mutator.proofs.Sums.{at_last, but-other, but-same, each-append, each-one, last_of}
+use Rattle.comp_mutator.proofs.Sorted.{at_in, in_at, in_front, in_behind, in_parts, In}
+use Rattle.comp_trace.specs.Acting.{null_registers, registers_after, shown_at}
 use Rattle.comp_trace.specs.Races.{numbered, own_lines, Ran, Went}
 use Rattle.comp_trace.specs.Stop.{Stop}
 use Rattle.comp_trace.specs.Action.{Action}
 use Rattle.comp_trace.specs.Action.TheVariants.{Root, Load, Get, Store, Put, New, Nil}
 use Rattle.comp_trace.specs.Line.{Line}
 use Rattle.comp_trace.specs.Run.{Run}
-use Rattle.trace_steps.specs.declared.shown.Shown.{Shown}
+use Rattle.comp_trace.specs.Shown.{Shown}
 use Rattle.commands.specs.ByLine.{earlier_of, told_of, AreByLine, AreOf, AreOwn, HasEnded, IsFirstStop, IsLeastStop, LinesRise}
 
 -- ---- the walk

@@ -10,9 +10,9 @@ use Rattle.comp_mutator.specs.NextHeap.{next_faults}
 use Rattle.comp_mutator.specs.Stable.{StableHeap}
 use Rattle.comp_mutator.specs.Told.{IsToldAs}
 use Rattle.comp_mutator.specs.Finished.{Finished}
-use Rattle.trace_replay.specs.Bytes.{flipped, CutsShort}
-use Rattle.trace_cycles.specs.CycleRuns.{IsLastRun, IsPart}
-use Rattle.trace_steps.specs.declared.shown.Shown.{Shown}
+use Rattle.comp_trace.specs.Bytes.{flipped, CutsShort}
+use Rattle.comp_trace.specs.CycleRuns.{IsLastRun, IsPart}
+use Rattle.comp_trace.specs.Shown.{Shown}
 use Rattle.comp_trace.specs.Line.{Line}
 use Rattle.command_io.specs.declared.refusal.Refusal.{Refusal}
 use Rattle.command_io.specs.declared.refusal.Refusal.TheVariants.{Layout, Mutator, OutOfMemory, Trace}

@@ -3,7 +3,7 @@ use Rattle.std.specs.Prelude.{◌≡◌, ◌⊎◌, ℕ, List, length, Option, R
 use Rattle.heap_layout.specs.Encoding.{encoding}
 use Rattle.heap_layout.specs.Heap.{live, Heap}
 use Rattle.page_plan.specs.Sliding.{live_words}
-use Rattle.trace_steps.specs.declared.shown.Shown.{Shown}
+use Rattle.comp_trace.specs.Shown.{Shown}
 use Rattle.comp_trace.specs.Line.{Line}
 use Rattle.command_io.specs.Dumps.{WritesWhole}
 use Rattle.command_io.specs.Images.{IsImageOf, SomeGiven}

@@ -5,23 +5,23 @@ use lib.ListN.{get_elem?}
 use Rattle.std.specs.Io.KnownBytes.{Appends, Keeps}
 use Rattle.heap_layout.specs.Encoding.{Refuses}
 use Rattle.heap_layout.specs.Heap.{Heap}
-use Rattle.cell_steps.specs.Lists.{Each}
-use Rattle.cell_steps.specs.Setup.{Setup}
-use Rattle.cell_steps.specs.Passes.{about}
-use Rattle.cell_steps.specs.declared.pass.Pass.{Pass}
-use Rattle.cell_steps.specs.declared.steps.Steps.{Steps}
-use Rattle.page_cells.specs.Cells.{AreNew}
+use Rattle.comp_mutator.specs.Lists.{Each}
+use Rattle.comp_mutator.specs.Setup.{Setup}
+use Rattle.comp_mutator.specs.Passes.{about}
+use Rattle.comp_mutator.specs.Pass.{Pass}
+use Rattle.comp_mutator.specs.Steps.{Steps}
+use Rattle.comp_mutator.specs.Cells.{AreNew}
 use Rattle.comp_mutator.specs.Finishes.{history_of, live_of, IsFinished}
 use Rattle.comp_mutator.specs.Finished.{Finished}
 use Rattle.comp_mutator.specs.Refusal.{Refusal as CallRefusal}
 use Rattle.comp_mutator.specs.Refusal.TheVariants as refusals
-use Rattle.trace_replay.specs.Bytes.{flipped}
+use Rattle.comp_trace.specs.Bytes.{flipped}
 use Rattle.comp_trace.specs.Races.{numbered, own_lines, Ran}
 use Rattle.comp_trace.specs.TraceFault.{TraceFault}
 use Rattle.comp_trace.specs.TraceFault.TheVariants as faults
 use Rattle.comp_trace.specs.Line.{Line}
 use Rattle.comp_trace.specs.Run.{Run}
-use Rattle.trace_steps.specs.declared.shown.Shown.{Shown}
+use Rattle.comp_trace.specs.Shown.{Shown}
 use Rattle.comp_dump.specs.DumpEncoding.{dump_bytes}
 use Rattle.comp_dump.specs.declared.fault.DumpFault.TheVariants.{Device}
 use Rattle.commands.specs.ByLine.{AreByLine, HasEnded, IsLeastStop}

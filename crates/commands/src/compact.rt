@@ -3,7 +3,7 @@ ghost use Rattle.std.specs.Prelude.{◌≡◌, ◌-◌, ◌^◌, ◌<◌, ◌≤
 ghost use Rattle.heap_layout.specs.Counted.{inner_of, failures_of, writer_of};
 ghost use Rattle.heap_layout.specs.Heap.{live};
 ghost use Rattle.page_plan.specs.Sliding.{pages};
-ghost use Rattle.page_cells.specs.Cells.{steps_of, AreNew};
+ghost use Rattle.comp_mutator.specs.Cells.{steps_of, AreNew};
 ghost use Rattle.comp_mutator.specs.Finishes.{IsOfFlip};
 ghost use Rattle.comp_mutator.specs.Mutators.{cells_of, pass_of, setup_of, AreMutatorsOf};
 ghost use Rattle.commands.specs.Compact.{Compacts, IsOfSweeping, IsSweptHeap, RefusesCompact, RefusesSweep};

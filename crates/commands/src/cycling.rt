@@ -1,7 +1,7 @@
 //! A heap over which a trace is run, and the heap with which the next cycle begins.
 ghost use Rattle.std.specs.Prelude.{◌≤◌, IfErr, IfOk, length};
 ghost use Rattle.comp_mutator.specs.Ends.{IsEndOf};
-ghost use Rattle.trace_cycles.specs.CycleRuns.{IsParsedFor};
+ghost use Rattle.comp_trace.specs.CycleRuns.{IsParsedFor};
 ghost use Rattle.comp_trace.specs.Traces.{lines_of};
 ghost use Rattle.commands.specs.Cycled.{IsCycledHeap, IsNextHeap, IsUncycled, IsUnmarked};
 

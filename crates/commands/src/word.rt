@@ -3,7 +3,7 @@ ghost use Rattle.std.specs.Prelude.{◌≡◌, ◌*◌, ◌-◌, ◌/◌, ◌^�
 ghost use Rattle.heap_layout.specs.Counted.{inner_of, failures_of, writer_of};
 ghost use Rattle.heap_layout.specs.Heap.{live};
 ghost use Rattle.page_plan.specs.Sliding.{pages, slid_words};
-ghost use Rattle.page_cells.specs.Cells.{steps_of, AreNew, IsNew};
+ghost use Rattle.comp_mutator.specs.Cells.{steps_of, AreNew, IsNew};
 ghost use Rattle.comp_mutator.specs.Mutators.{cells_of, pass_of, setup_of};
 ghost use Rattle.comp_mutator.specs.Refusal.TheVariants as refusals;
 ghost use Rattle.std.specs.Io.KnownBytes.{Appends};

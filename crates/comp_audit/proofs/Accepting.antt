@@ -15,22 +15,22 @@ use Rattle.heap_layout.specs.declared.kind.Kind.{Kind}
 use Rattle.page_plan.specs.Sliding.{forwarded, live_words}
 use Rattle.comp_dump.specs.Journal.{replayed}
 use Rattle.comp_dump.specs.Entry.{Entry}
-use Rattle.cell_steps.specs.Setup.{Setup, pages, address, base_of}
-use Rattle.cell_steps.specs.Lists.{times}
-use Rattle.cell_steps.specs.Locks.{Journals}
-use Rattle.cell_steps.specs.History.{entries, stamped_with}
-use Rattle.cell_steps.specs.Lawful.{kind_at}
-use Rattle.cell_steps.specs.Starts.{IsPlace}
-use Rattle.cell_steps.specs.Closing.{IsMadeBefore, LeadsToOlder}
-use Rattle.cell_steps.proofs.Sums.{there_at, read_at}
-use Rattle.page_cells.specs.Objects.{IsMadeAt, LeadsToObject, ReferencesAreStarts}
-use Rattle.page_cells.proofs.Leading.{each_leads, older_closed}
-use Rattle.comp_history.specs.Merged.{entries_below, stamp_of, CanMerge}
-use Rattle.comp_history.specs.OneThread.{address_of}
-use Rattle.comp_history.specs.Shares.{allocated}
-use Rattle.comp_history.proofs.Sorted.{In, at_in}
-use Rattle.comp_history.proofs.Pages.{below_in}
-use Rattle.comp_history.specs.Builds.{named}
+use Rattle.comp_dump.specs.Setup.{Setup, pages, address, base_of}
+use Rattle.comp_dump.specs.Lists.{times}
+use Rattle.comp_dump.specs.Locks.{Journals}
+use Rattle.comp_dump.specs.History.{entries, stamped_with}
+use Rattle.comp_dump.specs.Lawful.{kind_at}
+use Rattle.comp_dump.specs.Starts.{IsPlace}
+use Rattle.comp_dump.specs.Closing.{IsMadeBefore, LeadsToOlder}
+use Rattle.comp_dump.proofs.Sums.{there_at, read_at}
+use Rattle.comp_dump.specs.Objects.{IsMadeAt, LeadsToObject, ReferencesAreStarts}
+use Rattle.comp_dump.proofs.Leading.{each_leads, older_closed}
+use Rattle.comp_dump.specs.Merged.{entries_below, stamp_of, CanMerge}
+use Rattle.comp_dump.specs.OneThread.{address_of}
+use Rattle.comp_dump.specs.Shares.{allocated}
+use Rattle.comp_dump.proofs.Sorted.{In, at_in}
+use Rattle.comp_dump.proofs.CompHistoryPages.{below_in}
+use Rattle.comp_dump.specs.Builds.{named}
 use Rattle.comp_dump.specs.Dumped.{BuiltPage, Dumped}
 use Rattle.comp_dump.specs.declared.fault.AuditFault.{AuditFault}
 use Rattle.comp_dump.specs.declared.fault.AuditFault.TheVariants.{WrongHead, WrongWord, WrongTotal, BuildUnclaimed, BadEntry, LooseReference, StampRepeated, StampMissing}

@@ -4,11 +4,11 @@ use Rattle.std.proofs.lemmas.List.{length-map}
 use Rattle.std.proofs.lemmas.Bool.{cases_lt, cases_eq, leb-true, eq-eqb}
 use Rattle.std.specs.List.{flat_map, range_with_len}
 use Rattle.comp_dump.specs.Entry.{Entry}
-use Rattle.cell_steps.specs.Lists.{times, total, only, below, stamps}
-use Rattle.cell_steps.specs.Locks.{Journals}
-use Rattle.cell_steps.proofs.Sums.{below-at, below-ext, below-zero, times-cons, times-other}
-use Rattle.comp_history.specs.Merged.{entries_below, stamp_of, with_page}
-use Rattle.comp_history.proofs.Pages.{total_below}
+use Rattle.comp_dump.specs.Lists.{times, total, only, below, stamps}
+use Rattle.comp_dump.specs.Locks.{Journals}
+use Rattle.comp_dump.proofs.Sums.{below-at, below-ext, below-zero, times-cons, times-other}
+use Rattle.comp_dump.specs.Merged.{entries_below, stamp_of, with_page}
+use Rattle.comp_dump.proofs.CompHistoryPages.{total_below}
 use Rattle.comp_dump.specs.declared.fault.AuditFault.{AuditFault}
 use Rattle.comp_dump.specs.declared.fault.AuditFault.TheVariants.{StampRepeated, StampMissing}
 use Rattle.audit_checks.specs.Checks.{unless, above, repeat_faults, missing_faults}

@@ -7,13 +7,13 @@ use Rattle.heap_layout.specs.Heap.{live}
 use Rattle.page_plan.specs.Sliding.{forward, live_words}
 use Rattle.comp_dump.specs.Journal.{replayed}
 use Rattle.comp_dump.specs.Entry.{Entry}
-use Rattle.cell_steps.specs.Setup.{Setup, base_of}
-use Rattle.cell_steps.specs.View.{Slot}
-use Rattle.cell_steps.specs.Closing.{journal_in, page_at, HasBase}
-use Rattle.comp_history.specs.Merged.{history, CanMerge}
-use Rattle.comp_history.specs.Shares.{allocated}
+use Rattle.comp_dump.specs.Setup.{Setup, base_of}
+use Rattle.comp_dump.specs.View.{Slot}
+use Rattle.comp_dump.specs.Closing.{journal_in, page_at, HasBase}
+use Rattle.comp_dump.specs.Merged.{history, CanMerge}
+use Rattle.comp_dump.specs.Shares.{allocated}
 use Rattle.comp_dump.specs.Finishes as finished
-use Rattle.comp_history.specs.Builds.{named}
+use Rattle.comp_dump.specs.Builds.{named}
 use Rattle.comp_dump.specs.Finishes.{pages_of, there, IsOfFlip}
 use Rattle.comp_dump.specs.Finished.{Finished}
 use Rattle.comp_dump.specs.Dumped.{BuiltPage, Dumped}

@@ -19,24 +19,24 @@ use Rattle.heap_layout.specs.declared.kind.Kind.TheVariants.{Header}
 use Rattle.page_plan.specs.Sliding.{forwarded, live_words, shape_at}
 use Rattle.comp_dump.specs.Journal.{replayed}
 use Rattle.comp_dump.specs.Entry.{Entry}
-use Rattle.cell_steps.specs.Setup.{Setup, pages, address, base_of}
-use Rattle.cell_steps.specs.Lists.{times}
-use Rattle.cell_steps.specs.Locks.{Journals}
-use Rattle.cell_steps.specs.History.{entries, stamped_with}
-use Rattle.cell_steps.specs.Starts.{HasHeadBefore}
-use Rattle.cell_steps.specs.Closing.{IsMadeBefore, LeadsToOlder}
-use Rattle.cell_steps.proofs.Sums.{read_at, is_inside}
-use Rattle.page_cells.specs.Objects.{AreLawful}
-use Rattle.page_cells.proofs.Heads.{all_made}
-use Rattle.page_cells.proofs.LastWord.{replayed_long}
-use Rattle.page_cells.proofs.Leading.{base_long, each_leads, older_closed}
-use Rattle.comp_history.specs.Merged.{entries_below, history, stamp_of, CanMerge}
-use Rattle.comp_history.specs.OneThread.{address_of}
-use Rattle.comp_history.specs.Shares.{allocated, words_by}
-use Rattle.comp_history.proofs.Sorted.{In, in_at, at_in, total_sorted}
-use Rattle.comp_history.proofs.Pages.{in_below}
-use Rattle.comp_history.proofs.Legal.{one_history}
-use Rattle.comp_history.specs.Builds.{named}
+use Rattle.comp_dump.specs.Setup.{Setup, pages, address, base_of}
+use Rattle.comp_dump.specs.Lists.{times}
+use Rattle.comp_dump.specs.Locks.{Journals}
+use Rattle.comp_dump.specs.History.{entries, stamped_with}
+use Rattle.comp_dump.specs.Starts.{HasHeadBefore}
+use Rattle.comp_dump.specs.Closing.{IsMadeBefore, LeadsToOlder}
+use Rattle.comp_dump.proofs.Sums.{read_at, is_inside}
+use Rattle.comp_dump.specs.Objects.{AreLawful}
+use Rattle.comp_dump.proofs.Heads.{all_made}
+use Rattle.comp_dump.proofs.LastWord.{replayed_long}
+use Rattle.comp_dump.proofs.Leading.{base_long, each_leads, older_closed}
+use Rattle.comp_dump.specs.Merged.{entries_below, history, stamp_of, CanMerge}
+use Rattle.comp_dump.specs.OneThread.{address_of}
+use Rattle.comp_dump.specs.Shares.{allocated, words_by}
+use Rattle.comp_dump.proofs.Sorted.{In, in_at, at_in, total_sorted}
+use Rattle.comp_dump.proofs.CompHistoryPages.{in_below}
+use Rattle.comp_dump.proofs.Legal.{one_history}
+use Rattle.comp_dump.specs.Builds.{named}
 use Rattle.comp_dump.specs.Dumped.{BuiltPage, IsStoredRecord}
 use Rattle.comp_dump.specs.declared.fault.AuditFault.TheVariants.{WrongHead, WrongWord, WrongTotal, BuildUnclaimed, BadEntry}
 use Rattle.audit_checks.specs.Checks.{setup_for, unless, all_entries, all_stamps, journal_of, journals_in, above, is_edition, head_faults, is_claimed, build_faults, journal_faults, same_words, word_faults, each_built, is_kind, makes, is_place, is_made_before, is_led, late_on, late_with, late_faults, repeat_faults, missing_faults}

@@ -4,11 +4,11 @@ use Rattle.heap_layout.specs.Heap.{Heap, live, IsClosed}
 use Rattle.page_plan.specs.Sliding.{forwarded, live_words}
 use Rattle.comp_dump.specs.Journal.{replayed}
 use Rattle.comp_dump.specs.Entry.{Entry}
-use Rattle.cell_steps.specs.Setup.{Setup, pages, base_of}
-use Rattle.page_cells.specs.Objects.{ReferencesAreStarts}
-use Rattle.comp_history.specs.Merged.{history, CanMerge, IsOneHistory}
-use Rattle.comp_history.specs.Shares.{allocated}
-use Rattle.comp_history.specs.Builds.{named}
+use Rattle.comp_dump.specs.Setup.{Setup, pages, base_of}
+use Rattle.comp_dump.specs.Objects.{ReferencesAreStarts}
+use Rattle.comp_dump.specs.Merged.{history, CanMerge, IsOneHistory}
+use Rattle.comp_dump.specs.Shares.{allocated}
+use Rattle.comp_dump.specs.Builds.{named}
 use Rattle.comp_dump.specs.Finishes.{builds_in, edition_in, live_of, pages_of, roots_of, IsOfFlip}
 use Rattle.comp_dump.specs.Finished.{Finished}
 use Rattle.comp_dump.specs.Dumped.{BuiltPage, Dumped, IsStored}

@@ -17,9 +17,9 @@ use Rattle.page_plan.proofs.References.{place-is, place-only}
 use Rattle.page_plan.proofs.Pages.{page-at}
 use Rattle.comp_history.specs.Setup.{Setup, base_of}
 use Rattle.comp_history.specs.Starts.{IsPlace}
-use Rattle.page_cells.specs.Objects.{page_at, offset_at, IsMadeAt}
-use Rattle.page_cells.proofs.Leading.{slid_base}
-use Rattle.page_cells.proofs.Rows.{at_value}
+use Rattle.comp_history.specs.Objects.{page_at, offset_at, IsMadeAt}
+use Rattle.comp_history.proofs.Leading.{slid_base}
+use Rattle.comp_history.proofs.Rows.{at_value}
 use Rattle.comp_history.specs.OneThread.{OneThreadHeap, HasStart, IsNullOrStart, header_in, first_heap}
 use Rattle.comp_history.proofs.Heaps.{first_holds, journals_of}
 use Rattle.comp_cycles.specs.Stable.{StableHeap}

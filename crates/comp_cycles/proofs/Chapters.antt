@@ -16,7 +16,7 @@ use Rattle.comp_journal.specs.declared.entry.Entry.{Entry}
 use Rattle.comp_history.specs.Setup.{Setup, pages, address}
 use Rattle.comp_history.specs.Lists.{StartsWith}
 use Rattle.comp_history.specs.Locks.{Journals}
-use Rattle.page_cells.specs.Objects.{IsObjectAt}
+use Rattle.comp_history.specs.Objects.{IsObjectAt}
 use Rattle.comp_history.specs.Merged.{history, CanMerge, IsOneHistory}
 use Rattle.comp_cycles.specs.Forwarded.{AreForwarded}
 use Rattle.comp_history.specs.OneThread.{OneThreadHeap, HasStart, IsNullOrStart, header_in, first_heap, after, result_of, address_of, IsLegal}

@@ -22,10 +22,10 @@ use Rattle.comp_history.specs.Setup.{Setup, pages, fresh_page, base_of}
 use Rattle.comp_history.specs.Lawful.{kind_at, kinds_in, filled, Fits, HasHead, LawfulAfter}
 use Rattle.comp_history.specs.Locks.{Journals}
 use Rattle.comp_history.specs.Starts.{IsPlace}
-use Rattle.page_cells.specs.Objects.{IsObjectAt, IsMadeAt}
-use Rattle.page_cells.proofs.Heads.{all_made, field_kind, head_word, header_stays, none_behind, fresh_kind, IsMade}
-use Rattle.page_cells.proofs.Fields.{compacted_kind, fresh_base}
-use Rattle.page_cells.proofs.Leading.{base_long, slid_base}
+use Rattle.comp_history.specs.Objects.{IsObjectAt, IsMadeAt}
+use Rattle.comp_history.proofs.Heads.{all_made, field_kind, head_word, header_stays, none_behind, fresh_kind, IsMade}
+use Rattle.comp_history.proofs.Fields.{compacted_kind, fresh_base}
+use Rattle.comp_history.proofs.Leading.{base_long, slid_base}
 use Rattle.comp_history.specs.Merged.{CanMerge}
 use Rattle.comp_history.proofs.Words.{field_of, head_at, owner}
 use Rattle.comp_cycles.proofs.Living.{field_above}

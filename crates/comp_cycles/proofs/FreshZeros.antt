@@ -7,8 +7,8 @@ use Rattle.comp_history.specs.Setup.{Setup, pages, address, base_of}
 use Rattle.comp_history.specs.Lists.{on}
 use Rattle.comp_history.specs.Lawful.{FitsEntry, IsLawful}
 use Rattle.comp_history.specs.Locks.{Journals}
-use Rattle.page_cells.proofs.Heads.{is_fresh, next_of, none_behind}
-use Rattle.page_cells.proofs.Fields.{fresh_base}
+use Rattle.comp_history.proofs.Heads.{is_fresh, next_of, none_behind}
+use Rattle.comp_history.proofs.Fields.{fresh_base}
 use Rattle.comp_history.specs.Merged.{CanMerge}
 use Rattle.comp_history.specs.OneThread.{OneThreadHeap, first_heap, after, address_of}
 use Rattle.comp_history.proofs.Pages.{on_here, on_parts}

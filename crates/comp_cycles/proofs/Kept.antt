@@ -18,8 +18,8 @@ use Rattle.page_plan.proofs.Shapes.{field-inside}
 use Rattle.comp_history.specs.Setup.{Setup, pages}
 use Rattle.comp_history.specs.Locks.{Journals}
 use Rattle.comp_history.specs.Starts.{IsPlace}
-use Rattle.page_cells.specs.Objects.{IsObjectAt, IsMadeAt}
-use Rattle.page_cells.proofs.Rows.{at_map_back, at_below, read_at}
+use Rattle.comp_history.specs.Objects.{IsObjectAt, IsMadeAt}
+use Rattle.comp_history.proofs.Rows.{at_map_back, at_below, read_at}
 use Rattle.comp_history.specs.Merged.{CanMerge}
 use Rattle.comp_history.specs.OneThread.{OneThreadHeap, HasStart, IsNullOrStart, header_in}
 use Rattle.comp_cycles.specs.Stable.{StableHeap, Keeps, IsAmong, IsNullOrAmong, MayKeep, is_among, left_word, left_words, head_of, stepped}

@@ -14,3 +14,12 @@ pub mod Chapters
 pub mod Marks
 pub mod MovedWords
 pub mod Refusals
+pub use Rattle.page_plan.proofs.Objects
+pub use Rattle.comp_history.proofs.Pages
+pub use Rattle.comp_history.proofs.Sorted
+pub use Rattle.comp_history.proofs.Sums
+pub use Rattle.comp_history.proofs.WeakEntries
+pub use Rattle.comp_history.proofs.Heads
+pub use Rattle.comp_history.proofs.LastWord
+pub use Rattle.comp_history.proofs.Leading
+pub use Rattle.comp_history.proofs.Legal

@@ -16,8 +16,8 @@ use Rattle.page_plan.proofs.Owners.{objects_stand}
 use Rattle.comp_history.specs.Setup.{Setup, pages}
 use Rattle.comp_history.specs.Locks.{Journals}
 use Rattle.comp_history.specs.Starts.{IsPlace}
-use Rattle.page_cells.specs.Objects.{IsMadeAt, IsObjectAt, LeadsToObject}
-use Rattle.page_cells.proofs.Leading.{each_leads, older_closed}
+use Rattle.comp_history.specs.Objects.{IsMadeAt, IsObjectAt, LeadsToObject}
+use Rattle.comp_history.proofs.Leading.{each_leads, older_closed}
 use Rattle.comp_history.specs.Merged.{CanMerge}
 use Rattle.comp_cycles.specs.NextHeap.{word_in, kind_in, lowered, next_heap, object_starts}
 use Rattle.comp_cycles.proofs.Finals.{head_in, stands, is_object}

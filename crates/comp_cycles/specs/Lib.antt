@@ -7,6 +7,18 @@ pub mod Cycles
 pub mod Ends
 pub mod DrawnCycle
 pub use Rattle.comp_history.specs.Merged
-pub use Rattle.page_cells.specs.Ends as PageCellsEnds
+pub use Rattle.comp_history.specs.Ends as PageCellsEnds
 pub use Rattle.comp_history.specs.Passes
 pub use Rattle.comp_history.specs.Setup
+pub use Rattle.comp_history.specs.Closing
+pub use Rattle.comp_history.specs.Lawful
+pub use Rattle.comp_history.specs.Lists
+pub use Rattle.page_plan.specs.Sliding
+pub use Rattle.comp_history.specs.View
+pub use Rattle.comp_history.specs.Builds
+pub use Rattle.comp_history.specs.History
+pub use Rattle.comp_history.specs.Locks
+pub use Rattle.comp_history.specs.Objects
+pub use Rattle.comp_history.specs.OneThread
+pub use Rattle.comp_history.specs.Shares
+pub use Rattle.comp_history.specs.Starts

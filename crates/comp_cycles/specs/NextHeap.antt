@@ -10,7 +10,7 @@ use Rattle.heap_layout.specs.declared.kind.Kind.TheVariants.{Header, Reference, 
 use Rattle.comp_history.specs.Setup.{Setup, pages}
 use Rattle.comp_history.specs.Lawful.{kind_at}
 use Rattle.comp_history.specs.Locks.{Journals}
-use Rattle.page_cells.specs.Objects.{word_on}
+use Rattle.comp_history.specs.Objects.{word_on}
 
 -- the to-space word i at the end, and what it is
 abbrev pub word_in : Setup → Journals → ℕ → ℕ

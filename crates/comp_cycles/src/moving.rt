@@ -4,7 +4,7 @@ ghost use Rattle.heap_layout.specs.Bits.{bit};
 ghost use Rattle.comp_history.specs.Lawful.{kind_at};
 ghost use Rattle.comp_history.specs.Locks.{Journals};
 ghost use Rattle.comp_history.specs.Setup.{Setup};
-ghost use Rattle.page_cells.specs.Objects.{word_on};
+ghost use Rattle.comp_history.specs.Objects.{word_on};
 ghost use Rattle.comp_cycles.specs.Finishes.{journals_of, pages_of};
 ghost use Rattle.comp_cycles.specs.Ends.{setup_in, words_at, AreMoved, IsEndOf};
 ghost use Rattle.comp_cycles.specs.NextHeap.{kind_in, lowered_as, word_in};

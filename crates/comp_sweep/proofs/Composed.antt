@@ -3,22 +3,22 @@ use Rattle.std.proofs.Common.{◌≡◌, ℕ, ◌<◌, [], ◌∷◌, ◌++◌, 
 use Rattle.std.proofs.lemmas.List.{append-nil}
 use Rattle.std.proofs.lemmas.List.Elements.{All-append, All-cons, All-nil}
 use Rattle.comp_mutator.specs.Builder.{Ghosts}
-use Rattle.cell_steps.specs.Setup.{Setup}
-use Rattle.cell_steps.specs.Passes.{did, builds_of}
-use Rattle.cell_steps.specs.declared.pass.Pass.{Pass}
-use Rattle.page_cells.specs.Calls.{Grows, WroteNothing}
-use Rattle.page_cells.proofs.Growing.{grows_none, grows_then, wrote_then}
+use Rattle.comp_mutator.specs.Setup.{Setup}
+use Rattle.comp_mutator.specs.Passes.{did, builds_of}
+use Rattle.comp_mutator.specs.Pass.{Pass}
+use Rattle.comp_mutator.specs.Calls.{Grows, WroteNothing}
+use Rattle.comp_mutator.proofs.Growing.{grows_none, grows_then, wrote_then}
 use Rattle.comp_mutator.specs.Mutators.{pass_of, setup_of, unposted_of, IsMutatorOf}
-use Rattle.comp_access.specs.Reads.{KnowsBuilt}
-use Rattle.comp_access.specs.Copies.{builds_after, PageRefused}
-use Rattle.comp_access.specs.declared.pages.Touched.{Touched}
-use Rattle.comp_access.specs.declared.pages.Touched.TheVariants.{Built, AlreadyBuilt}
+use Rattle.comp_mutator.specs.Reads.{KnowsBuilt}
+use Rattle.comp_mutator.specs.Copies.{builds_after, PageRefused}
+use Rattle.comp_mutator.specs.Touched.{Touched}
+use Rattle.comp_mutator.specs.Touched.TheVariants.{Built, AlreadyBuilt}
 use Rattle.comp_mutator.specs.Refusal.{Refusal}
 use Rattle.comp_mutator.specs.Refusal.TheVariants.{Null, NotAStart, NoSuchField, NotInEdition, ObjectTooLarge, OutOfPages, Busy, JournalFull, OutOfMemory}
 use Rattle.comp_mutator.specs.Shares.{allocated}
 use Rattle.comp_mutator.specs.declared.space.Space.{Space}
 use Rattle.comp_mutator.specs.declared.mutator.Mutator.{Mutator}
-use Rattle.comp_access.proofs.Growing.{known_more}
+use Rattle.comp_mutator.proofs.CompAccessGrowing.{known_more}
 use Rattle.comp_sweep.specs.Regions.{SeesRegion}
 use Rattle.comp_sweep.specs.Sweeps.{BuildsMore, Sweeps}
 use Rattle.comp_sweep.specs.Workers.{WhyStopped}

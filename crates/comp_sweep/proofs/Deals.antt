@@ -2,8 +2,8 @@
 use Rattle.std.proofs.Common.{◌≡◌, ◌≢◌, ℕ, zero, suc, ◌+◌, ◌<◌, List, [], ◌∷◌, ◌++◌, set, sym, refl, ap, subst, ⊎_elim, arith}
 use mathlib.Core.Option.{some, some_inj, some-ne-none}
 use lib.ListN.{get_elem?}
-use Rattle.cell_steps.specs.Lists.{only, times, total}
-use Rattle.cell_steps.proofs.Sums.{total-append, total-set, term_le}
+use Rattle.comp_mutator.specs.Lists.{only, times, total}
+use Rattle.comp_mutator.proofs.Sums.{total-append, total-set, term_le}
 use Rattle.crossbeam_deque.specs.Tasks.{Pushes, Takes, Finds, Forks, Merges}
 use Rattle.crossbeam_deque.proofs.Lists.{at_set, at_snoc}
 use Rattle.comp_sweep.specs.declared.dealing.Hand.{Hand}

@@ -1,9 +1,9 @@
 -- What a worker takes and lists, one region more at a time.
 use Rattle.std.proofs.Common.{◌≡◌, ℕ, ◌+◌, List, [], ◌∷◌, ◌++◌, All, refl, sym, subst, ◌∙◌, arith}
 use Rattle.std.proofs.lemmas.List.Elements.{All-append, All-cons, All-nil}
-use Rattle.cell_steps.specs.Setup.{Setup}
-use Rattle.cell_steps.specs.Lists.{only}
-use Rattle.cell_steps.specs.declared.pass.Pass.{Pass}
+use Rattle.comp_mutator.specs.Setup.{Setup}
+use Rattle.comp_mutator.specs.Lists.{only}
+use Rattle.comp_mutator.specs.Pass.{Pass}
 use Rattle.comp_sweep.specs.Lots.{taken, SameLot}
 use Rattle.comp_sweep.specs.declared.lots.Lot.{Lot}
 use Rattle.comp_sweep.proofs.Tallies.{times_more}

@@ -6,14 +6,14 @@ use Rattle.std.proofs.lemmas.List.{length-map, map-set}
 use mathlib.Core.Option.{some}
 use lib.ListN.{get_elem?}
 use Rattle.comp_mutator.specs.Builder.{Ghosts}
-use Rattle.cell_steps.specs.Setup.{Setup}
-use Rattle.cell_steps.specs.Lists.{times, Each}
-use Rattle.cell_steps.specs.declared.pass.Pass.{Pass}
-use Rattle.cell_steps.proofs.Sums.{total-set}
-use Rattle.page_cells.specs.Ends.{lists}
-use Rattle.page_cells.proofs.Rows.{at_map, at_set, at_value}
+use Rattle.comp_mutator.specs.Setup.{Setup}
+use Rattle.comp_mutator.specs.Lists.{times, Each}
+use Rattle.comp_mutator.specs.Pass.{Pass}
+use Rattle.comp_mutator.proofs.Sums.{total-set}
+use Rattle.comp_mutator.specs.PageCellsEnds.{lists}
+use Rattle.comp_mutator.proofs.Rows.{at_map, at_set, at_value}
 use Rattle.comp_mutator.specs.Builds.{named}
-use Rattle.comp_access.proofs.Growing.{known_more}
+use Rattle.comp_mutator.proofs.CompAccessGrowing.{known_more}
 use Rattle.comp_mutator.specs.Mutators.{pass_of, IsMutatorOf}
 use Rattle.comp_mutator.specs.declared.space.Space.{Space}
 use Rattle.comp_mutator.specs.declared.mutator.Mutator.{Mutator}

@@ -4,9 +4,9 @@ use Rattle.std.proofs.lemmas.Bool.{eq-eqb, ne_eqb}
 use mathlib.Core.Option.{some, some-injective, some-ne-none}
 use lib.ListN.{get_elem?}
 use native.Mathlib.Decide.{ℕ_discrete}
-use Rattle.cell_steps.specs.Lists.{only, times, Each}
-use Rattle.cell_steps.proofs.Sums.{each-set, total-append, total-set}
-use Rattle.page_cells.proofs.Rows.{at_map, at_map_back, at_set}
+use Rattle.comp_mutator.specs.Lists.{only, times, Each}
+use Rattle.comp_mutator.proofs.Sums.{each-set, total-append, total-set}
+use Rattle.comp_mutator.proofs.Rows.{at_map, at_map_back, at_set}
 use Rattle.comp_sweep.specs.Lots.{all_ways_to, deques, put_in, ways_to, AreDealt, IsAlone, LeadsTo, Linked, Standing}
 
 pub only_same : (q x : ℕ) → q ≡ x → only q x ≡ 1

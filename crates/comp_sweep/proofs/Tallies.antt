@@ -3,9 +3,9 @@ use Rattle.std.proofs.Common.{◌≡◌, ◌≢◌, ⊎_elim, ℕ, suc, ◌+◌,
 use Rattle.std.proofs.lemmas.List.{map-set, nil_from_length, length-map}
 use mathlib.Core.Option.{some, some-injective}
 use lib.ListN.{get_elem?}
-use Rattle.cell_steps.specs.Lists.{only, times, Each}
-use Rattle.cell_steps.proofs.Sums.{total-append, total-set}
-use Rattle.page_cells.proofs.Rows.{at_below, at_map, at_map_back, at_set, at_value}
+use Rattle.comp_mutator.specs.Lists.{only, times, Each}
+use Rattle.comp_mutator.proofs.Sums.{total-append, total-set}
+use Rattle.comp_mutator.proofs.Rows.{at_below, at_map, at_map_back, at_set, at_value}
 use Rattle.comp_sweep.specs.Lots.{own_deque, own_view, put_in, standing, standings, taken, taken_in, taken_on, way_deque, way_name, way_view, AreDealt, AreTaken, Deque, Gives, HasBack, HasLinked, IsAlone, IsNew, IsOut, Linked, SameOwn, Standing, StillLot}
 use Rattle.comp_sweep.specs.declared.deques.Own.{Own}
 use Rattle.comp_sweep.specs.declared.deques.Way.{Way}

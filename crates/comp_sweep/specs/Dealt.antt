@@ -2,7 +2,7 @@
 use Rattle.std.specs.Prelude.{◌≡◌, ℕ, ◌+◌, ◌<◌, List, [], ◌++◌}
 use mathlib.Core.Option.{some}
 use lib.ListN.{get_elem?}
-use Rattle.cell_steps.specs.Lists.{times, total}
+use Rattle.comp_mutator.specs.Lists.{times, total}
 use Rattle.comp_sweep.specs.declared.dealing.Hand.{Hand}
 
 abbrev pub hand : ℕ → ℕ → ℕ → List ℕ → List ℕ → Hand

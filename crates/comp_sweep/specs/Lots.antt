@@ -3,7 +3,7 @@ use Rattle.std.specs.Global.{Global}
 use Rattle.std.specs.Prelude.{◌≡◌, ℕ, ◌+◌, ◌<◌, ◌≤◌, List, [], length, map}
 use mathlib.Core.Option.{some}
 use lib.ListN.{get_elem?}
-use Rattle.cell_steps.specs.Lists.{only, times, total, Each}
+use Rattle.comp_mutator.specs.Lists.{only, times, total, Each}
 use Rattle.atomic_blocks.specs.Lent.{RowsId}
 use Rattle.crossbeam_deque.specs.Handles.{view, worker_view, worker_deque, stealer_deque}
 use Rattle.comp_sweep.specs.Dealt.{AllTaken}

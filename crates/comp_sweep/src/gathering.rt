@@ -1,6 +1,6 @@
 //! Lots, when their workers have ended.
 ghost use Rattle.std.specs.Prelude.{◌≡◌, ℕ, [], length, map};
-ghost use Rattle.cell_steps.specs.Lists.{Each};
+ghost use Rattle.comp_mutator.specs.Lists.{Each};
 ghost use Rattle.comp_sweep.specs.Lots.{HasGathered, IsAlone, Linked, put_in, standings, taken_in, way_name};
 
 use crate::deques::Way;

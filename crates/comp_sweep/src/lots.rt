@@ -16,7 +16,7 @@ pub struct Lot {
 
 impl Lot {
     ghost use Rattle.std.specs.Prelude.{ℕ, ◌+◌, [], ◌∷◌, ◌++◌, map, OnOk, IfOk, IfSome, IfNone};
-    ghost use Rattle.cell_steps.specs.Lists.{only, times};
+    ghost use Rattle.comp_mutator.specs.Lists.{only, times};
     ghost use Rattle.comp_sweep.specs.Lots.{Gives, HasBack, IsNew, IsOut, SameLot, StillLot, own_deque, standing, taken, taken_on, way_deque, way_name, way_view};
 
     /// A lot with no region and no way, and with room for so many regions.

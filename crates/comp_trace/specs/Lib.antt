@@ -8,3 +8,13 @@ pub use Rattle.trace_race.specs.declared.racing.Run
 pub use Rattle.trace_text.specs.declared.fault.Stop
 pub use Rattle.trace_text.specs.declared.fault.TraceFault
 pub use Rattle.trace_text.specs.Traces
+pub use Rattle.trace_steps.specs.Acting
+pub use Rattle.trace_steps.specs.AllMutators
+pub use Rattle.trace_steps.specs.Builds
+pub use Rattle.trace_replay.specs.Bytes
+pub use Rattle.trace_steps.specs.Deeds
+pub use Rattle.trace_replay.specs.Heaps
+pub use Rattle.trace_steps.specs.Rounds
+pub use Rattle.trace_replay.specs.Runs
+pub use Rattle.trace_steps.specs.declared.shown.Shown
+pub use Rattle.trace_steps.specs.Traces as TraceStepsTraces

@@ -5,10 +5,10 @@ use lib.ListN.{get_elem?}
 use Rattle.page_plan.specs.Kind.{Kind}
 use Rattle.page_plan.specs.declared.builder.Builder.{Ghosts}
 use Rattle.comp_journal.specs.declared.entry.Entry.{Entry}
-use Rattle.cell_steps.specs.Lists.{StartsWith}
-use Rattle.cell_steps.specs.Passes.{number_of, seen}
-use Rattle.cell_steps.specs.Setup.{Setup}
-use Rattle.cell_steps.proofs.Sums.{there_at}
+use Rattle.page_cells.specs.Lists.{StartsWith}
+use Rattle.page_cells.specs.Passes.{number_of, seen}
+use Rattle.page_cells.specs.Setup.{Setup}
+use Rattle.page_cells.proofs.Sums.{there_at}
 use Rattle.page_cells.proofs.Growing.{begins_then}
 use Rattle.page_cells.proofs.Rows.{at_map, at_set}
 use Rattle.comp_mutator.specs.Reads.{Reads}
@@ -18,10 +18,10 @@ use Rattle.comp_mutator.specs.Mutators.{pass_of, setup_of, IsMutatorOf}
 use Rattle.comp_mutator.specs.Orders.{number_of_mutator, IsRow}
 use Rattle.comp_mutator.specs.declared.mutator.Mutator.{Mutator}
 use Rattle.comp_mutator.specs.declared.space.Space.{Space}
-use Rattle.trace_steps.specs.AllMutators.{AreAll}
-use Rattle.trace_steps.specs.Rounds.{AreLater}
-use Rattle.trace_steps.proofs.Elements.{at_or}
-use Rattle.trace_steps.proofs.MetPairs.{each_set}
+use Rattle.comp_trace.specs.AllMutators.{AreAll}
+use Rattle.comp_trace.specs.Rounds.{AreLater}
+use Rattle.comp_trace.proofs.Elements.{at_or}
+use Rattle.comp_trace.proofs.MetPairs.{each_set}
 use Rattle.proved_clients.specs.Histories.{StandsInHistory}
 
 -- what was put at a place stands there

@@ -3,8 +3,8 @@ use Rattle.std.proofs.Common.{ℕ, List, map, IsSome, sym, ◌∙◌}
 use Rattle.std.proofs.lemmas.List.{length-map}
 use Rattle.std.proofs.lemmas.Slice.Zip.{AllZip-long}
 use Rattle.page_plan.specs.declared.builder.Builder.{Ghosts}
-use Rattle.cell_steps.specs.Setup.{Setup}
-use Rattle.cell_steps.specs.Closing.{page_at}
+use Rattle.page_cells.specs.Setup.{Setup}
+use Rattle.page_cells.specs.Closing.{page_at}
 use Rattle.page_cells.specs.Cells.{steps_of, AreNew}
 use Rattle.page_cells.proofs.Rows.{at_map}
 use Rattle.comp_mutator.specs.Finishes.{pages_of, IsFinished}

@@ -2,11 +2,11 @@
 use Rattle.std.proofs.Common.{◌≡◌, ℕ, List, [], ◌∷◌, sym, ap, ◌∙◌, arith}
 use mathlib.Core.Logic.{dite}
 use native.Mathlib.Decide.{ℕ_discrete}
-use Rattle.cell_steps.specs.Setup.{Setup}
-use Rattle.cell_steps.specs.Lists.{by, on, StartsWith}
-use Rattle.cell_steps.specs.Passes.{number_of, seen, did}
-use Rattle.cell_steps.specs.declared.pass.Pass.{Pass}
-use Rattle.cell_steps.proofs.Joined.{longer_whole}
+use Rattle.page_cells.specs.Setup.{Setup}
+use Rattle.page_cells.specs.Lists.{by, on, StartsWith}
+use Rattle.page_cells.specs.Passes.{number_of, seen, did}
+use Rattle.page_cells.specs.Pass.{Pass}
+use Rattle.page_cells.proofs.Joined.{longer_whole}
 use Rattle.page_cells.specs.Cells.{Remembers}
 use Rattle.page_cells.specs.Calls.{Grows, Meets}
 use Rattle.page_cells.proofs.Growing.{begins_then}

@@ -10,9 +10,9 @@ use Rattle.page_plan.specs.Kind.TheVariants.{Header, Reference, Weak, Data}
 use Rattle.page_plan.proofs.Shapes.{field-inside}
 use Rattle.comp_journal.specs.Journal.{replayed}
 use Rattle.comp_journal.specs.declared.entry.Entry.{Entry}
-use Rattle.cell_steps.specs.Setup.{Setup, base_of}
-use Rattle.cell_steps.specs.Passes.{number_of, seen}
-use Rattle.cell_steps.specs.declared.pass.Pass.{Pass}
+use Rattle.page_cells.specs.Setup.{Setup, base_of}
+use Rattle.page_cells.specs.Passes.{number_of, seen}
+use Rattle.page_cells.specs.Pass.{Pass}
 use Rattle.page_cells.specs.Objects.{page_at, offset_at, word_at, HasShape}
 use Rattle.comp_mutator.specs.Allocations.{own_page, used, Allocates, AllocatesAsked}
 use Rattle.comp_mutator.specs.Fields.{IsFieldOf}

@@ -1,9 +1,9 @@
 -- Reads in the history of a finished heap.
 use Rattle.std.specs.Prelude.{ℕ}
 use Rattle.page_plan.specs.Kind.{Kind}
-use Rattle.cell_steps.specs.Lists.{on, StartsWith}
-use Rattle.cell_steps.specs.Locks.{Journals}
-use Rattle.cell_steps.specs.Setup.{Setup}
+use Rattle.page_cells.specs.Lists.{on, StartsWith}
+use Rattle.page_cells.specs.Locks.{Journals}
+use Rattle.page_cells.specs.Setup.{Setup}
 use Rattle.comp_mutator.specs.Reads.{Reads}
 use Rattle.comp_mutator.specs.Finishes.{history_of}
 use Rattle.comp_mutator.specs.Finished.{Finished}

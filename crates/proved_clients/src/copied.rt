@@ -3,8 +3,8 @@ ghost use Rattle.std.specs.Prelude.{◌≡◌, ◌+◌, ◌*◌, ◌^◌, ◌<�
 ghost use mathlib.Core.Option.{some};
 ghost use lib.ListN.{get_elem?};
 ghost use Rattle.page_plan.specs.Kind.TheVariants.{Header, Reference};
-ghost use Rattle.cell_steps.specs.Lawful.{IsField};
-ghost use Rattle.cell_steps.specs.Setup.{pages};
+ghost use Rattle.page_cells.specs.Lawful.{IsField};
+ghost use Rattle.page_cells.specs.Setup.{pages};
 ghost use Rattle.comp_mutator.specs.Copies.{IsCopy};
 ghost use Rattle.comp_mutator.specs.Mutators.{pass_of, setup_of, IsMutatorOf};
 ghost use Rattle.comp_mutator.specs.Touched.TheVariants.{AlreadyBuilt};

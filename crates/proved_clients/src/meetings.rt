@@ -1,7 +1,7 @@
 //! What a mutator reads that another one wrote, once the two met.
 ghost use Rattle.std.specs.Prelude.{◌≡◌, ℕ, IfOk};
-ghost use Rattle.cell_steps.specs.Lists.{StartsWith};
-ghost use Rattle.cell_steps.specs.Passes.{number_of, seen};
+ghost use Rattle.page_cells.specs.Lists.{StartsWith};
+ghost use Rattle.page_cells.specs.Passes.{number_of, seen};
 ghost use Rattle.comp_mutator.specs.Mutators.{pass_of, setup_of, IsMutatorOf};
 
 use comp_mutator::Refusal;

@@ -3,8 +3,8 @@ ghost use Rattle.std.specs.Prelude.{◌≡◌, ◌<◌, length, IfSome};
 ghost use Rattle.page_plan.specs.Kind.TheVariants.{Data};
 ghost use Rattle.comp_mutator.specs.Mutators.{setup_of};
 ghost use Rattle.proved_clients.specs.Histories.{StandsInHistory};
-ghost use Rattle.trace_steps.specs.AllMutators.{AreAll};
-ghost use Rattle.trace_steps.specs.Traces.{IsParsedFor};
+ghost use Rattle.comp_trace.specs.AllMutators.{AreAll};
+ghost use Rattle.comp_trace.specs.TraceStepsTraces.{IsParsedFor};
 
 use comp_mutator::Finished;
 use comp_mutator::Mutator;

@@ -2,7 +2,7 @@
 ghost use Rattle.std.specs.Prelude.{◌≡◌, ℕ, ◌<◌, IfSome, IsSome};
 ghost use Rattle.page_plan.specs.Heap.{live};
 ghost use Rattle.page_plan.specs.Sliding.{pages};
-ghost use Rattle.cell_steps.specs.Closing.{page_at};
+ghost use Rattle.page_cells.specs.Closing.{page_at};
 ghost use Rattle.comp_mutator.specs.Finishes.{pages_of};
 ghost use Rattle.comp_sweep.specs.Sweeps.{SomeSeesBuilt};
 

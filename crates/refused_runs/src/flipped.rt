@@ -1,8 +1,8 @@
 //! Flipped heaps whose mutators replay.
 ghost use Rattle.std.specs.Prelude.{◌≡◌, IfSome};
 ghost use Rattle.comp_mutator.specs.Mutators.{setup_of};
-ghost use Rattle.trace_steps.specs.AllMutators.{AreAll};
-ghost use Rattle.trace_steps.specs.Deeds.{DidNothingYet};
+ghost use Rattle.comp_trace.specs.AllMutators.{AreAll};
+ghost use Rattle.comp_trace.specs.Deeds.{DidNothingYet};
 
 use comp_mutator::flip;
 use comp_mutator::Mutator;

@@ -1,8 +1,8 @@
 //! A replay, whose heap is dumped and judged.
 ghost use Rattle.std.specs.Prelude.{◌≡◌, length};
 ghost use Rattle.comp_mutator.specs.Mutators.{setup_of};
-ghost use Rattle.trace_steps.specs.AllMutators.{AreAll};
-ghost use Rattle.trace_steps.specs.Deeds.{DidNothingYet};
+ghost use Rattle.comp_trace.specs.AllMutators.{AreAll};
+ghost use Rattle.comp_trace.specs.Deeds.{DidNothingYet};
 
 use crate::finishing::finish;
 use crate::flipped::flipped;

@@ -3,7 +3,7 @@ use Rattle.std.proofs.Common.{◌≡◌, ◌≢◌, ◌⊎◌, ℕ, zero, suc, �
 use mathlib.Core.Option.{some, some-injective}
 use lib.ListN.{get_elem?}
 use Rattle.std.proofs.lemmas.Bool.{cases_eq}
-use Rattle.cell_steps.proofs.Sums.{is_inside}
+use Rattle.comp_mutator.proofs.Sums.{is_inside}
 use Rattle.trace_race.specs.Races.{numbered, own_lines}
 use Rattle.trace_race.specs.Chains.{IsNextOwn}
 use Rattle.trace_text.specs.declared.line.Line.{Line}

@@ -3,13 +3,13 @@ use Rattle.std.proofs.Common.{◌≡◌, ℕ, zero, suc, ◌+◌, ◌-◌, ◌<�
 use Rattle.std.proofs.lemmas.List.{take_all}
 use mathlib.Core.Option.{some, some-injective, some-ne-none}
 use lib.ListN.{get_elem?}
-use Rattle.cell_steps.proofs.Sums.{take_suc, there_at}
-use Rattle.page_cells.proofs.Growing.{grows_none, grows_then}
+use Rattle.comp_mutator.proofs.Sums.{take_suc, there_at}
+use Rattle.comp_mutator.proofs.Growing.{grows_none, grows_then}
 use Rattle.std.specs.Prelude.{Option}
-use Rattle.cell_steps.specs.Passes.{did, number_of}
-use Rattle.cell_steps.specs.Setup.{Setup}
-use Rattle.cell_steps.specs.declared.pass.Pass.{Pass}
-use Rattle.page_cells.specs.Calls.{Grows}
+use Rattle.comp_mutator.specs.Passes.{did, number_of}
+use Rattle.comp_mutator.specs.Setup.{Setup}
+use Rattle.comp_mutator.specs.Pass.{Pass}
+use Rattle.comp_mutator.specs.Calls.{Grows}
 use Rattle.comp_mutator.specs.Refusal.TheVariants.{Busy}
 use Rattle.trace_steps.specs.Acting.{null_registers, registers_after, shown_at, Refuses, Steps}
 use Rattle.trace_race.specs.Races.{numbered, own_lines, Ends, Ran, Went}

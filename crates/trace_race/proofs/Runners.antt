@@ -4,10 +4,10 @@ use Rattle.std.proofs.lemmas.List.{length-map}
 use mathlib.Core.Option.{some, some-injective}
 use lib.ListN.{get_elem?}
 use Rattle.comp_mutator.specs.Builder.{Ghosts}
-use Rattle.cell_steps.specs.Setup.{Setup}
-use Rattle.cell_steps.specs.Lists.{Each}
-use Rattle.cell_steps.proofs.Sums.{is_inside, there_at, take_suc, last_of, read_at}
-use Rattle.page_cells.proofs.Rows.{at_map, at_map_back}
+use Rattle.comp_mutator.specs.Setup.{Setup}
+use Rattle.comp_mutator.specs.Lists.{Each}
+use Rattle.comp_mutator.proofs.Sums.{is_inside, there_at, take_suc, last_of, read_at}
+use Rattle.comp_mutator.proofs.Rows.{at_map, at_map_back}
 use Rattle.comp_mutator.specs.Mutators.{pass_of, setup_of, IsMutatorOf}
 use Rattle.comp_mutator.specs.Orders.{number_of_mutator}
 use Rattle.comp_mutator.specs.declared.mutator.Mutator.{Mutator}

@@ -3,10 +3,10 @@ use Rattle.std.specs.Prelude.{◌≡◌, ℕ, ◌+◌, ◌≤◌, ◌==◌, cond
 use mathlib.Core.Option.{some}
 use lib.ListN.{get_elem?}
 use Rattle.comp_mutator.specs.Builder.{Ghosts}
-use Rattle.cell_steps.specs.Setup.{Setup}
-use Rattle.cell_steps.specs.Passes.{did}
-use Rattle.cell_steps.specs.declared.pass.Pass.{Pass}
-use Rattle.page_cells.specs.Calls.{Grows}
+use Rattle.comp_mutator.specs.Setup.{Setup}
+use Rattle.comp_mutator.specs.Passes.{did}
+use Rattle.comp_mutator.specs.Pass.{Pass}
+use Rattle.comp_mutator.specs.Calls.{Grows}
 use Rattle.comp_mutator.specs.Mutators.{pass_of, setup_of}
 use Rattle.comp_mutator.specs.declared.mutator.Mutator.{Mutator}
 use Rattle.comp_mutator.specs.Refusal.TheVariants.{Busy}

@@ -2,7 +2,7 @@
 ghost use Rattle.std.specs.Prelude.{◌≡◌, ℕ, ◌≤◌, [], map, length, IfErr, IfOk, vec_capacity};
 ghost use mathlib.Core.Option.{some};
 ghost use lib.ListN.{get_elem?};
-ghost use Rattle.cell_steps.specs.Lists.{Each};
+ghost use Rattle.comp_mutator.specs.Lists.{Each};
 ghost use Rattle.comp_mutator.specs.Mutators.{setup_of};
 ghost use Rattle.trace_race.specs.Chains.{AreChained};
 ghost use Rattle.trace_race.specs.Races.{HaveRaced};

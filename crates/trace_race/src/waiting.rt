@@ -1,8 +1,8 @@
 //! What one mutator does for a line, where it waits for busy pages.
 ghost use Rattle.std.specs.Prelude.{◌≡◌, ℕ, IfErr, IfOk, IsErrOf, OnErr};
-ghost use Rattle.cell_steps.specs.Passes.{did};
-ghost use Rattle.cell_steps.specs.Setup.{Setup};
-ghost use Rattle.page_cells.specs.Calls.{Grows};
+ghost use Rattle.comp_mutator.specs.Passes.{did};
+ghost use Rattle.comp_mutator.specs.Setup.{Setup};
+ghost use Rattle.comp_mutator.specs.Calls.{Grows};
 ghost use Rattle.comp_mutator.specs.Mutators.{pass_of, setup_of, IsMutatorOf};
 ghost use Rattle.comp_mutator.specs.Refusal.TheVariants.{Busy};
 ghost use Rattle.trace_steps.specs.Acting.{registers_after, Fits, Refuses, Steps};

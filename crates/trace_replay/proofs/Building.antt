@@ -4,13 +4,13 @@ use Rattle.std.specs.Prelude.{IsSome}
 use Rattle.std.specs.List.{range_with_len}
 use mathlib.Core.Option.{some}
 use lib.ListN.{get_elem?}
-use Rattle.cell_steps.specs.Closing.{page_at}
-use Rattle.cell_steps.specs.Lists.{times, total}
-use Rattle.cell_steps.specs.Passes.{builds_of}
-use Rattle.cell_steps.specs.Setup.{Setup}
-use Rattle.cell_steps.specs.View.{Slot}
-use Rattle.cell_steps.proofs.Sums.{there_at}
-use Rattle.page_cells.proofs.Rows.{at_map}
+use Rattle.comp_mutator.specs.Closing.{page_at}
+use Rattle.comp_mutator.specs.Lists.{times, total}
+use Rattle.comp_mutator.specs.Passes.{builds_of}
+use Rattle.comp_mutator.specs.Setup.{Setup}
+use Rattle.comp_mutator.specs.View.{Slot}
+use Rattle.comp_mutator.proofs.Sums.{there_at}
+use Rattle.comp_mutator.proofs.Rows.{at_map}
 use Rattle.comp_mutator.specs.Finishes.{builds_in, pages_of, there, HasPages}
 use Rattle.comp_mutator.specs.Mutators.{pass_of}
 use Rattle.comp_mutator.specs.Finished.{Finished}

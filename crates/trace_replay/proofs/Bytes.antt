@@ -6,11 +6,11 @@ use Rattle.heap_layout.specs.Encoding.{ImagesDiffer}
 use Rattle.heap_layout.specs.Heap.{Heap}
 use Rattle.page_plan.specs.declared.builder.Builder.{Ghosts}
 use Rattle.comp_mutator.specs.Entry.{Entry}
-use Rattle.cell_steps.specs.Lists.{on}
-use Rattle.cell_steps.specs.Setup.{Setup}
-use Rattle.cell_steps.specs.Passes.{number_of, view_of}
-use Rattle.cell_steps.proofs.Sums.{is_inside, read_at, there_at}
-use Rattle.comp_history.specs.Merged.{written_by}
+use Rattle.comp_mutator.specs.Lists.{on}
+use Rattle.comp_mutator.specs.Setup.{Setup}
+use Rattle.comp_mutator.specs.Passes.{number_of, view_of}
+use Rattle.comp_mutator.proofs.Sums.{is_inside, read_at, there_at}
+use Rattle.comp_mutator.specs.Merged.{written_by}
 use Rattle.comp_mutator.specs.Mutators.{pass_of, setup_of, IsMutatorOf}
 use Rattle.comp_mutator.specs.declared.mutator.Mutator.{Mutator}
 use Rattle.comp_mutator.specs.declared.space.Space.{Space}

@@ -18,16 +18,16 @@ use Rattle.page_plan.specs.Sliding.{to_address}
 use Rattle.page_plan.proofs.Shapes.{shape-behind}
 use Rattle.comp_mutator.specs.Entry.{Entry}
 use Rattle.comp_mutator.specs.Journal.{replayed, written}
-use Rattle.cell_steps.specs.Setup.{Setup, base_of, address, fresh_page}
-use Rattle.cell_steps.specs.Lists.{but, by, on}
-use Rattle.cell_steps.specs.Lawful.{kinds_by, kinds_in, kinds_of_header, filled, Fits, IsFreshOf, IsNext, LawfulAfter}
-use Rattle.cell_steps.specs.Locks.{Journals}
-use Rattle.page_cells.specs.Objects.{page_at, offset_at, word_at, HasHeader, HasShape, HasSlid}
-use Rattle.page_cells.proofs.Rows.{at_map, at_map_back}
-use Rattle.comp_access.specs.Allocations.{own_page}
-use Rattle.comp_access.specs.Fields.{place_of, IsFieldOf}
-use Rattle.comp_access.specs.Reads.{Reads}
-use Rattle.comp_access.proofs.OwnPages.{filled_append, on_append, own_fresh, read_back}
+use Rattle.comp_mutator.specs.Setup.{Setup, base_of, address, fresh_page}
+use Rattle.comp_mutator.specs.Lists.{but, by, on}
+use Rattle.comp_mutator.specs.Lawful.{kinds_by, kinds_in, kinds_of_header, filled, Fits, IsFreshOf, IsNext, LawfulAfter}
+use Rattle.comp_mutator.specs.Locks.{Journals}
+use Rattle.comp_mutator.specs.Objects.{page_at, offset_at, word_at, HasHeader, HasShape, HasSlid}
+use Rattle.comp_mutator.proofs.Rows.{at_map, at_map_back}
+use Rattle.comp_mutator.specs.Allocations.{own_page}
+use Rattle.comp_mutator.specs.Fields.{place_of, IsFieldOf}
+use Rattle.comp_mutator.specs.Reads.{Reads}
+use Rattle.comp_mutator.proofs.OwnPages.{filled_append, on_append, own_fresh, read_back}
 use Rattle.trace_steps.specs.Acting.{registers_after, shown_at}
 use Rattle.trace_steps.specs.Builds.{built_after, kind_if, touched}
 use Rattle.trace_steps.proofs.MadeObjects.{no_header}

@@ -7,16 +7,16 @@ use lib.ListN.{get_elem?}
 use Rattle.heap_layout.specs.Header.{Head, header_with}
 use Rattle.heap_layout.specs.declared.kind.Kind.{Kind}
 use Rattle.comp_mutator.specs.Entry.{Entry}
-use Rattle.cell_steps.specs.Lists.{on}
-use Rattle.cell_steps.specs.Locks.{Journals}
-use Rattle.cell_steps.specs.Passes.{did}
-use Rattle.cell_steps.specs.Setup.{Setup}
-use Rattle.cell_steps.specs.declared.pass.Pass.{Pass}
-use Rattle.cell_steps.proofs.Sums.{there_at}
-use Rattle.comp_history.specs.Merged.{history, stamp_of, written_by, CanMerge}
-use Rattle.comp_history.proofs.Merging.{rises_all}
-use Rattle.comp_history.proofs.Pages.{on_in}
-use Rattle.comp_history.proofs.Sorted.{filter_has, in_filter, in_parts, same_rising, In, Rise}
+use Rattle.comp_mutator.specs.Lists.{on}
+use Rattle.comp_mutator.specs.Locks.{Journals}
+use Rattle.comp_mutator.specs.Passes.{did}
+use Rattle.comp_mutator.specs.Setup.{Setup}
+use Rattle.comp_mutator.specs.Pass.{Pass}
+use Rattle.comp_mutator.proofs.Sums.{there_at}
+use Rattle.comp_mutator.specs.Merged.{history, stamp_of, written_by, CanMerge}
+use Rattle.comp_mutator.proofs.Merging.{rises_all}
+use Rattle.comp_mutator.proofs.Pages.{on_in}
+use Rattle.comp_mutator.proofs.Sorted.{filter_has, in_filter, in_parts, same_rising, In, Rise}
 use Rattle.comp_mutator.specs.Finishes.{history_of, journals_of, IsFinished}
 use Rattle.comp_mutator.specs.Finished.{Finished}
 use Rattle.trace_replay.specs.Bytes.{no_entries}

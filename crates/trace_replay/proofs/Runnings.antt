@@ -8,12 +8,12 @@ use Rattle.heap_layout.specs.Heap.{live, Heap, IsClosed}
 use Rattle.page_plan.specs.Sliding as sliding
 use Rattle.page_plan.specs.declared.builder.Builder.{Ghosts}
 use Rattle.comp_mutator.specs.Entry.{Entry}
-use Rattle.cell_steps.specs.Passes.{did}
-use Rattle.cell_steps.specs.Setup.{Setup}
-use Rattle.cell_steps.specs.declared.pass.Pass.{Pass}
-use Rattle.cell_steps.proofs.Sums.{is_inside, there_at}
-use Rattle.page_cells.proofs.Rows.{at_map_back}
-use Rattle.comp_history.specs.Merged.{written_by}
+use Rattle.comp_mutator.specs.Passes.{did}
+use Rattle.comp_mutator.specs.Setup.{Setup}
+use Rattle.comp_mutator.specs.Pass.{Pass}
+use Rattle.comp_mutator.proofs.Sums.{is_inside, there_at}
+use Rattle.comp_mutator.proofs.Rows.{at_map_back}
+use Rattle.comp_mutator.specs.Merged.{written_by}
 use Rattle.comp_mutator.specs.Finishes.{history_of, IsFinished}
 use Rattle.comp_mutator.specs.Finished.{Finished}
 use Rattle.comp_mutator.specs.Mutators.{pass_of, setup_of}

@@ -6,14 +6,14 @@ use native.Mathlib.Decide.{ℕ_discrete}
 use mathlib.Core.Logic.{dite}
 use mathlib.Core.Option.{some-injective}
 use Rattle.comp_mutator.specs.Entry.{Entry}
-use Rattle.cell_steps.specs.Lists.{but, on}
-use Rattle.cell_steps.specs.Locks.{Journals}
-use Rattle.cell_steps.specs.Setup.{Setup}
-use Rattle.cell_steps.specs.declared.pass.Pass.{Pass}
-use Rattle.cell_steps.proofs.Sums.{is_inside, there_at}
-use Rattle.page_cells.proofs.Growing.{grows_none, grows_then}
-use Rattle.comp_history.specs.Merged.{written_by}
-use Rattle.comp_access.proofs.OwnPages.{on_append}
+use Rattle.comp_mutator.specs.Lists.{but, on}
+use Rattle.comp_mutator.specs.Locks.{Journals}
+use Rattle.comp_mutator.specs.Setup.{Setup}
+use Rattle.comp_mutator.specs.Pass.{Pass}
+use Rattle.comp_mutator.proofs.Sums.{is_inside, there_at}
+use Rattle.comp_mutator.proofs.Growing.{grows_none, grows_then}
+use Rattle.comp_mutator.specs.Merged.{written_by}
+use Rattle.comp_mutator.proofs.OwnPages.{on_append}
 use Rattle.comp_mutator.specs.Mutators.{pass_of}
 use Rattle.comp_mutator.specs.declared.mutator.Mutator.{Mutator}
 use Rattle.comp_mutator.specs.Refusal.{Refusal}

@@ -5,13 +5,13 @@ use lib.ListN.{get_elem?}
 use Rattle.heap_layout.specs.Encoding.{encoding, AreCounted}
 use Rattle.heap_layout.specs.Heap.{live, Heap, IsStored}
 use Rattle.page_plan.specs.Sliding.{pages}
-use Rattle.cell_steps.specs.Locks.{Journals}
-use Rattle.cell_steps.specs.Passes.{did, number_of, seen, view_of, HasSeenBuilt, KnowsFresh}
-use Rattle.cell_steps.specs.Setup.{Setup}
-use Rattle.cell_steps.specs.declared.pass.Pass.{Pass}
-use Rattle.page_cells.specs.Calls.{Grows}
-use Rattle.cell_steps.specs.Lawful.{HasHead}
-use Rattle.comp_history.specs.Merged.{written_by}
+use Rattle.comp_mutator.specs.Locks.{Journals}
+use Rattle.comp_mutator.specs.Passes.{did, number_of, seen, view_of, HasSeenBuilt, KnowsFresh}
+use Rattle.comp_mutator.specs.Setup.{Setup}
+use Rattle.comp_mutator.specs.Pass.{Pass}
+use Rattle.comp_mutator.specs.Calls.{Grows}
+use Rattle.comp_mutator.specs.Lawful.{HasHead}
+use Rattle.comp_mutator.specs.Merged.{written_by}
 use Rattle.comp_mutator.specs.Refusal.{Refusal}
 use Rattle.trace_steps.specs.Acting.{Refuses}
 use Rattle.trace_steps.specs.Builds.{is_built}

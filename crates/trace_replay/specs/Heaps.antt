@@ -2,7 +2,7 @@
 use Rattle.std.specs.Prelude.{◌≡◌, ℕ, List, length, map}
 use Rattle.std.specs.List.{range_with_len}
 use Rattle.heap_layout.specs.Heap.{Heap, IsClosed}
-use Rattle.cell_steps.specs.declared.pass.Pass.{Pass}
+use Rattle.comp_mutator.specs.Pass.{Pass}
 use Rattle.comp_mutator.specs.Finishes.{builds_in, history_of, IsFinished}
 use Rattle.comp_mutator.specs.Finished.{Finished}
 use Rattle.trace_steps.specs.Builds.{built_by}

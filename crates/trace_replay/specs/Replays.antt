@@ -2,10 +2,10 @@
 use Rattle.std.specs.Prelude.{◌≡◌, ℕ, ◌+◌, ◌<◌, true, List, [], ◌∷◌, ◌++◌, length, take}
 use mathlib.Core.Option.{some}
 use lib.ListN.{get_elem?, get_or}
-use Rattle.cell_steps.specs.Setup.{Setup}
-use Rattle.cell_steps.specs.Locks.{Journals}
-use Rattle.cell_steps.specs.Passes.{HasSeenBuilt}
-use Rattle.comp_history.specs.Merged.{written_by}
+use Rattle.comp_mutator.specs.Setup.{Setup}
+use Rattle.comp_mutator.specs.Locks.{Journals}
+use Rattle.comp_mutator.specs.Passes.{HasSeenBuilt}
+use Rattle.comp_mutator.specs.Merged.{written_by}
 use Rattle.comp_mutator.specs.declared.mutator.Mutator.{Mutator}
 use Rattle.comp_mutator.specs.Refusal.{Refusal}
 use Rattle.trace_steps.specs.Builds.{is_built, HaveBuilt, HaveSeenBuilt}

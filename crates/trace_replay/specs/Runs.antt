@@ -3,10 +3,10 @@ use Rattle.std.specs.Prelude.{◌≡◌, ℕ, ◌+◌, ◌<◌, List, [], ◌∷
 use Rattle.heap_layout.specs.Heap.{live}
 use Rattle.page_plan.specs.Sliding as sliding
 use Rattle.comp_mutator.specs.Entry.{Entry}
-use Rattle.cell_steps.specs.Setup.{Setup}
-use Rattle.cell_steps.specs.Lists.{but}
-use Rattle.cell_steps.specs.Lawful.{IsLawful}
-use Rattle.cell_steps.specs.Locks.{Journals}
+use Rattle.comp_mutator.specs.Setup.{Setup}
+use Rattle.comp_mutator.specs.Lists.{but}
+use Rattle.comp_mutator.specs.Lawful.{IsLawful}
+use Rattle.comp_mutator.specs.Locks.{Journals}
 use Rattle.trace_steps.specs.Acting.{null_registers, registers_after, shown_at}
 use Rattle.trace_steps.specs.Builds.{built_after, touched}
 use Rattle.trace_text.specs.declared.line.Line.{Line}

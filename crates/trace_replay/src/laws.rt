@@ -1,6 +1,6 @@
 //! Laws of runs, each the contract of a function that does nothing.
 ghost use Rattle.std.specs.Prelude.{List};
-ghost use Rattle.cell_steps.specs.Setup.{Setup};
+ghost use Rattle.comp_mutator.specs.Setup.{Setup};
 ghost use Rattle.trace_replay.specs.Bytes.{ShowOnce};
 ghost use Rattle.trace_replay.specs.Runs.{IsDetermined};
 ghost use Rattle.trace_text.specs.declared.line.Line.{Line};

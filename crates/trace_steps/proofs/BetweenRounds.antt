@@ -5,15 +5,15 @@ use Rattle.std.proofs.lemmas.List.{append-nil}
 use native.Mathlib.Decide.{ℕ_discrete}
 use mathlib.Core.Logic.{dite}
 use Rattle.comp_mutator.specs.Entry.{Entry}
-use Rattle.cell_steps.specs.Lists.{by, on, Rises, StartsWith}
-use Rattle.cell_steps.specs.Locks.{Journals}
-use Rattle.cell_steps.specs.Passes.{did, number_of, seen}
-use Rattle.cell_steps.specs.declared.pass.Pass.{Pass}
-use Rattle.cell_steps.specs.declared.steps.Steps.{Steps}
-use Rattle.cell_steps.proofs.Joined.{by_none}
-use Rattle.page_cells.proofs.Growing.{begins_then}
-use Rattle.page_cells.proofs.Meetings.{between}
-use Rattle.page_cells.specs.Cells.{Works}
+use Rattle.comp_mutator.specs.Lists.{by, on, Rises, StartsWith}
+use Rattle.comp_mutator.specs.Locks.{Journals}
+use Rattle.comp_mutator.specs.Passes.{did, number_of, seen}
+use Rattle.comp_mutator.specs.Pass.{Pass}
+use Rattle.comp_mutator.specs.Steps.{Steps}
+use Rattle.comp_mutator.proofs.Joined.{by_none}
+use Rattle.comp_mutator.proofs.Growing.{begins_then}
+use Rattle.comp_mutator.proofs.Meetings.{between}
+use Rattle.comp_mutator.specs.Cells.{Works}
 use Rattle.trace_steps.specs.Deeds.{AreMerged, Deeds, IsMerged}
 use Rattle.trace_steps.specs.Rounds.{Met}
 use Rattle.trace_steps.specs.Lines.{IsAboveAll}

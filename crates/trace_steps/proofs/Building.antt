@@ -10,16 +10,16 @@ use Rattle.heap_layout.specs.Heap.{live}
 use Rattle.heap_layout.specs.declared.kind.Kind.{Kind}
 use Rattle.heap_layout.specs.Header.{Head}
 use Rattle.comp_mutator.specs.Sliding.{shape_at}
-use Rattle.cell_steps.specs.Lists.{only, times}
-use Rattle.cell_steps.specs.Passes.{builds_of, number_of, HasSeenBuilt}
-use Rattle.cell_steps.specs.Setup.{Setup, address}
-use Rattle.cell_steps.specs.declared.pass.Pass.{Pass}
-use Rattle.cell_steps.proofs.Sums.{times-other, total-append}
-use Rattle.page_cells.specs.Calls.{Grows}
-use Rattle.page_cells.specs.Objects.{page_at}
-use Rattle.comp_access.specs.Allocations.{own_page, used, Allocates}
-use Rattle.comp_access.specs.Fields.{place_of}
-use Rattle.comp_access.specs.Reads.{BuildsNothing, BuildsPage, MayBuild, MayBuildTouched}
+use Rattle.comp_mutator.specs.Lists.{only, times}
+use Rattle.comp_mutator.specs.Passes.{builds_of, number_of, HasSeenBuilt}
+use Rattle.comp_mutator.specs.Setup.{Setup, address}
+use Rattle.comp_mutator.specs.Pass.{Pass}
+use Rattle.comp_mutator.proofs.Sums.{times-other, total-append}
+use Rattle.comp_mutator.specs.Calls.{Grows}
+use Rattle.comp_mutator.specs.Objects.{page_at}
+use Rattle.comp_mutator.specs.Allocations.{own_page, used, Allocates}
+use Rattle.comp_mutator.specs.Fields.{place_of}
+use Rattle.comp_mutator.specs.Reads.{BuildsNothing, BuildsPage, MayBuild, MayBuildTouched}
 use Rattle.trace_steps.specs.Builds.{built_after, built_by, is_built, slid_page, BuildsTouched}
 use Rattle.trace_steps.specs.Rounds.{Met}
 

@@ -4,9 +4,9 @@ use Rattle.std.proofs.lemmas.List.{length-map}
 use Rattle.heap_layout.specs.Heap.{Heap, live}
 use Rattle.comp_mutator.specs.Sliding.{forward}
 use Rattle.comp_mutator.specs.Builder.{Ghosts}
-use Rattle.cell_steps.specs.declared.steps.Steps.{Steps}
-use Rattle.page_cells.specs.Cells.{steps_of, AreNew}
-use Rattle.page_cells.proofs.Rows.{at_map}
+use Rattle.comp_mutator.specs.Steps.{Steps}
+use Rattle.comp_mutator.specs.Cells.{steps_of, AreNew}
+use Rattle.comp_mutator.proofs.Rows.{at_map}
 use Rattle.comp_mutator.specs.Forwarded.{AreForwarded}
 use Rattle.comp_mutator.specs.Mutators.{cells_of, pass_of, setup_of, AreMutatorsOf}
 use Rattle.comp_mutator.specs.declared.mutator.Mutator.{Mutator}

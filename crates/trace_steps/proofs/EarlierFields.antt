@@ -10,11 +10,11 @@ use Rattle.heap_layout.specs.declared.kind.Kind.TheVariants.{Header}
 use Rattle.heap_layout.specs.Header.{Head}
 use Rattle.heap_layout.specs.declared.edition.Edition.{Edition}
 use Rattle.comp_mutator.specs.Entry.{Entry}
-use Rattle.cell_steps.specs.Lists.{on}
-use Rattle.cell_steps.specs.Locks.{Journals}
-use Rattle.cell_steps.specs.Setup.{Setup}
-use Rattle.page_cells.specs.Objects.{page_at, offset_at, HasHeader, HasShape}
-use Rattle.comp_access.specs.Fields.{IsFieldOf}
+use Rattle.comp_mutator.specs.Lists.{on}
+use Rattle.comp_mutator.specs.Locks.{Journals}
+use Rattle.comp_mutator.specs.Setup.{Setup}
+use Rattle.comp_mutator.specs.Objects.{page_at, offset_at, HasHeader, HasShape}
+use Rattle.comp_mutator.specs.Fields.{IsFieldOf}
 use Rattle.trace_steps.specs.Lines.{with_entries}
 
 at_before : (j : List Entry) (i : ℕ) (e x : Entry) → get_elem? (j ++ x ∷ []) i ≡ maybe.some e → (x.kind ≡ Header → ⊥) → e.kind ≡ Header → get_elem? j i ≡ maybe.some e

@@ -3,7 +3,7 @@ use Rattle.std.proofs.Common.{◌≡◌, ℕ, zero, suc, ◌<◌, ◌&&◌, Bool
 use Rattle.std.specs.Prelude.{is_ok}
 use Rattle.std.proofs.lemmas.Bool.{leb-false, or_parts}
 use Rattle.std.specs.List.{list_all, list_any}
-use Rattle.cell_steps.specs.Setup.{Setup}
+use Rattle.comp_mutator.specs.Setup.{Setup}
 use Rattle.trace_steps.specs.Acting.{Fits}
 use Rattle.trace_steps.specs.Traces.{AllFit}
 use Rattle.trace_text.specs.Grammar.{is_too_large, is_within, registers_of, roots_of}

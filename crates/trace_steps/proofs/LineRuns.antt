@@ -8,20 +8,20 @@ use Rattle.heap_layout.specs.Header.{header_with, size_of, Head}
 use Rattle.heap_layout.specs.declared.kind.Kind.{Kind}
 use Rattle.heap_layout.specs.declared.kind.Kind.TheVariants.{Header, Data}
 use Rattle.comp_mutator.specs.Entry.{Entry}
-use Rattle.cell_steps.specs.Setup.{Setup, address}
-use Rattle.cell_steps.specs.Lawful.{filled, HasHead}
-use Rattle.cell_steps.specs.Lists.{on}
-use Rattle.cell_steps.specs.Locks.{Journals}
-use Rattle.cell_steps.specs.Passes.{did, number_of, seen, KnowsFresh}
-use Rattle.cell_steps.specs.declared.pass.Pass.{Pass}
-use Rattle.cell_steps.specs.declared.steps.Steps.{Steps}
-use Rattle.page_cells.specs.Objects.{page_at, offset_at}
-use Rattle.page_cells.proofs.Growing.{grows_none, grows_then}
+use Rattle.comp_mutator.specs.Setup.{Setup, address}
+use Rattle.comp_mutator.specs.Lawful.{filled, HasHead}
+use Rattle.comp_mutator.specs.Lists.{on}
+use Rattle.comp_mutator.specs.Locks.{Journals}
+use Rattle.comp_mutator.specs.Passes.{did, number_of, seen, KnowsFresh}
+use Rattle.comp_mutator.specs.Pass.{Pass}
+use Rattle.comp_mutator.specs.Steps.{Steps}
+use Rattle.comp_mutator.specs.Objects.{page_at, offset_at}
+use Rattle.comp_mutator.proofs.Growing.{grows_none, grows_then}
 use Rattle.comp_mutator.specs.Merged.{written_by}
-use Rattle.comp_access.specs.Fields.{IsFieldOf}
-use Rattle.comp_access.specs.Reads.{Reads}
-use Rattle.comp_access.specs.Writes.{entry_by, Adds, Writes}
-use Rattle.comp_access.specs.Allocations.{own_page, used, Allocates, AllocatesAsked}
+use Rattle.comp_mutator.specs.Fields.{IsFieldOf}
+use Rattle.comp_mutator.specs.Reads.{Reads}
+use Rattle.comp_mutator.specs.Writes.{entry_by, Adds, Writes}
+use Rattle.comp_mutator.specs.Allocations.{own_page, used, Allocates, AllocatesAsked}
 use Rattle.trace_steps.specs.Acting.{Answers}
 use Rattle.trace_steps.specs.Deeds.{AreMerged, KnowsMade}
 use Rattle.trace_steps.specs.Rounds.{Advances, Learns, Met}

@@ -9,14 +9,14 @@ use native.Mathlib.Decide.{ℕ_discrete}
 use lib.ListN.{get_elem?}
 use Rattle.heap_layout.specs.declared.kind.Kind.TheVariants.{Header}
 use Rattle.comp_mutator.specs.Entry.{Entry}
-use Rattle.cell_steps.specs.Lists.{by, on}
-use Rattle.cell_steps.specs.Setup.{Setup}
-use Rattle.cell_steps.specs.declared.pass.Pass.{Pass}
-use Rattle.cell_steps.specs.Passes.{did, KnowsFresh}
-use Rattle.page_cells.specs.Calls.{Grows}
-use Rattle.cell_steps.specs.Lawful.{HasHead}
-use Rattle.comp_access.proofs.OwnPages.{on_append}
-use Rattle.comp_access.specs.Allocations.{AllocatesAsked}
+use Rattle.comp_mutator.specs.Lists.{by, on}
+use Rattle.comp_mutator.specs.Setup.{Setup}
+use Rattle.comp_mutator.specs.Pass.{Pass}
+use Rattle.comp_mutator.specs.Passes.{did, KnowsFresh}
+use Rattle.comp_mutator.specs.Calls.{Grows}
+use Rattle.comp_mutator.specs.Lawful.{HasHead}
+use Rattle.comp_mutator.proofs.OwnPages.{on_append}
+use Rattle.comp_mutator.specs.Allocations.{AllocatesAsked}
 use Rattle.heap_layout.specs.Header.{header_with, Head}
 use Rattle.trace_steps.specs.Builds.{kind_if}
 use Rattle.comp_mutator.specs.Refusal.{Refusal}

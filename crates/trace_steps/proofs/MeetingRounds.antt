@@ -5,11 +5,11 @@ use Rattle.std.proofs.lemmas.List.{append-nil}
 use native.Mathlib.Decide.{ℕ_discrete}
 use mathlib.Core.Logic.{dite, ⊎_elim}
 use Rattle.comp_mutator.specs.Entry.{Entry}
-use Rattle.cell_steps.specs.Lists.{StartsWith}
-use Rattle.cell_steps.specs.Passes.{builds_of, did, seen, HasSeenBuilt, KnowsFresh}
-use Rattle.cell_steps.specs.declared.pass.Pass.{Pass}
-use Rattle.page_cells.specs.Calls.{Grows, Meets}
-use Rattle.page_cells.proofs.Growing.{begins_then, grows_none, grows_then}
+use Rattle.comp_mutator.specs.Lists.{StartsWith}
+use Rattle.comp_mutator.specs.Passes.{builds_of, did, seen, HasSeenBuilt, KnowsFresh}
+use Rattle.comp_mutator.specs.Pass.{Pass}
+use Rattle.comp_mutator.specs.Calls.{Grows, Meets}
+use Rattle.comp_mutator.proofs.Growing.{begins_then, grows_none, grows_then}
 use Rattle.trace_steps.specs.Rounds.{Met}
 
 -- a list begins with what equals it

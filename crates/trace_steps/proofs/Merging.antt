@@ -7,10 +7,10 @@ use Rattle.std.proofs.lemmas.Bool.{cases_lt, eq-eqb, ne_eqb}
 use native.Mathlib.Decide.{ℕ_discrete}
 use mathlib.Core.Logic.{dite}
 use Rattle.comp_mutator.specs.Entry.{Entry}
-use Rattle.cell_steps.specs.Lists.{by, on, Rises, StartsWith}
-use Rattle.cell_steps.proofs.Joined.{by-append}
-use Rattle.page_cells.proofs.Meetings.{between}
-use Rattle.comp_access.proofs.OwnPages.{on_append}
+use Rattle.comp_mutator.specs.Lists.{by, on, Rises, StartsWith}
+use Rattle.comp_mutator.proofs.Joined.{by-append}
+use Rattle.comp_mutator.proofs.Meetings.{between}
+use Rattle.comp_mutator.proofs.OwnPages.{on_append}
 use Rattle.trace_steps.specs.Deeds.{Deeds, IsMerged}
 
 by_begins : (k : ℕ) (a b : List Entry) → StartsWith b a → StartsWith (by k b) (by k a)

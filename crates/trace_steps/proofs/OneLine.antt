@@ -2,23 +2,23 @@
 use Rattle.std.proofs.Common.{◌≡◌, ℕ, ◌<◌, ◌≤◌, List, length, map, get_or, IfErr, IfOk, Result, Ok, Err, Some, refl, sym, ap, ◌∙◌, arith, subst}
 use mathlib.Core.Option.{some}
 use lib.ListN.{get_elem?}
-use Rattle.cell_steps.proofs.Sums.{is_inside, read_at}
-use Rattle.page_cells.proofs.Rows.{at_map, at_map_back}
+use Rattle.comp_mutator.proofs.Sums.{is_inside, read_at}
+use Rattle.comp_mutator.proofs.Rows.{at_map, at_map_back}
 use Rattle.std.specs.Prelude.{Bool, Option, None, OnErr, OnOk}
 use Rattle.heap_layout.specs.Heap.{live}
 use Rattle.heap_layout.specs.Header.{header_with, Head}
 use Rattle.comp_mutator.specs.Sliding.{forward}
 use Rattle.heap_layout.specs.declared.kind.Kind.{Kind}
 use Rattle.heap_layout.specs.declared.kind.Kind.TheVariants.{Data}
-use Rattle.cell_steps.specs.Setup.{Setup}
-use Rattle.cell_steps.specs.Passes.{did, seen, MayRefer}
-use Rattle.cell_steps.specs.declared.pass.Pass.{Pass}
-use Rattle.page_cells.specs.Calls.{Grows}
-use Rattle.page_cells.specs.Objects.{page_at}
-use Rattle.page_cells.proofs.Growing.{grows_none}
-use Rattle.comp_access.specs.Allocations.{AllocatesAsked}
-use Rattle.comp_access.specs.Reads.{FieldRefused, MayBuildTouched, Reads}
-use Rattle.comp_access.specs.Writes.{ReferenceRefused, Writes}
+use Rattle.comp_mutator.specs.Setup.{Setup}
+use Rattle.comp_mutator.specs.Passes.{did, seen, MayRefer}
+use Rattle.comp_mutator.specs.Pass.{Pass}
+use Rattle.comp_mutator.specs.Calls.{Grows}
+use Rattle.comp_mutator.specs.Objects.{page_at}
+use Rattle.comp_mutator.proofs.Growing.{grows_none}
+use Rattle.comp_mutator.specs.Allocations.{AllocatesAsked}
+use Rattle.comp_mutator.specs.Reads.{FieldRefused, MayBuildTouched, Reads}
+use Rattle.comp_mutator.specs.Writes.{ReferenceRefused, Writes}
 use Rattle.comp_mutator.specs.Refusal.{Refusal}
 use Rattle.trace_steps.specs.Acting.{shown_at, Steps}
 use Rattle.trace_steps.specs.Builds.{kind_if, slid_page, BuildsTouched}

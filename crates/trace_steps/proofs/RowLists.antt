@@ -5,13 +5,13 @@ use mathlib.Core.Option.{some}
 use lib.ListN.{get_elem?}
 use Rattle.comp_mutator.specs.Builder.{Ghosts}
 use Rattle.comp_mutator.specs.Entry.{Entry}
-use Rattle.cell_steps.specs.Locks.{Journals}
-use Rattle.cell_steps.specs.Lists.{times}
-use Rattle.cell_steps.specs.Passes.{builds_of, did, number_of, HasSeenBuilt}
-use Rattle.cell_steps.specs.Setup.{Setup}
-use Rattle.cell_steps.specs.declared.pass.Pass.{Pass}
-use Rattle.cell_steps.proofs.Sums.{is_inside, read_at}
-use Rattle.page_cells.specs.Cells.{steps_of, Works}
+use Rattle.comp_mutator.specs.Locks.{Journals}
+use Rattle.comp_mutator.specs.Lists.{times}
+use Rattle.comp_mutator.specs.Passes.{builds_of, did, number_of, HasSeenBuilt}
+use Rattle.comp_mutator.specs.Setup.{Setup}
+use Rattle.comp_mutator.specs.Pass.{Pass}
+use Rattle.comp_mutator.proofs.Sums.{is_inside, read_at}
+use Rattle.comp_mutator.specs.Cells.{steps_of, Works}
 use Rattle.comp_mutator.specs.Merged.{written_by}
 use Rattle.comp_mutator.specs.Mutators.{cells_of, pass_of, setup_of, AreMutatorsOf}
 use Rattle.comp_mutator.specs.declared.mutator.Mutator.{Mutator}

@@ -4,13 +4,13 @@ use Rattle.std.specs.Prelude.{◌⊎◌, IfErr, OnErr, Option, Result, Ok, Err}
 use native.Mathlib.Decide.{ℕ_discrete}
 use mathlib.Core.Logic.{dite}
 use Rattle.comp_mutator.specs.Builder.{Ghosts}
-use Rattle.cell_steps.specs.Locks.{Journals}
-use Rattle.cell_steps.specs.Passes.{did, number_of, seen}
-use Rattle.cell_steps.specs.Setup.{Setup}
-use Rattle.cell_steps.specs.declared.pass.Pass.{Pass}
-use Rattle.cell_steps.proofs.Sums.{is_inside}
-use Rattle.page_cells.specs.Calls.{Grows}
-use Rattle.page_cells.specs.Cells.{steps_of}
+use Rattle.comp_mutator.specs.Locks.{Journals}
+use Rattle.comp_mutator.specs.Passes.{did, number_of, seen}
+use Rattle.comp_mutator.specs.Setup.{Setup}
+use Rattle.comp_mutator.specs.Pass.{Pass}
+use Rattle.comp_mutator.proofs.Sums.{is_inside}
+use Rattle.comp_mutator.specs.Calls.{Grows}
+use Rattle.comp_mutator.specs.Cells.{steps_of}
 use Rattle.comp_mutator.specs.Mutators.{cells_of, pass_of, setup_of, AreMutatorsOf}
 use Rattle.comp_mutator.specs.declared.mutator.Mutator.{Mutator}
 use Rattle.comp_mutator.specs.Refusal.{Refusal}

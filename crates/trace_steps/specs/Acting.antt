@@ -4,13 +4,13 @@ use Rattle.heap_layout.specs.Heap.{live}
 use Rattle.heap_layout.specs.Header.{header_with}
 use Rattle.heap_layout.specs.declared.kind.Kind.TheVariants as kinds
 use Rattle.comp_mutator.specs.Sliding.{forward}
-use Rattle.cell_steps.specs.Setup.{Setup}
-use Rattle.cell_steps.specs.Passes.{did, seen, MayRefer}
-use Rattle.cell_steps.specs.declared.pass.Pass.{Pass}
-use Rattle.page_cells.specs.Calls.{Grows}
-use Rattle.comp_access.specs.Allocations.{AllocatesAsked, AskedRefused}
-use Rattle.comp_access.specs.Reads.{FieldRefused, Reads}
-use Rattle.comp_access.specs.Writes.{DataRefused, ReferenceRefused, Writes}
+use Rattle.comp_mutator.specs.Setup.{Setup}
+use Rattle.comp_mutator.specs.Passes.{did, seen, MayRefer}
+use Rattle.comp_mutator.specs.Pass.{Pass}
+use Rattle.comp_mutator.specs.Calls.{Grows}
+use Rattle.comp_mutator.specs.Allocations.{AllocatesAsked, AskedRefused}
+use Rattle.comp_mutator.specs.Reads.{FieldRefused, Reads}
+use Rattle.comp_mutator.specs.Writes.{DataRefused, ReferenceRefused, Writes}
 use Rattle.comp_mutator.specs.Refusal.{Refusal}
 use Rattle.trace_text.specs.declared.line.Action.{Action}
 use Rattle.trace_text.specs.declared.line.Action.TheVariants.{Root, Load, Get, Store, Put, New, Nil}

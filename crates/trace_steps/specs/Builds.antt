@@ -8,14 +8,14 @@ use Rattle.heap_layout.specs.declared.kind.Kind.{Kind}
 use Rattle.heap_layout.specs.declared.kind.Kind.TheVariants.{Reference, Weak, Data}
 use Rattle.heap_layout.specs.Header.{Head}
 use Rattle.comp_mutator.specs.Sliding.{shape_at}
-use Rattle.cell_steps.specs.Lists.{times, Each}
-use Rattle.cell_steps.specs.Passes.{builds_of, HasSeenBuilt}
-use Rattle.cell_steps.specs.Setup.{Setup}
-use Rattle.cell_steps.specs.declared.pass.Pass.{Pass}
-use Rattle.page_cells.specs.Objects.{page_at}
-use Rattle.comp_access.specs.Fields.{place_of}
+use Rattle.comp_mutator.specs.Lists.{times, Each}
+use Rattle.comp_mutator.specs.Passes.{builds_of, HasSeenBuilt}
+use Rattle.comp_mutator.specs.Setup.{Setup}
+use Rattle.comp_mutator.specs.Pass.{Pass}
+use Rattle.comp_mutator.specs.Objects.{page_at}
+use Rattle.comp_mutator.specs.Fields.{place_of}
 use Rattle.comp_mutator.specs.Mutators.{pass_of}
-use Rattle.comp_access.specs.Reads.{BuildsNothing, MayBuild}
+use Rattle.comp_mutator.specs.Reads.{BuildsNothing, MayBuild}
 use Rattle.comp_mutator.specs.declared.mutator.Mutator.{Mutator}
 use Rattle.trace_text.specs.declared.line.Action.{Action}
 use Rattle.trace_text.specs.declared.line.Action.TheVariants.{Root, Load, Get, Store, Put, New, Nil}

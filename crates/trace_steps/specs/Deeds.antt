@@ -1,12 +1,12 @@
 -- What the mutators of a space did, and the journals that have just this.
 use Rattle.std.specs.Prelude.{◌≡◌, ℕ, zero, suc, ◌<◌, ◌≤◌, List, [], ◌∷◌, length}
 use Rattle.comp_mutator.specs.Entry.{Entry}
-use Rattle.cell_steps.specs.Setup.{Setup}
-use Rattle.cell_steps.specs.Lawful.{HasHead, IsLawful}
-use Rattle.cell_steps.specs.Lists.{by, on, Each, Rises}
-use Rattle.cell_steps.specs.Locks.{Journals}
-use Rattle.cell_steps.specs.Passes.{did, seen, KnowsFresh}
-use Rattle.cell_steps.specs.declared.pass.Pass.{Pass}
+use Rattle.comp_mutator.specs.Setup.{Setup}
+use Rattle.comp_mutator.specs.Lawful.{HasHead, IsLawful}
+use Rattle.comp_mutator.specs.Lists.{by, on, Each, Rises}
+use Rattle.comp_mutator.specs.Locks.{Journals}
+use Rattle.comp_mutator.specs.Passes.{did, seen, KnowsFresh}
+use Rattle.comp_mutator.specs.Pass.{Pass}
 use Rattle.comp_mutator.specs.Mutators.{pass_of}
 use Rattle.comp_mutator.specs.declared.mutator.Mutator.{Mutator}
 

@@ -6,14 +6,14 @@ use Rattle.comp_mutator.specs.Sliding as sliding
 use Rattle.heap_layout.specs.declared.kind.Kind.{Kind}
 use Rattle.heap_layout.specs.declared.kind.Kind.TheVariants.{Header, Data}
 use Rattle.comp_mutator.specs.Entry.{Entry}
-use Rattle.cell_steps.specs.Setup.{Setup, address}
-use Rattle.cell_steps.specs.Lists.{by, on}
-use Rattle.cell_steps.specs.Lawful.{filled}
-use Rattle.cell_steps.specs.Locks.{Journals}
-use Rattle.page_cells.specs.Objects.{page_at, offset_at}
-use Rattle.comp_access.specs.Fields.{IsFieldOf}
-use Rattle.comp_access.specs.Reads.{Reads}
-use Rattle.comp_access.specs.Allocations.{own_page}
+use Rattle.comp_mutator.specs.Setup.{Setup, address}
+use Rattle.comp_mutator.specs.Lists.{by, on}
+use Rattle.comp_mutator.specs.Lawful.{filled}
+use Rattle.comp_mutator.specs.Locks.{Journals}
+use Rattle.comp_mutator.specs.Objects.{page_at, offset_at}
+use Rattle.comp_mutator.specs.Fields.{IsFieldOf}
+use Rattle.comp_mutator.specs.Reads.{Reads}
+use Rattle.comp_mutator.specs.Allocations.{own_page}
 use Rattle.trace_steps.specs.Builds.{kind_if}
 use Rattle.trace_text.specs.declared.line.Action.{Action}
 use Rattle.trace_text.specs.declared.line.Action.TheVariants.{Root, Load, Get, Store, Put, New, Nil}

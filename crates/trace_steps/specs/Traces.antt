@@ -1,6 +1,6 @@
 -- What the lines of a trace need of the heap that they are run over.
 use Rattle.std.specs.Prelude.{◌≡◌, ◌<◌, List, All, length}
-use Rattle.cell_steps.specs.Setup.{Setup}
+use Rattle.comp_mutator.specs.Setup.{Setup}
 use Rattle.trace_text.specs.Traces.{mutators_of, roots_of}
 use Rattle.trace_text.specs.declared.line.Line.{Line}
 use Rattle.trace_text.specs.declared.trace.Trace.{Trace}

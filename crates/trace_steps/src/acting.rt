@@ -1,7 +1,7 @@
 //! What one mutator does for a line, where each call is made once.
 ghost use Rattle.std.specs.Prelude.{◌≡◌, IfErr, IfOk, OnErr};
-ghost use Rattle.cell_steps.specs.Passes.{did};
-ghost use Rattle.page_cells.specs.Calls.{Grows};
+ghost use Rattle.comp_mutator.specs.Passes.{did};
+ghost use Rattle.comp_mutator.specs.Calls.{Grows};
 ghost use Rattle.comp_mutator.specs.Mutators.{pass_of, setup_of, IsMutatorOf};
 ghost use Rattle.trace_steps.specs.Acting.{registers_after, Fits, Refuses, Steps};
 

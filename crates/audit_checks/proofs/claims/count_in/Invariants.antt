@@ -1,5 +1,5 @@
 use Rattle.std.proofs.Common.{ℕ, ◌≡◌, ◌+◌, ◌≤◌, min, drop, length, slice_index}
-use Rattle.cell_steps.specs.Lists.{times}
+use Rattle.comp_history.specs.Lists.{times}
 use Rattle.audit_checks.proofs.claims.count_in.Given as goal
 
 abbrev pub invariant-loop-p : goal.invariant-loop-p

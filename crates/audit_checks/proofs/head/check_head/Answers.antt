@@ -4,7 +4,7 @@ use Rattle.std.proofs.lemmas.Bool.{not-true, not-false, eq-eqb}
 use Rattle.heap_layout.specs.Heap.{Heap, live}
 use Rattle.heap_layout.specs.declared.edition.Edition.{Edition}
 use Rattle.page_plan.specs.Sliding.{forward, forwarded}
-use Rattle.cell_steps.specs.Setup.{pages}
+use Rattle.comp_history.specs.Setup.{pages}
 use Rattle.audit_checks.specs.Checks.{is_edition}
 use Rattle.audit_checks.specs.Noted.{setup_at}
 use Rattle.audit_checks.proofs.Meanings.{true_and}

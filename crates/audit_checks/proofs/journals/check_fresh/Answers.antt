@@ -5,8 +5,8 @@ use Rattle.heap_layout.specs.declared.edition.Edition.{Edition}
 use Rattle.heap_layout.specs.declared.kind.Kind.{Kind}
 use Rattle.heap_layout.specs.declared.kind.Kind.TheVariants.{Header}
 use Rattle.comp_journal.specs.declared.entry.Entry.{Entry}
-use Rattle.cell_steps.specs.Setup.{fresh_page}
-use Rattle.cell_steps.specs.Lawful.{kinds_by, kinds_in}
+use Rattle.comp_history.specs.Setup.{fresh_page}
+use Rattle.comp_history.specs.Lawful.{kinds_by, kinds_in}
 use Rattle.audit_checks.specs.Checks.{fits, entry_faults}
 use Rattle.audit_checks.specs.Noted.{setup_at}
 use Rattle.audit_checks.specs.Told.{IsFirst}

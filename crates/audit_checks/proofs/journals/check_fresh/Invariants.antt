@@ -1,5 +1,5 @@
 use Rattle.std.proofs.Common.{◌≡◌, ◌≤◌, take, drop, length, vec_capacity, []}
-use Rattle.cell_steps.specs.Lawful.{kinds_in}
+use Rattle.comp_history.specs.Lawful.{kinds_in}
 use Rattle.audit_checks.specs.Checks.{entry_faults}
 use Rattle.audit_checks.specs.Noted.{setup_at}
 use Rattle.audit_checks.proofs.journals.check_fresh.Given as goal

@@ -1,6 +1,6 @@
 use Rattle.std.proofs.Common.{◌≡◌, ◌∙◌, ap, subst, List, ℕ}
 use Rattle.comp_journal.specs.Journal.{replayed}
-use Rattle.cell_steps.specs.Setup.{base_of}
+use Rattle.comp_history.specs.Setup.{base_of}
 use Rattle.audit_checks.specs.Checks.{same_words}
 use Rattle.audit_checks.specs.Told.{Tells}
 use Rattle.audit_checks.specs.Noted.{setup_at}

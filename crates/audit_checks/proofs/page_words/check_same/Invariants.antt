@@ -1,6 +1,6 @@
 use Rattle.std.proofs.Common.{◌≡◌, ◌==◌, drop, slice_index}
 use Rattle.std.specs.List.{flat_map, enumerate_from}
-use Rattle.cell_steps.specs.Setup.{address}
+use Rattle.comp_history.specs.Setup.{address}
 use Rattle.audit_checks.specs.Checks.{unless, same_words}
 use Rattle.comp_dump.specs.declared.fault.AuditFault.TheVariants.{WrongWord}
 use Rattle.audit_checks.proofs.page_words.check_same.Given as goal

@@ -1,7 +1,7 @@
 use Rattle.std.proofs.Common.{◌≡◌, ◌==◌, ◌||◌, not, drop, None}
 use Rattle.std.specs.Prelude.{slice_index_or}
 use Rattle.std.specs.List.{flat_map, enumerate_from}
-use Rattle.cell_steps.specs.Setup.{address}
+use Rattle.comp_history.specs.Setup.{address}
 use Rattle.audit_checks.specs.Checks.{unless, some_refers, loose_faults}
 use Rattle.audit_checks.specs.Noted.{leads}
 use Rattle.comp_dump.specs.declared.fault.AuditFault.TheVariants.{LooseReference}

@@ -2,8 +2,8 @@ use Rattle.std.proofs.Common.{◌≡◌, ◌≤◌, ◌∙◌, ◌==◌, ◌||�
 use Rattle.std.specs.Prelude.{slice_index_or}
 use Rattle.heap_layout.specs.declared.kind.Kind.{Kind}
 use Rattle.comp_journal.specs.declared.entry.Entry.{Entry}
-use Rattle.cell_steps.specs.Lawful.{filled, kind_at}
-use Rattle.cell_steps.specs.Setup.{address}
+use Rattle.comp_history.specs.Lawful.{filled, kind_at}
+use Rattle.comp_history.specs.Setup.{address}
 use Rattle.comp_history.proofs.JournalKinds.{room_on}
 use Rattle.comp_dump.specs.declared.fault.AuditFault.{AuditFault}
 use Rattle.comp_dump.specs.declared.fault.AuditFault.TheVariants.{LooseReference}

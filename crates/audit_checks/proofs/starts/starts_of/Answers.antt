@@ -1,5 +1,5 @@
 use Rattle.std.proofs.Common.{◌∙◌, sym, subst, arith}
-use Rattle.cell_steps.specs.Lawful.{IsLawful}
+use Rattle.comp_history.specs.Lawful.{IsLawful}
 use Rattle.audit_checks.specs.Noted.{setup_at}
 use Rattle.audit_checks.proofs.Entries.{journal_here}
 use Rattle.audit_checks.proofs.Noting.{headers_covered, notes_none, notes_next}

@@ -1,6 +1,6 @@
 use Rattle.std.proofs.Common.{◌≡◌, ◌+◌, ◌*◌, ◌^◌, ◌≤◌, drop}
 use Rattle.comp_journal.specs.declared.entry.Entry.{Entry}
-use Rattle.cell_steps.specs.Lists.{total}
+use Rattle.comp_history.specs.Lists.{total}
 use Rattle.comp_history.specs.Shares.{words_by}
 use Rattle.audit_checks.proofs.totals.words_on.Given as goal
 

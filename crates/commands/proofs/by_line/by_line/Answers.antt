@@ -3,7 +3,7 @@ use Rattle.std.proofs.lemmas.List.{drop_all, length-replicate}
 use Rattle.std.proofs.lemmas.List.Elements.{All-get_or}
 use Rattle.comp_trace.specs.Line.{Line}
 use Rattle.comp_trace.specs.Action.TheVariants.{Root}
-use Rattle.trace_steps.specs.declared.shown.Shown.{Shown}
+use Rattle.comp_trace.specs.Shown.{Shown}
 use Rattle.commands.specs.ByLine.{AreByLine}
 use Rattle.commands.proofs.Walking.{left_all, left_of, listed, none_there, shown_by, told_behind, told_by_line, walk_on, walked}
 use Rattle.commands.proofs.by_line.by_line.Goals as goal

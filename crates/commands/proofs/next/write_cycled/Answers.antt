@@ -4,12 +4,12 @@ use Rattle.std.specs.Io.KnownBytes.{Appends}
 use Rattle.heap_layout.specs.Counted.{inner_of, failures_of}
 use Rattle.heap_layout.specs.Encoding.{encoding}
 use Rattle.heap_layout.specs.Heap.{Heap}
-use Rattle.comp_access.proofs.Answering.{ok_anyway}
+use Rattle.comp_mutator.proofs.Answering.{ok_anyway}
 use Rattle.command_io.specs.Dumps.{WritesWhole}
 use Rattle.command_io.specs.NewImages.{IsOfWritingImage}
 use Rattle.command_io.specs.Printing.{CountsPrint, named}
 use Rattle.command_io.proofs.Outcomes.{image_created, image_created_line, uncounted_image}
-use Rattle.trace_steps.specs.declared.shown.Shown.{Shown}
+use Rattle.comp_trace.specs.Shown.{Shown}
 use Rattle.commands.specs.Replays.{shown_lines}
 use Rattle.commands.proofs.ReplayRuns.{printed_run, unprinted_halt, unprinted_line}
 use Rattle.commands.proofs.NextRuns.{unprinted_next, writing_image}

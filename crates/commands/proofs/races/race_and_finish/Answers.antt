@@ -2,14 +2,14 @@ use Rattle.std.proofs.Common.{◌<◌, List, All, length, refl, sym, subst, ap, 
 use Rattle.comp_mutator.specs.Unfinished.{IsUnfinishedFor}
 use Rattle.comp_mutator.specs.Mutators.{setup_of}
 use Rattle.comp_mutator.specs.declared.finishing.FinishFault.{FinishFault}
-use Rattle.cell_steps.specs.Lists.{Each}
+use Rattle.comp_mutator.specs.Lists.{Each}
 use Rattle.comp_trace.specs.Traces.{lines_of}
 use Rattle.comp_trace.specs.Line.{Line}
-use Rattle.trace_steps.proofs.Callers.{all_of}
+use Rattle.comp_trace.proofs.Callers.{all_of}
 use Rattle.comp_trace.specs.Run.{Run}
 use Rattle.commands.specs.ByLine.{AreByLine, AreOwn, HasEnded, IsLeastStop}
 use Rattle.commands.proofs.Racing.{all_inside, each_own, many_runs, raced_heap, stopped_race}
-use Rattle.trace_replay.proofs.Runnings.{all_row, all_there}
+use Rattle.comp_trace.proofs.Runnings.{all_row, all_there}
 use Rattle.commands.proofs.races.race_and_finish.Goals as goal
 
 pub race-requires-clause-all : goal.race-requires-clause-all

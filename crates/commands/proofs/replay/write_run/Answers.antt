@@ -4,11 +4,11 @@ use Rattle.std.specs.Io.KnownBytes.{Appends}
 use Rattle.heap_layout.specs.Counted.{inner_of, failures_of}
 use Rattle.comp_dump.specs.Dumped.{Dumped}
 use Rattle.comp_dump.specs.DumpEncoding.{dump_bytes}
-use Rattle.comp_access.proofs.Answering.{ok_anyway}
+use Rattle.comp_mutator.proofs.Answering.{ok_anyway}
 use Rattle.command_io.specs.Dumps.{IsOfDumping, WritesWhole}
 use Rattle.command_io.specs.Printing.{CountsPrint, named}
 use Rattle.command_io.proofs.Outcomes.{created, created_line, uncounted_dump}
-use Rattle.trace_steps.specs.declared.shown.Shown.{Shown}
+use Rattle.comp_trace.specs.Shown.{Shown}
 use Rattle.commands.specs.Replays.{shown_lines}
 use Rattle.commands.proofs.ReplayRuns.{dumped_same, printed_run, unprinted_halt, unprinted_line, unprinted_run, writing_of}
 use Rattle.commands.proofs.replay.write_run.Goals as goal

@@ -1,6 +1,6 @@
 use Rattle.std.proofs.Common.{◌≡◌, ◌/◌, [], ap, ◌∙◌}
 use Rattle.heap_layout.specs.Heap.{live}
-use Rattle.cell_steps.specs.Lists.{on}
+use Rattle.comp_mutator.specs.Lists.{on}
 use Rattle.comp_mutator.specs.Mutators.{pass_of, setup_of}
 use Rattle.commands.proofs.Copied.{word_at}
 use Rattle.commands.proofs.word.copied_word.Goals as goal

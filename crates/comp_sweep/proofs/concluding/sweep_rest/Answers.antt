@@ -1,6 +1,6 @@
 use Rattle.std.proofs.Common.{◌<◌, length, refl, arith}
 use Rattle.std.proofs.lemmas.Slice.Zip.{AllZip-long}
-use Rattle.page_cells.proofs.Rows.{at_below}
+use Rattle.comp_mutator.proofs.Rows.{at_below}
 use Rattle.comp_mutator.specs.Mutators.{pass_of, setup_of}
 use Rattle.comp_sweep.specs.Sweeps.{SeesRegions, Sweeps}
 use Rattle.comp_sweep.proofs.Resting.{knows_rest, long_rest, of_rest, out_rest, same_rest, seen_at, seen_rest, swept_rest, tally_rest}

@@ -1,6 +1,6 @@
 use Rattle.std.proofs.Common.{◌<◌, length, length-set, ◌∙◌, arith, rules}
 use Rattle.std.proofs.lemmas.List.{length-map}
-use Rattle.page_cells.proofs.Rows.{at_below}
+use Rattle.comp_mutator.proofs.Rows.{at_below}
 use Rattle.comp_sweep.specs.Lots.{standing, standings}
 use Rattle.comp_sweep.proofs.Stands.{all_alone}
 use Rattle.comp_sweep.proofs.Tallies.{none_next, put_freed, taken_set, ways_freed}

@@ -1,6 +1,6 @@
 use Rattle.std.proofs.Common.{sym, subst, rules}
-use Rattle.cell_steps.specs.Lists.{Each}
-use Rattle.cell_steps.proofs.Sums.{each-snoc}
+use Rattle.comp_mutator.specs.Lists.{Each}
+use Rattle.comp_mutator.proofs.Sums.{each-snoc}
 use Rattle.comp_sweep.specs.Lots.{IsNew}
 use Rattle.comp_sweep.proofs.Tallies.{new_dealt, new_taken}
 use Rattle.comp_sweep.proofs.splitting.empty_lots.Goals as goal

@@ -1,5 +1,5 @@
 use Rattle.std.proofs.Common.{◌≡◌, ◌≤◌, length, vec_capacity}
-use Rattle.cell_steps.specs.Lists.{Each}
+use Rattle.comp_mutator.specs.Lists.{Each}
 use Rattle.comp_sweep.specs.Lots.{IsNew}
 use Rattle.comp_sweep.proofs.splitting.empty_lots.Given as goal
 

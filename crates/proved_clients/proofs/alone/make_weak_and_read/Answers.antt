@@ -1,8 +1,8 @@
 use Rattle.std.proofs.Common.{◌≡◌, ℕ, ◌∙◌, ap, sym, arith}
 use Rattle.std.proofs.lemmas.Result.{IfOk-weaker}
 use Rattle.page_plan.specs.Kind.TheVariants.{Weak}
-use Rattle.cell_steps.specs.Lists.{on}
-use Rattle.cell_steps.specs.Passes.{seen}
+use Rattle.page_cells.specs.Lists.{on}
+use Rattle.page_cells.specs.Passes.{seen}
 use Rattle.comp_mutator.specs.Mutators.{pass_of, setup_of}
 use Rattle.proved_clients.proofs.ReadBack.{first_there, is_made, new_field}
 use Rattle.proved_clients.proofs.alone.make_weak_and_read.Goals as goal

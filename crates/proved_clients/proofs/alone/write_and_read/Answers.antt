@@ -1,7 +1,7 @@
 use Rattle.std.proofs.Common.{◌≡◌, ℕ, ◌∙◌, ap, sym}
 use Rattle.page_plan.specs.Kind.TheVariants.{Data}
-use Rattle.cell_steps.specs.Lists.{on}
-use Rattle.cell_steps.specs.Passes.{seen}
+use Rattle.page_cells.specs.Lists.{on}
+use Rattle.page_cells.specs.Passes.{seen}
 use Rattle.comp_mutator.specs.Mutators.{pass_of, setup_of}
 use Rattle.comp_mutator.specs.Reads.{Reads}
 use Rattle.comp_mutator.specs.Writes.{Writes}

@@ -1,6 +1,6 @@
 use Rattle.std.proofs.Common.{rules, refl, sym, subst}
 use Rattle.page_plan.specs.Kind.TheVariants.{Reference}
-use Rattle.cell_steps.specs.Passes.{MayRefer}
+use Rattle.page_cells.specs.Passes.{MayRefer}
 use Rattle.comp_mutator.specs.Mutators.{pass_of}
 use Rattle.proved_clients.proofs.copied.store_reference.Goals as goal
 

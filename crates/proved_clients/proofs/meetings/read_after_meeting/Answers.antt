@@ -1,8 +1,8 @@
 use Rattle.std.proofs.Common.{◌≡◌, ℕ, ◌∙◌, sym, subst}
 use Rattle.page_plan.specs.Kind.TheVariants.{Data}
-use Rattle.cell_steps.specs.Lists.{StartsWith}
-use Rattle.cell_steps.specs.Passes.{seen}
-use Rattle.cell_steps.proofs.Sums.{starts-refl}
+use Rattle.page_cells.specs.Lists.{StartsWith}
+use Rattle.page_cells.specs.Passes.{seen}
+use Rattle.page_cells.proofs.Sums.{starts-refl}
 use Rattle.page_cells.proofs.Growing.{begins_then}
 use Rattle.comp_mutator.specs.Mutators.{pass_of, setup_of}
 use Rattle.comp_mutator.specs.Reads.{Reads}

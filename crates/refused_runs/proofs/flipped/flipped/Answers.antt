@@ -1,4 +1,4 @@
-use Rattle.trace_steps.proofs.Callers.{all_of, none_done}
+use Rattle.comp_trace.proofs.Callers.{all_of, none_done}
 use Rattle.refused_runs.proofs.flipped.flipped.Goals as goal
 
 pub returns-in-Ok-clause-all : goal.returns-in-Ok-clause-all

@@ -1,4 +1,4 @@
-use Rattle.trace_steps.proofs.Callers.{all_of, none_done}
+use Rattle.comp_trace.proofs.Callers.{all_of, none_done}
 use Rattle.test_traces.proofs.flipped.flipped.Goals as goal
 
 pub returns-clause-all : goal.returns-clause-all

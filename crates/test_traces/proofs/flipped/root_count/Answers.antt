@@ -1,5 +1,5 @@
 use Rattle.comp_mutator.specs.Mutators.{setup_of}
-use Rattle.trace_steps.proofs.Callers.{roots_count}
+use Rattle.comp_trace.proofs.Callers.{roots_count}
 use Rattle.test_traces.proofs.flipped.root_count.Goals as goal
 
 pub returns : goal.returns

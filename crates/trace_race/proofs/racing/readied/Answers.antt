@@ -1,7 +1,7 @@
 use Rattle.std.proofs.Common.{[], ◌∷◌, ◌++◌, map, length, sym, ap, ◌∙◌, refl, arith, append_assoc}
 use Rattle.std.proofs.lemmas.List.{length-map}
 use lib.ListN.{get_elem?}
-use Rattle.cell_steps.proofs.Sums.{is_inside, map-snoc, each-snoc}
+use Rattle.comp_mutator.proofs.Sums.{is_inside, map-snoc, each-snoc}
 use Rattle.trace_race.specs.Runners.{mutator_of, room_in, room_of, IsBlank}
 use Rattle.trace_race.proofs.OwnLines.{first_of}
 use Rattle.trace_race.proofs.Runners.{nothing_left}

@@ -1,5 +1,5 @@
 use Rattle.std.proofs.Common.{◌≡◌, ◌+◌, ◌≤◌, ◌++◌, map, length, vec_capacity}
-use Rattle.cell_steps.specs.Lists.{Each}
+use Rattle.comp_mutator.specs.Lists.{Each}
 use Rattle.trace_race.specs.Runners.{mutator_of, room_in, room_of, IsBlank}
 use Rattle.trace_race.proofs.racing.readied.Given as goal
 

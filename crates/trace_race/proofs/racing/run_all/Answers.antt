@@ -1,5 +1,5 @@
 use Rattle.std.proofs.Common.{rules, get_or, sym, subst, ◌∙◌}
-use Rattle.cell_steps.proofs.Sums.{is_inside, read_at}
+use Rattle.comp_mutator.proofs.Sums.{is_inside, read_at}
 use Rattle.trace_race.specs.Runners.{HasRun, IsReady}
 use Rattle.trace_steps.proofs.Elements.{at_or}
 use Rattle.trace_race.proofs.racing.run_all.Goals as goal

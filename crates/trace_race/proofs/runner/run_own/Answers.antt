@@ -1,8 +1,8 @@
 use Rattle.std.proofs.Common.{◌≡◌, ◌<◌, ◌≤◌, length, get_or, Err, refl, sym, subst, ap, ◌∙◌, arith, ℕ, ◌+◌, ◌++◌, List}
 use mathlib.Core.Option.{some}
 use lib.ListN.{get_elem?}
-use Rattle.cell_steps.specs.Passes.{number_of}
-use Rattle.cell_steps.proofs.Sums.{read_at}
+use Rattle.comp_mutator.specs.Passes.{number_of}
+use Rattle.comp_mutator.proofs.Sums.{read_at}
 use Rattle.comp_mutator.specs.Mutators.{pass_of, setup_of}
 use Rattle.comp_mutator.specs.Orders.{number_of_mutator}
 use Rattle.trace_steps.specs.Acting.{shown_at, Fits}

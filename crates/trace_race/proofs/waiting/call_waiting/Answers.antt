@@ -1,7 +1,7 @@
 use Rattle.std.proofs.Common.{IfErr, IfOk, ℕ, sym, refl, subst}
 use Rattle.std.proofs.lemmas.Result.{on_err_weaker}
 use Rattle.heap_layout.specs.declared.kind.Kind.TheVariants.{Data}
-use Rattle.page_cells.proofs.Growing.{grows_none}
+use Rattle.comp_mutator.proofs.Growing.{grows_none}
 use Rattle.comp_mutator.specs.Reads.{FieldRefused}
 use Rattle.comp_mutator.specs.Writes.{DataRefused}
 use Rattle.trace_steps.specs.Acting.{Fits, Refuses, Steps}

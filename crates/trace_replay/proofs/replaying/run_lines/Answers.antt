@@ -2,9 +2,9 @@ use Rattle.std.proofs.Common.{◌≡◌, ℕ, ◌<◌, ◌+◌, ◌++◌, ◌∷
 use Rattle.std.proofs.lemmas.List.{take_more, length-take-le, length-replicate}
 use native.Mathlib.Decide.{ℕ_discrete}
 use mathlib.Core.Logic.{dite}
-use Rattle.cell_steps.specs.Passes.{HasSeenBuilt}
-use Rattle.cell_steps.specs.declared.pass.Pass.{Pass}
-use Rattle.cell_steps.proofs.Sums.{there_at}
+use Rattle.comp_mutator.specs.Passes.{HasSeenBuilt}
+use Rattle.comp_mutator.specs.Pass.{Pass}
+use Rattle.comp_mutator.proofs.Sums.{there_at}
 use Rattle.comp_mutator.specs.Mutators.{setup_of}
 use Rattle.trace_steps.specs.Acting.{null_registers}
 use Rattle.trace_steps.specs.Builds.{is_built}

@@ -1,5 +1,5 @@
 use Rattle.std.proofs.Common.{◌≡◌, ◌<◌, ◌≤◌, length, take, vec_capacity}
-use Rattle.cell_steps.specs.Locks.{Journals}
+use Rattle.comp_mutator.specs.Locks.{Journals}
 use Rattle.comp_mutator.specs.Mutators.{setup_of}
 use Rattle.trace_steps.specs.Builds.{HaveSeenBuilt}
 use Rattle.trace_steps.specs.Deeds.{deeds_of, HaveAll, HaveSeenAll, HaveStart}

@@ -1,11 +1,11 @@
 use Rattle.std.proofs.Common.{◌≡◌, ◌<◌, ◌∙◌, Ok, IfErr, IfOk, ℕ, ap, refl, set, sym, subst}
 use Rattle.std.proofs.lemmas.Result.{IfOk-from_err, on_err_weaker}
 use Rattle.heap_layout.specs.declared.kind.Kind.TheVariants.{Data}
-use Rattle.cell_steps.specs.Passes.{did}
-use Rattle.page_cells.specs.Calls.{Grows}
-use Rattle.comp_access.specs.Reads.{FieldRefused}
-use Rattle.comp_access.specs.Writes.{DataRefused}
-use Rattle.comp_access.proofs.Answering.{err_anyway}
+use Rattle.comp_mutator.specs.Passes.{did}
+use Rattle.comp_mutator.specs.Calls.{Grows}
+use Rattle.comp_mutator.specs.Reads.{FieldRefused}
+use Rattle.comp_mutator.specs.Writes.{DataRefused}
+use Rattle.comp_mutator.proofs.Answering.{err_anyway}
 use Rattle.trace_steps.specs.Acting.{registers_after, Fits, Refuses, Steps}
 use Rattle.trace_text.specs.declared.line.Action.{Action}
 use Rattle.comp_mutator.specs.Mutators.{pass_of, setup_of}

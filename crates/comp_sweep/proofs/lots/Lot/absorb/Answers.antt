@@ -1,6 +1,6 @@
 use Rattle.std.proofs.Common.{refl, ap, arith}
-use Rattle.cell_steps.specs.Lists.{only, times}
-use Rattle.cell_steps.proofs.Sums.{total-append}
+use Rattle.comp_mutator.specs.Lists.{only, times}
+use Rattle.comp_mutator.proofs.Sums.{total-append}
 use Rattle.comp_sweep.specs.declared.dealing.Hand.{Hand}
 use Rattle.comp_sweep.specs.Lots.{own_view, way_view}
 use Rattle.comp_sweep.proofs.lots.Lot.absorb.Goals as goal

@@ -1,7 +1,7 @@
 use Rattle.std.proofs.Common.{◌<◌, length, set, ap, ◌∙◌, arith, rules}
-use Rattle.cell_steps.specs.Lists.{times}
-use Rattle.cell_steps.proofs.Sums.{total-set}
-use Rattle.page_cells.proofs.Rows.{at_value}
+use Rattle.comp_mutator.specs.Lists.{times}
+use Rattle.comp_mutator.proofs.Sums.{total-set}
+use Rattle.comp_mutator.proofs.Rows.{at_value}
 use Rattle.comp_sweep.specs.declared.deques.Way.{Way}
 use Rattle.comp_sweep.specs.Lots.{way_name, way_view}
 use Rattle.comp_sweep.proofs.Stands.{map_same}
