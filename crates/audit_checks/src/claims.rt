@@ -8,8 +8,7 @@ ghost use Rattle.comp_dump.specs.Dumped.{IsStoredList};
 ghost use Rattle.audit_checks.specs.Told.{Tells};
 
 use crate::fault::Stop;
-use comp_dump::AuditFault;
-use comp_dump::DumpedPage;
+use comp_dump::{AuditFault, DumpedPage};
 use std::alloc::{AllocError, Global};
 
 /// A page that was built stands in the lists of builds once, and no other page does.

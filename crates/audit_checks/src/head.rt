@@ -7,8 +7,7 @@ ghost use Rattle.audit_checks.specs.Noted.{setup_at};
 
 use crate::fault::Stop;
 use crate::setting::Setting;
-use comp_dump::AuditFault;
-use comp_dump::DumpedPage;
+use comp_dump::{AuditFault, DumpedPage};
 use heap_layout::Edition;
 use std::alloc::Global;
 

@@ -13,13 +13,10 @@ ghost use Rattle.audit_checks.specs.Noted.{setup_at};
 use crate::fault::Stop;
 use crate::kinds::{is_of, is_word_of};
 use crate::setting::Setting;
-use comp_dump::AuditFault;
-use comp_dump::DumpedPage;
+use comp_dump::{AuditFault, DumpedPage};
 use comp_history::add_kinds;
 use comp_journal::Entry;
-use heap_layout::Edition;
-use heap_layout::Header;
-use heap_layout::Kind;
+use heap_layout::{Edition, Header, Kind};
 use std::alloc::Global;
 
 /// The journal of each page that was built is lawful, and its stamps rise.

@@ -9,8 +9,7 @@ ghost use Rattle.comp_dump.specs.declared.fault.AuditFault.TheVariants.{BadEntry
 use crate::fault::Stop;
 use crate::record::journal_of;
 use crate::starts::Starts;
-use comp_dump::AuditFault;
-use comp_dump::DumpedPage;
+use comp_dump::{AuditFault, DumpedPage};
 use comp_journal::Entry;
 use page_plan::Plan;
 

@@ -9,11 +9,9 @@ ghost use Rattle.audit_checks.specs.Noted.{setup_at};
 
 use crate::fault::Stop;
 use crate::setting::Setting;
-use comp_dump::AuditFault;
-use comp_dump::DumpedPage;
+use comp_dump::{AuditFault, DumpedPage};
 use comp_journal::Entry;
-use heap_layout::OutOfMemory;
-use heap_layout::PageWords;
+use heap_layout::{OutOfMemory, PageWords};
 use page_plan::TO_SPACE;
 use std::alloc::Global;
 

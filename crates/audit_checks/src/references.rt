@@ -12,12 +12,10 @@ use crate::fault::Stop;
 use crate::kinds::refers;
 use crate::setting::Setting;
 use crate::starts::Starts;
-use comp_dump::AuditFault;
-use comp_dump::DumpedPage;
+use comp_dump::{AuditFault, DumpedPage};
 use comp_history::kinds_on;
 use heap_layout::Kind;
-use page_plan::TO_SPACE;
-use page_plan::Plan;
+use page_plan::{Plan, TO_SPACE};
 use std::alloc::Global;
 
 /// Each reference and weak word of each page that was built is null, or leads to a start.

@@ -6,8 +6,7 @@ ghost use Rattle.audit_checks.specs.Told.{Tells};
 
 use crate::fault::Stop;
 use crate::record::journal_of;
-use comp_dump::AuditFault;
-use comp_dump::DumpedPage;
+use comp_dump::{AuditFault, DumpedPage};
 use comp_journal::Entry;
 use std::alloc::{AllocError, Global};
 

@@ -14,8 +14,7 @@ use crate::setting::Setting;
 use comp_dump::DumpedPage;
 use comp_journal::Entry;
 use heap_layout::Kind;
-use page_plan::TO_SPACE;
-use page_plan::Plan;
+use page_plan::{Plan, TO_SPACE};
 use std::alloc::{AllocError, Global};
 use std::marker::Model;
 

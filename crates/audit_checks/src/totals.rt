@@ -9,12 +9,9 @@ ghost use Rattle.audit_checks.specs.Told.{Tells};
 
 use crate::fault::Stop;
 use crate::record::journal_of;
-use comp_dump::AuditFault;
-use comp_dump::DumpedPage;
+use comp_dump::{AuditFault, DumpedPage};
 use comp_journal::Entry;
-use heap_layout::Edition;
-use heap_layout::Header;
-use heap_layout::Kind;
+use heap_layout::{Edition, Header, Kind};
 use page_plan::Plan;
 
 /// The total is that of the words that slid and of all objects that were made.

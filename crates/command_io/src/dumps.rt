@@ -10,9 +10,7 @@ ghost use Rattle.command_io.specs.declared.refusal.Output.TheVariants as outputs
 
 use crate::output_files::{OutputFile, create_file};
 use crate::refusal::{Output, Refusal};
-use comp_dump::Dump;
-use comp_dump::DumpFault;
-use comp_dump::write_dump;
+use comp_dump::{Dump, DumpFault, write_dump};
 use heap_layout::Counted;
 use std::io::Write;
 use std::rt::Files;

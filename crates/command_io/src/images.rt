@@ -4,9 +4,7 @@ ghost use Rattle.command_io.specs.Images.{IsImageOf, RefusesAt, RefusesImage, So
 ghost use Rattle.command_io.specs.Printing.{IsOfOpening};
 
 use crate::refusal::{Input, Refusal};
-use heap_layout::Counted;
-use heap_layout::read_image;
-use heap_layout::MarkedHeap;
+use heap_layout::{Counted, MarkedHeap, read_image};
 use std::alloc::Global;
 use std::fs;
 use std::io::{BufReader, Read};

@@ -11,27 +11,13 @@ mod refusal;
 mod texts;
 mod traces;
 
-pub use dumps::Dumps;
-pub use dumps::FileDumps;
-pub use dumps::write_to;
-pub use images::FileImages;
-pub use images::Images;
-pub use images::heap_at;
-pub use marks::marks_at;
-pub use marks::marks_in;
+pub use dumps::{Dumps, FileDumps, write_to};
+pub use images::{FileImages, Images, heap_at};
+pub use marks::{marks_at, marks_in};
 pub use new_images::write_image_to;
 pub use output_files::OutputFile;
-pub use print::flush;
-pub use print::print_bytes;
-pub use print::print_digits;
-pub use print::print_help;
-pub use print::print_line;
-pub use print::print_numbered;
-pub use print::print_text;
-pub use refusal::Input;
-pub use refusal::Output;
-pub use refusal::Refusal;
-pub use traces::FileTraces;
-pub use traces::Traces;
-pub use traces::trace_at;
-pub use traces::trace_in;
+pub use print::{
+    flush, print_bytes, print_digits, print_help, print_line, print_numbered, print_text,
+};
+pub use refusal::{Input, Output, Refusal};
+pub use traces::{FileTraces, Traces, trace_at, trace_in};

@@ -8,11 +8,10 @@ ghost use Rattle.command_io.specs.Texts.{CountsText};
 use crate::refusal::{Input, Refusal};
 use crate::texts::{Unread, text_in};
 use crate::traces::Traces;
+use comp_trace::{MarksFault, read_marks};
 use heap_layout::Counted;
 use std::alloc::Global;
 use std::io::Read;
-use comp_trace::MarksFault;
-use comp_trace::read_marks;
 
 /// The marks whose text lies at a path. Refused are marks that cannot be opened or read, a text with a line that is no mark, by the number of the first of those, and a growth.
 pub fn marks_at<T: Traces>(alloc: Global, traces: &T, path: &str) -> Result<Vec<u32>, Refusal>

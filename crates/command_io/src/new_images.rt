@@ -9,10 +9,7 @@ ghost use Rattle.command_io.specs.NewImages.{IsOfWritingImage};
 
 use crate::dumps::Dumps;
 use crate::refusal::Refusal;
-use heap_layout::Counted;
-use heap_layout::write_image;
-use heap_layout::LayoutFault;
-use heap_layout::MarkedHeap;
+use heap_layout::{Counted, LayoutFault, MarkedHeap, write_image};
 use std::io::Write;
 
 /// Writes the image of a heap to a path. Where a call of its writer fails, that writer has taken a beginning of the image.

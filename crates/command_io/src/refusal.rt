@@ -1,14 +1,13 @@
 ghost use Rattle.std.specs.Prelude.{◌≡◌, Some};
 ghost use Rattle.command_io.specs.declared.refusal.Refusal.TheVariants as refusal;
 
-use comp_dump::AuditFault;
-use comp_dump::DumpFault;
+use comp_dump::{AuditFault, DumpFault};
 use comp_sweep::SweepFault;
+use comp_trace::TraceFault;
 use heap_layout::LayoutFault;
 use std::alloc::AllocError;
 use std::fmt;
 use thiserror::Error;
-use comp_trace::TraceFault;
 
 /// A file that the program is given.
 #[derive(Clone, Copy, Debug, PartialEq, Eq)]

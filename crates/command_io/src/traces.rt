@@ -8,14 +8,12 @@ ghost use Rattle.command_io.specs.Texts.{CountsText, IsOfOpeningText, IsTextOf, 
 
 use crate::refusal::{Input, Refusal};
 use crate::texts::{Unread, text_in};
+use comp_trace::{Trace, TraceFault, parse};
 use heap_layout::Counted;
 use std::alloc::Global;
 use std::fs;
 use std::io::{BufReader, Read};
 use std::rt::Files;
-use comp_trace::TraceFault;
-use comp_trace::parse;
-use comp_trace::Trace;
 
 /// Where the traces and the marks lie that the program is given by their paths.
 pub trait Traces {

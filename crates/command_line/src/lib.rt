@@ -7,7 +7,4 @@ mod values;
 mod words;
 
 pub use next::NextRun;
-pub use words::Task;
-pub use words::TraceRun;
-pub use words::VERSION_LINE;
-pub use words::read_task;
+pub use words::{Task, TraceRun, VERSION_LINE, read_task};

@@ -2,10 +2,7 @@
 ghost use Rattle.std.specs.Prelude.{◌≡◌, ℕ, ◌+◌, ◌<◌, ◌≤◌, [], All, drop, length, vec_capacity, IfSome};
 ghost use Rattle.commands.specs.ByLine.{earlier_of, told_of, AreByLine, AreOwn, IsFirstStop};
 
-use comp_trace::Run;
-use comp_trace::Shown;
-use comp_trace::Stop;
-use comp_trace::Line;
+use comp_trace::{Line, Run, Shown, Stop};
 
 /// The values of all runs, in the order of their lines, of which each has its own. There are 64 runs at most.
 pub fn by_line(lines: &[Line], runs: &[Run], mut shown: Vec<Shown>) -> Vec<Shown>

@@ -5,21 +5,15 @@ ghost use Rattle.comp_trace.specs.CycleRuns.{IsParsedFor};
 ghost use Rattle.comp_trace.specs.Traces.{lines_of};
 ghost use Rattle.commands.specs.Cycled.{IsCycledHeap, IsNextHeap, IsUncycled, IsUnmarked};
 
-use comp_mutator::Refusal as MutatorRefusal;
+use crate::replays::{Halted, unshown};
 use command_io::Refusal;
-use comp_mutator::Finished;
-use comp_trace::Halt;
-use comp_trace::CycleHalt;
-use comp_trace::run_cycle;
+use comp_mutator::{Finished, Refusal as MutatorRefusal};
+use comp_trace::{CycleHalt, Halt, Shown, Trace, run_cycle};
 use heap_layout::MarkedHeap;
 use page_plan::Plan;
 use std::alloc::Global;
 use std::sync::Arc;
 use std::thread::Threads;
-use crate::replays::Halted;
-use crate::replays::unshown;
-use comp_trace::Shown;
-use comp_trace::Trace;
 
 /// A cycle that is followed by another.
 #[derive(Drop)]

@@ -12,22 +12,15 @@ ghost use Rattle.commands.specs.Replays.{PrintsRun, StopsUnprinted};
 ghost use Rattle.commands.specs.Nexts.{IsOfWritingNext, IsWrittenNext, MakesNext, RefusesNext, RefusesWriting};
 
 use crate::cycling::{Cycled, cycle_heap};
-use command_io::Dumps;
-use command_io::Images;
-use command_io::marks_at;
-use command_io::write_image_to;
-use command_io::print_line;
-use command_io::Refusal;
-use command_io::Traces;
+use crate::replay::{inputs_at, print_halted};
+use crate::replays::Halted;
+use crate::shown::print_shown;
+use command_io::{Dumps, Images, Refusal, Traces, marks_at, print_line, write_image_to};
 use command_line::NextRun;
 use heap_layout::Counted;
 use std::alloc::Global;
 use std::io::Write;
 use std::thread::Threads;
-use crate::replay::inputs_at;
-use crate::replay::print_halted;
-use crate::replays::Halted;
-use crate::shown::print_shown;
 
 /// The command `next`. It reads the image, then the trace for its heap, and then the marks. It runs the trace over the heap by one thread, with 1 to 64 mutators and at most
 /// 4,096 fresh pages, and makes with the marks the next heap, with which the next cycle begins. It writes its image, and flushes it. Last it prints a line for each

@@ -7,12 +7,8 @@ ghost use Rattle.command_io.specs.Printing.{CountsPrint, CountsRead, RefusedUnpr
 ghost use Rattle.commands.specs.Plan.{plan_text, count_lines, page_lines, root_lines, IsOfPrinting, PrintsPlan, RefusesPlan};
 ghost use Rattle.command_io.specs.Images.{IsImageOf, SomeGiven, RefusesAt};
 
-use command_io::Images;
-use command_io::print_line;
-use command_io::print_numbered;
-use command_io::Refusal;
-use heap_layout::Counted;
-use heap_layout::read_image;
+use command_io::{Images, Refusal, print_line, print_numbered};
+use heap_layout::{Counted, read_image};
 use page_plan::Plan;
 use std::alloc::Global;
 use std::io::{Read, Write};

@@ -8,10 +8,7 @@ ghost use Rattle.commands.specs.Replays.{SomeRun, StopsUnprinted};
 
 use crate::races::race_heap;
 use crate::replay::{inputs_at, write_outcome};
-use command_io::Dumps;
-use command_io::Images;
-use command_io::Refusal;
-use command_io::Traces;
+use command_io::{Dumps, Images, Refusal, Traces};
 use command_line::TraceRun;
 use heap_layout::Counted;
 use std::alloc::Global;

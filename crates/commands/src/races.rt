@@ -12,15 +12,9 @@ ghost use Rattle.command_io.specs.Texts.{HasLines};
 
 use crate::by_line::{by_line, first_stop};
 use crate::replays::{Halted, Replayed, unshown};
-use comp_mutator::Refusal as MutatorRefusal;
 use command_io::Refusal;
-use comp_mutator::FinishFault;
-use comp_mutator::flip;
-use comp_mutator::Mutator;
-use comp_mutator::FlipFault;
-use comp_mutator::Space;
-use comp_trace::Run;
-use comp_trace::race;
+use comp_mutator::{FinishFault, FlipFault, Mutator, Refusal as MutatorRefusal, Space, flip};
+use comp_trace::{Run, Trace, TraceFault, race};
 use heap_layout::MarkedHeap;
 use page_plan::Plan;
 use std::alloc::Global;
@@ -28,8 +22,6 @@ use std::marker::Brand;
 use std::sync::ledger::{Blank, Ledger};
 use std::sync::{Arc, Wait};
 use std::thread::Threads;
-use comp_trace::TraceFault;
-use comp_trace::Trace;
 
 /// Flips a heap, lets the mutators of a trace run its lines side by side, each in a thread of its own where one can be had, and finishes the heap. The trace is one
 /// of these mutators and of the heap's roots.

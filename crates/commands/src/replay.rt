@@ -13,22 +13,14 @@ ghost use Rattle.commands.specs.Replays.{dumped_of, IsOfWritingRun, PrintsRun, R
 
 use crate::replays::{Halted, Replayed, replay_heap};
 use crate::shown::{print_shown, send_shown};
-use command_io::Dumps;
-use command_io::write_to;
-use command_io::Images;
-use command_io::heap_at;
-use command_io::print_line;
-use command_io::Refusal;
-use command_io::Traces;
-use command_io::trace_at;
+use command_io::{Dumps, Images, Refusal, Traces, heap_at, print_line, trace_at, write_to};
 use command_line::TraceRun;
 use comp_audit::Dump;
-use heap_layout::Counted;
-use heap_layout::MarkedHeap;
+use comp_trace::Trace;
+use heap_layout::{Counted, MarkedHeap};
 use std::alloc::Global;
 use std::io::Write;
 use std::thread::Threads;
-use comp_trace::Trace;
 
 /// Runs the trace at a path over the heap whose image lies at another, by one thread; the dump of what is left is written, and then the values that lines showed are
 /// printed, and the live words. Where a line is refused, the values of those before it are printed, and no dump is created.

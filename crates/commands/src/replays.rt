@@ -4,18 +4,14 @@ ghost use Rattle.comp_mutator.specs.Finishes.{IsOfFlip};
 ghost use Rattle.comp_trace.specs.Traces.{lines_of, mutators_of, roots_of};
 ghost use Rattle.commands.specs.Replays.{IsHalted, IsReplayedHeap};
 
-use comp_mutator::Refusal as MutatorRefusal;
 use command_io::Refusal;
-use comp_mutator::Finished;
-use comp_trace::Halt;
-use comp_trace::run_over;
+use comp_mutator::{Finished, Refusal as MutatorRefusal};
+use comp_trace::{Halt, Shown, Trace, run_over};
 use heap_layout::MarkedHeap;
 use page_plan::Plan;
 use std::alloc::Global;
 use std::sync::Arc;
 use std::thread::Threads;
-use comp_trace::Shown;
-use comp_trace::Trace;
 
 /// A heap over which a trace was run, finished, and the values that the trace showed.
 #[derive(Drop)]

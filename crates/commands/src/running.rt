@@ -7,34 +7,25 @@ ghost use Rattle.command_io.specs.Printing.{CountsPrint};
 ghost use Rattle.commands.specs.Replays.{StopsUnprinted};
 ghost use Rattle.commands.specs.Tasks.{Answers, AreWrong, DoesTask, HasAnswered, IsRefused, RefusesTask};
 
-use clap::error::ErrorKind;
-use command_io::Dumps;
-use command_io::FileDumps;
-use command_io::FileImages;
-use command_io::Images;
-use command_io::flush;
-use command_io::print_help;
-use command_io::print_text;
-use command_io::Refusal;
-use command_io::FileTraces;
-use command_io::Traces;
-use command_line::Task;
-use command_line::VERSION_LINE;
-use command_line::read_task;
-use crate::compact::Compaction;
-use crate::compact::print_compact;
 use crate::audit::print_audit;
-use crate::plan::print_plan;
-use crate::word::print_word;
-use heap_layout::Counted;
+use crate::compact::{Compaction, print_compact};
 use crate::next::print_next;
+use crate::plan::print_plan;
+use crate::race::print_race;
+use crate::replay::print_replay;
+use crate::word::print_word;
+use clap::error::ErrorKind;
+use command_io::{
+    Dumps, FileDumps, FileImages, FileTraces, Images, Refusal, Traces, flush, print_help,
+    print_text,
+};
+use command_line::{Task, VERSION_LINE, read_task};
+use heap_layout::Counted;
 use std::alloc::Global;
 use std::io::Write;
 use std::rt::Files;
 use std::sync::Wait;
 use std::thread::Threads;
-use crate::race::print_race;
-use crate::replay::print_replay;
 
 /// The status of a run that did what it was asked, or printed help or the version.
 pub const DONE: u8 = 0;

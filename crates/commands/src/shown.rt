@@ -5,13 +5,11 @@ ghost use Rattle.heap_layout.specs.Counted.{inner_of, failures_of, is_flushed_of
 ghost use Rattle.command_io.specs.Printing.{CountsPrint};
 ghost use Rattle.commands.specs.Replays.{shown_line, shown_lines};
 
-use command_io::flush;
-use command_io::print_bytes;
-use command_io::Refusal;
+use command_io::{Refusal, flush, print_bytes};
+use comp_trace::Shown;
 use heap_layout::Counted;
 use itoa::write_digits;
 use std::io::Write;
-use comp_trace::Shown;
 
 /// How many bytes the line of a shown value has at most: two numbers of twenty digits, the space between them, and the line feed.
 const LONGEST: usize = 42;

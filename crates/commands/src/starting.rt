@@ -2,8 +2,7 @@
 ghost use Rattle.std.specs.Prelude.{◌≡◌, ◌≢◌};
 ghost use Rattle.std.specs.declared.io.ErrorKind.TheVariants as kinds;
 
-use crate::running::MISUSED;
-use crate::running::told;
+use crate::running::{MISUSED, told};
 use command_io::Refusal;
 use std::env;
 use std::io::{ErrorKind, Result as IoResult, Write};

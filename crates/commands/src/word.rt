@@ -11,19 +11,10 @@ ghost use Rattle.command_io.specs.Printing.{line_of, CountsPrint, CountsRead, Re
 ghost use Rattle.command_io.specs.Images.{IsImageOf, SomeGiven, RefusesAt};
 ghost use Rattle.commands.specs.Word.{IsWordAt, IsPast, PrintsWordAt, RefusesWord, RefusesPrint};
 
-use command_io::Images;
-use command_io::print_digits;
-use command_io::print_text;
-use command_io::Refusal;
-use comp_mutator::flip;
-use comp_mutator::alone_sees_its_own;
-use comp_mutator::Mutator;
-use comp_mutator::FlipFault;
-use comp_mutator::Space;
-use heap_layout::Counted;
-use heap_layout::read_image;
-use page_plan::pages_are_parts;
-use page_plan::Plan;
+use command_io::{Images, Refusal, print_digits, print_text};
+use comp_mutator::{FlipFault, Mutator, Space, alone_sees_its_own, flip};
+use heap_layout::{Counted, read_image};
+use page_plan::{Plan, pages_are_parts};
 use std::alloc::Global;
 use std::io::{Read, Write};
 use std::marker::Brand;

@@ -15,10 +15,8 @@ use crate::places::{offset_at, page_at};
 use crate::taking::{load, take};
 use call_refusals::Refusal;
 use cell_steps::Pass;
-use heap_layout::Header;
-use heap_layout::Kind;
-use page_cells::Cells;
-use page_cells::Taken;
+use heap_layout::{Header, Kind};
+use page_cells::{Cells, Taken};
 use page_plan::Builder;
 use std::alloc::Global;
 

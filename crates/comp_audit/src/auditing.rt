@@ -3,11 +3,8 @@ ghost use Rattle.std.specs.Prelude.{IfOk};
 ghost use Rattle.comp_audit.specs.Judged.{faults, Judges};
 
 use crate::verdict::Verdict;
-use audit_checks::check;
-use audit_checks::Stop;
-use audit_checks::Setting;
-use comp_dump::Dump;
-use comp_dump::dump_is_stored;
+use audit_checks::{Setting, Stop, check};
+use comp_dump::{Dump, dump_is_stored};
 use heap_layout::OutOfMemory;
 use page_plan::Plan;
 use std::alloc::Global;

@@ -7,13 +7,7 @@ mod laws;
 mod moving;
 mod next_cycle;
 
-pub use drawn::cycle_is_told;
-pub use drawn::cycles_are_one_story;
-pub use drawn::words_are_lowered;
+pub use drawn::{cycle_is_told, cycles_are_one_story, words_are_lowered};
 pub use finished::Finished;
-pub use laws::first_telling;
-pub use laws::one_chapter;
-pub use laws::one_life;
-pub use laws::one_writing;
-pub use laws::weak_words_lead;
+pub use laws::{first_telling, one_chapter, one_life, one_writing, weak_words_lead};
 pub use next_cycle::NotCycled;

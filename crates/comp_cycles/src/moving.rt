@@ -12,10 +12,7 @@ ghost use Rattle.comp_cycles.specs.NextHeap.{kind_in, lowered_as, word_in};
 use crate::finished::Finished;
 use comp_history::kinds_on;
 use comp_journal::Entry;
-use heap_layout::set;
-use heap_layout::FROM_SPACE;
-use heap_layout::OutOfMemory;
-use heap_layout::Kind;
+use heap_layout::{FROM_SPACE, Kind, OutOfMemory, set};
 use page_plan::Builder;
 use std::alloc::{AllocError, Global};
 

@@ -13,12 +13,7 @@ ghost use Rattle.comp_cycles.specs.Finishes.{journals_of};
 use crate::finished::Finished;
 use crate::laws::one_chapter;
 use crate::moving::moved_words;
-use heap_layout::is_set;
-use heap_layout::FROM_SPACE;
-use heap_layout::check_sizes;
-use heap_layout::LayoutFault;
-use heap_layout::OutOfMemory;
-use heap_layout::MarkedHeap;
+use heap_layout::{FROM_SPACE, LayoutFault, MarkedHeap, OutOfMemory, check_sizes, is_set};
 use page_plan::Builder;
 use std::alloc::Global;
 

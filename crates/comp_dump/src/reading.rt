@@ -16,8 +16,7 @@ use crate::dump::Dump;
 use crate::fault::DumpFault;
 use crate::reading::fields::{MAGIC, expect, expect_end, read_edition, read_eight, read_four};
 use crate::reading::pages::read_pages;
-use heap_layout::Counted;
-use heap_layout::Edition;
+use heap_layout::{Counted, Edition};
 use std::alloc::Global;
 use std::io::Read;
 

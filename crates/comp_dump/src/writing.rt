@@ -16,14 +16,9 @@ use crate::page::DumpedPage;
 use crate::reading::fields::MAGIC;
 use byteorder::{ByteOrder, LittleEndian};
 use comp_journal::Entry;
-use heap_layout::Counted;
-use heap_layout::write_four;
-use heap_layout::write_numbers;
-use heap_layout::write_part;
-use heap_layout::write_version;
-use heap_layout::write_words;
-use heap_layout::Edition;
-use heap_layout::Kind;
+use heap_layout::{
+    Counted, Edition, Kind, write_four, write_numbers, write_part, write_version, write_words,
+};
 use std::io::Write;
 
 /// A number of one byte.

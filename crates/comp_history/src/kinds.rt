@@ -6,9 +6,7 @@ ghost use Rattle.cell_steps.specs.Lawful.{filled, kind_at, kinds_by, kinds_in, k
 ghost use Rattle.cell_steps.specs.Setup.{Setup};
 
 use comp_journal::Entry;
-use heap_layout::Edition;
-use heap_layout::Header;
-use heap_layout::Kind;
+use heap_layout::{Edition, Header, Kind};
 use page_plan::Plan;
 use std::alloc::{AllocError, Global};
 

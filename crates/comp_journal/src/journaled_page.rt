@@ -5,8 +5,7 @@ ghost use Rattle.comp_journal.specs.declared.refusal.JournalRefusal.TheVariants.
 use crate::base_words::keep;
 use crate::entry::Entry;
 use crate::refusal::JournalRefusal;
-use heap_layout::PAGE_WORDS;
-use heap_layout::PageWords;
+use heap_layout::{PAGE_WORDS, PageWords};
 use std::alloc::Global;
 use std::marker::Model;
 

@@ -1,9 +1,9 @@
 ghost use Rattle.std.specs.Prelude.{◌≡◌, ◌↔◌, ◌+◌, ◌^◌, ◌<◌, ◌≤◌, All, Err, IfOk, IfErr, IsErr, OnOk, OnErr, length, sum};
 ghost use Rattle.std.specs.List.{range_with_len};
 
+use crate::fault::LedgerFault;
 use crate::gathering::{last_within, least_missing, merged};
 use crate::posted::Posted;
-use crate::fault::LedgerFault;
 use crate::share::Share;
 use heap_layout::OutOfMemory;
 use std::alloc::Global;

@@ -8,6 +8,5 @@ mod posted;
 mod share;
 
 pub use fault::LedgerFault;
-pub use ledger::Ledger;
-pub use ledger::NotGathered;
+pub use ledger::{Ledger, NotGathered};
 pub use share::Share;

@@ -3,9 +3,7 @@
 
 ghost use Rattle.std.specs.Prelude.{◌≤◌};
 
-use commands::run;
-use commands::fetch_words;
-use commands::tell_unstarted;
+use commands::{fetch_words, run, tell_unstarted};
 use std::io::{self, BufWriter, ErrorKind, Write};
 use std::process::ExitCode;
 use std::rt::{Env, Files};

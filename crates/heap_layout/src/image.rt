@@ -7,14 +7,14 @@ ghost use Rattle.heap_layout.specs.Encoding.{encoding, preamble, counts, eight_b
 ghost use Rattle.heap_layout.specs.Faults.{IsAccepted};
 ghost use Rattle.heap_layout.specs.Heap.{IsStored};
 
-use crate::counted::Counted;
-use crate::parts::{Cut, fill};
-use crate::versions::edition_of;
-use byteorder::{ByteOrder, LittleEndian};
 use crate::checks::check_sizes;
+use crate::counted::Counted;
 use crate::edition::Edition;
 use crate::fault::LayoutFault;
 use crate::heap::MarkedHeap;
+use crate::parts::{Cut, fill};
+use crate::versions::edition_of;
+use byteorder::{ByteOrder, LittleEndian};
 use std::alloc::Global;
 use std::io::Read;
 

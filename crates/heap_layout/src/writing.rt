@@ -7,13 +7,13 @@ ghost use Rattle.heap_layout.specs.Writing.{Writes, CountsOne};
 ghost use Rattle.heap_layout.specs.declared.fault.LayoutFault.TheVariants as fault;
 
 use crate::counted::Counted;
+use crate::edition::Edition;
+use crate::fault::LayoutFault;
+use crate::heap::MarkedHeap;
 use crate::image::MAGIC;
 use crate::parts::write_whole;
 use crate::versions::version_of;
 use byteorder::{ByteOrder, LittleEndian};
-use crate::edition::Edition;
-use crate::fault::LayoutFault;
-use crate::heap::MarkedHeap;
 use std::io::Write;
 
 /// Writes a whole part.

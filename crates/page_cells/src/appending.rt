@@ -14,9 +14,7 @@ ghost use Rattle.page_cells.specs.Calls.{Grows};
 use crate::cells::Cells;
 use crate::taking::Taken;
 use cell_steps::Pass;
-use comp_journal::Entry;
-use comp_journal::MOST_ENTRIES;
-use comp_journal::JournalRefusal;
+use comp_journal::{Entry, JournalRefusal, MOST_ENTRIES};
 use heap_layout::Kind;
 use page_plan::Builder;
 

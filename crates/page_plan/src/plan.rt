@@ -6,13 +6,7 @@ ghost use Rattle.page_plan.specs.Sliding.{first_object, forward, kind, live_word
 
 use crate::places::TO_SPACE;
 use crate::{first_objects, page_builder, places, starts};
-use heap_layout::is_set;
-use heap_layout::FROM_SPACE;
-use heap_layout::OutOfMemory;
-use heap_layout::Header;
-use heap_layout::MarkedHeap;
-use heap_layout::Kind;
-use heap_layout::PageWords;
+use heap_layout::{FROM_SPACE, Header, Kind, MarkedHeap, OutOfMemory, PageWords, is_set};
 use mark_tables::Tables;
 use std::alloc::Global;
 use std::marker::Model;

@@ -6,8 +6,7 @@ ghost use Rattle.page_plan.specs.Planned.{AreStarts, Covers};
 ghost use Rattle.page_plan.specs.Sliding.{live_words};
 
 use crate::plan::Plan;
-use heap_layout::set;
-use heap_layout::MarkedHeap;
+use heap_layout::{MarkedHeap, set};
 use mark_tables::Tables;
 use std::alloc::{AllocError, Global};
 

@@ -2,10 +2,7 @@
 ghost use Rattle.std.specs.Prelude.{◌≡◌, IfOk};
 ghost use Rattle.comp_mutator.specs.Mutators.{setup_of, IsMutatorOf};
 
-use comp_mutator::Refusal;
-use comp_mutator::Mutator;
-use comp_mutator::Space;
-use comp_mutator::Builder;
+use comp_mutator::{Builder, Mutator, Refusal, Space};
 use std::alloc::Global;
 use std::sync::ledger::Ledger as Named;
 

@@ -10,14 +10,9 @@ ghost use Rattle.comp_mutator.specs.Mutators.{pass_of, setup_of, IsMutatorOf};
 ghost use Rattle.comp_mutator.specs.Touched.TheVariants.{AlreadyBuilt};
 ghost use Rattle.comp_mutator.specs.Refusal.TheVariants.{NotAStart, OutOfMemory};
 
-use comp_mutator::Refusal;
-use comp_mutator::PageCopy;
-use comp_mutator::Touched;
 use comp_journal::Entry;
-use comp_mutator::Mutator;
-use comp_mutator::Space;
+use comp_mutator::{Builder, Mutator, PageCopy, Refusal, Space, Touched};
 use page_plan::TO_SPACE;
-use comp_mutator::Builder;
 use std::alloc::Global;
 use std::sync::ledger::Ledger as Named;
 

@@ -7,15 +7,8 @@ mod meetings;
 mod replayed;
 mod swept;
 
-pub use alone::make_and_read;
-pub use alone::make_weak_and_read;
-pub use alone::write_seven_and_read;
-pub use alone::write_weak_and_read;
-pub use copied::read_again;
-pub use copied::store_made;
-pub use copied::store_reference;
-pub use copied::touch_copied;
+pub use alone::{make_and_read, make_weak_and_read, write_seven_and_read, write_weak_and_read};
+pub use copied::{read_again, store_made, store_reference, touch_copied};
 pub use meetings::read_after_meeting;
 pub use replayed::read_replay_and_finish;
-pub use swept::flip_and_sweep;
-pub use swept::sweep_and_finish;
+pub use swept::{flip_and_sweep, sweep_and_finish};

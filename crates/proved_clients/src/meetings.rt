@@ -4,10 +4,7 @@ ghost use Rattle.page_cells.specs.Lists.{StartsWith};
 ghost use Rattle.page_cells.specs.Passes.{number_of, seen};
 ghost use Rattle.comp_mutator.specs.Mutators.{pass_of, setup_of, IsMutatorOf};
 
-use comp_mutator::Refusal;
-use comp_mutator::Mutator;
-use comp_mutator::Space;
-use comp_mutator::Builder;
+use comp_mutator::{Builder, Mutator, Refusal, Space};
 use std::alloc::Global;
 use std::sync::ledger::Ledger as Named;
 

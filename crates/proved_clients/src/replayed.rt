@@ -6,14 +6,10 @@ ghost use Rattle.proved_clients.specs.Histories.{StandsInHistory};
 ghost use Rattle.comp_trace.specs.AllMutators.{AreAll};
 ghost use Rattle.comp_trace.specs.TraceStepsTraces.{IsParsedFor};
 
-use comp_mutator::Finished;
-use comp_mutator::Mutator;
-use comp_mutator::Space;
-use comp_trace::replay;
-use comp_mutator::Builder;
+use comp_mutator::{Builder, Finished, Mutator, Space};
+use comp_trace::{Trace, replay};
 use std::alloc::Global;
 use std::sync::ledger::Ledger as Named;
-use comp_trace::Trace;
 
 /// A mutator reads a data word, a trace is replayed by all of them, and the heap is finished: where all three are done, that read stands in the one history.
 pub fn read_replay_and_finish<L: Named, B: Builder>(

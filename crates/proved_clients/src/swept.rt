@@ -6,12 +6,8 @@ ghost use Rattle.page_cells.specs.Closing.{page_at};
 ghost use Rattle.comp_mutator.specs.Finishes.{pages_of};
 ghost use Rattle.comp_sweep.specs.Sweeps.{SomeSeesBuilt};
 
-use comp_mutator::Finished;
-use comp_mutator::flip;
-use comp_sweep::Open;
-use comp_sweep::SweepReport;
-use comp_sweep::sweep;
-use comp_mutator::Builder;
+use comp_mutator::{Builder, Finished, flip};
+use comp_sweep::{Open, SweepReport, sweep};
 use std::alloc::Global;
 use std::sync::ledger::{Blank, Ledger as Named};
 use std::sync::{Arc, Wait};

@@ -2,10 +2,7 @@
 ghost use Rattle.comp_mutator.specs.Mutators.{IsMutatorOf};
 
 use crate::rows::{Call, Row};
-use comp_mutator::Refusal;
-use comp_mutator::Touched;
-use comp_mutator::Mutator;
-use comp_mutator::Space;
+use comp_mutator::{Mutator, Refusal, Space, Touched};
 use heap_layout::Kind;
 use page_plan::Plan;
 use std::alloc::Global;

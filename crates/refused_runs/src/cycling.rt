@@ -1,15 +1,10 @@
 //! Two cycles of a heap, which begin anew where memory was refused in either.
 use crate::heaps::{Heap, heap_of};
 use comp_mutator::Refusal;
-use comp_trace::CycleFault;
-use comp_trace::CyclesStopped;
-use comp_trace::replay_cycles;
+use comp_trace::{CycleFault, CyclesStopped, Shown, TraceFault, parse, replay_cycles};
 use heap_layout::LayoutFault;
 use std::alloc::Global;
 use std::thread::Threads;
-use comp_trace::Shown;
-use comp_trace::TraceFault;
-use comp_trace::parse;
 
 // The data word of the first object is shown, and a new object stored.
 const FIRST: &[u8] =

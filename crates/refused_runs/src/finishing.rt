@@ -3,14 +3,8 @@ ghost use Rattle.std.specs.Prelude.{◌≡◌, IfSome};
 ghost use Rattle.comp_mutator.specs.Finishes.{IsOfFlip};
 ghost use Rattle.comp_mutator.specs.Mutators.{setup_of, AreMutatorsOf};
 
-use comp_mutator::FinishFault;
-use comp_mutator::Finished;
-use comp_mutator::Unfinished;
-use comp_mutator::Mutator;
-use comp_mutator::Space;
-use comp_sweep::SweepFault;
-use comp_sweep::Open;
-use comp_sweep::sweep;
+use comp_mutator::{FinishFault, Finished, Mutator, Space, Unfinished};
+use comp_sweep::{Open, SweepFault, sweep};
 use page_plan::Plan;
 use std::alloc::Global;
 use std::sync::Wait;

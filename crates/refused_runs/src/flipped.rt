@@ -4,9 +4,7 @@ ghost use Rattle.comp_mutator.specs.Mutators.{setup_of};
 ghost use Rattle.comp_trace.specs.AllMutators.{AreAll};
 ghost use Rattle.comp_trace.specs.Deeds.{DidNothingYet};
 
-use comp_mutator::flip;
-use comp_mutator::Mutator;
-use comp_mutator::Space;
+use comp_mutator::{Mutator, Space, flip};
 use page_plan::Plan;
 use std::alloc::Global;
 use std::sync::Arc;

@@ -1,14 +1,10 @@
 //! The heaps of the runs.
-use heap_layout::Edition;
-use heap_layout::MarkedHeap;
+use heap_layout::{Edition, MarkedHeap};
 use page_plan::Plan;
 use std::alloc::Global;
 use std::sync::Arc;
 use std::thread::Threads;
-use test_support::F;
-use test_support::THREE;
-use test_support::judged;
-use test_support::zeros_object;
+use test_support::{F, THREE, judged, zeros_object};
 
 /// The heap of a run.
 #[derive(Clone, Copy)]

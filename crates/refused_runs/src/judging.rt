@@ -1,12 +1,7 @@
 //! Dumps that are made, written, read and judged, each again where memory was refused.
 ghost use Rattle.comp_mutator.specs.Finishes.{IsOfFlip};
 
-use comp_audit::audit;
-use comp_audit::Verdict;
-use comp_audit::Dump;
-use comp_audit::DumpFault;
-use comp_audit::read_dump;
-use comp_audit::write_dump;
+use comp_audit::{Dump, DumpFault, Verdict, audit, read_dump, write_dump};
 use comp_mutator::Finished;
 use heap_layout::Counted;
 use page_plan::Plan;

@@ -1,8 +1,7 @@
 //! A ledger that is posted with and gathered. Only its making takes memory.
 ghost use Rattle.std.specs.Prelude.{◌≡◌};
 
-use comp_ledger::Ledger;
-use comp_ledger::LedgerFault;
+use comp_ledger::{Ledger, LedgerFault};
 use std::alloc::Global;
 use std::marker::Brand;
 use std::sync::Wait;

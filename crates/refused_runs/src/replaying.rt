@@ -8,19 +8,14 @@ use crate::finishing::finish;
 use crate::flipped::flipped;
 use crate::heaps::{Heap, plan_of};
 use crate::judging::is_lawful;
-use comp_mutator::Refusal;
-use comp_mutator::Mutator;
-use comp_mutator::Space;
-use comp_trace::Stopped;
-use comp_trace::replay_text;
+use comp_mutator::{Mutator, Refusal, Space};
+use comp_trace::{Shown, Stopped, TraceFault, replay_text};
 use page_plan::Plan;
 use std::alloc::Global;
 use std::marker::Brand;
 use std::sync::Arc;
 use std::sync::ledger::{Blank, Ledger as Named};
 use std::thread::Threads;
-use comp_trace::Shown;
-use comp_trace::TraceFault;
 
 // Mutator 0 writes 7, which mutator 1 reads in line 6.
 const TEXT: &[u8] = b"0 root 0 0\n0 load 1 0 0\n0 put 1 0 7\n1 root 0 0\n1 load 1 0 0\n1 get 1 0\n";

@@ -1,26 +1,14 @@
 //! Forged dumps that are judged.
 use crate::places::{File, Memory};
 use crate::printing::{Asked, is_answered};
-use comp_dump::AuditFault;
 use command_io::Refusal;
-use comp_dump::DumpFault;
+use comp_dump::{AuditFault, DumpFault};
 use std::process::Abort;
 use std::thread::Threads;
-use test_support::Change;
-use test_support::FIRST_DATA;
-use test_support::HEADER_OFFSET;
-use test_support::HEADER_STAMP;
-use test_support::LAST_PAGE;
-use test_support::LAST_WORD;
-use test_support::REFERENCE;
-use test_support::REFERENCE_KIND;
-use test_support::REFERENCE_STAMP;
-use test_support::REFERENCE_VALUE;
-use test_support::ROOT;
-use test_support::TOTAL;
-use test_support::VERSION;
-use test_support::Content;
-use test_support::bytes_in;
+use test_support::{
+    Change, Content, FIRST_DATA, HEADER_OFFSET, HEADER_STAMP, LAST_PAGE, LAST_WORD, REFERENCE,
+    REFERENCE_KIND, REFERENCE_STAMP, REFERENCE_VALUE, ROOT, TOTAL, VERSION, bytes_in,
+};
 
 // A forged dump: its name, two changes, and what is refused.
 type Forgery = (&'static str, Change, Change, Refusal);

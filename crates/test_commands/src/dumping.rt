@@ -2,20 +2,15 @@
 use crate::dumps::{Dump, dump_of};
 use crate::places::{File, Memory, Place};
 use crate::printing::{Asked, is_answered};
-use command_io::Input;
-use command_io::Refusal;
+use command_io::{Input, Refusal};
 use command_line::TraceRun;
+use commands::{Compaction, print_compact, print_replay};
 use comp_dump::DumpFault;
-use commands::Compaction;
-use commands::print_compact;
-use heap_layout::Counted;
-use heap_layout::LayoutFault;
+use heap_layout::{Counted, LayoutFault};
 use std::process::Abort;
 use std::sync::Wait;
 use std::thread::Threads;
-use commands::print_replay;
-use test_support::Failure;
-use test_support::Narrow;
+use test_support::{Failure, Narrow};
 
 // What writes a dump.
 #[derive(Clone, Copy)]

@@ -1,18 +1,8 @@
 //! Dumps and new images that go into files of a device that is soon full, that renames none, or that takes no permissions: what was at the path stays, and no
 //! other file is left.
-use command_io::Dumps;
-use command_io::FileDumps;
-use command_io::write_to;
-use command_io::write_image_to;
-use command_io::Output;
-use command_io::Refusal;
-use comp_dump::Dump;
-use comp_dump::DumpFault;
-use comp_dump::read_dump;
-use heap_layout::Counted;
-use heap_layout::read_image;
-use heap_layout::LayoutFault;
-use heap_layout::MarkedHeap;
+use command_io::{Dumps, FileDumps, Output, Refusal, write_image_to, write_to};
+use comp_dump::{Dump, DumpFault, read_dump};
+use heap_layout::{Counted, LayoutFault, MarkedHeap, read_image};
 use std::alloc::Allocator;
 use std::fs::{self, Metadata, OpenFile, OpenOptions, Permissions};
 use std::io::{Error, ErrorKind, Read, Result as IoResult, Seek, SeekFrom, Write};

@@ -1,18 +1,12 @@
 //! Cycles of heaps in memory: the image of the heap that follows and the lines, also where the writers fail.
 use crate::places::{Memory, Place};
-use command_io::Input;
-use command_io::Output;
-use command_io::Refusal;
+use command_io::{Input, Output, Refusal};
 use command_line::NextRun;
-use heap_layout::Counted;
-use heap_layout::LayoutFault;
 use commands::print_next;
+use heap_layout::{Counted, LayoutFault};
 use std::process::Abort;
 use std::thread::Threads;
-use test_support::Part;
-use test_support::bytes_of;
-use test_support::Failure;
-use test_support::Narrow;
+use test_support::{Failure, Narrow, Part, bytes_of};
 
 // A cycle in memory, and what has to come of it.
 #[derive(Clone, Copy)]

@@ -5,8 +5,7 @@ use std::process::Abort;
 use std::sync::Arc;
 use std::test::Fail;
 use std::thread::Threads;
-use test_support::planned;
-use test_support::three;
+use test_support::{planned, three};
 
 // What was made.
 fn made<T>(rt: &impl Abort, found: Result<T, Fail>) -> T {

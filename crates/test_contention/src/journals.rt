@@ -2,8 +2,7 @@
 use crate::expected::expect_so;
 use crate::fights::Fight;
 use crate::writing::value_at;
-use comp_journal::Entry;
-use comp_journal::JournaledPage;
+use comp_journal::{Entry, JournaledPage};
 use comp_mutator::Finished;
 use heap_layout::Kind;
 use std::process::Abort;

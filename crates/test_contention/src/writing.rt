@@ -3,10 +3,7 @@ ghost use Rattle.comp_mutator.specs.Mutators.{AreMutatorsOf, IsMutatorOf};
 
 use crate::expected::expect_so;
 use crate::fights::Fight;
-use comp_mutator::Refusal;
-use comp_mutator::Mutator;
-use comp_mutator::Space;
-use comp_mutator::Builder;
+use comp_mutator::{Builder, Mutator, Refusal, Space};
 use std::alloc::Global;
 use std::process::Abort;
 use std::sync::Wait;

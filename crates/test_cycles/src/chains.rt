@@ -3,16 +3,13 @@ ghost use Rattle.std.specs.Prelude.{◌≤◌};
 ghost use Rattle.comp_cycles.specs.Ends.{IsEndOf};
 
 use comp_cycles::NotCycled;
-use comp_trace::Ran;
-use comp_trace::run_cycle;
-use heap_layout::MarkedHeap;
-use heap_layout::PageWords;
+use comp_trace::{Ran, parse, run_cycle};
+use heap_layout::{MarkedHeap, PageWords};
 use page_plan::Plan;
 use std::alloc::Global;
 use std::process::Abort;
 use std::test::Fail;
 use std::thread::Threads;
-use comp_trace::parse;
 
 /// It is so. Where it is not, the test ends, and tells its name and a number.
 pub fn expect_so(rt: &impl Abort, name: &str, so: bool, number: u64) {

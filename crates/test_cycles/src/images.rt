@@ -1,11 +1,7 @@
 //! Images of heaps that follow.
 use crate::chains::{expect_so, follow};
 use crate::rows::linked;
-use heap_layout::Counted;
-use heap_layout::read_image;
-use heap_layout::write_image;
-use heap_layout::Edition;
-use heap_layout::MarkedHeap;
+use heap_layout::{Counted, Edition, MarkedHeap, read_image, write_image};
 use std::alloc::Global;
 use std::process::Abort;
 

@@ -1,15 +1,12 @@
 //! The last heap of several cycles is dumped, and the audit says yes to it.
 use crate::chains::{expect_so, follow, made};
 use crate::rows::{LINKED, linked};
-use comp_audit::audit;
-use comp_audit::Verdict;
-use comp_audit::Dump;
-use comp_trace::replay_cycles;
+use comp_audit::{Dump, Verdict, audit};
+use comp_trace::{parse, replay_cycles};
 use page_plan::Plan;
 use std::alloc::Global;
 use std::process::Abort;
 use std::thread::Threads;
-use comp_trace::parse;
 use test_support::three;
 
 // The marks that begin the second cycle.

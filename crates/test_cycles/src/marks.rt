@@ -1,9 +1,8 @@
 //! Texts of marks, cut and changed: what is read of each is what a second hand reads.
 use crate::chains::expect_so;
+use comp_trace::{MarksFault, read_marks};
 use std::alloc::{AllocError, Global};
 use std::process::Abort;
-use comp_trace::MarksFault;
-use comp_trace::read_marks;
 
 const TEXT: &[u8] = b"0\n7\n64\n100\n4294967295\n";
 

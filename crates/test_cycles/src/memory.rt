@@ -1,20 +1,12 @@
 //! Where an allocation is refused, as the test run's own switch has it, cycles tell want of memory by its name, and show what was shown before.
 use crate::chains::expect_so;
 use call_refusals::Refusal;
-use comp_trace::CycleFault;
-use comp_trace::CyclesStopped;
-use comp_trace::replay_cycles;
-use heap_layout::Edition;
-use heap_layout::LayoutFault;
-use heap_layout::MarkedHeap;
+use comp_trace::{CycleFault, CyclesStopped, Shown, TraceFault, parse, replay_cycles};
+use heap_layout::{Edition, LayoutFault, MarkedHeap};
 use std::alloc::Global;
 use std::process::Abort;
 use std::thread::Threads;
-use comp_trace::Shown;
-use comp_trace::TraceFault;
-use comp_trace::parse;
-use test_support::F;
-use test_support::THREE;
+use test_support::{F, THREE};
 
 // The first object's data word is shown, a new object stored, and in the second cycle it is shown again.
 const FIRST: &[u8] =

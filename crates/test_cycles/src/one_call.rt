@@ -4,14 +4,11 @@ ghost use Rattle.comp_trace.specs.CycleRuns.{IsParsedFor};
 
 use crate::chains::expect_so;
 use crate::random_chains::{FRESH, MUTATORS};
-use comp_trace::replay_cycles;
+use comp_trace::{Shown, Trace, parse, replay_cycles};
 use heap_layout::MarkedHeap;
 use std::alloc::Global;
 use std::process::Abort;
 use std::thread::Threads;
-use comp_trace::Shown;
-use comp_trace::parse;
-use comp_trace::Trace;
 
 /// A cycle that was run: the marks with which its heap was made, none of the first; the text of its lines; and the values that they showed.
 #[derive(Drop)]

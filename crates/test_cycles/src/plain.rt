@@ -1,8 +1,6 @@
 //! Objects that never move. Cycles only tell where they are.
 use crate::chains::expect_so;
-use heap_layout::Edition;
-use heap_layout::Header;
-use heap_layout::MarkedHeap;
+use heap_layout::{Edition, Header, MarkedHeap};
 use std::alloc::{AllocError, Global};
 use std::process::Abort;
 use test_support::F;

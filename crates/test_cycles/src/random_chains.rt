@@ -4,15 +4,11 @@ use crate::chains::{follow, made, ran};
 use crate::images::image;
 use crate::one_call::{Past, expect_past, expect_values};
 use crate::plain::{Field, Life, Plain};
-use heap_layout::Edition;
-use heap_layout::Header;
-use heap_layout::MarkedHeap;
-use test_support::Random;
+use heap_layout::{Edition, Header, MarkedHeap};
 use std::alloc::{AllocError, Global};
 use std::process::Abort;
 use std::thread::Threads;
-use test_support::F;
-use test_support::heap_of;
+use test_support::{F, Random, heap_of};
 
 // How many chains there are of each edition, cycles of a chain, and lines that are drawn for a cycle.
 const CHAINS: u64 = 40;

@@ -3,19 +3,13 @@ ghost use Rattle.comp_cycles.specs.Ends.{IsEndOf};
 
 use crate::chains::{expect_so, first_page, follow, followed, made, ran};
 use call_refusals::Refusal;
-use comp_trace::Ran;
-use comp_trace::CycleFault;
-use comp_trace::replay_cycles;
+use comp_trace::{CycleFault, Ran, TraceFault, parse, replay_cycles};
 use heap_layout::LayoutFault;
 use page_plan::Plan;
 use std::alloc::Global;
 use std::process::Abort;
 use std::thread::Threads;
-use comp_trace::TraceFault;
-use comp_trace::parse;
-use test_support::F;
-use test_support::T;
-use test_support::three;
+use test_support::{F, T, three};
 
 /// The last of the three objects gets a reference to a new one.
 pub const LINKED: &[u8] = b"0 root 0 0\n0 new 1 0 0 9\n0 store 0 0 1\n";

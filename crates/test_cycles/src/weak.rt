@@ -1,16 +1,12 @@
 //! The heap with weak words, and those that follow.
 use crate::chains::{expect_so, first_page, follow, made, ran};
 use crate::images::image;
-use heap_layout::Edition;
-use heap_layout::MarkedHeap;
+use heap_layout::{Edition, MarkedHeap};
 use page_plan::Plan;
 use std::alloc::Global;
 use std::process::Abort;
 use std::thread::Threads;
-use test_support::F;
-use test_support::T;
-use test_support::WEAK;
-use test_support::heap_of;
+use test_support::{F, T, WEAK, heap_of};
 
 fn weak_heap(rt: &impl Abort, alloc: Global, root: u64) -> MarkedHeap {
     made(rt, heap_of(alloc, Edition::Two, &WEAK, &[0, 5], &[root]))

@@ -2,9 +2,7 @@
 use crate::encoded::{Whole, encoded};
 use crate::expected::expect_so;
 use crate::judged::{Told, told};
-use comp_audit::AuditFault;
-use comp_audit::Verdict;
-use comp_audit::DumpFault;
+use comp_audit::{AuditFault, DumpFault, Verdict};
 use page_plan::Plan;
 use std::alloc::Global;
 use std::process::Abort;

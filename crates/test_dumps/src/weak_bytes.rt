@@ -2,9 +2,7 @@
 use crate::changed_bytes::{Becomes, Rule, expect_bytes};
 use crate::encoded::Whole;
 use crate::planned::{Worked, plan_of};
-use comp_audit::AuditFault;
-use comp_audit::Verdict;
-use comp_audit::DumpFault;
+use comp_audit::{AuditFault, DumpFault, Verdict};
 use test_support::T;
 
 const BAD_MAGIC: Becomes = Becomes::Is(Err(DumpFault::BadMagic));

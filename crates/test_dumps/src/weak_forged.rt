@@ -1,11 +1,8 @@
 //! Dumps of edition two with some fields changed, dumps of the other edition, and what is told of them.
 use crate::encoded::{Change, Whole};
 use crate::judged::{Row, Told};
-use comp_audit::AuditFault;
-use comp_audit::Verdict;
-use comp_audit::DumpFault;
-use test_support::F;
-use test_support::T;
+use comp_audit::{AuditFault, DumpFault, Verdict};
+use test_support::{F, T};
 
 // Where fields of the dump lie.
 const VERSION: usize = 8;

@@ -3,13 +3,7 @@ ghost use Rattle.std.specs.Prelude.{◌≡◌};
 ghost use Rattle.comp_mutator.specs.Mutators.{setup_of, AreMutatorsOf};
 
 use crate::expected::{At, expect_so};
-use comp_mutator::FinishFault;
-use comp_mutator::Finished;
-use comp_mutator::Unfinished;
-use comp_mutator::flip;
-use comp_mutator::Mutator;
-use comp_mutator::Space;
-use comp_mutator::Builder;
+use comp_mutator::{Builder, FinishFault, Finished, Mutator, Space, Unfinished, flip};
 use page_plan::Plan;
 use std::alloc::Global;
 use std::process::Abort;
@@ -17,14 +11,9 @@ use std::sync::Arc;
 use std::sync::ledger::{Blank, Ledger as Named};
 use std::test::Fail;
 use std::thread::Threads;
-use test_support::counting_heap;
-use test_support::empty;
-use test_support::planned;
-use test_support::seventeen_pages;
-use test_support::smallest;
-use test_support::three;
-use test_support::weak;
-use test_support::zeros_heap;
+use test_support::{
+    counting_heap, empty, planned, seventeen_pages, smallest, three, weak, zeros_heap,
+};
 
 /// The heap of a case.
 #[derive(Clone, Copy)]

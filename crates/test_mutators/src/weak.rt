@@ -3,8 +3,8 @@ use crate::cases::{BuiltBy, Case};
 use crate::endings::{End, Ending};
 use crate::flipped::Heap;
 use crate::rows::Row;
-use comp_mutator::Refusal;
 use comp_journal::Entry;
+use comp_mutator::Refusal;
 use heap_layout::Kind;
 use test_support::T;
 

@@ -1,6 +1,5 @@
 //! Which words ask what.
-use command_line::VERSION_LINE;
-use command_line::read_task;
+use command_line::{VERSION_LINE, read_task};
 use std::process::Abort;
 use test_support::words_of;
 

@@ -1,6 +1,5 @@
 //! Cycles: the image of the heap that follows, the lines, and what a refusal leaves.
-use test_support::Content;
-use test_support::Step;
+use test_support::{Content, Step};
 
 // The last of the three objects gets a reference to a new one.
 const LINKED: Content = Content::Text("0 root 0 0\n0 new 1 0 0 9\n0 store 0 0 1\n");

@@ -1,18 +1,8 @@
 //! Audits by the program.
-use test_support::Change;
-use test_support::FIRST_DATA;
-use test_support::HEADER_OFFSET;
-use test_support::HEADER_STAMP;
-use test_support::LAST_PAGE;
-use test_support::LAST_WORD;
-use test_support::REFERENCE;
-use test_support::REFERENCE_STAMP;
-use test_support::REFERENCE_VALUE;
-use test_support::ROOT;
-use test_support::TOTAL;
-use test_support::VERSION;
-use test_support::Content;
-use test_support::Step;
+use test_support::{
+    Change, Content, FIRST_DATA, HEADER_OFFSET, HEADER_STAMP, LAST_PAGE, LAST_WORD, REFERENCE,
+    REFERENCE_STAMP, REFERENCE_VALUE, ROOT, Step, TOTAL, VERSION,
+};
 
 /// Dumps that pass.
 pub const PASSED: &[Step] = &[

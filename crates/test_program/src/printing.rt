@@ -4,14 +4,7 @@ use std::rt::Files;
 use std::sync::Wait;
 use std::test::Fail;
 use std::thread::Threads;
-use test_support::Content;
-use test_support::Run;
-use test_support::Text;
-use test_support::expect_ran;
-use test_support::words_of;
-use test_support::Step;
-use test_support::Failure;
-use test_support::Narrow;
+use test_support::{Content, Failure, Narrow, Run, Step, Text, expect_ran, words_of};
 
 // What has to come of a line that is refused since it cannot print, or of one that is not refused. What it prints is not looked at.
 fn wanted_of(line: &'static str, refused: bool) -> Run {

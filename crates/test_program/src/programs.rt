@@ -1,6 +1,5 @@
 //! Runs of the program: what it prints, and its status.
-use test_support::Content;
-use test_support::Step;
+use test_support::{Content, Step};
 
 /// Words, plans, compactions and audits, and words that are no command.
 pub const STEPS: &[Step] = &[

@@ -1,7 +1,6 @@
 //! Traces whose mutators race over heaps: the lines, the dump, and what refusals leave.
 use crate::replaying::KEPT;
-use test_support::Content;
-use test_support::Step;
+use test_support::{Content, Step};
 
 // Each of both mutators shows a value, and reads a field of null then: mutator 1 in line 7, and mutator 0 in line 9.
 const STOPPED: Content = Content::Text(

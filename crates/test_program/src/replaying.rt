@@ -1,6 +1,5 @@
 //! Traces that are run over heaps: the dump, the lines, and what a refusal leaves.
-use test_support::Content;
-use test_support::Step;
+use test_support::{Content, Step};
 
 /// Traces that are run to their end.
 pub const REPLAYED: &[Step] = &[

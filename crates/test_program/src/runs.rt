@@ -4,12 +4,7 @@ use std::rt::Files;
 use std::sync::Wait;
 use std::test::Fail;
 use std::thread::Threads;
-use test_support::Run;
-use test_support::expect_ran;
-use test_support::words_of;
-use test_support::Step;
-use test_support::run_of;
-use test_support::take_file_step;
+use test_support::{Run, Step, expect_ran, run_of, take_file_step, words_of};
 
 // Runs the program, and has come of it what has to.
 fn expect_run<R: Files + AllocGlobal + Threads + Wait + Sync>(

@@ -1,6 +1,5 @@
 //! How runs begin: words of a machine in memory, and what is told where they cannot be had.
-use commands::fetch_words;
-use commands::tell_unstarted;
+use commands::{fetch_words, tell_unstarted};
 use std::env::FillError;
 use std::io::ErrorKind;
 use std::process::Abort;

@@ -1,12 +1,8 @@
 //! Runs on objects that have weak words.
 use crate::replaying::KEPT;
-use test_support::Change;
-use test_support::REFERENCE_KIND;
-use test_support::REFERENCE_VALUE;
-use test_support::SLID_WEAK_WORD;
-use test_support::VERSION;
-use test_support::Content;
-use test_support::Step;
+use test_support::{
+    Change, Content, REFERENCE_KIND, REFERENCE_VALUE, SLID_WEAK_WORD, Step, VERSION,
+};
 
 // The audit of the dump that was written last.
 const AUDIT: &str = "audit weak.tests.img weak.tests.out";

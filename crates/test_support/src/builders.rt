@@ -1,8 +1,6 @@
 //! Builders that tests watch, refuse or hold.
-use heap_layout::OutOfMemory;
-use heap_layout::PageWords;
-use page_plan::Builder;
-use page_plan::Plan;
+use heap_layout::{OutOfMemory, PageWords};
+use page_plan::{Builder, Plan};
 use std::alloc::Global;
 use std::hint;
 use std::sync::atomic::{AtomicU64, Ordering};

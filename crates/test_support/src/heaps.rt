@@ -1,8 +1,5 @@
 //! The heaps of the tests, written by a second hand.
-use heap_layout::Edition;
-use heap_layout::LayoutFault;
-use heap_layout::Header;
-use heap_layout::MarkedHeap;
+use heap_layout::{Edition, Header, LayoutFault, MarkedHeap};
 use page_plan::Plan;
 use std::alloc::{AllocError, Global};
 use std::test::Fail;

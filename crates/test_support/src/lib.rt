@@ -18,72 +18,27 @@ mod steps;
 mod two_live_objects;
 mod writers;
 
-pub use builders::Counting;
-pub use builders::Meeting;
-pub use builders::Refusing;
-pub use builders::both;
-pub use builders::met;
+pub use builders::{Counting, Meeting, Refusing, both, met};
 pub use call::Call;
-pub use changes::Change;
-pub use changes::FIRST_DATA;
-pub use changes::HEADER_OFFSET;
-pub use changes::HEADER_STAMP;
-pub use changes::LAST_PAGE;
-pub use changes::LAST_WORD;
-pub use changes::REFERENCE;
-pub use changes::REFERENCE_KIND;
-pub use changes::REFERENCE_STAMP;
-pub use changes::REFERENCE_VALUE;
-pub use changes::ROOT;
-pub use changes::SLID_WEAK_WORD;
-pub use changes::TOTAL;
-pub use changes::VERSION;
-pub use changes::WEAK_WORD;
-pub use contents::Content;
-pub use contents::bytes_in;
-pub use heaps::F;
-pub use heaps::T;
-pub use heaps::THREE;
-pub use heaps::WEAK;
-pub use heaps::counting_heap;
-pub use heaps::counting_object;
-pub use heaps::empty;
-pub use heaps::heap;
-pub use heaps::heap_of;
-pub use heaps::judged;
-pub use heaps::planned;
-pub use heaps::seventeen_pages;
-pub use heaps::smallest;
-pub use heaps::three;
-pub use heaps::weak;
-pub use heaps::zeros_heap;
-pub use heaps::zeros_object;
-pub use images::ALL;
-pub use images::BAD_ROOT_IMAGE;
-pub use images::EMPTY_IMAGE;
-pub use images::FRESH_DUMP;
-pub use images::THREE_IMAGE;
-pub use images::THREE_OBJECTS;
-pub use images::TWENTY_IMAGE;
-pub use images::WEAK_DUMP;
-pub use images::WEAK_IMAGE;
-pub use images::WEAK_SWEPT_DUMP;
+pub use changes::{
+    Change, FIRST_DATA, HEADER_OFFSET, HEADER_STAMP, LAST_PAGE, LAST_WORD, REFERENCE,
+    REFERENCE_KIND, REFERENCE_STAMP, REFERENCE_VALUE, ROOT, SLID_WEAK_WORD, TOTAL, VERSION,
+    WEAK_WORD,
+};
+pub use contents::{Content, bytes_in};
+pub use heaps::{
+    F, T, THREE, WEAK, counting_heap, counting_object, empty, heap, heap_of, judged, planned,
+    seventeen_pages, smallest, three, weak, zeros_heap, zeros_object,
+};
+pub use images::{
+    ALL, BAD_ROOT_IMAGE, EMPTY_IMAGE, FRESH_DUMP, THREE_IMAGE, THREE_OBJECTS, TWENTY_IMAGE,
+    WEAK_DUMP, WEAK_IMAGE, WEAK_SWEPT_DUMP,
+};
 pub use object::Object;
-pub use objects::Objects;
-pub use objects::Written;
-pub use parts::Part;
-pub use parts::bytes_of;
+pub use objects::{Objects, Written};
+pub use parts::{Part, bytes_of};
 pub use random::Random;
-pub use runs::Run;
-pub use runs::Text;
-pub use runs::expect_ran;
-pub use runs::words_of;
-pub use steps::Step;
-pub use steps::run_of;
-pub use steps::take_file_step;
-pub use steps::take_file_steps;
-pub use two_live_objects::opening;
-pub use two_live_objects::roots;
-pub use two_live_objects::two_live;
-pub use writers::Failure;
-pub use writers::Narrow;
+pub use runs::{Run, Text, expect_ran, words_of};
+pub use steps::{Step, run_of, take_file_step, take_file_steps};
+pub use two_live_objects::{opening, roots, two_live};
+pub use writers::{Failure, Narrow};

@@ -3,11 +3,9 @@ use crate::expected::{expect_so, plan_of};
 use crate::flipped::Case;
 use crate::ran::raced;
 use crate::replays::{WEAK_TEXT, replay_rows, replay_weak_rows};
-use comp_mutator::Refusal;
-use comp_mutator::Finished;
-use comp_trace::Run;
+use comp_mutator::{Builder, Finished, Refusal};
+use comp_trace::{Run, Stop};
 use heap_layout::Header;
-use comp_mutator::Builder;
 use page_plan::Plan;
 use std::alloc::Global;
 use std::marker::Brand;
@@ -15,12 +13,7 @@ use std::process::Abort;
 use std::sync::Wait;
 use std::sync::ledger::Blank;
 use std::thread::Threads;
-use comp_trace::Stop;
-use test_support::Meeting;
-use test_support::F;
-use test_support::heap;
-use test_support::three;
-use test_support::weak;
+use test_support::{F, Meeting, heap, three, weak};
 
 // What is to come of a mutator's run.
 enum Wanted {

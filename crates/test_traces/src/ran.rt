@@ -3,20 +3,14 @@ ghost use Rattle.std.specs.Prelude.{◌≡◌};
 
 use crate::flipped::{Case, flipped, read_for, root_count};
 use crate::judged::finish_lawfully;
-use comp_mutator::Finished;
-use comp_trace::Raced;
-use comp_trace::Run;
-use comp_trace::race;
-use comp_trace::Stopped;
-use comp_trace::replay_text;
-use comp_mutator::Builder;
+use comp_mutator::{Builder, Finished};
+use comp_trace::{Raced, Run, Shown, Stopped, race, replay_text};
 use page_plan::Plan;
 use std::alloc::Global;
 use std::process::Abort;
 use std::sync::Wait;
 use std::sync::ledger::{Blank, Ledger};
 use std::thread::Threads;
-use comp_trace::Shown;
 
 /// What a text shows by one thread on the heap of this builder, and the finished heap, which is lawful for this plan.
 pub fn replayed<L: Ledger>(

@@ -4,23 +4,18 @@ use crate::expected::{expect_plan, expect_so};
 use crate::finished::{expect_pages, take_history};
 use crate::ran::raced;
 use crate::random_traces::case_of;
-use comp_mutator::Refusal;
 use comp_journal::Entry;
-use comp_mutator::Finished;
-use comp_trace::Run;
+use comp_mutator::{Finished, Refusal};
+use comp_trace::{Action, Line, Run};
 use heap_layout::Kind;
 use page_plan::Plan;
-use test_support::Objects;
-use test_support::opening;
-use test_support::two_live;
 use std::alloc::Global;
 use std::marker::Brand;
 use std::process::Abort;
 use std::sync::Wait;
 use std::sync::ledger::Blank;
 use std::thread::Threads;
-use comp_trace::Action;
-use comp_trace::Line;
+use test_support::{Objects, opening, two_live};
 
 // Why a line can be refused that waits and has memory.
 const STOPS: [Refusal; 5] = [

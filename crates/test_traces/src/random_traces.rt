@@ -8,18 +8,16 @@ use crate::random_races::race_drawn;
 use crate::replays::expect_replay;
 use crate::texts::expect_lines;
 use comp_mutator::Finished;
-use comp_trace::Stopped;
+use comp_trace::{Shown, Stopped, TraceFault};
 use heap_layout::Edition;
 use page_plan::Plan;
-use test_support::two_live;
 use std::alloc::Global;
 use std::marker::Brand;
 use std::process::Abort;
 use std::sync::Wait;
 use std::sync::ledger::Blank;
 use std::thread::Threads;
-use comp_trace::Shown;
-use comp_trace::TraceFault;
+use test_support::two_live;
 
 // Whether a trace is raced, or else replayed by one thread.
 #[derive(Clone, Copy)]

@@ -2,10 +2,9 @@
 use crate::expected::{expect_so, plan_of};
 use crate::flipped::Case;
 use crate::ran::replayed;
-use comp_mutator::Refusal;
 use comp_journal::Entry;
-use comp_mutator::Finished;
-use comp_trace::Stopped;
+use comp_mutator::{Finished, Refusal};
+use comp_trace::{Shown, Stopped, TraceFault};
 use heap_layout::Kind;
 use page_plan::Plan;
 use std::alloc::Global;
@@ -13,10 +12,7 @@ use std::marker::Brand;
 use std::process::Abort;
 use std::sync::ledger::Blank;
 use std::thread::Threads;
-use comp_trace::Shown;
-use comp_trace::TraceFault;
-use test_support::three;
-use test_support::weak;
+use test_support::{three, weak};
 
 // The only entry of a page, which mutator 0 wrote: the page's number, and the entry's stamp, kind, offset and value.
 struct Only(usize, u64, Kind, u8, u64);

@@ -6,13 +6,12 @@ ghost use Rattle.trace_text.specs.Traces.{lines_of};
 ghost use Rattle.trace_cycles.specs.CycleRuns.{IsCycleHaltOf, IsLastRun, IsParsedFor};
 
 use comp_cycles::Finished;
-use trace_replay::Halt;
-use trace_replay::run_over;
 use heap_layout::MarkedHeap;
 use page_plan::Plan;
 use std::alloc::Global;
 use std::sync::Arc;
 use std::thread::Threads;
+use trace_replay::{Halt, run_over};
 use trace_steps::Shown;
 use trace_text::Trace;
 

@@ -5,10 +5,6 @@ mod cycle;
 mod fault;
 mod replaying;
 
-pub use cycle::CycleHalt;
-pub use cycle::Ran;
-pub use cycle::run_cycle;
+pub use cycle::{CycleHalt, Ran, run_cycle};
 pub use fault::CycleFault;
-pub use replaying::CyclesRun;
-pub use replaying::CyclesStopped;
-pub use replaying::replay_cycles;
+pub use replaying::{CyclesRun, CyclesStopped, replay_cycles};

@@ -10,15 +10,13 @@ ghost use Rattle.trace_cycles.specs.Stops.{marks_and_lines, some_values, values_
 
 use crate::cycle::{CycleHalt, Ran, run_cycle};
 use crate::fault::CycleFault;
-use comp_cycles::Finished;
-use comp_cycles::one_life;
-use comp_cycles::one_writing;
-use trace_replay::Halt;
+use comp_cycles::{Finished, one_life, one_writing};
 use heap_layout::MarkedHeap;
 use page_plan::Plan;
 use std::alloc::Global;
 use std::sync::Arc;
 use std::thread::Threads;
+use trace_replay::Halt;
 use trace_steps::Shown;
 use trace_text::Trace;
 

@@ -6,7 +6,4 @@ mod racing;
 mod runner;
 mod waiting;
 
-pub use racing::NotRaced;
-pub use racing::Raced;
-pub use racing::Run;
-pub use racing::race;
+pub use racing::{NotRaced, Raced, Run, race};

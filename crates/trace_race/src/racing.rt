@@ -13,20 +13,15 @@ ghost use Rattle.trace_text.specs.Traces.{lines_of};
 
 use crate::chains::{Chains, chained};
 use crate::runner::{Runner, run_own};
-use comp_mutator::Mutator;
-use comp_mutator::Space;
+use comp_mutator::{Builder, Mutator, Space};
 use heap_layout::OutOfMemory;
-use comp_mutator::Builder;
 use std::alloc::Global;
 use std::sync::Wait;
 use std::sync::ledger::Ledger;
 use std::thread;
 use std::thread::Threads;
 use trace_steps::Shown;
-use trace_text::Stop;
-use trace_text::TraceFault;
-use trace_text::Line;
-use trace_text::Trace;
+use trace_text::{Line, Stop, Trace, TraceFault};
 
 /// What a mutator's lines showed, and the one that was refused, if any.
 #[derive(Debug, Drop)]

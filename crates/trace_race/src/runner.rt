@@ -9,16 +9,12 @@ ghost use Rattle.trace_steps.specs.Traces.{AllFit};
 
 use crate::chains::Chains;
 use crate::waiting::act_waiting;
-use comp_mutator::Mutator;
-use comp_mutator::Space;
-use comp_mutator::Builder;
+use comp_mutator::{Builder, Mutator, Space};
 use std::alloc::Global;
 use std::sync::Wait;
 use std::sync::ledger::Ledger;
-use trace_steps::Shown;
-use trace_steps::show;
-use trace_text::Stop;
-use trace_text::Line;
+use trace_steps::{Shown, show};
+use trace_text::{Line, Stop};
 
 /// A mutator that runs its lines: its registers, what its lines showed, and its refused line.
 #[derive(Drop)]

@@ -7,16 +7,11 @@ ghost use Rattle.comp_mutator.specs.Mutators.{pass_of, setup_of, IsMutatorOf};
 ghost use Rattle.comp_mutator.specs.Refusal.TheVariants.{Busy};
 ghost use Rattle.trace_steps.specs.Acting.{registers_after, Fits, Refuses, Steps};
 
-use comp_mutator::Refusal;
-use comp_mutator::Mutator;
-use comp_mutator::Space;
-use comp_mutator::Builder;
+use comp_mutator::{Builder, Mutator, Refusal, Space};
 use std::alloc::Global;
 use std::sync::Wait;
 use std::sync::ledger::Ledger;
-use trace_steps::held;
-use trace_steps::kind_if;
-use trace_steps::root_at;
+use trace_steps::{held, kind_if, root_at};
 use trace_text::Action;
 
 /// Does what a line says, and answers what its call does: 0 for a register that becomes null.

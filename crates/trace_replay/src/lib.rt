@@ -6,11 +6,7 @@ mod replaying;
 mod running;
 mod texts;
 
-pub use laws::replays_show_once;
-pub use laws::runs_are_determined;
-pub use replaying::Stopped;
-pub use replaying::replay;
-pub use running::Halt;
-pub use running::Run;
-pub use running::run_over;
+pub use laws::{replays_show_once, runs_are_determined};
+pub use replaying::{Stopped, replay};
+pub use running::{Halt, Run, run_over};
 pub use texts::replay_text;

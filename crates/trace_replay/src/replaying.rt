@@ -9,18 +9,11 @@ ghost use Rattle.trace_steps.specs.Rounds.{AreLater, DidNothing};
 ghost use Rattle.trace_steps.specs.Traces.{AllFit, IsParsedFor};
 ghost use Rattle.trace_text.specs.Traces.{lines_of};
 
-use comp_mutator::Refusal;
-use comp_mutator::Mutator;
-use comp_mutator::Space;
-use comp_mutator::Builder;
+use comp_mutator::{Builder, Mutator, Refusal, Space};
 use std::alloc::{AllocError, Global};
 use std::sync::ledger::Ledger;
-use trace_steps::Shown;
-use trace_steps::show;
-use trace_steps::step;
-use trace_text::TraceFault;
-use trace_text::Line;
-use trace_text::Trace;
+use trace_steps::{Shown, show, step};
+use trace_text::{Line, Trace, TraceFault};
 
 /// The values that were shown before a replay stopped, and why it did.
 #[derive(Debug, Drop)]

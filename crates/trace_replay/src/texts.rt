@@ -5,11 +5,8 @@ ghost use Rattle.trace_steps.specs.Deeds.{DidNothingYet};
 ghost use Rattle.trace_replay.specs.Bytes.{Shows, StopsShowing};
 ghost use Rattle.trace_steps.specs.AllMutators.{AreAll};
 
-use crate::replaying::Stopped;
-use crate::replaying::replay;
-use comp_mutator::Mutator;
-use comp_mutator::Space;
-use comp_mutator::Builder;
+use crate::replaying::{Stopped, replay};
+use comp_mutator::{Builder, Mutator, Space};
 use std::alloc::Global;
 use std::sync::ledger::Ledger;
 use trace_steps::Shown;

@@ -6,10 +6,7 @@ ghost use Rattle.comp_mutator.specs.Mutators.{pass_of, setup_of, IsMutatorOf};
 ghost use Rattle.trace_steps.specs.Acting.{registers_after, Fits, Refuses, Steps};
 
 use crate::registers::{held, kind_if, root_at};
-use comp_mutator::Refusal;
-use comp_mutator::Mutator;
-use comp_mutator::Space;
-use comp_mutator::Builder;
+use comp_mutator::{Builder, Mutator, Refusal, Space};
 use std::alloc::Global;
 use std::sync::ledger::Ledger;
 use trace_text::Action;

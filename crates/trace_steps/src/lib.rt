@@ -6,9 +6,6 @@ mod registers;
 mod shown;
 mod stepping;
 
-pub use registers::held;
-pub use registers::kind_if;
-pub use registers::root_at;
-pub use shown::Shown;
-pub use shown::show;
+pub use registers::{held, kind_if, root_at};
+pub use shown::{Shown, show};
 pub use stepping::step;

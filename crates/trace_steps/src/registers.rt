@@ -6,9 +6,8 @@ ghost use Rattle.comp_mutator.specs.Sliding.{forward};
 ghost use Rattle.comp_mutator.specs.Mutators.{setup_of};
 ghost use Rattle.trace_steps.specs.Builds.{kind_if};
 
-use comp_mutator::Space;
+use comp_mutator::{Builder, Space};
 use heap_layout::Kind;
-use comp_mutator::Builder;
 use std::sync::ledger::Ledger;
 
 /// What a register, one of 16, holds.

@@ -10,11 +10,8 @@ mod parsing;
 mod reading;
 mod trace;
 
-pub use fault::Stop;
-pub use fault::TraceFault;
-pub use line::Action;
-pub use line::Line;
-pub use marks::MarksFault;
-pub use marks::read_marks;
+pub use fault::{Stop, TraceFault};
+pub use line::{Action, Line};
+pub use marks::{MarksFault, read_marks};
 pub use parsing::parse;
 pub use trace::Trace;

@@ -11,11 +11,7 @@ ghost use Rattle.comp_dump.specs.declared.fault.DumpFault.TheVariants.{Truncated
 
 use crate::fault::DumpFault;
 use byteorder::{ByteOrder, LittleEndian};
-use heap_layout::Counted;
-use heap_layout::Cut;
-use heap_layout::fill;
-use heap_layout::edition_of;
-use heap_layout::Edition;
+use heap_layout::{Counted, Cut, Edition, edition_of, fill};
 use std::io::Read;
 
 /// The first bytes of a dump.

@@ -6,21 +6,14 @@ ghost use Rattle.page_cells.specs.Cells.{IsPassOf};
 use crate::shared::expected::{At, expect_so};
 use crate::shared::rows::{Row, at_once};
 use heap_layout::MarkedHeap;
-use page_cells::Pass;
-use page_cells::Cells;
-use page_cells::CellRefusal;
-use page_plan::Builder;
-use page_plan::Plan;
+use page_cells::{CellRefusal, Cells, Pass};
+use page_plan::{Builder, Plan};
 use std::alloc::Global;
 use std::process::Abort;
 use std::sync::Arc;
 use std::test::Fail;
 use std::thread::Threads;
-use test_support::Meeting;
-use test_support::Refusing;
-use test_support::planned;
-use test_support::three;
-use test_support::zeros_heap;
+use test_support::{Meeting, Refusing, planned, three, zeros_heap};
 
 // What two passes do at once: the rows of the first, and those of the second.
 type Round = (&'static [Row], &'static [Row]);

@@ -3,21 +3,15 @@ ghost use Rattle.std.specs.Prelude.{◌≡◌};
 ghost use Rattle.comp_mutator.specs.Mutators.{setup_of, AreMutatorsOf, IsMutatorOf};
 
 use crate::sweeping::cases::{Case, Object};
-use comp_mutator::Finished;
-use comp_mutator::flip;
-use comp_mutator::Mutator;
-use comp_mutator::Space;
+use comp_mutator::{Builder, Finished, Mutator, Space, flip};
 use heap_layout::Edition;
-use comp_mutator::Builder;
 use page_plan::Plan;
 use std::alloc::Global;
 use std::process::Abort;
 use std::sync::Arc;
 use std::sync::ledger::{Blank, Ledger as Named};
 use std::thread::Threads;
-use test_support::counting_object;
-use test_support::judged;
-use test_support::zeros_object;
+use test_support::{counting_object, judged, zeros_object};
 
 // As many equal objects, one behind the other.
 fn equal_objects(rt: &impl Abort, alloc: Global, object: Object, objects: usize) -> Vec<u64> {

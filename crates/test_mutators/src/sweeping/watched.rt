@@ -4,8 +4,7 @@ use crate::sweeping::expected::expect;
 use comp_sweep::Gate;
 use std::process::Abort;
 use std::sync::atomic::{AtomicU64, Ordering};
-use test_support::both;
-use test_support::met;
+use test_support::{both, met};
 
 /// The gate of a case. One that counts is told of three regions. One that holds counts the regions for which that was in vain.
 #[derive(Drop)]
