@@ -1,4 +1,4 @@
--- What is wrong with pages that were built, and what is known where nothing is.
+-- The faults of pages that were built, and what is known if there is none.
 use Rattle.std.proofs.Common.{◌≡◌, ℕ, ◌+◌, ◌<◌, inl, inr, List, [], ◌++◌, length, get_or, Option, Some, None, refl, sym, subst, ◌∙◌, arith}
 use Rattle.std.proofs.Math.ListN.{get_or-eq_default}
 use Rattle.std.proofs.lemmas.Bool.{cases_lt}
@@ -22,7 +22,7 @@ built_inside records p page at =
       | inr le ↦ let none : get_or records p None ≡ None = get_or-eq_default records None le in absurd (cc)
     ]
 
--- nothing is wrong with pages where nothing is with each
+-- pages have no fault if no single page has one
 none_of : (f : ℕ → BuiltPage → List AuditFault) (records : List (Option BuiltPage)) (p k : ℕ) (kept : Option BuiltPage) → p < length records → k ≡ 0 + p
     → kept ≡ get_or records p kept → ((q : ℕ) (page : BuiltPage) → get_or records q None ≡ Some page → f q page ≡ []) → of_built f (k, kept) ≡ []
 none_of f records p k None inside number is none = refl
@@ -34,7 +34,7 @@ pub none_built : (f : ℕ → BuiltPage → List AuditFault) (records : List (Op
     → ((p : ℕ) (page : BuiltPage) → get_or records p None ≡ Some page → f p page ≡ []) → each_built f records ≡ []
 none_built f records none = none_items (of_built f) 0 records (λ p k kept inside number is. none_of f records p k kept inside number is none)
 
--- and the other way round
+-- and conversely
 pub built_none : (f : ℕ → BuiltPage → List AuditFault) (records : List (Option BuiltPage)) (p : ℕ) (page : BuiltPage)
     → each_built f records ≡ [] → get_or records p None ≡ Some page → f p page ≡ []
 built_none f records p page none at =
@@ -54,7 +54,7 @@ pub rising_records : (u : Setup) (records : List (Option BuiltPage)) → each_bu
     → (p : ℕ) → (n : ℕ) × Rises 0 (journals_in records p) n
 rising_records u records none = λ p. (lawful_by u records p (get_or records p None) none refl).1
 
--- so they are where nothing is wrong with single pages
+-- so they are if no single page has a fault
 pub lawful_pages : (u : Setup) (builds : List (List ℕ)) (records : List (Option BuiltPage)) → page_faults u builds records ≡ [] → AreLawful u (journals_in records)
 lawful_pages u builds records none =
     let behind = none_both (build_faults builds records) (each_built (journal_faults u) records ++ each_built (word_faults u) records) none in

@@ -1,4 +1,4 @@
--- Of entries that fail a test, the one with the least stamp is that of the first fault.
+-- Of the entries that fail a test, the one with the least stamp has the first fault.
 use Rattle.std.proofs.Common.{◌≡◌, ◌≢◌, ℕ, ◌+◌, ◌<◌, ◌≤◌, Bool, true, false, eqb, not, ◌||◌, List, [], ◌∷◌, ◌++◌, length, take, get_or, Option, Some, None, refl, sym, ap, subst, ◌∙◌, inl, inr, arith, append-nil, append_assoc}
 use Rattle.std.specs.List.{flat_map, enumerate_from}
 use Rattle.std.proofs.Math.Path.{fun_ext}
@@ -25,7 +25,7 @@ at_stamp late s = unless (not (eqb late.stamp s)) (BadEntry late.page late.numbe
 both_none : (one others : List AuditFault) → one ≡ [] → others ≡ [] → one ++ others ≡ []
 both_none one others p q = rw (p, q) refl
 
--- what has the same faults
+-- functions with the same faults have the same earliest entry
 pub same_earliest : (one other : ℕ → List AuditFault) (found : Option Late) → ((s : ℕ) → one s ≡ other s) → IsEarliest one found → IsEarliest other found
 same_earliest one other found same is = subst (λ (f : ℕ → List AuditFault). IsEarliest f found) (fun_ext same) is
 
@@ -43,7 +43,7 @@ one_late test p entry s = unless (not (eqb entry.1.stamp s) || test entry.1) (Ba
 abbrev pub front_late : (Entry → Bool) → ℕ → List Entry → ℕ → ℕ → List AuditFault
 front_late test p j i s = flat_map (λ entry. unless (not (eqb entry.1.stamp s) || test entry.1) (BadEntry p entry.0)) (enumerate_from 0 (take i j))
 
--- one entry more of a page
+-- one more entry of a page
 module _ (test : Entry → Bool) (faults : ℕ → List AuditFault) (p : ℕ) (j : List Entry) (i : ℕ) (e : Entry) (inside : i < length j) (is : e ≡ get_or j i e) where
   more : (s : ℕ) → (faults s ++ front_late test p j i s) ++ one_late test p (i, e) s ≡ faults s ++ front_late test p j (i + 1) s
   more s = append_assoc (faults s) (front_late test p j i s) (one_late test p (i, e) s)
@@ -102,7 +102,7 @@ none_late test records none = none_in_range (late_with test records) 0 (above (a
 abbrev pub pages_late : (Entry → Bool) → List (Option BuiltPage) → ℕ → ℕ → List AuditFault
 pages_late test records p s = flat_map (of_built (λ q page. late_on test s q page.journal)) (enumerate_from 0 (take p records))
 
--- one page more
+-- one more page
 module _ (test : Entry → Bool) (records : List (Option BuiltPage)) (p : ℕ) (kept : Option BuiltPage) (inside : p < length records) (is : kept ≡ get_or records p kept) where
   page_more : (s : ℕ) → pages_late test records (p + 1) s ≡ pages_late test records p s ++ of_built (λ q page. late_on test s q page.journal) (p, kept)
   page_more s = faults_more (of_built (λ q page. late_on test s q page.journal)) p records kept inside is

@@ -1,4 +1,4 @@
--- All entries of a dump, page by page: what one page more and one entry more add.
+-- All entries of a dump, page by page: what one more page and one more entry add.
 use Rattle.std.proofs.Common.{◌≡◌, ℕ, suc, ◌+◌, ◌<◌, ◌≤◌, ⊎_elim, List, [], ◌∷◌, ◌++◌, length, map, take, get_or, Option, Some, None, refl, sym, ap, subst, ◌∙◌, arith}
 use Rattle.std.proofs.lemmas.List.{map-append, take_more, get_or_default}
 use Rattle.heap_layout.specs.declared.edition.Edition.{Edition}
@@ -20,7 +20,7 @@ pub few_at : (kept : Option BuiltPage) → HasFewEntries kept → length (journa
 few_at None h = omega arith
 few_at (Some page) h = h
 
--- one page more
+-- one more page
 pub page_more : (records : List (Option BuiltPage)) (p : ℕ) (kept : Option BuiltPage) → p < length records → kept ≡ get_or records p kept
     → entries_below (journals_in records) (p + 1) ≡ entries_below (journals_in records) p ++ with_page p (journal_of kept)
 page_more records p kept inside is =
@@ -28,7 +28,7 @@ page_more records p kept inside is =
     ap (entries_below (journals_in records)) next
     ∙ ap (λ (j : List Entry). entries_below (journals_in records) p ++ with_page p j) (journal_here records p kept inside is)
 
--- one entry more of a page
+-- one more entry of a page
 pub entry_more : (p : ℕ) (j : List Entry) (i : ℕ) (e : Entry) → i < length j → e ≡ get_or j i e → with_page p (take (i + 1) j) ≡ with_page p (take i j) ++ (p, e) ∷ []
 entry_more p j i e inside is =
     ap (with_page p) (take_more j i e inside ∙ ap (λ (x : Entry). take i j ++ x ∷ []) (sym is))
@@ -42,7 +42,7 @@ stamps_with p (e ∷ es) = ap (λ (rest : List ℕ). e.stamp ∷ rest) (stamps_w
 pub stamps_more : (all : List (ℕ × Entry)) (p : ℕ) (j : List Entry) → map stamp_of (all ++ with_page p j) ≡ map stamp_of all ++ map (λ (e : Entry). e.stamp) j
 stamps_more all p j = map-append stamp_of all (with_page p j) ∙ ap (λ (rest : List ℕ). map stamp_of all ++ rest) (stamps_with p j)
 
--- the stamps and the words of one page more
+-- the stamps and the words of one more page
 pub stamps_next : (records : List (Option BuiltPage)) (p : ℕ) (kept : Option BuiltPage) (j : List Entry) (old new : List ℕ) → p < length records → kept ≡ get_or records p kept
     → j ≡ journal_of kept → old ≡ map stamp_of (entries_below (journals_in records) p) → new ≡ old ++ map (λ (e : Entry). e.stamp) j
     → new ≡ map stamp_of (entries_below (journals_in records) (p + 1))
@@ -74,7 +74,7 @@ words_next edition records p kept j old new inside is same before more =
     ∙ ap (λ (l : List Entry). allocated edition (entries_below (journals_in records) p ++ with_page p l)) same
     ∙ ap (allocated edition) (sym (page_more records p kept inside is))
 
--- the stamp of an entry that stands in a list is below what is above all of the list's stamps
+-- the stamp of an entry of a list is below `above` of the list's stamps
 in_below_all : (all : List (ℕ × Entry)) (x : ℕ × Entry) → In x all → stamp_of x < above (map stamp_of all)
 in_below_all [] x i = absurd i
 in_below_all (y ∷ ys) x i = ⊎_elim

@@ -13,7 +13,7 @@ use Rattle.audit_checks.specs.Told.{IsFirst}
 both_true : (a b : Bool) (fault : AuditFault) → a ≡ true → b ≡ true → unless (a && b) fault ≡ []
 both_true a b fault p q = rw (p, q) refl
 
--- behind an entry that may follow those before it, what is wrong is wrong with the others
+-- after an entry that fits, the faults are those of the entries after it
 pub entry_next : (u : Setup) (p i low : ℕ) (j : List Entry) (d : Entry) → i < length j → low ≤ (get_or j i d).stamp
     → fits u p (take i j) (get_or j i d).kind (get_or j i d).writer (get_or j i d).offset (get_or j i d).value ≡ true
     → entry_faults u p (i + 1) ((get_or j i d).stamp + 1) (take (i + 1) j) (drop (i + 1) j) ≡ entry_faults u p i low (take i j) (drop i j)
@@ -36,7 +36,7 @@ one_false true false h = refl
 one_false true true (inl h) = absurd cc
 one_false true true (inr h) = absurd cc
 
--- an entry that may not follow those before it, or has too low a stamp, is the first fault of those that are left
+-- an entry that does not fit, or whose stamp is too low, has the first fault of the entries that are left
 pub entry_bad : (u : Setup) (p i low : ℕ) (j : List Entry) (d : Entry) → i < length j
     → ((get_or j i d).stamp < low) ⊎ (fits u p (take i j) (get_or j i d).kind (get_or j i d).writer (get_or j i d).offset (get_or j i d).value ≡ false)
     → IsFirst (entry_faults u p i low (take i j) (drop i j)) (BadEntry p i)

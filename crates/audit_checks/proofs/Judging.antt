@@ -1,4 +1,4 @@
--- What the checks between pages tell together.
+-- What the checks between pages answer together.
 use Rattle.std.proofs.Common.{◌≡◌, ℕ, Bool, ◌||◌, List, [], ◌++◌, Option, Result, Err, sym, ap, subst, ◌∙◌, append_assoc}
 use Rattle.std.proofs.Math.Path.{fun_ext}
 use Rattle.comp_history.specs.Setup.{Setup}

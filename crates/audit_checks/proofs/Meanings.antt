@@ -1,4 +1,4 @@
--- What the tests of entries mean in the cells' words: a journal without a fault is lawful, and its stamps rise.
+-- What the tests of entries mean for the cells: a journal without a fault is lawful, and its stamps rise.
 use Rattle.std.proofs.Common.{◌≡◌, ℕ, ◌+◌, ◌-◌, ◌%◌, Bool, true, false, eqb, ltb, leb, ◌&&◌, List, [], ◌∷◌, ◌++◌, Option, Some, refl, sym, ap, ◌∙◌, arith}
 use Rattle.std.proofs.lemmas.Bool.{le-leb, lt-ltb, leb-true, ltb-true, eqb-true, eq-eqb}
 use Rattle.heap_layout.specs.Header.{header_of, size_of}

@@ -51,7 +51,7 @@ or_true : (b : Bool) → (b || true) ≡ true
 or_true true = refl
 or_true false = refl
 
--- one entry more passes a test, or it does not
+-- one more entry passes a test, or it does not
 any_more : (test : ℕ × Entry → Bool) (all : List (ℕ × Entry)) (x : ℕ × Entry) (b : Bool) → test x ≡ b → list_any test (all ++ x ∷ []) ≡ (list_any test all || b)
 any_more test all x b e =
     list_any-append test all (x ∷ []) ∙ ap (λ (c : Bool). list_any test all || c) (or_false (test x) ∙ e)
@@ -124,7 +124,7 @@ headers_covered u p journal first count lawful inside begins long = λ k d lt he
     let offset : (get_or journal k d).offset ≡ there.0.offset = ap (λ (e : Entry). e.offset) same in
     (omega (arith, made.fresh, begins), omega (arith, made.ends, inside, begins, long, offset))
 
--- one page more
+-- one more page
 pub notes_next : (records : List (Option BuiltPage)) (p : ℕ) (kept : Option BuiltPage) (j : List Entry) (old new : Stamped) → p < length records → kept ≡ get_or records p kept
     → j ≡ journal_of kept → Notes old (entries_below (journals_in records) p) → ((all : List (ℕ × Entry)) → Notes old all → Notes new (all ++ with_page p j))
     → Notes new (entries_below (journals_in records) (p + 1))
@@ -133,7 +133,7 @@ notes_next records p kept j old new inside is same before more =
     ap (λ (l : List Entry). entries_below (journals_in records) p ++ with_page p l) same ∙ sym (page_more records p kept inside is) in
     subst (Notes new) parts (more (entries_below (journals_in records) p) before)
 
--- one entry more of a page
+-- one more entry of a page
 pub notes_entry : (starts : Stamped) (all : List (ℕ × Entry)) (p : ℕ) (j : List Entry) (i : ℕ) (e : Entry) → i < length j → e ≡ get_or j i e
     → Notes starts ((all ++ with_page p (take i j)) ++ (p, e) ∷ []) → Notes starts (all ++ with_page p (take (i + 1) j))
 notes_entry starts all p j i e inside is notes =

@@ -104,7 +104,7 @@ Sorted xs = (i j : ℕ) → i ≤ j → j < length xs → slice_index xs i ≤ s
 abbrev pub RisesBelow : ℕ → List ℕ → Type 0
 RisesBelow n xs = (k : ℕ) → k + 1 < n → slice_index xs k < slice_index xs (k + 1)
 
--- where numbers rise up to place n, two places below n have two numbers
+-- if numbers rise up to place n, of two places below n the later one has the greater number
 apart : (n : ℕ) (xs : List ℕ) (i j : ℕ) → Sorted xs → RisesBelow n xs → i < j → j < n → n ≤ length xs → slice_index xs i < slice_index xs j
 apart n xs i zero sorted rises lt below inside = absurd (omega (arith, lt))
 apart n xs i (suc j) sorted rises lt below inside =
@@ -121,7 +121,7 @@ missing xs s = unless (leb 1 (times s xs)) (StampMissing s)
 not_repeated : (s : ℕ) (xs : List ℕ) → times s xs ≤ 1 → repeated xs s ≡ []
 not_repeated s xs h = rw (le-leb _ _ h) refl
 
--- the first number that stands behind its like
+-- the first number that follows an equal one
 pub first_repeat : (xs : List ℕ) (i : ℕ) → 0 < i → i < length xs → Sorted xs → RisesBelow i xs → slice_index xs i ≡ slice_index xs (i - 1)
     → IsFirst (repeat_faults xs) (StampRepeated (slice_index xs i))
 first_repeat xs i positive inside sorted rises same =
@@ -143,7 +143,7 @@ none_repeat xs sorted rises =
 not_missing : (s : ℕ) (xs : List ℕ) → 1 ≤ times s xs → missing xs s ≡ []
 not_missing s xs h = rw (le-leb _ _ h) refl
 
--- where each number below i stands at its place and i does not, what stands there is greater
+-- if each number below i stands at its place and i does not, the number at place i is greater
 past : (xs : List ℕ) (i : ℕ) → RisesBelow (length xs) xs → i < length xs → ((k : ℕ) → k < i → slice_index xs k ≡ k) → (slice_index xs i ≡ i → ⊥) → i < slice_index xs i
 past xs zero rises inside below other = elim (cases_lt 0 (slice_index xs 0)) [ inl lt ↦ lt | inr le ↦ absurd (other (omega (arith, le))) ]
 past xs (suc i) rises inside below other =
@@ -192,7 +192,7 @@ total_sum f (x ∷ xs) = omega (arith, total_sum f xs, sum_by-cons f x xs)
 pub times_permuted : (xs ys : List ℕ) → IsPermutation xs ys → (s : ℕ) → times s ys ≡ times s xs
 times_permuted xs ys moved s = total_sum (only s) ys ∙ sum_by-IsPermutation (only s) xs ys moved ∙ sym (total_sum (only s) xs)
 
--- where no number is below the one before it, no later one is below an earlier one
+-- if no number is below the one before it, no later one is below an earlier one
 pub sorted_from : (xs : List ℕ) → ((k : ℕ) → k + 1 < length xs → slice_index xs k ≤ slice_index xs (k + 1)) → Sorted xs
 sorted_from xs next i zero le inside = let same : i ≡ 0 = omega (arith, le) in rw same (omega arith)
 sorted_from xs next i (suc j) le inside =

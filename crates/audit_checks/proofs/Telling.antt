@@ -1,4 +1,4 @@
--- What a check tells of its faults: joined to what other checks tell, and from one page, word or entry to the next.
+-- What a check answers: combined with other checks, and from one page, word or entry to the next.
 use Rattle.std.proofs.Common.{◌≡◌, ℕ, zero, suc, ◌+◌, ◌<◌, Bool, true, false, ◌&&◌, List, [], ◌∷◌, ◌++◌, length, map, take, drop, get_or, Option, Some, Result, Err, refl, sym, ap, subst, ◌∙◌, arith, append-nil, length-take}
 use Rattle.std.specs.Prelude.{unwrap_or}
 use Rattle.std.specs.List.{flat_map, enumerate_from}
@@ -17,7 +17,7 @@ second_fails true false fault e = refl
 second_fails true true fault e = absurd cc
 second_fails false b fault e = refl
 
--- of which both pass
+-- a test of two parts, both of which pass
 pub both_pass : (a b : Bool) (fault : AuditFault) → a ≡ true → b ≡ true → unless (a && b) fault ≡ []
 both_pass true true fault p q = refl
 both_pass true false fault p q = absurd cc
@@ -33,11 +33,11 @@ pub tells_first : (one others : List AuditFault) (why : Stop) → Tells one (Err
 tells_first one others stop.Memory h = tt
 tells_first one others (stop.Fault fault) h = first_part one others fault h
 
--- behind a check that is passed the next one tells
+-- after a check that passes, the next one answers
 pub tells_then : (one others : List AuditFault) (result : Result (Unit {0}) Stop) → one ≡ [] → Tells others result → Tells (one ++ others) result
 tells_then one others result none h = subst (λ (front : List AuditFault). Tells (front ++ others) result) (sym none) h
 
--- nothing is wrong with two parts where nothing is with both together
+-- two parts have no fault if both together have none
 pub none_both : (one others : List AuditFault) → one ++ others ≡ [] → (one ≡ []) × (others ≡ [])
 none_both [] others h = (refl, h)
 none_both (first ∷ rest) others h = absurd cc
@@ -47,7 +47,7 @@ pub unless_holds : (b : Bool) (fault : AuditFault) → unless b fault ≡ [] →
 unless_holds true fault none = refl
 unless_holds false fault none = absurd cc
 
--- the faults of a list from one item on are those of that item and of those behind it
+-- the faults of a list from one item on are those of that item and of the items after it
 pub faults_next : {X : Type 0} (f : ℕ × X → List AuditFault) (i : ℕ) (xs : List X) (x : X) → i < length xs
     → flat_map f (enumerate_from i (drop i xs)) ≡ f (i, get_or xs i x) ++ flat_map f (enumerate_from (i + 1) (drop (i + 1) xs))
 faults_next {X = X} f i xs x inside =
@@ -55,7 +55,7 @@ faults_next {X = X} f i xs x inside =
     ap (λ (rest : List X). flat_map f (enumerate_from i rest)) (drop-cons xs i x inside)
     ∙ ap (λ (k : ℕ). f (i, get_or xs i x) ++ flat_map f (enumerate_from (i + 1) (drop k xs))) next
 
--- an item of a list, of which those before it have no fault: it has the first fault, or it has none
+-- an item of a list, with no fault before it: it has the first fault, or none
 module _ {X : Type 0} (f : ℕ × X → List AuditFault) (i : ℕ) (xs : List X) (x : X) (all : List AuditFault) (inside : i < length xs) (is : x ≡ get_or xs i x)
     (left : flat_map f (enumerate_from i (drop i xs)) ≡ all) where
   abbrev behind : List AuditFault
@@ -70,7 +70,7 @@ module _ {X : Type 0} (f : ℕ × X → List AuditFault) (i : ℕ) (xs : List X)
   pub none_here : f (i, x) ≡ [] → behind ≡ all
   none_here none = ap (λ (front : List AuditFault). front ++ behind) (sym none) ∙ parts
 
--- where nothing is wrong with a list, nothing is with any of its items
+-- if a list has no fault, no item of it has one
 pub item_none : {X : Type 0} (f : ℕ × X → List AuditFault) (n : ℕ) (xs : List X) (i k : ℕ) (d : X) → i < length xs → k ≡ n + i
     → flat_map f (enumerate_from n xs) ≡ [] → f (k, get_or xs i d) ≡ []
 item_none f n [] i k d inside is none = absurd (omega (arith, inside))
@@ -80,7 +80,7 @@ item_none f n (x ∷ xs) zero k d inside is none =
 item_none f n (x ∷ xs) (suc i) k d inside is none =
     item_none f (n + 1) xs i k d (omega (arith, inside)) (omega (arith, is)) (none_both (f (n, x)) (flat_map f (enumerate_from (n + 1) xs)) none).1
 
--- and the other way round
+-- and conversely
 pub none_items : {X : Type 0} (f : ℕ × X → List AuditFault) (n : ℕ) (xs : List X) → ((i k : ℕ) (x : X) → i < length xs → k ≡ n + i → x ≡ get_or xs i x → f (k, x) ≡ [])
     → flat_map f (enumerate_from n xs) ≡ []
 none_items f n [] each = refl
@@ -88,7 +88,7 @@ none_items f n (x ∷ xs) each =
     ap (λ (front : List AuditFault). front ++ flat_map f (enumerate_from (n + 1) xs)) (each 0 n x (omega arith) (omega arith) refl)
     ∙ none_items f (n + 1) xs (λ i k y inside is at. each (suc i) k y (omega (arith, inside)) (omega (arith, is)) at)
 
--- two tests that are alike up to the length of a list find the same faults in it
+-- two tests that agree on all items of a list find the same faults in it
 pub same_items : {X : Type 0} (f g : ℕ × X → List AuditFault) (n : ℕ) (xs : List X) → ((k : ℕ) (x : X) → k < n + length xs → f (k, x) ≡ g (k, x))
     → flat_map f (enumerate_from n xs) ≡ flat_map g (enumerate_from n xs)
 same_items f g n [] same = refl
@@ -96,7 +96,7 @@ same_items f g n (x ∷ xs) same =
     ap (λ (front : List AuditFault). front ++ flat_map f (enumerate_from (n + 1) xs)) (same n x (omega arith))
     ∙ ap (λ (rest : List AuditFault). g (n, x) ++ rest) (same_items f g (n + 1) xs (λ k y lt. same k y (omega (arith, lt))))
 
--- one item more has its number
+-- one more item has its number
 enumerate_more : {X : Type 0} (n : ℕ) (xs : List X) (x : X) → enumerate_from n (xs ++ x ∷ []) ≡ enumerate_from n xs ++ (n + length xs, x) ∷ []
 enumerate_more {X = X} n [] x = let here : n ≡ n + 0 = omega arith in ap (λ (k : ℕ). (k, x) ∷ []) here
 enumerate_more {X = X} n (y ∷ ys) x =
@@ -114,7 +114,7 @@ faults_more {X = X} f i xs x inside is =
     ∙ flat_map-append f (enumerate_from 0 (take i xs)) ((i, x) ∷ [])
     ∙ ap (λ (rest : List AuditFault). flat_map f (enumerate_from 0 (take i xs)) ++ rest) (append-nil (f (i, x)))
 
--- the roots are where a function forwards them
+-- the answers of a function on a list, each a number or 0 if there is none
 unwrapped : (zs : List ℕ) → zs ≡ map (λ o. unwrap_or o 0) (map (λ x. Some x) zs)
 unwrapped [] = refl
 unwrapped (z ∷ zs) = ap (λ (rest : List ℕ). z ∷ rest) (unwrapped zs)

@@ -1,5 +1,5 @@
--- The nine checks of the audit, each the list of what is wrong with a dump. A list is in the order of its faults: by page, by entry, by address or by
--- stamp. Its tests are what can be computed of the cells' words; of an entry `Faultless` says what they mean there.
+-- The nine checks of the audit. Each is the list of its faults in a dump, ordered by page, entry, address or stamp. The
+-- tests are computed; `Faultless` says what the test of an entry means for the cells.
 use Rattle.std.specs.Prelude.{ℕ, ◌+◌, ◌-◌, ◌%◌, ◌==◌, ◌&&◌, ◌||◌, max, not, is_some, Bool, true, false, nat_lt, nat_le, bytes_eq, List, [], ◌∷◌, ◌++◌, length, map, slice_index, slice_index_or, Option, Some, None, if◌then◌else◌}
 use Rattle.std.specs.List.{flat_map, enumerate_from, list_any, range_with_len}
 use Rattle.heap_layout.specs.Header.{header_of, size_of}
@@ -25,11 +25,11 @@ use Rattle.comp_dump.specs.Dumped.{BuiltPage}
 use Rattle.comp_dump.specs.declared.fault.AuditFault.{AuditFault}
 use Rattle.comp_dump.specs.declared.fault.AuditFault.TheVariants.{WrongWord, LooseReference, BadEntry, StampRepeated, StampMissing, WrongTotal, BuildUnclaimed, WrongHead}
 
--- to-space as the heap defines it, with so many fresh pages and mutators
+-- to-space as the heap defines it, with these numbers of fresh pages and mutators
 abbrev pub setup_for : Heap → ℕ → ℕ → Setup
 setup_for heap fresh mutators = record { heap = heap; compacted = sliding.pages (live heap); fresh = fresh; mutators = mutators }
 
--- the journal of a page that was built; the others have no entry
+-- the journal of a page that was built; other pages have no entry
 abbrev pub journal_of : Option BuiltPage → List Entry
 journal_of None = []
 journal_of (Some page) = page.journal
@@ -46,11 +46,11 @@ all_entries records = entries_below (journals_in records) (length records)
 abbrev pub all_stamps : List (Option BuiltPage) → List ℕ
 all_stamps records = map stamp_of (all_entries records)
 
--- the fault, where the test fails
+-- the fault, if the test fails
 abbrev pub unless : Bool → AuditFault → List AuditFault
 unless holds fault = if holds then [] else fault ∷ []
 
--- of each page that was built, with its number
+-- the faults of a page that was built, by its number
 abbrev pub of_built : (ℕ → BuiltPage → List AuditFault) → ℕ × Option BuiltPage → List AuditFault
 of_built faults (p, None) = []
 of_built faults (p, Some page) = faults p page
@@ -58,18 +58,19 @@ of_built faults (p, Some page) = faults p page
 abbrev pub each_built : (ℕ → BuiltPage → List AuditFault) → List (Option BuiltPage) → List AuditFault
 each_built faults records = flat_map (of_built faults) (enumerate_from 0 records)
 
--- two editions are one
+-- two editions are equal
 abbrev pub is_edition : Edition → Edition → Bool
 is_edition One One = true
 is_edition Two Two = true
 is_edition edition other = false
 
--- 1. The dump is of the heap's edition, there is a place for each compacted page and each fresh one, and the roots lead where the plan forwards them.
+-- 1. The dump is of the heap's edition, there is one place for each compacted and each fresh page, and the roots are
+-- those that the plan forwards.
 abbrev pub head_faults : Setup → Edition → List ℕ → List (Option BuiltPage) → List AuditFault
 head_faults u edition roots records =
     unless (is_edition edition u.heap.edition && ((length records == pages u) && bytes_eq roots (map (forwarded (live u.heap)) u.heap.roots))) WrongHead
 
--- 2. A page that was built stands in the lists of builds once, and no other page does.
+-- 2. The lists of builds name each page that was built exactly once, and no other page.
 abbrev pub is_claimed : List (List ℕ) → ℕ × Option BuiltPage → Bool
 is_claimed builds (p, None) = named p builds == 0
 is_claimed builds (p, Some page) = named p builds == 1
@@ -77,7 +78,7 @@ is_claimed builds (p, Some page) = named p builds == 1
 abbrev pub build_faults : List (List ℕ) → List (Option BuiltPage) → List AuditFault
 build_faults builds records = flat_map (λ place. unless (is_claimed builds place) (BuildUnclaimed place.0)) (enumerate_from 0 records)
 
--- 3. Each entry of a page may follow those before it, and its stamp is above theirs.
+-- 3. Each entry of a page fits the entries before it, and its stamp is above theirs.
 abbrev pub is_kind : Kind → Option Kind → Bool
 is_kind Header (Some Header) = true
 is_kind Reference (Some Reference) = true
@@ -96,7 +97,7 @@ fits u p before Reference writer offset value = nat_lt offset 64 && is_kind Refe
 fits u p before Weak writer offset value = nat_lt offset 64 && is_kind Weak (kind_at u p before offset)
 fits u p before Data writer offset value = nat_lt offset 64 && is_kind Data (kind_at u p before offset)
 
--- of entries of page p, the first of which is number k, stands behind others and needs a stamp of at least `low`
+-- the faults of entries of page p: the first of them is number k, follows `before`, and needs a stamp of at least `low`
 abbrev pub entry_faults : Setup → ℕ → ℕ → ℕ → List Entry → List Entry → List AuditFault
 entry_faults u p k low before [] = []
 entry_faults u p k low before (e ∷ es) =
@@ -113,12 +114,12 @@ same_words right p words = flat_map (λ word. unless (word.1 == slice_index righ
 abbrev pub word_faults : Setup → ℕ → BuiltPage → List AuditFault
 word_faults u p page = same_words (replayed (base_of u p) page.journal) p page.words
 
--- a word of this kind refers, if there is a word
+-- there is a word of this kind, and it refers
 abbrev pub some_refers : Option Kind → Bool
 some_refers None = false
 some_refers (Some k) = refers k
 
--- 5. Each reference and weak word is null, or leads to a start: of a slid object, or where a header was written.
+-- 5. Each reference and weak word is null, or the address of a slid object, or one at which a header was written.
 abbrev pub is_place : Heap → ℕ → Bool
 is_place heap a = is_some (shape_at (live heap) a)
 
@@ -129,7 +130,7 @@ makes a x = is_kind Header (Some x.1.kind) && (address_of x == a)
 abbrev pub is_start : Heap → List (ℕ × Entry) → ℕ → Bool
 is_start heap all a = is_place heap a || list_any (makes a) all
 
--- of the words of page p that refer, those that are not null and lead nowhere
+-- the words of page p that refer, are not null, and lead to no object
 abbrev pub loose_faults : (ℕ → Bool) → (ℕ → Bool) → ℕ → List ℕ → List AuditFault
 loose_faults is_reference leads p words =
     flat_map (λ word. unless (not (is_reference word.0) || (word.1 == 0) || leads word.1) (LooseReference (address p word.0))) (enumerate_from 0 words)
@@ -146,28 +147,29 @@ above (n ∷ ns) = max (n + 1) (above ns)
 abbrev pub repeat_faults : List ℕ → List AuditFault
 repeat_faults stamps = flat_map (λ s. unless (nat_le (times s stamps) 1) (StampRepeated s)) (range_with_len 0 (above stamps))
 
--- 7. Each number below the count of stamps is one.
+-- 7. Each number below the number of entries is a stamp.
 abbrev pub missing_faults : List ℕ → List AuditFault
 missing_faults stamps = flat_map (λ s. unless (nat_le 1 (times s stamps)) (StampMissing s)) (range_with_len 0 (length stamps))
 
--- 8. A reference or weak word that was written is null, or leads to a slid object, or to where a header was written with a smaller stamp.
+-- 8. Each reference and weak word that was written is null, or leads to a slid object, or to an address at which a
+-- header with a smaller stamp was written.
 abbrev pub is_made_before : List (ℕ × Entry) → ℕ → ℕ → Bool
 is_made_before all a n = list_any (λ (x : ℕ × Entry). makes a x && nat_lt (stamp_of x) n) all
 
 abbrev pub is_led : Heap → (ℕ → ℕ → Bool) → Entry → Bool
 is_led heap is_before e = not (refers e.kind) || (e.value == 0) || is_place heap e.value || is_before e.value e.stamp
 
--- of the entries of a page those of stamp s that fail the test
+-- the entries of a page that have stamp s and fail the test
 abbrev pub late_on : (Entry → Bool) → ℕ → ℕ → List Entry → List AuditFault
 late_on test s p journal = flat_map (λ entry. unless (not (entry.1.stamp == s) || test entry.1) (BadEntry p entry.0)) (enumerate_from 0 journal)
 
 abbrev pub late_with : (Entry → Bool) → List (Option BuiltPage) → ℕ → List AuditFault
 late_with test records s = each_built (λ p page. late_on test s p page.journal) records
 
--- of all entries those that fail the test, by their stamps
+-- all entries that fail the test, by stamp
 abbrev pub late_faults : (Entry → Bool) → List (Option BuiltPage) → List AuditFault
 late_faults test records = flat_map (late_with test records) (range_with_len 0 (above (all_stamps records)))
 
--- 9. The total is that of the words that slid and of all objects that were made.
+-- 9. The total is the number of words that slid and of words of new objects.
 abbrev pub total_faults : Heap → ℕ → List (Option BuiltPage) → List AuditFault
 total_faults heap total records = unless (total == live_words (live heap) + allocated heap.edition (all_entries records)) WrongTotal

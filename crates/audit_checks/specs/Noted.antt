@@ -1,4 +1,5 @@
--- What the audit keeps beside the dump: the starts of new objects, each with the least stamp of a header there; and of late entries the earliest so far.
+-- What the audit keeps beside the dump: the starts of new objects, each with the least stamp of a header there; and the
+-- earliest of the late entries so far.
 use Rattle.std.specs.Prelude.{◌≡◌, ℕ, ◌-◌, ◌<◌, ◌||◌, Bool, false, cond, nat_lt, is_some, List, [], length, Option, Some, None, slice_index_or}
 use Rattle.std.specs.List.{list_any}
 use Rattle.heap_layout.specs.Heap.{Heap}
@@ -11,7 +12,7 @@ use Rattle.comp_dump.specs.declared.fault.AuditFault.TheVariants.{BadEntry}
 use Rattle.audit_checks.specs.declared.late.Late.{Late}
 use Rattle.audit_checks.specs.declared.setting.Setting.{Setting}
 
--- what a dump is held against
+-- what a dump is checked against
 abbrev pub setup_at : Setting → Setup
 setup_at setting = setup_for setting.plan.now setting.fresh setting.mutators
 
@@ -20,11 +21,11 @@ pub record Stamped : Type 0 where
   pub first : ℕ
   pub stamps : List (Option ℕ)
 
--- so many words from an address on
+-- n words from an address on
 abbrev pub Covers : Stamped → ℕ → ℕ → Type 0
 Covers starts first words = (starts.first ≡ first) × (length starts.stamps ≡ words)
 
--- the stamp at an address; None where there is no header, and outside these words
+-- the stamp at an address; None if no header is there, or the address is outside these words
 abbrev pub stamp_at : Stamped → ℕ → Option ℕ
 stamp_at starts a = cond (nat_lt a starts.first) None (slice_index_or starts.stamps (a - starts.first) None)
 
@@ -36,16 +37,17 @@ is_below (Some stamp) n = nat_lt stamp n
 abbrev pub leads : Heap → Stamped → ℕ → Bool
 leads heap starts a = is_place heap a || is_some (stamp_at starts a)
 
--- one that a smaller stamp made
+-- a header with a smaller stamp was written at the address
 abbrev pub is_noted_before : Stamped → ℕ → ℕ → Bool
 is_noted_before starts a n = is_below (stamp_at starts a) n
 
--- The starts are those of the headers that these entries write.
+-- the starts are those of the headers that these entries write
 pub record Notes (starts : Stamped) (all : List (ℕ × Entry)) : Type 0 where
   pub some : (a : ℕ) → is_some (stamp_at starts a) ≡ list_any (makes a) all
   pub older : (a n : ℕ) → is_noted_before starts a n ≡ is_made_before all a n
 
--- Where each stamp has these faults, the earliest fault is that of this entry; or no stamp has one.
+-- Each stamp has a list of faults. The stamp of this entry is the least with a fault, and its list begins with the
+-- fault of this entry. None if no stamp has a fault.
 pub record IsEarliestOf (faults : ℕ → List AuditFault) (late : Late) : Type 0 where
   pub before : (s : ℕ) → s < late.stamp → faults s ≡ []
   pub here : IsFirst (faults late.stamp) (BadEntry late.page late.number)

@@ -1,4 +1,4 @@
--- What the checks tell. The faults of a dump stand in one list, in the order of the checks.
+-- What the checks answer. The faults of a dump stand in one list, in the order of the checks.
 use Rattle.std.specs.Prelude.{◌≡◌, ℕ, List, [], ◌∷◌, ◌++◌, Option, Result, Ok, Err}
 use Rattle.heap_layout.specs.declared.edition.Edition.{Edition}
 use Rattle.comp_history.specs.Setup.{Setup}
@@ -8,14 +8,14 @@ use Rattle.comp_dump.specs.declared.fault.AuditFault.{AuditFault}
 use Rattle.audit_checks.specs.declared.fault.Stop.{Stop}
 use Rattle.audit_checks.specs.declared.fault.Stop.TheVariants as stop
 
--- checks 2, 3 and 4: what is wrong with single pages
+-- checks 2, 3 and 4: the faults of single pages
 abbrev pub page_faults : Setup → List (List ℕ) → List (Option BuiltPage) → List AuditFault
 page_faults u builds records =
     build_faults builds records
     ++ (each_built (journal_faults u) records
     ++ each_built (word_faults u) records)
 
--- checks 5 to 8: what is wrong between pages
+-- checks 5 to 8: the faults between pages
 abbrev pub history_faults : Setup → List (Option BuiltPage) → List AuditFault
 history_faults u records =
     each_built (reference_faults (is_start u.heap (all_entries records)) u) records
@@ -23,7 +23,7 @@ history_faults u records =
     ++ (missing_faults (all_stamps records)
     ++ late_faults (is_led u.heap (is_made_before (all_entries records))) records))
 
--- of a dump of this edition, with these roots, lists of builds, pages and total
+-- all faults of a dump of this edition, with these roots, lists of builds, pages and total
 abbrev pub faults_for : Setup → Edition → List ℕ → List (List ℕ) → List (Option BuiltPage) → ℕ → List AuditFault
 faults_for u edition roots builds records total =
     head_faults u edition roots records
@@ -36,7 +36,7 @@ abbrev pub IsFirst : List AuditFault → AuditFault → Type 0
 IsFirst [] fault = ⊥
 IsFirst (first ∷ others) fault = fault ≡ first
 
--- a check passes where there is no fault, and else it tells the first; it ends early where a growth is refused
+-- a check passes if there is no fault, and else answers the first; it may end early if memory runs out
 abbrev pub Tells : List AuditFault → Result (Unit {0}) Stop → Type 0
 Tells list (Ok _) = list ≡ []
 Tells list (Err stop.Memory) = Unit {0}

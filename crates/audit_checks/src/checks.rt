@@ -1,4 +1,4 @@
-//! The checks of a dump: nine of them, each of which tells its first fault, in the order in which their faults count.
+//! The nine checks of a dump, in the order of their faults. Each answers its first fault.
 ghost use Rattle.std.specs.Prelude.{◌≡◌, ◌<◌, ◌≤◌, All, length};
 ghost use Rattle.comp_history.specs.Setup.{pages};
 ghost use Rattle.comp_history.specs.Ends.{lists as items_of};
@@ -22,8 +22,8 @@ use crate::totals::check_total;
 use comp_dump::DumpedPage;
 use std::alloc::Global;
 
-/// All checks of a dump of the setting's edition, with these roots, lists of builds, pages and total: each tells its first fault, in the order in which
-/// their faults count.
+/// Checks a dump of edition `setting.edition` with these roots, lists of builds, pages and total. If there are faults,
+/// answers the first of them in the order of the nine checks. It may stop early if memory runs out.
 pub fn check(
     alloc: Global,
     setting: Setting<'_>,
@@ -44,7 +44,7 @@ pub fn check(
     check_total(setting.plan, total, records)
 }
 
-/// The checks of single pages: who built them, their journals and their words.
+// The checks of single pages: who built them, their journals and their words.
 fn check_pages(
     alloc: Global,
     setting: Setting<'_>,
@@ -63,7 +63,7 @@ fn check_pages(
     check_words(alloc, setting, records)
 }
 
-/// The checks between pages: where references and weak words lead, the stamps, and whether what they lead to was there already.
+// The checks between pages: the targets of references and weak words, the stamps, and the age of the targets.
 fn check_history(
     alloc: Global,
     setting: Setting<'_>,

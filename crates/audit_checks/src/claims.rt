@@ -1,4 +1,4 @@
-//! The second check: each page that was built stands once in the lists of builds.
+//! The second check: the lists of builds name each page that was built, exactly once, and no other page.
 ghost use Rattle.std.specs.Prelude.{◌≡◌, ℕ, List, ◌+◌, ◌<◌, ◌≤◌, All, IfOk, length, min, slice_index};
 ghost use Rattle.comp_history.specs.Lists.{times};
 ghost use Rattle.comp_history.specs.Ends.{lists as items_of};
@@ -11,7 +11,7 @@ use crate::fault::Stop;
 use comp_dump::{AuditFault, DumpedPage};
 use std::alloc::{AllocError, Global};
 
-/// A page that was built stands in the lists of builds once, and no other page does.
+/// Checks that the lists of builds name each page that was built exactly once, and no other page.
 pub fn check_builds(
     alloc: Global,
     builds: &[Vec<u32>],
@@ -30,7 +30,8 @@ pub fn check_builds(
     Ok(())
 }
 
-/// Whether a page that stands so often in the lists of builds, up to 2, is built just where it stands there once, and else never.
+// Whether the lists of builds fit this page, if they name it `count` times, where 2 stands for two or more: once if it
+// was built, else never.
 fn is_claimed(count: u8, place: &Option<DumpedPage<'_>>) -> bool
     ensures { (builds : List (List ℕ)) (p : ℕ) → count ≡ min (named p builds) 2 → result ≡ is_claimed builds (p, place.now) }
 {
@@ -40,7 +41,7 @@ fn is_claimed(count: u8, place: &Option<DumpedPage<'_>>) -> bool
     }
 }
 
-/// How often each page stands in the lists of builds, up to 2.
+// How often the lists of builds name each page, counted up to 2.
 fn count_builds(alloc: Global, places: usize, builds: &[Vec<u32>]) -> Result<Vec<u8>, AllocError>
     requires { All (IsStoredList places) (items_of builds.now) }
     ensures length { IfOk result (λ counts. length counts.items ≡ places) }
@@ -51,7 +52,7 @@ fn count_builds(alloc: Global, places: usize, builds: &[Vec<u32>]) -> Result<Vec
     Ok(counts)
 }
 
-/// Counts how often each page stands in some lists, up to 2.
+// Counts how often some lists name each page, up to 2.
 fn count_lists(counts: &mut [u8], lists: &[Vec<u32>])
     requires below { All (IsStoredList (length counts.old)) (items_of lists.now) }
     requires few { (p : ℕ) → slice_index counts.old p ≤ 2 }
@@ -63,7 +64,7 @@ fn count_lists(counts: &mut [u8], lists: &[Vec<u32>])
     }
 }
 
-/// Counts how often each page stands in a list, up to 2.
+// Counts how often one list names each page, up to 2.
 fn count_in(counts: &mut [u8], list: &[u32])
     requires below { All (λ p. p < length counts.old) list.now }
     requires few { (p : ℕ) → slice_index counts.old p ≤ 2 }

@@ -6,12 +6,12 @@ use comp_dump::AuditFault;
 use heap_layout::OutOfMemory;
 use std::alloc::{AllocError, AllocFailed};
 
-/// Why a check ends early: a growth was refused, or there is a fault.
+/// Why a check ends early: an allocation failed, or there is a fault.
 #[derive(Clone, Copy)]
 pub enum Stop {
-    /// A growth was refused.
+    /// An allocation failed.
     Memory,
-    /// This is what is wrong, first of all that the check tells.
+    /// The first fault of the check.
     Fault(AuditFault),
 }
 

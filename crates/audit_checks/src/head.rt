@@ -1,4 +1,4 @@
-//! The first check: the edition, how many pages there are, and where the roots lead.
+//! The first check: the edition, the number of pages, and the roots.
 ghost use Rattle.std.specs.Prelude.{◌≡◌, ◌≤◌, OnOk, length};
 ghost use Rattle.comp_history.specs.Setup.{pages};
 ghost use Rattle.audit_checks.specs.Checks.{head_faults, is_edition};
@@ -11,7 +11,8 @@ use comp_dump::{AuditFault, DumpedPage};
 use heap_layout::Edition;
 use std::alloc::Global;
 
-/// The dump is of the plan's edition, there is a place for each compacted page and each fresh one, and the roots lead where the plan forwards them.
+/// Checks that the dump is of the plan's edition, has one place for each compacted and each fresh page, and that its
+/// roots are those that the plan forwards.
 pub fn check_head(
     alloc: Global,
     setting: Setting<'_>,
@@ -36,7 +37,7 @@ pub fn check_head(
     Ok(())
 }
 
-/// Whether two editions are one.
+// Whether the two editions are equal.
 fn is_edition(edition: Edition, other: Edition) -> bool
     ensures { result ≡ is_edition edition other }
 {

@@ -1,4 +1,4 @@
-//! The third check: each entry may follow those before it on its page.
+//! The third check: each entry of a page fits the entries before it.
 ghost use Rattle.std.specs.Prelude.{◌≡◌, ℕ, List, ◌+◌, ◌*◌, ◌<◌, ◌≤◌, [], All, None, length, slice_index_or, true};
 ghost use Rattle.heap_layout.specs.Heap.{Heap, live};
 ghost use Rattle.page_plan.specs.Sliding.{kind};
@@ -19,7 +19,7 @@ use comp_journal::Entry;
 use heap_layout::{Edition, Header, Kind};
 use std::alloc::Global;
 
-/// The journal of each page that was built is lawful, and its stamps rise.
+/// Checks that the journal of each page that was built is lawful, and that its stamps rise.
 pub fn check_journals(
     alloc: Global,
     setting: Setting<'_>,
@@ -39,7 +39,7 @@ pub fn check_journals(
     Ok(())
 }
 
-/// The journal of page `p` is lawful, and its stamps rise.
+// Checks that the journal of page `p` is lawful, and that its stamps rise.
 fn check_journal(alloc: Global, setting: Setting<'_>, p: u64, journal: &[Entry]) -> Result<(), Stop>
     requires some { 0 < setting.mutators }
     requires inside { p < pages (setup_at setting) }
@@ -54,7 +54,7 @@ fn check_journal(alloc: Global, setting: Setting<'_>, p: u64, journal: &[Entry])
     }
 }
 
-/// The same, of a compacted page.
+// The same for a compacted page.
 fn check_compacted(setting: Setting<'_>, p: u64, journal: &[Entry]) -> Result<(), Stop>
     requires compacted { p < (setup_at setting).compacted }
     requires stored { All (IsStoredEntry setting.edition setting.mutators) journal.now }
@@ -74,7 +74,8 @@ fn check_compacted(setting: Setting<'_>, p: u64, journal: &[Entry]) -> Result<()
     Ok(())
 }
 
-/// Whether an entry may stand on a compacted page with these words: it makes no object, and changes a word of its kind.
+// Whether an entry may stand in the journal of a compacted page whose words have these kinds: it makes no object, and
+// it writes a word of its own kind.
 fn may_change(kinds: &[Option<Kind>; 64], entry: Entry) -> bool
     requires inside { entry.offset < 64 }
     ensures { (u : Setup) (p : ℕ) (before : List Entry) → p < u.compacted
@@ -90,7 +91,7 @@ fn may_change(kinds: &[Option<Kind>; 64], entry: Entry) -> bool
     }
 }
 
-/// The same, of page `p`, which is fresh page `number`.
+// The same for page `p`, which is fresh page `number`.
 fn check_fresh(
     alloc: Global,
     setting: Setting<'_>,
@@ -119,7 +120,8 @@ fn check_fresh(
     Ok(())
 }
 
-/// Whether an entry may follow those that have given these words of fresh page `number` to objects.
+// Whether an entry may follow those before it on fresh page `number`. `kinds` has the kinds of the words that they gave
+// to objects.
 fn may_follow(kinds: &[Kind], edition: Edition, number: u32, entry: Entry, mutators: u8) -> bool
     requires some { 0 < mutators }
     requires few { length kinds.now ≤ 64 }

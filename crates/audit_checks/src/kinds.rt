@@ -1,17 +1,17 @@
-//! What a word is, if it is any.
+//! Tests of the kind of a word.
 ghost use Rattle.std.specs.Prelude.{◌≡◌, slice_get};
 ghost use Rattle.audit_checks.specs.Checks.{is_kind, some_refers};
 
 use heap_layout::Kind;
 
-/// Whether a word, if there is one, is of this kind.
+/// Whether there is a word and it is of this kind.
 pub fn is_word_of(found: Option<Kind>, kind: Kind) -> bool
     ensures { result ≡ is_kind kind found }
 {
     found == Some(kind)
 }
 
-/// Whether a word, if there is one, refers.
+/// Whether there is a word and it refers.
 pub fn refers(found: Option<Kind>) -> bool
     ensures { result ≡ some_refers found }
 {
@@ -21,7 +21,7 @@ pub fn refers(found: Option<Kind>) -> bool
     }
 }
 
-/// Whether the word at an offset is of this kind.
+/// Whether there is a word at this offset and it is of this kind.
 pub fn is_of(kinds: &[Kind], offset: u8, kind: Kind) -> bool
     ensures { result ≡ is_kind kind (slice_get kinds.now offset) }
 {

@@ -1,4 +1,4 @@
-//! The eighth check: each reference and weak word that was written is null, or leads to an object that was there already.
+//! The eighth check: each reference and weak word that was written is null, or leads to an object that is older.
 ghost use Rattle.std.specs.Prelude.{◌≡◌, ℕ, List, ◌==◌, ◌<◌, ◌≤◌, ◌++◌, not, length, Some};
 ghost use Rattle.audit_checks.specs.Checks.{is_led, late_faults, late_on, late_with, unless};
 ghost use Rattle.audit_checks.specs.Told.{Tells};
@@ -13,7 +13,7 @@ use comp_dump::{AuditFault, DumpedPage};
 use comp_journal::Entry;
 use page_plan::Plan;
 
-/// An entry that is a reference or weak word and leads to what was not there: its stamp, its page, and its number on that page.
+/// An entry that writes a reference or weak word to an object that is not older: its stamp, page and number there.
 #[derive(Clone, Copy)]
 pub struct Late {
     pub stamp: u64,
@@ -21,7 +21,8 @@ pub struct Late {
     pub number: u64,
 }
 
-/// Each reference and weak word that was written is null, or leads to a slid object, or to a new one whose header has a smaller stamp.
+/// Checks that each reference and weak word that was written is null, or leads to a slid object, or to a new object
+/// whose header has a smaller stamp.
 pub fn check_late(
     plan: &Plan,
     starts: &Starts,
@@ -35,7 +36,7 @@ pub fn check_late(
     }
 }
 
-/// Of the entries that fail this test, the one with the least stamp.
+// Of the entries that fail this test, the one with the least stamp.
 fn earliest(plan: &Plan, starts: &Starts, records: &[Option<DumpedPage<'_>>]) -> Option<Late>
     ensures { IsEarliest (late_with (is_led plan.now (is_noted_before starts.now)) records.now) result }
 {
@@ -46,7 +47,7 @@ fn earliest(plan: &Plan, starts: &Starts, records: &[Option<DumpedPage<'_>>]) ->
     found
 }
 
-/// The earliest of one that was found and of those on page `p`.
+// The earliest of `found` and of the entries on page `p` that fail.
 fn earliest_on(
     plan: &Plan,
     starts: &Starts,
@@ -73,7 +74,7 @@ fn earliest_on(
     found
 }
 
-/// The earlier of one that was found and of another one behind it.
+// The earlier of `found` and of an entry after it.
 fn earlier(found: Option<Late>, late: Late) -> Late
     ensures { (faults : ℕ → List AuditFault) → IsEarliest faults found
         → IsEarliest (λ s. faults s ++ unless (not (late.stamp == s)) (BadEntry late.page late.number)) (Some result) }
@@ -85,7 +86,7 @@ fn earlier(found: Option<Late>, late: Late) -> Late
     }
 }
 
-/// Whether an entry, if it is a reference or weak word, is null or leads to what was there.
+// Whether the entry is no reference or weak word, or is null, or leads to an object that is older.
 fn is_led(plan: &Plan, starts: &Starts, entry: Entry) -> bool
     ensures { result ≡ is_led plan.now (is_noted_before starts.now) entry }
 {

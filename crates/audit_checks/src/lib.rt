@@ -1,4 +1,4 @@
-//! The checks of the audit: what can be wrong with a dump, and the first thing that is.
+//! The checks of the audit: what can be wrong with a dump, and which fault is the first.
 #![tactic(auto)]
 
 mod checks;

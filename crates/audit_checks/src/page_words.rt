@@ -15,7 +15,7 @@ use heap_layout::{OutOfMemory, PageWords};
 use page_plan::TO_SPACE;
 use std::alloc::Global;
 
-/// The words of each page that was built are what its journal makes of its base.
+/// Checks that the words of each page that was built are what its journal makes of its base.
 pub fn check_words(
     alloc: Global,
     setting: Setting<'_>,
@@ -33,7 +33,7 @@ pub fn check_words(
     Ok(())
 }
 
-/// The words of page `p` are what its journal makes of its base.
+// Checks that the words of page `p` are what its journal makes of its base.
 fn check_page(
     alloc: Global,
     setting: Setting<'_>,
@@ -49,7 +49,7 @@ fn check_page(
     check_same(right.as_array(), p, page.words())
 }
 
-/// The words with which page `p` began.
+// The words with which page `p` began.
 fn base(alloc: Global, setting: Setting<'_>, p: u64) -> Result<PageWords, OutOfMemory>
     ensures { IfOk result (λ words. words ≡ base_of (setup_at setting.entry) p) }
 {
@@ -60,7 +60,7 @@ fn base(alloc: Global, setting: Setting<'_>, p: u64) -> Result<PageWords, OutOfM
     }
 }
 
-/// Makes of a page's words what a journal makes of them.
+// Puts the entries of a journal into the words of a page, in order.
 fn replay(words: &mut PageWords, journal: &[Entry])
     requires { All (λ entry. entry.offset < 64) journal.now }
     ensures { words.new ≡ replayed words.old journal.now }
@@ -70,7 +70,7 @@ fn replay(words: &mut PageWords, journal: &[Entry])
     }
 }
 
-/// The words of page `p` are the right ones.
+// Checks that the words of page `p` are equal to `right`.
 fn check_same(right: &[u64], p: u64, words: &[u64]) -> Result<(), Stop>
     requires inside { p < 20480 }
     requires long { length right.now ≡ 64 }

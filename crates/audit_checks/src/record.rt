@@ -4,7 +4,7 @@ ghost use Rattle.audit_checks.specs.Checks.{journal_of};
 use comp_dump::DumpedPage;
 use comp_journal::Entry;
 
-/// The entries of a page, where it was built; else none.
+/// The entries of a page; an empty list if it was never built.
 pub(crate) fn journal_of<'a>(place: &'a Option<DumpedPage<'_>>) -> &'a [Entry]
     ensures { result.now ≡ journal_of place.now }
 {

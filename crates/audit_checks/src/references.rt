@@ -1,4 +1,4 @@
-//! The fifth check: each reference and weak word is null, or leads to the start of an object.
+//! The fifth check: each reference and weak word is null, or the address of an object.
 ghost use Rattle.std.specs.Prelude.{◌≡◌, ◌<◌, ◌≤◌, All, length, slice_index_or, None};
 ghost use Rattle.comp_history.specs.Lawful.{IsLawful};
 ghost use Rattle.comp_history.specs.Setup.{pages};
@@ -18,7 +18,7 @@ use heap_layout::Kind;
 use page_plan::{Plan, TO_SPACE};
 use std::alloc::Global;
 
-/// Each reference and weak word of each page that was built is null, or leads to a start.
+/// Checks that each reference and weak word on each page that was built is null, or the address of an object.
 pub fn check_references(
     alloc: Global,
     setting: Setting<'_>,
@@ -39,7 +39,7 @@ pub fn check_references(
     Ok(())
 }
 
-/// The same, of page `p`.
+// The same for page `p`.
 fn check_page(
     alloc: Global,
     setting: Setting<'_>,
@@ -57,7 +57,8 @@ fn check_page(
     check_loose(setting.plan, starts, &kinds, p, page.words())
 }
 
-/// Each reference and weak word among the words of page `p`, which are of these kinds, is null, or leads to a start.
+// Checks that each reference and weak word among these words of page `p` is null, or the address of an object. `kinds`
+// has the kind of each word.
 fn check_loose(
     plan: &Plan,
     starts: &Starts,

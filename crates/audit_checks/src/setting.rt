@@ -1,7 +1,8 @@
 use heap_layout::Edition;
 use page_plan::Plan;
 
-/// What a dump is held against: the plan of the compaction; and of the dump itself the edition, and how many fresh pages and mutators there were.
+/// What a dump is checked against: the plan of the compaction, and of the dump itself the edition and the numbers of
+/// fresh pages and mutators.
 #[derive(Clone, Copy)]
 pub struct Setting<'a> {
     pub plan: &'a Plan,

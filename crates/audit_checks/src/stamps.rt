@@ -1,4 +1,4 @@
-//! The sixth check and the seventh: the stamps are the numbers below their count, each once.
+//! The sixth and seventh checks: the stamps of n entries are the numbers below n, each once.
 ghost use Rattle.std.specs.Prelude.{◌≡◌, ℕ, ◌<◌, ◌≤◌, ◌+◌, ◌++◌, IfOk, OnOk, length, map, slice_index};
 ghost use Rattle.comp_journal.specs.declared.entry.Entry.{Entry};
 ghost use Rattle.audit_checks.specs.Checks.{all_stamps, missing_faults, repeat_faults};
@@ -10,7 +10,7 @@ use comp_dump::{AuditFault, DumpedPage};
 use comp_journal::Entry;
 use std::alloc::{AllocError, Global};
 
-/// The stamps of all entries are the numbers below their count, each once.
+/// Checks that the stamps of all n entries are the numbers below n, each once.
 pub fn check_stamps(alloc: Global, records: &[Option<DumpedPage<'_>>]) -> Result<(), Stop>
     ensures { Tells (repeat_faults (all_stamps records.now) ++ missing_faults (all_stamps records.now)) result }
 {
@@ -18,7 +18,7 @@ pub fn check_stamps(alloc: Global, records: &[Option<DumpedPage<'_>>]) -> Result
     check_numbers(&mut stamps)
 }
 
-/// The stamps of all entries, page by page.
+// The stamps of all entries, page by page.
 fn gather_stamps(alloc: Global, records: &[Option<DumpedPage<'_>>]) -> Result<Vec<u64>, AllocError>
     ensures { IfOk result (λ stamps. stamps.items ≡ all_stamps records.now) }
 {
@@ -29,7 +29,7 @@ fn gather_stamps(alloc: Global, records: &[Option<DumpedPage<'_>>]) -> Result<Ve
     Ok(stamps)
 }
 
-/// Adds the stamps of a page.
+// Appends the stamps of a page.
 fn add_stamps(stamps: &mut Vec<u64>, journal: &[Entry]) -> Result<(), AllocError>
     ensures { OnOk result (stamps.new.items ≡ stamps.old.items ++ map (λ (e : Entry). e.stamp) journal.now) }
 {
@@ -39,7 +39,7 @@ fn add_stamps(stamps: &mut Vec<u64>, journal: &[Entry]) -> Result<(), AllocError
     Ok(())
 }
 
-/// Numbers are those below their count, each once. They are sorted.
+// Sorts n numbers, and checks that they are the numbers below n, each once.
 fn check_numbers(stamps: &mut [u64]) -> Result<(), Stop>
     ensures { Tells (repeat_faults stamps.old ++ missing_faults stamps.old) result }
 {
@@ -47,7 +47,7 @@ fn check_numbers(stamps: &mut [u64]) -> Result<(), Stop>
     check_sorted(stamps)
 }
 
-/// Numbers that do not fall are those below their count, each once.
+// Checks that n sorted numbers are the numbers below n, each once.
 fn check_sorted(stamps: &[u64]) -> Result<(), Stop>
     requires sorted { (i j : ℕ) → i ≤ j → j < length stamps.now → slice_index stamps.now i ≤ slice_index stamps.now j }
     ensures { Tells (repeat_faults stamps.now ++ missing_faults stamps.now) result }
@@ -56,7 +56,7 @@ fn check_sorted(stamps: &[u64]) -> Result<(), Stop>
     check_missing(stamps)
 }
 
-/// None of them stands twice.
+// Checks that none of these sorted numbers stands twice.
 fn check_repeats(stamps: &[u64]) -> Result<(), Stop>
     requires sorted { (i j : ℕ) → i ≤ j → j < length stamps.now → slice_index stamps.now i ≤ slice_index stamps.now j }
     ensures told { Tells (repeat_faults stamps.now) result }
@@ -70,7 +70,7 @@ fn check_repeats(stamps: &[u64]) -> Result<(), Stop>
     Ok(())
 }
 
-/// Of those that rise, none below their count is missing.
+// Checks that n rising numbers lack none below n.
 fn check_missing(stamps: &[u64]) -> Result<(), Stop>
     requires sorted { (i j : ℕ) → i ≤ j → j < length stamps.now → slice_index stamps.now i ≤ slice_index stamps.now j }
     requires rises { (k : ℕ) → k + 1 < length stamps.now → slice_index stamps.now k < slice_index stamps.now (k + 1) }

@@ -1,4 +1,4 @@
-//! Where new objects start: the places of all headers that were written, each with the least stamp of one.
+//! Where new objects start: the address of each header that was written, with the least stamp of a header there.
 ghost use Rattle.std.specs.Prelude.{◌≡◌, ◌≢◌, ℕ, List, ◌+◌, ◌*◌, ◌<◌, ◌≤◌, [], ◌∷◌, ◌++◌, ◌||◌, IfOk, All, length, nat_lt, is_some, true, Some, None};
 ghost use Rattle.heap_layout.specs.declared.kind.Kind.TheVariants as sorts;
 ghost use Rattle.comp_journal.specs.declared.entry.Entry.{Entry};
@@ -34,7 +34,7 @@ impl Model for Starts {
 }
 
 impl Starts {
-    /// No start so far, among so many words from an address on.
+    // No start so far, for `words` words from address `first` on.
     fn new(alloc: Global, first: u64, words: usize) -> Result<Starts, AllocError>
         ensures none { IfOk result (λ starts. (a : ℕ) → stamp_at starts a ≡ None) }
         ensures covers { IfOk result (λ starts. Covers starts first words) }
@@ -43,7 +43,7 @@ impl Starts {
         Ok(Starts { first, stamps })
     }
 
-    /// A header of this stamp was written at the address.
+    // Notes that a header of this stamp was written at the address.
     fn note(&mut self, address: u64, stamp: u64)
         requires inside { (self.old.first ≤ address) × (address < self.old.first + length self.old.stamps) }
         ensures same { (self.new.first ≡ self.old.first) × (length self.new.stamps ≡ length self.old.stamps) }
@@ -56,7 +56,7 @@ impl Starts {
         self.stamps[i] = Some(least);
     }
 
-    /// The least stamp of a header that was written at the address.
+    // The least stamp of a header that was written at the address.
     fn stamp_at(&self, address: u64) -> Option<u64>
         ensures { result ≡ stamp_at self.now address }
     {
@@ -69,14 +69,14 @@ impl Starts {
         }
     }
 
-    /// Whether an object starts at the address: a slid one, or a new one.
+    /// Whether an object starts at the address, a slid or a new one.
     pub fn leads(&self, plan: &Plan, address: u64) -> bool
         ensures { result ≡ leads plan.now self.now address }
     {
         plan.is_start(address) || self.stamp_at(address).is_some()
     }
 
-    /// Whether a header was written at the address with a stamp below this one.
+    /// Whether a header with a stamp below this one was written at the address.
     pub fn is_before(&self, address: u64, stamp: u64) -> bool
         ensures { result ≡ is_noted_before self.now address stamp }
     {
@@ -87,7 +87,7 @@ impl Starts {
     }
 }
 
-/// The lesser of a stamp that was noted, if there is one, and another.
+// The lesser of this stamp and the one that was noted, if there is one.
 fn lesser(noted: Option<u64>, stamp: u64) -> u64
     ensures { (n : ℕ) → nat_lt result n ≡ (is_below noted n || nat_lt stamp n) }
 {
@@ -117,7 +117,7 @@ pub fn starts_of(
     Ok(starts)
 }
 
-/// Notes the headers of page `p`.
+// Notes the headers of page `p`.
 fn note_page(starts: &mut Starts, p: u64, journal: &[Entry])
     requires inside { p < 20480 }
     requires covered { All (λ (e : Entry). e.kind ≡ sorts.Header → (starts.old.first ≤ address p e.offset) × (address p e.offset < starts.old.first + length starts.old.stamps)) journal.now }
@@ -129,7 +129,7 @@ fn note_page(starts: &mut Starts, p: u64, journal: &[Entry])
     }
 }
 
-/// Notes an entry of page `p`, if it writes a header.
+// Notes an entry of page `p`, if it writes a header.
 fn note_entry(starts: &mut Starts, p: u64, entry: Entry)
     requires inside { p < 20480 }
     requires covered { entry.kind ≡ sorts.Header → (starts.old.first ≤ address p entry.offset) × (address p entry.offset < starts.old.first + length starts.old.stamps) }

@@ -1,4 +1,4 @@
-//! The ninth check: the total is that of the words that slid and of all objects that were made.
+//! The ninth check: the total is the number of words that slid and of words of new objects.
 ghost use Rattle.std.specs.Prelude.{◌≡◌, ◌^◌, ◌<◌, ◌≤◌, All, length};
 ghost use Rattle.comp_journal.specs.declared.entry.Entry.{Entry};
 ghost use Rattle.comp_history.specs.Lists.{total as added};
@@ -14,7 +14,7 @@ use comp_journal::Entry;
 use heap_layout::{Edition, Header, Kind};
 use page_plan::Plan;
 
-/// The total is that of the words that slid and of all objects that were made.
+/// Checks that the total is the number of words that slid and of words of new objects.
 pub fn check_total(plan: &Plan, total: u64, records: &[Option<DumpedPage<'_>>]) -> Result<(), Stop>
     requires few { length records.now ≤ 20480 }
     requires pages { All HasFewEntries records.now }
@@ -26,7 +26,7 @@ pub fn check_total(plan: &Plan, total: u64, records: &[Option<DumpedPage<'_>>]) 
     Ok(())
 }
 
-/// How many words the objects have that all entries make.
+// The words of the objects that all entries make.
 fn all_words(edition: Edition, records: &[Option<DumpedPage<'_>>]) -> u64
     requires few { length records.now ≤ 20480 }
     requires pages { All HasFewEntries records.now }
@@ -40,7 +40,7 @@ fn all_words(edition: Edition, records: &[Option<DumpedPage<'_>>]) -> u64
     words
 }
 
-/// How many words the objects have that a page's entries make.
+// The words of the objects that the entries of a page make.
 fn words_on(edition: Edition, journal: &[Entry]) -> u64
     requires { length journal.now ≤ 1024 }
     ensures words { result ≡ added (λ (e : Entry). words_by edition e.kind e.value) journal.now }
@@ -53,7 +53,7 @@ fn words_on(edition: Edition, journal: &[Entry]) -> u64
     words
 }
 
-/// How many words the object has that an entry makes.
+// The words of the object that an entry makes, 0 if it makes none.
 fn words_made(edition: Edition, entry: Entry) -> u64
     ensures words { result ≡ words_by edition entry.kind entry.value }
     ensures few { result < 2 ^ 18 }

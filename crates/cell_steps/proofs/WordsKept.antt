@@ -26,20 +26,20 @@ use Rattle.cell_steps.specs.Words.{late_in, laid_at, word_in, made_at, Stores, W
 use Rattle.cell_steps.specs.declared.view.View.{View}
 use Rattle.cell_steps.proofs.Sums.{but-same, but-other, look-other, starts-refl, starts-more, starts-nil, each-set, each-snoc}
 
--- a page begins with 64 words
+-- the base of a page has 64 words
 pub base_long : (u : Setup) (p : ℕ) → length (base_of u p) ≡ 64
 base_long u p = elim (ltb p u.compacted) as (λ b. length (cond b (sliding.page (live u.heap) p) (replicate 64 0)) ≡ 64) [ true ↦ page-length (live u.heap) p | false ↦ length-replicate {A = ℕ} 64 0 ]
 
--- and has 64 words whatever was written
+-- writes do not change the number of words
 pub replayed_long : (base : List ℕ) (l : List Entry) → length (replayed base l) ≡ length base
 replayed_long base [] = refl
 replayed_long base (e ∷ es) = replayed_long (written base e) es ∙ length-set base e.offset e.value
 
--- the word that an entry more makes
+-- the word that a journal with one more entry makes
 made_last : (u : Setup) (p : ℕ) (l : List Entry) (e : Entry) (offset : ℕ) → made_at u p (l ++ e ∷ []) offset ≡ get_or (set (replayed (base_of u p) l) e.offset e.value) offset 0
 made_last u p l e offset = ap (λ (ws : List ℕ). get_or ws offset 0) (fold-append written (base_of u p) l (e ∷ []))
 
--- no word is stored, or all are that are not 0
+-- before any word of the base is stored, all are 0
 pub laid_none : (u : Setup) (p offset : ℕ) → laid_at u p 0 offset ≡ 0
 laid_none u p offset = let z : ltb offset 0 ≡ false = grind (arith, nat_tests) in ap (λ b. cond b (get_or (base_of u p) offset 0) 0) z
 
@@ -49,7 +49,7 @@ laid_all u p n offset zero_ = ⊎_elim
     (λ (le : n ≤ offset). let z : ltb offset n ≡ false = grind (arith, nat_tests) in ap (λ b. cond b (get_or (base_of u p) offset 0) 0) z ∙ sym (zero_ le))
     (cases_lt offset n)
 
--- the words that are stored stay so
+-- storing words that are 0 in the base changes nothing
 pub laid_more : (u : Setup) (p n m offset : ℕ) → n ≤ m → (n ≤ offset → offset < m → get_or (base_of u p) offset 0 ≡ 0) → laid_at u p n offset ≡ laid_at u p m offset
 laid_more u p n m offset le zero_ = ⊎_elim
     (λ (lt : offset < m). laid_all u p n offset (λ low. zero_ low lt) ∙ sym (laid_all u p m offset (λ low. absurd (omega (arith, lt, low)))))
@@ -60,19 +60,19 @@ laid_more u p n m offset le zero_ = ⊎_elim
 pub laid_now : (u : Setup) (p offset : ℕ) → laid_at u p (offset + 1) offset ≡ get_or (base_of u p) offset 0
 laid_now u p offset = laid_all u p (offset + 1) offset (λ low. absurd (omega (arith, low)))
 
--- a header more or less
+-- a header of a journal is also one of a longer journal
 pub has_longer : (l more : List Entry) (offset : ℕ) → HasHead l offset → HasHead (l ++ more) offset
 has_longer l more offset h = (h.0, h.1, at_longer l more h.0 h.1 h.2, h.3, h.4)
 
--- a word that is no page's changes
+-- a word changes that is of no page
 pub word_else : (u : Setup) (words : List ℕ) (i n p offset : ℕ) → i < page_word_at u 0 0 → word_in u (set words i n) p offset ≡ word_in u words p offset
 word_else u words i n p offset lt = get_or-set_other words i (page_word_at u p offset) n 0 (λ e. omega (arith, e, lt))
 
--- all that the pass has seen is stored
+-- if no word is left to store, all entries of the journal are stored
 all_stored : (js stored : Journals) (v : View) (p : ℕ) → v.late ≡ None → js p ≡ stored p ++ late_in v.late → stored p ≡ js p
 all_stored js stored v p none late = sym (late ∙ ap (λ d. stored p ++ late_in d) none ∙ append-nil (stored p))
 
--- a view that has the same page, owes the same word and has seen the same
+-- a view with the same page, the same word left to store and the same entries seen
 pub stores_same : (u : Setup) (words : List ℕ) (js stored : Journals) (v w : View) → w.at ≡ v.at → w.mode ≡ v.mode → w.late ≡ v.late → w.laid ≡ v.laid
     → w.known.seen ≡ v.known.seen → ((p : ℕ) → StartsWith (stored p) (look [] w.heard.seen p)) → Stores u words js stored v → Stores u words js stored w
 stores_same u words js stored v w at mode late laid seen told h = record {
@@ -82,7 +82,7 @@ stores_same u words js stored v w at mode late laid seen told h = record {
   heard = told;
 }
 
--- words change that are no page's
+-- words change that are of no page
 pub stores_words : (u : Setup) (words words' : List ℕ) (js stored : Journals) (v : View) → ((p offset : ℕ) → word_in u words' p offset ≡ word_in u words p offset)
     → Stores u words js stored v → Stores u words' js stored v
 stores_words u words words' js stored v same h = record {
@@ -105,7 +105,7 @@ words_stay u words views js id w h now = record {
   stores = each-set (Stores u words js h.stored) views id w h.stores now;
 }
 
--- a new view, which has no page, has seen no more than is stored, and heard nothing
+-- with one new view, which has no page, has seen no more than is stored, and heard nothing
 pub words_joined : (u : Setup) (words : List ℕ) (views : List View) (js : Journals) (x : View) (h : Words u words views js) → x.at ≡ 0 → ((p : ℕ) → StartsWith (h.stored p) (seen_of x p)) → x.heard ≡ blank 0 0
     → Words u words (views ++ x ∷ []) js
 words_joined u words views js x h rests seen none = record {
@@ -123,7 +123,7 @@ words_joined u words views js x h rests seen none = record {
   };
 }
 
--- a word changes that is neither a state word nor a page's
+-- a word changes that is neither a state word nor of a page
 pub words_other : (u : Setup) (words : List ℕ) (views : List View) (js : Journals) (i n : ℕ) (h : Words u words views js) → pages u ≤ i → i < page_word_at u 0 0
     → ((j offset : ℕ) → j < u.fresh → bit_at (get_or (set words i n) (starts_at u j) 0) offset ≡ 1 → HasHead (h.stored (fresh_page u j)) offset)
     → Words u (set words i n) views js
@@ -142,7 +142,7 @@ words_other u words views js i n h behind before heads =
 module _ (u : Setup) (words : List ℕ) (views : List View) (js : Journals) (id : ℕ) (w : View) (p n : ℕ) (inside : p < pages u) (wide : length words ≡ words_end u)
     (h : Words u words views js) (whole : n < 2 → h.stored p ≡ js p)
     (made : (offset : ℕ) → offset < 64 → n % 2 ≡ 1 → word_in u words p offset ≡ made_at u p (h.stored p) offset) (zeros : n ≡ 0 → (offset : ℕ) → offset < 64 → word_in u words p offset ≡ 0) (now : Stores u words js h.stored w) where
-  -- the state word of the page
+  -- the new state word of the page
   state : (q : ℕ) → q ≡ p → get_or (set words p n) q 0 ≡ n
   state q e = let lt : p < length words = omega (arith, inside, wide) in ap (λ r. get_or (set words p n) r 0) e ∙ get_or-set_same words p n 0 lt
 
@@ -167,7 +167,7 @@ module _ (u : Setup) (words : List ℕ) (views : List View) (js : Journals) (id 
             (λ j v e. stores_words u words (set words p n) js h.stored v same (h.stores j v e)) (stores_words u words (set words p n) js h.stored w same now);
       }
 
--- what a pass has stored of a page that it then builds or holds, where it had none
+-- a pass that had no page now builds or holds one
 pub stores_arriving : (u : Setup) (words : List ℕ) (js stored : Journals) (v w : View) (p : ℕ) → v.at ≡ 0 → w.at ≡ p + 1 → w.late ≡ None → w.laid ≡ 0 → w.heard ≡ v.heard
     → (w.mode ≡ 0 → (offset : ℕ) → offset < 64 → word_in u words p offset ≡ 0)
     → stored p ≡ js p → ((q : ℕ) → (seen_of w q ≡ seen_of v q) ⊎ ((q ≡ p) × (seen_of w q ≡ js q))) → Stores u words js stored v → Stores u words js stored w
@@ -180,7 +180,7 @@ stores_arriving u words js stored v w p rests at none zero_ told blank whole see
   heard = λ q. subst (λ (known : Known). StartsWith (stored q) (look [] known.seen q)) (sym told) (h.heard q);
 }
 
--- what it has stored once it has no page, where no word was due
+-- a pass that had no word left to store now has no page
 pub stores_leaving : (u : Setup) (words : List ℕ) (js stored : Journals) (v w : View) → v.late ≡ None → w.at ≡ 0 → w.known.seen ≡ v.known.seen → w.heard ≡ v.heard
     → Stores u words js stored v → Stores u words js stored w
 stores_leaving u words js stored v w none rests seen told h = record {
@@ -190,7 +190,7 @@ stores_leaving u words js stored v w none rests seen told h = record {
   heard = λ q. subst (λ (known : Known). StartsWith (stored q) (look [] known.seen q)) (sym told) (h.heard q);
 }
 
--- no word is due: all entries of the page are stored
+-- if no word is left to store, all entries of the page are stored
 pub none_due : (u : Setup) (words : List ℕ) (js stored : Journals) (v : View) (p : ℕ) → v.at ≡ p + 1 → v.late ≡ None → Stores u words js stored v → stored p ≡ js p
 none_due u words js stored v p at none h = all_stored js stored v p none (h.late p at)
 
@@ -201,15 +201,15 @@ pub all_laid : (u : Setup) (words : List ℕ) (js stored : Journals) (v : View) 
 all_laid u words js stored v p at none building all zeros empty h offset lt =
     h.laid p offset at building lt ∙ laid_all u p v.laid offset (λ le. zeros offset le lt) ∙ ap (λ l. made_at u p l offset) (sym (none_due u words js stored v p at none h ∙ empty))
 
--- The seat `id` with the view v draws a stamp for the entry e on page p, no word of which is due.
+-- The seat `id` with the view v draws a stamp for the entry e on page p. No word is left to store.
 module _ (u : Setup) (words : List ℕ) (views : List View) (js : Journals) (id : ℕ) (v : View) (p : ℕ) (e : Entry) (h : Words u words views js)
     (at_id : get_elem? views id ≡ maybe.some v) (at : v.at ≡ p + 1) (holding : v.mode ≡ 1) (none : v.late ≡ None) (taken : 2 ≤ get_or words p 0)
     (alone : (j : ℕ) (x : View) → get_elem? views j ≡ maybe.some x → x.at ≡ p + 1 → j ≡ id) where
-  -- all entries before it are stored
+  -- all entries before the new one are stored
   all_before : h.stored p ≡ js p
   all_before = none_due u words js h.stored v p at none (h.stores id v at_id)
 
-  -- the writer's view
+  -- the view of the writer
   stores_drawer : Stores u words (but js p (js p ++ e ∷ [])) h.stored (drawing v p e)
   stores_drawer = record {
     seen = λ q due. dite (ℕ_discrete q p)
@@ -221,7 +221,7 @@ module _ (u : Setup) (words : List ℕ) (views : List View) (js : Journals) (id 
     heard = (h.stores id v at_id).heard;
   }
 
-  -- another's view
+  -- the view of another seat
   stores_beside : (j : ℕ) (x : View) → get_elem? views j ≡ maybe.some x → j ≢ id → Stores u words (but js p (js p ++ e ∷ [])) h.stored x
   stores_beside j x there ne = let old = h.stores j x there in record {
     seen = old.seen;
@@ -244,7 +244,7 @@ module _ (u : Setup) (words : List ℕ) (views : List View) (js : Journals) (id 
     stores = λ j x there. ⊎_elim (λ t. subst (Stores u words (but js p (js p ++ e ∷ [])) h.stored) t.1 stores_drawer) (λ t. stores_beside j x t.1 t.0) (at_set views id j (drawing v p e) x there);
   }
 
--- The seat `id` with the view v stores the word of the entry e, which is the newest of page p.
+-- The seat `id` with the view v stores the word of the entry e, the newest of page p.
 module _ (u : Setup) (words : List ℕ) (views : List View) (js : Journals) (id : ℕ) (v : View) (p : ℕ) (e : Entry) (h : Words u words views js)
     (at_id : get_elem? views id ≡ maybe.some v) (at : v.at ≡ p + 1) (holding : v.mode ≡ 1) (some_ : v.late ≡ Some e) (inside : p < pages u) (small : e.offset < 64)
     (wide : length words ≡ words_end u) (taken : 2 ≤ get_or words p 0) (seen : seen_of v p ≡ js p)
@@ -253,11 +253,11 @@ module _ (u : Setup) (words : List ℕ) (views : List View) (js : Journals) (id 
   words' : List ℕ
   words' = set words (page_word_at u p e.offset) e.value
 
-  -- the entries that are then stored
+  -- the entries with stored words after the step
   more : Journals
   more = but h.stored p (h.stored p ++ e ∷ [])
 
-  -- they have the new one
+  -- they end with the new entry
   here : more p ≡ h.stored p ++ e ∷ []
   unfolding more
   here = but-same h.stored p (h.stored p ++ e ∷ [])
@@ -273,7 +273,7 @@ module _ (u : Setup) (words : List ℕ) (views : List View) (js : Journals) (id 
       (λ same. subst (λ r. StartsWith (more r) front) (sym same) (subst (λ l. StartsWith l front) (sym here) (starts-more (h.stored p) front (e ∷ []) (subst (λ r. StartsWith (h.stored r) front) same b))))
       (λ ne. subst (λ l. StartsWith l front) (sym (other q ne)) b)
 
-  -- which are all
+  -- they are all entries of the page
   all_now : js p ≡ more p
   all_now = (h.stores id v at_id).late p at ∙ ap (λ d. h.stored p ++ late_in d) some_ ∙ sym here
 
@@ -288,7 +288,7 @@ module _ (u : Setup) (words : List ℕ) (views : List View) (js : Journals) (id 
   word_same q offset lt ne = get_or-set_other words (page_word_at u p e.offset) (page_word_at u q offset) e.value 0
       (λ z. let page : q ≡ p = omega (arith, z, lt, small) in ne page (omega (arith, z, page)))
 
-  -- the word is the entry's
+  -- the word is that of the entry
   word_now : word_in u words' p e.offset ≡ e.value
   unfolding words'
   word_now = get_or-set_same words (page_word_at u p e.offset) e.value 0 (omega (arith, wide, inside, small))
@@ -302,7 +302,7 @@ module _ (u : Setup) (words : List ℕ) (views : List View) (js : Journals) (id 
       ∙ sym (made_last u p (h.stored p) e offset ∙ ap (λ o. get_or (set (replayed (base_of u p) (h.stored p)) e.offset e.value) o 0) same ∙ get_or-set_same (replayed (base_of u p) (h.stored p)) e.offset e.value 0 (omega (arith, long, small))))
       (λ ne. word_same p offset lt (λ z. ne) ∙ old ∙ sym (made_last u p (h.stored p) e offset ∙ get_or-set_other (replayed (base_of u p) (h.stored p)) e.offset offset e.value 0 ne))
 
-  -- the writer's view
+  -- the view of the writer
   stores_writer : Stores u words' js more (storing v)
   stores_writer = record {
     seen = λ q due. dite (ℕ_discrete q p)
@@ -313,7 +313,7 @@ module _ (u : Setup) (words : List ℕ) (views : List View) (js : Journals) (id 
     heard = λ q. still q (look [] v.heard.seen q) ((h.stores id v at_id).heard q);
   }
 
-  -- another's view
+  -- the view of another seat
   stores_others : (j : ℕ) (x : View) → get_elem? views j ≡ maybe.some x → j ≢ id → Stores u words' js more x
   stores_others j x there ne =
       let old = h.stores j x there in

@@ -37,7 +37,7 @@ enumerated-next line xs k lt =
     ∙ flat_map-append line first ((0 + length (take k xs), get_or xs k 0) ∷ [])
     ∙ ap (λ (ys : List ℕ). flat_map line first ++ ys) (append-nil (line (0 + length (take k xs), get_or xs k 0)) ∙ ap (λ (j : ℕ). line (j, get_or xs k 0)) here)
 
--- what each element gives, where each gives something
+-- what each element gives, if each gives something
 pub each-given : (f : ℕ → Option ℕ) (xs ys : List ℕ) → map (λ y. Some y) ys ≡ map f xs → ys ≡ map (λ x. unwrap_or (f x) 0) xs
 each-given f [] [] h = refl
 each-given f [] (y ∷ ys) h = cc

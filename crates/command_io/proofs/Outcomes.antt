@@ -9,7 +9,7 @@ use Rattle.command_io.specs.Printing.{CountsPrint, RefusedUnprinted}
 use Rattle.command_io.specs.declared.refusal.Refusal.{Refusal}
 use Rattle.command_io.specs.declared.refusal.Refusal.TheVariants.{Layout, Mutator, Sweep, Trace, Dump, Audit, CannotOpen, CannotCreate, ReadFailed, CannotPrint, NoSuchWord, BadMarks, OutOfMemory}
 
--- a refusal that is none of the output counts no failed call of it
+-- a refusal for another cause than the output counts no failed call of the output
 pub uncounted_by : (old new : ℕ) (refusal : Refusal) → new ≡ old → (refusal ≡ CannotPrint → ⊥) → CountsPrint {T = Unit {0}} old new (Err refusal)
 uncounted_by old new (Layout fault) same other = same
 uncounted_by old new (Mutator refused) same other = same
@@ -25,7 +25,7 @@ uncounted_by old new (NoSuchWord index) same other = same
 uncounted_by old new (BadMarks line) same other = same
 uncounted_by old new OutOfMemory same other = same
 
--- none of the dump is one of the output
+-- a refusal for the dump is not one for the output
 pub uncounted_dump : {W : Type 0} (closed : Type 0) (gives : W → Type 0) (contents : W → Option (List ℕ)) (bytes : List ℕ) (n : ℕ) (refusal : Refusal) → IsOfDumping closed gives contents bytes refusal → CountsPrint {T = Unit {0}} n n (Err refusal)
 uncounted_dump closed gives contents bytes n refusal h = uncounted_by n n refusal refl (λ e. subst (IsOfDumping closed gives contents bytes) e h)
 
@@ -61,7 +61,7 @@ uncreated dumps (NoSuchWord index) = refl
 uncreated dumps (BadMarks line) = refl
 uncreated dumps OutOfMemory = tt
 
--- a refusal of the dump is one that may leave one
+-- a refusal for the dump is one that may leave one
 pub created : {W D : Type 0} (closed : Type 0) (gives : W → Type 0) (contents : W → Option (List ℕ)) (bytes : List ℕ) (before after : D) (refusal : Refusal) → IsOfDumping closed gives contents bytes refusal → RefusedUncreated {T = Unit {0}} before after (Err refusal)
 created closed gives contents bytes before after (Layout fault) h = absurd h
 created closed gives contents bytes before after (Mutator refused) h = absurd h
@@ -99,7 +99,7 @@ unmade dumps (NoSuchWord index) = refl
 unmade dumps (BadMarks line) = refl
 unmade dumps OutOfMemory = tt
 
--- a refusal of the new image is one that may leave one
+-- a refusal for the new image is one that may leave one
 pub image_created : {W D : Type 0} (closed : Type 0) (gives : W → Type 0) (contents : W → Option (List ℕ)) (bytes : List ℕ) (before after : D) (refusal : Refusal) → IsOfWritingImage closed gives contents bytes refusal → RefusedUnmade {T = Unit {0}} before after (Err refusal)
 image_created closed gives contents bytes before after (Layout fault) h = inl h.0
 image_created closed gives contents bytes before after (Mutator refused) h = absurd h

@@ -2,7 +2,7 @@
 use Rattle.std.proofs.Common.{◌≡◌, ℕ, List, [], ◌++◌, Option, Some, None, IfSome, ap, ◌∙◌, append-nil}
 use Rattle.std.specs.Io.KnownBytes.{Consumes, IsAtEnd}
 
--- where a reader is at its end, and gave nothing more, the text is whole
+-- if a reader is at its end, and gave nothing more, the text is whole
 pub whole_text : (a b c : Option (List ℕ)) (text last : List ℕ) → Consumes a b text → Consumes b c last → IsAtEnd c → last ≡ [] → IfSome a (λ bytes. bytes ≡ text)
 whole_text None b c text last p q e none = tt
 whole_text (Some x) None c text last p q e none = absurd p

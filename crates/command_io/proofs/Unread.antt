@@ -4,7 +4,7 @@ use Rattle.comp_trace.specs.TraceFault.TheVariants as traces
 use Rattle.command_io.specs.Texts.{RefusesText}
 use Rattle.command_io.specs.declared.refusal.Refusal.TheVariants.{Trace}
 
--- for want of memory a text is no trace, whatever it says
+-- if memory runs out a text is no trace, whatever it says
 pub unread : (mutators roots : ℕ) (known : Option (List ℕ)) → RefusesText mutators roots (Trace traces.OutOfMemory) known
 unread mutators roots None = ([], tt, tt)
 unread mutators roots (Some bytes) = (bytes, refl, tt)

@@ -15,14 +15,14 @@ use Rattle.command_io.specs.Dumps.{IsOfDumping, WritesBeginning, WritesWhole}
 use Rattle.command_io.specs.NewImages.{IsOfWritingImage}
 use Rattle.command_io.specs.declared.refusal.Refusal.TheVariants.{Dump, Layout}
 
--- where a flush failed, all was taken
+-- if only the flush failed, all bytes were taken
 pub unflushed : (a b c : Option (List ℕ)) (bytes : List ℕ) → Appends a b bytes → Keeps b c → AppendsSome a c bytes
 unflushed a b c bytes taken kept = record {
   taken = length bytes;
   bytes = subst (Appends a c) (sym (take_all (length bytes) bytes (omega arith))) (Appends-kept a b c bytes taken kept);
 }
 
--- What a writer took that was given, around which this count began.
+-- What some writer that is given took, if the count began around it.
 module _ {W : Type 0} (gives : W → Type 0) (contents : W → Option (List ℕ)) (bytes : List ℕ) (made : W) (old new : Counted W) (given : gives made) (inner : inner_of old ≡ made) (none : failures_of old ≡ 0) where
   pub whole : Appends (contents (inner_of old)) (contents (inner_of new)) bytes → failures_of new ≡ failures_of old → is_flushed_of new ≡ true → WritesWhole gives contents bytes
   whole appended counts flushed = record {

@@ -1,4 +1,4 @@
--- What is promised from the path of a dump on.
+-- What is known of the dump that is written to a path.
 use Rattle.std.specs.Prelude.{◌≡◌, ℕ, List, Option, Result, Ok, Err, true}
 use Rattle.std.specs.Io.KnownBytes.{Appends}
 use Rattle.heap_layout.specs.Counted.{failures_of, inner_of, is_flushed_of}
@@ -10,7 +10,7 @@ use Rattle.command_io.specs.declared.refusal.Output.TheVariants as outputs
 use Rattle.command_io.specs.declared.refusal.Refusal.{Refusal}
 use Rattle.command_io.specs.declared.refusal.Refusal.TheVariants.{CannotCreate, CannotPrint, Dump, OutOfMemory}
 
--- A writer that was given took all these bytes, no call of it failed, and it was flushed in the end.
+-- some writer that a path gives took all these bytes, no call of it failed, and it was flushed at the end
 pub record WritesWhole {W : Type 0} (gives : W → Type 0) (contents : W → Option (List ℕ)) (bytes : List ℕ) : Type 0 where
   pub made : W
   pub given : gives made
@@ -19,7 +19,7 @@ pub record WritesWhole {W : Type 0} (gives : W → Type 0) (contents : W → Opt
   pub flushed : is_flushed_of written ≡ true
   pub none_failed : failures_of written ≡ 0
 
--- A writer that was given took a beginning of these bytes, and then one call of it failed.
+-- some writer that a path gives took a beginning of these bytes, and then one call of it failed
 pub record WritesBeginning {W : Type 0} (gives : W → Type 0) (contents : W → Option (List ℕ)) (bytes : List ℕ) : Type 0 where
   pub made : W
   pub given : gives made
@@ -27,20 +27,21 @@ pub record WritesBeginning {W : Type 0} (gives : W → Type 0) (contents : W →
   pub appended : AppendsSome (contents made) (contents (inner_of written)) bytes
   pub failed : failures_of written ≡ 1
 
--- why this file could not be created: there is no place for it, as `lacks` says, or a growth was refused
+-- why this file could not be created: there is no place for it, as `lacks` says, or memory ran out
 abbrev pub IsOfCreating : Output → Type 0 → Refusal → Type 0
 IsOfCreating output lacks (CannotCreate named) = (named ≡ output) × lacks
 IsOfCreating output lacks OutOfMemory = Unit {0}
 IsOfCreating output lacks _ = ⊥
 
--- why these bytes of a dump were not written: there is no place for them; or a call of the writer failed; or a growth was refused
+-- why these bytes of a dump were not written: there is no place for them, or a call of the writer failed, or memory ran
+-- out
 abbrev pub IsOfDumping : {W : Type 0} → Type 0 → (W → Type 0) → (W → Option (List ℕ)) → List ℕ → Refusal → Type 0
 IsOfDumping lacks gives contents bytes (CannotCreate output) = (output ≡ outputs.Dump) × lacks
 IsOfDumping lacks gives contents bytes (Dump Device) = WritesBeginning gives contents bytes
 IsOfDumping lacks gives contents bytes OutOfMemory = Unit {0}
 IsOfDumping lacks gives contents bytes _ = ⊥
 
--- no dump was created where a call was refused, but by a refusal that comes from the dump on
+-- a refused call created no dump, unless the refusal is one of those that may come once a dump is created
 abbrev pub RefusedUncreated : {T D : Type 0} → D → D → Result T Refusal → Type 0
 RefusedUncreated before after (Ok _) = Unit {0}
 RefusedUncreated before after (Err (CannotCreate output)) = Unit {0}

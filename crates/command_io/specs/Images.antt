@@ -1,4 +1,4 @@
--- What is promised from the path of an image on.
+-- What is known of the image at a path.
 use Rattle.std.specs.Prelude.{◌≡◌, ℕ, List, Option, IfSome}
 use Rattle.heap_layout.specs.Heap.{Heap, IsStored}
 use Rattle.heap_layout.specs.Faults.{IsAccepted}
@@ -11,21 +11,22 @@ use Rattle.command_io.specs.declared.refusal.Refusal.TheVariants.{CannotOpen, La
 abbrev pub SomeHeap : (Heap → Type 0) → Type 0
 SomeHeap P = (heap : Heap) × IsStored heap × IsAccepted heap × P heap
 
--- P holds of an accepted heap; where the bytes of the image are known, they are the heap's encoding
+-- P holds of some accepted heap; the bytes of the image, if they are known, are its encoding
 abbrev pub IsImageOf : (Heap → Type 0) → Option (List ℕ) → Type 0
 IsImageOf P known = SomeHeap (λ heap. IfSome known (λ bytes. bytes ≡ encoding heap) × P heap)
 
--- P holds of what some reader that is given tells of its bytes
+-- P holds of the known bytes of some reader that is given
 abbrev pub SomeGiven : {R : Type 0} → (R → Type 0) → (R → Option (List ℕ)) → (Option (List ℕ) → Type 0) → Type 0
 SomeGiven {R = R} gives remaining P = (reader : R) × gives reader × P (remaining reader)
 
--- why a task on an image is refused: there is none at the path; or a growth was refused; or P tells why, of what some reader that is given tells
+-- why a task on an image is refused: there is none at the path; or memory ran out; or P gives the reason, by the known
+-- bytes of some reader that is given
 abbrev pub RefusesAt : {R : Type 0} → Type 0 → (R → Type 0) → (R → Option (List ℕ)) → (Refusal → Option (List ℕ) → Type 0) → Refusal → Type 0
 RefusesAt lacks gives remaining P (CannotOpen Image) = lacks
 RefusesAt lacks gives remaining P OutOfMemory = Unit {0}
 RefusesAt lacks gives remaining P refusal = SomeGiven gives remaining (P refusal)
 
--- the image is refused, as its known bytes tell
+-- the image is refused, for a fault of its bytes, if they are known
 abbrev pub RefusesImage : Refusal → Option (List ℕ) → Type 0
 RefusesImage (Layout fault) known = IfSome known (Refuses fault)
 RefusesImage _ known = ⊥

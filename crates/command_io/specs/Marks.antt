@@ -1,4 +1,4 @@
--- What is promised from the path of marks on.
+-- What is known of the marks at a path.
 use Rattle.std.specs.Prelude.{◌≡◌, ℕ, List, Option, Ok, Err}
 use Rattle.comp_trace.specs.Marks.{marks_of}
 use Rattle.command_io.specs.Images.{SomeGiven}
@@ -11,20 +11,21 @@ use Rattle.command_io.specs.declared.refusal.Refusal.TheVariants.{BadMarks, Cann
 abbrev pub AreMarksOf : List ℕ → Option (List ℕ) → Type 0
 AreMarksOf marks known = SomeText (λ text. marks_of text ≡ Ok marks) known
 
--- why marks could not be opened: there are none, as `lacks` says, or a growth was refused
+-- why marks could not be opened: there are none, as `lacks` says, or memory ran out
 abbrev pub IsOfOpeningMarks : Type 0 → Refusal → Type 0
 IsOfOpeningMarks lacks (CannotOpen inputs.Marks) = lacks
 IsOfOpeningMarks lacks OutOfMemory = Unit {0}
 IsOfOpeningMarks lacks _ = ⊥
 
--- why there are no marks: a call of the reader failed, which `CountsText` tells; or a line is none, the first of those; or a growth was refused
+-- why there are no marks: a call of the reader failed, which `CountsText` counts; or this line is the first that is no
+-- mark; or memory ran out
 abbrev pub RefusesMarksText : Refusal → Option (List ℕ) → Type 0
 RefusesMarksText (ReadFailed inputs.Marks) known = Unit {0}
 RefusesMarksText (BadMarks n) known = SomeText (λ text. marks_of text ≡ Err n) known
 RefusesMarksText OutOfMemory known = Unit {0}
 RefusesMarksText _ known = ⊥
 
--- the same from the path on: there are no marks at it, or a growth was refused, or the text of some reader that is given is refused
+-- the same for a path: there are no marks at it, or memory ran out, or the text of some reader that is given is refused
 abbrev pub RefusesMarksAt : {R : Type 0} → Type 0 → (R → Type 0) → (R → Option (List ℕ)) → Refusal → Type 0
 RefusesMarksAt lacks gives remaining (CannotOpen inputs.Marks) = lacks
 RefusesMarksAt lacks gives remaining OutOfMemory = Unit {0}

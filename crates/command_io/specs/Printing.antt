@@ -1,4 +1,5 @@
--- What a call tells of the output and of the file that is read: a refusal for a device comes exactly where one of its calls failed.
+-- What a call leaves of the output and of the file that it reads. It is refused for a device if and only if a call of
+-- that device failed.
 use Rattle.std.specs.Prelude.{◌≡◌, ℕ, ◌+◌, List, [], ◌∷◌, ◌++◌, Option, Result, Ok, Err, codes}
 use Rattle.std.specs.Fmt.{decimal}
 use Rattle.std.specs.Io.KnownBytes.{Keeps}
@@ -11,14 +12,14 @@ use Rattle.command_io.specs.declared.refusal.Output.TheVariants as outputs
 use Rattle.command_io.specs.declared.refusal.Refusal.{Refusal}
 use Rattle.command_io.specs.declared.refusal.Refusal.TheVariants.{Layout, CannotOpen, CannotPrint, OutOfMemory}
 
--- a file that is read, as refusals call it
+-- the name of a file that is read, in refusals
 abbrev pub input_name : Input → List ℕ
 input_name Image = codes "image"
 input_name Trace = codes "trace"
 input_name Dump = codes "dump"
 input_name Marks = codes "marks"
 
--- a file that is made
+-- the name of a file that is made
 abbrev pub output_name : Output → List ℕ
 output_name outputs.Dump = codes "dump"
 output_name outputs.New = codes "new"
@@ -31,11 +32,11 @@ line_of number = decimal number ++ 10 ∷ []
 abbrev pub named : List ℕ → ℕ → List ℕ
 named name number = name ++ line_of number
 
--- a name and its number, and then a second name with its number and a line feed
+-- a name and a number, then a second name, a second number and a line feed
 abbrev pub numbered : List ℕ → ℕ → List ℕ → ℕ → List ℕ
 numbered name number second value = name ++ decimal number ++ named second value
 
--- a text of help as it is printed: without white space at its end, and then a line feed
+-- a text of help as it is printed: without white space at its end, and with a line feed
 abbrev pub help_lines : List ℕ → List ℕ
 help_lines text = trim_end text ++ 10 ∷ []
 
@@ -43,25 +44,25 @@ help_lines text = trim_end text ++ 10 ∷ []
 abbrev pub version_line : List ℕ
 version_line = codes "compressor 0.1.0" ++ 10 ∷ []
 
--- a call answers `CannotPrint` exactly where one more call of the output failed
+-- a call answers `CannotPrint` if and only if one more call of the output failed
 abbrev pub CountsPrint : {T : Type 0} → ℕ → ℕ → Result T Refusal → Type 0
 CountsPrint before after (Ok _) = after ≡ before
 CountsPrint before after (Err CannotPrint) = after ≡ before + 1
 CountsPrint before after (Err _) = after ≡ before
 
--- a refused call left the output as it was, except where a call of the output failed
+-- a refused call left the output as it was, unless a call of the output failed
 abbrev pub RefusedUnprinted : {T : Type 0} → Option (List ℕ) → Option (List ℕ) → Result T Refusal → Type 0
 RefusedUnprinted before after (Ok _) = Unit {0}
 RefusedUnprinted before after (Err CannotPrint) = Unit {0}
 RefusedUnprinted before after (Err _) = Keeps before after
 
--- a call answers `Device` exactly where one more call of the reader failed
+-- a call answers `Device` if and only if one more call of the reader failed
 abbrev pub CountsRead : {T : Type 0} → ℕ → ℕ → Result T Refusal → Type 0
 CountsRead before after (Ok _) = after ≡ before
 CountsRead {T = T} before after (Err (Layout fault)) = CountsFailure {T = T} before after (Err fault)
 CountsRead before after (Err _) = after ≡ before
 
--- why an image could not be opened: there is none, as `lacks` says, or a growth was refused
+-- why an image could not be opened: there is none, as `lacks` says, or memory ran out
 abbrev pub IsOfOpening : Type 0 → Refusal → Type 0
 IsOfOpening lacks (CannotOpen Image) = lacks
 IsOfOpening lacks OutOfMemory = Unit {0}

@@ -1,4 +1,4 @@
--- What is promised from the path of a trace on.
+-- What is known of the trace at a path.
 use Rattle.std.specs.Prelude.{◌≡◌, ℕ, ◌+◌, List, Option, IfSome, Result, Ok, Err}
 use Rattle.comp_trace.specs.Grammar.{trace_of, IsReadAs}
 use Rattle.comp_trace.specs.Line.{Line}
@@ -9,11 +9,11 @@ use Rattle.command_io.specs.declared.refusal.Refusal.TheVariants.{CannotOpen, Ou
 use Rattle.command_io.specs.declared.texts.Unread.{Unread}
 use Rattle.command_io.specs.declared.texts.Unread.TheVariants as unread
 
--- P holds of some text; where the bytes of the trace are known, they are it
+-- P holds of some text; the bytes of the file, if they are known, are this text
 abbrev pub SomeText : (List ℕ → Type 0) → Option (List ℕ) → Type 0
 SomeText P known = (text : List ℕ) × IfSome known (λ bytes. bytes ≡ text) × P text
 
--- the text has these lines, by so many mutators and shared roots
+-- the text has these lines, for these numbers of mutators and shared roots
 abbrev pub HasLines : ℕ → ℕ → List Line → List ℕ → Type 0
 HasLines mutators roots lines text = trace_of mutators roots text ≡ Ok lines
 
@@ -21,31 +21,31 @@ HasLines mutators roots lines text = trace_of mutators roots text ≡ Ok lines
 abbrev pub IsTextOf : ℕ → ℕ → List Line → Option (List ℕ) → Type 0
 IsTextOf mutators roots lines known = SomeText (HasLines mutators roots lines) known
 
--- why a trace could not be opened: there is none, as `lacks` says, or a growth was refused
+-- why a trace could not be opened: there is none, as `lacks` says, or memory ran out
 abbrev pub IsOfOpeningText : Type 0 → Refusal → Type 0
 IsOfOpeningText lacks (CannotOpen inputs.Trace) = lacks
 IsOfOpeningText lacks OutOfMemory = Unit {0}
 IsOfOpeningText lacks _ = ⊥
 
--- the text is no trace, by the first thing that is wrong with it, or reading it wanted memory
+-- the text is no trace, for its first fault; or a call of the reader failed, or memory ran out
 abbrev pub RefusesText : ℕ → ℕ → Refusal → Option (List ℕ) → Type 0
 RefusesText mutators roots (ReadFailed inputs.Trace) known = Unit {0}
 RefusesText mutators roots (Trace fault) known = SomeText (λ text. IsReadAs {A = List Line} (λ lines. lines) (Err fault) (trace_of mutators roots text)) known
 RefusesText mutators roots _ known = ⊥
 
--- the same from the path on: there is no trace at it, or a growth was refused, or the text of some reader that is given is refused
+-- the same for a path: there is no trace at it, or memory ran out, or the text of some reader that is given is refused
 abbrev pub RefusesTextAt : {R : Type 0} → Type 0 → (R → Type 0) → (R → Option (List ℕ)) → ℕ → ℕ → Refusal → Type 0
 RefusesTextAt lacks gives remaining mutators roots (CannotOpen inputs.Trace) = lacks
 RefusesTextAt lacks gives remaining mutators roots OutOfMemory = Unit {0}
 RefusesTextAt lacks gives remaining mutators roots refusal = SomeGiven gives remaining (RefusesText mutators roots refusal)
 
--- a call answers `ReadFailed` exactly where one more call of the reader failed
+-- a call answers `ReadFailed` if and only if one more call of the reader failed
 abbrev pub CountsText : {T : Type 0} → ℕ → ℕ → Result T Refusal → Type 0
 CountsText before after (Ok _) = after ≡ before
 CountsText before after (Err (ReadFailed input)) = after ≡ before + 1
 CountsText before after (Err _) = after ≡ before
 
--- and `Failed` where it reads a text, whichever that is
+-- the same of `Failed`, for a text of either kind
 abbrev pub CountsUnread : {T : Type 0} → ℕ → ℕ → Result T Unread → Type 0
 CountsUnread before after (Ok _) = after ≡ before
 CountsUnread before after (Err unread.Failed) = after ≡ before + 1

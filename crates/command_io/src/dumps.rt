@@ -1,4 +1,4 @@
-//! Where the dumps and the new images lie that the program makes, and how dumps are written.
+//! The files that the program makes: dumps and new images, and how dumps are written.
 ghost use Rattle.std.specs.Prelude.{◌≡◌, ℕ, ◌-◌, ◌^◌, ◌<◌, List, true, IfOk, IfErr, OnOk};
 ghost use Rattle.heap_layout.specs.Counted.{inner_of, failures_of, is_flushed_of};
 ghost use Rattle.comp_dump.specs.DumpEncoding.{dump_bytes};
@@ -15,28 +15,29 @@ use heap_layout::Counted;
 use std::io::Write;
 use std::rt::Files;
 
-/// Where the dumps and the new images lie that the program makes, by their paths.
+/// Creates the dumps and the new images, by their paths.
 pub trait Dumps {
     type Writer: Write + Drop;
 
     // what is known of each writer that a path gives
     ghost gives: { Self → List ℕ → Self.Writer → Type 0 };
 
-    // what is known where a path gives none
+    // what is known if a path gives none
     ghost lacks: { Self → List ℕ → Type 0 };
 
-    /// The dump for a path, to be written from its first byte. Once it was flushed it stands in place of what was there.
+    /// Creates the dump for a path, to be written from its first byte. Once it is flushed it replaces what was there.
     fn create(&mut self, path: &str) -> Result<Self::Writer, Refusal>
         ensures given { IfOk result (gives self.old path.now) }
         ensures cause { IfErr result (IsOfCreating outputs.Dump (lacks self.old path.now)) };
 
-    /// The new image for a path, as `create` gives a dump.
+    /// Creates the new image for a path, as `create` does a dump.
     fn create_image(&mut self, path: &str) -> Result<Self::Writer, Refusal>
         ensures given { IfOk result (gives self.old path.now) }
         ensures cause { IfErr result (IsOfCreating outputs.New (lacks self.old path.now)) };
 }
 
-/// The dumps and the new images that lie in the files of a runtime. One that is not whole leaves a regular file at its path as it was.
+/// The dumps and the new images in the files of a runtime. As long as one is not whole, a regular file at its path
+/// stays as it was.
 #[derive(Drop)]
 pub struct FileDumps<'a, R> {
     pub rt: &'a R,
@@ -45,7 +46,8 @@ pub struct FileDumps<'a, R> {
 impl<'a, R: Files + AllocGlobal> Dumps for FileDumps<'a, R> {
     type Writer = OutputFile<'a, R>;
 
-    // Which file a path leads to, and what a file takes, the kit's contracts do not say: each writer may be given, and each path may give none.
+    // The kit's contracts do not say which file a path leads to, nor what a file takes: any writer may be given, and
+    // any path may give none.
     ghost gives = { λ _ _ _. Unit {0} };
 
     ghost lacks = { λ _ _. Unit {0} };
@@ -59,7 +61,7 @@ impl<'a, R: Files + AllocGlobal> Dumps for FileDumps<'a, R> {
     }
 }
 
-/// Writes a dump to a path. Where a call of its writer fails, that writer has taken a beginning of the dump.
+/// Writes a dump to a path. If a call of its writer fails, the writer has taken a beginning of the dump.
 pub fn write_to<D: Dumps>(dumps: &mut D, path: &str, dump: &Dump<'_>) -> Result<(), Refusal>
     ensures written { OnOk result (WritesWhole (D.gives dumps.old path.now) D.Writer.contents (dump_bytes dump.now)) }
     ensures cause { IfErr result (IsOfDumping (D.lacks dumps.old path.now) (D.gives dumps.old path.now) D.Writer.contents (dump_bytes dump.now)) }
@@ -69,7 +71,7 @@ pub fn write_to<D: Dumps>(dumps: &mut D, path: &str, dump: &Dump<'_>) -> Result<
     Ok(())
 }
 
-/// Writes a dump, and sends on what the writer still holds. The first call of the writer that fails ends the writing.
+// Writes a dump, and flushes the writer. The first call of the writer that fails ends the writing.
 #[tactic(auto, using(crate::proofs::Written::unflushed))]
 fn write_flushed<W: Write>(dump: &Dump<'_>, w: &mut Counted<W>) -> Result<(), DumpFault>
     requires { failures_of w.old < 2 ^ 64 - 1 }

@@ -1,4 +1,4 @@
-//! Where the images lie.
+//! The images that the program reads.
 ghost use Rattle.std.specs.Prelude.{◌≡◌, ℕ, List, IfOk, IfErr};
 ghost use Rattle.command_io.specs.Images.{IsImageOf, RefusesAt, RefusesImage, SomeGiven};
 ghost use Rattle.command_io.specs.Printing.{IsOfOpening};
@@ -10,14 +10,14 @@ use std::fs;
 use std::io::{BufReader, Read};
 use std::rt::Files;
 
-/// Where the images lie that the program is given by their paths.
+/// Opens the images that the program reads, by their paths.
 pub trait Images {
     type Reader: Read + Drop;
 
     // what is known of each reader that a path gives
     ghost gives: { Self → List ℕ → Self.Reader → Type 0 };
 
-    // what is known where a path gives none
+    // what is known if a path gives none
     ghost lacks: { Self → List ℕ → Type 0 };
 
     /// Opens the image at a path, to be read from its first byte.
@@ -26,7 +26,7 @@ pub trait Images {
         ensures cause { IfErr result (IsOfOpening (lacks self.now path.now)) };
 }
 
-/// The images that lie in the files of a runtime, which are read through a buffer.
+/// The images in the files of a runtime, read through a buffer.
 #[derive(Drop)]
 pub struct FileImages<'a, R> {
     pub rt: &'a R,
@@ -35,7 +35,8 @@ pub struct FileImages<'a, R> {
 impl<R: Files + AllocGlobal> Images for FileImages<'_, R> {
     type Reader = BufReader<R::File, Global>;
 
-    // Which file a path leads to, and what a file holds, the kit's contracts do not say: each reader may be given, and each path may give none.
+    // The kit's contracts do not say which file a path leads to, nor what a file holds: any reader may be given, and
+    // any path may give none.
     ghost gives = { λ _ _ _. Unit {0} };
 
     ghost lacks = { λ _ _. Unit {0} };
@@ -51,7 +52,7 @@ impl<R: Files + AllocGlobal> Images for FileImages<'_, R> {
     }
 }
 
-/// The heap whose image lies at a path.
+/// Reads the heap whose image is at a path.
 pub fn heap_at<I: Images>(alloc: Global, images: &I, path: &str) -> Result<MarkedHeap, Refusal>
     ensures heap { IfOk result (λ heap. SomeGiven (I.gives images.now path.now) I.Reader.remaining (IsImageOf (λ other. other ≡ heap))) }
     ensures cause { IfErr result (RefusesAt (I.lacks images.now path.now) (I.gives images.now path.now) I.Reader.remaining RefusesImage) }

@@ -1,4 +1,4 @@
-//! What the commands stand on: why they are refused, where their images, traces, marks, dumps and new images lie, and printing.
+//! What all commands use: refusals, the files of images, traces, marks, dumps and new images, and printing.
 #![tactic(auto)]
 
 mod dumps;

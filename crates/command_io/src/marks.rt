@@ -1,4 +1,4 @@
-//! How the texts of marks are read.
+//! Reads the texts of marks.
 ghost use Rattle.std.specs.Prelude.{◌-◌, ◌^◌, ◌<◌, IfOk, IfErr};
 ghost use Rattle.heap_layout.specs.Counted.{inner_of, failures_of};
 ghost use Rattle.command_io.specs.Images.{SomeGiven};
@@ -13,7 +13,8 @@ use heap_layout::Counted;
 use std::alloc::Global;
 use std::io::Read;
 
-/// The marks whose text lies at a path. Refused are marks that cannot be opened or read, a text with a line that is no mark, by the number of the first of those, and a growth.
+/// Reads the marks whose text is at a path. Refuses if the file cannot be opened or read, if a line of it is no mark,
+/// with the number of the first such line, and if memory runs out.
 pub fn marks_at<T: Traces>(alloc: Global, traces: &T, path: &str) -> Result<Vec<u32>, Refusal>
     ensures marks { IfOk result (λ marks. SomeGiven (T.gives traces.now path.now) T.Reader.remaining (AreMarksOf marks.items)) }
     ensures cause { IfErr result (RefusesMarksAt (T.lacks traces.now path.now) (T.gives traces.now path.now) T.Reader.remaining) }
@@ -22,7 +23,8 @@ pub fn marks_at<T: Traces>(alloc: Global, traces: &T, path: &str) -> Result<Vec<
     marks_in(alloc, &mut reader)
 }
 
-/// The marks whose text is all that the reader has left. Refused are a call of the reader that fails, a text with a line that is no mark, by the number of the first of those, and a growth.
+/// Reads marks to the end of the reader. Refuses if a call of the reader fails, if a line is no mark, with the number
+/// of the first such line, and if memory runs out.
 pub fn marks_in<S: Read>(alloc: Global, r: &mut Counted<S>) -> Result<Vec<u32>, Refusal>
     requires read { failures_of r.old < 2 ^ 64 - 1 }
     ensures marks { IfOk result (λ marks. AreMarksOf marks.items (S.remaining (inner_of r.old))) }

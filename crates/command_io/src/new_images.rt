@@ -1,4 +1,4 @@
-//! How new images are written.
+//! Writes new images.
 ghost use Rattle.std.specs.Prelude.{◌≡◌, true, IfErr, OnOk};
 ghost use Rattle.heap_layout.specs.Counted.{inner_of, failures_of, is_flushed_of};
 ghost use Rattle.heap_layout.specs.Encoding.{encoding};
@@ -12,7 +12,7 @@ use crate::refusal::Refusal;
 use heap_layout::{Counted, LayoutFault, MarkedHeap, write_image};
 use std::io::Write;
 
-/// Writes the image of a heap to a path. Where a call of its writer fails, that writer has taken a beginning of the image.
+/// Writes the image of a heap to a path. If a call of its writer fails, the writer has taken a beginning of the image.
 pub fn write_image_to<D: Dumps>(dumps: &mut D, path: &str, heap: &MarkedHeap) -> Result<(), Refusal>
     ensures written { OnOk result (WritesWhole (D.gives dumps.old path.now) D.Writer.contents (encoding heap.now)) }
     ensures cause { IfErr result (IsOfWritingImage (D.lacks dumps.old path.now) (D.gives dumps.old path.now) D.Writer.contents (encoding heap.now)) }
@@ -22,7 +22,7 @@ pub fn write_image_to<D: Dumps>(dumps: &mut D, path: &str, heap: &MarkedHeap) ->
     Ok(())
 }
 
-/// Writes an image, and sends on what the writer still holds. The first call of the writer that fails ends the writing.
+// Writes an image, and flushes the writer. The first call of the writer that fails ends the writing.
 #[tactic(auto, using(crate::proofs::Written::unflushed))]
 fn write_flushed<W: Write>(heap: &MarkedHeap, w: &mut Counted<W>) -> Result<(), LayoutFault>
     ensures writes { Writes (W.contents (inner_of w.old)) (W.contents (inner_of w.new)) (encoding heap.now) result }

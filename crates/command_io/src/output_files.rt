@@ -1,4 +1,4 @@
-//! Files of dumps and of new images, which are put in place of what was there once they are whole.
+//! The files of dumps and of new images. Once such a file is whole, it replaces what was at its path.
 ghost use Rattle.std.specs.Prelude.{◌≡◌, IfErr};
 ghost use Rattle.command_io.specs.Dumps.{IsOfCreating};
 ghost use Rattle.command_io.specs.declared.refusal.Refusal.TheVariants as refusal;
@@ -10,18 +10,20 @@ use std::io::{BufWriter, Error, ErrorKind, Result as IoResult, Write};
 use std::os::unix::fs::{OpenOptionsExt, PermissionsExt};
 use std::rt::Files;
 
-// How many bytes are written by one call of a file.
+// The greatest number of bytes that one call of a file writes.
 const WRITTEN_AT_ONCE: usize = 65_536;
 
-// How many names are tried for the file beside a path. A run that was killed leaves one that is taken.
+// How many names are tried for the file beside a path. A run that was killed leaves one of them in use.
 const MOST_NAMES: u32 = 1_000;
 
 // The bits of a mode that say who may read, write and run a file.
 const MODE_BITS: u32 = 0o777;
 
-/// The file of a dump or of a new image, written through a buffer. Where a regular file or none is at its path, this is a file beside that, which its first flush
-/// renames onto the path; where a call fails it is removed, what is at the path stays as it was, and each later call fails too. What is no regular file is
-/// written as it stands.
+/// The file of a dump or of a new image, written through a buffer.
+///
+/// If a regular file or nothing is at its path, this is a file beside the path. Its first flush renames it onto the
+/// path. If a call fails, it is removed, what is at the path stays as it was, and each later call fails too. If
+/// anything else is at the path, it is written directly.
 #[derive(Drop)]
 pub struct OutputFile<'a, R: Files> {
     rt: &'a R,
@@ -38,7 +40,7 @@ struct Beside {
 }
 
 impl<R: Files> OutputFile<'_, R> {
-    // Renames the file onto its path, where it is not there yet.
+    // Renames the file onto its path, if it is not there yet.
     fn put(&mut self) -> IoResult<()> {
         let Some(beside) = &self.beside else {
             return Ok(());
@@ -48,7 +50,7 @@ impl<R: Files> OutputFile<'_, R> {
         Ok(())
     }
 
-    // Fails where an earlier call did.
+    // Fails if an earlier call did.
     fn check(&self) -> IoResult<()> {
         if self.failed {
             return Err(Error::from(ErrorKind::Other));
@@ -56,7 +58,7 @@ impl<R: Files> OutputFile<'_, R> {
         Ok(())
     }
 
-    // A call failed: removes the file, where it is not at its path. Where that fails, the file is left.
+    // Removes the file after a call that failed, if it is not at its path yet. If that fails, the file is left.
     fn give_up(&mut self) {
         self.failed = true;
         if let Some(beside) = self.beside.take() {
@@ -92,12 +94,12 @@ impl<R: Files> Write for OutputFile<'_, R> {
     }
 }
 
-// Removes a file that is not needed, if that can be done.
+// Removes a file that is not needed, if possible.
 fn remove<R: Files>(rt: &R, path: &str) {
     let _ = fs::remove_file(rt, path);
 }
 
-/// The file for this output at a path.
+/// Creates the file for this output at a path.
 pub fn create_file<'a, R: Files + AllocGlobal>(
     rt: &'a R,
     path: &str,
@@ -114,7 +116,7 @@ pub fn create_file<'a, R: Files + AllocGlobal>(
     }
 }
 
-// The file at the path itself.
+// Opens the file at the path itself.
 fn create_there<'a, R: Files + AllocGlobal>(
     rt: &'a R,
     path: &str,
@@ -128,7 +130,8 @@ fn create_there<'a, R: Files + AllocGlobal>(
     buffered(rt, file, None)
 }
 
-// A file beside one that is there, which has to be one that may be written. It has the permissions of that one: at no time may more be done with it.
+// Creates a file beside the one at the path, which must be writable. The new file has the permissions of that one, and
+// at no time more.
 fn create_for<'a, R: Files + AllocGlobal>(
     rt: &'a R,
     path: &str,
@@ -144,7 +147,7 @@ fn create_for<'a, R: Files + AllocGlobal>(
     let mut how = new_file();
     how.mode(permissions.mode() & MODE_BITS);
     let mut made = create_beside(rt, path, output, &how)?;
-    // What the system's mask took away is given back.
+    // Restores the permissions that the system's mask removed.
     match made.writer.get_ref().set_permissions(permissions) {
         Ok(()) => Ok(made),
         Err(_) => {
@@ -154,7 +157,7 @@ fn create_for<'a, R: Files + AllocGlobal>(
     }
 }
 
-// A file beside the path, made so.
+// Creates a file beside the path, with these options.
 fn create_beside<'a, R: Files + AllocGlobal>(
     rt: &'a R,
     path: &str,
@@ -175,14 +178,14 @@ fn create_beside<'a, R: Files + AllocGlobal>(
     Err(Refusal::CannotCreate(output))
 }
 
-// How a file is opened that was not there before.
+// The options for a file that must not exist yet.
 fn new_file() -> OpenOptions {
     let mut how = OpenOptions::new();
     how.write(true).create_new(true);
     how
 }
 
-// A file of this name that was not there before, or why there is none.
+// Creates a file of this name that did not exist, or answers why it cannot.
 fn create_new<R: Files>(rt: &R, path: &str, how: &OpenOptions) -> Result<R::File, ErrorKind> {
     match how.open(rt, path) {
         Ok(file) => Ok(file),
@@ -190,7 +193,7 @@ fn create_new<R: Files>(rt: &R, path: &str, how: &OpenOptions) -> Result<R::File
     }
 }
 
-// The name of this number in the folder of a path. It does not grow with the path's last name.
+// The name with this number in the folder of a path. Its length does not depend on the last name of the path.
 fn part_of<R: AllocGlobal>(rt: &R, path: &str, number: u32) -> Result<String, Refusal>
     ensures { IfErr result (λ given. given ≡ refusal.OutOfMemory) }
 {
@@ -201,7 +204,7 @@ fn part_of<R: AllocGlobal>(rt: &R, path: &str, number: u32) -> Result<String, Re
     Ok(format!(in rt.alloc(); "{folder}.compressor-{number}.part")?)
 }
 
-// A file with its buffer. Where there is no memory for that, a file beside the path is removed.
+// A file with its buffer. If memory runs out, a file beside the path is removed.
 fn buffered<'a, R: Files + AllocGlobal>(
     rt: &'a R,
     file: R::File,

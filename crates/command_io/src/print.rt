@@ -1,4 +1,5 @@
-//! Printing to the program's output, whose failed calls are counted. Each call asks that fewer than `u64::MAX` of them have failed.
+//! Prints to the program's output, and counts its calls that fail. Each function here requires that fewer than
+//! `u64::MAX` calls have failed so far.
 ghost use Rattle.std.specs.Prelude.{◌≡◌, ◌-◌, ◌^◌, ◌<◌, true, OnOk, OnErr, Err};
 ghost use Rattle.std.specs.Fmt.{decimal};
 ghost use Rattle.std.specs.Io.KnownBytes.{Appends, Keeps};
@@ -61,7 +62,7 @@ pub fn print_line<O: Write>(
     print_text("\n", out)
 }
 
-/// Prints a name and its number, and then a second name with its number and a line feed.
+/// Prints a name and a number, then a second name, a second number and a line feed.
 pub fn print_numbered<O: Write>(
     name: &str,
     number: u64,
@@ -81,7 +82,7 @@ pub fn print_numbered<O: Write>(
     print_line(second, value, out)
 }
 
-/// Prints a text of help: its lines, without white space at their end, and a line feed.
+/// Prints a text of help: the text without white space at its end, and a line feed.
 pub fn print_help<O: Write>(text: &str, out: &mut Counted<&mut O>) -> Result<(), Refusal>
     requires { failures_of out.old < 2 ^ 64 - 1 }
     ensures printed { OnOk result (Appends (O.contents (inner_of out.old).now) (O.contents (inner_of out.new).now) (help_lines text.now)) }
@@ -93,7 +94,7 @@ pub fn print_help<O: Write>(text: &str, out: &mut Counted<&mut O>) -> Result<(),
     print_text("\n", out)
 }
 
-/// Sends on what the output still holds.
+/// Flushes the output.
 pub fn flush<O: Write>(out: &mut Counted<&mut O>) -> Result<(), Refusal>
     requires { failures_of out.old < 2 ^ 64 - 1 }
     ensures kept { Keeps (O.contents (inner_of out.old).now) (O.contents (inner_of out.new).now) }

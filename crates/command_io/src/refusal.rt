@@ -9,7 +9,7 @@ use std::alloc::AllocError;
 use std::fmt;
 use thiserror::Error;
 
-/// A file that the program is given.
+/// A file that the program reads.
 #[derive(Clone, Copy, Debug, PartialEq, Eq)]
 pub enum Input {
     Image,
@@ -59,7 +59,7 @@ pub enum Refusal {
     /// The image is refused, or the new one was not written whole.
     #[error(transparent)]
     Layout(LayoutFault),
-    /// A mutator is refused what it asked.
+    /// A call of a mutator is refused.
     #[error(transparent)]
     Mutator(call_refusals::Refusal),
     /// The heap was not swept.
@@ -68,10 +68,10 @@ pub enum Refusal {
     /// The text of the trace is refused, or one of its lines.
     #[error(transparent)]
     Trace(TraceFault),
-    /// The dump was not written whole, or what is at its path is no dump.
+    /// The dump was not written whole, or the file at its path is no dump.
     #[error(transparent)]
     Dump(DumpFault),
-    /// The dump is none that a compaction of the heap can have left.
+    /// No compaction of the heap can have left this dump.
     #[error(transparent)]
     Audit(AuditFault),
     /// The file could not be opened.
@@ -80,19 +80,19 @@ pub enum Refusal {
     /// The file could not be created.
     #[error("P2 CannotCreate({0})")]
     CannotCreate(Output),
-    /// A call of the file's reader answered an error.
+    /// A call of the file's reader returned an error.
     #[error("P3 ReadFailed({0})")]
     ReadFailed(Input),
-    /// A call of standard output failed: it answered an error, or took nothing of what was to be written.
+    /// A call of standard output failed: it returned an error, or took no byte of what was to be written.
     #[error("P4 CannotPrint")]
     CannotPrint,
-    /// This index is past the last page.
+    /// The index is after the last page.
     #[error("P5 NoSuchWord({0})")]
     NoSuchWord(u64),
-    /// The line of this number, counted from 1, is no mark.
+    /// The line with this number, counted from 1, is no mark.
     #[error("P6 BadMarks({0})")]
     BadMarks(u64),
-    /// A growth was refused.
+    /// An allocation failed.
     #[error("P7 OutOfMemory")]
     OutOfMemory,
 }

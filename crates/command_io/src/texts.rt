@@ -1,4 +1,4 @@
-//! Texts that are read whole.
+//! Reads whole texts.
 ghost use Rattle.std.specs.Prelude.{◌≡◌, ◌-◌, ◌^◌, ◌<◌, length, IfOk, IfSome};
 ghost use Rattle.heap_layout.specs.Counted.{inner_of, failures_of};
 ghost use Rattle.command_io.specs.Texts.{CountsUnread};
@@ -10,16 +10,17 @@ use std::io::Read;
 /// Why a text was not read whole.
 #[derive(Clone, Copy, Debug, PartialEq, Eq)]
 pub(crate) enum Unread {
-    /// A call of the reader answered an error.
+    /// A call of the reader returned an error.
     Failed,
-    /// A growth was refused.
+    /// An allocation failed.
     OutOfMemory,
 }
 
-/// How many bytes of a text are fetched at once, at most.
+// The greatest number of bytes that one call of the reader fetches.
 const PIECE: usize = 65_536;
 
-/// All bytes that the reader has left. The first call of the reader that answers an error ends the reading, an interrupted one too.
+/// Reads to the end of the reader. The first call of it that returns an error ends the reading, an interrupted call
+/// too.
 pub(crate) fn text_in<S: Read>(alloc: Global, r: &mut Counted<S>) -> Result<Vec<u8>, Unread>
     requires read { failures_of r.old < 2 ^ 64 - 1 }
     ensures text { IfOk result (λ text. IfSome (S.remaining (inner_of r.old)) (λ bytes. bytes ≡ text.items)) }
@@ -31,7 +32,7 @@ pub(crate) fn text_in<S: Read>(alloc: Global, r: &mut Counted<S>) -> Result<Vec<
     text_by(alloc, r, &mut piece)
 }
 
-// The same by pieces that have this room.
+// The same, in pieces of this buffer.
 fn text_by<S: Read>(alloc: Global, r: &mut Counted<S>, piece: &mut [u8]) -> Result<Vec<u8>, Unread>
     requires read { failures_of r.old < 2 ^ 64 - 1 }
     requires room { 0 < length piece.old }

@@ -1,4 +1,4 @@
-//! Where the traces and the marks lie, and how the texts of traces are read.
+//! The traces and marks that the program reads, and how the texts of traces are read.
 ghost use Rattle.std.specs.Prelude.{◌≡◌, ℕ, ◌-◌, ◌^◌, ◌<◌, List, IfOk, IfErr};
 ghost use Rattle.heap_layout.specs.Counted.{inner_of, failures_of};
 ghost use Rattle.comp_trace.specs.Traces.{lines_of, mutators_of, roots_of};
@@ -15,14 +15,14 @@ use std::fs;
 use std::io::{BufReader, Read};
 use std::rt::Files;
 
-/// Where the traces and the marks lie that the program is given by their paths.
+/// Opens the traces and marks that the program reads, by their paths.
 pub trait Traces {
     type Reader: Read + Drop;
 
     // what is known of each reader that a path gives
     ghost gives: { Self → List ℕ → Self.Reader → Type 0 };
 
-    // what is known where a path gives none
+    // what is known if a path gives none
     ghost lacks: { Self → List ℕ → Type 0 };
 
     /// Opens the trace at a path, to be read from its first byte.
@@ -36,7 +36,7 @@ pub trait Traces {
         ensures cause { IfErr result (IsOfOpeningMarks (lacks self.now path.now)) };
 }
 
-/// The traces and the marks that lie in the files of a runtime, which are read through a buffer.
+/// The traces and marks in the files of a runtime, read through a buffer.
 #[derive(Drop)]
 pub struct FileTraces<'a, R> {
     pub rt: &'a R,
@@ -45,7 +45,8 @@ pub struct FileTraces<'a, R> {
 impl<R: Files + AllocGlobal> Traces for FileTraces<'_, R> {
     type Reader = BufReader<R::File, Global>;
 
-    // Which file a path leads to, and what a file holds, the kit's contracts do not say: each reader may be given, and each path may give none.
+    // The kit's contracts do not say which file a path leads to, nor what a file holds: any reader may be given, and
+    // any path may give none.
     ghost gives = { λ _ _ _. Unit {0} };
 
     ghost lacks = { λ _ _. Unit {0} };
@@ -71,7 +72,7 @@ impl<R: Files + AllocGlobal> Traces for FileTraces<'_, R> {
     }
 }
 
-/// The trace whose text lies at a path, for so many mutators and shared roots.
+/// Reads the trace whose text is at a path, for these numbers of mutators and shared roots.
 pub fn trace_at<T: Traces>(
     alloc: Global,
     traces: &T,
@@ -87,7 +88,7 @@ pub fn trace_at<T: Traces>(
     trace_in(alloc, &mut reader, mutators, roots)
 }
 
-/// The trace whose text is all that the reader has left, for so many mutators and shared roots.
+/// Reads a trace to the end of the reader, for these numbers of mutators and shared roots.
 pub fn trace_in<S: Read>(
     alloc: Global,
     r: &mut Counted<S>,

@@ -56,7 +56,7 @@ module _ (again : Bool) (a : Rule) (rows : List Row) where
   action_no_answer action.Count values h = count_no_answer values
   action_no_answer _ values h = absurd (true≢false h)
 
-  -- nor of a use of an argument with such an action
+  -- nor of a use of an argument with this action
   pub use_no_answer : (values : List Text) → is_request (action_of a) ≡ false → NoAnswer (use_fault again a values rows)
   use_no_answer values h =
       let least : ℕ = (unwrap_or_range a.range).start_inclusive in

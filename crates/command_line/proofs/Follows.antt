@@ -42,7 +42,7 @@ module _ (form : Form) where
   abbrev s : Shape
   s = shape form
 
-  -- what is wrong with uses, one behind the other, and then with what is missing
+  -- what is wrong with uses, one after the other, and then with what is missing
   abbrev pub kinds_of : List Row → List Use → Kinds
   kinds_of rows [] = cond (list_any (is_missing rows) form.arguments) (kind.MissingRequiredArgument ∷ []) []
   kinds_of rows (u ∷ us) = or_else (use_kinds rows u) (kinds_of (use_of rows u) us)
@@ -56,7 +56,7 @@ module _ (form : Form) where
   rows_then rows None us = refl
   rows_then rows (Some u) us = refl
 
-  -- where the walk stands
+  -- the place of the walk
   abbrev pub now : List Row → Option Use → ℕ → Bool → Walk
   now rows pending position ended = at rows (held pending) position ended
 

@@ -1,4 +1,4 @@
--- What the words behind a command's name are where clap takes them, for each row of a command.
+-- What the words after a command's name are if clap takes them, for each command.
 use Rattle.std.proofs.Common.{◌≡◌, ◌∙◌, ◌⊎◌, ◌<◌, sym, subst, refl, true, false, arith, List, [], length, map, None, inl, inr}
 use Rattle.std.specs.List.{All, Any, list_any}
 use Rattle.std.specs.Str.{IsUtf8}
@@ -20,7 +20,8 @@ use Rattle.command_line.proofs.Follows.{Follows, are_names, follows}
 use Rattle.command_line.proofs.Readings.{Reading, reading}
 use Rattle.command_line.proofs.Settled.{AreWell, row, uses_calm, well_from, well_to}
 
--- a row as clap can read it: no two arguments have one name, none has that of an option, options have names that a flag can have, and there are not too many
+-- A form that clap can read: no two arguments have the same name, no argument has the name of an option, the name of
+-- each option is one that a flag can have, and there are not too many arguments.
 pub record IsReadable (form : Form) : Type 0 where
   pub distinct : are_distinct form.arguments ≡ true
   pub apart : are_apart form.options form.arguments ≡ true
@@ -46,7 +47,7 @@ module _ (form : Form) (readable : IsReadable form) where
     pub well : AreWell form [] given
     pub found : rows_after s.rules [] rest ≡ map row given
 
-  -- where clap takes the words behind the command's name, they are so
+  -- if clap takes the words after the command's name, they are so
   pub form_taken : (rest : List Text) → All IsUtf8 rest → level s rest ≡ [] → FormTaken rest
   form_taken rest utf8 none = go (reading form rest utf8 at_first)
     where
@@ -69,7 +70,7 @@ module _ (form : Form) (readable : IsReadable form) where
       go (inl (given, g)) = inl (subst NoAnswer (sym (level_is s rest ∙ (followed g).kinds)) (uses_calm form [] given))
       go (inr bad) = inr (subst (Refuses (list_any is_help rest)) (sym (level_is s rest)) (bad [] None tt))
 
-  -- the answer to a flag for help comes only where a word behind the name is for help
+  -- the answer to a flag for help comes only if a word after the name is for help
   pub form_help : (rest : List Text) → All IsUtf8 rest → IsAmong kind.DisplayHelp (level s rest) → Any (λ word. is_help word ≡ true) rest
   form_help rest utf8 h = Any-from_list_any is_help rest (go (refused_or_calm rest utf8))
     where

@@ -1,4 +1,5 @@
--- The options and arguments of a built command: each is found by its name, an argument also by its place, and there is one other flag, for help.
+-- The options and arguments of a built command. Each is found by its name, an argument also by its place. There is one
+-- other flag, for help.
 use Rattle.std.proofs.Common.{◌≡◌, ◌==◌, ◌<◌, ◌≤◌, ◌+◌, ◌&&◌, ◌||◌, ℕ, Bool, cond, true, false, not, refl, sym, ap, arith, List, [], ◌∷◌, ◌++◌, Option, Some, None, length, map, eq-eqb}
 use Rattle.std.specs.Prelude.{find, min}
 use Rattle.std.specs.List.{list_all, list_any}
@@ -19,7 +20,7 @@ use Rattle.command_line.proofs.LevelSteps.{built_help}
 abbrev pub built_rule : ℕ → Parameter → Rule
 built_rule i a = with_index i (filled (rule a))
 
--- the place behind a place
+-- the place after a place
 abbrev pub place_behind : ℕ → ℕ
 place_behind i = min (i + 1) usize_max
 
@@ -154,7 +155,7 @@ apart_parts o options (a ∷ rest) h =
     let later = apart_parts o options rest parts.1 in
     (rw named later.0, rw others later.1)
 
--- so they are behind all options
+-- so they are after all options
 pub all_ahead : (options : List Choice) (arguments : List Parameter) → 1 + length arguments ≤ usize_max → are_distinct arguments ≡ true → are_apart options arguments ≡ true
     → Ahead (all_rules options arguments) 1 arguments
 all_ahead [] arguments few distinct apart = ahead 1 arguments few distinct

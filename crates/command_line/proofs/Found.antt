@@ -39,7 +39,7 @@ use Rattle.command_line.proofs.Uses.{Use}
 pub texts_utf8 : {Z : Type 0} (xs : List (String Z)) → All IsUtf8 (map string_bytes xs)
 texts_utf8 xs = All-map IsUtf8 string_bytes xs (λ k d lt. IsUtf8-string_bytes (slice_index_or xs k d))
 
--- the name of the command that was entered, and what was found behind it
+-- the name of the command that was entered, and what was found after it
 abbrev pub Entered : Type 0
 Entered = Option (List ℕ × List Row)
 
@@ -47,7 +47,7 @@ Entered = Option (List ℕ × List Row)
 pub same_name : (o : Entered) (a b : List ℕ) (x y : List Row) → o ≡ Some (a, x) → o ≡ Some (b, y) → a ≡ b
 same_name o a b x y e f = ap (λ (w : Entered). (unwrap_or w (a, x)).0) (sym e ∙ f)
 
--- and what was found behind it is one
+-- and what was found after it is one
 pub same_rows : (o : Entered) (a b : List ℕ) (x y : List Row) → o ≡ Some (a, x) → o ≡ Some (b, y) → x ≡ y
 same_rows o a b x y e f = ap (λ (w : Entered). (unwrap_or w (a, x)).1) (sym e ∙ f)
 
@@ -61,7 +61,7 @@ pub entered_as : (m : ArgMatches) (o : Entered) (name : List ℕ) (rows : List R
     → Some rows ≡ option_map (λ (p : List ℕ × List Row). p.1) (subcommand_rows_of m) → o ≡ Some (name, rows)
 entered_as m o name rows is named has = sym is ∙ both_parts (out-ArgMatches m).subcommand _ _ name rows named has
 
--- nothing was entered where there is no name
+-- nothing was entered if there is no name
 no_parts : {A B : Type 0} (o : Option A) (f : A → List ℕ) (g : A → B) → None ≡ option_map f o → option_map g o ≡ None
 no_parts None f g none = refl
 no_parts (Some a) f g none = cc
@@ -73,7 +73,7 @@ none_entered m o is none = sym is ∙ no_parts (out-ArgMatches m).subcommand _ _
 abbrev pub CommandAsked : List (List ℕ) → Found → Form → Type 0
 CommandAsked words f form = (given : List Use) × (rows_of f ≡ map row given) × IsCommandWith form words given
 
--- where a command was entered, it was asked with what was given
+-- if a command was entered, it was asked with what was given
 pub command_asked : (forms : List Form) → IsProgram forms → (form : Form) → IsCommand forms form → (words : List (List ℕ)) (f : Found) → All IsUtf8 words
     → fault_of (program forms) words ≡ [] → subcommand_of (program forms) words ≡ Some (form.name, rows_of f) → CommandAsked words f form
 command_asked forms is form command words f utf8 taken found =
@@ -90,13 +90,13 @@ module _ (f : Found) (given : List Use) (rows : rows_of f ≡ map row given) whe
   pub number_is : (id : List ℕ) → one_text f id ≡ text_given id given
   number_is id = one_text-rows f id ∙ ap (one_of id) rows ∙ one_found id given
 
-  -- there is one where it is given
+  -- there is one if it is given
   pub text_there : (id : List ℕ) → is_some (text_given id given) ≡ true → is_some (first_value f id) ≡ true
   text_there id there = ap (λ (o : Option (List ℕ)). is_some o) (text_is id) ∙ there
 
 -- ---- `plan` and `word`
 
--- what was found where the words are `plan`: a path, which they ask
+-- what was found if the words are `plan`: a path, which they ask for
 abbrev pub PlanAsked : List (List ℕ) → Found → Type 0
 PlanAsked words f = (path : List ℕ) × (first_value f (codes "IMAGE") ≡ Some path) × AsksPlan words path
 
@@ -112,7 +112,7 @@ plan_asked words f (given, rows, asks) =
         (u.1, text_is f (u ∷ []) rows (codes "IMAGE") ∙ ap (λ (x : Use). text_given (codes "IMAGE") (x ∷ [])) pairs.0, (rest, is, values))
     go (u ∷ v ∷ us) rows rest is values pairs whole = absurd pairs.1
 
--- what was found where the words are `word`: a path and an index, which they ask
+-- what was found if the words are `word`: a path and an index, which they ask for
 abbrev pub WordAsked : List (List ℕ) → Found → Type 0
 WordAsked words f = (path : List ℕ) × (digits : List ℕ) × (first_value f (codes "IMAGE") ≡ Some path) × (one_text f (codes "INDEX") ≡ Some digits)
     × ((n : ℕ) × IsNumber digits n) × ((n : ℕ) → IsNumber digits n → AsksWord words path n)
@@ -143,7 +143,7 @@ word_asked words f (given, rows, asks) =
 
 -- ---- commands with options
 
--- the number of an option is within the bounds of the texts that it takes, where its default is
+-- the number of an option is within the bounds of the texts that it takes, if its default is
 pub within_bounds : (text : Option (List ℕ)) (default low high n : ℕ) → low ≤ default → default ≤ high
     → IfSome text (λ digits. (m : ℕ) × IsNumber digits m × (low ≤ m) × (m ≤ high)) → IsNumberOr default text n → (low ≤ n) × (n ≤ high)
 within_bounds None default low high n least most takes is = (subst (λ k. low ≤ k) (sym is) least, subst (λ k. k ≤ high) (sym is) most)
@@ -189,7 +189,7 @@ bounded_number low high o h = IfSome_then o h (λ text takes. (takes.0, takes.1)
 -- ---- `replay` and `race`
 
 module _ (words : List (List ℕ)) (f : Found) (name : List ℕ) (asked : CommandAsked words f (run_form name)) where
-  -- a run is found where such a command is asked
+  -- a run is found if this command is asked for
   pub run_found : HasRun f
   run_found =
       let paths = three_paths words f (run_form name) asked (text (codes "IMAGE")) (text (codes "TRACE")) (text (codes "DUMP")) refl in
@@ -284,16 +284,16 @@ none_of_standing words o utf8 taken found plan word replay race compact audit ne
     go (form, rows, inr (inr (inr (inr (inr (inr (inl same)))))), is) = next rows (is ∙ ap (λ (x : Form). Some (x.name, rows)) same)
     go (form, rows, inr (inr (inr (inr (inr (inr (inr none)))))), is) = none
 
--- ---- what is told in place of a task
+-- ---- what is answered in place of a task
 
--- an answer of a kind that is not want of memory comes only where that kind is among those of the words
+-- an answer of a kind other than out of memory comes only if that kind is among those of the words
 among_kinds : (kinds : List ErrorKind) (error : Error) (k : ErrorKind) → HasKind kinds error → kind_of error ≡ k → k ≢ OutOfMemory → IsAmong k kinds
 among_kinds kinds error k kind is other = elim kind [
   | inl memory ↦ absurd (other (sym is ∙ memory))
   | inr among ↦ subst (λ x. IsAmong x kinds) is among
 ]
 
--- an error for another cause than memory comes only where something is wrong
+-- an error other than out of memory comes only if the words have a fault
 pub wrong_kind : (kinds : List ErrorKind) (error : Error) → HasKind kinds error → kind_of error ≢ OutOfMemory → kinds ≡ [] → ⊥
 wrong_kind kinds error kind other = elim kind [
   | inl memory ↦ absurd (other memory)
@@ -305,7 +305,7 @@ pub kind_at : (forms : List Form) → IsProgram forms → (a : App) (words : Lis
     → (is_simple_and_free a ≡ true → HasKind (fault_of a words) error) → HasKind (fault_of (program forms) words) error
 kind_at forms is a words error e h = subst (λ (x : App). HasKind (fault_of x words) error) e (h (ap is_simple_and_free e ∙ is.is_free))
 
--- nothing is wrong with words that such a command takes
+-- words that the program's command takes have no fault
 pub taken_at : (forms : List Form) → IsProgram forms → (a : App) (words : List (List ℕ)) → a ≡ program forms → (is_simple_and_free a ≡ true → fault_of a words ≡ [])
     → fault_of (program forms) words ≡ []
 taken_at forms is a words e h = subst (λ (x : App). fault_of x words ≡ []) e (h (ap is_simple_and_free e ∙ is.is_free))
@@ -331,11 +331,11 @@ answer_counts error (Ok Version) answer = _
 answer_counts error (Err told) answer = _
 
 module _ (forms : List Form) (is : IsProgram forms) (has : HasCommands forms) (words : List (List ℕ)) (utf8 : All IsUtf8 words) where
-  -- help comes only where they ask nothing, and some word is for help
+  -- help comes only if they ask for nothing, and some word is for help
   help_asked : IsAmong DisplayHelp (fault_of (program forms) words) → AsksHelp words
   help_asked here = (faulty forms is words has (some_kind DisplayHelp (fault_of (program forms) words) here), helped forms is words utf8 here)
 
-  -- and the version only where they ask nothing, and the first is for the version
+  -- and the version only if they ask for nothing, and the first word is for the version
   version_asked : IsAmong DisplayVersion (fault_of (program forms) words) → AsksVersion words
   version_asked here = (faulty forms is words has (some_kind DisplayVersion (fault_of (program forms) words) here), versioned forms is words utf8 here)
 
@@ -352,7 +352,7 @@ module _ (forms : List Form) (is : IsProgram forms) (has : HasCommands forms) (w
   answer_told error (Ok Version) kind answer = version_asked (among_kinds _ error DisplayVersion kind answer (λ e. cc))
   answer_told error (Err told) kind answer = _
 
-  -- and an error comes only where something is wrong with them, memory aside
+  -- and an error other than out of memory comes only if they have a fault
   pub error_told : (error : Error) (r : Result Task Error) → HasKind (fault_of (program forms) words) error
       → IfErr r (λ told. (kind_of told ≡ OutOfMemory) ⊎ (kind_of told ≡ kind_of error)) → IfErr r (λ told. kind_of told ≢ OutOfMemory → fault_of (program forms) words ≡ [] → ⊥)
   error_told error (Ok task) kind same = _

@@ -6,7 +6,7 @@ use Rattle.clap.specs.Kinds.{IsAmong, Kinds, or_else}
 use Rattle.clap.specs.declared.error.kind.ErrorKind.{ErrorKind}
 use Rattle.clap.specs.declared.error.kind.ErrorKind.TheVariants as kind
 
--- where nothing follows the first step, the kinds are those of the first
+-- if nothing follows the first step, the kinds are those of the first
 pub or_else_nil : (kinds : Kinds) → or_else kinds [] ≡ kinds
 or_else_nil [] = refl
 or_else_nil (k ∷ kinds) = refl
@@ -16,12 +16,12 @@ pub or_else_in : (a b c : Kinds) → or_else (or_else a b) c ≡ or_else a (or_e
 or_else_in [] b c = refl
 or_else_in (k ∷ ks) b c = refl
 
--- behind a step that fails, no other is asked
+-- after a step that fails, no other is asked
 pub or_else_twice : (a b c : Kinds) (k : ErrorKind) → or_else (or_else a (k ∷ b)) c ≡ or_else a (k ∷ b)
 or_else_twice [] b c k = refl
 or_else_twice (x ∷ xs) b c k = refl
 
--- where neither of two steps fails by any kind, both pass
+-- if neither of two steps fails by any kind, both pass
 pub neither : (a b : Kinds) → or_else a b ≡ [] → (a ≡ []) × (b ≡ [])
 neither [] b e = (refl, e)
 neither (k ∷ ks) b e = absurd cc
@@ -56,7 +56,7 @@ no_answer_among k answers [] none h = h
 no_answer_among k answers (x ∷ xs) none (inl e) = true≢false (sym answers ∙ ap is_answer e ∙ (or_parts (is_answer x) (list_any is_answer xs) none).0)
 no_answer_among k answers (x ∷ xs) none (inr h) = no_answer_among k answers xs (or_parts (is_answer x) (list_any is_answer xs) none).1 h
 
--- where there is none in either of two lists, there is none in the first or else the second
+-- if there is none in either of two lists, there is none in the first or else the second
 pub no_answer_or : (a b : Kinds) → NoAnswer a → NoAnswer b → NoAnswer (or_else a b)
 no_answer_or [] b h i = i
 no_answer_or (k ∷ ks) b h i = h
@@ -66,7 +66,7 @@ pub no_answer_cond : (t : Bool) (a b : Kinds) → NoAnswer a → NoAnswer b → 
 no_answer_cond true a b h i = h
 no_answer_cond false a b h i = i
 
--- the kinds refuse words: there is one, that for help only where a word is for help, and that for the version never
+-- the kinds refuse words: there is one, that of help only if a word is for help, and that of the version never
 pub record Refuses (helps : Bool) (kinds : Kinds) : Type 0 where
   pub some : kinds ≡ [] → ⊥
   pub help : IsAmong kind.DisplayHelp kinds → helps ≡ true
@@ -80,7 +80,7 @@ refuses_calm helps k kinds none = record {
   version = λ h. no_answer_among kind.DisplayVersion refl (k ∷ kinds) none h;
 }
 
--- help is told where a word is for it
+-- the kind is that of help if a word is for it
 pub refuses_help : (helps : Bool) → helps ≡ true → Refuses helps (kind.DisplayHelp ∷ [])
 refuses_help helps is = record { some = λ e. cc; help = λ _. is; version = λ h. go h }
   where

@@ -1,4 +1,4 @@
--- The steps by which a command takes its words, where no argument takes several values.
+-- The steps by which a command takes its words, if no argument takes several values.
 use Rattle.std.proofs.Common.{◌≡◌, ◌∙◌, ℕ, Bool, refl, sym, ap, true, false, List, [], ◌∷◌, Option, Some, None, codes, true≢false}
 use Rattle.std.specs.List.{fold}
 use Rattle.std.specs.Str.{bytes_eq}
@@ -16,11 +16,11 @@ use Rattle.command_line.proofs.Lexed.{plain_read}
 
 -- ---- places of a walk
 
--- what is held where no bundle is cut short
+-- what is held if no bundle is cut short
 abbrev pub holding : List Row → Option (Text × List Text) → Held
 holding rows pending = record { rows = rows; pending = pending; skip = 0 }
 
--- between two words, where nothing waits for a value
+-- between two words, while nothing waits for a value
 abbrev pub at : List Row → Option (Text × List Text) → ℕ → Bool → Walk
 at rows pending position is_trailing = record {
   held = holding rows pending;
@@ -54,7 +54,7 @@ pub fault_at_end : (s : Shape) (w : Walk) → fault_from s w [] ≡ end_fault s 
 unfolding fault_from walk_fault
 fault_at_end s w = refl
 
--- with one more word it is what is wrong with that, or else with those behind it
+-- with one more word it is what is wrong with that word, or else with those after it
 pub fault_after : (s : Shape) (w : Walk) (word : Text) (rest : List Text)
     → fault_from s w (word ∷ rest) ≡ or_else (turn_fault s [] w word) (fault_from s (walked s.rules [] w word) rest)
 unfolding fault_from walk_fault
@@ -66,23 +66,23 @@ fault_after s w word rest = or_else_in (turn_fault s [] w word) (walk_fault s []
 abbrev pub value_fault : Shape → List Row → Option (Text × List Text) → ℕ → Kinds
 value_fault s rows pending position = step_fault s position (holding rows pending) value
 
--- the place behind a value
+-- the place after a value
 abbrev pub behind : Shape → List Row → Option (Text × List Text) → ℕ → Bool → Text → Walk
 behind s rows pending position is_trailing word =
     to_positional s.rules (arg_by_index s.rules position) word (at rows pending position is_trailing) (holding rows pending)
 
 module _ (s : Shape) (rows : List Row) (pending : Option (Text × List Text)) (position : ℕ) where
-  -- behind a first `--` each word is a value, and the place behind it is the one behind that
+  -- after a first `--` each word is a value, and the next place is the one after that value
   pub trailing_place : (word : Text) → walked s.rules [] (at rows pending position true) word ≡ behind s rows pending position true word
   unfolding walked
   trailing_place word = refl
 
-  -- before it a word that is neither a flag nor `--` is a value: what is wrong with it is what is wrong with that
+  -- before it a word that is neither a flag nor `--` is a value, and has the faults of that value
   pub plain_turn : (word : Text) → bytes_eq word (codes "--") ≡ false → is_flag word ≡ false
       → turn_fault s [] (at rows pending position false) word ≡ value_fault s rows pending position
   plain_turn word dashes flag = rw (dashes, (plain_read word flag).0, (plain_read word flag).1)
 
-  -- and the place behind it is the one behind that
+  -- and the next place is the one after that value
   pub plain_place : (word : Text) → bytes_eq word (codes "--") ≡ false → is_flag word ≡ false
       → walked s.rules [] (at rows pending position false) word ≡ behind s rows pending position false word
   unfolding walked
@@ -97,7 +97,7 @@ module _ (s : Shape) (rows : List Row) (pending : Option (Text × List Text)) (p
   unfolding walked
   dashes_place word dashes = rw dashes
 
-  -- what is wrong with a word that names no command is what is wrong with it where there are none
+  -- a word that names no command has the faults that it has if there are no commands
   pub unnamed_turn : (names : Names) (word : Text) → subcommand_met names idle word ≡ None
       → turn_fault s names (at rows pending position false) word ≡ turn_fault s [] (at rows pending position false) word
   unnamed_turn names word none = rw none refl
@@ -121,7 +121,7 @@ plain_ends_nothing word flag = go (bytes_eq word (codes "--")) refl
     go true e = absurd (true≢false (sym (ap is_flag ((bytes_eq-Decides word (codes "--")).0 e)) ∙ flag))
 
 module _ (s : Shape) (rows : List Row) (pending : Option (Text × List Text)) (position : ℕ) (word : Text) (dashes : bytes_eq word (codes "--") ≡ false) (a : Rule) where
-  -- an option with its text in the same word is used at once, behind what is pending
+  -- an option with its text in the same word is used at once, after what is pending
   pub joined_turn : (name text : Text) → long_of word ≡ Some (name, Some text) → arg_by_long s.rules name ≡ Some a → takes_values a ≡ true
       → turn_fault s [] (at rows pending position false) word
       ≡ or_else (settle_fault s.rules s.args_override_self (holding rows pending)) (use_fault s.args_override_self a (text ∷ []) (settled_rows s.rules pending rows))
@@ -142,7 +142,7 @@ module _ (s : Shape) (rows : List Row) (pending : Option (Text × List Text)) (p
   unfolding walked
   option_place name read found takes = rw (dashes, read, found, takes) refl
 
--- the word behind it is its text, where it is no flag
+-- the word after it is its text, if it is no flag
 module _ (s : Shape) (rows : List Row) (id : Text) (position : ℕ) (word : Text) (flag : is_flag word ≡ false) where
   pub text_turn : turn_fault s [] (waiting_for rows id position) word ≡ []
   text_turn = let none = plain_read word flag in rw (plain_ends_nothing word flag, none.0, none.1) refl

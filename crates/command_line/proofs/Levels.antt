@@ -12,6 +12,6 @@ use Rattle.command_line.specs.Parser.{command}
 abbrev pub shape : Form → Shape
 shape form = built_leaf (record (command form).top { no_binary_name = true })
 
--- what is wrong with the words behind a command's name
+-- what is wrong with the words after a command's name
 abbrev pub level : Shape → List Text → Kinds
 level shape rest = level_fault shape [] nothing_held rest false []

@@ -34,7 +34,7 @@ plain_read (b ∷ bs) h = plain_by (b == 45) b bs refl h
 pub lacks : (text : Text) → has_byte 61 text ≡ false → Lacks 61 text
 lacks text none i lt is = absurd (true≢false (sym (list_any_at (λ x. x == 61) text i 0 lt (eq-eqb (get_or text i 0) 61 is)) ∙ none))
 
--- a name, and its value behind `=` where it has one
+-- a name, with its value after `=` if it has one
 abbrev pub name_with : Text → Option Text → Text
 name_with name None = name
 name_with name (Some value) = name ++ 61 ∷ value
@@ -61,7 +61,7 @@ split_name text = go (has_byte 61 text) refl
     go true e = rw e (cut text e)
     go false e = rw e (sym (before_first-Lacks 61 text (lacks text e)))
 
--- the word is a long flag, and is for help or the version where it has that name and no value
+-- the word is a long flag, and is for help or the version if it has that name and no value
 pub record IsLong (word : Text) : Type 0 where
   pub name : Text
   pub value : Option Text
@@ -70,7 +70,7 @@ pub record IsLong (word : Text) : Type 0 where
   pub help : name ≡ codes "help" → value ≡ None → is_help word ≡ true
   pub version : name ≡ codes "version" → value ≡ None → is_version word ≡ true
 
--- the word is a bundle of short flags, and is for help where the first is `h`, and for the version where it is `V`
+-- the word is a bundle of short flags, and is for help if the first is `h`, and for the version if it is `V`
 pub record IsBundle (word : Text) : Type 0 where
   pub byte : ℕ
   pub bytes : Text
@@ -95,13 +95,13 @@ bare_name text h = go (has_byte 61 text) refl
     go true e = let found : Some (after_first (λ x. x == 61) text) ≡ None = rw e at h in absurd cc
     go false e = before_first-Lacks 61 text (lacks text e)
 
--- characters that spell a text have a first one, which is an ASCII character only where the first byte is
+-- characters that spell a text have a first one, which is an ASCII character only if the first byte is
 first_of_chars : (b : ℕ) (bs cs : List ℕ) → encode_utf8_all cs ≡ b ∷ bs → (x : ℕ) × (slice_get cs 0 ≡ Some x) × ((c : ℕ) → c < 128 → x ≡ c → b ≡ c)
 first_of_chars b bs [] e = absurd cc
 first_of_chars b bs (x ∷ xs) e =
     (x, refl, λ c ascii is. byte_from_char (b ∷ bs) (encode_utf8_all xs) c (sym e ∙ ap (λ y. encode_utf8_all (y ∷ xs)) is) ascii)
 
--- behind a hyphen stands a first character, which is an ASCII character only where the first byte is
+-- after a hyphen comes a first character, which is an ASCII character only if the first byte is
 first_char : (b : ℕ) (bs : Text) → IsUtf8 (45 ∷ b ∷ bs) → (x : ℕ) × (slice_get (chars (b ∷ bs)) 0 ≡ Some x) × ((c : ℕ) → c < 128 → x ≡ c → b ≡ c)
 first_char b bs utf8 =
     let behind : IsUtf8 (b ∷ bs) = IsUtf8-drop (45 ∷ b ∷ bs) 1 utf8 (IsCharBoundary-after_ascii (45 ∷ b ∷ bs) 0 utf8 (omega arith) (omega arith)) in
@@ -123,7 +123,7 @@ version_short c cs e = rw e refl
 help_short : (c : ℕ) (cs : Text) → c ≡ 104 → is_help (45 ∷ c ∷ cs) ≡ true
 help_short c cs e = rw e refl
 
--- a hyphen and bytes are a long flag where another hyphen follows, and else a bundle
+-- a hyphen and bytes are a long flag if another hyphen follows, and else a bundle
 bytes_read : (c : ℕ) (cs : Text) → IsUtf8 (45 ∷ c ∷ cs) → bytes_eq (45 ∷ c ∷ cs) (codes "--") ≡ false → IsLong (45 ∷ c ∷ cs) ⊎ IsBundle (45 ∷ c ∷ cs)
 bytes_read c cs utf8 dashes = go (c == 45) refl cs utf8 dashes
   where
@@ -162,7 +162,7 @@ flag_read word utf8 dashes flag =
 abbrev pub is_name : Text → Bool
 is_name name = nat_lt 0 (length name) && not (has_byte 61 name)
 
--- behind two hyphens it is read, with no value
+-- after two hyphens it is read, with no value
 pub bare_read : (name : Text) → is_name name ≡ true → long_of (codes "--" ++ name) ≡ Some (name, None)
 bare_read [] h = absurd (true≢false (sym h))
 bare_read (x ∷ xs) h = ap (λ (p : Text × Option Text). Some p) (name_and_value-without (x ∷ xs) (lacks (x ∷ xs) (is_false _ (both _ _ h).1)))
@@ -180,7 +180,7 @@ value_read (x ∷ xs) value h = ap (λ (p : Text × Option Text). Some p) (name_
     is_false true e = sym e
     is_false false e = refl
 
--- such a word is not `--`
+-- a word like this is not `--`
 pub no_dashes : (name more : Text) → is_name name ≡ true → bytes_eq (codes "--" ++ (name ++ more)) (codes "--") ≡ false
 no_dashes [] more h = absurd (true≢false (sym h))
 no_dashes (x ∷ xs) more h = refl

@@ -25,21 +25,21 @@ pub record FoundCommand (forms : List Form) (words : List Text) : Type 0 where
   pub found : subcommand_of (program forms) words ≡ Some (form.name, map row given)
   pub are_command : IsCommandWith form words given
 
--- the words behind the first are texts too
+-- the words after the first are texts too
 texts_behind : (words : List Text) (name : Text) (rest : List Text) → words ≡ name ∷ rest → All IsUtf8 words → All IsUtf8 rest
 texts_behind words name rest is utf8 = All-tail IsUtf8 name rest (subst (All IsUtf8) is utf8)
 
--- one of the words is for help where the first is
+-- one of the words asks for help if the first does
 one_first : (words : List Text) → BeginWith is_help words → Any (λ word. is_help word ≡ true) words
 one_first words (word, rest, is, asks) = subst (Any (λ w. is_help w ≡ true)) (sym is) (0, word, omega arith, refl, asks)
 
--- or one behind it
+-- or if one after it does
 one_behind : (words : List Text) (name : Text) (rest : List Text) → words ≡ name ∷ rest → Any (λ word. is_help word ≡ true) rest
     → Any (λ word. is_help word ≡ true) words
 one_behind words name rest is (k, word, lt, at, asks) = subst (Any (λ w. is_help w ≡ true)) (sym is) (suc k, word, omega arith, at, asks)
 
 module _ (forms : List Form) (form : Form) (command : IsCommand forms form) (words rest : List Text) (is : words ≡ form.name ∷ rest) where
-  -- what is wrong with the words of a command is what is wrong behind its name
+  -- the faults of a command's words are those of the words after its name
   kinds_behind : fault_of (program forms) words ≡ level (shape form) rest
   kinds_behind = ap (fault_of (program forms)) is ∙ command_first forms form command rest
 
@@ -55,7 +55,7 @@ module _ (forms : List Form) (form : Form) (command : IsCommand forms form) (wor
         are_command = record { rest = rest; begin = is; gives = taken.gives; once = taken.well.once; fit = taken.well.fit; whole = taken.well.whole };
       }
 
-  -- and they are told help only where one of them asks for it
+  -- and the answer is help only if one of them asks for it
   helped_behind : All IsUtf8 words → IsAmong DisplayHelp (fault_of (program forms) words) → Any (λ word. is_help word ≡ true) words
   helped_behind utf8 help =
       one_behind words form.name rest is (form_help form command.is_readable rest (texts_behind words form.name rest is utf8) (subst (IsAmong DisplayHelp) kinds_behind help))
@@ -65,7 +65,7 @@ module _ (forms : List Form) (form : Form) (command : IsCommand forms form) (wor
   no_version_behind utf8 version =
       form_no_version form command.is_readable rest (texts_behind words form.name rest is utf8) (subst (IsAmong DisplayVersion) kinds_behind version)
 
--- where nothing was used yet, all uses are fresh
+-- if nothing was used yet, all uses are fresh
 none_before : (us : List Use) → AreFresh [] us
 none_before [] = tt
 none_before (u ∷ us) = (refl, none_before us)
@@ -148,7 +148,7 @@ module _ (forms : List Form) (program_is : IsProgram forms) (words : List Text) 
       fails (kinds_behind forms form command words asks.rest asks.begin ∙ form_takes form command.is_readable asks.rest given asks.gives
       (record { fresh = none_before given; once = asks.once; fit = asks.fit; whole = asks.whole }))
 
-  -- help is answered only where a word asks for it
+  -- the answer is help only if a word asks for it
   pub helped : All IsUtf8 words → IsAmong DisplayHelp (fault_of (program forms) words) → Any (λ word. is_help word ≡ true) words
   helped utf8 help = go (first_decides forms program_is words utf8)
     where
@@ -156,7 +156,7 @@ module _ (forms : List Form) (program_is : IsProgram forms) (words : List Text) 
       go (inl (form, command, rest, is)) = helped_behind forms form command words rest is utf8 help
       go (inr refused) = one_first words (refused.help help)
 
-  -- and the version only where the first word asks for it
+  -- and the version only if the first word asks for it
   pub versioned : All IsUtf8 words → IsAmong DisplayVersion (fault_of (program forms) words) → BeginWith is_version words
   versioned utf8 version = go (first_decides forms program_is words utf8)
     where

@@ -20,7 +20,7 @@ Pairs (a ∷ ahead) (value ∷ values) [] = ⊥
 Pairs (a ∷ ahead) (value ∷ values) (u ∷ us) = (u ≡ (a, value)) × Pairs ahead values us
 
 module _ (form : Form) where
-  -- behind `--` the words are the values
+  -- after `--` the words are the values
   ended_pairs : (words : List Text) (ahead : List Parameter) (us : List Use) → Pairs ahead words us → Gives form true ahead words us
   ended_pairs [] ahead us h = subst (Gives form true ahead []) (sym h) no_word
   ended_pairs (word ∷ words) [] us h = absurd h
@@ -57,7 +57,7 @@ module _ (form : Form) where
   abbrev pub values_of : List Use → List Text
   values_of us = map (λ (u : Use). u.1) us
 
-  -- behind `--` the words are those, one for each of the first arguments
+  -- after `--` the words are those, one for each of the first arguments
   ended_values : {ahead : List Parameter} {words : List Text} {us : List Use} → Gives form true ahead words us → (words ≡ values_of us) × Pairs ahead (values_of us) us
   ended_values no_word = (refl, refl)
   ended_values (to_next {ended} {a} {ahead} {word} flag more) = let later = ended_values more in (ap (λ ws. word ∷ ws) later.0, (refl, later.1))

@@ -1,4 +1,4 @@
--- Words behind a command's name give texts to its arguments and options, or clap refuses them.
+-- Words after a command's name give texts to its arguments and options, or clap refuses them.
 use Rattle.std.proofs.Common.{◌≡◌, ◌∙◌, ◌⊎◌, ◌==◌, ◌||◌, ℕ, Bool, cond, refl, sym, ap, subst, true, false, List, [], ◌∷◌, ◌++◌, Option, Some, None, codes, inl, inr, true≢false}
 use Rattle.std.specs.List.{All, list_any}
 use Rattle.std.specs.Str.{IsUtf8, bytes_eq}
@@ -39,7 +39,7 @@ module _ (form : Form) where
 
   module _ (helps : Bool) (rows : List Row) (pending : Option (Text × List Text)) (calm : NoAnswer (settle_fault s.rules false (holding rows pending))) (word : Text)
       (told : is_help word ≡ true → helps ≡ true) where
-    -- it is refused where it is long
+    -- it is refused if it is long
     long_refused : (flag : IsLong word) → option_named form.options flag.name ≡ None
         → Refuses helps (long_fault s.rules false (arg_by_long s.rules flag.name) flag.value (holding rows pending))
     long_refused flag none = go flag.value flag.help (bytes_eq (codes "help") flag.name) refl
@@ -54,7 +54,7 @@ module _ (form : Form) where
         go None help true e = rw (is, e)
             (refuses_after helps _ _ calm (refuses_help helps (told (help (sym ((bytes_eq-Decides (codes "help") flag.name).0 e)) refl))))
 
-    -- and where it is a bundle
+    -- and if it is a bundle
     bundle_refused : (flag : IsBundle word) → Refuses helps (bundle_fault s.rules false (flag.byte ∷ flag.bytes) (holding rows pending))
     unfolding flags_fault
     bundle_refused flag = go (104 == flag.first) refl
@@ -95,7 +95,7 @@ module _ (form : Form) where
     waits_at_end : (w : Walk) → w.held ≡ holding rows (Some (o.takes.id, [])) → Refuses helps (fault_from s w [])
     waits_at_end w is = subst (Refuses helps) (sym (fault_at_end s w ∙ ap (end_fault s) is)) (refuses_first helps _ _ refused_unfilled)
 
-    -- behind `--`
+    -- after `--`
     waits_behind : (ahead : List Parameter) → Ahead s.rules position ahead → (words : List Text)
         → Refuses helps (fault_from s (record (waiting_for rows o.takes.id position) { is_trailing = true }) words)
     waits_behind ahead next [] = waits_at_end (record (waiting_for rows o.takes.id position) { is_trailing = true }) refl
@@ -147,7 +147,7 @@ module _ (form : Form) where
   abbrev pub Reading : Bool → List Parameter → ℕ → List Text → Type 0
   Reading ended ahead position words = ((given : List Use) × Gives form ended ahead words given) ⊎ AreRefused ended position words
 
-  -- one of more words is for help where one of these is
+  -- one of more words is for help if one of these is
   help_behind : (word : Text) (words : List Text) → list_any is_help words ≡ true → list_any is_help (word ∷ words) ≡ true
   help_behind word words h = or_right (is_help word) (list_any is_help words) h
 
@@ -168,7 +168,7 @@ module _ (form : Form) where
           (refuses_after _ _ _ (pending_calm rows pending) (refuses_more _ _ _ (help_behind word words)
           (bad (base rows pending) (Some (a, word)) (argument_known form position a next.1)))))
 
-  -- words behind `--`
+  -- words after `--`
   ended_reading : (words : List Text) (ahead : List Parameter) (position : ℕ) → Ahead s.rules position ahead → Reading true ahead position words
   ended_reading [] ahead position next = inl ([], no_word)
   ended_reading (word ∷ words) ahead position next =
@@ -178,7 +178,7 @@ module _ (form : Form) where
   abbrev ReadsHere : List Text → Type 0
   ReadsHere words = (ahead : List Parameter) (position : ℕ) → Ahead s.rules position ahead → Reading false ahead position words
 
-  -- the words behind the first
+  -- the words after the first
   abbrev behind_first : List Text → List Text
   behind_first [] = []
   behind_first (word ∷ words) = words
@@ -196,7 +196,7 @@ module _ (form : Form) where
             (refuses_after _ _ _ (pending_calm rows pending) (refuses_after _ _ _ (use_no_answer false (filled (rule o.takes)) (base rows pending) (text ∷ []) refl)
             (refuses_more _ _ _ (help_behind word words) (bad (use_of (base rows pending) (o.takes, text)) None tt)))))
 
-    -- what is refused behind the option is refused with it
+    -- what is refused after the option is refused with it
     waits : long_of word ≡ Some (o.takes.id, None)
         → ((rows : List Row) → Refuses (list_any is_help words) (fault_from s (waiting_for rows o.takes.id position) words)) → AreRefused false position (word ∷ words)
     waits read bad = λ rows pending known.
@@ -237,7 +237,7 @@ module _ (form : Form) where
       go false e true h = refused (λ rows. waits_before (list_any is_help (text ∷ rest)) rows position o has text (All-head IsUtf8 text rest utf8) e h (help_first text rest) rest)
       go false e false h = given h (later ahead position next)
 
-  -- a flag that is no option is refused with the words behind it
+  -- a flag that is no option is refused with the words after it
   flagged : (word : Text) (words : List Text) → (position : ℕ) → ((rows : List Row) (pending : Option Use) → AreKnown form pending
       → Refuses (list_any is_help (word ∷ words)) (word_fault s [] false idle word (holding rows (held pending)))) → AreRefused false position (word ∷ words)
   flagged word words position bad = λ rows pending known.
@@ -298,7 +298,7 @@ module _ (form : Form) where
           subst (Refuses (list_any is_help (word ∷ words))) (sym (dashes_after form rows pending known position word words e))
           (refuses_more _ _ _ (help_behind word words) (bad rows pending known)))
 
-  -- all words read so, and those behind the first
+  -- all words read so, and those after the first
   readings : (words : List Text) → All IsUtf8 words → ReadsHere words × ReadsHere (behind_first words)
   readings [] utf8 = (λ ahead position next. inl ([], no_word), λ ahead position next. inl ([], no_word))
   readings (word ∷ words) utf8 =
@@ -310,6 +310,6 @@ module _ (form : Form) where
       go more false e true h = flag_reading word words (All-head IsUtf8 word words utf8) (All-tail IsUtf8 word words utf8) e h more.0 more.1
       go more false e false h = λ ahead position next. one_more false word words (λ _. h) ahead position next (λ rest n. more.0 rest (place_behind position) n)
 
-  -- the words behind a command's name give texts, or clap refuses them
+  -- the words after a command's name give texts, or clap refuses them
   pub reading : (words : List Text) → All IsUtf8 words → Ahead s.rules 1 form.arguments → Reading false form.arguments 1 words
   reading words utf8 next = (readings words utf8).0 form.arguments 1 next

@@ -1,4 +1,5 @@
--- When clap finds nothing wrong with uses: each name once, each text one that is taken, and no argument missing. Its rows are then theirs.
+-- When clap finds no fault in uses: each name is used once, each text is one that is taken, and no argument is
+-- missing. Its rows are then theirs.
 use Rattle.std.proofs.Common.{◌≡◌, ◌∙◌, ◌<◌, ◌≤◌, ◌^◌, ◌&&◌, ℕ, Bool, cond, refl, sym, ap, ap₂, true, false, not, List, [], ◌∷◌, ◌++◌, Option, Some, None, fold, map, append-nil, append_assoc}
 use Rattle.std.specs.Prelude.{find, is_some, option_map, IfSome, slice_get, unwrap_or}
 use Rattle.std.specs.List.{All, list_all, list_any}
@@ -69,20 +70,20 @@ abbrev pub AreFresh : List Use → List Use → Type 0
 AreFresh done [] = Unit {0}
 AreFresh done (u ∷ us) = (is_used u.0.id done ≡ false) × AreFresh done us
 
--- where there is no row of a name, a new one goes behind the others
+-- if there is no row of a name, a new one goes after the others
 at_row_fresh : (id : Text) (change : Row → List Row) (missing rows : List Row) → has_row id rows ≡ false → at_row id change missing rows ≡ rows ++ missing
 at_row_fresh id change missing [] none = refl
 at_row_fresh id change missing (r ∷ rows) none =
     let other : bytes_eq r.id id ≡ false = (or_parts _ _ none).0 in
     rw other (ap (λ xs. r ∷ xs) (at_row_fresh id change missing rows (or_parts _ _ none).1))
 
--- a use of a name without a row then has its row behind the others
+-- a use of a name without a row then has its row after the others
 used_fresh : (u : Use) (rows : List Row) → has_row u.0.id rows ≡ false → use_of rows u ≡ rows ++ row u ∷ []
 used_fresh u rows none =
     let same : without u.0.id rows ≡ rows = at_row_fresh u.0.id (λ _. []) [] rows none ∙ append-nil rows in
     ap (at_row u.0.id (more_values CommandLine (u.1 ∷ [])) (row u ∷ [])) same ∙ at_row_fresh u.0.id (more_values CommandLine (u.1 ∷ [])) (row u ∷ []) rows none
 
--- a name has a row where it is used
+-- a name has a row if it is used
 row_used : (id : Text) (done : List Use) → has_row id (map row done) ≡ is_used id done
 row_used id done = sym (list_any-map (λ (r : Row). bytes_eq r.id id) row done)
 
@@ -90,7 +91,7 @@ row_used id done = sym (list_any-map (λ (r : Row). bytes_eq r.id id) row done)
 used_last : (u : Use) (done : List Use) → is_used u.0.id done ≡ false → use_of (map row done) u ≡ map row (done ++ u ∷ [])
 used_last u done fresh = used_fresh u (map row done) (row_used u.0.id done ∙ fresh) ∙ sym (map-append row done (u ∷ []))
 
--- uses that are fresh behind one more are fresh, and its name is not among theirs
+-- uses that are fresh after one more are fresh, and its name is not among theirs
 fresh_before : (done : List Use) (d : Use) (us : List Use) → AreFresh (done ++ d ∷ []) us → AreFresh done us × (is_among d.0.id us ≡ false)
 fresh_before done d [] h = (tt, refl)
 fresh_before done d (u ∷ us) h =
@@ -104,7 +105,7 @@ fresh_behind done d (u ∷ us) h apart =
     let two = or_parts (bytes_eq d.0.id u.0.id) (is_among d.0.id us) apart in
     (list_any-append (λ (x : Use). bytes_eq x.0.id u.0.id) done (d ∷ []) ∙ or_from _ _ h.0 (or_from _ _ two.0 refl), fresh_behind done d us h.1 two.1)
 
--- a fresh use is wrong just where its text is not taken, and another is repeated
+-- a use that is fresh has a fault if and only if its text is not taken; one that is not fresh is repeated
 fresh_use : (u : Use) (rows : List Row) → has_row u.0.id rows ≡ false
     → use_kinds rows u ≡ cond (accepts false (parser_by u.0.bounds) u.1) [] (refused_kind (parser_by u.0.bounds) ∷ [])
 fresh_use u rows none = go (accepts false (parser_by u.0.bounds) u.1) refl
@@ -176,14 +177,14 @@ module _ (form : Form) where
       go true e = refl
       go false e = sym e
 
-  -- uses with which nothing is wrong, behind those that were done
+  -- uses without a fault, after those that were done
   pub record AreWell (done us : List Use) : Type 0 where
     pub fresh : AreFresh done us
     pub once : are_once us ≡ true
     pub fit : All (λ g. Takes g.0 g.1) us
     pub whole : is_whole (done ++ us) ≡ true
 
-  -- no fault says so, and their rows are then behind the others
+  -- if there is no fault they are so, and their rows are then after the others
   pub well_from : (done us : List Use) → kinds_of form (map row done) us ≡ [] → AreWell done us × (fold use_of (map row done) us ≡ map row (done ++ us))
   well_from done [] none = (
     record {
@@ -226,7 +227,7 @@ module _ (form : Form) where
           accepted true e h = e
           accepted false e h = absurd (one_kind (refused_kind (parser_by u.0.bounds)) (rw e at h))
 
-  -- and where they are so, there is no fault
+  -- and if they are so, there is no fault
   pub well_to : (done us : List Use) → AreWell done us → kinds_of form (map row done) us ≡ []
   well_to done [] well =
       let none : list_any (is_missing (map row done)) form.arguments ≡ false = none_missing done form.arguments (ap is_whole (sym (append-nil done)) ∙ well.whole) in

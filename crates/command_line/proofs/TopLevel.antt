@@ -41,13 +41,13 @@ names forms = names_of (built (program forms))
 abbrev start : Walk
 start = walk_from nothing_held
 
--- ---- what a first word that no command takes is told
+-- ---- how a first word that no command takes is answered
 
 -- the first word passes this test
 abbrev pub BeginWith : (Text → Bool) → List Text → Type 0
 BeginWith test words = (word : Text) × (rest : List Text) × (words ≡ word ∷ rest) × (test word ≡ true)
 
--- the kinds of words that no command takes: there is one, and that of an answer only where the first word is for it
+-- the kinds of words that no command takes: there is one, and one of an answer only if the first word asks for it
 pub record AreRefused (words : List Text) (kinds : Kinds) : Type 0 where
   pub some : kinds ≡ [] → ⊥
   pub help : IsAmong DisplayHelp kinds → BeginWith is_help words
@@ -66,7 +66,7 @@ refused words kind kinds none = record {
   version = λ h. absurd (no_answer_among DisplayVersion refl (kind ∷ kinds) none h);
 }
 
--- words of which the first is for help are told help
+-- words of which the first is for help are answered with help
 told_help : (word : Text) (rest : List Text) (kinds : Kinds) → NoAnswer kinds → is_help word ≡ true → AreRefused (word ∷ rest) (DisplayHelp ∷ kinds)
 told_help word rest kinds none helps = record { some = λ e. cc; help = λ _. (word, rest, refl, helps); version = λ h. absurd (go h) }
   where
@@ -74,7 +74,7 @@ told_help word rest kinds none helps = record { some = λ e. cc; help = λ _. (w
     go (inl same) = cc
     go (inr h) = no_answer_among DisplayVersion refl kinds none h
 
--- and those of which the first is for the version are told the version
+-- and those of which the first is for the version with the version
 told_version : (word : Text) (rest : List Text) → is_version word ≡ true → AreRefused (word ∷ rest) (DisplayVersion ∷ [])
 told_version word rest asks = record { some = λ e. cc; help = λ h. absurd (go h); version = λ _. (word, rest, refl, asks) }
   where
@@ -103,11 +103,11 @@ pub record IsProgram (forms : List Form) : Type 0 where
   pub are_commands : AreCommands forms forms
   -- by names
   pub named : names forms ≡ map (λ (form : Form). (form.name, [])) forms ++ (codes "help", []) ∷ []
-  -- `help` is told help, or refused with the words behind it
+  -- `help` is answered with help, or refused with the words after it
   pub help_first : (rest : List Text) → AreRefused (codes "help" ∷ rest) (fault_of (program forms) (codes "help" ∷ rest))
-  -- behind `--` a word is no command's name
+  -- after `--` a word is no command's name
   pub end_first : (rest : List Text) → AreRefused (codes "--" ∷ rest) (fault_of (program forms) (codes "--" ∷ rest))
-  -- a command's name is missing where there is no word
+  -- a command's name is missing if there is no word
   pub none_first : AreRefused [] (fault_of (program forms) [])
 
 -- ---- the rows, each readable
@@ -206,7 +206,7 @@ one_of_these forms form command = found_one forms form.name form command.is_one
 
 -- ---- a first word that is a command's name
 
--- where the walk stands after the name, with the words behind that
+-- the place of the walk after the name, with the words after that
 abbrev met : Text → List Text → Walk
 met name rest = record start { stopped = Some (name, rest) }
 
@@ -214,7 +214,7 @@ met name rest = record start { stopped = Some (name, rest) }
 met_walk : (forms : List Form) (name : Text) (rest : List Text) → fold (walked top_rules (names forms)) (met name []) rest ≡ met name rest
 met_walk forms name rest = sym (walk_stopped top_rules (names forms) start name [] rest)
 
--- what is wrong behind the walk, by its end
+-- what is wrong after the walk, by its end
 abbrev after : List Form → Walk → Kinds
 after forms end = or_else (entered_fault (built (program forms)) end.stopped)
     (or_else (settle_fault top_rules false end.held)
@@ -232,16 +232,16 @@ module _ (forms : List Form) (form : Form) (command : IsCommand forms form) (res
   unfolding walk_fault walked
   name_fault = rw (command.is_met, command.is_not_help) (stopped_fault top (names forms) start (form.name, []) rest)
 
-  -- what is wrong behind it is what is wrong with the words of the command
+  -- what is wrong after it is what is wrong with the words of the command
   command_fault : after forms (met form.name rest) ≡ level (shape form) rest
   unfolding defaults_fault
   command_fault = rw command.is_entered (or_else_nil (level (shape form) rest))
 
-  -- where the first word is a command's name, what is wrong with the words is what is wrong with those behind it
+  -- if the first word is a command's name, the faults of the words are those of the words after it
   pub command_first : fault_of (program forms) (form.name ∷ rest) ≡ level (shape form) rest
   command_first = ap₂ or_else name_fault (ap (after forms) name_walk) ∙ command_fault
 
-  -- and the matches are those of the words behind it
+  -- and the matches are those of the words after it
   pub command_found : subcommand_of (program forms) (form.name ∷ rest) ≡ Some (form.name, rows_after (shape form).rules [] rest)
   command_found = ap (λ (end : Walk). entered (built (program forms)) end.stopped) name_walk ∙ rw command.is_entered refl
 
@@ -284,7 +284,7 @@ module _ (forms : List Form) (word : Text) (rest : List Text) where
       go false true e f = rw (flag.begins, e, f) (told_version word rest (flag.version (sym (eqb-true 86 flag.first f))))
       go false false e f = rw (flag.begins, e, f) (refused (word ∷ rest) UnknownArgument [] refl)
 
-  -- so a flag is, where it is not `--`
+  -- so is a flag other than `--`
   flag_first : IsUtf8 word → bytes_eq word (codes "--") ≡ false → is_flag word ≡ true → Refuses (turn_fault top [] start word)
   flag_first utf8 dashes flag = refused_first (word ∷ rest) _ _ (go (flag_read word utf8 dashes flag))
     where
@@ -300,7 +300,7 @@ module _ (forms : List Form) (word : Text) (rest : List Text) where
       go true flag = flag_first utf8 dashes flag
       go false flag = subst Refuses (sym (plain_turn top [] None 1 word dashes flag)) (refused (word ∷ rest) UnknownArgument (InvalidSubcommand ∷ []) refl)
 
-  -- with such a word first, the words are refused
+  -- if this word is the first, the words are refused
   other_first : IsUtf8 word → subcommand_met (names forms) idle word ≡ None → bytes_eq word (codes "--") ≡ false → AreRefused (word ∷ rest) (fault_of (program forms) (word ∷ rest))
   unfolding walk_fault
   other_first utf8 none dashes = refused_first _ _ _ (refused_first _ _ _ (turn_first utf8 none dashes))
@@ -323,12 +323,12 @@ named_or_not forms (form ∷ rest) commands word = go (bytes_eq form.name word) 
 abbrev pub Decided : List Form → List Text → Type 0
 Decided forms words = ((form : Form) × IsCommand forms form × (rest : List Text) × (words ≡ form.name ∷ rest)) ⊎ AreRefused words (fault_of (program forms) words)
 
--- and the first word tells which
+-- and the first word decides which
 pub first_decides : (forms : List Form) → IsProgram forms → (words : List Text) → All IsUtf8 words → Decided forms words
 first_decides forms is [] utf8 = inr is.none_first
 first_decides forms is (word ∷ rest) utf8 = go (named_or_not forms forms is.are_commands word) (bytes_eq (codes "help") word) (bytes_eq word (codes "--")) refl refl
   where
-    -- words are refused where they are refused with that name
+    -- words are refused if they are refused with that name
     refused_as : (name : Text) → word ≡ name → AreRefused (name ∷ rest) (fault_of (program forms) (name ∷ rest)) → Decided forms (word ∷ rest)
     refused_as name e h = inr (subst (λ (first : Text). AreRefused (first ∷ rest) (fault_of (program forms) (first ∷ rest))) (sym e) h)
 

@@ -1,4 +1,4 @@
--- The uses of arguments and options that words make, one behind the other, and how clap settles them.
+-- The uses of arguments and options that words make, one after the other, and how clap settles them.
 use Rattle.std.proofs.Common.{◌≡◌, ◌∙◌, ◌&&◌, ◌||◌, ℕ, Bool, cond, refl, ap, ap₂, true, false, not, List, [], ◌∷◌, Option, Some, None, codes, fold}
 use Rattle.std.specs.List.{list_all, list_any}
 use Rattle.clap.specs.Takes.{is_given}
@@ -66,7 +66,7 @@ none_wrong [] rows h = refl
 none_wrong (a ∷ rest) rows h =
     ap₂ or_else (cond_or (has_row a.id rows) (is_empty a.defaults) (given_default_fault a a.defaults) (both _ _ h).0) (none_wrong rest (with_default rows a) (both _ _ h).1)
   where
-    -- where a second test passes, nothing is chosen
+    -- if a second test passes, nothing is chosen
     cond_or : (b c : Bool) (x : Kinds) → c ≡ true → cond (b || c) [] x ≡ []
     cond_or true c x e = refl
     cond_or false c x e = rw e refl

@@ -1,4 +1,4 @@
--- What the words of the command line ask, without the program's name.
+-- What the words of the command line ask for. The program's name is not among them.
 use Rattle.std.specs.Prelude.{◌≡◌, ℕ, ◌≤◌, ◌||◌, Bool, true, List, [], ◌∷◌, Option, Some, None, take, codes, if◌then◌else◌, option_map}
 use Rattle.std.specs.List.{Any}
 use Rattle.std.specs.Str.{bytes_eq}
@@ -12,14 +12,15 @@ use Rattle.command_line.specs.declared.words.Task.{Task}
 use Rattle.command_line.specs.declared.words.Task.TheVariants.{Plan, Word, Replay, Race, Compact, Audit, Help, Version}
 use Rattle.command_line.specs.declared.words.Task.TheVariants as tasks
 
--- what a command is given: behind a first `--` each word, before it each that is no flag; None where there is a flag before it
+-- the words that a command is given: after a first `--` all words, before it those that are no flag; None if a flag
+-- comes before it
 abbrev pub given : List (List ℕ) → Option (List (List ℕ))
 given [] = Some []
 given (word ∷ rest) =
     if bytes_eq word (codes "--") then Some rest
     else (if is_flag word then None else option_map (λ more. word ∷ more) (given rest))
 
--- the words are this command, given just these
+-- the words are this command, given exactly these values
 abbrev pub AreCommand : List ℕ → List (List ℕ) → List (List ℕ) → Type 0
 AreCommand name values words = (rest : List (List ℕ)) × (words ≡ name ∷ rest) × (given rest ≡ Some values)
 
@@ -35,11 +36,12 @@ AsksWord words path index = (digits : List ℕ) × IsNumber digits index × AreC
 abbrev pub AsksReplay : List (List ℕ) → Run → Type 0
 AsksReplay words run = AsksRun (codes "replay") words run
 
--- the words are `race`, the same words behind it, with this run
+-- the words are `race [--mutators N] [--fresh N] IMAGE TRACE DUMP`, with this run
 abbrev pub AsksRace : List (List ℕ) → Run → Type 0
 AsksRace words run = AsksRun (codes "race") words run
 
--- the words are `compact [--workers N] IMAGE DUMP`, with these paths of an image and of the dump, and this number of workers
+-- the words are `compact [--workers N] IMAGE DUMP`, with these paths of an image and of the dump, and this number of
+-- workers
 abbrev pub AsksCompact : List (List ℕ) → List ℕ → List ℕ → ℕ → Type 0
 AsksCompact words image dump n = (texts : List (Parameter × List ℕ)) × IsCommandWith compact_form words texts
     × (text_given (codes "IMAGE") texts ≡ Some image) × (text_given (codes "DUMP") texts ≡ Some dump) × IsChosen workers texts n
@@ -62,7 +64,7 @@ pub record AsksNoCommand (words : List (List ℕ)) : Type 0 where
 abbrev pub is_help : List ℕ → Bool
 is_help word = bytes_eq word (codes "help") || (bytes_eq word (codes "--help") || bytes_eq (take 2 word) (codes "-h"))
 
--- the words are no command, and one of them is for help
+-- the words are no command, and one of them asks for help
 abbrev pub AsksHelp : List (List ℕ) → Type 0
 AsksHelp words = AsksNoCommand words × Any (λ word. is_help word ≡ true) words
 
@@ -70,7 +72,7 @@ AsksHelp words = AsksNoCommand words × Any (λ word. is_help word ≡ true) wor
 abbrev pub is_version : List ℕ → Bool
 is_version word = bytes_eq word (codes "--version") || bytes_eq (take 2 word) (codes "-V")
 
--- the words are no command, and the first of them is for the version
+-- the words are no command, and the first of them asks for the version
 abbrev pub AsksVersion : List (List ℕ) → Type 0
 AsksVersion words = AsksNoCommand words × ((word : List ℕ) × (rest : List (List ℕ)) × (words ≡ word ∷ rest) × (is_version word ≡ true))
 
@@ -86,7 +88,7 @@ Asks words (tasks.Next next) = AsksNext words (next_of next)
 Asks words (Help text) = AsksHelp words
 Asks words Version = AsksVersion words
 
--- the counts of the task are ones that a command takes: 1 to 64 mutators or workers, at most 4096 fresh pages
+-- the counts of the task are lawful: 1 to 64 mutators or workers, at most 4096 fresh pages
 abbrev pub HasLawfulCounts : Task → Type 0
 HasLawfulCounts (Plan image) = Unit {0}
 HasLawfulCounts (Word image index) = Unit {0}
@@ -98,7 +100,7 @@ HasLawfulCounts (tasks.Next next) = IsLawfulNext (next_of next)
 HasLawfulCounts (Help text) = Unit {0}
 HasLawfulCounts Version = Unit {0}
 
--- the task is what an answer of this kind asks for: a text of help, or the version
+-- the task prints an answer of this kind: a text of help, or the version
 abbrev pub IsAnswerOf : ErrorKind → Task → Type 0
 IsAnswerOf kind (Plan image) = ⊥
 IsAnswerOf kind (Word image index) = ⊥

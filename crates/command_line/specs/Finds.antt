@@ -1,4 +1,4 @@
--- What the parser finds of a run of a trace.
+-- What the parser finds for a run of a trace.
 use Rattle.std.specs.Prelude.{◌≡◌, true, Some, codes, is_some, IfSome}
 use Rattle.clap.specs.Words.{first_value, one_text}
 use Rattle.clap.specs.declared.parser.matches.Found.{Found}
@@ -6,7 +6,7 @@ use Rattle.command_line.specs.Forms.{fresh, mutators}
 use Rattle.command_line.specs.Given.{IsNumberOr, Takes}
 use Rattle.command_line.specs.Runs.{Run}
 
--- a run was found: each of its paths, and for an option that was given a text that it takes
+-- a run was found: each of its paths, and for each option that was given a text that it takes
 pub record HasRun (found : Found) : Type 0 where
   pub has_image : is_some (first_value found (codes "IMAGE")) ≡ true
   pub has_trace : is_some (first_value found (codes "TRACE")) ≡ true
@@ -14,7 +14,7 @@ pub record HasRun (found : Found) : Type 0 where
   pub fits_mutators : IfSome (one_text found (codes "mutators")) (Takes mutators.takes)
   pub fits_fresh : IfSome (one_text found (codes "fresh")) (Takes fresh.takes)
 
--- the run is the one that was found, with the defaults for what was left out
+-- the run is the one that was found, with the default of each option that was left out
 pub record IsRunFound (found : Found) (run : Run) : Type 0 where
   pub image_is : Some run.image ≡ first_value found (codes "IMAGE")
   pub trace_is : Some run.trace ≡ first_value found (codes "TRACE")

@@ -1,4 +1,4 @@
--- The commands of the program, by their rows: the name of each, and what stands behind it.
+-- The commands of the program: the name of each, its options and its arguments.
 use Rattle.std.specs.Prelude.{ℕ, List, [], ◌∷◌, Option, Some, None, codes}
 
 -- an argument or an option, by its name: it takes any text, or a number from the first bound to the second
@@ -6,12 +6,12 @@ pub record Parameter : Type 0 where
   pub id : List ℕ
   pub bounds : Option (ℕ × ℕ)
 
--- an option: what it takes, and the number that stands where it is left out
+-- an option: what it takes, and the number that counts if it is left out
 pub record Choice : Type 0 where
   pub takes : Parameter
   pub default : ℕ
 
--- a command: its name, its options, and its arguments in their order, each of which has to be there
+-- a command: its name, its options, and its arguments in their order, all of them required
 pub record Form : Type 0 where
   pub name : List ℕ
   pub options : List Choice
@@ -28,7 +28,7 @@ number_within id low high = record { id = id; bounds = Some (low, high) }
 abbrev pub number : List ℕ → Parameter
 number id = number_within id 0 18446744073709551615
 
--- a number from `low` to `high`, and the one where it is left out
+-- a number from `low` to `high`, and the default if it is left out
 abbrev pub option : List ℕ → ℕ → ℕ → ℕ → Choice
 option id low high default = record { takes = number_within id low high; default = default }
 
@@ -56,7 +56,7 @@ workers = option (codes "workers") 1 64 2
 abbrev pub run_paths : List Parameter
 run_paths = text (codes "IMAGE") ∷ text (codes "TRACE") ∷ text (codes "DUMP") ∷ []
 
--- a command of this name, `NAME [--mutators N] [--fresh N] IMAGE TRACE DUMP`
+-- `NAME [--mutators N] [--fresh N] IMAGE TRACE DUMP`, for this name
 abbrev pub run_form : List ℕ → Form
 run_form name = record { name = name; options = mutators ∷ fresh ∷ []; arguments = run_paths }
 
@@ -64,7 +64,7 @@ run_form name = record { name = name; options = mutators ∷ fresh ∷ []; argum
 abbrev pub replay_form : Form
 replay_form = run_form (codes "replay")
 
--- `race`, the same words
+-- `race [--mutators N] [--fresh N] IMAGE TRACE DUMP`
 abbrev pub race_form : Form
 race_form = run_form (codes "race")
 
@@ -84,6 +84,6 @@ next_form = record {
   arguments = text (codes "IMAGE") ∷ text (codes "TRACE") ∷ text (codes "MARKS") ∷ text (codes "NEW") ∷ [];
 }
 
--- the commands that the program has
+-- the commands of the program
 abbrev pub standing : List Form
 standing = plan_form ∷ word_form ∷ replay_form ∷ race_form ∷ compact_form ∷ audit_form ∷ next_form ∷ []

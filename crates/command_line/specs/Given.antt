@@ -1,30 +1,31 @@
--- What words give to the arguments and options of a command.
+-- What the words give to the arguments and options of a command.
 use Rattle.std.specs.Prelude.{◌≡◌, ℕ, ◌<◌, ◌≤◌, ◌^◌, ◌==◌, ◌&&◌, Bool, true, false, not, List, [], ◌∷◌, ◌++◌, Option, Some, codes, find, is_some, length, nat_lt, option_map, slice_index, IfSome, MatchOption}
 use Rattle.std.specs.List.{All, list_all, list_any}
 use Rattle.std.specs.Str.{bytes_eq}
 use Rattle.std.specs.Str.Parse.{IsNumeral, digits_value, without_leading_plus}
 use Rattle.command_line.specs.Forms.{Choice, Form, Parameter}
 
--- a flag: a hyphen and more
+-- a flag: a hyphen, and at least one byte more
 abbrev pub is_flag : List ℕ → Bool
 is_flag word = slice_index word 0 == 45 && nat_lt 1 (length word)
 
--- the text is a number of 64 bits, in decimal digits; a plus may stand first
+-- the text is a number of 64 bits, in decimal digits, perhaps with a plus before them
 pub record IsNumber (text : List ℕ) (number : ℕ) : Type 0 where
   pub numeral : IsNumeral 10 (without_leading_plus text)
   pub value : number ≡ digits_value 10 (without_leading_plus text)
   pub fits : number < 2 ^ 64
 
--- what is given to an argument or an option: a text that it takes
+-- an argument or an option takes this text
 abbrev pub Takes : Parameter → List ℕ → Type 0
 Takes p text = IfSome p.bounds (λ b. (n : ℕ) × IsNumber text n × (b.0 ≤ n) × (n ≤ b.1))
 
--- the command has an option of this name
+-- the command has this option, and it is the first of its name
 abbrev pub HasOption : Form → Choice → Type 0
 HasOption form o = find (λ (other : Choice). bytes_eq other.takes.id o.takes.id) form.options ≡ Some o
 
--- the words behind a command's name give these texts, where these arguments are ahead. Options stand anywhere before a first `--`, the text of an option
--- behind it or behind its `=`; a word that is no flag goes to the next argument, and so does each behind `--` (`ended`)
+-- The words after a command's name give these texts, if these arguments are still to come. Options stand anywhere
+-- before a first `--`. The text of an option is the next word, or follows its `=`. A word that is no flag goes to the
+-- next argument, and so does each word after `--` (`ended`).
 pub data Gives (form : Form) : Bool → List Parameter → List (List ℕ) → List (Parameter × List ℕ) → Type 0 where
   no_word : {ended : Bool} {ahead : List Parameter} → Gives form ended ahead [] []
   then_values : {ahead : List Parameter} {word : List ℕ} {rest : List (List ℕ)} {given : List (Parameter × List ℕ)}
@@ -38,7 +39,7 @@ pub data Gives (form : Form) : Bool → List Parameter → List (List ℕ) → L
       → HasOption form o → word ≡ codes "--" ++ (o.takes.id ++ (codes "=" ++ text))
       → Gives form false ahead rest given → Gives form false ahead (word ∷ rest) ((o.takes, text) ∷ given)
 
--- the name is that of something given
+-- something is given under this name
 abbrev pub is_among : List ℕ → List (Parameter × List ℕ) → Bool
 is_among id given = list_any (λ (g : Parameter × List ℕ). bytes_eq id g.0.id) given
 
@@ -51,7 +52,8 @@ are_once (g ∷ rest) = not (is_among g.0.id rest) && are_once rest
 abbrev pub text_given : List ℕ → List (Parameter × List ℕ) → Option (List ℕ)
 text_given id given = option_map (λ (g : Parameter × List ℕ). g.1) (find (λ (g : Parameter × List ℕ). bytes_eq g.0.id id) given)
 
--- the words are this command: each argument is given and each option once at most, texts that they take
+-- the words are this command: each argument is given once, each option at most once, and each takes the text that it is
+-- given
 pub record IsCommandWith (form : Form) (words : List (List ℕ)) (given : List (Parameter × List ℕ)) : Type 0 where
   pub rest : List (List ℕ)
   pub begin : words ≡ form.name ∷ rest
@@ -60,10 +62,10 @@ pub record IsCommandWith (form : Form) (words : List (List ℕ)) (given : List (
   pub fit : All (λ g. Takes g.0 g.1) given
   pub whole : list_all (λ (a : Parameter). is_some (text_given a.id given)) form.arguments ≡ true
 
--- the number that a text spells, or else the default
+-- the number that a text spells, or the default if there is no text
 abbrev pub IsNumberOr : ℕ → Option (List ℕ) → ℕ → Type 0
 IsNumberOr default text n = MatchOption text (n ≡ default) (λ digits. IsNumber digits n)
 
--- the number of an option: the one given, or its default
+-- the number of an option: the one that is given, or its default
 abbrev pub IsChosen : Choice → List (Parameter × List ℕ) → ℕ → Type 0
 IsChosen o given n = IsNumberOr o.default (text_given o.takes.id given) n

@@ -1,4 +1,4 @@
--- What `next` is asked with, and what the parser finds of it.
+-- The arguments of `next`, and what the parser finds for it.
 use Rattle.std.specs.Prelude.{◌≡◌, ℕ, ◌≤◌, List, Some, codes, true, is_some, IfSome}
 use Rattle.clap.specs.Words.{first_value, one_text}
 use Rattle.clap.specs.declared.parser.matches.Found.{Found}
@@ -6,7 +6,8 @@ use Rattle.command_line.specs.Forms.{Parameter, fresh, mutators, next_form}
 use Rattle.command_line.specs.Given.{IsChosen, IsCommandWith, IsNumberOr, Takes, text_given}
 use Rattle.command_line.specs.declared.next.NextRun.{NextRun}
 
--- the paths of an image, of a trace, of marks, and of the new image that is written; how many mutators run, and how many fresh pages there are
+-- the paths of an image, of a trace, of marks, and of the new image that is written; the numbers of mutators and of
+-- fresh pages
 pub record Next : Type 0 where
   pub image : List ℕ
   pub trace : List ℕ
@@ -15,11 +16,11 @@ pub record Next : Type 0 where
   pub count : ℕ
   pub pages : ℕ
 
--- those that a task carries
+-- the arguments in a task
 abbrev pub next_of : NextRun → Next
 next_of t = record { image = t.image.now; trace = t.trace.now; marks = t.marks.now; new = t.new.now; count = t.mutators; pages = t.fresh }
 
--- the words are `next [--mutators N] [--fresh N] IMAGE TRACE MARKS NEW`, with these
+-- the words are `next [--mutators N] [--fresh N] IMAGE TRACE MARKS NEW`, with these arguments
 pub record AsksNext (words : List (List ℕ)) (next : Next) : Type 0 where
   pub texts : List (Parameter × List ℕ)
   pub is_command : IsCommandWith next_form words texts
@@ -30,13 +31,13 @@ pub record AsksNext (words : List (List ℕ)) (next : Next) : Type 0 where
   pub with_mutators : IsChosen mutators texts next.count
   pub with_fresh : IsChosen fresh texts next.pages
 
--- there are 1 to 64 mutators, and 4096 fresh pages at most
+-- there are 1 to 64 mutators, and at most 4096 fresh pages
 pub record IsLawfulNext (next : Next) : Type 0 where
   pub some : 1 ≤ next.count
   pub few : next.count ≤ 64
   pub within : next.pages ≤ 4096
 
--- each path was found, and for an option that was given a text that it takes
+-- each path was found, and for each option that was given a text that it takes
 pub record HasNext (found : Found) : Type 0 where
   pub has_image : is_some (first_value found (codes "IMAGE")) ≡ true
   pub has_trace : is_some (first_value found (codes "TRACE")) ≡ true
@@ -45,7 +46,7 @@ pub record HasNext (found : Found) : Type 0 where
   pub fits_mutators : IfSome (one_text found (codes "mutators")) (Takes mutators.takes)
   pub fits_fresh : IfSome (one_text found (codes "fresh")) (Takes fresh.takes)
 
--- these are what was found, with the defaults for what was left out
+-- these are what was found, with the default of each option that was left out
 pub record IsNextFound (found : Found) (next : Next) : Type 0 where
   pub image_is : Some next.image ≡ first_value found (codes "IMAGE")
   pub trace_is : Some next.trace ≡ first_value found (codes "TRACE")

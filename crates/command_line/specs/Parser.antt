@@ -1,26 +1,26 @@
--- What clap is told of the command line.
+-- The command line as it is defined for clap.
 use Rattle.std.specs.Prelude.{Some, List, codes, true, false, map, ◌++◌, option_map}
 use Rattle.clap.specs.Words.{App, Rule, Shape, new_app, new_rule}
 use Rattle.clap.specs.declared.builder.value_parser.ValueParser.TheVariants.{Unsigned}
 use Rattle.command_line.specs.Forms.{Choice, Form, Parameter}
 
--- an argument: it is required, and where it is a number its parser is that of the numbers within its bounds
+-- an argument: it is required, and if it is a number its parser takes the numbers within its bounds
 abbrev pub rule : Parameter → Rule
 rule a = record (new_rule a.id) { required = true; parser = option_map (λ b. Unsigned b.0 b.1) a.bounds }
 
--- what an option takes: its long name is its name, help calls its number by one name, and it may be left out
+-- what an option takes: its long name is its name, help shows one name for its number, and it may be left out
 abbrev pub optional_rule : Parameter → Rule
 optional_rule p = record (rule p) { required = false; long = Some p.id; value_names = 1 }
 
--- an option; clap is told of no default
+-- an option, without a default of clap's
 abbrev pub option_rule : Choice → Rule
 option_rule o = optional_rule o.takes
 
--- a command, with the options and the arguments of its row
+-- a command, with its options and arguments
 abbrev pub command : Form → App
 command form = record (new_app form.name) { top = record (new_app form.name).top { rules = map option_rule form.options ++ map rule form.arguments } }
 
--- one of the commands is required, there is no program's name before it, and the program has a version
+-- one of the commands is required, the words do not begin with the program's name, and the program has a version
 abbrev pub asked_of_all : Shape → Shape
 asked_of_all top = record top { has_version = true; no_binary_name = true; subcommand_required = true; is_leaf = false }
 
@@ -28,6 +28,6 @@ asked_of_all top = record top { has_version = true; no_binary_name = true; subco
 abbrev pub bare_program : App
 bare_program = record (new_app (codes "compressor")) { top = record (asked_of_all (new_app (codes "compressor")).top) { is_leaf = true } }
 
--- the program, with these commands
+-- the program with these commands
 abbrev pub program : List Form → App
 program forms = record { top = asked_of_all (new_app (codes "compressor")).top; subs = map (λ form. (command form).top) forms }

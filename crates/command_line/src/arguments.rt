@@ -8,17 +8,17 @@ use clap::builder::ValueParser;
 use clap::{Arg, Command, value_parser};
 use std::alloc::{AllocError, Global};
 
-/// A command, or that memory was wanting for it.
+/// A command, or out of memory.
 pub(crate) type Made<'a> = Result<Command<'a>, AllocError>;
 
-/// A command of this name without arguments, with its line of help.
+/// A command of this name, with this line of help, without arguments.
 pub(crate) fn named_command<'a>(alloc: Global, name: &'a str, about: &'a str) -> Made<'a>
     ensures { IfOk result (λ made. app_of made ≡ new_app name.entry.now) }
 {
     Ok(Command::new(alloc, name).about(about))
 }
 
-/// The command with one argument more.
+/// Adds an argument to the command.
 pub(crate) fn with_argument<'a>(command: Made<'a>, argument: Arg<'a>) -> Made<'a>
     ensures { (app : App) (rule : Rule) → IfOk command.entry (λ made. app_of made ≡ app) → rule_of argument.entry ≡ rule → argument.entry.global ≡ false
         → IfOk result (λ made. app_of made ≡ with_rule app rule) }

@@ -1,4 +1,4 @@
-//! What the words of the command line ask.
+//! Reads the words of the command line: which task they ask for.
 #![tactic(auto)]
 
 mod arguments;

@@ -1,4 +1,4 @@
-//! The words of the command `next`.
+//! The command `next`.
 ghost use Rattle.std.specs.Prelude.{◌≡◌, IfOk};
 ghost use Rattle.clap.specs.Words.{app_of, found_of};
 ghost use Rattle.command_line.specs.Forms.{next_form};
@@ -13,7 +13,7 @@ use crate::values::{DEFAULT_FRESH, DEFAULT_MUTATORS, count_of, text_of};
 use clap::ArgMatches;
 use std::alloc::Global;
 
-/// What `next` is asked with.
+/// The arguments of `next`.
 #[derive(Debug, Drop)]
 pub struct NextRun<'a> {
     /// The path of the heap's image.
@@ -22,15 +22,15 @@ pub struct NextRun<'a> {
     pub trace: &'a str,
     /// The path of the marks of the next cycle.
     pub marks: &'a str,
-    /// The path that the new image is written to.
+    /// The path to which the new image is written.
     pub new: &'a str,
-    /// How many mutators there are, 1 to 64.
+    /// The number of mutators, 1 to 64.
     pub mutators: u8,
-    /// How many fresh pages there are, 4,096 at most.
+    /// The number of fresh pages, at most 4,096.
     pub fresh: u32,
 }
 
-/// The words of `next` that were found.
+/// The arguments of `next` in what the parser found.
 pub(crate) fn next_run<'a>(found: &ArgMatches<'a>) -> NextRun<'a>
     requires { HasNext (found_of found.now) }
     ensures run { IsNextFound (found_of found.now) (next_of result) }
@@ -46,7 +46,7 @@ pub(crate) fn next_run<'a>(found: &ArgMatches<'a>) -> NextRun<'a>
     }
 }
 
-/// The command, as clap is told of it.
+/// The command `next`, as defined for clap.
 pub(crate) fn next_command<'a>(alloc: Global) -> Made<'a>
     ensures { IfOk result (λ made. app_of made ≡ command_of next_form) }
 {

@@ -1,11 +1,11 @@
-//! The values that the parser found of a command.
+//! The values that the parser found for a command.
 ghost use Rattle.std.specs.Prelude.{◌≡◌, ℕ, true, is_some, Some, IsSomeAnd, IfSome};
 ghost use Rattle.clap.specs.Words.{first_value, found_of, one_text};
 ghost use Rattle.command_line.specs.Given.{IsNumber, IsNumberOr};
 
 use clap::ArgMatches;
 
-/// The mutators, the fresh pages and the workers of a command that is told of none.
+/// The numbers of mutators, of fresh pages and of workers, if the words give none.
 pub(crate) const DEFAULT_MUTATORS: u64 = 2;
 
 pub(crate) const DEFAULT_FRESH: u64 = 64;
@@ -34,7 +34,7 @@ pub(crate) fn number_of(found: &ArgMatches, id: &str) -> u64
     }
 }
 
-/// The number of an option, or its default where it was left out.
+/// The number of an option, or its default if it was left out.
 pub(crate) fn count_of(found: &ArgMatches, id: &str, default: u64) -> u64
     requires { IfSome (one_text (found_of found.now) id.now) (λ text. (number : ℕ) × IsNumber text number) }
     ensures { IsNumberOr default (one_text (found_of found.now) id.now) result }

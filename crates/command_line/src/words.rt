@@ -24,62 +24,63 @@ use std::alloc::Global;
 /// What the words ask for.
 #[derive(Debug, Drop)]
 pub enum Task<'a> {
-    /// The plan of the heap in an image.
+    /// Print the plan of the heap in an image.
     Plan {
         image: &'a str,
     },
-    /// The slid word at an index, of the heap in an image.
+    /// Print the slid word at an index, of the heap in an image.
     Word {
         image: &'a str,
         index: u64,
     },
-    /// The lines of a trace, run in their order by one thread.
+    /// Run all lines of a trace in one thread, in their order.
     Replay(TraceRun<'a>),
-    /// The lines of each mutator of a trace, run in a thread of its own.
+    /// Run the lines of a trace, those of each mutator in a thread of its own.
     Race(TraceRun<'a>),
-    /// The heap in an image is compacted by 1 to 64 workers, and its dump written to a path.
+    /// Compact the heap in an image, with 1 to 64 workers, and write the dump to a path.
     Compact {
         image: &'a str,
         dump: &'a str,
         workers: u8,
     },
-    /// The dump at a path is judged as what a compaction of the heap in an image left.
+    /// Audit the dump at a path against the heap in an image.
     Audit {
         image: &'a str,
         dump: &'a str,
     },
-    /// The lines of a trace, run as by `replay`, after which the heap is marked anew, and its new image written to a path.
+    /// Run a trace as `replay` does, then make the next heap with the new marks, and write its image to a path.
     Next(NextRun<'a>),
-    /// This text of help.
+    /// Print this text of help.
     Help {
         text: String,
     },
-    /// The program's version.
+    /// Print the version of the program.
     Version,
 }
 
-/// What a run of a trace is asked with.
+/// The arguments of `replay` and `race`.
 #[derive(Debug, Drop)]
 pub struct TraceRun<'a> {
     /// The path of the heap's image.
     pub image: &'a str,
     /// The path of the trace.
     pub trace: &'a str,
-    /// The path that the dump is written to.
+    /// The path to which the dump is written.
     pub dump: &'a str,
-    /// How many mutators there are, 1 to 64.
+    /// The number of mutators, 1 to 64.
     pub mutators: u8,
-    /// How many fresh pages there are, 4,096 at most.
+    /// The number of fresh pages, at most 4,096.
     pub fresh: u32,
 }
 
 /// The program's name and version, as a line.
 pub const VERSION_LINE: &str = "compressor 0.1.0\n";
 
-// The version, as clap is told of it.
+// The version, as defined for clap.
 const VERSION: &str = "0.1.0";
 
-/// Reads the words after the program's name: the task is the one that they ask. An error comes where they ask none, or for want of memory.
+/// Reads the words after the program's name, and answers the task that they ask for. It fails if they ask for none, or
+/// if memory runs out.
 pub fn read_task<'a>(alloc: Global, words: &'a [String]) -> Result<Task<'a>, Error>
     ensures asked { IfOk result (Asks (map string_bytes words.entry.now)) }
     ensures none { IfErr result (λ error. kind_of error ≢ OutOfMemory → AsksNoCommand (map string_bytes words.entry.now)) }
@@ -93,7 +94,7 @@ pub fn read_task<'a>(alloc: Global, words: &'a [String]) -> Result<Task<'a>, Err
     }
 }
 
-// The task that the parser found in the words.
+// The task of the words in which the parser found this.
 fn task_of<'a>(words: &'a [String], matches: &ArgMatches<'a>) -> Task<'a>
     requires taken { fault_of (program standing) (map string_bytes words.now) ≡ [] }
     requires found { subcommand_rows_of matches.now ≡ subcommand_of (program standing) (map string_bytes words.now) }
@@ -127,7 +128,7 @@ fn task_of<'a>(words: &'a [String], matches: &ArgMatches<'a>) -> Task<'a>
     }
 }
 
-// The run of a trace that was found.
+// The arguments of `replay` or `race` in what the parser found.
 fn trace_run<'a>(found: &ArgMatches<'a>) -> TraceRun<'a>
     requires { HasRun (found_of found.now) }
     ensures run { IsRunFound (found_of found.now) (run_of result) }
@@ -142,7 +143,7 @@ fn trace_run<'a>(found: &ArgMatches<'a>) -> TraceRun<'a>
     }
 }
 
-// The text of help, or the version, where that is what the parser answers, and else its error.
+// If the parser answers with help or the version, the task that prints it; else its error.
 fn answer_task<'a>(alloc: Global, error: Error) -> Result<Task<'a>, Error>
     ensures answer { IfOk result (IsAnswerOf (kind_of error)) }
     ensures error { IfErr result (λ told. (kind_of told ≡ OutOfMemory) ⊎ (kind_of told ≡ kind_of error)) }
@@ -170,7 +171,7 @@ fn command<'a>(alloc: Global) -> Made<'a>
     with_command(auditing, next_command(alloc))
 }
 
-// The program with one command more.
+// Adds a command to the program.
 fn with_command<'a>(program: Made<'a>, command: Made<'a>) -> Made<'a>
     ensures { (app added : App) → IfOk program.entry (λ made. app_of made ≡ app) → IfOk command.entry (λ made. app_of made ≡ added) → added.top.is_plain ≡ true
         → IfOk result (λ made. app_of made ≡ with_subcommand app added.top) }

@@ -34,12 +34,12 @@ module _ {R : Type 0} (given told : R → Type 0) (remaining : R → Option (Lis
         (λ heap file. (file.0, file.1, (file.2.0, file.2.1, file.2.2, f heap file.2.0 file.2.3))) image,
   )
 
-  -- a dump that passed still has where the output is flushed behind its line
+  -- a dump that passed still has if the output is flushed after its line
   pub flushed_audit : (before between after : Option (List ℕ)) → Keeps between after → SomeAudit given told remaining (Passes before between) → SomeAudit given told remaining (Passes before after)
   flushed_audit before between after kept passed = weaker (Passes before between) (Passes before after)
       (λ heap dump h. record { judged = h.judged; printed = Appends-kept before between after _ h.printed kept }) passed
 
-  -- and where it is not
+  -- and if it is not
   pub unflushed_audit : (before between : Option (List ℕ)) → SomeAudit given told remaining (Passes before between) → SomeAudit given told remaining (λ heap dump. Judges (faults heap dump) Yes)
   unflushed_audit before between passed = weaker (Passes before between) (λ heap dump. Judges (faults heap dump) Yes) (λ heap dump h. h.judged) passed
 

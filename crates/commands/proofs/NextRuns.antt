@@ -21,7 +21,7 @@ use Rattle.commands.specs.declared.cycling.Cycled.{Cycled}
 pub marks_uncounted : {S : Type 0} (unmarked : Type 0) (handed : S → Type 0) (rest : S → Option (List ℕ)) (n : ℕ) (refusal : Refusal) → RefusesMarksAt unmarked handed rest refusal → CountsPrint {T = Unit {0}} n n (Err refusal)
 marks_uncounted unmarked handed rest n refusal h = uncounted_by n n refusal refl (λ e. (subst (RefusesMarksAt unmarked handed rest) e h).2)
 
--- no image was created where none was begun
+-- no image was created, since none was begun
 pub unmade_anyway : {D : Type 0} (dumps : D) (result : Result (Unit {0}) Refusal) → RefusedUnmade dumps dumps result
 unmade_anyway dumps (Ok _) = tt
 unmade_anyway dumps (Err refusal) = unmade dumps refusal
@@ -75,7 +75,7 @@ module _ {W : Type 0} (lacks : Type 0) (gives : W → Type 0) (contents : W → 
   made_err (Ok cycled) h u refusal w = inr (cycled.shown.items, cycled.plan, h, w)
   made_err (Err halted) h u refusal w = inl (halted, u, w)
 
--- What the command did, where the output is flushed after it, or is not.
+-- What the command did, whether the output is flushed after it or not.
 module _ {R S W : Type 0} (given : R → Type 0) (remaining : R → Option (List ℕ)) (told handed : S → Type 0) (rest : S → Option (List ℕ)) (gives : W → Type 0) (contents : W → Option (List ℕ))
     (mutators fresh : ℕ) (before between after : Option (List ℕ)) where
   pub flushed_next : Keeps between after → MakesNext given remaining told handed rest gives contents mutators fresh before between → MakesNext given remaining told handed rest gives contents mutators fresh before after

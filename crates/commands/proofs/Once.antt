@@ -55,7 +55,7 @@ counted [] (y ∷ ys) bare = cc
 counted (x ∷ xs) [] bare = cc
 counted (x ∷ xs) (y ∷ ys) bare = omega (arith, counted xs ys (tails_are (unstamped_on x) (unstamped_on y) (map unstamped_on xs) (map unstamped_on ys) bare))
 
--- ---- dumps behind the same entries
+-- ---- dumps after the same entries
 
 same_page : (u : Setup) (added : List (ℕ × Entry)) (p : ℕ) (page found : BuiltPage) → IsPageAfter u added p (Some page) → IsPageAfter u added p (Some found) → page ≡ found
 same_page u added p page found x y =
@@ -80,7 +80,7 @@ same_moment end other added alike =
     ∙ ap (λ (l : List Shown). moment_with l other.added end.built other.registers) alike.shown
     ∙ ap (λ (l : List (ℕ × ℕ)). moment_with other.shown other.added l other.registers) alike.built
 
--- dumps behind the same moment are the same
+-- dumps after the same moment are equal
 same_dump : (u : Setup) (end : Moment) (dump second : Dumped) → IsDumpOfRun u end dump → IsDumpOfRun u end second → dump ≡ second
 same_dump u end dump second left right =
     let x = left.after in

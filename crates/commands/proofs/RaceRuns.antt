@@ -163,7 +163,7 @@ module _ {R S W : Type 0} (absent : Type 0) (given : R → Type 0) (remaining : 
   of_inputs kept refusal (inl h) = of_image refusal h
   of_inputs kept refusal (inr (heap, image, h)) = by_trace heap image kept refusal h
 
--- how a race was halted tells what it had shown
+-- why a race was halted determines what it had shown
 raced_by : (mutators fresh : ℕ) (lines : List Line) (shown : List Shown) (heap : Heap) (fault : TraceFault) → InterruptsRace mutators fresh lines shown heap fault → IsHaltedBy shown (Trace fault)
 raced_by mutators fresh lines shown heap (BadLine number) h = absurd h
 raced_by mutators fresh lines shown heap (NoSuchMutator number) h = absurd h
@@ -188,7 +188,7 @@ race_halted_by mutators fresh lines heap shown (NoSuchWord index) h = absurd h
 race_halted_by mutators fresh lines heap shown (BadMarks line) h = absurd h
 race_halted_by mutators fresh lines heap shown OutOfMemory h = h
 
--- What was done of a race, where the output is flushed behind it, or is not.
+-- What was done of a race, whether the output is flushed after it or not.
 module _ {R S W : Type 0} (given : R → Type 0) (remaining : R → Option (List ℕ)) (told : S → Type 0) (rest : S → Option (List ℕ)) (gives : W → Type 0) (contents : W → Option (List ℕ))
     (mutators fresh : ℕ) (before between after : Option (List ℕ)) where
   pub flushed_race : Keeps between after → SomeRun given remaining told rest mutators (Races gives contents mutators fresh before between)

@@ -51,7 +51,7 @@ replays gives contents mutators fresh before after lines shown f heap h written 
       (subst (PrintsRun before after shown) h.left.after.total printed);
 }
 
--- the lines of a text for so many roots, which are those of the heap
+-- the lines of a text for the number of the heap's roots
 pub some_text : {S : Type 0} (told : S → Type 0) (rest : S → Option (List ℕ)) (mutators roots other : ℕ) (lines : List Line) → roots ≡ other → SomeGiven told rest (IsTextOf mutators roots lines)
     → SomeGiven told rest (IsTextOf mutators other lines)
 some_text told rest mutators roots other lines e given = subst (λ (r : ℕ). SomeGiven told rest (IsTextOf mutators r lines)) e given
@@ -243,7 +243,7 @@ unprinted_halt before (NoSuchWord index) = Keeps-refl before
 unprinted_halt before (BadMarks line) = Keeps-refl before
 unprinted_halt before OutOfMemory = Keeps-refl before
 
--- nothing printed is nothing changed
+-- if nothing was printed, the output is as it was
 appends_none : (a b : Option (List ℕ)) → Appends a b [] → Keeps a b
 appends_none None b h = tt
 appends_none (Some x) None h = absurd h
@@ -252,7 +252,7 @@ appends_none (Some x) (Some y) h = h ∙ append-nil x
 pub none_printed : (before after : Option (List ℕ)) (shown : List Shown) → shown ≡ [] → Appends before after (shown_lines shown) → Keeps before after
 none_printed before after shown none printed = appends_none before after (subst (λ (values : List Shown). Appends before after (shown_lines values)) none printed)
 
--- how a run was halted tells what it had shown
+-- why a run was halted determines what it had shown
 cut_by : (u : Setup) (lines : List Line) (shown : List Shown) (fault : TraceFault) → CutsShort u lines shown fault → IsHaltedBy shown (Trace fault)
 cut_by u lines shown (BadLine number) h = absurd h
 cut_by u lines shown (NoSuchMutator number) h = absurd h
@@ -277,7 +277,7 @@ halted_by mutators fresh lines heap shown (NoSuchWord index) h = absurd h
 halted_by mutators fresh lines heap shown (BadMarks line) h = absurd h
 halted_by mutators fresh lines heap shown OutOfMemory h = h
 
--- what a halted run leaves of the output, where what it had shown was printed
+-- what a halted run leaves of the output, if what it had shown was printed
 pub halt_counted : (shown : List Shown) (old new : ℕ) (refusal : Refusal) → new ≡ old → IsHaltedBy shown refusal → CountsPrint {T = Unit {0}} old new (Err refusal)
 halt_counted shown old new refusal same h = uncounted_by old new refusal same (λ e. subst (IsHaltedBy shown) e h)
 
@@ -336,7 +336,7 @@ pub dumped_same : (mutators fresh : ℕ) (f : Finished) (dump : Dumped) → dump
 dumped_same mutators fresh f dump ee em en er ep eb et =
     same_parts dump.edition (edition_in f) dump.mutators mutators dump.fresh fresh dump.total (live_of f) dump.roots (roots_of f) dump.pages (map record_of (pages_of f)) dump.builds (builds_in f) ee em en er ep eb et
 
--- The values of a run are printed, and then its live words. Where the last line is not, a call of the output failed, and the dump had been written.
+-- A run prints its values, then its live words. If these fail, the dump was written, and a call of the output failed.
 pub printed_run : (before between after : Option (List ℕ)) (values line : List ℕ) (result : Result (Unit {0}) Refusal) → Appends before between values → OnOk result (Appends between after line)
     → OnOk result (Appends before after (values ++ line))
 printed_run before between after values line (Ok _) printed last = Appends-trans before between after values line printed last
@@ -358,7 +358,7 @@ unprinted_line before after (Err refusal) cause =
 pub of_unprinted : (result : Result (Unit {0}) Refusal) (refusal : Refusal) → result ≡ Err refusal → result ≡ Err CannotPrint → refusal ≡ CannotPrint
 of_unprinted result refusal is cause = cc
 
--- What was done of a run, where the output is flushed behind it, or is not.
+-- What was done of a run, whether the output is flushed after it or not.
 module _ {R S W : Type 0} (given : R → Type 0) (remaining : R → Option (List ℕ)) (told : S → Type 0) (rest : S → Option (List ℕ)) (gives : W → Type 0) (contents : W → Option (List ℕ))
     (mutators fresh : ℕ) (before between after : Option (List ℕ)) where
   pub flushed_run : Keeps between after → SomeRun given remaining told rest mutators (Replays gives contents mutators fresh before between)

@@ -1,4 +1,4 @@
--- A walk along the lines of a trace, by which what several runs showed is told in the order of the lines.
+-- A walk along the lines of a trace, which takes what several runs showed in the order of the lines.
 use Rattle.std.proofs.Common.{◌≡◌, ◌≢◌, ℕ, zero, suc, ◌+◌, ◌<◌, ◌≤◌, ◌⊎◌, ◌==◌, if◌then◌else◌, Bool, true, false, cond, List, [], ◌∷◌, ◌++◌, Option, Some, None, length, drop, get_or, set, replicate, take, refl, sym, ap, subst, ◌∙◌, inl, inr, ⊎_elim, arith, eqb, eq-eqb, drop-cons, append_assoc}
 use Rattle.std.proofs.Math.ListN.{get_or-eq_default}
 use Rattle.std.proofs.lemmas.Bool.{cases_lt, le-ltb, lt-ltb, ne_eqb}
@@ -28,12 +28,13 @@ abbrev pub listed : Option Shown → List Shown
 listed None = []
 listed (Some value) = value ∷ []
 
--- these values, without the first one where it was told
+-- these values, without the first one if it was taken
 abbrev pub untold : Option Shown → List Shown → List Shown
 untold None values = values
 untold (Some value) values = drop 1 values
 
--- From line n on, where the mutators have these values left: at each line, the first one that its mutator has left, if it is of that line.
+-- From line n on, if the mutators have these values left: at each line, the first value that its mutator has left, if
+-- it is of that line.
 abbrev pub walked : ℕ → List Line → (ℕ → List Shown) → List Shown
 walked n [] left = []
 walked n (line ∷ lines) left =
@@ -46,7 +47,7 @@ shown_by [] k = []
 shown_by (run ∷ runs) zero = run.shown.items
 shown_by (run ∷ runs) (suc k) = shown_by runs k
 
--- what runs have left of what they showed, where so many values of each were told
+-- what runs have left of what they showed, after these numbers of values were taken of each
 abbrev pub left_of : List Run → List ℕ → ℕ → List Shown
 left_of runs next k = drop (get_or next k 0) (shown_by runs k)
 
@@ -109,7 +110,7 @@ tells_is n P value here other = ⊎_elim
     (λ (z : (eqb value.line n ≡ false) × (value.line ≢ n)). subst (λ (b : Bool). P (if b then Some value else None)) (sym z.0) (other z.1))
     (eqb_tells value.line n)
 
--- what its mutator has then left is of the lines behind it
+-- what its mutator then has left is of the lines after it
 left_behind : (n : ℕ) (line : Line) (lines : List Line) (m : ℕ) (values : List Shown) → AreOf ((n, line) ∷ own_lines m (numbered (n + 1) lines)) values
     → AreOf (own_lines m (numbered (n + 1) lines)) (untold (told_of n values) values)
 left_behind n line lines m [] h = no_values (own_lines m (numbered (n + 1) lines))
@@ -125,7 +126,7 @@ abbrev HaveOwn : ℕ → List Line → (ℕ → List Shown) → Type 0
 HaveOwn n lines left = (k : ℕ) → AreOf (own_lines k (numbered n lines)) (left k)
 
 module _ (n : ℕ) (line : Line) (lines : List Line) (left : ℕ → List Shown) where
-  -- what the line's mutator has left behind it, and what each has
+  -- what the line's mutator has left after it, and what each has
   abbrev behind : List Shown
   behind = untold (told_of n (left line.mutator)) (left line.mutator)
 
@@ -145,7 +146,7 @@ module _ (n : ℕ) (line : Line) (lines : List Line) (left : ℕ → List Shown)
       subst (AreOf (own_lines k (numbered (n + 1) lines))) (sym (but-other left m behind k ne)) own_k)
       (same_or_not k line.mutator)
 
--- ---- what a walk tells
+-- ---- what a walk answers
 rise_lower : (low lower : ℕ) (values : List Shown) → lower ≤ low → LinesRise low values → LinesRise lower values
 rise_lower low lower [] le h = tt
 rise_lower low lower (value ∷ values) le h = (omega (arith, le, h.0), h.1)
@@ -171,7 +172,7 @@ untold_in n [] x i = absurd i
 untold_in n (value ∷ values) x i = tells_is n (λ (o : Option Shown). In x (untold o (value ∷ values)) → In x (value ∷ values)) value
     (λ (e : value.line ≡ n) (t : In x values). inr t) (λ (ne : value.line ≡ n → ⊥) (t : In x (value ∷ values)). t) i
 
--- The values rise with their lines, and are just what the mutators have left.
+-- The values rise with their lines, and are exactly those that the mutators have left.
 record IsWalk (n : ℕ) (left : ℕ → List Shown) (values : List Shown) : Type 0 where
   rise : LinesRise n values
   from : (x : Shown) → In x values → (k : ℕ) × In x (left k)
@@ -217,7 +218,7 @@ shown_at_run [] k run e = absurd (some-ne-none run (sym e))
 shown_at_run (other ∷ runs) zero run e = ap (λ (r : Run). r.shown.items) (some-injective other run e)
 shown_at_run (other ∷ runs) (suc k) run e = shown_at_run runs k run e
 
--- the walk along all lines tells what all runs showed
+-- the walk along all lines answers what all runs showed
 pub told_by_line : (lines : List Line) (runs : List Run) → AreOwn lines runs → AreByLine runs (walked 1 lines (shown_by runs))
 told_by_line lines runs own =
     let h = walk_is 1 lines (shown_by runs)
@@ -265,7 +266,7 @@ left_more runs next m lt = λ i k. left_more_at runs next m lt k i
 pub left_same : (runs : List Run) (next : List ℕ) (m : ℕ) → left_of runs next ≡ but (left_of runs next) m (left_of runs next m)
 left_same runs next m = λ i k. left_same_at runs next m k i
 
--- nothing was told yet
+-- nothing was taken yet
 pub left_all : (runs : List Run) → left_of runs (replicate 64 0) ≡ shown_by runs
 left_all runs = λ i k. ap (λ (n : ℕ). drop n (shown_by runs k)) (zero_at 64 k) i
 
@@ -274,7 +275,7 @@ shown_there [] k d lt = absurd (omega arith)
 shown_there (run ∷ runs) zero d lt = refl
 shown_there (run ∷ runs) (suc k) d lt = shown_there runs k d (omega arith)
 
--- how many values of each run were told behind this one
+-- how many values of each run were taken after this one
 abbrev pub told_behind : Option Shown → List ℕ → ℕ → List ℕ
 told_behind None next m = next
 told_behind (Some value) next m = set next m (get_or next m 0 + 1)
@@ -284,7 +285,7 @@ left_behind_line : (runs : List Run) (next : List ℕ) (m : ℕ) (value : Option
 left_behind_line runs next m None lt = sym (left_same runs next m)
 left_behind_line runs next m (Some value) lt = sym (left_more runs next m lt)
 
--- what was told and what is still to be told stay the same behind a line
+-- what was taken and what is still to be taken stay the same after a line
 pub walk_on : (lines : List Line) (runs : List Run) (next : List ℕ) (at m : ℕ) (d : Line) (run : Run) (value : Option Shown) (out all : List Shown)
     → at < length lines → (let line : Line = get_or lines at d in m ≡ line.mutator) → m < length next → m < length runs → run ≡ get_or runs m run
     → value ≡ told_of (at + 1) (drop (get_or next m 0) run.shown.items) → out ++ walked (at + 1) (drop at lines) (left_of runs next) ≡ all

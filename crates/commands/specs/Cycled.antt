@@ -17,38 +17,39 @@ use Rattle.comp_trace.specs.Line.{Line}
 use Rattle.command_io.specs.declared.refusal.Refusal.{Refusal}
 use Rattle.command_io.specs.declared.refusal.Refusal.TheVariants.{Layout, Mutator, OutOfMemory, Trace}
 
--- the cycle that began with this heap is a chapter of the life of a heap whose objects never move, wherever that stood
+-- if a heap whose objects never move stands for this heap, the cycle is a chapter of its life
 abbrev pub IsChapterOf : Heap → Cycle → Type 0
 IsChapterOf heap c = (numbers : List ℕ) (stable : StableHeap) → IsToldAs heap numbers stable → IsChapter c numbers stable
 
--- With these marks, this heap follows what is left of one.
+-- with these marks, this heap follows what is left of a cycle
 pub record IsNextHeap (heap : Heap) (f : Finished) (marks : List ℕ) (next : Heap) : Type 0 where
   pub cycle : IsCycleOf heap (cycle_of heap f marks)
   pub chapter : IsChapterOf heap (cycle_of heap f marks)
   pub next_is : next ≡ heap_after (cycle_of heap f marks)
 
--- why none does: the first fault of that heap, or a growth was refused
+-- why no heap follows: this is its first fault, or memory ran out
 abbrev pub IsUnmarked : Heap → Finished → List ℕ → Refusal → Type 0
 IsUnmarked heap f marks (Layout fault) = IsRefusedFor (next_faults (setup_in heap f) (journals_of f) (heap_after (cycle_of heap f marks))) fault
 IsUnmarked heap f marks OutOfMemory = Unit {0}
 IsUnmarked heap f marks _ = ⊥
 
--- One thread ran these lines over the heap, which showed these values; and with these marks, the cycle was followed by this heap.
+-- One thread ran these lines over the heap, and they showed these values; with these marks, this heap followed the
+-- cycle.
 pub record IsCycledHeap (mutators fresh : ℕ) (lines : List Line) (shown : List Shown) (marks : List ℕ) (heap next : Heap) : Type 0 where
   pub cycle : Cycle
   pub part : IsPart mutators fresh lines shown marks heap cycle
   pub chapter : IsChapterOf heap cycle
   pub next_is : next ≡ heap_after cycle
 
--- One thread ran these lines over the heap; and with these marks no heap follows what is left, for this fault.
+-- One thread ran these lines over the heap; with these marks no heap follows what is left, for this fault.
 pub record IsNotFollowed (mutators fresh : ℕ) (lines : List Line) (marks : List ℕ) (heap : Heap) (fault : LayoutFault) : Type 0 where
   pub shown : List Shown
   pub left : Finished
   pub run : IsLastRun mutators fresh lines shown heap left
   pub refused : IsRefusedFor (next_faults (setup_in heap left) (journals_of left) (heap_after (cycle_of heap left marks))) fault
 
--- why the cycle does not come to its end, and what was shown until then: a line was refused, or the marks were; or there was no memory for a plan, or for the flip or the finish,
--- where a mutator is refused
+-- why the cycle does not come to its end, and what was shown until then: a line was refused, or the marks were, or
+-- memory ran out for a plan, for the flip or for the finish (there a mutator is refused)
 abbrev pub IsUncycled : ℕ → ℕ → List Line → List Shown → List ℕ → Heap → Refusal → Type 0
 IsUncycled mutators fresh lines shown marks heap (Trace fault) = CutsShort (flipped heap mutators fresh) lines shown fault
 IsUncycled mutators fresh lines shown marks heap (Layout fault) = (shown ≡ []) × IsNotFollowed mutators fresh lines marks heap fault

@@ -36,8 +36,9 @@ use Rattle.command_io.specs.declared.refusal.Refusal.TheVariants.{CannotCreate, 
 
 -- ---- what is left of a race
 
--- Each mutator of a flipped heap, which had done nothing yet, ran its own lines: those before its refused one, or all. Their table is about this very heap. The row has
--- what each had seen and done in the end, and `runs` what its lines showed, and the refused one.
+-- Each mutator of a flipped heap, new before, ran its own lines: all of them, or those before its refused one. Their
+-- table is about this heap. `row` has what each mutator had seen and done at the end, and `runs` what its lines
+-- showed, and its refused line, if any.
 pub record HaveRun (u : Setup) (lines : List Line) (row : List Pass) (runs : List Run) : Type 0 where
   pub table : Steps
   pub about : about table ≡ u
@@ -48,20 +49,22 @@ pub record HaveRun (u : Setup) (lines : List Line) (row : List Pass) (runs : Lis
   pub ran : (k : ℕ) (old now : Pass) (run : Run) → get_elem? before k ≡ some old → get_elem? row k ≡ some now → get_elem? runs k ≡ some run
       → Ran u (own_lines k (numbered 1 lines)) old now run.shown.items run.fault
 
--- The heap was flipped for so many mutators, with so many fresh pages; each ran its own lines, all of them; together they showed these values; and the heap was
--- finished with what they had done.
+-- The heap was flipped for these numbers of mutators and fresh pages; each mutator ran all its own lines; together
+-- they showed these values; and the heap was finished with what they had done.
 pub record IsRacedHeap (mutators fresh : ℕ) (lines : List Line) (shown : List Shown) (f : Finished) (heap : Heap) : Type 0 where
   pub row : List Pass
   pub runs : List Run
   pub ran : HaveRun (flipped heap mutators fresh) lines row runs
   pub ended : Each runs HasEnded
   pub in_order : AreByLine runs shown
-  -- what is known of the heap at the end: each page is what its journal makes of its base, what each mutator did stands in them, and all have one history
+  -- the heap at the end: each page is what its journal makes of its base, the journals have all that the mutators did,
+  -- and all entries have one history
   pub finished : IsFinished (flipped heap mutators fresh) row f
-  -- its dump, behind that history
+  -- its dump, after that history
   pub left : IsDumpAfter (flipped heap mutators fresh) (history_of (flipped heap mutators fresh) f) (dumped_of mutators fresh f)
 
--- Each mutator ran its own lines to the end, or to its refused one. This one is the least of these, and the values are those of all mutators until then.
+-- Each mutator ran its own lines to the end, or to its refused one. This refused line is the least of all, and the
+-- values are those that each mutator showed until its end.
 pub record IsStoppedRace (mutators fresh : ℕ) (lines : List Line) (shown : List Shown) (heap : Heap) (number : ℕ) (refusal : CallRefusal) : Type 0 where
   pub row : List Pass
   pub runs : List Run
@@ -69,22 +72,23 @@ pub record IsStoppedRace (mutators fresh : ℕ) (lines : List Line) (shown : Lis
   pub first : IsLeastStop runs (record { line = number; refusal = refusal })
   pub in_order : AreByLine runs shown
 
--- why the lines did not all run: one was refused, or memory was wanted before the first one
+-- why not all lines ran: one was refused, or memory ran out before the first
 abbrev pub InterruptsRace : ℕ → ℕ → List Line → List Shown → Heap → TraceFault → Type 0
 InterruptsRace mutators fresh lines shown heap (faults.Refused number refusal) = IsStoppedRace mutators fresh lines shown heap number refusal
 InterruptsRace mutators fresh lines shown heap faults.OutOfMemory = shown ≡ []
 InterruptsRace mutators fresh lines shown heap _ = ⊥
 
--- why the lines were not run to their end, or the heap was not finished, and what was shown until then: a line was refused, or memory was wanted
+-- why the lines were not run to their end, or the heap was not finished, and what was shown until then: a line was
+-- refused, or memory ran out
 abbrev pub IsHaltedRace : ℕ → ℕ → List Line → List Shown → Heap → Refusal → Type 0
 IsHaltedRace mutators fresh lines shown heap (Trace fault) = InterruptsRace mutators fresh lines shown heap fault
 IsHaltedRace mutators fresh lines shown heap (Mutator refusal) = (refusal ≡ refusals.OutOfMemory) × (shown ≡ [])
 IsHaltedRace mutators fresh lines shown heap OutOfMemory = shown ≡ []
 IsHaltedRace mutators fresh lines shown heap _ = ⊥
 
--- ---- what the command does, from the lines of its trace and the heap of its image
+-- ---- what the command does, by the lines of its trace and the heap of its image
 
--- The race of these lines over this heap, and what was left of it.
+-- the race of these lines over this heap, and what it left
 pub record HasRace (mutators fresh : ℕ) (lines : List Line) (heap : Heap) : Type 0 where
   pub shown : List Shown
   pub left : Finished
@@ -94,18 +98,20 @@ pub record HasRace (mutators fresh : ℕ) (lines : List Line) (heap : Heap) : Ty
 abbrev pub dump_of_race : {mutators fresh : ℕ} {lines : List Line} {heap : Heap} → HasRace mutators fresh lines heap → List ℕ
 dump_of_race {mutators} {fresh} race = dump_bytes (dumped_of mutators fresh race.left)
 
--- The trace was raced over the heap: the dump was written, and then the values of its `get` lines were printed, and the live words.
+-- The trace was raced over the heap: the dump was written, and then the values of the `get` lines and the live words
+-- were printed.
 pub record Races {W : Type 0} (gives : W → Type 0) (contents : W → Option (List ℕ)) (mutators fresh : ℕ) (before after : Option (List ℕ)) (lines : List Line) (heap : Heap) : Type 0 where
   pub race : HasRace mutators fresh lines heap
   pub written : WritesWhole gives contents (dump_of_race race)
   pub printed : PrintsRun before after race.shown (live_of race.left)
 
--- what was printed, between these two contents of the output, are the values of a trace that was raced over the heap, and the live words
+-- what was printed, between these two contents of the output, are the values of a trace that was raced over the heap,
+-- and the live words
 abbrev pub PrintsRace : ℕ → ℕ → Option (List ℕ) → Option (List ℕ) → Heap → Type 0
 PrintsRace mutators fresh before after heap = (text : List ℕ) × (lines : List Line) × HasLines mutators (length heap.roots) lines text
     × (race : HasRace mutators fresh lines heap) × PrintsRun before after race.shown (live_of race.left)
 
--- lines were refused, or there was no memory for the values: what was shown was printed
+-- lines were refused, or memory for the values ran out: what was shown was printed
 abbrev pub StopsRace : ℕ → ℕ → Option (List ℕ) → Option (List ℕ) → TraceFault → List Line → Heap → Type 0
 StopsRace mutators fresh before after fault lines heap =
     (shown : List Shown) × IsHaltedRace mutators fresh lines shown heap (Trace fault) × Appends before after (shown_lines shown)
@@ -123,8 +129,8 @@ RefusesRacing lacks gives contents mutators fresh before after CannotPrint lines
 RefusesRacing lacks gives contents mutators fresh before after OutOfMemory lines heap = Unit {0}
 RefusesRacing lacks gives contents mutators fresh before after _ lines heap = ⊥
 
--- why the command is refused: there is no image, or it is refused; or there is no trace for its heap, or it is refused, and nothing was printed; or the race is; or
--- a growth was refused
+-- why the command is refused: there is no image, or it is refused; or there is no trace for its heap, or it is
+-- refused, and nothing was printed; or the race is refused; or memory ran out
 abbrev pub RefusesRace : {R S W : Type 0} → Type 0 → (R → Type 0) → (R → Option (List ℕ)) → Type 0 → (S → Type 0) → (S → Option (List ℕ)) → Type 0 → (W → Type 0) → (W → Option (List ℕ))
     → ℕ → ℕ → Option (List ℕ) → Option (List ℕ) → Refusal → Type 0
 RefusesRace absent given remaining missing told rest lacks gives contents mutators fresh before after (CannotOpen inputs.Image) = absent

@@ -16,7 +16,7 @@ use std::alloc::Global;
 use std::io::{Read, Write};
 use std::thread::Threads;
 
-/// Judges the dump at a path: where it is one that a compaction of the heap can have left whose image lies at another, its live words are printed.
+/// Audits the dump at `dump` against the heap image at `image`, and prints the live words if the dump is lawful.
 pub fn print_audit<I: Images, O: Write>(
     alloc: Global,
     rt: &(impl Threads + Sync),
@@ -37,7 +37,7 @@ pub fn print_audit<I: Images, O: Write>(
     print_line("ok ", words, out)
 }
 
-// The live words of the dump at a path, which is one that a compaction of the heap can have left whose image lies at another. The image is read first.
+// The live words of the dump at `dump`, if it is lawful for the heap image at `image`. The image is read first.
 fn audited_at<I: Images>(
     alloc: Global,
     rt: &(impl Threads + Sync),
@@ -56,7 +56,7 @@ fn audited_at<I: Images>(
     }
 }
 
-// Whether a dump is one that a compaction of the heap can have left. The only refusal is for want of memory.
+// Whether a compaction of the heap can have left the dump. It fails only if memory runs out.
 fn verdict_of(
     alloc: Global,
     rt: &(impl Threads + Sync),
@@ -70,7 +70,7 @@ fn verdict_of(
     Ok(audit(alloc, &plan, dump)?)
 }
 
-// The dump that lies at a path, where the images lie.
+// Reads the dump at a path. `images` opens it.
 fn dump_at<I: Images>(alloc: Global, images: &I, path: &str) -> Result<Dump<'static>, Refusal>
     ensures dump { IfOk result (λ dump. SomeGiven (I.gives images.now path.now) I.Reader.remaining (IsDumpIn (λ other. other ≡ dump))) }
     ensures cause { IfErr result (RefusesDumpAt (I.lacks images.now path.now) (I.gives images.now path.now) I.Reader.remaining) }
@@ -91,7 +91,7 @@ fn open_dump<I: Images>(images: &I, path: &str) -> Result<I::Reader, Refusal>
     }
 }
 
-/// The dump that is all that the reader has left.
+/// Reads a dump to the end of the reader.
 pub fn dump_in<R: Read>(alloc: Global, r: &mut Counted<R>) -> Result<Dump<'static>, Refusal>
     requires read { failures_of r.old < 2 ^ 64 - 1 }
     ensures dump { IfOk result (λ dump. IsDumpIn (λ other. other ≡ dump) (R.remaining (inner_of r.old))) }

@@ -1,10 +1,11 @@
-//! What several runs of a race showed, and which of their lines was refused first, by the numbers of the lines.
+//! Joins the runs of a race: their values in the order of the lines, and the least refused line.
 ghost use Rattle.std.specs.Prelude.{◌≡◌, ℕ, ◌+◌, ◌<◌, ◌≤◌, [], All, drop, length, vec_capacity, IfSome};
 ghost use Rattle.commands.specs.ByLine.{earlier_of, told_of, AreByLine, AreOwn, IsFirstStop};
 
 use comp_trace::{Line, Run, Shown, Stop};
 
-/// The values of all runs, in the order of their lines, of which each has its own. There are 64 runs at most.
+/// All values that the runs showed, in the order of their lines. `runs` has the run of each mutator over its own
+/// lines, at most 64 of them. `shown` is empty, and has room for one value of each line.
 pub fn by_line(lines: &[Line], runs: &[Run], mut shown: Vec<Shown>) -> Vec<Shown>
     requires own { AreOwn lines.now runs.now }
     requires inside { All (λ line. line.mutator < length runs.now) lines.now }
@@ -23,7 +24,7 @@ pub fn by_line(lines: &[Line], runs: &[Run], mut shown: Vec<Shown>) -> Vec<Shown
     shown
 }
 
-// What a run showed after its first values, if it showed it for this line.
+// The value with index `from` of a run, if it is of this line.
 fn told(run: &Run, from: usize, line: u64) -> Option<Shown>
     ensures told { result ≡ told_of line (drop from run.now.shown.items) }
     ensures inside { IfSome result (λ _. from < length run.now.shown.items) }
@@ -47,7 +48,7 @@ pub fn first_stop(runs: &[Run]) -> Option<Stop>
     first
 }
 
-// The one with the lower number of two refused lines.
+// Of two refused lines the one with the lower number.
 fn earlier(first: Option<Stop>, other: Option<Stop>) -> Option<Stop>
     ensures { result ≡ earlier_of first other }
 {

@@ -24,7 +24,7 @@ use std::sync::ledger::{Blank, Ledger};
 use std::sync::{Arc, Wait};
 use std::thread::Threads;
 
-/// What is to be compacted: the image at a path, by so many workers, 1 to 64. The dump is written to its own path.
+/// What to compact: the path of the image, the path of the dump, and the number of workers, 1 to 64.
 #[derive(Clone, Copy, Debug)]
 pub struct Compaction<'a> {
     pub image: &'a str,
@@ -32,8 +32,10 @@ pub struct Compaction<'a> {
     pub workers: u8,
 }
 
-/// Compacts the heap whose image lies at a path: its pages are built by workers in threads of their own, the dump of what they left is written, and the live
-/// words are printed. The dump is created once the heap is finished, and the line printed once the dump is written.
+/// Compacts the heap whose image is at a path, writes the dump, and prints the live words.
+///
+/// Workers in threads of their own build the pages. The dump is created after the heap is finished, and the line is
+/// printed after the dump is written.
 pub fn print_compact<R: Threads + Wait + Sync, I: Images, D: Dumps, O: Write>(
     alloc: Global,
     rt: &R,
@@ -59,7 +61,7 @@ pub fn print_compact<R: Threads + Wait + Sync, I: Images, D: Dumps, O: Write>(
     print_line("live ", dump.live_words(), out)
 }
 
-/// The finished heap whose image lies at a path, swept by so many workers.
+// Reads the heap whose image is at a path, sweeps it by 1 to 64 workers, and finishes it.
 fn swept_at<R: Threads + Wait + Sync, I: Images>(
     alloc: Global,
     rt: &R,
@@ -76,7 +78,7 @@ fn swept_at<R: Threads + Wait + Sync, I: Images>(
     swept_in(alloc, rt, &mut reader, workers)
 }
 
-// The finished heap whose image is all that the reader has left, swept by so many workers, 1 to 64.
+// Reads the heap whose image is left in the reader, sweeps it by 1 to 64 workers, and finishes it.
 fn swept_in<S: Read, R: Threads + Wait + Sync>(
     alloc: Global,
     rt: &R,
@@ -95,7 +97,8 @@ fn swept_in<S: Read, R: Threads + Wait + Sync>(
     swept(alloc, rt, plan, workers)
 }
 
-/// The finished heap of a plan, swept by so many workers, 1 to 64: each page of the slid words is there, and nobody wrote.
+/// Sweeps the heap of a plan by 1 to 64 workers, and finishes it. Then each page of the slid words was built, and
+/// nobody wrote.
 pub fn swept<R: Threads + Wait + Sync>(
     alloc: Global,
     rt: &R,
@@ -113,7 +116,7 @@ pub fn swept<R: Threads + Wait + Sync>(
     flipped_and_swept::<Brand, R>(alloc, rt, Blank::new(u64::from(workers)), plan, workers)
 }
 
-// The finished heap of a plan, flipped for so many mutators with no fresh page, and swept by them.
+// Flips the heap of a plan for `workers` mutators with no fresh page, sweeps it by them, and finishes it.
 fn flipped_and_swept<L: Ledger + Send, R: Threads + Wait + Sync>(
     alloc: Global,
     rt: &R,
@@ -136,7 +139,7 @@ fn flipped_and_swept<L: Ledger + Send, R: Threads + Wait + Sync>(
     }
 }
 
-// Sweeps a space by all its mutators, who did nothing yet, and finishes it.
+// Sweeps a space by all its mutators, which did nothing yet, and finishes it.
 fn sweep_and_finish<L: Ledger + Send, R: Threads + Wait + Sync>(
     alloc: Global,
     rt: &R,

@@ -1,4 +1,4 @@
-//! A heap over which a trace is run, and the heap with which the next cycle begins.
+//! Runs a trace over a heap, and makes the heap with which the next cycle begins.
 ghost use Rattle.std.specs.Prelude.{◌≤◌, IfErr, IfOk, length};
 ghost use Rattle.comp_mutator.specs.Ends.{IsEndOf};
 ghost use Rattle.comp_trace.specs.CycleRuns.{IsParsedFor};
@@ -15,7 +15,7 @@ use std::alloc::Global;
 use std::sync::Arc;
 use std::thread::Threads;
 
-/// A cycle that is followed by another.
+/// A cycle, and what the next cycle begins with.
 #[derive(Drop)]
 pub struct Cycled {
     /// The values that the `get` lines showed, in the order of the lines.
@@ -24,11 +24,12 @@ pub struct Cycled {
     pub plan: Plan,
 }
 
-/// Flips a heap, runs a trace over it by one thread, finishes it, and makes with these marks the heap with which the next cycle begins. There are 1 to 64 mutators and at most
-/// 4,096 fresh pages, and the trace was parsed for these mutators and for the heap's number of roots.
+/// Flips a heap, runs a trace over it by one thread, finishes it, and makes the heap with which the next cycle begins,
+/// with these marks. There are 1 to 64 mutators and at most 4,096 fresh pages. The trace was parsed for these mutators
+/// and for the heap's number of roots.
 ///
-/// It is refused where a line is refused, and has the values of the lines before it then; where the marks are refused, by the first fault of that heap; and where a growth is
-/// refused. All but the first come with no value.
+/// It is refused if a line is refused, with the values of the lines before it; if the marks are refused, with the
+/// first fault of the next heap; and if memory runs out. The last two come with no value.
 pub fn cycle_heap(
     alloc: Global,
     rt: &(impl Threads + Sync),
@@ -64,7 +65,7 @@ pub fn cycle_heap(
     }
 }
 
-// The plan of the heap with which the next cycle begins, where the marks are accepted.
+// The plan of the heap with which the next cycle begins, if the marks are accepted.
 fn mark_anew(
     alloc: Global,
     rt: &(impl Threads + Sync),

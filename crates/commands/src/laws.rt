@@ -1,10 +1,10 @@
-//! Laws of the commands: they do nothing when the program runs.
+//! Laws of the commands. Each is the contract of a function that does nothing.
 ghost use Rattle.commands.specs.Replays.{ReplaysAreOne};
 
 use heap_layout::images_differ;
 
-/// What `replay` shows and writes is determined by the bytes of the image and of the trace, and by the numbers of mutators and of fresh pages: the values, and the whole
-/// dump, and so its bytes.
+/// The bytes of the image and of the trace and the numbers of mutators and of fresh pages determine what `replay`
+/// shows and writes: the values, the whole dump, and so its bytes.
 pub fn replays_are_one()
     ensures { ReplaysAreOne }
 {

@@ -1,4 +1,4 @@
-//! How the command `next` reads, writes and prints.
+//! The command `next`.
 ghost use Rattle.std.specs.Prelude.{◌≡◌, ◌-◌, ◌^◌, ◌<◌, ◌≤◌, IfErr, OnOk};
 ghost use Rattle.heap_layout.specs.Counted.{inner_of, failures_of, writer_of};
 ghost use Rattle.heap_layout.specs.Encoding.{encoding};
@@ -22,12 +22,16 @@ use std::alloc::Global;
 use std::io::Write;
 use std::thread::Threads;
 
-/// The command `next`. It reads the image, then the trace for its heap, and then the marks. It runs the trace over the heap by one thread, with 1 to 64 mutators and at most
-/// 4,096 fresh pages, and makes with the marks the next heap, with which the next cycle begins. It writes its image, and flushes it. Last it prints a line for each
-/// value that was shown, and the live words of that heap. It asks that fewer than `u64::MAX` calls of the output have failed.
+/// The command `next`.
 ///
-/// The first of these that is refused ends it. Where a line is refused, the values of the lines before it are printed. All other refusals before the printing print nothing.
-/// No image is created before the next heap was made. Where a call of the image's writer fails, that writer has taken a beginning of the image.
+/// It reads the image, then the trace for its heap, and then the marks. It runs the trace over the heap by one thread,
+/// with 1 to 64 mutators and at most 4,096 fresh pages. With the marks it makes the heap with which the next cycle
+/// begins, writes the image of that heap, and flushes it. Last it prints a line for each value that was shown, and the
+/// live words of that heap. Fewer than `u64::MAX` calls of the output must have failed before.
+///
+/// The first of these steps that is refused ends it. If a line is refused, the values of the lines before it are
+/// printed. Each other refusal before the printing prints nothing. The image is created only after the next heap was
+/// made. If a call of the image's writer fails, the writer has taken a beginning of the image.
 pub fn print_next<I: Images, T: Traces, D: Dumps, O: Write>(
     alloc: Global,
     rt: &(impl Threads + Sync),
@@ -72,7 +76,7 @@ pub fn print_next<I: Images, T: Traces, D: Dumps, O: Write>(
     write_made(dumps, asked.new, made, out)
 }
 
-// Writes and prints what was made. Of a run that was halted, prints what it had shown, and answers its refusal.
+// Writes and prints what was made. If the run was halted, prints what it had shown, and answers its refusal.
 fn write_made<D: Dumps, O: Write>(
     dumps: &mut D,
     path: &str,

@@ -14,7 +14,7 @@ use std::alloc::Global;
 use std::io::{Read, Write};
 use std::thread::Threads;
 
-/// Prints the plan of the heap whose image lies at a path.
+/// Prints the plan of the heap whose image is at a path.
 pub fn print_plan<I: Images, O: Write>(
     alloc: Global,
     rt: &(impl Threads + Sync),
@@ -34,8 +34,8 @@ pub fn print_plan<I: Images, O: Write>(
     print_plan_in(alloc, rt, &mut reader, out)
 }
 
-// Prints the plan of the heap whose image is all that the reader has left: the live words, the pages, the first object of each page and where each
-// root leads, a line each.
+// Prints the plan of the heap whose image is left in the reader, a line each for: the live words, the pages, the first
+// object of each page, and the address of each root after the flip.
 fn print_plan_in<R: Read, O: Write>(
     alloc: Global,
     rt: &(impl Threads + Sync),
@@ -57,7 +57,7 @@ fn print_plan_in<R: Read, O: Write>(
     write_plan(alloc, &plan, out)
 }
 
-// All lines of a plan.
+// Prints all lines of a plan.
 fn write_plan<O: Write>(
     alloc: Global,
     plan: &Plan,
@@ -76,7 +76,7 @@ fn write_plan<O: Write>(
     write_roots(&roots, out)
 }
 
-// The live words and the pages.
+// Prints the live words and the number of pages.
 fn write_counts<O: Write>(plan: &Plan, out: &mut Counted<&mut O>) -> Result<(), Refusal>
     requires { failures_of out.old < 2 ^ 64 - 1 }
     ensures printed { OnOk result (Appends (O.contents (inner_of out.old).now) (O.contents (inner_of out.new).now) (count_lines (live plan.now))) }
@@ -88,7 +88,7 @@ fn write_counts<O: Write>(plan: &Plan, out: &mut Counted<&mut O>) -> Result<(), 
     print_line("pages ", plan.pages(), out)
 }
 
-// The first object of each page.
+// Prints the first object of each page.
 fn write_pages<O: Write>(plan: &Plan, out: &mut Counted<&mut O>) -> Result<(), Refusal>
     requires { failures_of out.old < 2 ^ 64 - 1 }
     ensures printed { OnOk result (Appends (O.contents (inner_of out.old).now) (O.contents (inner_of out.new).now) (page_lines (live plan.now))) }
@@ -103,7 +103,7 @@ fn write_pages<O: Write>(plan: &Plan, out: &mut Counted<&mut O>) -> Result<(), R
     Ok(())
 }
 
-// Where each root leads.
+// Prints each root after the flip.
 fn write_roots<O: Write>(roots: &[u64], out: &mut Counted<&mut O>) -> Result<(), Refusal>
     requires { failures_of out.old < 2 ^ 64 - 1 }
     ensures printed { OnOk result (Appends (O.contents (inner_of out.old).now) (O.contents (inner_of out.new).now) (root_lines roots.now)) }

@@ -16,9 +16,12 @@ use std::io::Write;
 use std::sync::Wait;
 use std::thread::Threads;
 
-/// Races the trace at a path over the heap whose image lies at another, each mutator in a thread of its own where one can be had; the dump of what is left is
-/// written, and then the values that lines showed are printed, in the order of their lines, and the live words. Where lines are refused, the values of the others
-/// are printed, the refusal is that of the least line, and no dump is created.
+/// Runs a trace as a race over the heap whose image is at a path: each mutator runs its lines in a thread of its own,
+/// if one can be started. Then it writes the dump of the finished heap, and prints the values that lines showed, in
+/// the order of the lines, and the live words.
+///
+/// If lines are refused, it prints the values that all mutators had shown, refuses with the least of these lines, and
+/// creates no dump.
 pub fn print_race<R: Threads + Wait + Sync, I: Images, T: Traces, D: Dumps, O: Write>(
     alloc: Global,
     rt: &R,

@@ -1,4 +1,4 @@
-//! Heaps over which the mutators of a trace race.
+//! Races: heaps over which each mutator of a trace runs its lines in a thread of its own.
 ghost use Rattle.std.specs.Prelude.{◌≡◌, ℕ, ◌≤◌, List, map, length, IfOk, IfErr};
 ghost use Rattle.heap_layout.specs.Heap.{live};
 ghost use Rattle.page_plan.specs.Sliding.{pages};
@@ -23,11 +23,12 @@ use std::sync::ledger::{Blank, Ledger};
 use std::sync::{Arc, Wait};
 use std::thread::Threads;
 
-/// Flips a heap, lets the mutators of a trace run its lines side by side, each in a thread of its own where one can be had, and finishes the heap. The trace is one
-/// of these mutators and of the heap's roots.
+/// Flips a heap, lets the mutators of a trace run their lines concurrently, each in a thread of its own if one can be
+/// started, and finishes the heap. The trace was parsed for these mutators and for the heap's roots.
 ///
-/// The values are in the order of their lines. Where lines are refused, the refusal is that of the least one, and the values are those of all mutators until each
-/// came to its end. All other refusals are for want of memory, and come with no value.
+/// The values are in the order of their lines. If lines are refused, the refusal is that of the least of them, and the
+/// values are those that each mutator showed until it came to its end. Any other refusal is out of memory, and comes
+/// with no value.
 pub fn race_heap<R: Threads + Wait + Sync>(
     alloc: Global,
     rt: &R,
@@ -61,7 +62,7 @@ pub fn race_heap<R: Threads + Wait + Sync>(
     )
 }
 
-// The same of a plan, with the name of its ledger.
+// The same for a plan, with the name of its ledger.
 fn flipped_and_raced<L: Ledger + Send + Sync, R: Threads + Wait + Sync>(
     alloc: Global,
     rt: &R,
@@ -92,7 +93,8 @@ fn flipped_and_raced<L: Ledger + Send + Sync, R: Threads + Wait + Sync>(
     }
 }
 
-// Races a trace over a space whose mutators did nothing yet, and finishes the space. Room for all values together is asked for before the first line runs.
+// Races a trace over a space whose mutators did nothing yet, and finishes the space. Memory for all values is
+// allocated before the first line runs.
 fn race_and_finish<L: Ledger + Send + Sync, R: Threads + Wait + Sync>(
     alloc: Global,
     rt: &R,

@@ -22,8 +22,10 @@ use std::alloc::Global;
 use std::io::Write;
 use std::thread::Threads;
 
-/// Runs the trace at a path over the heap whose image lies at another, by one thread; the dump of what is left is written, and then the values that lines showed are
-/// printed, and the live words. Where a line is refused, the values of those before it are printed, and no dump is created.
+/// Runs a trace by one thread over the heap whose image is at a path. Then it writes the dump of the finished heap,
+/// and prints the values that lines showed, and the live words.
+///
+/// If a line is refused, it prints the values of the lines before it, and creates no dump.
 pub fn print_replay<I: Images, T: Traces, D: Dumps, O: Write>(
     alloc: Global,
     rt: &(impl Threads + Sync),
@@ -66,14 +68,14 @@ pub fn print_replay<I: Images, T: Traces, D: Dumps, O: Write>(
     write_outcome(alloc, dumps, asked, ran, out)
 }
 
-/// The heap that a run is asked for, and its trace.
+/// The heap and the trace of a run.
 #[derive(Drop)]
 pub struct Inputs {
     pub heap: MarkedHeap,
     pub trace: Trace,
 }
 
-/// The heap whose image lies at a path, and the trace for it whose text lies at another.
+/// Reads the heap whose image is at a path, and then the trace for it at another path.
 pub fn inputs_at<I: Images, T: Traces>(
     alloc: Global,
     images: &I,
@@ -94,7 +96,7 @@ pub fn inputs_at<I: Images, T: Traces>(
     Ok(Inputs { heap, trace })
 }
 
-/// Writes and prints what a run left. Of one that was halted, what it had shown is printed, and its refusal handed on.
+/// Writes and prints what a run left. If the run was halted, prints what it had shown, and answers its refusal.
 pub(crate) fn write_outcome<D: Dumps, O: Write>(
     alloc: Global,
     dumps: &mut D,
@@ -120,7 +122,7 @@ pub(crate) fn write_outcome<D: Dumps, O: Write>(
     }
 }
 
-/// Prints what a halted run had shown, sends it on, and answers its refusal.
+/// Prints what a halted run had shown, flushes the output, and answers the refusal of the run.
 pub fn print_halted<O: Write>(halted: &Halted, out: &mut Counted<&mut O>) -> Result<(), Refusal>
     requires halted { IsHaltedBy halted.now.shown.items halted.now.refusal }
     requires written { failures_of out.old < 2 ^ 64 - 1 }

@@ -1,4 +1,4 @@
-//! Heaps over which a trace is run by one thread.
+//! Heaps over which one thread runs a trace.
 ghost use Rattle.std.specs.Prelude.{◌≡◌, ◌≤◌, [], length, IfOk, IfErr};
 ghost use Rattle.comp_mutator.specs.Finishes.{IsOfFlip};
 ghost use Rattle.comp_trace.specs.Traces.{lines_of, mutators_of, roots_of};
@@ -13,7 +13,7 @@ use std::alloc::Global;
 use std::sync::Arc;
 use std::thread::Threads;
 
-/// A heap over which a trace was run, finished, and the values that the trace showed.
+/// A finished heap over which a trace was run, and the values that the trace showed.
 #[derive(Drop)]
 pub struct Replayed {
     pub shown: Vec<Shown>,
@@ -38,9 +38,11 @@ pub fn unshown(alloc: Global, refusal: Refusal) -> Halted
     }
 }
 
-/// Flips a heap, runs a trace over it by one thread, and finishes it. The trace is one of these mutators and of the heap's roots.
+/// Flips a heap, runs a trace over it by one thread, and finishes it. The trace was parsed for these mutators and for
+/// the heap's roots.
 ///
-/// Where a line is refused, the values are those of the lines before it. All other refusals are for want of memory, and come with no value.
+/// If a line is refused, the values are those of the lines before it. Any other refusal is out of memory, and comes
+/// with no value.
 #[tactic(auto, using(crate::proofs::DumpsAfter::replayed_heap))]
 pub fn replay_heap(
     alloc: Global,

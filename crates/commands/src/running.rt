@@ -27,17 +27,17 @@ use std::rt::Files;
 use std::sync::Wait;
 use std::thread::Threads;
 
-/// The status of a run that did what it was asked, or printed help or the version.
+/// The status of a run that did what it was asked for, or printed help or the version.
 pub const DONE: u8 = 0;
 
-/// The status of a run that was refused by name, on standard error.
+/// The status of a run that was refused, with a line on standard error.
 pub const REFUSED: u8 = 1;
 
-/// The status of a run whose words were wrong.
+/// The status of a run whose words ask for nothing that the program does.
 pub const MISUSED: u8 = 2;
 
-/// Does what the words after the program's name ask, and answers the status. Files are opened, and threads started, through `rt`; `out` is flushed at the
-/// end. A refusal is one line on `err`; a call of `out` that fails is one.
+/// Does what the words after the program's name ask for, and answers the status. It opens files and starts threads
+/// through `rt`, and flushes `out` at the end. A refusal prints one line on `err`; so does a call of `out` that fails.
 pub fn run<R: Files + AllocGlobal + Threads + Wait + Sync, O: Write, E: Write>(
     rt: &R,
     words: Vec<String>,
@@ -63,7 +63,8 @@ pub fn run<R: Files + AllocGlobal + Threads + Wait + Sync, O: Write, E: Write>(
     )
 }
 
-// Does what is asked, and answers the status. A refusal is one line on `err`; a call of `out` that fails is one.
+// Does what is asked for, and answers the status. A refusal prints one line on `err`; so does a call of `out` that
+// fails.
 fn respond<R: Threads + Wait + Sync, I: Images, T: Traces, D: Dumps, O: Write, E: Write>(
     alloc: Global,
     rt: &R,
@@ -98,7 +99,7 @@ fn respond<R: Threads + Wait + Sync, I: Images, T: Traces, D: Dumps, O: Write, E
     }
 }
 
-// Does a task.
+// Does a task, and flushes the output.
 fn perform<R: Threads + Wait + Sync, I: Images, T: Traces, D: Dumps, O: Write>(
     alloc: Global,
     rt: &R,
@@ -122,7 +123,7 @@ fn perform<R: Threads + Wait + Sync, I: Images, T: Traces, D: Dumps, O: Write>(
     flush(out)
 }
 
-// Does a task, but for a flush of the output behind it.
+// Does a task, without a flush of the output after it.
 fn print_task<R: Threads + Wait + Sync, I: Images, T: Traces, D: Dumps, O: Write>(
     alloc: Global,
     rt: &R,
@@ -169,7 +170,7 @@ fn print_task<R: Threads + Wait + Sync, I: Images, T: Traces, D: Dumps, O: Write
     }
 }
 
-// The status of a task; a refusal is told. There is nowhere left to tell that telling failed.
+// The status of a task. Prints a refusal on `err`; if that fails, nothing more is done.
 pub(crate) fn told<E: Write>(outcome: Result<(), Refusal>, err: &mut E) -> u8
     ensures done { OnOk outcome (result ≡ 0) }
     ensures refused { OnErr outcome (result ≡ 1) }

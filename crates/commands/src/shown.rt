@@ -1,4 +1,4 @@
-//! Printing the values that the lines of a trace showed.
+//! Prints the values that the lines of a trace showed.
 ghost use Rattle.std.specs.Prelude.{◌≡◌, ◌-◌, ◌^◌, ◌<◌, drop, true, OnOk, OnErr, Err};
 ghost use Rattle.std.specs.Io.KnownBytes.{Appends};
 ghost use Rattle.heap_layout.specs.Counted.{inner_of, failures_of, is_flushed_of, writer_of};
@@ -11,7 +11,8 @@ use heap_layout::Counted;
 use itoa::write_digits;
 use std::io::Write;
 
-/// How many bytes the line of a shown value has at most: two numbers of twenty digits, the space between them, and the line feed.
+// The greatest length of the line of a shown value: two numbers of twenty digits, the space between them, and the line
+// feed.
 const LONGEST: usize = 42;
 
 /// Prints shown values, a line each: the number of the line that showed it, and the value.
@@ -28,7 +29,7 @@ pub fn print_shown<O: Write>(shown: &[Shown], out: &mut Counted<&mut O>) -> Resu
     Ok(())
 }
 
-/// Prints shown values, and sends them on: nothing is printed after a refused line, so the output is flushed here.
+/// Prints shown values, and flushes the output, since nothing is printed after a refused line.
 pub fn send_shown<O: Write>(shown: &[Shown], out: &mut Counted<&mut O>) -> Result<(), Refusal>
     requires { failures_of out.old < 2 ^ 64 - 1 }
     ensures printed { OnOk result (Appends (O.contents (inner_of out.old).now) (O.contents (inner_of out.new).now) (shown_lines shown.now)) }
@@ -41,7 +42,7 @@ pub fn send_shown<O: Write>(shown: &[Shown], out: &mut Counted<&mut O>) -> Resul
     flush(out)
 }
 
-// Prints one of them, by one call of the writer.
+// Prints a shown value, with one call of the writer.
 fn print_value<O: Write>(shown: Shown, out: &mut Counted<&mut O>) -> Result<(), Refusal>
     requires { failures_of out.old < 2 ^ 64 - 1 }
     ensures printed { OnOk result (Appends (O.contents (inner_of out.old).now) (O.contents (inner_of out.new).now) (shown_line shown)) }
@@ -54,7 +55,7 @@ fn print_value<O: Write>(shown: Shown, out: &mut Counted<&mut O>) -> Result<(), 
     print_bytes(&room[start..], out)
 }
 
-// Writes the line of a shown value at the end of a room for the longest one, and answers where it begins.
+// Writes the line of a shown value at the end of a buffer for the longest one, and answers where it begins.
 fn fill_line(shown: Shown, room: &mut [u8; LONGEST]) -> usize
     ensures within { result < 42 }
     ensures filled { drop result room.new ≡ shown_line shown }

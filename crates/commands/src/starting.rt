@@ -1,4 +1,4 @@
-//! How a run begins: the words that the machine gives, and what is told where it cannot begin.
+//! How a run begins: the words that the machine gives, and what is printed if it cannot begin.
 ghost use Rattle.std.specs.Prelude.{◌≡◌, ◌≢◌};
 ghost use Rattle.std.specs.declared.io.ErrorKind.TheVariants as kinds;
 
@@ -8,16 +8,17 @@ use std::env;
 use std::io::{ErrorKind, Result as IoResult, Write};
 use std::rt::Env;
 
-// What is told where a word is not UTF-8.
+// What is printed if a word is not UTF-8.
 const NO_TEXT: &str = "error: invalid UTF-8 was detected in one or more arguments\n";
 
-/// The words behind the program's name. Where memory is refused, the error is of that kind. The kit's source has one other, `InvalidData`, where a word is not UTF-8;
-/// its contract names none.
+/// The words after the program's name. If memory runs out, the error is of that kind. The kit's source has one other
+/// kind, `InvalidData`, for a word that is not UTF-8; its contract names none.
 pub fn fetch_words<R: Env + AllocGlobal>(rt: &R) -> IoResult<Vec<String>> {
     Ok(env::args(rt)?.skip(1).collect(rt.alloc())?)
 }
 
-/// Tells on `err` why a run could not begin, by the kind of the error, and answers the status: want of memory is refused by name, and any other kind is that of a word that is not UTF-8.
+/// Prints on `err` why a run could not begin, by the kind of the error, and answers the status. Out of memory is a
+/// refusal; any other kind is that of a word that is not UTF-8.
 pub fn tell_unstarted<E: Write>(kind: ErrorKind, err: &mut E) -> u8
     ensures refused { kind ≡ kinds.OutOfMemory → result ≡ 1 }
     ensures misused { kind ≢ kinds.OutOfMemory → result ≡ 2 }

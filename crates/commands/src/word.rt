@@ -22,7 +22,7 @@ use std::sync::Arc;
 use std::sync::ledger::{Blank, Ledger};
 use std::thread::Threads;
 
-/// Prints the slid word at an index, of the heap whose image lies at a path.
+/// Prints the slid word at an index, of the heap whose image is at a path.
 pub fn print_word<I: Images, O: Write>(
     alloc: Global,
     rt: &(impl Threads + Sync),
@@ -43,7 +43,7 @@ pub fn print_word<I: Images, O: Write>(
     print_word_in(alloc, rt, &mut reader, index, out)
 }
 
-// Prints the slid word at an index, of the heap whose image is all that the reader has left: its decimal digits and a line feed.
+// Prints the slid word at an index, of the heap whose image is left in the reader: its decimal digits and a line feed.
 fn print_word_in<R: Read, O: Write>(
     alloc: Global,
     rt: &(impl Threads + Sync),
@@ -77,7 +77,7 @@ fn print_number<O: Write>(number: u64, out: &mut Counted<&mut O>) -> Result<(), 
     print_text("\n", out)
 }
 
-/// The slid word at an index, of the heap whose image is all that the reader has left.
+/// The slid word at an index, of the heap whose image is left in the reader.
 pub fn word_in<R: Read>(
     alloc: Global,
     rt: &(impl Threads + Sync),
@@ -94,7 +94,8 @@ pub fn word_in<R: Read>(
     word_of(alloc, plan, index)
 }
 
-// The slid word at an index. The heap is flipped for one mutator, with no fresh page, and the word is that of the mutator's copy of its page.
+// The slid word at an index. The heap is flipped for one mutator, with no fresh page; the word is that of the
+// mutator's copy of its page.
 fn word_of(alloc: Global, plan: Plan, index: u64) -> Result<u64, Refusal>
     ensures word { IfOk result (λ word. IsWordAt index word plan) }
     ensures cause { IfErr result (IsPast index plan) }
@@ -108,7 +109,7 @@ fn word_of(alloc: Global, plan: Plan, index: u64) -> Result<u64, Refusal>
     Ok(flipped_word::<Brand>(alloc, Blank::new(1), plan, index)?)
 }
 
-// The slid word at an index, which lies on a page, by the one mutator of a flipped heap.
+// The slid word at an index on a page, from the one mutator of a flipped heap.
 fn flipped_word<L: Ledger>(
     alloc: Global,
     blank: Blank,
@@ -148,7 +149,7 @@ fn flip_alone<L: Ledger>(
     }
 }
 
-// The slid word at an index, by a mutator that is alone and did nothing yet: it copies the word's page.
+// The slid word at an index, from a mutator that is alone and did nothing yet: it copies the word's page.
 fn copied_word<L: Ledger>(
     alloc: Global,
     space: &Space<L, Plan>,

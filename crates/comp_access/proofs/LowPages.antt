@@ -1,9 +1,9 @@
--- The least pages that may have room for objects of each size.
+-- The index from which the search for room starts, for each size.
 use Rattle.std.proofs.Common.{◌≡◌, ◌≢◌, ℕ, zero, suc, ◌+◌, ◌<◌, ◌≤◌, List, length, replicate, get_or, set, refl, sym, subst, arith, inl, inr, length-set, get_or-set_other, get_or-set_same}
 use Rattle.std.proofs.lemmas.Bool.{cases_eq}
 use Rattle.comp_access.specs.Allocations.{AreLow}
 
--- another page is noted for one size
+-- noting another index for one size
 pub low_noted : (fills lows : List ℕ) (size index : ℕ) → size < length lows → index ≤ length fills → ((i : ℕ) → i < index → 64 < get_or fills i 0 + size) → AreLow fills lows → AreLow fills (set lows size index)
 low_noted fills lows size index inside within full h = record {
   within = λ s. elim (cases_eq s size) [
@@ -18,7 +18,7 @@ low_noted fills lows size index inside within full h = record {
   ];
 }
 
--- a page has more used words
+-- using more words of one page
 pub low_filled : (fills lows : List ℕ) (index more : ℕ) → index < length fills → get_or fills index 0 ≤ more → AreLow fills lows → AreLow (set fills index more) lows
 low_filled fills lows index more inside le h = record {
   within = λ s. omega (arith, h.within s, length-set fills index more);
@@ -36,7 +36,7 @@ zeros zero (suc s) = refl
 zeros (suc n) zero = refl
 zeros (suc n) (suc s) = zeros n s
 
--- nothing is noted yet
+-- before anything is noted
 pub low_none : (fills : List ℕ) (n : ℕ) → AreLow fills (replicate n 0)
 low_none fills n = record {
   within = λ s. omega (arith, zeros n s);

@@ -1,4 +1,4 @@
-//! Fields, found by their objects.
+//! Finds the fields of objects.
 ghost use Rattle.std.specs.Prelude.{◌≡◌, ℕ, ◌+◌, ◌<◌, ◌≤◌, ◌^◌, IfOk, IfErr, IfSome, IfNone, IsErrOf, OnOk, true};
 ghost use Rattle.heap_layout.specs.Header.{size_of};
 ghost use Rattle.heap_layout.specs.Kinds.{count_of, refers};
@@ -20,7 +20,7 @@ use page_cells::{Cells, Taken};
 use page_plan::Builder;
 use std::alloc::Global;
 
-/// The field that a call is about: of this object, the field of this kind and index.
+/// The field that a call is about: its object, its kind, and its index among the fields of that kind.
 #[derive(Clone, Copy)]
 pub(crate) struct FieldName {
     pub(crate) object: u64,
@@ -31,19 +31,19 @@ pub(crate) struct FieldName {
 /// Where a field was found.
 #[derive(Clone, Copy)]
 pub(crate) enum Found {
-    /// In an object of the slid heap: the address of the field's word.
+    /// In an object of the slid heap. The number is the address of the field's word.
     Slid(u64),
-    /// In an object that an allocation made, if it has such a field: its header stands on its own page.
+    /// In an object that an allocation made, if it has this field. Its header must be loaded from its page.
     Fresh,
 }
 
-/// The page of a field, taken, and the offset of the field's word there.
+/// The page of a field, which the pass has taken, and the offset of the field's word on it.
 pub(crate) struct Held {
     pub(crate) taken: Taken,
     pub(crate) offset: u8,
 }
 
-/// The address of a field's word, where the object has such a field.
+// The address of a field's word; None if the object has no field like this.
 fn field_place(header: Header, name: FieldName) -> Option<u64>
     requires { name.object + size_of header < 2 ^ 64 }
     ensures some { IfSome result (λ place. (name.field < count_of name.kind header) × (place ≡ place_of name.kind name.object header name.field)) }
@@ -61,7 +61,8 @@ fn field_place(header: Header, name: FieldName) -> Option<u64>
     }
 }
 
-/// Finds a field without touching a page.
+/// Finds a field without touching a page. Refusals: `Null`, `NotAStart` of the object, and `NoSuchField` of a slid
+/// object.
 pub(crate) fn find<B: Builder>(
     cells: &Cells<B>,
     pass: &mut Pass,
@@ -92,7 +93,8 @@ pub(crate) fn find<B: Builder>(
     }
 }
 
-/// Where the word of a field is of an object that an allocation made: by its header, which is loaded. The object's page is built, so this is never busy.
+/// The address of a field's word in an object that an allocation made. It loads the object's header; the page is built,
+/// so this is never busy.
 pub(crate) fn fresh_field<B: Builder>(
     alloc: Global,
     cells: &Cells<B>,
@@ -124,7 +126,7 @@ pub(crate) fn fresh_field<B: Builder>(
     }
 }
 
-/// Takes the page of a field of an object that an allocation made. The field is found first.
+/// Takes the page of a field of an object that an allocation made. It finds the field first.
 pub(crate) fn take_fresh<B: Builder>(
     alloc: Global,
     cells: &Cells<B>,

@@ -1,4 +1,4 @@
--- Of a lawful dump the audit finds nothing.
+-- The audit finds no fault in a lawful dump.
 use Rattle.std.proofs.Common.{◌≡◌, ℕ, ◌+◌, ◌<◌, ◌≤◌, ◌⊎◌, inl, inr, ⊎_elim, Bool, true, false, eqb, ltb, leb, not, ◌&&◌, ◌||◌, is_some, List, [], ◌∷◌, ◌++◌, length, map, get_or, Option, Some, None, refl, sym, ap, subst, ◌∙◌, arith}
 use Rattle.std.specs.Prelude.{bytes_eq}
 use Rattle.std.specs.List.{list_any}
@@ -121,7 +121,7 @@ module _ (u : Setup) (journals : Journals) where
   place_found : (a : ℕ) → IsPlace u.heap a → is_start u.heap all a ≡ true
   place_found a place = left_holds _ (list_any (makes a) all) (ap is_some place.1)
 
-  -- a reference that leads to what is older passes its test
+  -- a reference to what is older passes its test
   led_tested : (e : Entry) → (refers e.kind ≡ true → LeadsToOlder u journals e.stamp e.value) → is_led u.heap (is_made_before all) e ≡ true
   led_tested e leads =
       let before = is_made_before all e.value e.stamp in
@@ -136,7 +136,7 @@ module _ (u : Setup) (journals : Journals) where
       (λ (other : refers e.kind ≡ false). left_holds _ before (left_holds _ _ (left_holds _ (eqb e.value 0) (ap not other))))
       (holds_or_not (refers e.kind))
 
-  -- a word that is null or leads to an object, if it is a reference
+  -- a word that is null or leads to an object passes its test, if it is a reference
   start_tested : (o : Option Kind) (a : ℕ) → ((k : Kind) → refers k ≡ true → o ≡ Some k → LeadsToObject u journals a) → ((not (some_refers o) || eqb a 0) || is_start u.heap all a) ≡ true
   start_tested o a leads =
       ⊎_elim

@@ -1,4 +1,4 @@
--- The stamps of all entries, counted: where no stamp stands twice and none below their count is missing, there are no others.
+-- The stamps of all n entries, counted: if no stamp stands twice and each number below n is one, there are no others.
 use Rattle.std.proofs.Common.{◌≡◌, ℕ, zero, suc, ◌+◌, ◌<◌, ◌≤◌, inl, inr, Bool, cond, List, [], ◌∷◌, ◌++◌, length, map, leb, refl, sym, ap, ◌∙◌, arith, length-append}
 use Rattle.std.proofs.lemmas.List.{length-map}
 use Rattle.std.proofs.lemmas.Bool.{cases_lt, cases_eq, leb-true, eq-eqb}
@@ -19,7 +19,7 @@ times_stamps : (s : ℕ) (all : List (ℕ × Entry)) → times s (map stamp_of a
 times_stamps s [] = refl
 times_stamps s (x ∷ xs) = let rest = times_stamps s xs in omega (arith, rest)
 
--- how often a stamp stands in them
+-- how often a stamp occurs in them
 pub stamps_counted : (journals : Journals) (n s : ℕ) → times s (map stamp_of (entries_below journals n)) ≡ below (λ p. stamps (only s) (journals p)) n
 stamps_counted journals n s = times_stamps s (entries_below journals n) ∙ total_below (only s) journals n
 
@@ -39,7 +39,7 @@ only_few s x xs =
       | inr other ↦ let h = times-other s x xs other in omega (arith, h)
     ]
 
--- numbers below n, and one above them, stand in a list no more often than it has places
+-- together the numbers below n, and one at or above n, occur in a list no more often than it is long
 counted_few : (n s : ℕ) (xs : List ℕ) → n ≤ s → below (λ p. times p xs) n + times s xs ≤ length xs
 counted_few n s [] le = omega (arith, below-zero n)
 counted_few n s (x ∷ xs) le =
@@ -62,7 +62,7 @@ each_once f (suc n) some =
     let here = some n (omega arith) in
     omega (arith, rest, here)
 
--- no number of a range has a fault where all together have none
+-- no number of a range has a fault if all together have none
 pub range_none : (f : ℕ → List AuditFault) (low n s : ℕ) → flat_map f (range_with_len low n) ≡ [] → low ≤ s → s < low + n → f s ≡ []
 range_none f low zero s none ge lt = absurd (omega (arith, ge, lt))
 range_none f low (suc n) s none ge lt =

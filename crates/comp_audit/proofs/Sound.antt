@@ -1,4 +1,4 @@
--- Where the audit finds nothing, the dump is lawful, and its pages have one history.
+-- If the audit finds no fault, the dump is lawful, and its pages have one history.
 use Rattle.std.proofs.Common.{◌≡◌, ℕ, ◌+◌, ◌-◌, ◌/◌, ◌<◌, ◌⊎◌, inl, inr, ⊎_elim, Bool, true, false, eqb, ltb, not, ◌&&◌, ◌||◌, is_some, List, [], ◌∷◌, length, map, get_or, Option, Some, None, refl, sym, ap, subst, ◌∙◌, arith}
 use Rattle.std.specs.Prelude.{bytes_eq}
 use Rattle.std.specs.List.{list_any}
@@ -86,7 +86,7 @@ page_long edition mutators records p page stored at =
     let here : IsStoredRecord edition mutators (Some page) = subst (IsStoredRecord edition mutators) at (stored p None (built_inside records p page at)) in
     here.long
 
--- where references lead
+-- the targets of references
 or_cases : (a b : Bool) → (a || b) ≡ true → (a ≡ true) ⊎ (b ≡ true)
 or_cases true b h = inl refl
 or_cases false b h = inr h

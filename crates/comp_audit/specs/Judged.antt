@@ -1,4 +1,4 @@
--- What the audit answers: the verdict is yes where a dump has no fault, and else the first.
+-- What the audit answers: yes if a dump has no fault, else the first fault.
 use Rattle.std.specs.Prelude.{◌≡◌, List, []}
 use Rattle.heap_layout.specs.Heap.{Heap}
 use Rattle.comp_dump.specs.Dumped.{Dumped}
@@ -8,11 +8,11 @@ use Rattle.comp_dump.specs.declared.fault.AuditFault.{AuditFault}
 use Rattle.comp_audit.specs.declared.verdict.Verdict.{Verdict}
 use Rattle.comp_audit.specs.declared.verdict.Verdict.TheVariants.{Yes, No}
 
--- all faults of a dump, where this heap was compacted
+-- all faults of a dump, if this heap was compacted
 abbrev pub faults : Heap → Dumped → List AuditFault
 faults heap dump = faults_for (setup_for heap dump.fresh dump.mutators) dump.edition dump.roots dump.builds dump.pages dump.total
 
--- the verdict is yes where there is no fault, and else it tells the first
+-- the verdict is yes if there is no fault, else the first fault
 abbrev pub Judges : List AuditFault → Verdict → Type 0
 Judges list Yes = list ≡ []
 Judges list (No fault) = IsFirst list fault

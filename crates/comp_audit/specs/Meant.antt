@@ -1,4 +1,4 @@
--- What the audit's answers mean in the words of the cells and of the merged history.
+-- What the audit's answers mean for the cells and for the merged history.
 use Rattle.std.specs.Prelude.{◌≡◌, ℕ, ◌+◌, ◌<◌, List, [], length, map, slice_index_or, Option, Some, None}
 use Rattle.heap_layout.specs.Heap.{Heap, live, IsClosed}
 use Rattle.page_plan.specs.Sliding.{forwarded, live_words}
@@ -16,12 +16,12 @@ use Rattle.comp_dump.specs.Lent.{record_of}
 use Rattle.audit_checks.specs.Checks.{setup_for, journals_in}
 use Rattle.comp_audit.specs.Judged.{faults}
 
--- 1 where a page was built, and 0 where it never was
+-- 1 if the page was built, 0 if it never was
 abbrev pub built_count : Option BuiltPage → ℕ
 built_count None = 0
 built_count (Some page) = 1
 
--- page p, or None where there is no such page
+-- page p, or None if there is no page p
 abbrev pub page_of : Dumped → ℕ → Option BuiltPage
 page_of dump p = slice_index_or dump.pages p None
 
@@ -29,24 +29,25 @@ page_of dump p = slice_index_or dump.pages p None
 abbrev pub journals_of : Dumped → ℕ → List Entry
 journals_of dump = journals_in dump.pages
 
--- A dump that a compaction can have left.
+-- a dump that a compaction can have left
 pub record IsLawfulDump (u : Setup) (dump : Dumped) : Type 0 where
   -- it is of the heap's edition
   pub edition : dump.edition ≡ u.heap.edition
   -- there is a place for each page
   pub places : length dump.pages ≡ pages u
-  -- the roots lead where the objects slid
+  -- the roots lead to where the objects slid
   pub roots : dump.roots ≡ map (forwarded (live u.heap)) u.heap.roots
-  -- a page that was built is named once in all lists of builds, and no other page is
+  -- the lists of builds name each page that was built exactly once, and no other page
   pub claims : (p : ℕ) → p < pages u → named p dump.builds ≡ built_count (page_of dump p)
   -- its words are what its journal makes of the words with which it began
   pub words : (p : ℕ) (page : BuiltPage) → page_of dump p ≡ Some page → page.words ≡ replayed (base_of u p) page.journal
   -- the journals can be merged
   pub merges : CanMerge u (journals_of dump)
-  -- the total is that of the words that slid and of the objects that the merged history makes
+  -- the total is the number of words that slid and of words of the objects that the merged history makes
   pub total : dump.total ≡ live_words (live u.heap) + allocated u.heap.edition (history u (journals_of dump))
 
--- Where the audit says yes, the dump is lawful, its pages have one history, and each of their references and weak words is null or an object's start.
+-- If the audit says yes, the dump is lawful, its pages have one history, and each of their references and weak words is
+-- null or the address of an object.
 pub record IsSound (u : Setup) (dump : Dumped) : Type 0 where
   pub lawful : IsLawfulDump u dump
   pub one : IsOneHistory u (journals_of dump) (history u (journals_of dump))
@@ -55,7 +56,7 @@ pub record IsSound (u : Setup) (dump : Dumped) : Type 0 where
 abbrev pub YesIsSound : Type 0
 YesIsSound = (heap : Heap) (dump : Dumped) → IsClosed heap → IsStored dump → faults heap dump ≡ [] → IsSound (setup_for heap dump.fresh dump.mutators) dump
 
--- and of a lawful dump it says yes
+-- and it says yes to each lawful dump
 abbrev pub LawfulIsYes : Type 0
 LawfulIsYes = (heap : Heap) (dump : Dumped) → IsStored dump → IsLawfulDump (setup_for heap dump.fresh dump.mutators) dump → faults heap dump ≡ []
 
@@ -69,7 +70,7 @@ pub record IsDumpOf (mutators fresh : ℕ) (f : Finished) (dump : Dumped) : Type
   pub builds : dump.builds ≡ builds_in f
   pub total : dump.total ≡ live_of f
 
--- so of a heap that was finished it says yes
+-- so it says yes to the dump of each finished heap
 abbrev pub FinishedIsYes : Type 0
 FinishedIsYes = (mutators fresh : ℕ) (f : Finished) (of : IsOfFlip mutators fresh f) (dump : Dumped) → IsStored dump → IsDumpOf mutators fresh f dump
     → faults of.setup.heap dump ≡ []

@@ -1,4 +1,4 @@
-//! The audit of a dump: the verdict is yes where its checks find nothing, and else the first fault that they tell.
+//! The audit of a dump: its verdict is yes if the checks find no fault, else the first fault.
 ghost use Rattle.std.specs.Prelude.{IfOk};
 ghost use Rattle.comp_audit.specs.Judged.{faults, Judges};
 
@@ -9,10 +9,11 @@ use heap_layout::OutOfMemory;
 use page_plan::Plan;
 use std::alloc::Global;
 
-/// Whether a dump is what a compaction by this plan can have left: yes, or the first fault.
+/// Whether a compaction by this plan can have left the dump: yes, or the first fault.
 ///
-/// A no is told by check, in this order: the head (edition, pages, roots), the builds, each entry by itself, the words, the references and weak words, the
-/// stamps, the age of what those lead to, and the total; within a check it is the least page, entry, address or stamp. Its one refusal is want of memory.
+/// Faults count in the order of the checks: the head (edition, pages, roots), the builds, each entry by itself, the
+/// words, the references and weak words, the stamps, the age of their targets, and the total. Within a check the least
+/// page, entry, address or stamp counts first. It fails only if memory runs out.
 pub fn audit(alloc: Global, plan: &Plan, dump: &Dump<'_>) -> Result<Verdict, OutOfMemory>
     ensures { IfOk result (Judges (faults plan.now dump.now)) }
 {

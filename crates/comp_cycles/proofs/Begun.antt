@@ -1,4 +1,4 @@
--- At the beginning of a cycle the slid heap has the objects that its from-space had.
+-- At the beginning of a cycle the slid heap has the objects of its from-space.
 use Rattle.std.proofs.Common.{◌≡◌, ℕ, zero, suc, ◌+◌, ◌-◌, ◌*◌, ◌/◌, ◌%◌, ◌<◌, ◌≤◌, true, false, List, [], ◌∷◌, ◌++◌, length, get_or, take, zip, refl, sym, ap, ap₂, ◌∙◌, inl, inr, ⊎_elim, subst, arith, length-append}
 use Rattle.std.specs.List.{range_with_len}
 use Rattle.std.specs.Option.{unwrap_or}
@@ -87,7 +87,7 @@ module _ (u : Setup) (closed : IsClosed u.heap) (slid : u.compacted ≡ sliding.
   below_le : (k l : ℕ) → k ≤ l → below k ≤ below l
   below_le k l le = let m = below_more k (l - k) in let e = ap below (let z : k + (l - k) ≡ l = omega (arith, le) in z) in omega (arith, m, e)
 
-  -- a later object stands behind an earlier one
+  -- a later object comes after an earlier one
   pub places_apart : (k l : ℕ) → k < l → k < length marks → place objects k + size_of (header k) ≤ place objects l
   places_apart k l lt inside = let s = below_next k inside in let m = below_le (k + 1) l (omega (arith, lt)) in omega (arith, s, m)
 
@@ -99,7 +99,7 @@ module _ (u : Setup) (closed : IsClosed u.heap) (slid : u.compacted ≡ sliding.
       let all = below_all (k + 1) in
       ap first.word at ∙ slid_word (below k + j) (omega (arith, s, all, inside))
 
-  -- its header
+  -- the header of the k-th object
   head_word : (k : ℕ) → k < length marks → first.word (place objects k) ≡ get_or words (mark k) 0
   head_word k lt =
       ap first.word (let z : place objects k ≡ place objects k + 0 = omega arith in z) ∙ word_of k 0 lt (omega arith)
@@ -108,15 +108,15 @@ module _ (u : Setup) (closed : IsClosed u.heap) (slid : u.compacted ≡ sliding.
   pub head_is : (k : ℕ) → k < length marks → header_in first (place objects k) ≡ header k
   head_is k lt = ap (header_of u.heap.edition) (head_word k lt)
 
-  -- its references and weak words
+  -- the references and weak words of the k-th object
   reference_of : (k j : ℕ) → k < length marks → 1 ≤ j → j ≤ pointers_of (header k) → first.word (place objects k + j) ≡ forwarded objects (get_or words (mark k + j) 0)
   reference_of k j lt low high = word_of k j lt (omega (arith, high)) ∙ slid-reference u.heap closed k j lt low high
 
-  -- and all else
+  -- the other words of the k-th object
   other_of : (k j : ℕ) → k < length marks → (1 ≤ j → pointers_of (header k) < j) → j < size_of (header k) → first.word (place objects k + j) ≡ get_or words (mark k + j) 0
   other_of k j lt behind inside = word_of k j lt inside ∙ slid-other u.heap closed k j lt behind inside
 
-  -- objects start at places
+  -- objects start only at places
   pub start_of : (a : ℕ) → HasStart first a → (k : ℕ) × (k < length marks) × (a ≡ place objects k)
   start_of a s = ⊎_elim
       (λ (is : IsPlace u.heap a). let k = place-only objects a is in (k.0, omega (arith, k.1, count), k.2))
@@ -145,7 +145,7 @@ module _ (u : Setup) (closed : IsClosed u.heap) (slid : u.compacted ≡ sliding.
       all_long =
           length-append first.starts later ∙ ap₂ (λ x y. x + y) (starts_long ∙ sym numbers_long) (sym (row_long (stable.given + 1) (length later))) ∙ sym (length-append numbers (range_with_len (stable.given + 1) (length later)))
 
-      -- the objects have their numbers
+      -- the objects keep their numbers
       pub number_of : (k : ℕ) → k < length marks → number_at names (place objects k) ≡ get_or numbers k 0
       number_of k lt =
           ap (λ l. number_at l (place objects k)) is
@@ -158,7 +158,7 @@ module _ (u : Setup) (closed : IsClosed u.heap) (slid : u.compacted ≡ sliding.
           omega (arith, a, read))
           ∙ get_or_append_left numbers (range_with_len (stable.given + 1) (length later)) 0 k (omega (arith, numbers_long, lt))
 
-      -- and their words
+      -- the objects keep their words
       object_of : (k : ℕ) → k < length marks → stable.words (get_or numbers k 0) ≡ told_object (names_in u.heap numbers) (object_at u.heap.edition words (mark k))
       object_of k lt =
           sym (get_or-map stable.words numbers k 0 [] (omega (arith, numbers_long, lt)))
@@ -169,7 +169,8 @@ module _ (u : Setup) (closed : IsClosed u.heap) (slid : u.compacted ≡ sliding.
       placed : (k : ℕ) → k < length marks → IsPlaced u.heap.edition words (mark k)
       placed k lt = closed.placed k 0 lt
 
-      -- where a word leads once it is forwarded, if it is told at all: a weak word of an object that is not marked is null in both
+      -- a word leads to the same object after it is forwarded; a weak word that leads to an unmarked object is null in
+      -- both heaps
       pub leads_of : (w : ℕ) → (number_at names (forwarded objects w) ≡ number_at (names_in u.heap numbers) w) × IsNullOrStart first (forwarded objects w)
       leads_of w = ⊎_elim
           (λ (target : is_target marks w ≡ true). ⊎_elim

@@ -1,4 +1,4 @@
--- A cycle is a chapter in the life of the heap whose objects never move, and cycles that follow one another are one life.
+-- A cycle is a chapter in the life of the stable heap, and cycles that follow one another are one life.
 use Rattle.std.proofs.Common.{◌≡◌, ℕ, zero, suc, ◌+◌, ◌-◌, ◌*◌, ◌/◌, ◌%◌, ◌<◌, ◌≤◌, true, false, Option, Some, None, List, [], ◌∷◌, ◌++◌, length, get_or, map, zip, refl, sym, ap, ap₂, ◌∙◌, inl, inr, ⊎_elim, subst, arith, length-append}
 use Rattle.std.specs.List.{range_with_len}
 use Rattle.std.specs.Option.{unwrap_or}
@@ -36,7 +36,7 @@ use Rattle.comp_cycles.proofs.Finals.{is_object}
 use Rattle.comp_cycles.proofs.Rows.{marked_objects, next_closed}
 use Rattle.comp_cycles.proofs.Kept as kept
 
--- entries leave the edition as it is
+-- entries do not change the edition
 edition_stays : (heap : OneThreadHeap) (xs : List (ℕ × Entry)) → (result_of heap xs).edition ≡ heap.edition
 edition_stays heap [] = refl
 edition_stays heap (x ∷ xs) = edition_stays (after heap x) xs
@@ -123,7 +123,7 @@ module _ (u : Setup) (journals : Journals) (closed : IsClosed u.heap) (can : Can
   object_is : (a : ℕ) → HasStart ended a → IsObjectAt u journals a
   object_is a s = (one.objects a).0 s
 
-  -- a read of a page, at such a point
+  -- a read of a page at that point
   read_at : (p : ℕ) (seen : List Entry) → p < pages u → StartsWith (journals p) seen → IsSeen cycle names stable p seen
   unfolding history
   read_at p seen lt begins =
@@ -167,7 +167,7 @@ module _ (u : Setup) (journals : Journals) (closed : IsClosed u.heap) (can : Can
     abbrev name : Names
     name = names_in (next_heap u journals roots marks) keep
 
-    -- an object that slid is there at the end
+    -- an object that slid still exists at the end
     still : (a : ℕ) → IsNullOrStart first a → IsNullOrStart ended a
     still a leads = ⊎_elim
         (λ zero_is. inl zero_is)
@@ -176,7 +176,7 @@ module _ (u : Setup) (journals : Journals) (closed : IsClosed u.heap) (can : Can
         inr (subst (HasStart ended) (sym k.2) ((one.objects (place (live u.heap) k.0)).1 (inl (place-is (live u.heap) k.0 (let n = begun.count u closed can.slid in omega (arith, k.1, n)))))))
         leads
 
-    -- a root leads to the same object
+    -- a root leads to the same object as before
     root_is : (i : ℕ) → i < length u.heap.roots → i < length roots → Some (get_or roots i 0) ≡ forward (live u.heap) (get_or u.heap.roots i 0)
         → number_at name (lowered (get_or roots i 0)) ≡ number_at (names_in u.heap numbers) (get_or u.heap.roots i 0)
     root_is i lt lt2 e =
@@ -222,9 +222,9 @@ one_chapter heap c numbers stable closed is t =
 pub one_writing : (c : Cycle) (numbers : List ℕ) (stable : StableHeap) → IsClosed c.setup.heap → CanMerge c.setup c.journals → IsToldAs c.setup.heap numbers stable → IsWriting c numbers stable
 one_writing c numbers stable closed can t = writing c.setup c.journals closed can numbers stable t c.roots c.marks
 
--- ---- forwarding rises
+-- ---- forwarding keeps the order of addresses
 
--- what is forwarded is a marked object
+-- an address that is forwarded is that of a marked object
 forwarded_mark : (heap : Heap) → IsClosed heap → (a x : ℕ) → 0 < a → forward (live heap) a ≡ Some x → (l : ℕ) × (l < length heap.marks) × (from_address (get_or heap.marks l 0) ≡ a) × (place (live heap) l ≡ x)
 forwarded_mark heap closed a x up e = ⊎_elim
     (λ (yes : is_target heap.marks a ≡ true). ⊎_elim
@@ -283,7 +283,7 @@ all_told (c ∷ cs) heap last numbers stable closed t follow =
       chapters = (here, rising c.setup own is.merges.slid, rest.chapters);
     }
 
--- the first heap, told in numbers
+-- the first heap in object numbers
 first_words : (heap : Heap) (F : ℕ → List ℕ) (G : Object → List ℕ) (marks : List ℕ) (low : ℕ) → ((k : ℕ) → k < length marks → F (low + k) ≡ G (object_at heap.edition heap.words (get_or marks k 0)))
     → map F (range_with_len low (length marks)) ≡ map G (map (object_at heap.edition heap.words) marks)
 first_words heap F G [] low same = refl

@@ -1,4 +1,4 @@
--- The to-space words at the end of a cycle: objects, and zeros where none has a word.
+-- The to-space words at the end of a cycle: objects, and zeros outside all objects.
 use Rattle.std.proofs.Common.{◌≡◌, ◌≢◌, ℕ, zero, suc, ◌+◌, ◌-◌, ◌*◌, ◌/◌, ◌%◌, ◌<◌, ◌≤◌, Option, Some, None, List, [], ◌∷◌, ◌++◌, length, get_or, refl, sym, ap, ap₂, ◌∙◌, inl, inr, ⊎_elim, subst, arith, length-append, get_or-set_other}
 use Rattle.std.specs.List.{flat_map, slice_get}
 use Rattle.std.proofs.lemmas.Bool.{cases_lt}
@@ -33,19 +33,19 @@ use Rattle.comp_cycles.specs.NextHeap.{word_in, kind_in}
 
 -- ---- kinds in lists
 
--- past the end there is none
+-- past the end there is no kind
 none_past : (xs : List Kind) (n : ℕ) → slice_get xs n ≡ None → length xs ≤ n
 none_past [] n e = omega arith
 none_past (x ∷ xs) zero e = absurd (cc)
 none_past (x ∷ xs) (suc n) e = let rest = none_past xs n e in omega (arith, rest)
 
--- where a word of a fresh page is a header, an entry made an object
+-- if a word of a fresh page is a header, an entry made an object there
 head_of_kind : (u : Setup) (p : ℕ) (journal : List Entry) (n : ℕ) → LawfulAfter u p [] journal → slice_get (kinds_in u.heap.edition journal) n ≡ Some Header → HasHead journal n
 head_of_kind u p journal n lawful e =
     let w = owner u p journal [] Header n n lawful e (omega arith) in
     (w.index, w.entry, w.there, w.head, sym (head_at u.heap.edition journal n w))
 
--- on a compacted page entries stand where words are
+-- on a compacted page, entries write words of objects only
 compacted_place : (u : Setup) (p : ℕ) (before : List Entry) (k : Kind) (writer offset value : ℕ) → p < u.compacted → Fits u p before k writer offset value → (l : Kind) × (kind (live u.heap) (64 * p + offset) ≡ Some l)
 compacted_place u p before Header writer offset value lt fits = let page = fits.page in absurd (omega (arith, page.2, lt))
 compacted_place u p before Reference writer offset value lt fits = (Reference, sym (compacted_kind u p before offset lt) ∙ fits.kind_is)
@@ -55,7 +55,7 @@ compacted_place u p before Data writer offset value lt fits = (Data, sym (compac
 some_is_none : (o : Option Kind) (k : Kind) → o ≡ None → o ≡ Some k → ⊥
 some_is_none o k a b = cc
 
--- what is no word of an object stays
+-- a word outside all objects keeps its value
 none_written : (u : Setup) (p o : ℕ) (after before : List Entry) (words : List ℕ) → p < u.compacted → LawfulAfter u p before after → kind (live u.heap) (64 * p + o) ≡ None
     → get_or (replayed words after) o 0 ≡ get_or words o 0
 none_written u p o [] before words lt h none = refl
@@ -64,7 +64,7 @@ none_written u p o (e ∷ es) before words lt h none =
     let other : o ≢ e.offset = λ same. some_is_none (kind (live u.heap) (64 * p + o)) at.0 none (ap (λ x. kind (live u.heap) (64 * p + x)) same ∙ at.1) in
     none_written u p o es (before ++ e ∷ []) (written words e) lt h.1 none ∙ get_or-set_other words e.offset o e.value 0 other
 
--- the slid words have as many kinds as there are
+-- the slid words have one kind each
 kinds_words : (objects others : List Object) → length (flat_map kinds_of others) ≡ length (flat_map (moved objects) others)
 kinds_words objects [] = refl
 kinds_words objects (o ∷ others) =
@@ -75,18 +75,18 @@ kinds_words objects (o ∷ others) =
 
 -- ---- the words at the end
 
--- a word, as a header
+-- a word at the end, read as a header
 abbrev pub head_in : Setup → Journals → ℕ → Head
 head_in u journals i = header_of u.heap.edition (word_in u journals i)
 
--- An object starts at the index.
+-- An object starts at this index.
 pub record StandsAt (u : Setup) (journals : Journals) (i : ℕ) : Type 0 where
   pub first : kind_in u journals i ≡ Some Header
   pub ends : i + size_of (head_in u journals i) ≤ 64 * pages u
   pub short : size_of (head_in u journals i) ≤ 1024
   pub fields : (k : Kind) (f : ℕ) → f < count_of k (head_in u journals i) → kind_in u journals (i + first_of k (head_in u journals i) + f) ≡ Some k
 
--- The word at the index is one of the object that starts at another.
+-- The word at this index is in an object that starts at another index.
 pub record IsWithin (u : Setup) (journals : Journals) (i : ℕ) : Type 0 where
   pub start : ℕ
   pub stands : StandsAt u journals start
@@ -97,7 +97,7 @@ module _ (u : Setup) (journals : Journals) (closed : IsClosed u.heap) (can : Can
   abbrev objects : List Object
   objects = live u.heap
 
-  -- a word by its page
+  -- the page and offset of a word
   in_page : (p o i : ℕ) → i ≡ 64 * p + o → o < 64 → (i / 64 ≡ p) × (i % 64 ≡ o)
   in_page p o i e lt = (omega (arith, e, lt), omega (arith, e, lt))
 
@@ -175,7 +175,7 @@ module _ (u : Setup) (journals : Journals) (closed : IsClosed u.heap) (can : Can
         word,
       )
 
-  -- where an object starts it stands
+  -- an object stands where one starts
   pub stands : (i : ℕ) → IsObjectAt u journals (to_address i) → StandsAt u journals i
   stands i is = ⊎_elim
       (λ (slid : IsPlace u.heap (to_address i)). slid_stands i slid)
@@ -184,7 +184,7 @@ module _ (u : Setup) (journals : Journals) (closed : IsClosed u.heap) (can : Can
       (head_stands (fresh_page u m.page) head.0 head.1 i (omega (arith, m.fresh)) head.2 head.3 (omega (arith, m.at, head.4))).0)
       is
 
-  -- each header is that of an object
+  -- each header is the header of an object
   pub is_object : (i : ℕ) → i < 64 * pages u → kind_in u journals i ≡ Some Header → IsObjectAt u journals (to_address i)
   is_object i lt is = ⊎_elim
       (λ (few : i / 64 < u.compacted). inl ((objects_stand u.heap closed).headers i (sym (slid_kind i few) ∙ is)))
@@ -203,7 +203,7 @@ module _ (u : Setup) (journals : Journals) (closed : IsClosed u.heap) (can : Can
       })
       (cases_lt (i / 64) u.compacted)
 
-  -- each other word of some kind is one of an object
+  -- each word of another kind is in an object
   pub field_within : (i : ℕ) (k : Kind) → k ≢ Header → i < 64 * pages u → kind_in u journals i ≡ Some k → IsWithin u journals i
   field_within i k other lt is = ⊎_elim
       (λ (few : i / 64 < u.compacted).
@@ -235,7 +235,7 @@ module _ (u : Setup) (journals : Journals) (closed : IsClosed u.heap) (can : Can
           let c = cut i in
           record { start = start; stands = s.0; above = omega (arith, c, place, low); below = omega (arith, c, place, high, word) }
 
-  -- what belongs to no object is 0
+  -- a word outside all objects is 0
   pub none_is_zero : (i : ℕ) → kind_in u journals i ≡ None → word_in u journals i ≡ 0
   none_is_zero i is = ⊎_elim
       (λ (few : i / 64 < u.compacted).

@@ -1,4 +1,4 @@
--- At each entry that makes an object the words behind its header are 0.
+-- At each entry that makes an object, the words after its header are 0.
 use Rattle.std.proofs.Common.{◌≡◌, ℕ, ◌+◌, ◌<◌, List, [], ◌∷◌, ◌++◌, get_or, refl, sym, ap, ◌∙◌, subst, arith, append_assoc}
 use Rattle.std.proofs.lemmas.List.{get_or-replicate}
 use Rattle.heap_layout.specs.Header.{header_of, size_of}

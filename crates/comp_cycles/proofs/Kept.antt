@@ -1,4 +1,4 @@
--- At the end of a cycle: the objects that are kept are those of the next heap.
+-- At the end of a cycle, the kept objects are the objects of the next heap.
 use Rattle.std.proofs.Common.{◌≡◌, ℕ, zero, suc, ◌+◌, ◌-◌, ◌*◌, ◌<◌, ◌≤◌, Bool, true, false, cond, eqb, ◌==◌, Some, List, [], ◌∷◌, length, get_or, map, refl, sym, ap, ap₂, ◌∙◌, inl, inr, ⊎_elim, subst, arith}
 use Rattle.std.specs.List.{list_any}
 use Rattle.std.proofs.lemmas.Bool.{cases_lt, cases_Bool, both_ways, or_right}
@@ -31,18 +31,18 @@ use Rattle.comp_cycles.proofs.Targets.{object_long, object_word, target_cases, t
 use Rattle.comp_cycles.proofs.Finals.{head_in, stands, StandsAt}
 use Rattle.comp_cycles.proofs.Rows.{next_kind}
 
--- an element stands where it is read
+-- the element at an index is the value read there
 pub there_is : (xs : List ℕ) (i : ℕ) → i < length xs → get_elem? xs i ≡ some (get_or xs i 0)
 there_is [] i lt = absurd (omega (arith, lt))
 there_is (x ∷ xs) zero lt = refl
 there_is (x ∷ xs) (suc i) lt = there_is xs i (omega (arith, lt))
 
--- two lists made of one, element by element the same
+-- two maps of one list are equal if they are equal element by element
 map_same : {A : Type 0} {B : Type 0} (F : A → List ℕ) (f : ℕ → A) (G : B → List ℕ) (g : ℕ → B) (xs : List ℕ) → ((k : ℕ) → k < length xs → F (f (get_or xs k 0)) ≡ G (g (get_or xs k 0))) → map F (map f xs) ≡ map G (map g xs)
 map_same F f G g [] same = refl
 map_same F f G g (x ∷ xs) same = ap (λ l. F (f x) ∷ l) (map_same F f G g xs (λ k lt. same (suc k) (omega (arith, lt)))) ∙ ap (λ y. y ∷ map G (map g xs)) (same 0 (omega arith))
 
--- a number that may be replaced by 0 and is 0
+-- a number that is 0 stays 0 if it may be replaced by 0
 zero_either : (b : Bool) (n : ℕ) → n ≡ 0 → cond b n 0 ≡ 0
 zero_either true n e = e
 zero_either false n e = refl
@@ -58,14 +58,14 @@ module _ (u : Setup) (journals : Journals) (closed_before : IsClosed u.heap) (ca
     abbrev mark : ℕ → ℕ
     mark k = get_or marks k 0
 
-    -- the object at the k-th mark, in to-space
+    -- the to-space address of the object at the k-th mark
     abbrev at : ℕ → ℕ
     at k = to_address (mark k)
 
     abbrev header : ℕ → Head
     header k = header_in heap (at k)
 
-    -- the numbers of all of them
+    -- the numbers of all marked objects
     abbrev pub kept : List ℕ
     kept = map (λ i. number_at names (to_address i)) marks
 
@@ -78,7 +78,7 @@ module _ (u : Setup) (journals : Journals) (closed_before : IsClosed u.heap) (ca
     kept_is : (k : ℕ) → k < length marks → get_or kept k 0 ≡ number_at names (at k)
     kept_is k lt = get_or-map (λ i. number_at names (to_address i)) marks k 0 0 lt
 
-    -- objects lie in to-space
+    -- objects are in to-space
     high : (a : ℕ) → HasStart heap a → to_address 0 ≤ a
     high a s = ⊎_elim
         (λ (slid : IsPlace u.heap a). ((objects_stand u.heap closed_before).stands a slid.0 slid.1).above)
@@ -94,7 +94,7 @@ module _ (u : Setup) (journals : Journals) (closed_before : IsClosed u.heap) (ca
     head : (k : ℕ) → k < length marks → header k ≡ head_in u journals (mark k)
     head k lt = ap₂ header_of edition_is (word_is (mark k) (let e = inside k lt in omega (arith, e)))
 
-    -- its header word in the next heap
+    -- the header word of the k-th object in the next heap
     next_first : (k : ℕ) → k < length marks → get_or next.words (mark k) 0 ≡ heap.word (at k)
     next_first k lt =
         let few : mark k < 64 * pages u = let e = inside k lt in omega (arith, e) in
@@ -125,7 +125,7 @@ module _ (u : Setup) (journals : Journals) (closed_before : IsClosed u.heap) (ca
         ∙ (object k lt).fields c f (subst (λ x. f < count_of c x) is few) in
         next_kind u journals closed_before can roots marks (mark k + j) (Some c) (room k j lt small) kind ∙ ap (lowered_as (Some c)) (sym (word_of k j lt small))
 
-    -- its references and weak words are lowered
+    -- a reference or weak word of the k-th object is lowered
     next_pointer : (k j : ℕ) → k < length marks → 1 ≤ j → j ≤ pointers_of (header k) → get_or next.words (mark k + j) 0 ≡ lowered (heap.word (at k + j))
     next_pointer k j lt low few =
         let refs = refs_of (header k) in
@@ -134,7 +134,7 @@ module _ (u : Setup) (journals : Journals) (closed_before : IsClosed u.heap) (ca
         (λ (strong : j ≤ refs). next_field k Reference (j - 1) j lt (omega (arith, low, strong)) (omega (arith, low)))
         (cases_lt refs j)
 
-    -- and all else is as it was
+    -- all other words of the k-th object stay
     next_other : (k j : ℕ) → k < length marks → (1 ≤ j → pointers_of (header k) < j) → j < size_of (header k) → get_or next.words (mark k + j) 0 ≡ heap.word (at k + j)
     next_other k zero lt behind few = ap (λ n. get_or next.words n 0) (let z : mark k + 0 ≡ mark k = omega arith in z) ∙ next_first k lt ∙ ap heap.word (let z : at k ≡ at k + 0 = omega arith in z)
     next_other k (suc j) lt behind few =
@@ -171,13 +171,13 @@ module _ (u : Setup) (journals : Journals) (closed_before : IsClosed u.heap) (ca
     leads_of : (k j : ℕ) → k < length marks → 1 ≤ j → j ≤ refs_of (header k) → (number_at name (lowered (heap.word (at k + j))) ≡ number_at names (heap.word (at k + j))) × IsNullOrAmong kept (number_at names (heap.word (at k + j)))
     leads_of k j lt low few = leads (heap.word (at k + j)) (h.leads (at k) j (started k lt) low (omega (arith, few))) (target_of k j lt low few)
 
-    -- a number that is kept is that of a marked object
+    -- a number that is kept is the number of a marked object
     kept_at : (n : ℕ) → IsAmong kept n → (k : ℕ) × (k < length marks) × (number_at names (at k) ≡ n)
     kept_at n (i, e) =
         let back = at_map_back (λ m. number_at names (to_address m)) marks i n e in
         (i, at_below marks i back.0 back.1, ap (λ m. number_at names (to_address m)) (read_at marks i back.0 0 back.1) ∙ back.2)
 
-    -- what becomes of a weak word: where it leads to an object that is kept it names it, and else it is null
+    -- a weak word that leads to a kept object still does; any other weak word becomes null
     weak_leads : (w : ℕ) → IsNullOrStart heap w → cond (is_among kept (number_at names w)) (number_at names w) 0 ≡ number_at name (lowered w)
     weak_leads w from =
         let n = number_at names w in
@@ -204,7 +204,7 @@ module _ (u : Setup) (journals : Journals) (closed_before : IsClosed u.heap) (ca
         from)
         (cases_Bool (is_target marks (lowered w)))
 
-    -- the k-th object is the same in both heaps, once weak words that named what is not kept are null
+    -- the k-th object is the same in both heaps, after weak words that led to dropped objects became null
     same_object : (k : ℕ) → k < length marks → left_words (head_of stable (number_at names (at k))) kept 0 (stable.words (number_at names (at k))) ≡ told_object name (object_at u.heap.edition next.words (mark k))
     same_object k lt =
         let n = number_at names (at k) in

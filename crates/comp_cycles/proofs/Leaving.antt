@@ -1,4 +1,5 @@
--- What is left of an object's words where only some objects are kept: a weak word that names none of them becomes null, all else stays.
+-- The words of an object after only some objects were kept: a weak word that leads to none of them becomes null, all
+-- other words stay.
 use Rattle.std.proofs.Common.{◌≡◌, ℕ, zero, suc, ◌+◌, ◌<◌, ◌≤◌, ◌&&◌, Bool, true, false, cond, eqb, leb, ltb, List, [], ◌∷◌, length, get_or, refl, sym, ap, ◌∙◌, ⊎_elim, arith, eq-eqb, ne_eqb, le-leb}
 use Rattle.std.proofs.lemmas.Bool.{cases_Bool, and_from, and_parts, leb-true, ltb-true, lt-ltb, or_left, or_right, or_from}
 use mathlib.Core.Option.{some, some-injective, some-ne-none}
@@ -8,7 +9,7 @@ use Rattle.heap_layout.specs.Kinds.{first_of}
 use Rattle.heap_layout.specs.declared.kind.Kind.TheVariants.{Weak, Data}
 use Rattle.comp_cycles.specs.Stable.{is_among, left_word, left_words}
 
--- ---- whether a number is among others
+-- ---- whether a number is in a list
 
 pub among_is : (numbers : List ℕ) (n i : ℕ) → get_elem? numbers i ≡ some n → is_among numbers n ≡ true
 among_is [] n i e = absurd (some-ne-none n (sym e))
@@ -24,7 +25,7 @@ none_among (m ∷ numbers) n none = or_from (eqb m n) (is_among numbers n) (ne_e
 abbrev range : Head → ℕ → Bool
 range header at = leb (first_of Weak header) at && ltb at (first_of Data header)
 
--- what is no weak word stays
+-- a word that is not a weak word stays
 pub left_other : (header : Head) (objects : List ℕ) (at word : ℕ) → (first_of Weak header ≤ at → first_of Data header ≤ at) → left_word header objects at word ≡ word
 left_other header objects at word behind = ⊎_elim
     (λ (is : range header at ≡ true).
@@ -35,7 +36,7 @@ left_other header objects at word behind = ⊎_elim
     (λ (is : range header at ≡ false). ap (λ t. cond t (cond (is_among objects word) word 0) word) is)
     (cases_Bool (range header at))
 
--- a weak word stays where it names one of them, and else it becomes null
+-- a weak word stays if it leads to a kept object, and becomes null if not
 pub left_weak : (header : Head) (objects : List ℕ) (at word : ℕ) → first_of Weak header ≤ at → at < first_of Data header → left_word header objects at word ≡ cond (is_among objects word) word 0
 left_weak header objects at word low high =
     ap (λ t. cond t (cond (is_among objects word) word 0) word)

@@ -1,4 +1,4 @@
--- All that one thread writes into its heap, told by names, is a life of the heap whose objects never move.
+-- All that one thread writes into its heap, in object numbers, is a life of the stable heap.
 use Rattle.std.proofs.Common.{◌≡◌, ℕ, zero, suc, ◌+◌, ◌-◌, ◌<◌, ◌≤◌, true, false, cond, List, [], ◌∷◌, ◌++◌, length, get_or, zip, refl, sym, ap, ap₂, ◌∙◌, ⊎_elim, subst, arith, append_assoc, length-append}
 use Rattle.std.proofs.lemmas.Bool.{cases_lt, both_ways}
 use Rattle.std.proofs.lemmas.List.{get_or_append_left, get_or-append_right, get_or_push}
@@ -16,16 +16,17 @@ use Rattle.comp_cycles.specs.Told.{Names, number_at, owner, told_value, write_of
 use Rattle.comp_cycles.proofs.Naming.{at_name}
 use Rattle.comp_cycles.proofs.Living.{owner_is, field_above, refers_below, told_field, header_is, may_refer, written, made, wrote, Agrees}
 
--- the words behind a new header are 0
+-- the words after a new header are 0
 abbrev pub AreZeros : OneThreadHeap → Kind → ℕ → ℕ → Type 0
 AreZeros heap k a value = k ≡ Header → (i : ℕ) → 1 ≤ i → i < size_of (header_of heap.edition value) → heap.word (a + i) ≡ 0
 
--- so it is at each entry
+-- at each entry that makes an object, the words after the new header are 0
 abbrev pub InZeros : OneThreadHeap → List (ℕ × Entry) → Type 0
 InZeros heap [] = Unit {0}
 InZeros heap (x ∷ xs) = AreZeros heap x.1.kind (address_of x) x.1.value × InZeros (after heap x) xs
 
--- The names are those of the objects that are there, and then those of the ones that will be made at these addresses, by the next numbers.
+-- The names are those of the objects that exist, and then those of the objects that will be made at these addresses,
+-- with the next numbers.
 pub record Ordered (names : Names) (heap : OneThreadHeap) (given : ℕ) (later : List ℕ) : Type 0 where
   pub keys : List ℕ
   pub numbers : List ℕ
@@ -33,7 +34,7 @@ pub record Ordered (names : Names) (heap : OneThreadHeap) (given : ℕ) (later :
   pub is : names ≡ zip (keys ++ later) (numbers ++ range_with_len (given + 1) (length later))
   pub starts : (i : ℕ) → i < length keys → HasStart heap (get_or keys i 0)
 
--- how many numbers are given out once a word of this kind was written
+-- how many numbers have been given out after a word of this kind was written
 abbrev pub given_by : Kind → ℕ → ℕ
 given_by Header given = given + 1
 given_by Reference given = given
@@ -65,11 +66,11 @@ next_number names heap given a size later some free o =
     row_is low zero = refl
     row_is low (suc n) = ap suc (row_is (low + 1) n)
 
--- an object that starts where another list says
+-- an object starts at an equal address
 start_at : (heap : OneThreadHeap) (a b : ℕ) → a ≡ b → HasStart heap a → HasStart heap b
 start_at heap a b e s = subst (HasStart heap) e s
 
--- the names of the objects that are there once a word was written
+-- the names of the objects that exist after a word was written
 ordered_next : (names : Names) (heap : OneThreadHeap) (given a value : ℕ) (later : List ℕ) (k : Kind) → Ordered names heap given (made_by k a later) → Ordered names (wrote heap k a value) (given_by k given) later
 ordered_next names heap given a value later Header o = record {
   keys = o.keys ++ a ∷ [];
@@ -89,17 +90,17 @@ ordered_next names heap given a value later Reference o = record { keys = o.keys
 ordered_next names heap given a value later Weak o = record { keys = o.keys; numbers = o.numbers; long = o.long; is = o.is; starts = o.starts }
 ordered_next names heap given a value later Data o = record { keys = o.keys; numbers = o.numbers; long = o.long; is = o.is; starts = o.starts }
 
--- What one step comes to.
+-- What one step does.
 pub record Went (names : Names) (heap : OneThreadHeap) (stable : StableHeap) (step : Step) (given : ℕ) : Type 0 where
   pub may : MayStep stable step
   pub agrees : Agrees names heap (stepped stable step)
   pub given_is : (stepped stable step).given ≡ given
 
--- the heap with one word written, where no object is made
+-- the heap after one word was written, if no object is made
 abbrev with_field : OneThreadHeap → ℕ → ℕ → OneThreadHeap
 with_field heap a value = record { edition = heap.edition; word = but heap.word a value; starts = heap.starts }
 
--- a field that one thread may write is one step
+-- writing a field, if one thread may do it, is one step
 field_goes : (names : Names) (heap : OneThreadHeap) (stable : StableHeap) (k : Kind) (a value : ℕ) → Agrees names heap stable → number_at names 0 ≡ 0
     → IsFieldIn heap k a → (refers k ≡ true → IsNullOrStart heap value)
     → Went names (with_field heap a value) stable (write_of names heap k a value) stable.given
@@ -131,7 +132,7 @@ field_goes names heap stable k a value h null r may =
       given_is = refl;
     })
 
--- one word that one thread may write is one step
+-- writing a word, if one thread may do it, is one step
 goes : (names : Names) (heap : OneThreadHeap) (stable : StableHeap) (k : Kind) (a value : ℕ) (later : List ℕ) → Agrees names heap stable → number_at names 0 ≡ 0
     → Ordered names heap stable.given (made_by k a later) → MayWrite heap k a value → AreZeros heap k a value
     → Went names (wrote heap k a value) stable (step_of names heap k a value) (given_by k stable.given)
@@ -142,9 +143,9 @@ goes names heap stable Reference a value later h null o may zeros = field_goes n
 goes names heap stable Weak a value later h null o may zeros = field_goes names heap stable Weak a value h null may.0 (λ _. may.1)
 goes names heap stable Data a value later h null o may zeros = field_goes names heap stable Data a value h null may (λ yes. absurd (both_ways false refl yes))
 
--- ---- all of them
+-- ---- all steps
 
--- the addresses at which entries make objects, and then these
+-- the addresses at which the entries make objects, and then these addresses
 abbrev pub made_then : List (ℕ × Entry) → List ℕ → List ℕ
 made_then [] later = later
 made_then (x ∷ xs) later = made_by x.1.kind (address_of x) (made_then xs later)
@@ -157,7 +158,7 @@ pub made_parts : (xs ys : List (ℕ × Entry)) (later : List ℕ) → made_then 
 made_parts [] ys later = refl
 made_parts (x ∷ xs) ys later = ap (made_by x.1.kind (address_of x)) (made_parts xs ys later)
 
--- What entries come to.
+-- What all the entries do.
 pub record Lives (names : Names) (heap : OneThreadHeap) (stable : StableHeap) (xs : List (ℕ × Entry)) : Type 0 where
   pub life : IsLife stable (told names heap xs)
   pub agrees : Agrees names (result_of heap xs) (lived stable (told names heap xs))
@@ -174,7 +175,7 @@ lives names null (x ∷ xs) heap stable later h o legal zeros =
     let rest = lives names null xs (after heap x) (stepped stable step) later one.agrees next legal.1 zeros.1 in
     record { life = (one.may, rest.life); agrees = rest.agrees }
 
--- how many numbers are given out then
+-- how many numbers have been given out after a step
 given_stepped : (names : Names) (heap : OneThreadHeap) (stable : StableHeap) (k : Kind) (a value : ℕ) (later : List ℕ) → (stepped stable (step_of names heap k a value)).given + length later ≡ stable.given + length (made_by k a later)
 given_stepped names heap stable Header a value later = omega arith
 given_stepped names heap stable Reference a value later = refl
@@ -187,7 +188,7 @@ given_lived names (x ∷ xs) heap stable =
     let step = step_of names heap x.1.kind (address_of x) x.1.value in
     given_lived names xs (after heap x) (stepped stable step) ∙ given_stepped names heap stable x.1.kind (address_of x) x.1.value (made_at xs)
 
--- ---- beginnings
+-- ---- prefixes
 
 pub legal_front : (heap : OneThreadHeap) (xs ys : List (ℕ × Entry)) → IsLegal heap (xs ++ ys) → IsLegal heap xs
 legal_front heap [] ys h = tt
@@ -197,7 +198,7 @@ pub zeros_front : (heap : OneThreadHeap) (xs ys : List (ℕ × Entry)) → InZer
 zeros_front heap [] ys h = tt
 zeros_front heap (x ∷ xs) ys h = (h.0, zeros_front (after heap x) xs ys h.1)
 
--- a life goes on
+-- a life, continued by a second one
 pub life_parts : (heap : StableHeap) (xs ys : List Step) → IsLife heap xs → IsLife (lived heap xs) ys → IsLife heap (xs ++ ys)
 life_parts heap [] ys h t = t
 life_parts heap (x ∷ xs) ys h t = (h.0, life_parts (stepped heap x) xs ys h.1 t)

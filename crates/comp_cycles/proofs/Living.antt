@@ -1,4 +1,4 @@
--- What one thread writes into its heap, told by names, is a life of the heap whose objects never move.
+-- What one thread writes into its heap, in object numbers, is a life of the stable heap.
 use Rattle.std.proofs.Common.{◌≡◌, ◌≢◌, ℕ, zero, suc, ◌+◌, ◌-◌, ◌<◌, ◌≤◌, ◌⊎◌, ◌&&◌, true, false, cond, leb, ltb, List, [], ◌∷◌, length, get_or, set, replicate, refl, sym, ap, ap₂, ◌∙◌, inl, inr, ⊎_elim, subst, arith, eq-eqb, ne_eqb, le-leb, length-set, get_or-set_same, get_or-set_other}
 use Rattle.std.proofs.lemmas.Bool.{cases_lt, cases_Bool, and_from, and_parts, leb-true, ltb-true, lt-ltb}
 use Rattle.std.proofs.lemmas.List.{get_or-replicate, length-replicate}
@@ -15,7 +15,7 @@ use Rattle.comp_history.specs.OneThread.{OneThreadHeap, HasStart, IsFree, IsNull
 use Rattle.comp_cycles.specs.Stable.{StableHeap, Makes, IsNullOrAmong, head_of, with_word, stepped}
 use Rattle.comp_cycles.specs.Told.{Names, number_at, pointers_of, told_value, told_word, owner, AreTold}
 
--- ---- small things
+-- ---- small lemmas
 
 pub but_same : {A : Type 0} (f : ℕ → A) (p q : ℕ) (x : A) → q ≡ p → but f p x q ≡ x
 but_same f p q x e = ap (λ t. cond t x (f q)) (eq-eqb q p e)
@@ -23,11 +23,11 @@ but_same f p q x e = ap (λ t. cond t x (f q)) (eq-eqb q p e)
 pub but_other : {A : Type 0} (f : ℕ → A) (p q : ℕ) (x : A) → q ≢ p → but f p x q ≡ f q
 but_other f p q x ne = ap (λ t. cond t x (f q)) (ne_eqb q p ne)
 
--- a reference and a weak word are told as numbers
+-- references and weak words become numbers
 pub told_reference : (names : Names) (pointers at word : ℕ) → 1 ≤ at → at ≤ pointers → told_word names pointers at word ≡ number_at names word
 told_reference names pointers at word low high = ap (λ t. cond t (number_at names word) word) (and_from (leb 1 at) (leb at pointers) (le-leb 1 at low) (le-leb at pointers high))
 
--- all else as it is
+-- all other words stay
 pub told_other : (names : Names) (pointers at word : ℕ) → (1 ≤ at → pointers < at) → told_word names pointers at word ≡ word
 told_other names pointers at word behind = ⊎_elim
     (λ (is : (leb 1 at && leb at pointers) ≡ true).
@@ -38,35 +38,35 @@ told_other names pointers at word behind = ⊎_elim
     (λ (is : (leb 1 at && leb at pointers) ≡ false). ap (λ t. cond t (number_at names word) word) is)
     (cases_Bool (leb 1 at && leb at pointers))
 
--- null is 0 in both
+-- null is 0 in both heaps
 pub told_null : (names : Names) (pointers at : ℕ) → number_at names 0 ≡ 0 → told_word names pointers at 0 ≡ 0
 told_null names pointers at null = ⊎_elim
     (λ (is : (leb 1 at && leb at pointers) ≡ true). ap (λ t. cond t (number_at names 0) 0) is ∙ null)
     (λ (is : (leb 1 at && leb at pointers) ≡ false). ap (λ t. cond t (number_at names 0) 0) is)
     (cases_Bool (leb 1 at && leb at pointers))
 
--- a field is behind the header
+-- a field comes after the header
 pub field_above : (k : Kind) (header : Head) (f : ℕ) → f < count_of k header → 1 ≤ first_of k header + f
 field_above Header header f lt = absurd (omega (arith, lt))
 field_above Reference header f lt = omega arith
 field_above Weak header f lt = omega arith
 field_above Data header f lt = omega arith
 
--- and of another kind than it
+-- a field is not a header
 pub other_kind : (k : Kind) (header : Head) (f : ℕ) → f < count_of k header → k ≢ Header
 other_kind Header header f lt e = omega (arith, lt)
 other_kind Reference header f lt e = cc
 other_kind Weak header f lt e = cc
 other_kind Data header f lt e = cc
 
--- one among the words that lead to objects is of a kind that refers
+-- a field among the words that lead to objects is of a kind that refers
 pub refers_below : (k : Kind) (header : Head) (f : ℕ) → f < count_of k header → first_of k header + f ≤ pointers_of header → refers k ≡ true
 refers_below Header header f lt le = absurd (omega (arith, lt))
 refers_below Reference header f lt le = refl
 refers_below Weak header f lt le = refl
 refers_below Data header f lt le = absurd (omega (arith, le))
 
--- a field is told by its kind
+-- a field in object numbers depends on its kind only
 pub told_field : (names : Names) (k : Kind) (header : Head) (f value : ℕ) → f < count_of k header
     → told_word names (pointers_of header) (first_of k header + f) value ≡ told_value names k value
 told_field names Header header f value lt = absurd (omega (arith, lt))
@@ -74,7 +74,7 @@ told_field names Reference header f value lt = told_reference names (pointers_of
 told_field names Weak header f value lt = told_reference names (pointers_of header) (1 + refs_of header + f) value (omega arith) (omega (arith, lt))
 told_field names Data header f value lt = told_other names (pointers_of header) (1 + refs_of header + weak_of header + f) value (λ _. omega arith)
 
--- the object that has the word at an address is found
+-- the owner of a word is the object that has the word
 pub owner_is : (header : ℕ → Head) (starts : List ℕ) (s a i : ℕ) → get_elem? starts i ≡ some s
     → ((x y j k : ℕ) → get_elem? starts j ≡ some x → get_elem? starts k ≡ some y → x < y → x + size_of (header x) ≤ y)
     → s ≤ a → a < s + size_of (header s) → owner header starts a ≡ s
@@ -103,24 +103,25 @@ owner_is header (t ∷ starts) s a (suc i) e apart le lt = ⊎_elim
 
 -- ---- one step
 
--- The two heaps have the same objects, and the objects of the one lie apart, their references null or leading to objects.
+-- The two heaps have the same objects. The objects of the heap of one thread do not overlap, and each reference is null
+-- or leads to an object.
 pub record Agrees (names : Names) (heap : OneThreadHeap) (stable : StableHeap) : Type 0 where
   pub told : AreTold names heap stable
   pub apart : (a b : ℕ) → HasStart heap a → HasStart heap b → a < b → a + size_of (header_in heap a) ≤ b
   pub given : (a : ℕ) → HasStart heap a → (1 ≤ number_at names a) × (number_at names a ≤ stable.given)
   pub leads : (a at : ℕ) → HasStart heap a → 1 ≤ at → at ≤ pointers_of (header_in heap a) → IsNullOrStart heap (heap.word (a + at))
 
--- the heap with one word written
+-- the heap after one word was written
 abbrev pub wrote : OneThreadHeap → Kind → ℕ → ℕ → OneThreadHeap
 wrote heap k a value = record { edition = heap.edition; word = but heap.word a value; starts = starts_after k a heap.starts }
 
 module _ (names : Names) (heap : OneThreadHeap) (stable : StableHeap) (h : Agrees names heap stable) where
-  -- a header is the same in both
+  -- the header of an object is the same in both heaps
   pub header_is : (a : ℕ) → HasStart heap a → head_of stable (number_at names a) ≡ header_in heap a
   header_is a s = ap₂ header_of h.told.edition
       (h.told.words a 0 s (omega arith) ∙ told_other names (pointers_of (header_in heap a)) 0 (heap.word (a + 0)) (λ (z : 1 ≤ 0). absurd (omega (arith, z))) ∙ ap heap.word (let z : a + 0 ≡ a = omega arith in z))
 
-  -- what may be referred to has a number that is there
+  -- a value that may be written as a reference is null or has a number in the stable heap
   pub may_refer : (value : ℕ) → number_at names 0 ≡ 0 → IsNullOrStart heap value → IsNullOrAmong stable.there (number_at names value)
   may_refer value null leads = ⊎_elim
       (λ (zero_is : value ≡ 0). inl (ap (number_at names) zero_is ∙ null))
@@ -140,7 +141,7 @@ module _ (names : Names) (heap : OneThreadHeap) (stable : StableHeap) (h : Agree
     abbrev stable_then : StableHeap
     stable_then = with_word stable (number_at names object) at w
 
-    -- no word of another object is the one that is written
+    -- no word of another object is written
     elsewhere : (b k : ℕ) → HasStart heap b → b ≢ object → k < size_of (header_in heap b) → b + k ≢ object + at
     elsewhere b k s other lt e = ⊎_elim
         (λ (below : b < object). let z = h.apart b object s there below in absurd (omega (arith, z, lt, e)))
@@ -150,14 +151,14 @@ module _ (names : Names) (heap : OneThreadHeap) (stable : StableHeap) (h : Agree
         (cases_lt object b))
         (cases_lt b object)
 
-    -- no header is written
+    -- no header is overwritten
     head_then : (b : ℕ) → HasStart heap b → header_in heap_then b ≡ header_in heap b
     head_then b s = ap (header_of heap.edition) (but_other heap.word (object + at) b value
         (λ e. dite (ℕ_discrete b object)
         (λ same. absurd (omega (arith, e, same, above)))
         (λ other. elsewhere b 0 s other (omega arith) (omega (arith, e)))))
 
-    -- the words of another object are the same ones
+    -- the words of another object do not change
     others : (b : ℕ) → HasStart heap b → b ≢ object → stable_then.words (number_at names b) ≡ stable.words (number_at names b)
     others b s other = but_other stable.words (number_at names object) (number_at names b) (set (stable.words (number_at names object)) at w) (λ e. other (h.told.one b object s there e))
 
@@ -187,7 +188,7 @@ module _ (names : Names) (heap : OneThreadHeap) (stable : StableHeap) (h : Agree
         (λ same. ap length (own b same) ∙ length-set (stable.words (number_at names object)) at w ∙ ap (λ x. length (stable.words (number_at names x))) (sym same) ∙ h.told.long b s)
         (λ other. ap length (others b s other) ∙ h.told.long b s)
 
-    -- both with the word written agree
+    -- both heaps still agree after the word was written
     pub written : (at ≤ pointers_of (header_in heap object) → IsNullOrStart heap value) → Agrees names heap_then stable_then
     written may = record {
       told = record {
@@ -228,16 +229,16 @@ module _ (names : Names) (heap : OneThreadHeap) (stable : StableHeap) (h : Agree
       abbrev header : Head
       header = header_of heap.edition value
 
-      -- both read the header alike
+      -- both heaps read the header in the same way
       same_header : header_of stable.edition value ≡ header
       same_header = ap (λ e. header_of e value) h.told.edition
 
-      -- an object was there, or it is the new one
+      -- an object existed before, or is the new one
       was : (b : ℕ) → HasStart heap_made b → HasStart heap b ⊎ (b ≡ a)
       was b (zero, e) = inr (sym (some-injective a b e))
       was b (suc i, e) = inl (i, e)
 
-      -- no word of an object that was there is the new header
+      -- the new header is no word of an older object
       old_word : (b k : ℕ) → HasStart heap b → k < size_of (header_in heap b) → b + k ≢ a
       old_word b k s lt e = ⊎_elim (λ (below : b + size_of (header_in heap b) ≤ a). absurd (omega (arith, below, lt, e))) (λ (above : a + size_of header ≤ b). absurd (omega (arith, above, e))) (free b s)
 

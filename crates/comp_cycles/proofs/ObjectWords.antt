@@ -1,4 +1,5 @@
--- The words of an object of a row, whose references and weak words are changed by one function, and whose header and data words stay.
+-- The words of an object, with one function applied to its references and weak words. The header and the data words
+-- stay.
 use Rattle.std.proofs.Common.{◌≡◌, ℕ, zero, suc, ◌+◌, ◌-◌, ◌<◌, ◌≤◌, List, ◌∷◌, ◌++◌, length, get_or, take, drop, map, sym, ap, ◌∙◌, arith, length-append, length-drop, length-take, drop-drop}
 use Rattle.std.proofs.Math.Seq.{take-add}
 use Rattle.std.proofs.lemmas.List.{length-map, map-append, get_or-map, get_or-take, get_or-drop, get_or_append_left, get_or-append_right}
@@ -6,11 +7,11 @@ use Rattle.heap_layout.specs.Header.{refs_of, weak_of, data_of, size_of}
 use Rattle.heap_layout.specs.declared.edition.Edition.{Edition}
 use Rattle.heap_layout.specs.Heap.{Object, header_at, object_at, IsPlaced}
 
--- the words, where g says what becomes of a reference and of a weak word
+-- the words, with g applied to the references and weak words
 abbrev pub words_by : (ℕ → ℕ) → Object → List ℕ
 words_by g object = object.header.word ∷ (map g object.references ++ map g object.weak ++ object.data_words)
 
--- words that are changed, and words that stay, side by side
+-- words that are changed, and then words that stay
 length-parts : (words : List ℕ) (g : ℕ → ℕ) (i refs more : ℕ) → i + (1 + refs + more) ≤ length words
     → length (map g (take refs (drop (i + 1) words)) ++ take more (drop (i + 1 + refs) words)) ≡ refs + more
 length-parts words g i refs more within = simp (length-append, length-map, length-take, length-drop) (omega arith)
@@ -54,20 +55,20 @@ module _ (edition : Edition) (g : ℕ → ℕ) (words : List ℕ) (i : ℕ) wher
       take-add refs weak behind ∙ ap (λ (xs : List ℕ). take refs behind ++ take weak xs) dropped in
       sym (ap (map g) whole ∙ map-append g (take refs behind) (take weak (drop (i + 1 + refs) words)))
 
-  -- so all words are the header, that range changed, and the data words
+  -- all words are the header, that range changed, and the data words
   all-words : words_by g (object_at edition words i) ≡ get_or words i 0 ∷ (map g (take (refs + weak) (drop (i + 1) words)) ++ take more (drop (i + 1 + (refs + weak)) words))
   all-words =
       let at : i + 1 + refs + weak ≡ i + 1 + (refs + weak) = omega arith in
       ap (λ (xs : List ℕ). get_or words i 0 ∷ (xs ++ (object_at edition words i).data_words)) changed-words
       ∙ ap (λ (n : ℕ). get_or words i 0 ∷ (map g (take (refs + weak) (drop (i + 1) words)) ++ take more (drop n words))) at
 
-  -- there are as many of them as before
+  -- the number of words stays
   pub words-length : IsPlaced edition words i → length (words_by g (object_at edition words i)) ≡ size_of (header_at edition words i)
   words-length placed =
       let within : i + (1 + (refs + weak) + more) ≤ length words = omega (arith, placed.within) in
       ap length all-words ∙ omega (arith, length-parts words g i (refs + weak) more within)
 
-  -- references and weak words are changed
+  -- references and weak words are changed by g
   pub word-changed : (f : ℕ) → IsPlaced edition words i → 1 ≤ f → f ≤ refs + weak → get_or (words_by g (object_at edition words i)) f 0 ≡ g (get_or words (i + f) 0)
   word-changed zero placed positive le = absurd (omega (arith, positive))
   word-changed (suc f) placed positive le =

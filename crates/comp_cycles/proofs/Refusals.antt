@@ -1,4 +1,4 @@
--- Why a heap is not followed by another, and what follows it else.
+-- Why `next_cycle` is refused, and what it makes if it is not.
 use Rattle.std.proofs.Common.{◌≡◌, ℕ, ◌*◌, ◌<◌, ◌&&◌, ltb, List, [], ◌∷◌, ◌++◌, length, map, Result, Ok, Err, IfOk, sym, ap, ap₂, ◌∙◌, subst, arith}
 use Rattle.std.specs.List.{range_with_len}
 use Rattle.std.proofs.lemmas.List.{length-map}
@@ -37,7 +37,7 @@ refused_first list (BadWeak i) h = h
 abbrev heap_of : Edition → List ℕ → List ℕ → List ℕ → Heap
 heap_of edition marks words roots = record { edition = edition; words = words; marks = marks; roots = roots }
 
--- the first of some faults is the first of all
+-- the first fault of a list is the first fault of a longer list
 first_of : (a b : List LayoutFault) (fault : LayoutFault) → IsFirst a fault → IsFirst (a ++ b) fault
 first_of [] b fault h = absurd h
 first_of (x ∷ a) b fault h = h
@@ -61,7 +61,7 @@ module _ (heap : Heap) (f : Finished) (marks : List ℕ) (e : IsEndOf heap f) wh
   pages_are : length (pages_of f) ≡ pages u
   pages_are = e.finished.pages.places
 
-  -- there are few pages
+  -- the next heap has fewer than 2^32 words
   pub few_pages : 64 * length (pages_of f) < 4294967296
   few_pages = let few = live_words-few heap e.closed in let fresh = e.few_fresh in omega (arith, few, fresh)
 
@@ -97,12 +97,12 @@ module _ (heap : Heap) (f : Finished) (marks : List ℕ) (e : IsEndOf heap f) wh
       (subst (λ l. IsFirst ((((l ++ marked) ++ others) ++ targets) ++ last) fault) (sym none ∙ sizes_are)
       (first_of ((marked ++ others) ++ targets) last fault (first_of (marked ++ others) targets fault (first_of marked others fault first))))
 
-  -- the bits tell where marks may be
+  -- the bits say which marks are starts
   pub bits_are : (words bits : List ℕ) → AreMoved u journals (64 * length (pages_of f)) words bits → length bits ≡ length (pages_of f) → (i : ℕ) → is_start (object_starts u journals) i ≡ (ltb i (64 * length bits) && bit bits i)
   bits_are words bits moved long i =
       starts_are u journals (64 * length (pages_of f)) words bits moved (ap (λ n. 64 * n) pages_are) i ∙ ap (λ n. ltb i n && bit bits i) (ap (λ n. 64 * n) (sym long))
 
-  -- what is made of the words that were moved is the next heap
+  -- the heap made of the moved words is the next heap
   pub made_next : (edition : Edition) (words bits lower : List ℕ) → edition ≡ heap.edition → AreMoved u journals (64 * length (pages_of f)) words bits → lower ≡ map lowered roots
       → record { edition = edition; words = words; marks = marks; roots = lower } ≡ next
   made_next edition words bits lower same moved roots_are =

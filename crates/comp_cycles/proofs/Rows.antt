@@ -26,7 +26,7 @@ use Rattle.comp_cycles.proofs.Finals.{head_in, stands, field_within, none_is_zer
 
 -- ---- words with kinds
 
--- a field of some kind
+-- a field of some kind other than header
 abbrev pub IsField : Option Kind → Type 0
 IsField o = (k : Kind) × (k ≢ Header) × (o ≡ Some k)
 
@@ -44,7 +44,7 @@ not_both : (o : Option Kind) → Begins o → IsField o → ⊥
 not_both o (inl a) field = field.1 (let both : Some field.0 ≡ Some Header = sym field.2 ∙ a in cc)
 not_both o (inr a) field = let both : Some field.0 ≡ None = sym field.2 ∙ a in cc
 
--- a word that is 0 is a header without fields
+-- the word 0 is the header of an object without fields
 empty_size : (edition : Edition) → size_of (header_of edition 0) ≡ 1
 empty_size One = refl
 empty_size Two = refl
@@ -66,7 +66,7 @@ module _ (edition : Edition) (words : List ℕ) (kind : ℕ → Option Kind) (ro
   empty_here : (i : ℕ) → i < long → kind i ≡ None → size_at i ≡ 1
   empty_here i lt none = ap (λ w. size_of (header_of edition w)) (row.empty i lt none) ∙ empty_size edition
 
-  -- what begins is an object
+  -- an object stands where one begins
   placed_here : (i : ℕ) → i < long → Begins (kind i) → IsPlaced edition words i
   placed_here i lt b = ⊎_elim
       (λ head. row.placed i lt head)
@@ -75,7 +75,7 @@ module _ (edition : Edition) (words : List ℕ) (kind : ℕ → Option Kind) (ro
       record { within = omega (arith, one, lt); short = omega (arith, one) })
       b
 
-  -- and another begins behind it
+  -- another object begins after it
   next_begins : (i : ℕ) → i < long → Begins (kind i) → i + size_at i < long → Begins (kind (i + size_at i))
   next_begins i lt b inside = ⊎_elim
       (λ begins. begins)
@@ -103,7 +103,7 @@ module _ (edition : Edition) (words : List ℕ) (kind : ℕ → Option Kind) (ro
       (λ (past : long ≤ i). ap (flat_map (object_faults edition words)) (starts_at-past edition words i past))
       (cases_lt i long)
 
-  -- each header is found in the row
+  -- each header is found as a start
   found : (steps i j : ℕ) → long ≤ i + steps → (i < long → Begins (kind i)) → i ≤ j → j < long → kind j ≡ Some Header → is_start (starts_at edition words i) j ≡ true
   found zero i j few b le lt head = absurd (omega (arith, few, le, lt))
   found (suc steps) i j few b le lt head =
@@ -157,7 +157,7 @@ header_is (Some Reference) e = absurd (both_ways false refl e)
 header_is (Some Weak) e = absurd (both_ways false refl e)
 header_is (Some Data) e = absurd (both_ways false refl e)
 
--- marks that have no fault in one row have none in a row that has its starts
+-- marks without a fault in one list of starts have none in a list that includes those starts
 marks_in : (some row : List ℕ) (low : ℕ) (marks : List ℕ) → ((m : ℕ) → is_start some m ≡ true → is_start row m ≡ true) → mark_faults some low marks ≡ [] → mark_faults row low marks ≡ []
 marks_in some row low [] has none = refl
 marks_in some row low (mark ∷ marks) has none =
@@ -178,14 +178,14 @@ module _ (u : Setup) (journals : Journals) (closed_before : IsClosed u.heap) (ca
   pub next_is : (i : ℕ) → i < 64 * pages u → get_or next.words i 0 ≡ next_word u journals i
   next_is i lt = at_row (next_word u journals) 0 (64 * pages u) i lt ∙ ap (next_word u journals) (let z : 0 + i ≡ i = omega arith in z)
 
-  -- all but references and weak words are as they were
+  -- words that do not refer stay
   pub next_kind : (i : ℕ) (o : Option Kind) → i < 64 * pages u → kind_in u journals i ≡ o → get_or next.words i 0 ≡ lowered_as o (word_in u journals i)
   next_kind i o lt e = next_is i lt ∙ ap (λ k. lowered_as k (word_in u journals i)) e
 
   stands_at : (i : ℕ) → i < 64 * pages u → kind_in u journals i ≡ Some Header → StandsAt u journals i
   stands_at i lt e = stands u journals closed_before can i (is_object u journals closed_before can i lt e)
 
-  -- a header is as it was
+  -- a header stays
   next_head : (i : ℕ) → i < 64 * pages u → kind_in u journals i ≡ Some Header → header_at u.heap.edition next.words i ≡ head_in u journals i
   next_head i lt e = ap (header_of u.heap.edition) (next_kind i (Some Header) lt e)
 
@@ -217,7 +217,7 @@ module _ (u : Setup) (journals : Journals) (closed_before : IsClosed u.heap) (ca
     empty = λ i lt e. let inside : i < 64 * pages u = omega (arith, lt, next_long) in next_kind i None inside e ∙ none_is_zero u journals closed_before can i e;
   }
 
-  -- what is marked is an object
+  -- a marked word is the start of an object
   pub mark_is : (m : ℕ) → is_start (object_starts u journals) m ≡ true → (m < 64 * pages u) × (kind_in u journals m ≡ Some Header)
   mark_is m found =
       let has = filter_has (λ i. is_header (kind_in u journals i)) 0 (64 * pages u) m found in
@@ -241,7 +241,7 @@ module _ (u : Setup) (journals : Journals) (closed_before : IsClosed u.heap) (ca
   abbrev weak_list : List LayoutFault
   weak_list = weak_faults u.heap.edition next.words marks
 
-  -- where sizes and marks have no fault, the faults are those of any heap
+  -- if sizes and marks have no fault, the faults are those of any heap
   pub same_faults : size_list ≡ [] → marks_list ≡ [] → faults next ≡ next_faults u journals next
   same_faults sizes none =
       let row = sound_row u.heap.edition next.words (kind_in u journals) next_row in
@@ -252,7 +252,7 @@ module _ (u : Setup) (journals : Journals) (closed_before : IsClosed u.heap) (ca
       ∙ sym (ap (λ (l : List LayoutFault). (((size_list ++ l) ++ roots_list) ++ targets_list) ++ weak_list) none
       ∙ ap (λ (l : List LayoutFault). (((l ++ []) ++ roots_list) ++ targets_list) ++ weak_list) sizes)
 
-  -- a heap without faults has none of its sizes and of its marks
+  -- if the next heap has no fault, its sizes and marks have none
   none_first : next_faults u journals next ≡ [] → (size_list ≡ []) × (marks_list ≡ [])
   none_first none =
       let four = append-none (size_list ++ marks_list ++ roots_list ++ targets_list) weak_list none in
@@ -260,7 +260,7 @@ module _ (u : Setup) (journals : Journals) (closed_before : IsClosed u.heap) (ca
       let two = append-none (size_list ++ marks_list) roots_list three.0 in
       append-none size_list marks_list two.0
 
-  -- where there is none, the heap is accepted
+  -- if the next heap has no fault, it is accepted
   pub accepted : next_faults u journals next ≡ [] → IsAccepted next
   accepted none = let one = none_first none in same_faults one.0 one.1 ∙ none
 

@@ -1,4 +1,4 @@
--- The objects of a closed heap, told by numbers: their words, and where their references lead.
+-- The objects of a closed heap in object numbers: their words, and where their references lead.
 use Rattle.std.proofs.Common.{◌≡◌, ℕ, zero, suc, ◌+◌, ◌-◌, ◌<◌, ◌≤◌, ◌⊎◌, Bool, true, false, cond, eqb, ◌==◌, Some, List, [], ◌∷◌, length, get_or, map, refl, sym, ap, ◌∙◌, inl, inr, ⊎_elim, arith, eq-eqb, ne_eqb, eqb-true}
 use Rattle.std.specs.List.{list_any, position_from}
 use Rattle.std.specs.Option.{option_map}
@@ -57,7 +57,7 @@ target_mark (mark ∷ marks) w (suc l) lt e =
     or_right (eqb (from_address mark) w) (list_any (λ m. from_address m == w) marks) (target_mark marks w l (omega (arith, lt)) e)
 
 module _ (heap : Heap) (closed : IsClosed heap) where
-  -- marks rise
+  -- the marks rise
   pub marks_below : (i d : ℕ) → i + suc d < length heap.marks → get_or heap.marks i 0 < get_or heap.marks (i + suc d) 0
   marks_below i zero lt =
       let one : i + 1 ≡ i + suc 0 = omega arith in
@@ -79,7 +79,7 @@ module _ (heap : Heap) (closed : IsClosed heap) where
       let here = ap (λ n. get_or heap.marks n 0) at in
       omega (arith, rise, here)
 
-  -- no two are the same
+  -- no two marks are equal
   pub marks_once : (i j : ℕ) → i < length heap.marks → j < length heap.marks → get_or heap.marks i 0 ≡ get_or heap.marks j 0 → i ≡ j
   marks_once i j lt lt2 e = ⊎_elim
       (λ (below : i < j). let r = marks_rise i j below lt2 in absurd (omega (arith, r, e)))
@@ -101,11 +101,11 @@ module _ (heap : Heap) (closed : IsClosed heap) where
       at_name (map from_address heap.marks) numbers l (from_address (get_or heap.marks l 0)) (omega (arith, addresses_long, lt)) (addresses_long ∙ sym count) (address_is l lt)
       (λ i below e. let r = marks_rise i l below lt in let a = address_is i (omega (arith, below, lt)) in omega (arith, r, a, e))
 
-  -- null has none
+  -- null has no number
   pub named_null : (numbers : List ℕ) → number_at (names_in heap numbers) 0 ≡ 0
   named_null numbers = no_name (map from_address heap.marks) numbers 0 (λ i lt e. let a = address_is i (omega (arith, addresses_long, lt)) in omega (arith, a, e))
 
-  -- nor has what is no target
+  -- a word that is no target has no number
   pub named_none : (numbers : List ℕ) (w : ℕ) → is_target heap.marks w ≡ false → number_at (names_in heap numbers) w ≡ 0
   named_none numbers w none = no_name (map from_address heap.marks) numbers w
       (λ i lt e.

@@ -1,4 +1,4 @@
--- No weak word of a marked object of the next heap leads nowhere.
+-- Each weak word of a marked object of the next heap is null or leads to an object.
 use Rattle.std.proofs.Common.{◌≡◌, ℕ, suc, ◌+◌, ◌-◌, ◌*◌, ◌/◌, ◌%◌, ◌<◌, ◌≤◌, ◌==◌, Bool, true, false, eqb, Some, List, [], ◌∷◌, ◌++◌, length, get_or, drop, refl, sym, ap, ap₂, ◌∙◌, ⊎_elim, subst, arith, eqb-true, eq-eqb, length-take}
 use Rattle.std.specs.List.{flat_map, list_any}
 use Rattle.std.proofs.lemmas.Bool.{or_cases, or_left, or_right, both_ways}
@@ -32,13 +32,13 @@ none_misled kind test first (word ∷ words) passes =
     ap₂ (λ (a b : List LayoutFault). a ++ b) (ap (λ t. unless t (misled kind first)) (passes 0 (omega arith)))
     (none_misled kind test (first + 1) words (λ k lt. passes (suc k) (omega (arith, lt))))
 
--- marks of which each has none
+-- marks that have no fault one by one have none together
 none_of_marks : (F : ℕ → List LayoutFault) (marks : List ℕ) → ((k : ℕ) → k < length marks → F (get_or marks k 0) ≡ []) → flat_map F marks ≡ []
 none_of_marks F [] none = refl
 none_of_marks F (mark ∷ marks) none =
     ap₂ (λ (a b : List LayoutFault). a ++ b) (none 0 (omega arith)) (none_of_marks F marks (λ k lt. none (suc k) (omega (arith, lt))))
 
--- where an object starts, an address leads to it
+-- the address of a start leads to a start
 started : (row : List ℕ) (i w : ℕ) → is_start row i ≡ true → from_address i ≡ w → list_any (λ m. from_address m == w) row ≡ true
 started [] i w found e = absurd (both_ways false refl found)
 started (start ∷ row) i w found e = ⊎_elim
@@ -56,7 +56,7 @@ module _ (u : Setup) (journals : Journals) (closed_before : IsClosed u.heap) (ca
   abbrev row : List ℕ
   row = starts u.heap.edition next.words
 
-  -- where an object is, there is one in the next heap
+  -- if an object starts at a to-space address, one starts at the lowered address in the next heap
   object_there : (w : ℕ) → IsObjectAt u journals w → is_target row (lowered w) ≡ true
   object_there w is =
       let up : to_address 0 ≤ w = ⊎_elim
@@ -88,7 +88,7 @@ module _ (u : Setup) (journals : Journals) (closed_before : IsClosed u.heap) (ca
       let leads = each_leads u journals can.lawful (older_closed u journals can.references) (i / 64) (i % 64) Weak refl (record { inside = omega arith; kind_is = kind }) in
       subst (λ w. is_target row w ≡ true) (sym (next_kind u journals closed_before can roots marks i (Some Weak) inside kind)) (leads_there (word_in u journals i) leads)
 
-  -- so they have no fault where the marks have none
+  -- if the marks have no fault, the weak words have none
   pub weak_words_lead : mark_faults (object_starts u journals) 0 marks ≡ [] → weak_faults u.heap.edition next.words marks ≡ []
   weak_words_lead none = none_of_marks
       (λ mark. reference_faults_by Weak (is_target row) (mark + first_of Weak (header_at u.heap.edition next.words mark)) (object_at u.heap.edition next.words mark).weak)

@@ -1,4 +1,4 @@
--- Cycles, one after the other, and their one history.
+-- Cycles that follow one another, and their one history.
 use Rattle.std.specs.Prelude.{◌≡◌, ℕ, ◌+◌, ◌<◌, slice_index, List, [], ◌∷◌, ◌++◌, length, map, zip, Some}
 use Rattle.std.specs.List.{range_with_len}
 use Rattle.heap_layout.specs.Header.{size_of}
@@ -16,7 +16,8 @@ use Rattle.comp_cycles.specs.Stable.{StableHeap, Step, Keeps, IsLife, lived}
 use Rattle.comp_cycles.specs.Told.{Names, names_in, number_at, pointers_of, told_word, made_at, told, first_numbers, first_told, AreTold, IsToldAs}
 use Rattle.comp_cycles.specs.NextHeap.{next_heap, next_faults}
 
--- A cycle: the heap that was compacted, the journals at its end, where its roots lead, and the marks that were handed in then.
+-- A cycle: its setup with the heap that was compacted, the journals at the end, the addresses to which the roots lead,
+-- and the marks that were handed in at the end.
 pub record Cycle : Type 0 where
   pub setup : Setup
   pub journals : Journals
@@ -31,82 +32,84 @@ entries_of c = history c.setup c.journals
 abbrev pub heap_after : Cycle → Heap
 heap_after c = next_heap c.setup c.journals c.roots c.marks
 
--- how many numbers are given out once the cycle is over
+-- how many object numbers have been given out after the cycle
 abbrev pub given_after : Cycle → ℕ → ℕ
 given_after c given = given + length (made_at (entries_of c))
 
--- the objects of the cycle, by their to-space addresses: those that slid keep their numbers, and each that is made gets the next one
+-- the to-space addresses of the cycle's objects, with their numbers: objects that slid keep theirs, and each new object
+-- gets the next one
 abbrev pub names_of : Cycle → List ℕ → ℕ → Names
 names_of c numbers given =
     let made = made_at (entries_of c) in
     zip ((first_heap c.setup).starts ++ made) (numbers ++ range_with_len (given + 1) (length made))
 
--- the numbers of the objects that are marked at the end, by rising address
+-- the numbers of the objects marked at the end, by rising address
 abbrev pub numbers_after : Cycle → List ℕ → ℕ → List ℕ
 numbers_after c numbers given = map (λ i. number_at (names_of c numbers given) (to_address i)) c.marks
 
--- what was written in the cycle, told in numbers, and then what is kept
+-- the story of the cycle in object numbers: what was written, and then what is kept
 abbrev pub story_of : Cycle → List ℕ → ℕ → List Step
 story_of c numbers given = told (names_of c numbers given) (first_heap c.setup) (entries_of c) ++ Keeps (numbers_after c numbers given) ∷ []
 
--- The cycle began with this heap, and was followed by another.
+-- This is a cycle of this heap, and it can be followed by another.
 pub record IsCycleOf (heap : Heap) (c : Cycle) : Type 0 where
   pub heap_is : c.setup.heap ≡ heap
   pub merges : CanMerge c.setup c.journals
-  -- its roots led where those of the heap did
+  -- the roots of the cycle are the heap's roots, forwarded
   pub roots : AreForwarded c.setup.heap c.roots
-  -- its marks were accepted
+  -- the next heap has no fault, so its marks are accepted
   pub accepted : next_faults c.setup c.journals (heap_after c) ≡ []
 
--- What was seen of page p, told in numbers, is what the objects were in that heap at one point between two entries.
+-- What was seen of page p, in object numbers, is the state of the objects in the stable heap at one point between two
+-- entries.
 pub record IsSeen (c : Cycle) (names : Names) (stable : StableHeap) (p : ℕ) (seen : List Entry) : Type 0 where
   pub before : List (ℕ × Entry)
   pub rest : List (ℕ × Entry)
   pub parts : entries_of c ≡ before ++ rest
-  -- those of the page are what was seen
+  -- the entries before the point that are on the page are those that were seen
   pub seen_is : on p before ≡ seen
-  -- and the words that they make of the page, where they are an object's, are that object's
+  -- each word that the seen entries make of the page, if it is a word of an object, is that object's word
   pub words : (a at offset : ℕ) → HasStart (result_of (first_heap c.setup) before) a → at < size_of (header_in (result_of (first_heap c.setup) before) a)
       → offset < 64 → a + at ≡ address p offset
       → slice_index ((lived stable (told names (first_heap c.setup) before)).words (number_at names a)) at
       ≡ told_word names (pointers_of (header_in (result_of (first_heap c.setup) before) a)) at (slice_index (replayed (base_of c.setup p) seen) offset)
 
--- The writing of a cycle in the life of the heap whose objects never move, which stood so at its beginning.
+-- The writing of a cycle, in the life of a heap whose objects never move. `stable` is that heap when the cycle begins.
 pub record IsWriting (c : Cycle) (numbers : List ℕ) (stable : StableHeap) : Type 0 where
-  -- what was written, in one order, may be done there
+  -- the entries, in one order, are steps that may be made there
   pub life : IsLife stable (told (names_of c numbers stable.given) (first_heap c.setup) (entries_of c))
-  -- at each point between two entries the objects are what they are in that heap
+  -- at each point between two entries the objects are the same in both heaps
   pub points : (before rest : List (ℕ × Entry)) → entries_of c ≡ before ++ rest
       → AreTold (names_of c numbers stable.given) (result_of (first_heap c.setup) before) (lived stable (told (names_of c numbers stable.given) (first_heap c.setup) before))
-  -- so each read is one of that heap
+  -- each read of the cycle is a read of the stable heap
   pub seen : (p : ℕ) (seen : List Entry) → p < pages c.setup → StartsWith (c.journals p) seen → IsSeen c (names_of c numbers stable.given) stable p seen
 
--- The cycle as a chapter of that life.
+-- The cycle is a chapter of that life.
 pub record IsChapter (c : Cycle) (numbers : List ℕ) (stable : StableHeap) : Type 0 where
   pub writing : IsWriting c numbers stable
-  -- what was written, and then what was kept, may be done there
+  -- the whole story may be lived there: what was written, and then what is kept
   pub life : IsLife stable (story_of c numbers stable.given)
-  -- it comes to the words of the objects that are kept
+  -- after the story, the words of the kept objects are those in the next heap
   pub kept : IsToldAs (heap_after c) (numbers_after c numbers stable.given) (lived stable (story_of c numbers stable.given))
   pub given : (lived stable (story_of c numbers stable.given)).given ≡ given_after c stable.given
-  -- each root leads to the object to which it led
+  -- each root leads to the same object as before
   pub roots : map (number_at (names_in (heap_after c) (numbers_after c numbers stable.given))) (heap_after c).roots ≡ map (number_at (names_in c.setup.heap numbers)) c.setup.heap.roots
 
--- Forwarding keeps the order of addresses, so it never joins two.
+-- Forwarding keeps the order of addresses. So it never maps two addresses to one.
 abbrev pub IsRising : Heap → Type 0
 IsRising heap = (a b x y : ℕ) → 0 < a → a < b → forward (live heap) a ≡ Some x → forward (live heap) b ≡ Some y → x < y
 
--- cycles that follow one another, from one heap to another
+-- these cycles follow one another, from the one heap to the last
 abbrev pub Follow : Heap → List Cycle → Heap → Type 0
 Follow heap [] last = last ≡ heap
 Follow heap (c ∷ cs) last = IsCycleOf heap c × Follow (heap_after c) cs last
 
--- their one story
+-- the stories of the cycles, one after the other
 abbrev pub story : List Cycle → List ℕ → ℕ → List Step
 story [] numbers given = []
 story (c ∷ cs) numbers given = story_of c numbers given ++ story cs (numbers_after c numbers given) (given_after c given)
 
--- the numbers of the objects that are left
+-- the numbers of the objects that are kept after the last cycle
 abbrev pub numbers_left : List Cycle → List ℕ → ℕ → List ℕ
 numbers_left [] numbers given = numbers
 numbers_left (c ∷ cs) numbers given = numbers_left cs (numbers_after c numbers given) (given_after c given)
@@ -118,7 +121,7 @@ AreChapters (c ∷ cs) numbers stable =
     IsChapter c numbers stable × IsRising c.setup.heap
     × AreChapters cs (numbers_after c numbers stable.given) (lived stable (story_of c numbers stable.given))
 
--- The cycles from one heap to another are one life of a heap whose objects never move.
+-- The cycles from the one heap to the last are one life of a heap whose objects never move.
 pub record IsOneLife (heap : Heap) (cycles : List Cycle) (last : Heap) : Type 0 where
   pub life : IsLife (first_told heap) (story cycles (first_numbers heap) (length heap.marks))
   pub result : IsToldAs last (numbers_left cycles (first_numbers heap) (length heap.marks)) (lived (first_told heap) (story cycles (first_numbers heap) (length heap.marks)))

@@ -1,5 +1,6 @@
--- An example: the three objects, of which the first and the last are marked; one mutator makes an object and stores it in the last of them; then these two are marked. In the second
--- cycle the mutator stores null there, and that object alone is marked.
+-- An example with three objects, the first and the last of them marked. In the first cycle one mutator makes an object
+-- and stores it in the last of the three; then these two are marked. In the second cycle the mutator stores null there,
+-- and only that object is marked.
 use Rattle.std.specs.Prelude.{ℕ, zero, suc, List, [], ◌∷◌, map}
 use Rattle.heap_layout.specs.Header.{header_word}
 use Rattle.heap_layout.specs.declared.kind.Kind.TheVariants.{Header, Reference}
@@ -8,11 +9,13 @@ use Rattle.comp_history.specs.Drawn.{entry, t, three_objects}
 use Rattle.comp_cycles.specs.Cycles.{Cycle, heap_after}
 use Rattle.comp_cycles.specs.Stable.{StableHeap}
 
+-- the journals of the first cycle
 abbrev pub drawn_journals : Journals
 drawn_journals zero = entry 1 0 Reference 3 (t 64) ∷ []
 drawn_journals (suc zero) = entry 0 0 Header 0 (header_word 0 0 9) ∷ []
 drawn_journals (suc (suc p)) = []
 
+-- the first cycle, with these marks at the end
 abbrev pub drawn_cycle : List ℕ → Cycle
 drawn_cycle marks = record {
   setup = record { heap = three_objects; compacted = 1; fresh = 2; mutators = 1 };
@@ -21,6 +24,7 @@ drawn_cycle marks = record {
   marks = marks;
 }
 
+-- the journals of the second cycle
 abbrev pub second_journals : Journals
 second_journals zero = entry 0 0 Reference 1 0 ∷ []
 second_journals (suc p) = []
@@ -34,7 +38,7 @@ second_cycle = record {
   marks = 0 ∷ [];
 }
 
--- both of them
+-- both cycles
 abbrev pub drawn_cycles : List Cycle
 drawn_cycles = drawn_cycle (2 ∷ 64 ∷ []) ∷ second_cycle ∷ []
 

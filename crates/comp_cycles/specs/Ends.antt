@@ -1,4 +1,4 @@
--- What is known of a heap at the end of a cycle to one that knows which heap was compacted.
+-- What is known of a heap at the end of a cycle, given the heap that was compacted.
 use Rattle.std.specs.Prelude.{◌≡◌, ℕ, ◌+◌, ◌-◌, ◌<◌, ◌≤◌, false, List, length, slice_index}
 use Rattle.heap_layout.specs.Bits.{bit}
 use Rattle.heap_layout.specs.Heap.{Heap, live, IsClosed}
@@ -15,7 +15,7 @@ use Rattle.comp_cycles.specs.declared.finished.Finished.{Finished}
 use Rattle.comp_cycles.specs.NextHeap.{next_word, kind_in, is_header}
 use Rattle.comp_cycles.specs.Cycles.{Cycle}
 
--- what the cycle was about: it compacted this heap, with as many fresh pages as there are after the compacted ones
+-- the setup of the cycle: the heap that was compacted, and as many fresh pages as there are after the compacted ones
 abbrev pub setup_in : Heap → Finished → Setup
 setup_in heap f = record {
   heap = heap;
@@ -24,29 +24,29 @@ setup_in heap f = record {
   mutators = length (builds_in f);
 }
 
--- The heap is what is left of this one, which was compacted.
+-- The finished heap is the end of a cycle that compacted this heap.
 pub record IsEndOf (heap : Heap) (f : Finished) : Type 0 where
   pub row : List Pass
   pub finished : IsFinished (setup_in heap f) row f
   pub closed : IsClosed heap
   pub few_fresh : length (pages_of f) ≤ sliding.pages (live heap) + 4096
 
--- the cycle, with the marks that are handed in at its end
+-- the cycle, with the marks that are handed in at the end
 abbrev pub cycle_of : Heap → Finished → List ℕ → Cycle
 cycle_of heap f marks = record { setup = setup_in heap f; journals = journals_of f; roots = roots_of f; marks = marks }
 
--- the words of page p
+-- the words of page p at the end
 abbrev pub words_at : Heap → Finished → ℕ → List ℕ
 words_at heap f p = replayed (base_of (setup_in heap f) p) (journals_of f p)
 
--- The first n words of the next heap, and for each of them a bit, which is set where an object starts.
+-- The first n words of the next heap, and one bit for each of them: it is set if an object starts at the word.
 pub record AreMoved (u : Setup) (journals : Journals) (n : ℕ) (words bits : List ℕ) : Type 0 where
   pub long : length words ≡ n
   pub moved : (i : ℕ) → i < n → slice_index words i ≡ next_word u journals i
   pub starts : (i : ℕ) → i < n → bit bits i ≡ is_header (kind_in u journals i)
   pub rest : (i : ℕ) → n ≤ i → bit bits i ≡ false
 
--- why a heap is not followed by another: the first of its faults, or a growth was refused
+-- why `next_cycle` is refused: the first fault of the next heap, or out of memory
 abbrev pub IsRefusedFor : List LayoutFault → LayoutFault → Type 0
 IsRefusedFor list OutOfMemory = Unit {0}
 IsRefusedFor list fault = IsFirst list fault

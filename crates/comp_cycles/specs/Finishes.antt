@@ -1,4 +1,4 @@
--- What is known of a heap once all its mutators are back.
+-- What is known of a heap after all its mutators were handed back.
 use Rattle.std.specs.Prelude.{◌≡◌, ℕ, ◌+◌, ◌<◌, ◌≤◌, List, [], length, map, IsSome, Some, None}
 use mathlib.Core.Option.{some}
 use lib.ListN.{get_elem?}
@@ -25,15 +25,15 @@ use Rattle.comp_cycles.specs.declared.finished.Finished.{Finished}
 abbrev pub edition_in : Finished → Edition
 edition_in f = f.edition
 
--- the pages, None where one was never built
+-- the pages; None for a page that was never built
 abbrev pub pages_of : Finished → List Slot
 pages_of f = f.pages.items
 
--- where the roots lead
+-- the addresses to which the roots lead
 abbrev pub roots_of : Finished → List ℕ
 roots_of f = f.roots.items
 
--- the words of all objects
+-- the number of words of all objects
 abbrev pub live_of : Finished → ℕ
 live_of f = f.live
 
@@ -49,51 +49,55 @@ journals_of f p = journal_at f.pages.items p
 abbrev pub history_of : Setup → Finished → List (ℕ × Entry)
 history_of u f = history u (journals_of f)
 
--- 1 where a page is there, and 0 where it was never built
+-- 1 if the page was built, 0 if not
 abbrev pub there : Slot → ℕ
 there None = 0
 there (Some page) = 1
 
--- what these passes allocated, in all
+-- how many words the objects have that these passes made
 abbrev pub allocated_by : List Pass → ℕ
 allocated_by row = total (λ (pass : Pass). allocated (edition_of pass) (did pass)) row
 
--- The pages, where these are the passes of the mutators, by their numbers.
+-- The pages at the end, given the passes of the mutators in the order of their numbers.
 pub record HasPages (u : Setup) (row : List Pass) (f : Finished) : Type 0 where
-  -- there is a place for each page
+  -- there is one slot for each page
   pub places : length (pages_of f) ≡ pages u
-  -- the builds are those of each mutator
+  -- the lists of builds are those of the mutators
   pub builds : builds_in f ≡ map builds_of row
-  -- a page that is there is named once in all of them, and no other page is
+  -- a page that was built occurs once in all these lists, and no other page does
   pub once : (p : ℕ) → named p (builds_in f) ≡ there (page_at (pages_of f) p)
-  -- a page that a mutator has seen built is there
+  -- a page that a mutator has seen built exists
   pub known : (k : ℕ) (pass : Pass) → get_elem? row k ≡ some pass → (p : ℕ) → HasSeenBuilt pass p → IsSome (page_at (pages_of f) p)
-  -- each page that is there began as sliding compaction makes it, a fresh one as zeros; its words are what its journal makes of that
+  -- each page that exists has the base that sliding compaction defines, or zeros on a fresh page; its words are that
+  -- base with the journal replayed over it
   pub bases : (p : ℕ) → HasBase u p (page_at (pages_of f) p)
   -- each journal is lawful
   pub lawful : AreLawful u (journals_of f)
-  -- each reference and weak word of each page is null or an object's start
+  -- each word that refers on each page is null or the start of an object
   pub closed : ReferencesAreStarts u (journals_of f)
 
--- The ledger balances: there are the words that slid, and those of all objects that the mutators made, which are those that the history makes.
+-- The ledger balances: the live words are those that slid and those of all objects that the mutators made, and these
+-- are the objects that the history makes.
 pub record Balances (u : Setup) (row : List Pass) (f : Finished) : Type 0 where
   pub shares : live_of f ≡ live_words (live u.heap) + allocated_by row
   pub made : live_of f ≡ live_words (live u.heap) + allocated u.heap.edition (history_of u f)
 
 -- All pages have one history.
 pub record HasOneHistory (u : Setup) (row : List Pass) (f : Finished) : Type 0 where
-  -- the journals can be merged: the stamps are the numbers below the count of entries, each once, and references and weak words lead to older objects
+  -- the journals can be merged: the stamps are the numbers below the number of entries, each once, and references and
+  -- weak words lead to older objects
   pub merges : CanMerge u (journals_of f)
-  -- one thread may write the merged history into the slid heap, and it makes the pages
+  -- one thread may write the merged history into the slid heap, and this makes the pages
   pub one : IsOneHistory u (journals_of f) (history_of u f)
-  -- the entries of each mutator in it are what it did, in its order, and there are no others
+  -- in the history the entries of each mutator are those that it wrote, in its order, and there are no others
   pub own : (k : ℕ) (pass : Pass) → get_elem? row k ≡ some pass → written_by k (history_of u f) ≡ did pass
   pub no_others : (k : ℕ) → length row ≤ k → written_by k (history_of u f) ≡ []
-  -- what a mutator has seen of a page is a beginning of its journal, and what the page was at some point of the history
+  -- what a mutator has seen of a page is a prefix of the page's journal, and the state of the page at some point of the
+  -- history
   pub begins : (k : ℕ) (pass : Pass) → get_elem? row k ≡ some pass → (p : ℕ) → StartsWith (journals_of f p) (seen pass p)
   pub points : (k : ℕ) (pass : Pass) → get_elem? row k ≡ some pass → (p : ℕ) → p < pages u → IsPoint u (history_of u f) p (seen pass p)
 
--- The heap at the end of a cycle, where these are the passes of its mutators, by their numbers.
+-- The heap at the end of a cycle, given the passes of its mutators in the order of their numbers.
 pub record IsFinished (u : Setup) (row : List Pass) (f : Finished) : Type 0 where
   pub edition : edition_in f ≡ u.heap.edition
   pub pages : HasPages u row f
@@ -101,14 +105,14 @@ pub record IsFinished (u : Setup) (row : List Pass) (f : Finished) : Type 0 wher
   pub balances : Balances u row f
   pub history : HasOneHistory u row f
 
--- The heap at the end of a cycle that was flipped with so many mutators and fresh pages.
+-- The heap at the end of a cycle that was flipped with this number of mutators and this number of fresh pages.
 pub record IsOfFlip (mutators fresh : ℕ) (f : Finished) : Type 0 where
   pub setup : Setup
   pub row : List Pass
   pub finished : IsFinished setup row f
-  -- the heap was accepted
+  -- the heap that was compacted was an accepted one
   pub heap : IsClosed setup.heap
-  -- a pass for each mutator, and the counts are within the limits of a flip
+  -- there is one pass for each mutator, and the counts are within the limits of a flip
   pub crew : length row ≡ mutators
   pub mutators_are : setup.mutators ≡ mutators
   pub some_mutators : 1 ≤ mutators

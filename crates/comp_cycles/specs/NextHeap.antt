@@ -1,4 +1,4 @@
--- The heap with which the next cycle begins: the to-space words of this one are its from-space words.
+-- The heap with which the next cycle begins. Its from-space words are the to-space words of this cycle.
 use Rattle.std.specs.Prelude.{ℕ, ◌-◌, ◌*◌, ◌/◌, ◌%◌, ◌^◌, Bool, true, false, cond, List, ◌++◌, filter, length, map, Option, Some, None}
 use Rattle.std.specs.List.{range_with_len}
 use Rattle.heap_layout.specs.Heap.{Heap}
@@ -12,27 +12,28 @@ use Rattle.comp_history.specs.Lawful.{kind_at}
 use Rattle.comp_history.specs.Locks.{Journals}
 use Rattle.comp_history.specs.Objects.{word_on}
 
--- the to-space word i at the end, and what it is
+-- to-space word i at the end of the cycle
 abbrev pub word_in : Setup → Journals → ℕ → ℕ
 word_in u journals i = word_on u journals (i / 64) (i % 64)
 
+-- the kind of to-space word i at the end of the cycle; None outside all objects
 abbrev pub kind_in : Setup → Journals → ℕ → Option Kind
 kind_in u journals i = kind_at u (i / 64) (journals (i / 64)) (i % 64)
 
--- the to-space address of a word, once its space is from-space; null stays null, since no number is below 0
+-- a to-space address as an address of the next heap's from-space; null stays null, since subtraction stops at 0
 abbrev pub lowered : ℕ → ℕ
 lowered a = a - 2 ^ 32
 
--- a word of this kind, once its space is from-space: references and weak words are lowered, all else stays
+-- a word of this kind in the next heap: references and weak words are lowered, all others stay
 abbrev pub lowered_as : Option Kind → ℕ → ℕ
 lowered_as (Some kind) word = cond (refers kind) (lowered word) word
 lowered_as None word = word
 
--- the word i of the next heap
+-- word i of the next heap
 abbrev pub next_word : Setup → Journals → ℕ → ℕ
 next_word u journals i = lowered_as (kind_in u journals i) (word_in u journals i)
 
--- the next heap, where the roots lead to these addresses, and these indices are marked
+-- the next heap, given the addresses to which the roots lead and the indices that are marked
 abbrev pub next_heap : Setup → Journals → List ℕ → List ℕ → Heap
 next_heap u journals roots marks = record {
   edition = u.heap.edition;
@@ -41,6 +42,7 @@ next_heap u journals roots marks = record {
   roots = map lowered roots;
 }
 
+-- the kind is that of a header
 abbrev pub is_header : Option Kind → Bool
 is_header (Some Header) = true
 is_header (Some Reference) = false
@@ -48,11 +50,11 @@ is_header (Some Weak) = false
 is_header (Some Data) = false
 is_header None = false
 
--- the indices at which objects start: of those that slid, and of those that were made. What belongs to no object is none.
+-- the indices at which objects start: those that slid, and those that were made. A word outside all objects is no start
 abbrev pub object_starts : Setup → Journals → List ℕ
 object_starts u journals = filter (λ i. is_header (kind_in u journals i)) (range_with_len 0 (64 * pages u))
 
--- why the heap is refused: the first of these
+-- the faults for which the next heap is refused: the first one counts
 abbrev pub next_faults : Setup → Journals → Heap → List LayoutFault
 next_faults u journals heap =
     size_faults (length heap.words) (length heap.marks) (length heap.roots)

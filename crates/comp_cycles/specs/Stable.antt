@@ -1,5 +1,6 @@
--- The heap whose objects never move. An object has its number for good: 1, 2, 3 and so on, in the order in which they were made; 0 is null. Its words are its
--- header, its references and weak words, each the number of an object or 0, and its data words.
+-- The stable heap, whose objects never move. An object keeps its number: 1, 2, 3 and so on, in the order in which the
+-- objects were made; 0 is null. The words of an object are its header, then its references and weak words, each the
+-- number of an object or 0, and then its data words.
 use Rattle.std.specs.Prelude.{◌≡◌, ℕ, ◌+◌, ◌-◌, ◌<◌, ◌==◌, ◌&&◌, ◌⊎◌, Bool, true, nat_le, nat_lt, cond, List, [], ◌∷◌, fold, replicate, slice_index, slice_set}
 use Rattle.std.specs.List.{list_any}
 use mathlib.Core.Option.{some}
@@ -12,66 +13,70 @@ use Rattle.heap_layout.specs.declared.kind.Kind.TheVariants.{Weak, Data}
 use Rattle.comp_history.specs.Lists.{but}
 
 pub record StableHeap : Type 0 where
-  -- how headers are read
+  -- the edition by which headers are read
   pub edition : Edition
-  -- how many numbers were given out
+  -- how many numbers have been given out
   pub given : ℕ
-  -- the numbers of the objects that are there
+  -- the numbers of the objects that exist
   pub there : List ℕ
   -- the words of each object
   pub words : ℕ → List ℕ
 
--- A step in the life of the heap.
+-- A step in the life of the stable heap.
 pub data Step : Type 0 where
-  -- an object with this header is made, its fields null and 0; it gets the next number
+  -- makes an object with this header; its fields are null and 0, and it gets the next number
   Makes : (header : ℕ) → Step
-  -- a field of an object is written, by its number among the object's fields of this kind
+  -- writes a field of an object; `field` is its index among the object's fields of this kind
   Writes : (kind : Kind) (object field value : ℕ) → Step
-  -- all objects but these are dropped, and weak words that named others become null
+  -- keeps these objects and drops all others; weak words that lead to dropped objects become null
   Keeps : (objects : List ℕ) → Step
 
 -- the header of an object
 abbrev pub head_of : StableHeap → ℕ → Head
 head_of heap n = header_of heap.edition (slice_index (heap.words n) 0)
 
--- the number is among these
+-- this number is in the list
 abbrev pub IsAmong : List ℕ → ℕ → Type 0
 IsAmong numbers n = (i : ℕ) × (get_elem? numbers i ≡ some n)
 
+-- this number is 0 or in the list
 abbrev pub IsNullOrAmong : List ℕ → ℕ → Type 0
 IsNullOrAmong numbers n = (n ≡ 0) ⊎ IsAmong numbers n
 
--- the same, as a test
+-- the same as a test
 abbrev pub is_among : List ℕ → ℕ → Bool
 is_among numbers n = list_any (λ m. m == n) numbers
 
--- The objects are there, and each reference of each of them is null or leads to one of them. Of weak words nothing is asked.
+-- These objects may be kept: they exist, and each reference of each of them is null or leads to one of them. Weak words
+-- are not restricted.
 pub record MayKeep (heap : StableHeap) (objects : List ℕ) : Type 0 where
   pub there : (n : ℕ) → IsAmong objects n → IsAmong heap.there n
   pub closed : (n field : ℕ) → IsAmong objects n → field < refs_of (head_of heap n) → IsNullOrAmong objects (slice_index (heap.words n) (1 + field))
 
--- The step may be made. What is written as a reference or as a weak word is null or names an object that is there.
+-- The step may be made. A value written as a reference or a weak word must be null or the number of an object that
+-- exists.
 abbrev pub MayStep : StableHeap → Step → Type 0
 MayStep heap (Makes header) = Unit {0}
 MayStep heap (Writes kind object field value) =
     IsAmong heap.there object × (field < count_of kind (head_of heap object)) × (refers kind ≡ true → IsNullOrAmong heap.there value)
 MayStep heap (Keeps objects) = MayKeep heap objects
 
--- a word of an object with this header, by its place in the object, once only these objects are left: a weak word that names none of them is null
+-- a word of an object with this header, by its index in the object, after only these objects were kept: a weak word
+-- that leads to none of them is null
 abbrev pub left_word : Head → List ℕ → ℕ → ℕ → ℕ
 left_word header objects at word =
     cond (nat_le (first_of Weak header) at && nat_lt at (first_of Data header)) (cond (is_among objects word) word 0) word
 
--- the words of an object from a place on
+-- the words of an object from an index on, after only these objects were kept
 abbrev pub left_words : Head → List ℕ → ℕ → List ℕ → List ℕ
 left_words header objects at [] = []
 left_words header objects at (word ∷ words) = left_word header objects at word ∷ left_words header objects (at + 1) words
 
--- the heap with one word of an object written
+-- the heap after one word of an object was written
 abbrev pub with_word : StableHeap → ℕ → ℕ → ℕ → StableHeap
 with_word heap object at value = record heap { words = but heap.words object (slice_set (heap.words object) at value) }
 
--- the heap once the step was made
+-- the heap after the step was made
 abbrev pub stepped : StableHeap → Step → StableHeap
 stepped heap (Makes header) = record heap {
   given = heap.given + 1;
@@ -86,6 +91,6 @@ abbrev pub IsLife : StableHeap → List Step → Type 0
 IsLife heap [] = Unit {0}
 IsLife heap (step ∷ steps) = MayStep heap step × IsLife (stepped heap step) steps
 
--- what they make of the heap
+-- the heap after these steps were made
 abbrev pub lived : StableHeap → List Step → StableHeap
 lived heap steps = fold stepped heap steps

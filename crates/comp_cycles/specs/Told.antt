@@ -1,4 +1,4 @@
--- Heaps told in numbers.
+-- Heaps in object numbers: addresses are replaced by the numbers of the objects.
 use Rattle.std.specs.Prelude.{◌≡◌, ℕ, ◌+◌, ◌-◌, ◌<◌, ◌≤◌, ◌&&◌, nat_le, nat_lt, cond, List, [], ◌∷◌, ◌++◌, length, map, slice_index, slice_index_or, zip}
 use Rattle.std.specs.List.{range_with_len}
 use Rattle.heap_layout.specs.Header.{Head, refs_of, weak_of, size_of}
@@ -11,41 +11,43 @@ use Rattle.comp_history.specs.Lists.{look}
 use Rattle.comp_history.specs.OneThread.{OneThreadHeap, HasStart, header_in, address_of, after}
 use Rattle.comp_cycles.specs.Stable.{StableHeap, Step, Makes, Writes, IsAmong}
 
--- addresses of objects, each beside its object's number
+-- addresses of objects, each with its object's number
 abbrev pub Names : Type 0
 Names = List (ℕ × ℕ)
 
--- the number of the object that starts at an address; 0 where none does, and for null
+-- the number of the object that starts at this address; 0 for null, and if no object does
 abbrev pub number_at : Names → ℕ → ℕ
 number_at names a = look 0 names a
 
--- how many words of an object with this header are null or lead to objects: its references, and the weak words after them
+-- how many words of an object with this header are null or lead to objects: its references and its weak words
 abbrev pub pointers_of : Head → ℕ
 pointers_of header = refs_of header + weak_of header
 
 -- ---- the live objects of a heap
 
--- the live objects, by rising address, each beside its number
+-- the live objects, by rising address, each with its number
 abbrev pub names_in : Heap → List ℕ → Names
 names_in heap numbers = zip (map from_address heap.marks) numbers
 
--- The words of an object: its references and weak words are numbers. A weak word that leads to an object which has no number is 0.
+-- The words of an object in object numbers: each reference and weak word is a number. A weak word that leads to an
+-- object without a number is 0.
 abbrev pub told_object : Names → Object → List ℕ
 told_object names object = object.header.word ∷ (map (number_at names) object.references ++ map (number_at names) object.weak ++ object.data_words)
 
--- The stable heap has the live objects of the heap, by rising address with these numbers, and no others.
+-- The stable heap has exactly the live objects of the heap; these are their numbers, by rising address.
 pub record IsToldAs (heap : Heap) (numbers : List ℕ) (stable : StableHeap) : Type 0 where
   pub edition : stable.edition ≡ heap.edition
   pub there : stable.there ≡ numbers
   pub words : map stable.words numbers ≡ map (told_object (names_in heap numbers)) (live heap)
-  -- they are numbers that were given out, each once
+  -- the numbers have been given out, each once
   pub given : (i : ℕ) → i < length numbers → (1 ≤ slice_index numbers i) × (slice_index numbers i ≤ stable.given)
   pub once : (i j : ℕ) → i < length numbers → j < length numbers → slice_index numbers i ≡ slice_index numbers j → i ≡ j
 
--- at the very first the live objects have the numbers 1, 2, 3 and so on
+-- in the first heap, the live objects have the numbers 1, 2, 3 and so on
 abbrev pub first_numbers : Heap → List ℕ
 first_numbers heap = range_with_len 1 (length heap.marks)
 
+-- the stable heap with the objects of the first heap
 abbrev pub first_told : Heap → StableHeap
 first_told heap = record {
   edition = heap.edition;
@@ -56,57 +58,59 @@ first_told heap = record {
 
 -- ---- the objects of the heap of one thread
 
--- a word of an object, by its place in the object: each of the first ones after the header is told as a number, all else as it is
+-- a word of an object in object numbers, by its index in the object: the words that lead to objects become numbers, all
+-- others stay
 abbrev pub told_word : Names → ℕ → ℕ → ℕ → ℕ
 told_word names pointers at word = cond (nat_le 1 at && nat_le at pointers) (number_at names word) word
 
--- The objects of the heap of one thread, told by these names, are in the stable heap.
+-- The objects of the heap of one thread, with these names, are in the stable heap.
 pub record AreTold (names : Names) (heap : OneThreadHeap) (stable : StableHeap) : Type 0 where
   pub edition : stable.edition ≡ heap.edition
-  -- each is there, under a number of its own
+  -- each object exists there, with a number of its own
   pub there : (a : ℕ) → HasStart heap a → IsAmong stable.there (number_at names a)
   pub one : (a b : ℕ) → HasStart heap a → HasStart heap b → number_at names a ≡ number_at names b → a ≡ b
-  -- and has the same words
+  -- each object has the same words there
   pub long : (a : ℕ) → HasStart heap a → length (stable.words (number_at names a)) ≡ size_of (header_in heap a)
   pub words : (a at : ℕ) → HasStart heap a → at < size_of (header_in heap a)
       → slice_index (stable.words (number_at names a)) at ≡ told_word names (pointers_of (header_in heap a)) at (heap.word (a + at))
 
--- ---- what is written into it
+-- ---- what is written into the heap of one thread
 
--- which of the objects that start at these addresses, with these headers, has the word at an address
+-- the start of the object that has the word at this address, among objects with these starts and headers
 abbrev pub owner : (ℕ → Head) → List ℕ → ℕ → ℕ
 owner header [] a = 0
 owner header (start ∷ starts) a = cond (nat_le start a && nat_lt a (start + size_of (header start))) start (owner header starts a)
 
--- what is written into a field of this kind: a number, where the kind refers
+-- a value written into a field of this kind: the number of its object if the kind refers
 abbrev pub told_value : Names → Kind → ℕ → ℕ
 told_value names kind value = cond (refers kind) (number_at names value) value
 
--- the writing of a field of this kind
+-- the step that writes a field of this kind
 abbrev pub write_of : Names → OneThreadHeap → Kind → ℕ → ℕ → Step
 write_of names heap kind a value =
     let object = owner (header_in heap) heap.starts a in
     Writes kind (number_at names object) (a - (object + first_of kind (header_in heap object))) (told_value names kind value)
 
--- what writing a word of this kind is, told by names
+-- the step that writes a word of this kind
 abbrev pub step_of : Names → OneThreadHeap → Kind → ℕ → ℕ → Step
 step_of names heap Header a value = Makes value
 step_of names heap Reference a value = write_of names heap Reference a value
 step_of names heap Weak a value = write_of names heap Weak a value
 step_of names heap Data a value = write_of names heap Data a value
 
--- the entries that one thread writes into the heap, told by names
+-- the steps that write these entries into the heap, one after the other
 abbrev pub told : Names → OneThreadHeap → List (ℕ × Entry) → List Step
 told names heap [] = []
 told names heap (x ∷ xs) = step_of names heap x.1.kind (address_of x) x.1.value ∷ told names (after heap x) xs
 
--- the addresses at which the entries make objects, in order
+-- the address, if a word of this kind makes an object, and then the later ones
 abbrev pub made_by : Kind → ℕ → List ℕ → List ℕ
 made_by Header a later = a ∷ later
 made_by Reference a later = later
 made_by Weak a later = later
 made_by Data a later = later
 
+-- the addresses at which the entries make objects, in order
 abbrev pub made_at : List (ℕ × Entry) → List ℕ
 made_at [] = []
 made_at (x ∷ xs) = made_by x.1.kind (address_of x) (made_at xs)

@@ -1,4 +1,4 @@
-//! An example of two cycles, told in numbers.
+//! An example of two cycles, in object numbers.
 ghost use Rattle.std.specs.Prelude.{◌≡◌, [], ◌∷◌, map};
 ghost use Rattle.heap_layout.specs.Header.{header_word};
 ghost use Rattle.heap_layout.specs.Heap.{from_address};
@@ -10,7 +10,7 @@ ghost use Rattle.heap_layout.specs.declared.kind.Kind.TheVariants.{Reference};
 ghost use Rattle.comp_cycles.specs.Told.{first_told};
 ghost use Rattle.comp_history.specs.Drawn.{three_objects};
 
-/// The cycle makes the object 3 and stores it in the object 2; then these two are kept.
+/// The cycle makes object 3 and stores it in object 2; then these two are kept.
 pub fn cycle_is_told()
     ensures numbers { numbers_after (drawn_cycle (2 ∷ 64 ∷ [])) (1 ∷ 2 ∷ []) 2 ≡ 2 ∷ 3 ∷ [] }
     ensures story { story_of (drawn_cycle (2 ∷ 64 ∷ [])) (1 ∷ 2 ∷ []) 2 ≡ Makes (header_word 0 0 9) ∷ Writes Reference 2 0 3 ∷ Keeps (2 ∷ 3 ∷ []) ∷ [] }
@@ -18,12 +18,12 @@ pub fn cycle_is_told()
     ensures last { words_of_three (lived (first_told three_objects) (story_of (drawn_cycle (2 ∷ 64 ∷ [])) (1 ∷ 2 ∷ []) 2)) ≡ (header_word 0 1 1 ∷ 11 ∷ []) ∷ (header_word 1 0 3 ∷ 3 ∷ []) ∷ (header_word 0 0 9 ∷ []) ∷ [] }
 {}
 
-/// The first words of the next heap.
+/// The first words of the next heap: references are lowered to from-space addresses.
 pub fn words_are_lowered()
     ensures { map (next_word (drawn_cycle []).setup (drawn_cycle []).journals) (0 ∷ 1 ∷ 2 ∷ 3 ∷ 4 ∷ 64 ∷ 65 ∷ []) ≡ header_word 0 1 1 ∷ 11 ∷ header_word 1 0 3 ∷ from_address 64 ∷ 0 ∷ header_word 0 0 9 ∷ 0 ∷ [] }
 {}
 
-/// In the second cycle null is stored in the object 2, which then is kept alone. Both are one story.
+/// The second cycle stores null in object 2, which is then the only one kept. The two cycles are one story.
 pub fn cycles_are_one_story()
     ensures numbers { numbers_left drawn_cycles (1 ∷ 2 ∷ []) 2 ≡ 2 ∷ [] }
     ensures story { story drawn_cycles (1 ∷ 2 ∷ []) 2

@@ -4,18 +4,19 @@ ghost use Rattle.std.specs.Prelude.{◌≡◌, length};
 use comp_journal::JournaledPage;
 use heap_layout::Edition;
 
-/// A compacted heap, once all its mutators are back. `Space::finish` of comp_mutator makes it, and promises what is known of it.
+/// A compacted heap after all its mutators were handed back. `Space::finish` of comp_mutator makes it, and its contract
+/// says what is known of it.
 #[derive(Drop)]
 pub struct Finished {
     /// The edition of the heap.
     pub edition: Edition,
-    /// The pages, compacted ones first. A page that nobody touched is None.
+    /// The pages, the compacted ones first; None for a page that nobody touched.
     pub pages: Vec<Option<JournaledPage>>,
     /// Where the roots of the heap lead: to-space addresses, or 0.
     pub roots: Vec<u64>,
-    /// The words of all objects: those that slid, and those that mutators made.
+    /// The number of words of all objects: those that slid, and those that mutators made.
     pub live: u64,
-    /// The numbers of the pages that each mutator built, in order, mutator by mutator.
+    /// The numbers of the pages that each mutator built, in order; one list for each mutator.
     pub builds: Vec<Vec<u64>>,
 }
 
@@ -30,28 +31,28 @@ impl Finished {
         self.edition
     }
 
-    /// The pages, compacted ones first. A page that nobody touched is None.
+    /// The pages, the compacted ones first; None for a page that nobody touched.
     pub fn pages(&self) -> &[Option<JournaledPage>]
         ensures { result.now ≡ pages_of self.now }
     {
         &self.pages
     }
 
-    /// Where the roots of the heap lead.
+    /// Where the roots of the heap lead: to-space addresses, or 0.
     pub fn roots(&self) -> &[u64]
         ensures { result.now ≡ roots_of self.now }
     {
         &self.roots
     }
 
-    /// The words of all objects: those that slid, and those that mutators made.
+    /// The number of words of all objects: those that slid, and those that mutators made.
     pub fn live_words(&self) -> u64
         ensures { result ≡ live_of self.now }
     {
         self.live
     }
 
-    /// The pages that each mutator built, in order, mutator by mutator.
+    /// The numbers of the pages that each mutator built, in order; one list for each mutator.
     pub fn builds(&self) -> &[Vec<u64>]
         ensures lists { lists result.now ≡ builds_in self.now }
         ensures count { length result.now ≡ length (builds_in self.now) }

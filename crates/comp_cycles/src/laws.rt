@@ -1,4 +1,4 @@
-//! Laws of cycles, each the contract of a function that does nothing.
+//! Laws of cycles. Each law is the contract of a function that does nothing.
 ghost use Rattle.std.specs.Prelude.{◌≡◌, ℕ, [], List};
 ghost use Rattle.comp_history.specs.Locks.{Journals};
 ghost use Rattle.comp_history.specs.Setup.{Setup};
@@ -10,7 +10,7 @@ ghost use Rattle.comp_cycles.specs.NextHeap.{next_heap, object_starts};
 ghost use Rattle.comp_cycles.specs.Stable.{StableHeap};
 ghost use Rattle.comp_cycles.specs.Told.{first_numbers, first_told, IsToldAs};
 
-/// The first heap is told in its own numbers: its marked objects are numbered by rising address.
+/// The first heap, in object numbers: its marked objects are numbered from 1 by rising address.
 pub fn first_telling()
     ensures { (heap : Heap) → IsToldAs heap (first_numbers heap) (first_told heap) }
 {}
@@ -20,17 +20,19 @@ pub fn one_chapter()
     ensures { (heap : Heap) (c : Cycle) (numbers : List ℕ) (stable : StableHeap) → IsClosed heap → IsCycleOf heap c → IsToldAs heap numbers stable → IsChapter c numbers stable }
 {}
 
-/// What is written in a cycle is written in the life of such a heap, also where the cycle is the last one.
+/// What is written in a cycle is written in the life of a heap whose objects never move, even if no other cycle
+/// follows.
 pub fn one_writing()
     ensures { (c : Cycle) (numbers : List ℕ) (stable : StableHeap) → IsClosed c.setup.heap → CanMerge c.setup c.journals → IsToldAs c.setup.heap numbers stable → IsWriting c numbers stable }
 {}
 
-/// Cycles that follow one another are one life of such a heap.
+/// Cycles that follow one another are one life of a heap whose objects never move.
 pub fn one_life()
     ensures { (heap last : Heap) (cycles : List Cycle) → IsClosed heap → Follow heap cycles last → IsOneLife heap cycles last }
 {}
 
-/// No weak word of a marked object of the next heap leads nowhere: of all faults of that heap it never has this one.
+/// If the marks have no fault, each weak word of a marked object of the next heap is null or the address of an object.
+/// So the fault of a weak word that leads nowhere never occurs in that heap.
 pub fn weak_words_lead()
     ensures { (u : Setup) (journals : Journals) (roots marks : List ℕ) → IsClosed u.heap → CanMerge u journals → mark_faults (object_starts u journals) 0 marks ≡ []
         → weak_faults u.heap.edition (next_heap u journals roots marks).words marks ≡ [] }

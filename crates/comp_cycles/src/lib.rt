@@ -1,4 +1,4 @@
-//! Cycles, one after the other: the heap with which the next one begins, and the one history of all of them.
+//! Cycles that follow one another: the heap with which the next cycle begins, and the one history of all cycles.
 #![tactic(auto)]
 
 mod drawn;

@@ -1,4 +1,4 @@
-//! The to-space words of a finished heap, moved over to be the from-space words of the next one.
+//! Makes the to-space words of a finished heap the from-space words of the next heap.
 ghost use Rattle.std.specs.Prelude.{◌≡◌, ℕ, ◌+◌, ◌*◌, ◌^◌, ◌<◌, ◌≤◌, IfOk, OnOk, length, slice_index, slice_index_or, vec_capacity, vec_len, Some, None};
 ghost use Rattle.heap_layout.specs.Bits.{bit};
 ghost use Rattle.comp_history.specs.Lawful.{kind_at};
@@ -16,14 +16,14 @@ use heap_layout::{FROM_SPACE, Kind, OutOfMemory, set};
 use page_plan::Builder;
 use std::alloc::{AllocError, Global};
 
-/// The words of the next heap, and for each a bit, which is set where an object starts.
+/// The words of the next heap, and one bit for each of them: it is set if an object starts at the word.
 #[derive(Drop)]
 pub(crate) struct Moved {
     pub(crate) words: Vec<u64>,
     pub(crate) starts: Vec<u64>,
 }
 
-/// A word of this kind, once its space is from-space.
+// A to-space word of this kind as a word of the next heap.
 fn lowered_word(kind: Option<Kind>, word: u64) -> u64
     ensures { result ≡ lowered_as kind word }
 {
@@ -33,7 +33,7 @@ fn lowered_word(kind: Option<Kind>, word: u64) -> u64
     }
 }
 
-/// Adds one word; there is room.
+// Adds one word. Requires room for it.
 fn add_word(words: &mut Vec<u64>, starts: &mut [u64], kind: Option<Kind>, word: u64)
     requires room { vec_len words.old < vec_capacity words.old }
     requires bits { vec_len words.old < 64 * length starts.old }
@@ -50,7 +50,7 @@ fn add_word(words: &mut Vec<u64>, starts: &mut [u64], kind: Option<Kind>, word: 
     }
 }
 
-/// Adds the words of page `p`; there is room.
+// Adds the words of page `p`. Requires room for them.
 fn add_page(words: &mut Vec<u64>, starts: &mut [u64], kinds: &[Option<Kind>; 64], page: &[u64; 64])
     requires room { vec_len words.old + 64 ≤ vec_capacity words.old }
     requires bits { vec_len words.old + 64 ≤ 64 * length starts.old }
@@ -67,7 +67,7 @@ fn add_page(words: &mut Vec<u64>, starts: &mut [u64], kinds: &[Option<Kind>; 64]
     }
 }
 
-/// The journal of page `p`; one that was never built has none.
+// The journal of page `p`; empty if the page was never built.
 fn journal_on(finished: &Finished, p: usize) -> &[Entry]
     requires { p < length (pages_of finished.now) }
     ensures { result.now ≡ journals_of finished.now p }
@@ -78,7 +78,7 @@ fn journal_on(finished: &Finished, p: usize) -> &[Entry]
     }
 }
 
-/// What each word of page `p` is.
+// The kind of each word of page `p`.
 fn kinds_of<B: Builder>(
     alloc: Global,
     builder: &B,
@@ -93,7 +93,7 @@ fn kinds_of<B: Builder>(
     kinds_on(alloc, builder.plan(), p as u64, journal_on(finished, p))
 }
 
-/// The words of page `p`. A page that was never built is as it would have been built.
+// The words of page `p`. If the page was never built, they are the words with which it would have begun.
 fn words_on<B: Builder>(
     alloc: Global,
     builder: &B,
@@ -117,7 +117,7 @@ fn words_on<B: Builder>(
     }
 }
 
-/// Moves the words of all pages; there is room.
+// Moves the words of all pages. Requires room for them.
 fn move_pages<B: Builder>(
     alloc: Global,
     builder: &B,

@@ -17,16 +17,16 @@ use heap_layout::{FROM_SPACE, LayoutFault, MarkedHeap, OutOfMemory, check_sizes,
 use page_plan::Builder;
 use std::alloc::Global;
 
-/// A finished heap that is not followed by another, and why.
+/// A refused `next_cycle`: the cause, and the finished heap as it was.
 #[derive(Drop)]
 pub struct NotCycled {
-    /// The first fault of the next heap, or that a growth was refused.
+    /// The first fault of the next heap, or out of memory.
     pub fault: LayoutFault,
     /// The finished heap, unchanged.
     pub finished: Finished,
 }
 
-/// Mark by mark: each is above the one before it, and its bit is set.
+// Checks the marks one by one: each must be greater than the one before it, and its bit must be set.
 fn check_marks(starts: &[u64], marks: &[u32]) -> Result<(), LayoutFault>
     requires { 64 * length starts.now < 2 ^ 64 }
     ensures { (row : List ℕ) → ((i : ℕ) → is_start row i ≡ (nat_lt i (64 * length starts.now) && bit starts.now i)) → Tells (mark_faults row 0 marks.now) result }
@@ -45,7 +45,7 @@ fn check_marks(starts: &[u64], marks: &[u32]) -> Result<(), LayoutFault>
     Ok(())
 }
 
-/// Addresses in to-space, once their space is from-space.
+// To-space addresses as addresses of the next heap's from-space.
 fn lowered_all(alloc: Global, addresses: &[u64]) -> Result<Vec<u64>, OutOfMemory>
     ensures { IfOk result (λ all. all.items ≡ map lowered addresses.now) }
 {
@@ -57,7 +57,7 @@ fn lowered_all(alloc: Global, addresses: &[u64]) -> Result<Vec<u64>, OutOfMemory
     )
 }
 
-/// The heap with which the next cycle begins, where it is accepted with these marks, and else its first fault.
+// The heap with which the next cycle begins; its first fault if it is not accepted with these marks.
 fn next_heap<B: Builder>(
     alloc: Global,
     builder: &B,
@@ -88,12 +88,14 @@ fn next_heap<B: Builder>(
 }
 
 impl Finished {
-    /// The heap with which the next cycle begins. Its words are all to-space words, 64 for each page; a page that was never built has the words that the builder makes of it. Each
-    /// reference, weak word and root that is not null is lowered by `2^32`. `marks` are the indices, rising, of the words at which the marked objects start, as a marking phase found
-    /// them. The builder is that of the flip.
+    /// Makes the heap with which the next cycle begins. Its words are all to-space words, 64 for each page; for a page
+    /// that was never built they are the words that the builder makes of it. Each reference, weak word and root that is
+    /// not null is lowered by `2^32`. `marks` are the rising indices of the words at which the marked objects start, as
+    /// a marking phase found them. The builder must be that of the flip.
     ///
-    /// Err is the first fault of that heap: `TooLarge`; then mark by mark `MarksNotRising` before `MarkNotStart`, also where a word belongs to no object; then `BadRoot`; then
-    /// `UnmarkedTarget`. `OutOfMemory` may come in place of any other answer. The finished heap is handed back, unchanged.
+    /// Refusals, in this order: `TooLarge`; mark by mark `MarksNotRising`, then `MarkNotStart`, also if the word
+    /// belongs to no object; then `BadRoot`; then `UnmarkedTarget`. `OutOfMemory` may replace any other answer. After a
+    /// refusal the finished heap is handed back unchanged.
     pub fn next_cycle<B: Builder>(
         self,
         alloc: Global,

@@ -1,4 +1,4 @@
--- Words that are read from their bytes at once.
+-- Words that are read from their bytes, all at once.
 use Rattle.std.proofs.Common.{◌≡◌, ℕ, zero, suc, ◌+◌, ◌-◌, ◌*◌, ◌^◌, ◌<◌, List, [], ◌∷◌, ◌++◌, length, take, drop, slice_index, get_or, Option, Some, None, Err, IfSome, refl, sym, ap, subst, ◌∙◌, inl, inr, arith, All, length-take, length-drop, take-append-drop, drop-drop}
 use Rattle.std.specs.List.{flat_map}
 use Rattle.std.proofs.lemmas.Bool.{cases_lt, le-ltb, lt-ltb}

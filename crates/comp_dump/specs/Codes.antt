@@ -1,4 +1,4 @@
--- What stands in a dump for the kind of a word.
+-- The code of a kind in a dump.
 use Rattle.std.specs.Prelude.{ℕ}
 use Rattle.heap_layout.specs.declared.edition.Edition.{Edition}
 use Rattle.heap_layout.specs.declared.edition.Edition.TheVariants.{One, Two}
@@ -11,7 +11,7 @@ kind_code Reference = 1
 kind_code Data = 2
 kind_code Weak = 3
 
--- the last code that an entry of a dump may have: edition one has no weak words
+-- the greatest code that an entry may have: edition one has no weak words
 abbrev pub last_code : Edition → ℕ
 last_code One = 2
 last_code Two = 3

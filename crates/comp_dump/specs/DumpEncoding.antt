@@ -3,8 +3,9 @@
 --     version      4 bytes: 1 in edition one, 2 in edition two
 --     counts       4 bytes each: mutators, fresh pages, all pages, roots
 --     roots        8 bytes each
---     pages        each a byte 0, or a byte 1, its 64 words of 8 bytes, 4 bytes that count its entries, and the entries
---     builds       for each mutator 4 bytes that count its pages, and 4 bytes for each
+--     pages        for each a byte 0 if it was never built; else a byte 1, its 64 words of 8 bytes,
+--                  the number of its entries in 4 bytes, and the entries
+--     builds       for each mutator the number of its pages in 4 bytes, and 4 bytes for each page
 --     total        8 bytes
 -- An entry has 19 bytes: stamp (8), writer (1), kind (1), offset (1), value (8).
 use Rattle.std.specs.Prelude.{ℕ, List, ◌++◌, length, codes, Option, Some, None}
@@ -28,14 +29,14 @@ one_byte n = little_bytes 1 n
 abbrev pub magic : List ℕ
 magic = codes "COMPDUMP"
 
--- what stands before the roots
+-- all that precedes the roots
 unfoldable pub head : Edition → ℕ → ℕ → ℕ → ℕ → List ℕ
 head edition mutators fresh pages roots = magic ++ (four_bytes (version_of edition) ++ (four_bytes mutators ++ (four_bytes fresh ++ (four_bytes pages ++ four_bytes roots))))
 
 unfoldable pub entry_bytes : Entry → List ℕ
 entry_bytes e = eight_bytes e.stamp ++ (one_byte e.writer ++ (one_byte (kind_code e.kind) ++ (one_byte e.offset ++ eight_bytes e.value)))
 
--- how many there are, in 4 bytes, and each of them
+-- the length of a list in 4 bytes, then each element
 abbrev pub counted : {T : Type 0} → (T → List ℕ) → List T → List ℕ
 counted bytes list = four_bytes (length list) ++ flat_map bytes list
 
@@ -43,7 +44,7 @@ counted bytes list = four_bytes (length list) ++ flat_map bytes list
 unfoldable pub built_bytes : BuiltPage → List ℕ
 built_bytes page = flat_map eight_bytes page.words ++ counted entry_bytes page.journal
 
--- a byte that says whether the page was built, and the page
+-- a byte 0 for a page that was never built, or a byte 1 and the page
 abbrev pub page_bytes : Option BuiltPage → List ℕ
 page_bytes None = one_byte 0
 page_bytes (Some page) = one_byte 1 ++ built_bytes page
@@ -52,7 +53,7 @@ page_bytes (Some page) = one_byte 1 ++ built_bytes page
 abbrev pub builds_bytes : List ℕ → List ℕ
 builds_bytes list = counted four_bytes list
 
--- what stands before the build lists
+-- all that precedes the build lists
 unfoldable pub front_bytes : Edition → ℕ → ℕ → List ℕ → List (Option BuiltPage) → List ℕ
 front_bytes edition mutators fresh roots pages = head edition mutators fresh (length pages) (length roots) ++ (flat_map eight_bytes roots ++ flat_map page_bytes pages)
 

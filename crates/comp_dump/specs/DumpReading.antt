@@ -1,5 +1,5 @@
--- How a dump is read: field by field, from left to right. A field that the bytes end in is `Truncated`; a number outside its range is `BadField`, whatever
--- follows it.
+-- How a dump is read: field by field, from left to right. If the bytes end within a field, the fault is `Truncated`.
+-- If a number is outside its range, the fault is `BadField`, whatever follows it.
 use Rattle.std.specs.Prelude.{◌≡◌, ℕ, zero, suc, ◌+◌, ◌-◌, ◌^◌, ◌<◌, ◌||◌, ◌==◌, nat_lt, bytes_eq, List, [], ◌∷◌, length, take, drop, Option, Some, None, Result, Ok, Err, if◌then◌else◌}
 use Rattle.byteorder.specs.Endian.{little_number}
 use Rattle.heap_layout.specs.declared.edition.Edition.{Edition}
@@ -14,7 +14,7 @@ use Rattle.comp_dump.specs.DumpEncoding.{magic}
 use Rattle.comp_dump.specs.declared.fault.DumpFault.{DumpFault}
 use Rattle.comp_dump.specs.declared.fault.DumpFault.TheVariants.{Truncated, TrailingBytes, BadMagic, BadField, OutOfMemory, Device}
 
--- what is read from the front of some bytes, with the bytes behind it; or the first fault
+-- what is read from the front of some bytes, with the bytes after it; or the first fault
 abbrev pub Reading : Type 0 → Type 0
 Reading A = List ℕ → Result (A × List ℕ) DumpFault
 
@@ -36,7 +36,7 @@ number width low high bytes =
     else if nat_lt (little_number width bytes) low || nat_lt high (little_number width bytes) then Err BadField
     else Ok (little_number width bytes, drop width bytes)
 
--- as many, one after the other
+-- the same reading, n times
 unfoldable pub times_read : {A : Type 0} → ℕ → Reading A → Reading (List A)
 times_read zero each = done []
 times_read (suc n) each = do
@@ -74,7 +74,7 @@ built edition mutators = do
   journal ← times_read entries (entry edition mutators)
   done (record { words = words; journal = journal })
 
--- a 0 for a page that was never built, or a 1 and the page
+-- after a 0 a page that was never built, after a 1 a page
 abbrev pub page_behind : Edition → ℕ → ℕ → Reading (Option BuiltPage)
 page_behind edition mutators zero = done None
 page_behind edition mutators (suc _) = do
@@ -91,14 +91,14 @@ builds pages = do
   count ← number 4 0 pages
   times_read count (number 4 0 (pages - 1))
 
--- these very bytes
+-- exactly these bytes
 unfoldable pub expected : List ℕ → Reading (List ℕ)
 expected wanted bytes =
     if nat_lt (length bytes) (length wanted) then Err Truncated
     else if bytes_eq (take (length wanted) bytes) wanted then Ok (wanted, drop (length wanted) bytes)
     else Err BadMagic
 
--- the version, and which edition it tells
+-- the version, read as the edition that it gives
 unfoldable pub edition : Reading Edition
 edition bytes =
     if nat_lt (length bytes) 4 then Err Truncated
@@ -106,7 +106,7 @@ edition bytes =
     else if little_number 4 bytes == version_of Two then Ok (Two, drop 4 bytes)
     else Err BadMagic
 
--- the edition, and how many mutators, fresh pages, pages and roots
+-- the edition, and the numbers of mutators, fresh pages, pages and roots
 pub record Counts : Type 0 where
   pub edition : Edition
   pub mutators : ℕ
@@ -114,7 +114,7 @@ pub record Counts : Type 0 where
   pub pages : ℕ
   pub roots : ℕ
 
--- what stands before the roots
+-- all that precedes the roots
 unfoldable pub head : Reading Counts
 head = do
   magic_bytes ← expected magic
@@ -125,7 +125,7 @@ head = do
   roots ← number 4 0 4096
   done (record { edition = its_edition; mutators = mutators; fresh = fresh; pages = pages; roots = roots })
 
--- a dump, with whatever is behind it
+-- a dump, and the bytes after it
 unfoldable pub dump : Reading Dumped
 dump = do
   counts ← head
@@ -135,7 +135,7 @@ dump = do
   total ← word
   done (record { edition = counts.edition; mutators = counts.mutators; fresh = counts.fresh; roots = roots; pages = pages; builds = lists; total = total })
 
--- nothing may stand behind it
+-- no byte may follow
 abbrev pub ended : {A : Type 0} → A → List ℕ → Result A DumpFault
 ended x [] = Ok x
 ended x (_ ∷ _) = Err TrailingBytes
@@ -144,34 +144,34 @@ abbrev pub whole : {A : Type 0} → Result (A × List ℕ) DumpFault → Result 
 whole (Ok x) = ended x.0 x.1
 whole (Err fault) = Err fault
 
--- what all the bytes are read as
+-- all bytes, read as a dump
 abbrev pub read_whole : List ℕ → Result Dumped DumpFault
 read_whole bytes = whole (dump bytes)
 
--- A fault is the one that reading meets; want of memory and a failing device are not in the bytes.
+-- The fault is the one that reading answers. Bytes do not say when memory runs out or the device fails.
 abbrev pub Fails : {A : Type 0} → DumpFault → Result A DumpFault → Type 0
 Fails OutOfMemory read = Unit {0}
 Fails Device read = Unit {0}
 Fails fault read = read ≡ Err fault
 
--- the same of a reader that has these bytes, where they are known
+-- the same of the bytes that a reader has left, if they are known
 abbrev pub Stops : {A : Type 0} → Reading A → Option (List ℕ) → DumpFault → Type 0
 Stops reading None fault = Unit {0}
 Stops reading (Some bytes) fault = Fails fault (reading bytes)
 
--- a call answers `Device` exactly where one more call of the device failed
+-- A call answers `Device` if and only if one more call of the device failed.
 abbrev pub CountsFailure : {T : Type 0} → ℕ → ℕ → Result T DumpFault → Type 0
 CountsFailure before after (Ok _) = after ≡ before
 CountsFailure before after (Err Device) = after ≡ before + 1
 CountsFailure before after (Err _) = after ≡ before
 
--- a part of so many bytes was not filled: there are fewer, or a call of the device failed
+-- A part of n bytes was not filled: fewer bytes are left, or a call of the device failed.
 abbrev pub EndsBefore : ℕ → DumpFault → List ℕ → Type 0
 EndsBefore n Truncated bytes = length bytes < n
 EndsBefore n Device bytes = Unit {0}
 EndsBefore n _ bytes = ⊥
 
--- Reading the end failed: a byte follows, or a call of the device failed.
+-- The end was not found: a byte follows, or a call of the device failed.
 abbrev pub RefusesEnd : DumpFault → List ℕ → Type 0
 RefusesEnd TrailingBytes bytes = 0 < length bytes
 RefusesEnd Device bytes = Unit {0}

@@ -6,9 +6,11 @@ use crate::page::DumpedPage;
 use heap_layout::Edition;
 use std::marker::Model;
 
-/// What a cycle left: the edition of the heap, its pages with their journals, the roots, what each mutator built, and the live words. A dump of a finished
-/// heap borrows the pages from it; one that was read owns them. The numbers of each are in range; of one that was read nothing else is known but that its
-/// bytes say so.
+/// What a cycle left: the edition of the heap, its pages with their journals, the roots, the pages that each
+/// mutator built, and the live words.
+///
+/// A dump of a finished heap borrows its pages; a dump that was read owns them. All numbers are in the range of
+/// their fields. Of a dump that was read nothing else is known.
 #[derive(Drop)]
 pub struct Dump<'a> {
     edition: Edition,
@@ -48,7 +50,7 @@ impl<'a> Model for Dump<'a> {
 }
 
 impl<'a> Dump<'a> {
-    /// A dump of these parts.
+    /// Makes a dump of these parts.
     pub(crate) fn from_parts(
         edition: Edition,
         mutators: u8,
@@ -72,49 +74,49 @@ impl<'a> Dump<'a> {
         }
     }
 
-    /// The edition of the heap; of a dump that was read, the one that its version tells.
+    /// The edition of the heap. In a dump that was read it follows from the version.
     pub fn edition(&self) -> Edition
         ensures { result ≡ self.now.edition }
     {
         self.edition
     }
 
-    /// How many mutators there were, 1 to 64.
+    /// The number of mutators, 1 to 64.
     pub fn mutators(&self) -> u8
         ensures { result ≡ self.now.mutators }
     {
         self.mutators
     }
 
-    /// How many fresh pages there were, at most 4,096.
+    /// The number of fresh pages, at most 4,096.
     pub fn fresh_pages(&self) -> u32
         ensures { result ≡ self.now.fresh }
     {
         self.fresh
     }
 
-    /// Where the roots of the heap lead.
+    /// The roots of the heap, after the flip.
     pub fn roots(&self) -> &[u64]
         ensures { result.now ≡ self.now.roots }
     {
         &self.roots
     }
 
-    /// All pages, compacted ones first. A page that was never built is None.
+    /// All pages, compacted pages first. A page that was never built is None.
     pub fn pages(&self) -> &[Option<DumpedPage<'a>>]
         ensures { result.now ≡ self.now.pages }
     {
         &self.pages
     }
 
-    /// The numbers of the pages that each mutator built, in order, mutator by mutator.
+    /// For each mutator the numbers of the pages that it built, in order.
     pub fn builds(&self) -> &[Vec<u32>]
         ensures { items_of result.now ≡ self.now.builds }
     {
         &self.builds
     }
 
-    /// The words of all objects: those that slid, and those that mutators made.
+    /// The words of all objects: of those that slid and of those that mutators made.
     pub fn live_words(&self) -> u64
         ensures total { result ≡ self.now.total }
         ensures stored { IsStored self.now }

@@ -12,7 +12,8 @@ use heap_layout::OutOfMemory;
 use std::alloc::Global;
 
 impl<'a> Dump<'a> {
-    /// The dump of a finished heap, which lends its pages. It asks that the counts are those of the heap's flip. Its one refusal is want of memory.
+    /// The dump of a finished heap, which borrows its pages. `mutators` and `fresh_pages` must be those of the heap's
+    /// flip. It fails only if memory runs out.
     pub fn of(
         alloc: Global,
         finished: &'a Finished,
@@ -43,7 +44,7 @@ impl<'a> Dump<'a> {
     }
 }
 
-/// All pages, each lent.
+// Each page, borrowed.
 fn lent<'a>(
     alloc: Global,
     pages: &'a [Option<JournaledPage>],
@@ -61,7 +62,7 @@ fn lent<'a>(
     Ok(lent)
 }
 
-/// The same roots.
+// A copy of the roots.
 fn copied(alloc: Global, roots: &[u64]) -> Result<Vec<u64>, OutOfMemory>
     ensures same { IfOk result (λ copy. copy.items ≡ roots.now) }
     ensures typed { All (λ root. root < 2 ^ 64) roots.now }
@@ -70,7 +71,7 @@ fn copied(alloc: Global, roots: &[u64]) -> Result<Vec<u64>, OutOfMemory>
     Ok(roots.to_vec(alloc)?)
 }
 
-/// The same page numbers, in half the room.
+// The same page numbers, in 4 bytes each.
 fn shortened(alloc: Global, list: &[u64]) -> Result<Vec<u32>, OutOfMemory>
     requires { All (λ p. p < 2 ^ 32) list.now }
     ensures { IfOk result (λ short. short.items ≡ list.now) }
@@ -82,7 +83,7 @@ fn shortened(alloc: Global, list: &[u64]) -> Result<Vec<u32>, OutOfMemory>
     Ok(short)
 }
 
-/// The same lists, each in half the room.
+// The same lists of page numbers, in 4 bytes each.
 fn all_shortened(alloc: Global, lists: &[Vec<u64>]) -> Result<Vec<Vec<u32>>, OutOfMemory>
     requires { All (λ list. All (λ p. p < 2 ^ 32) list) (items_of lists.now) }
     ensures { IfOk result (λ short. items_of short.items ≡ items_of lists.now) }

@@ -1,4 +1,4 @@
-//! Reading a dump, field by field, each judged as soon as it is there.
+//! Reads a dump, field by field, and checks each field as soon as it is read.
 ghost use Rattle.std.specs.Prelude.{◌≡◌, ◌-◌, ◌^◌, ◌<◌, ◌≤◌, IfOk, IfErr, IfSome, All, length};
 ghost use Rattle.std.specs.Io.KnownBytes.{Consumes};
 ghost use Rattle.std.specs.List.{flat_map};
@@ -20,11 +20,12 @@ use heap_layout::{Counted, Edition};
 use std::alloc::Global;
 use std::io::Read;
 
-/// Reads a dump, all that the reader has left.
+/// Reads a dump, to the end of the reader.
 ///
-/// Each field is judged as soon as it is there, whatever follows it. The version tells the edition, and the edition tells the kinds that an entry may have.
-/// A call of the reader that answers an error ends the reading, an interrupted one too. After an Err the reader has lost what was read. It asks that fewer
-/// than `u64::MAX` calls of the reader have failed.
+/// Each field is checked as soon as it is read, whatever follows it. The version gives the edition, and the edition
+/// gives the kinds that an entry may have. A call of the reader that returns an error ends the reading, an
+/// interrupted call too. After an Err the bytes that were read are lost. Fewer than `u64::MAX` calls of the reader
+/// must have failed before.
 pub fn read_dump<R: Read>(alloc: Global, r: &mut Counted<R>) -> Result<Dump<'static>, DumpFault>
     requires { failures_of r.old < 2 ^ 64 - 1 }
     ensures read { IfOk result (λ dump. IfSome (R.remaining (inner_of r.old)) (λ bytes. bytes ≡ dump_bytes dump)) }
@@ -37,7 +38,7 @@ pub fn read_dump<R: Read>(alloc: Global, r: &mut Counted<R>) -> Result<Dump<'sta
     Ok(dump)
 }
 
-/// A dump, with whatever is behind it.
+// Reads a dump. More bytes may follow it.
 fn read_parts<R: Read>(alloc: Global, r: &mut Counted<R>) -> Result<Dump<'static>, DumpFault>
     requires { failures_of r.old < 2 ^ 64 - 1 }
     ensures read { IfOk result (λ dump. Consumes (R.remaining (inner_of r.old)) (R.remaining (inner_of r.new)) (dump_bytes dump)) }
@@ -61,7 +62,7 @@ fn read_parts<R: Read>(alloc: Global, r: &mut Counted<R>) -> Result<Dump<'static
     ))
 }
 
-/// The edition and the counts of a dump.
+// The edition and the counts of a dump.
 #[derive(Clone, Copy)]
 struct Head {
     edition: Edition,
@@ -71,7 +72,7 @@ struct Head {
     roots: u32,
 }
 
-/// All that stands before the roots.
+// Reads all that precedes the roots.
 fn read_head<R: Read>(r: &mut Counted<R>) -> Result<Head, DumpFault>
     requires { failures_of r.old < 2 ^ 64 - 1 }
     ensures read { IfOk result (λ found. Consumes (R.remaining (inner_of r.old)) (R.remaining (inner_of r.new))
@@ -95,7 +96,7 @@ fn read_head<R: Read>(r: &mut Counted<R>) -> Result<Head, DumpFault>
     })
 }
 
-/// So many roots.
+// Reads `count` roots.
 fn read_roots<R: Read>(alloc: Global, r: &mut Counted<R>, count: u32) -> Result<Vec<u64>, DumpFault>
     requires room { failures_of r.old < 2 ^ 64 - 1 }
     ensures read { IfOk result (λ roots. Consumes (R.remaining (inner_of r.old)) (R.remaining (inner_of r.new)) (flat_map eight_bytes roots.items)) }
@@ -112,7 +113,7 @@ fn read_roots<R: Read>(alloc: Global, r: &mut Counted<R>, count: u32) -> Result<
     Ok(roots)
 }
 
-/// What every mutator built.
+// Reads the pages that each mutator built.
 fn read_all_builds<R: Read>(
     alloc: Global,
     r: &mut Counted<R>,
@@ -134,7 +135,7 @@ fn read_all_builds<R: Read>(
     Ok(lists)
 }
 
-/// What one mutator built.
+// Reads the pages that one mutator built.
 fn read_builds<R: Read>(
     alloc: Global,
     r: &mut Counted<R>,
@@ -151,7 +152,7 @@ fn read_builds<R: Read>(
     Ok(list)
 }
 
-/// So many numbers of pages, below the count of them.
+// Reads `count` page numbers, each less than `pages`.
 fn read_numbers<R: Read>(
     alloc: Global,
     r: &mut Counted<R>,

@@ -1,4 +1,4 @@
-//! Writing a dump, field by field.
+//! Writes a dump, field by field.
 ghost use Rattle.std.specs.Prelude.{◌≡◌, ◌-◌, ◌^◌, ◌<◌, ◌≤◌, All, IfErr, length, Some};
 ghost use Rattle.std.specs.List.{flat_map};
 ghost use Rattle.heap_layout.specs.Counted.{inner_of, failures_of};
@@ -21,7 +21,7 @@ use heap_layout::{
 };
 use std::io::Write;
 
-/// A number of one byte.
+// Writes a number of one byte.
 fn write_one<W: Write>(w: &mut Counted<W>, n: u8) -> std::io::Result<()>
     ensures writes { Writes (W.contents (inner_of w.old)) (W.contents (inner_of w.new)) (one_byte n) result }
     ensures counts { CountsOne (failures_of w.old) (failures_of w.new) result }
@@ -29,7 +29,7 @@ fn write_one<W: Write>(w: &mut Counted<W>, n: u8) -> std::io::Result<()>
     write_part(w, &[n])
 }
 
-/// A small number, in 4 bytes.
+// Writes a small number, in 4 bytes.
 fn write_small<W: Write>(w: &mut Counted<W>, n: u8) -> std::io::Result<()>
     ensures writes { Writes (W.contents (inner_of w.old)) (W.contents (inner_of w.new)) (four_bytes n) result }
     ensures counts { CountsOne (failures_of w.old) (failures_of w.new) result }
@@ -37,7 +37,7 @@ fn write_small<W: Write>(w: &mut Counted<W>, n: u8) -> std::io::Result<()>
     write_four(w, u32::from(n))
 }
 
-/// A number of 8 bytes.
+// Writes a number of 8 bytes.
 fn write_eight<W: Write>(w: &mut Counted<W>, n: u64) -> std::io::Result<()>
     ensures writes { Writes (W.contents (inner_of w.old)) (W.contents (inner_of w.new)) (eight_bytes n) result }
     ensures counts { CountsOne (failures_of w.old) (failures_of w.new) result }
@@ -45,7 +45,7 @@ fn write_eight<W: Write>(w: &mut Counted<W>, n: u64) -> std::io::Result<()>
     write_part(w, &n.to_le_bytes())
 }
 
-/// What a word is, as a byte.
+// The byte of a kind.
 fn kind_byte(kind: Kind) -> u8
     ensures { result ≡ kind_code kind }
 {
@@ -57,7 +57,7 @@ fn kind_byte(kind: Kind) -> u8
     }
 }
 
-/// The bytes of an entry.
+// The bytes of an entry.
 fn entry_part(entry: Entry) -> [u8; 19]
     ensures { result ≡ entry_bytes entry }
 {
@@ -70,7 +70,7 @@ fn entry_part(entry: Entry) -> [u8; 19]
     part
 }
 
-/// An entry, as one part.
+// Writes an entry, in one part.
 fn write_entry<W: Write>(w: &mut Counted<W>, entry: Entry) -> std::io::Result<()>
     ensures writes { Writes (W.contents (inner_of w.old)) (W.contents (inner_of w.new)) (entry_bytes entry) result }
     ensures counts { CountsOne (failures_of w.old) (failures_of w.new) result }
@@ -78,7 +78,7 @@ fn write_entry<W: Write>(w: &mut Counted<W>, entry: Entry) -> std::io::Result<()
     write_part(w, &entry_part(entry))
 }
 
-/// The entries of a page.
+// Writes the entries of a page.
 fn write_entries<W: Write>(w: &mut Counted<W>, journal: &[Entry]) -> std::io::Result<()>
     ensures writes { Writes (W.contents (inner_of w.old)) (W.contents (inner_of w.new)) (flat_map entry_bytes journal.now) result }
     ensures counts { CountsOne (failures_of w.old) (failures_of w.new) result }
@@ -89,7 +89,7 @@ fn write_entries<W: Write>(w: &mut Counted<W>, journal: &[Entry]) -> std::io::Re
     Ok(())
 }
 
-/// A page that was built, behind the byte that says so.
+// Writes a page that was built, after a byte 1.
 fn write_there<W: Write>(
     w: &mut Counted<W>,
     words: &[u64],
@@ -105,7 +105,7 @@ fn write_there<W: Write>(
     write_entries(w, journal)
 }
 
-/// A page, or none where it was never built.
+// Writes a page, or a byte 0 if it was never built.
 fn write_page<W: Write>(w: &mut Counted<W>, page: &Option<DumpedPage<'_>>) -> std::io::Result<()>
     requires { HasFewEntries page.now }
     ensures writes { Writes (W.contents (inner_of w.old)) (W.contents (inner_of w.new)) (page_bytes page.now) result }
@@ -117,7 +117,7 @@ fn write_page<W: Write>(w: &mut Counted<W>, page: &Option<DumpedPage<'_>>) -> st
     }
 }
 
-/// The pages.
+// Writes the pages.
 fn write_pages<W: Write>(
     w: &mut Counted<W>,
     pages: &[Option<DumpedPage<'_>>],
@@ -132,7 +132,7 @@ fn write_pages<W: Write>(
     Ok(())
 }
 
-/// What one mutator built.
+// Writes the pages that one mutator built.
 fn write_builds<W: Write>(w: &mut Counted<W>, list: &[u32]) -> std::io::Result<()>
     requires { length list.now < 2 ^ 32 }
     ensures writes { Writes (W.contents (inner_of w.old)) (W.contents (inner_of w.new)) (builds_bytes list.now) result }
@@ -142,7 +142,7 @@ fn write_builds<W: Write>(w: &mut Counted<W>, list: &[u32]) -> std::io::Result<(
     write_numbers(w, list)
 }
 
-/// What every mutator built.
+// Writes the pages that each mutator built.
 fn write_all_builds<W: Write>(w: &mut Counted<W>, lists: &[Vec<u32>]) -> std::io::Result<()>
     requires { All (λ list. length list < 2 ^ 32) (items_of lists.now) }
     ensures writes { Writes (W.contents (inner_of w.old)) (W.contents (inner_of w.new)) (flat_map builds_bytes (items_of lists.now)) result }
@@ -154,7 +154,7 @@ fn write_all_builds<W: Write>(w: &mut Counted<W>, lists: &[Vec<u32>]) -> std::io
     Ok(())
 }
 
-/// All that stands before the roots.
+// Writes all that precedes the roots.
 fn write_head<W: Write>(
     w: &mut Counted<W>,
     edition: Edition,
@@ -174,7 +174,7 @@ fn write_head<W: Write>(
     write_four(w, roots)
 }
 
-/// A dump of these parts.
+// Writes a dump of these parts.
 fn write_parts<W: Write>(
     w: &mut Counted<W>,
     edition: Edition,
@@ -204,9 +204,11 @@ fn write_parts<W: Write>(
     write_eight(w, total)
 }
 
-/// Writes a dump, and takes no memory. The first call of the writer that fails ends the writing, an interrupted one too; a beginning of the dump stays written.
+/// Writes a dump, and allocates nothing.
 ///
-/// That it was sent on is not said: who writes a dump flushes it. It asks that fewer than `u64::MAX` calls of the writer have failed.
+/// The first call of the writer that fails ends the writing, an interrupted call too. A beginning of the dump stays
+/// written. The writer is not flushed: the caller does that. Fewer than `u64::MAX` calls of the writer must have
+/// failed before.
 pub fn write_dump<W: Write>(dump: &Dump<'_>, w: &mut Counted<W>) -> Result<(), DumpFault>
     requires { failures_of w.old < 2 ^ 64 - 1 }
     ensures writes { Writes (W.contents (inner_of w.old)) (W.contents (inner_of w.new)) (dump_bytes dump.now) result }

@@ -1,4 +1,4 @@
--- What the words of a fresh page are, entry by entry.
+-- The kinds of the words of a fresh page, entry by entry.
 use Rattle.std.proofs.Common.{◌≡◌, ℕ, suc, ◌+◌, ◌<◌, ◌≤◌, List, [], ◌∷◌, ◌++◌, length, take, drop, get_or, sym, ap, subst, ◌∙◌, arith, append-nil, take-append-drop, length-append}
 use Rattle.std.proofs.Math.Seq.{drop-cons}
 use Rattle.std.proofs.lemmas.List.{take_more}
@@ -12,7 +12,7 @@ use Rattle.cell_steps.specs.Lawful.{kinds_by, kinds_in, filled, Fits, LawfulAfte
 use Rattle.page_cells.proofs.Heads.{kinds_append, one_on}
 use Rattle.comp_history.proofs.Words.{kinds_long}
 
--- what the words are once one entry more is there
+-- the kinds with one more entry
 pub kinds_more : (edition : Edition) (j : List Entry) (i : ℕ) (d : Entry) → i < length j
     → kinds_in edition (take (i + 1) j) ≡ kinds_in edition (take i j) ++ kinds_by edition (get_or j i d).kind (get_or j i d).value
 kinds_more edition j i d inside =
@@ -20,7 +20,7 @@ kinds_more edition j i d inside =
     ∙ kinds_append edition (take i j) (get_or j i d ∷ [])
     ∙ ap (λ (rest : List Kind). kinds_in edition (take i j) ++ rest) (append-nil (kinds_by edition (get_or j i d).kind (get_or j i d).value))
 
--- a journal gives no fewer words to objects than a beginning of it
+-- a journal gives at least as many words to objects as a prefix of it
 pub filled_front : (edition : Edition) (j : List Entry) (i : ℕ) (d : Entry) → i < length j → filled edition (take i j) + length (kinds_by edition (get_or j i d).kind (get_or j i d).value) ≤ filled edition j
 filled_front edition j i d inside =
     let e = get_or j i d in
@@ -42,7 +42,7 @@ room_kept u p before Reference writer offset value le h = omega (arith, le)
 room_kept u p before Weak writer offset value le h = omega (arith, le)
 room_kept u p before Data writer offset value le h = omega (arith, le)
 
--- so the objects of a lawful journal have room
+-- the objects of a lawful journal have room on their page
 pub room_on : (u : Setup) (p : ℕ) (before es : List Entry) → filled u.heap.edition before ≤ 64 → LawfulAfter u p before es → filled u.heap.edition (before ++ es) ≤ 64
 room_on u p before [] le h = subst (λ (l : List Entry). filled u.heap.edition l ≤ 64) (sym (append-nil before)) le
 room_on u p before (e ∷ es) le h =

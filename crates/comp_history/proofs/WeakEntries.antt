@@ -1,4 +1,4 @@
--- Weak words are written in heaps of edition two alone.
+-- Weak words are written only in heaps of edition two.
 use Rattle.std.proofs.Common.{◌≡◌, ℕ, zero, suc, ◌+◌, ◌*◌, ◌<◌, ◌≤◌, List, [], ◌∷◌, ◌++◌, refl, sym, ap, ◌∙◌, ⊎_elim, subst, arith}
 use Rattle.std.proofs.lemmas.Bool.{cases_lt}
 use mathlib.Core.Option.{some, some-injective, some-ne-none}
@@ -41,7 +41,7 @@ module _ (u : Setup) (closed : IsClosed u.heap) (p : ℕ) where
   weak_fits : (before : List Entry) (k : Kind) (writer offset value : ℕ) → k ≡ Weak → LawfulAfter u p [] before → Fits u p before k writer offset value → u.heap.edition ≡ Two
   weak_fits before k writer offset value is lawful fits = weak_word before offset lawful (subst (λ (c : Kind). Fits u p before c writer offset value) is fits)
 
-  -- each such entry of a lawful journal
+  -- each entry of a lawful journal that writes a weak word
   pub weak_entry : (after before : List Entry) → LawfulAfter u p [] before → LawfulAfter u p before after
       → (i : ℕ) (e : Entry) → get_elem? after i ≡ some e → e.kind ≡ Weak → u.heap.edition ≡ Two
   weak_entry [] before done h i e at is = absurd (some-ne-none e (sym at))
@@ -49,7 +49,7 @@ module _ (u : Setup) (closed : IsClosed u.heap) (p : ℕ) where
       weak_fits before x.kind x.writer x.offset x.value (ap (λ (y : Entry). y.kind) (some-injective x e at) ∙ is) done h.0
   weak_entry (x ∷ es) before done h (suc i) e at is = weak_entry es (before ++ x ∷ []) (lawful_more u p before [] x done h.0) h.1 i e at is
 
-  -- the same of an entry that stands in it
+  -- the same for an entry given as a member of the journal
   pub weak_in : (after before : List Entry) → LawfulAfter u p [] before → LawfulAfter u p before after → (e : Entry) → In e after → e.kind ≡ Weak → u.heap.edition ≡ Two
   weak_in [] before done h e i is = absurd i
   weak_in (x ∷ es) before done h e i is = ⊎_elim

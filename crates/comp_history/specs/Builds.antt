@@ -1,7 +1,7 @@
--- Lists of the pages that were built, a list for each of those that built them.
+-- Lists of the pages that were built: one list for each mutator that built some.
 use Rattle.std.specs.Prelude.{ℕ, List}
 use Rattle.cell_steps.specs.Lists.{times, total}
 
--- how often page p is named in all of them
+-- how often page p occurs in all these lists
 abbrev pub named : ℕ → List (List ℕ) → ℕ
 named p builds = total (times p) builds

@@ -1,4 +1,4 @@
-//! What the words of a page are: of a compacted page the plan tells it, of a fresh page its journal.
+//! The kinds of a page's words. The plan gives them for a compacted page, the journal for a fresh page.
 ghost use Rattle.std.specs.Prelude.{◌≡◌, ℕ, ◌+◌, ◌<◌, ◌≤◌, ◌++◌, IfOk, length, replicate, slice_get, slice_index_or, vec_capacity, vec_len, None};
 ghost use Rattle.heap_layout.specs.Heap.{live};
 ghost use Rattle.page_plan.specs.Sliding as sliding;
@@ -10,7 +10,8 @@ use heap_layout::{Edition, Header, Kind};
 use page_plan::Plan;
 use std::alloc::{AllocError, Global};
 
-/// What each word of page `p` is, where it has this journal, whose objects have room on a page.
+/// The kind of each word of page `p` with this journal; None for a word that belongs to no object. The only refusal is
+/// out of memory. Requires that the objects of the journal fit on a page.
 pub fn kinds_on(
     alloc: Global,
     plan: &Plan,
@@ -29,7 +30,7 @@ pub fn kinds_on(
     }
 }
 
-/// What the words are that a journal has given to objects, which have room on a page.
+// The kinds of the words of all objects that a journal makes. Requires that the objects fit on a page.
 fn kinds_made(alloc: Global, edition: Edition, journal: &[Entry]) -> Result<Vec<Kind>, AllocError>
     requires { filled edition journal.now ≤ 64 }
     ensures { IfOk result (λ kinds. kinds.items ≡ kinds_in edition journal.now) }
@@ -41,7 +42,7 @@ fn kinds_made(alloc: Global, edition: Edition, journal: &[Entry]) -> Result<Vec<
     Ok(kinds)
 }
 
-/// The same kinds, one for each word of a page.
+// The same kinds, with an entry for each word of a page: None after the last of them.
 fn spread(kinds: &[Kind]) -> [Option<Kind>; 64]
     requires { length kinds.now ≤ 64 }
     ensures { (offset : ℕ) → slice_index_or result offset None ≡ slice_get kinds.now offset }
@@ -53,7 +54,7 @@ fn spread(kinds: &[Kind]) -> [Option<Kind>; 64]
     all
 }
 
-/// Adds the words that an entry gives to an object; there is room.
+/// Adds the kinds of the words of the object that an entry makes: nothing if it is no header. Requires room for them.
 pub fn add_kinds(kinds: &mut Vec<Kind>, edition: Edition, entry: Entry)
     requires { vec_len kinds.old + length (kinds_by edition entry.kind entry.value) ≤ vec_capacity kinds.old }
     ensures items { kinds.new.items ≡ kinds.old.items ++ kinds_by edition entry.kind entry.value }
@@ -67,7 +68,7 @@ pub fn add_kinds(kinds: &mut Vec<Kind>, edition: Edition, entry: Entry)
     }
 }
 
-/// Adds the words of an object with this header; there is room.
+// Adds the kinds of the words of an object with this header. Requires room for them.
 fn push_object(kinds: &mut Vec<Kind>, header: Header)
     requires { vec_len kinds.old + length (kinds_of_header header) ≤ vec_capacity kinds.old }
     ensures items { kinds.new.items ≡ kinds.old.items ++ kinds_of_header header }
@@ -79,7 +80,7 @@ fn push_object(kinds: &mut Vec<Kind>, header: Header)
     push_kinds(kinds, header.data_words(), Kind::Data);
 }
 
-/// Adds so many words of a kind; there is room.
+// Adds `count` words of a kind. Requires room for them.
 fn push_kinds(kinds: &mut Vec<Kind>, count: u16, kind: Kind)
     requires { vec_len kinds.old + count ≤ vec_capacity kinds.old }
     ensures items { kinds.new.items ≡ kinds.old.items ++ replicate count kind }

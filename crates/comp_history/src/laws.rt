@@ -1,4 +1,4 @@
-//! Laws of the merged history, each the contract of a function that does nothing.
+//! Laws of the merged history. Each law is the contract of a function that does nothing.
 ghost use Rattle.std.specs.Prelude.{◌≡◌, ℕ, ◌*◌, ◌<◌, ◌≤◌, List, []};
 ghost use Rattle.heap_layout.specs.Heap.{IsClosed};
 ghost use Rattle.heap_layout.specs.declared.edition.Edition.TheVariants.{Two};
@@ -13,14 +13,14 @@ ghost use lib.ListN.{get_elem?};
 ghost use Rattle.comp_history.specs.Merged.{history, written_by, AreOwn, CanMerge, IsOneHistory, IsPoint};
 ghost use Rattle.comp_history.specs.Shares.{allocated};
 
-/// The merged history of journals that can be merged is one that a single thread could have written into the slid heap, and it makes the words and the
-/// objects of all pages.
+/// If journals can be merged, a single thread could have written their merged history into the slid heap, and it makes
+/// the words and the objects of all pages.
 pub fn one_history()
     ensures { (u : Setup) (journals : Journals) → IsClosed u.heap → CanMerge u journals
         → IsOneHistory u journals (history u journals) }
 {}
 
-/// What was seen of a page is what the page was at some point of the merged history.
+/// What was seen of a page is the state of the page at some point of the merged history.
 pub fn beginnings_are_points()
     ensures { (u : Setup) (journals : Journals) → IsClosed u.heap → CanMerge u journals
         → (p : ℕ) (seen : List Written) → p < pages u → StartsWith (journals p) seen
@@ -34,7 +34,8 @@ pub fn own_entries()
         → written_by k (history u journals) ≡ did }
 {}
 
-/// Each entry of the merged history is one writer's: where no writer from n on wrote, what all entries weigh is what those of each writer weigh, added.
+/// Each entry of the merged history has one writer. If no writer with the number n or more wrote, the weight of all
+/// entries is the sum of the weights of each writer's entries, for any weights.
 pub fn writers_add_up()
     ensures { (u : Setup) (journals : Journals) → CanMerge u journals
         → (n : ℕ) → ((k p : ℕ) → n ≤ k → by k (journals p) ≡ []) → (weight : ℕ × Written → ℕ)
@@ -42,19 +43,19 @@ pub fn writers_add_up()
         ≡ below (λ k. total weight (written_by k (history u journals))) n }
 {}
 
-/// The objects that entries make fit the fresh pages.
+/// The objects that entries make fit on the fresh pages.
 pub fn objects_fit()
     ensures { (u : Setup) (journals : Journals) → CanMerge u journals
         → allocated u.heap.edition (history u journals) ≤ 64 * u.fresh }
 {}
 
-/// Each reference and each weak word of each page is null or an object's start.
+/// Each word that refers on each page is null or the start of an object.
 pub fn merged_references_are_starts()
     ensures { (u : Setup) (journals : Journals) → CanMerge u journals
         → ReferencesAreStarts u journals }
 {}
 
-/// In an accepted heap of edition one no entry of a lawful journal writes a weak word.
+/// In an accepted heap of edition one, no entry of a lawful journal writes a weak word.
 pub fn weak_entries_are_of_edition_two()
     ensures { (u : Setup) (journals : Journals) → IsClosed u.heap → AreLawful u journals
         → (p i : ℕ) (e : Written) → get_elem? (journals p) i ≡ some e → e.kind ≡ Weak → u.heap.edition ≡ Two }

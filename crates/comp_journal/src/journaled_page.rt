@@ -9,13 +9,14 @@ use heap_layout::{PAGE_WORDS, PageWords};
 use std::alloc::Global;
 use std::marker::Model;
 
-/// The most entries of a journal.
+/// The most entries that a journal may have.
 pub const MOST_ENTRIES: usize = 1_024;
 
-/// A page with its journal. Its words are what the journal, in order, makes of the base.
+/// A page with its journal. Its words are the base with all writes of the journal applied in order.
 #[derive(Debug, Drop)]
 pub struct JournaledPage {
-    // Kept apart from the first reservation on; a page that has none has no journal, and begins with its words.
+    // The words that the page began with. A copy is made when the first entry is reserved. Before that there are no
+    // entries, and `words` is the base.
     base: Option<PageWords>,
     words: PageWords,
     journal: Vec<Entry>,
@@ -38,7 +39,7 @@ impl Model for JournaledPage {
 }
 
 impl JournaledPage {
-    /// A page with an empty journal, which takes no memory. The journal will grow by `alloc`.
+    /// A page with an empty journal. This does not allocate. The journal will grow by `alloc`.
     pub fn new(alloc: Global, words: PageWords) -> JournaledPage
         ensures page { result.page ≡ record { base = words; journal = [] } }
         ensures room { result.room ≡ 0 }
@@ -50,7 +51,7 @@ impl JournaledPage {
         }
     }
 
-    /// A page of its parts.
+    /// A page made of these parts. The words must be those that the journal makes of the base.
     pub(crate) fn of_parts(base: PageWords, words: PageWords, journal: Vec<Entry>) -> JournaledPage
         requires words { words ≡ replayed base journal.items }
         requires few { vec_len journal ≤ 1024 }
@@ -64,14 +65,14 @@ impl JournaledPage {
         }
     }
 
-    /// The page's words.
+    /// The words of the page.
     pub fn words(&self) -> &[u64; PAGE_WORDS]
         ensures { result.now ≡ replayed self.now.page.base self.now.page.journal }
     {
         self.words.as_array()
     }
 
-    /// Every write into the page, in order.
+    /// All writes into the page, in order.
     pub fn journal(&self) -> &[Entry]
         ensures entries { result.now ≡ self.now.page.journal }
         ensures few { length self.now.page.journal ≤ 1024 }
@@ -91,7 +92,8 @@ impl JournaledPage {
 
     /// Reserves room for one entry.
     ///
-    /// A journal of 1,024 entries is full, which is tested first. After a refusal the page is unchanged.
+    /// Err with `JournalFull` if the journal has 1,024 entries; this is checked first. Err with `OutOfMemory` if an
+    /// allocation fails. A refusal leaves the page unchanged.
     pub fn reserve_entry(&mut self) -> Result<(), JournalRefusal>
         ensures same { self.new.page ≡ self.old.page }
         ensures room { OnOk result (0 < self.new.room) }
@@ -107,7 +109,8 @@ impl JournaledPage {
         Ok(())
     }
 
-    /// Writes the entry's value at its offset, and the entry at the journal's end. It takes no memory.
+    /// Writes the value of the entry at its offset, and appends the entry to the journal. There must be room for it,
+    /// and the offset must be below 64. This does not allocate.
     pub fn append_reserved(&mut self, entry: Entry)
         requires room { 0 < self.old.room }
         requires offset { entry.offset < 64 }

@@ -1,7 +1,7 @@
--- A list that has each number below n is at least n long.
+-- A list that contains each number below n has at least n elements.
 use Rattle.std.proofs.Common.{◌≡◌, ℕ, zero, suc, ◌+◌, ◌<◌, ◌≤◌, List, [], ◌∷◌, length, get_or, Contains, sym, ◌∙◌, arith}
 
--- the list without its element at this place
+-- the list without its element at this index
 abbrev without : List ℕ → ℕ → List ℕ
 without [] i = []
 without (x ∷ xs) zero = xs
@@ -12,7 +12,7 @@ length-without [] i lt = absurd (omega (arith, lt))
 length-without (x ∷ xs) zero lt = omega arith
 length-without (x ∷ xs) (suc i) lt = let rest = length-without xs i (omega (arith, lt)) in omega (arith, rest)
 
--- where n is taken out, each smaller number stays
+-- if n is removed, each number below n stays in the list
 Contains-without : (xs : List ℕ) (i j n k : ℕ) → k < n → get_or xs i n ≡ n → j < length xs → get_or xs j k ≡ k → Contains (without xs i) k
 Contains-without [] i j n k few at lt e = absurd (omega (arith, lt))
 Contains-without (x ∷ xs) zero zero n k few at lt e = let same = sym e ∙ at in absurd (omega (arith, same, few))

@@ -6,23 +6,24 @@ use Rattle.comp_ledger.specs.declared.share.Share.{Share}
 abbrev pub number_of : {L : Type 0} → Share L → ℕ
 number_of share = share.number
 
--- how many words were posted with the share
+-- how many words were posted with this share
 abbrev pub posted_of : {L : Type 0} → Share L → ℕ
 posted_of share = share.posted
 
--- the numbers of the shares, in their order
+-- the numbers of the shares, in order
 abbrev pub numbers_of : {L : Type 0} → List (Share L) → List ℕ
 numbers_of {L} shares = map (λ (share : Share L). number_of share) shares
 
--- how many words were posted with all of them
+-- how many words were posted with all of these shares
 abbrev pub total_posted : {L : Type 0} → List (Share L) → ℕ
 total_posted {L} shares = sum_by (λ (share : Share L). posted_of share) shares
 
--- each number below `count` is that of one of the shares
+-- each number below `count` is the number of one of these shares
 abbrev pub NoneMissing : {L : Type 0} → ℕ → List (Share L) → Type 0
 NoneMissing count shares = (k : ℕ) → k < count → Contains (numbers_of shares) k
 
--- no share has the number k, which is below `count`, and some share has each number below k
+-- k is the least missing number: no share has it, it is below `count`, and each number below it is the number of some
+-- share
 pub record IsLeastMissing {L : Type 0} (count : ℕ) (shares : List (Share L)) (k : ℕ) : Type 0 where
   pub below : k < count
   pub missing : Contains (numbers_of shares) k → ⊥

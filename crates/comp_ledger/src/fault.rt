@@ -1,12 +1,12 @@
 use thiserror::Error;
 
-/// Why a ledger refused a call. Where both causes are there, a missing share is told.
+/// Why a ledger refused a call. If both causes hold, it is `ShareMissing`.
 #[derive(Clone, Copy, Debug, PartialEq, Eq, Error)]
 pub enum LedgerFault {
-    /// There would be more words than the capacity.
+    /// The total would exceed the capacity.
     #[error("L1 OverCapacity")]
     OverCapacity,
-    /// The share of this number was not handed in; those of all numbers below it were.
+    /// The share with this number was not handed in. All shares with lower numbers were.
     #[error("L2 ShareMissing({0})")]
     ShareMissing(u8),
 }

@@ -10,13 +10,14 @@ use std::alloc::Global;
 use std::sync::ledger::{Blank, Ledger as Named};
 use std::sync::{Mutex, Wait};
 
-/// How many words live objects have: those at the start, and those that were posted with its shares since, up to its capacity.
+/// The count of live words: those at the start, and those posted since with the ledger's shares. It never exceeds the
+/// capacity.
 ///
-/// `L` names the ledger, and each share of it: a share is posted with at no other.
+/// `L` names the ledger and its shares: a share can be posted with at no other ledger.
 #[derive(Drop)]
 pub struct Ledger<L: Named> {
     pub(crate) live: u64,
-    // The capacity less the words at the start: so many may be posted in all.
+    // The capacity minus the words at the start: at most this many words may be posted in all.
     pub(crate) room: u64,
     pub(crate) shares: u8,
     posted: Mutex<Posted<L>>,
@@ -24,11 +25,14 @@ pub struct Ledger<L: Named> {
     ghost some: { 1 ≤ shares },
 }
 
-/// A ledger that was not gathered and the shares that were handed in, all as they were, and why.
+/// A refused `gather`: the cause, and the ledger and the shares as they were handed in.
 #[derive(Drop)]
 pub struct NotGathered<L: Named> {
+    /// Why it was refused.
     pub fault: LedgerFault,
+    /// The ledger, unchanged.
     pub ledger: Ledger<L>,
+    /// The shares that were handed in, unchanged.
     pub shares: Vec<Share<L>>,
 }
 
@@ -37,11 +41,11 @@ impl<L: Named> Ledger<L> {
     ghost use Rattle.comp_ledger.specs.Shares.{number_of, numbers_of, posted_of, total_posted, NoneMissing};
     ghost use Rattle.comp_ledger.specs.declared.fault.LedgerFault.TheVariants.{OverCapacity};
 
-    /// A ledger of `live` words at the start, which may become `capacity` words, and its `n` shares, with which nothing is posted: number k stands at
-    /// place k. Its one refusal is want of memory.
+    /// Makes a ledger of `live` words, with this capacity in words, and its `n` shares. Share k stands at index k, and
+    /// nothing is posted with it yet. The only refusal is out of memory.
     ///
-    /// It asks for the blank of the ledger that `L` names, with a part for each share. There is at least one share, since the ledger ends with all
-    /// shares as one; and the words at the start are within the capacity.
+    /// Requires the blank of the ledger that `L` names, with one part for each share; at least one share, since
+    /// `gather` merges all shares into one; and `live` within the capacity.
     pub fn new(
         alloc: Global,
         blank: Blank,
@@ -86,10 +90,11 @@ impl<L: Named> Ledger<L> {
         self.shares
     }
 
-    /// Posts words with a share: those of objects that the share's owner made. It waits for the ledger's lock.
+    /// Posts the words of objects that the owner of this share made. It waits for the ledger's lock.
     ///
-    /// Its one refusal is `OverCapacity`, and then nothing was posted with the share. It means that the words at the start, all that were posted and these would
-    /// pass the capacity. No contract tells what was posted with other shares, so a caller can foresee the answer of a share that is the only one.
+    /// The only refusal is `OverCapacity`: the words at the start, all words posted so far and these words together
+    /// exceed the capacity. Then nothing is posted. The contract does not say what was posted with other shares, so a
+    /// caller can foresee the answer only if there is one share.
     pub fn post<R: Wait>(&self, rt: &R, share: &mut Share<L>, words: u64) -> Result<(), LedgerFault>
         ensures number { number_of share.new ≡ number_of share.old }
 
@@ -99,21 +104,23 @@ impl<L: Named> Ledger<L> {
         ensures fault { OnErr result (result ≡ Err OverCapacity) }
         ensures refused { OnErr result (posted_of share.new ≡ posted_of share.old) }
 
-        // A share that is the only one is refused exactly where the capacity would be passed.
+        // The only share of a ledger is refused if and only if the total would exceed the capacity.
         ensures alone { L.parts ≡ 1 →
             (IsErr result ↔ (capacity_of self.now < live_of self.now + posted_of share.old + words)) }
     {
         self.posted.lock(rt).post(self.room, share, words)
     }
 
-    /// Ends the ledger: takes all shares back, posts the last words, a number for each share given, and answers how many words there are in all.
-    /// It owns the ledger, so it does not wait.
+    /// Ends the ledger: takes back all shares, posts the last words, one number for each share given, and answers the
+    /// total of live words. It owns the ledger, so it does not wait.
     ///
-    /// `ShareMissing` tells the least missing number, and is tested first; `OverCapacity` comes where the words in all would pass the capacity. After
-    /// either nothing is posted, and ledger and shares are handed back as they were.
+    /// Refusals: `ShareMissing` has the least missing number, and is tested first. `OverCapacity` means that the total
+    /// would exceed the capacity. After either refusal nothing is posted, and the ledger and the shares are handed back
+    /// unchanged.
     ///
-    /// It asks for one of the last words with each share that is given, and that the ledger has as many shares as `L` has parts (`whole`). Who made the
-    /// ledger knows that from what `new` asked and answered. The type does not keep it: a ghost field beside a share of `L` may not speak of `L`.
+    /// Requires one number in `last` for each share given, and that the ledger has as many shares as `L` has parts
+    /// (`whole`). The caller of `new` knows this from the contract of `new`. The type cannot keep it: a ghost field
+    /// next to a share of `L` must not mention `L`.
     pub fn gather(self, shares: Vec<Share<L>>, last: &[u64]) -> Result<u64, NotGathered<L>>
         requires whole { share_count self ≡ L.parts }
         requires last { length last.now ≡ length shares.items }

@@ -1,4 +1,5 @@
-//! The ledger: how many words live objects have. Each of those who make objects has a share, and posts with it.
+//! The ledger: the count of live words. Each thread that makes objects has a share, and posts the words of its objects
+//! with it.
 #![tactic(auto)]
 
 mod fault;

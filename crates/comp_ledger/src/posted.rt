@@ -4,7 +4,7 @@ use crate::fault::LedgerFault;
 use crate::share::Share;
 use std::sync::ledger::{Book, Ledger as Named, Share as Token};
 
-/// The words that all shares posted. It stands under the ledger's lock.
+/// The words posted with all shares. The ledger's lock guards it.
 #[derive(Drop)]
 pub(crate) struct Posted<L: Named> {
     words: u64,
@@ -16,7 +16,7 @@ impl<L: Named> Posted<L> {
     ghost use Rattle.comp_ledger.specs.Shares.{number_of, posted_of};
     ghost use Rattle.comp_ledger.specs.declared.fault.LedgerFault.TheVariants.{OverCapacity};
 
-    /// A book in which nothing is posted.
+    /// No words posted, over a book in which nothing is posted.
     pub(crate) fn new(book: Book<L>) -> Posted<L>
         requires { book.total ≡ 0 }
         ensures { result.words ≡ 0 }
@@ -24,7 +24,8 @@ impl<L: Named> Posted<L> {
         Posted { words: 0, book }
     }
 
-    /// Posts words with a share, unless more than `room` words would then be posted in all. What is refused changes nothing.
+    /// Posts words with a share. It is refused if more than `room` words would then be posted in all; a refused call
+    /// changes nothing.
     pub(crate) fn post(
         &mut self,
         room: u64,
@@ -37,13 +38,13 @@ impl<L: Named> Posted<L> {
         ensures more { OnOk result (self.new.words ≡ self.old.words + words) }
         ensures within { OnOk result (posted_of share.new ≤ room) }
 
-        // Refused: exactly where there is no room, and all is as it was.
+        // It is refused if and only if there is no room. Then nothing has changed.
         ensures over { IsErr result ↔ (room < self.old.words + words) }
         ensures fault { OnErr result (result ≡ Err OverCapacity) }
         ensures refused { OnErr result (posted_of share.new ≡ posted_of share.old) }
         ensures same { OnErr result (self.new.words ≡ self.old.words) }
 
-        // A share that is the only one posted all of it.
+        // If there is only one share, all words were posted with it.
         ensures alone { L.parts ≡ 1 → self.old.words ≡ posted_of share.old }
     {
         let Posted { words: all, book } = self;
@@ -62,7 +63,7 @@ impl<L: Named> Posted<L> {
         Ok(())
     }
 
-    /// Posts the last words with all shares, which are one by then, and answers how many words were posted.
+    /// Posts the last words with `all`, the merge of all shares, and answers how many words were posted in all.
     pub(crate) fn end(self, mut all: Token<L>, last: u64) -> u64
         requires whole { all.parts ≡ L.parts }
         requires some { 0 < all.parts }

@@ -2,7 +2,8 @@ ghost use Rattle.std.specs.Prelude.{◌≡◌};
 
 use std::sync::ledger::{Ledger as Named, Share as Token};
 
-/// A share of a ledger: with it one of those who make objects posts their words. It keeps how many were posted with it.
+/// A share of a ledger. Its owner, a thread that makes objects, posts words with it. It records how many words were
+/// posted with it.
 #[derive(Drop)]
 pub struct Share<L: Named> {
     pub(crate) number: u8,
@@ -15,14 +16,14 @@ pub struct Share<L: Named> {
 impl<L: Named> Share<L> {
     ghost use Rattle.comp_ledger.specs.Shares.{number_of, posted_of};
 
-    /// The share's number: those of a ledger are counted from 0.
+    /// The share's number. The shares of a ledger are numbered from 0.
     pub fn number(&self) -> u8
         ensures { result ≡ number_of self.now }
     {
         self.number
     }
 
-    /// How many words were posted with the share.
+    /// How many words were posted with this share.
     pub fn posted(&self) -> u64
         ensures { result ≡ posted_of self.now }
     {

@@ -7,10 +7,10 @@ use thiserror::Error;
 /// Why a heap was not flipped.
 #[derive(Clone, Copy, Debug, PartialEq, Eq, Error)]
 pub enum FlipFault {
-    /// A growth was refused.
+    /// Out of memory.
     #[error("M8 OutOfMemory")]
     OutOfMemory,
-    /// There are not 1 to 64 mutators, or more than 4,096 fresh pages.
+    /// The number of mutators is not 1 to 64, or the number of fresh pages is above 4,096.
     #[error("M10 BadCounts")]
     BadCounts,
 }

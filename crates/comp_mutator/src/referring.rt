@@ -1,4 +1,5 @@
-//! The calls of a mutator on fields that refer, by their kind. That those return which repeat is not promised.
+//! The calls of a mutator on fields of a kind that refers. Some retry while the page is busy; it is not promised that
+//! those return.
 ghost use Rattle.std.specs.Prelude.{◌≡◌, ℕ, ◌<◌, true, IfErr, IfOk, IsErrOf, OnErr, OnOk};
 ghost use Rattle.heap_layout.specs.Kinds.{refers};
 ghost use Rattle.cell_steps.specs.Starts.{IsPlace};
@@ -20,8 +21,8 @@ use std::sync::Wait;
 use std::sync::ledger::Ledger as Named;
 
 impl<L: Named, B: Builder> Space<L, B> {
-    /// Reads a field of a kind that refers: null, or a start that the mutator then knows. It asks that the mutator was made with this space, and for such a
-    /// kind.
+    /// Reads a field of a kind that refers. Answers null, or the address of an object that the mutator knows from then
+    /// on. Requires a mutator of this space, and a kind that refers.
     pub fn try_read_referring(
         &self,
         alloc: Global,
@@ -54,7 +55,7 @@ impl<L: Named, B: Builder> Space<L, B> {
         comp_access::try_read_referring(alloc, &self.cells, pass, kind, object, field)
     }
 
-    /// As `try_read_referring`, which it repeats while the page is busy; it asks the same.
+    /// Like `try_read_referring`, but retries while the page is busy. The requirements are the same.
     pub fn read_referring(
         &self,
         alloc: Global,
@@ -85,8 +86,9 @@ impl<L: Named, B: Builder> Space<L, B> {
         unreachable!()
     }
 
-    /// Writes a field of a kind that refers, and answers the entry's stamp. The value is null, or a start that the mutator knows; any other is refused. It
-    /// asks that the mutator was made with this space, and for such a kind.
+    /// Writes `value` into a field of a kind that refers, and answers the stamp of the entry. The value must be null or
+    /// the address of an object that the mutator knows; any other value is refused. Requires a mutator of this space,
+    /// and a kind that refers.
     pub fn try_write_referring(
         &self,
         alloc: Global,
@@ -118,7 +120,7 @@ impl<L: Named, B: Builder> Space<L, B> {
         comp_access::try_write_referring(alloc, &self.cells, pass, kind, object, field, value)
     }
 
-    /// As `try_write_referring`, which it repeats while the page is busy; it asks the same.
+    /// Like `try_write_referring`, but retries while the page is busy. The requirements are the same.
     pub fn write_referring(
         &self,
         alloc: Global,

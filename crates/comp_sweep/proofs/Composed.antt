@@ -26,7 +26,7 @@ use Rattle.comp_sweep.specs.declared.working.Stop.{Stop}
 use Rattle.comp_sweep.specs.declared.working.Stop.TheVariants.{Full, Told, Wants}
 use Rattle.heap_layout.specs.declared.edition.Edition.{Edition}
 
--- a page that was waited for is refused for want of memory
+-- a page that is refused, but not as busy, was not known to be built
 pub memory_wanted : (p : ℕ) (a b : Pass) (refusal : Refusal) → ((q : ℕ) → refusal ≡ Busy q → ⊥) → PageRefused p a b refusal → KnowsBuilt a p → ⊥
 memory_wanted p a b Null waited r = absurd r
 memory_wanted p a b (NotAStart x) waited r = absurd r
@@ -95,13 +95,13 @@ module _ {L B : Type 0} {g : Ghosts B} (space : Space L B g) where
           );
         }
 
-    -- why a worker stops, after calls before
+    -- why a worker stops, if it made calls before
     pub stopped_then : {A : Type 0} (compacted : ℕ) (known : Option A) (stop : Stop) → WhyStopped compacted (pass_of b) known stop → WhyStopped compacted (pass_of a) known stop
     stopped_then compacted known Told w = w
     stopped_then compacted known Full w = tt
     stopped_then compacted known (Wants p) w = (w.0, λ k. w.1 (known_more (pass_of a) (pass_of b) h.grows p k))
 
   module _ (a b : Mutator L) (h : Sweeps space a b) where
-    -- a region that was seen built, is
+    -- a region that was seen built is still seen built
     pub region_then : (u : Setup) (region : ℕ) → SeesRegion u (pass_of a) region → SeesRegion u (pass_of b) region
     region_then u region sees p is = h.grows.built p (sees p is)

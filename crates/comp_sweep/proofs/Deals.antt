@@ -141,7 +141,7 @@ all_zero : (f : Hand → ℕ) (views : List Hand) → ((j : ℕ) (u : Hand) → 
 all_zero f [] none = refl
 all_zero f (x ∷ xs) none = omega (arith, none 0 x refl, all_zero f xs (λ j u e. none (suc j) u e))
 
--- a sum in which no other pass has a share is the owner's own
+-- a sum to which no other pass adds is the owner's own
 alone : (f : Hand → ℕ) (views : List Hand) (v : Hand) → get_elem? views 0 ≡ some v → ((j : ℕ) (u : Hand) → get_elem? views j ≡ some u → 0 < j → f u ≡ 0) → total f views ≡ f v
 alone f [] v at none = absurd (some-ne-none v (sym at))
 alone f (x ∷ xs) v at none = omega (arith, ap f (some_inj.0 at), all_zero f xs (λ j u e. none (suc j) u e (omega arith)))

@@ -1,4 +1,4 @@
--- What a worker takes and lists, one region more at a time.
+-- What a worker takes and lists, one region at a time.
 use Rattle.std.proofs.Common.{◌≡◌, ℕ, ◌+◌, List, [], ◌∷◌, ◌++◌, All, refl, sym, subst, ◌∙◌, arith}
 use Rattle.std.proofs.lemmas.List.Elements.{All-append, All-cons, All-nil}
 use Rattle.comp_mutator.specs.Setup.{Setup}
@@ -18,7 +18,7 @@ module _ (u : Setup) where
   pub listed_none : (pass : Pass) (lot : Lot) (regions : List ℕ) → All (SeesRegion u pass) regions → Listed u pass lot lot regions regions
   listed_none pass lot regions seen = record { seen = seen; tally = λ x. refl }
 
-  -- a region more
+  -- one region more
   pub listed_next : (pass next : Pass) (first old new : Lot) (before after more : List ℕ) (q : ℕ) → ((region : ℕ) → SeesRegion u pass region → SeesRegion u next region) → SeesRegion u next q
       → ((x : ℕ) → taken x new ≡ taken x old + only x q) → more ≡ after ++ q ∷ [] → Listed u pass first old before after → Listed u next first new before more
   listed_next pass next first old new before after more q keeps here tally e h = record {

@@ -1,4 +1,4 @@
--- What is left once all workers have ended is swept, a lot at a time.
+-- The sweep of what is left after all workers have ended, one lot at a time.
 use Rattle.std.specs.Global.{Vec}
 use Rattle.std.specs.List.{AllZip}
 use Rattle.std.proofs.Common.{◌≡◌, ◌≢◌, ⊎_elim, ℕ, zero, suc, ◌+◌, ◌<◌, List, [], ◌∷◌, length, set, get_or, sym, ap, subst, ◌∙◌, arith}
@@ -28,7 +28,7 @@ use Rattle.comp_sweep.proofs.Composed.{sweeps_then}
 use Rattle.comp_sweep.proofs.Told.{beside}
 
 module _ {X Y : Type 0} (R : X → Y → Type 0) where
-  -- one of the second list is another
+  -- one element of the second list is replaced
   zip_right : (xs : List X) (ys : List Y) (k : ℕ) (y z : Y) → y ≡ get_or ys k y → k < length ys → ((x : X) → R x y → R x z) → AllZip R xs ys → AllZip R xs (set ys k z)
   zip_right [] [] k y z e lt f m = absurd (omega (arith, lt))
   zip_right [] (b ∷ ys) k y z e lt f m = absurd m
@@ -36,7 +36,7 @@ module _ {X Y : Type 0} (R : X → Y → Type 0) where
   zip_right (a ∷ xs) (b ∷ ys) zero y z e lt f m = (f a (subst (R a) (sym e) m.0), m.1)
   zip_right (a ∷ xs) (b ∷ ys) (suc k) y z e lt f m = (m.0, zip_right xs ys k y z e (omega (arith, lt)) f m.1)
 
-  -- one of each is another
+  -- one element of each list is replaced
   zip_both : (xs : List X) (ys : List Y) (k : ℕ) (x : X) (y : Y) → R x y → AllZip R xs ys → AllZip R (set xs k x) (set ys k y)
   zip_both [] [] k x y r m = tt
   zip_both [] (b ∷ ys) k x y r m = absurd m
@@ -44,7 +44,7 @@ module _ {X Y : Type 0} (R : X → Y → Type 0) where
   zip_both (a ∷ xs) (b ∷ ys) zero x y r m = (r, m.1)
   zip_both (a ∷ xs) (b ∷ ys) (suc k) x y r m = (m.0, zip_both xs ys k x y r m.1)
 
-  -- what stands side by side
+  -- the elements at one index
   zip_at : (xs : List X) (ys : List Y) (k : ℕ) (x : X) (y : Y) → x ≡ get_or xs k x → y ≡ get_or ys k y → k < length xs → AllZip R xs ys → R x y
   zip_at [] [] k x y ex ey lt m = absurd (omega (arith, lt))
   zip_at [] (b ∷ ys) k x y ex ey lt m = absurd m
@@ -53,11 +53,11 @@ module _ {X Y : Type 0} (R : X → Y → Type 0) where
   zip_at (a ∷ xs) (b ∷ ys) (suc k) x y ex ey lt m = zip_at xs ys k x y ex ey (omega (arith, lt)) m.1
 
 module _ {L B : Type 0} {g : Ghosts B} (space : Space L B g) (first ms : List (Mutator L)) (k : ℕ) (m : Mutator L) (lt : k < length ms) (em : m ≡ get_or ms k m) (h : HandsBack space first ms) where
-  -- a mutator that swept is the space's
+  -- a mutator that swept belongs to the space
   pub of_rest : IsMutatorOf space m
   of_rest = (beside (Sweeps space) first ms k m h (at_value ms k m lt em)).2.of
 
-  -- and knows what all knew
+  -- it knows what all knew
   pub knows_rest : (given : List Pass) → Each first (λ (x : Mutator L). KnowsAll given (pass_of x)) → KnowsAll given (pass_of m)
   knows_rest given knows p all =
       let b = beside (Sweeps space) first ms k m h (at_value ms k m lt em) in
@@ -97,11 +97,11 @@ module _ (os : List Lot) (k : ℕ) (o n : Lot) (lt : k < length os) (eo : o ≡ 
   out_rest before here j lot less at =
       ⊎_elim (λ (x : (j ≡ k) × (n ≡ lot)). subst IsOut x.1 here) (λ (x : (j ≢ k) × (get_elem? os j ≡ some lot)). before j lot (omega (arith, less, x.0)) x.1) (at_set os k j n lot at)
 
--- as many lots
+-- the number of lots is unchanged
 pub long_rest : (os first : List Lot) → standings os ≡ standings first → length os ≡ length first
 long_rest os first e = sym (length-map os standing) ∙ ap length e ∙ length-map first standing
 
--- the lists are all regions, each once
+-- the lists have all regions, each once
 pub concluded : {L : Type 0} (u : Setup) (n : ℕ) (dealt gathered left : List Lot) (before after : List (Vec ℕ)) (ms : List (Mutator L)) → AreDealt n (standings dealt)
     → ((x : ℕ) → put_in x (standings gathered) ≡ put_in x (standings dealt)) → ((x : ℕ) → taken_in x gathered ≡ taken_in x dealt) → Each (standings gathered) IsAlone
     → ((x : ℕ) → named x (lists before) ≡ taken_in x dealt) → AreRest u gathered before ms left after → AreAllOnce n (lists after)

@@ -1,4 +1,4 @@
--- Lots that change one at a time, but for what was taken.
+-- Changes of one lot at a time, except for what was taken.
 use Rattle.std.proofs.Common.{◌≡◌, ◌≢◌, ℕ, zero, suc, ◌+◌, Bool, cond, List, [], ◌∷◌, ◌++◌, map, set, refl, sym, ap, subst, ◌∙◌, ⊎_elim, arith}
 use Rattle.std.proofs.lemmas.Bool.{eq-eqb, ne_eqb}
 use mathlib.Core.Option.{some, some-injective, some-ne-none}
@@ -15,7 +15,7 @@ only_same q x e = ap (λ (b : Bool). cond b 1 0) (eq-eqb q x e)
 pub only_other : (q x : ℕ) → (q ≡ x → ⊥) → only q x ≡ 0
 only_other q x ne = ap (λ (b : Bool). cond b 1 0) (ne_eqb q x ne)
 
--- a function of each that the change leaves as it was
+-- a function of the elements that the change leaves unchanged
 pub map_same : {A B : Type 0} (f : A → B) (xs : List A) (k : ℕ) (v w : A) → get_elem? xs k ≡ some v → f w ≡ f v → map f (set xs k w) ≡ map f xs
 map_same f [] k v w at e = absurd (some-ne-none v (sym at))
 map_same f (x ∷ xs) zero v w at e = ap (λ y. y ∷ map f xs) (e ∙ ap f (sym (some-injective x v at)))
@@ -92,7 +92,7 @@ module _ {D : Type 0} where
         linked_set lots k s t (w ∷ rest) rest at deque h (subst (λ l. Each l (LeadsTo (deques lots))) (sym ew) (h.lead k s at)) (λ j x e. h.loose_lead (suc j) x e)
         (λ j ne. omega (arith, ap (ways_to j) ew, only_other j w.0 (λ e. ne (e ∙ is)))) (omega (arith, eo, eb, ap (ways_to k) ew, only_same k w.0 (sym is)))
 
-    -- what was put elsewhere is as before
+    -- what was put into the other lots is unchanged
     pub put_more : (x : ℕ) → put_in x (set lots k t) + times x s.put ≡ put_in x lots + times x t.put
     put_more x = total-set (λ (lot : Standing D). times x lot.put) lots k s t at
 
@@ -104,7 +104,7 @@ module _ {D : Type 0} where
   no_ways j [] none = refl
   no_ways j (x ∷ xs) none = omega (arith, ap (ways_to j) (none 0 x refl), no_ways j xs (λ i y e. none (suc i) y e))
 
-  -- once no lot has a way, all came back
+  -- if no lot has a way, all ways came back
   pub all_alone : (lots : List (Standing D)) → Linked lots [] → Each lots (λ (lot : Standing D). lot.ways ≡ []) → Each lots IsAlone
   all_alone lots h none j s at = (none j s at, omega (arith, h.whole j s at, no_ways j lots none))
 
@@ -116,7 +116,7 @@ module _ {D : Type 0} where
     whole = λ j s at. omega (arith, (new j s at).1, (new j s at).2, no_ways j lots (λ i y e. (new i y e).0));
   }
 
-  -- a region more is put
+  -- one more region is put
   pub dealt_next : (n : ℕ) (lots : List (Standing D)) (k : ℕ) (s t : Standing D) → get_elem? lots k ≡ some s → t.deque ≡ s.deque → t.out ≡ s.out → t.back ≡ s.back → t.ways ≡ s.ways
       → t.put ≡ s.put ++ n ∷ [] → AreDealt n lots → AreDealt (n + 1) (set lots k t)
   dealt_next n lots k s t at ed eo eb ew ep h =

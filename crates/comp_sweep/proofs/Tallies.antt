@@ -30,15 +30,15 @@ own_is a b e = subst (SameOwn a) (sym e) (same_own a)
 pub name_same : (a b : Way) → b.index ≡ a.index → way_deque b ≡ way_deque a → way_name b ≡ way_name a
 name_same a b ei ed = ap (λ (i : ℕ). (i, way_deque b)) ei ∙ ap (λ d. (a.index, d)) ed
 
--- a region more
+-- one region more
 pub times_more : (x q : ℕ) (before after : List ℕ) → after ≡ before ++ q ∷ [] → times x after ≡ times x before + only x q
 times_more x q before after e = omega (arith, ap (times x) e, total-append (only x) before (q ∷ []))
 
--- a way more
+-- one way more
 pub ways_more : (x : ℕ) (before after : List Way) (way : Way) → after ≡ before ++ way ∷ [] → taken_on x after ≡ taken_on x before + times x (way_view way).taken
 ways_more x before after way e = omega (arith, ap (taken_on x) e, total-append (λ (w : Way). times x (way_view w).taken) before (way ∷ []))
 
--- the lot at k is another
+-- the lot at k is replaced
 pub standing_set : (lots : List Lot) (k : ℕ) (new : Lot) → standings (set lots k new) ≡ set (standings lots) k (standing new)
 standing_set lots k new = map-set standing lots k new
 
@@ -48,7 +48,7 @@ standing_at lots k old lt e = at_map standing lots k old (at_value lots k old lt
 pub taken_set : (x : ℕ) (lots : List Lot) (k : ℕ) (old new : Lot) → k < length lots → old ≡ get_or lots k old → taken_in x (set lots k new) + taken x old ≡ taken_in x lots + taken x new
 taken_set x lots k old new lt e = total-set (taken x) lots k old new (at_value lots k old lt e)
 
--- where no way is out, and each deque was found empty, what was taken is what was put
+-- if no way is out and each deque was found empty, what was taken is what was put
 taken_put : (x : ℕ) (lots : List Lot) → Each (standings lots) IsAlone → Each lots IsOut → taken_in x lots ≡ put_in x (standings lots)
 taken_put x [] alone out = refl
 taken_put x (lot ∷ lots) alone out =
@@ -71,13 +71,13 @@ module _ (lots : List Lot) (k : ℕ) (old new : Lot) (lt : k < length lots) (e :
   abbrev there : get_elem? (standings lots) k ≡ some (standing old)
   there = standing_at lots k old lt e
 
-  -- a region more is put
+  -- one more region is put
   pub put_next : (n : ℕ) → StillLot old new → (standing new).ways ≡ (standing old).ways → (standing new).out ≡ (standing old).out → (standing new).put ≡ (standing old).put ++ n ∷ []
       → AreDealt n (standings lots) → AreDealt (n + 1) (standings (set lots k new))
   put_next n still ways out put h =
       subst (AreDealt (n + 1)) (sym (standing_set lots k new)) (dealt_next n (standings lots) k (standing old) (standing new) there still.deque out still.back ways put h)
 
-  -- what was taken, where that of the lot at k is as before
+  -- what was taken is unchanged if it is unchanged for the lot at k
   pub taken_same : (x : ℕ) → taken x new ≡ taken x old → taken_in x (set lots k new) ≡ taken_in x lots
   taken_same x same = omega (arith, taken_set x lots k old new lt e, same)
 
@@ -91,14 +91,14 @@ module _ (lots : List Lot) (k : ℕ) (old new : Lot) (lt : k < length lots) (e :
       (subst (λ l. Linked l ((k, (standing old).deque) ∷ [])) (sym (standing_set lots k new))
       (linked_out (standings lots) k (standing old) (standing new) there given.still.deque given.out given.still.back given.ways h))
 
-  -- a way for it
+  -- a way for the lot at k
   way_held : (way : Way) → StillLot old new → (standing new).out ≡ (standing old).out → (standing new).ways ≡ (standing old).ways ++ way_name way ∷ []
       → Linked (standings lots) (way_name way ∷ []) → Linked (standings (set lots k new)) []
   way_held way still out ways h =
       subst (λ l. Linked l []) (sym (standing_set lots k new))
       (linked_hold (standings lots) k (standing old) (standing new) there still.deque (way_name way) out still.back ways h)
 
-  -- its ways are loose
+  -- the ways of the lot at k are loose
   pub ways_freed : (freed : List Way) → StillLot old new → (standing new).out ≡ (standing old).out → (standing new).ways ≡ [] → map way_name freed ≡ (standing old).ways
       → Linked (standings lots) [] → Linked (standings (set lots k new)) (map way_name freed)
   ways_freed freed still out none names h =
@@ -119,7 +119,7 @@ module _ (lots : List Lot) (k : ℕ) (old new : Lot) (lt : k < length lots) (e :
       sym back.2 ∙ ⊎_elim (λ (x : (j ≡ k) × (standing new ≡ back.0)). ap ways_of (sym x.1) ∙ none)
       (λ (x : (j ≢ k) × (get_elem? (standings lots) j ≡ some back.0)). before j back.0 (omega (arith, less, x.0)) x.1) (at_set (standings lots) k j (standing new) back.0 was)
 
-  -- a way to it came back
+  -- a way to the lot at k came back
   pub gathered_next : (way : Way) (more rest : List Way) → rest ≡ way ∷ more → way.index ≡ k → HasBack old new way → Linked (standings lots) (map way_name rest)
       → Linked (standings (set lots k new)) (map way_name more)
   gathered_next way more rest e is came h =

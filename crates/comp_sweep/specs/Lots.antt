@@ -1,4 +1,4 @@
--- What workers take regions from, and how often each was taken.
+-- The lots from which workers take regions, and how often each region was taken.
 use Rattle.std.specs.Global.{Global}
 use Rattle.std.specs.Prelude.{◌≡◌, ℕ, ◌+◌, ◌<◌, ◌≤◌, List, [], length, map}
 use mathlib.Core.Option.{some}
@@ -12,7 +12,7 @@ use Rattle.comp_sweep.specs.declared.deques.Own.{Own}
 use Rattle.comp_sweep.specs.declared.deques.Way.{Way}
 use Rattle.comp_sweep.specs.declared.lots.Lot.{Lot}
 
--- which deque it is
+-- the identity of a deque
 abbrev pub Deque : Type 0
 Deque = RowsId × Global
 
@@ -22,14 +22,14 @@ own_deque own = worker_deque own.owner
 abbrev pub way_deque : Way → Deque
 way_deque way = stealer_deque way.thief
 
--- what was put and taken
+-- what a pass of a deque has put and taken
 abbrev pub own_view : Own → Hand
 own_view own = worker_view own.owner
 
 abbrev pub way_view : Way → Hand
 way_view way = view way.pass
 
--- It is the same deque, into which the same was put, and of whose ways as many were made and came back.
+-- The deque is the same, the same regions were put, and the numbers of ways made and come back are the same.
 pub record SameOwn (old new : Own) : Type 0 where
   pub deque : own_deque new ≡ own_deque old
   pub put : (own_view new).put ≡ (own_view old).put
@@ -40,14 +40,15 @@ pub record SameOwn (old new : Own) : Type 0 where
 abbrev pub taken_on : ℕ → List Way → ℕ
 taken_on x ways = total (λ (way : Way). times x (way_view way).taken) ways
 
--- how often x was taken from this lot, and from all of these
+-- how often x was taken with this lot, from its own deque or on its ways; and with all these lots
 abbrev pub taken : ℕ → Lot → ℕ
 taken x lot = times x (own_view lot.own).taken + taken_on x lot.ways.items
 
 abbrev pub taken_in : ℕ → List Lot → ℕ
 taken_in x lots = total (taken x) lots
 
--- A lot but for what was taken: its deque, what was put into it, how many ways to it were made and came back, and to which deques its own ways lead, each with its number.
+-- A lot without what was taken: its deque, the regions put into it, the numbers of ways to it that were made and that
+-- came back, and the deques to which its own ways lead, each with its number.
 pub record Standing (D : Type 0) : Type 0 where
   pub deque : D
   pub put : List ℕ
@@ -72,7 +73,7 @@ pub record IsNew (lot : Lot) : Type 0 where
   pub ways : (standing lot).ways ≡ []
   pub taken : (x : ℕ) → taken x lot ≡ 0
 
--- it is the same deque, to which as many ways came back
+-- the deque is the same, and no way to it came back
 pub record StillLot (old new : Lot) : Type 0 where
   pub deque : (standing new).deque ≡ (standing old).deque
   pub back : (standing new).back ≡ (standing old).back
@@ -97,7 +98,7 @@ pub record HasBack (old new : Lot) (way : Way) : Type 0 where
   pub ways : (standing new).ways ≡ (standing old).ways
   pub taken : (x : ℕ) → taken x new ≡ taken x old + times x (way_view way).taken
 
--- but for what was taken they are the same
+-- the lots are the same, except for what was taken
 abbrev pub SameLot : Lot → Lot → Type 0
 SameLot old new = standing new ≡ standing old
 
@@ -105,11 +106,11 @@ module _ {D : Type 0} where
   abbrev pub deques : List (Standing D) → List D
   deques lots = map (λ (lot : Standing D). lot.deque) lots
 
-  -- how often x was put
+  -- how often x was put into these lots
   abbrev pub put_in : ℕ → List (Standing D) → ℕ
   put_in x lots = total (λ (lot : Standing D). times x lot.put) lots
 
-  -- how many of these ways lead to number j
+  -- the number of these ways that lead to deque j
   abbrev pub ways_to : ℕ → List (ℕ × D) → ℕ
   ways_to j ways = total (λ (way : ℕ × D). only j way.0) ways
 
@@ -120,7 +121,8 @@ module _ {D : Type 0} where
   abbrev pub LeadsTo : List D → ℕ × D → Type 0
   LeadsTo all way = get_elem? all way.0 ≡ some way.1
 
--- All ways lead to the deques of these lots, and none is missing: each that was made came back, is in a lot, or is one of those that are loose.
+-- All ways lead to the deques of these lots, and none is missing: each way that was made came back, is in a lot, or is
+-- one of the loose ways.
 pub record Linked {D : Type 0} (lots : List (Standing D)) (loose : List (ℕ × D)) : Type 0 where
   pub lead : Each lots (λ (lot : Standing D). Each lot.ways (LeadsTo (deques lots)))
   pub loose_lead : Each loose (LeadsTo (deques lots))
@@ -132,11 +134,11 @@ pub record AreDealt {D : Type 0} (n : ℕ) (lots : List (Standing D)) : Type 0 w
   pub no_other : (x : ℕ) → n ≤ x → put_in x lots ≡ 0
   pub linked : Linked lots []
 
--- all ways of this lot are gone, and all to it came back
+-- the lot has no ways, and all ways to it came back
 abbrev pub IsAlone : {D : Type 0} → Standing D → Type 0
 IsAlone lot = (lot.ways ≡ []) × (lot.out ≡ lot.back)
 
--- once all ways came back, all that was put into the lot's deque was taken
+-- if all ways came back, everything that was put into the lot's deque was taken
 abbrev pub IsOut : Lot → Type 0
 IsOut lot = AllTaken (own_view lot.own)
 
@@ -152,7 +154,7 @@ pub record HasLinked (old new : List Lot) : Type 0 where
   pub put : (x : ℕ) → put_in x (standings new) ≡ put_in x (standings old)
   pub taken : (x : ℕ) → taken_in x new ≡ taken_in x old
 
--- Ways came back to the lots, and no other was made.
+-- These ways came back to the lots, and no way was made.
 pub record HasGathered (old new : List Lot) (came : List Way) : Type 0 where
   pub count : length new ≡ length old
   pub linked : Linked (standings new) []

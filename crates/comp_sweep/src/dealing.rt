@@ -1,17 +1,17 @@
-//! The rule of a deque of regions, and what each of its calls tells.
+//! The rule of a deque of regions, and what each call says about it.
 
 use crossbeam_deque::protocol::{Join, Outcome, Protocol, Split};
 use crossbeam_deque::{Stealer, Worker};
 use std::alloc::Global;
 use std::collections::LinkedList;
 
-/// What a pass of a deque has put and taken, for the proof alone: no value of it is made.
+/// What a pass of a deque has put and taken. Only the proof uses it: no value of it is made.
 pub struct Hand {
-    /// How many ways the owner has made.
+    /// The number of ways that the owner has made.
     pub out: u64,
-    /// How many of them came back to it.
+    /// The number of ways that came back to the owner.
     pub back: u64,
-    /// 1 on a way, else 0.
+    /// 1 for a way, else 0.
     pub way: u64,
     /// The regions that were put.
     pub put: LinkedList<u64>,
@@ -19,7 +19,7 @@ pub struct Hand {
     pub taken: LinkedList<u64>,
 }
 
-/// The rule of a deque: each region is there as often as it was put and not taken.
+/// The rule of a deque: it holds each region as many times as the region was put and not taken.
 pub struct Fair;
 
 impl Protocol<u64, Hand> for Fair {
@@ -42,7 +42,7 @@ impl Outcome<u64, Hand> for Puts {
     ghost then = { puts };
 }
 
-/// The owner takes a region, or learns that none is there.
+/// The owner takes a region, or learns that there is none.
 pub struct Takes;
 
 impl Outcome<u64, Hand> for Takes {
@@ -83,8 +83,8 @@ impl Join<Hand> for Ways {
     ghost spent = { hand 0 0 0 [] [] };
 }
 
-/// A deque, at its owner's end.
+/// The owner's end of a deque.
 pub type Owner = Worker<u64, Global, Hand, Fair>;
 
-/// A deque, at the end from which others steal.
+/// The end of a deque from which others steal.
 pub type Thief = Stealer<u64, Global, Hand, Fair>;

@@ -1,4 +1,4 @@
-//! A worker's deque of regions, from which it takes, and the ways on which others take from it.
+//! A worker's own deque of regions, and the ways by which other workers steal from it.
 ghost use Rattle.std.specs.Prelude.{◌≡◌};
 ghost use Rattle.crossbeam_deque.specs.Handles.{view, worker_flavor, worker_port, stealer_deque, stealer_flavor, IsPassOf};
 
@@ -16,7 +16,7 @@ pub struct Own {
     ghost port: { worker_port owner ≡ 0 },
 }
 
-/// A way to the deque of another worker, whose number is `index`.
+/// A way to steal from the deque of worker `index`.
 #[derive(Drop)]
 pub struct Way {
     index: usize,
@@ -32,7 +32,7 @@ impl Own {
     ghost use Rattle.comp_sweep.specs.Dealt.{hand, AllTaken};
     ghost use Rattle.comp_sweep.specs.Lots.{SameOwn, own_deque, own_view, way_deque, way_view};
 
-    /// A deque with no region, and with room for so many.
+    /// Makes a deque with no region, and with room for `room` regions.
     pub(crate) fn new(alloc: Global, room: usize) -> Result<Own, OutOfMemory>
         ensures { IfOk result (λ own. own_view own ≡ hand 0 0 0 [] []) }
     {
@@ -40,7 +40,7 @@ impl Own {
         Ok(Own { owner })
     }
 
-    /// Puts a region behind the others.
+    /// Puts a region after the others.
     pub(crate) fn put(&mut self, region: u64) -> Result<(), OutOfMemory>
         ensures deque { own_deque self.new ≡ own_deque self.old }
         ensures put { OnOk result (own_view self.new ≡ hand (own_view self.old).out (own_view self.old).back (own_view self.old).way ((own_view self.old).put ++ region ∷ []) (own_view self.old).taken) }
@@ -51,7 +51,7 @@ impl Own {
         }
     }
 
-    /// A way to this deque, whose number is `index`.
+    /// Makes a way to this deque, which has number `index`.
     pub(crate) fn way(&mut self, index: usize) -> Result<Way, OutOfMemory>
         ensures deque { own_deque self.new ≡ own_deque self.old }
         ensures out { IfOk result (λ _. own_view self.new ≡ hand ((own_view self.old).out + 1) (own_view self.old).back (own_view self.old).way (own_view self.old).put (own_view self.old).taken) }
@@ -62,7 +62,7 @@ impl Own {
         Ok(Way { index, thief, pass })
     }
 
-    /// Takes the first region. Once all ways came back, `None` says that all that was put was taken.
+    /// Takes the first region. If all ways came back, `None` means that everything that was put was taken.
     pub(crate) fn take(&mut self) -> Option<u64>
         ensures same { SameOwn self.old self.new }
         ensures some { IfSome result (λ q. (own_view self.new).taken ≡ (own_view self.old).taken ++ q ∷ []) }
@@ -71,7 +71,7 @@ impl Own {
         self.owner.pop_as::<Takes>()
     }
 
-    /// A way comes back: what was taken on it counts here.
+    /// Takes back a way. What was taken on it then counts as taken by the owner.
     pub(crate) fn absorb(&mut self, way: Way)
         requires { way_deque way ≡ own_deque self.old }
         ensures deque { own_deque self.new ≡ own_deque self.old }
@@ -90,14 +90,14 @@ impl Way {
     ghost use Rattle.std.specs.Prelude.{[], ◌∷◌, ◌++◌, IfSome, IfNone};
     ghost use Rattle.comp_sweep.specs.Lots.{way_deque, way_view};
 
-    /// To which worker's deque the way leads.
+    /// The number of the deque to which the way leads.
     pub(crate) fn index(&self) -> usize
         ensures { result ≡ self.now.index }
     {
         self.index
     }
 
-    /// Steals the first region.
+    /// Steals the first region, or answers `None` if the deque is empty. Retries if it loses a race.
     pub(crate) fn steal(&mut self, rt: &impl Wait) -> Option<u64>
         ensures same { (self.new.index ≡ self.old.index) × (way_deque self.new ≡ way_deque self.old) }
         ensures some { IfSome result (λ q. (way_view self.new).taken ≡ (way_view self.old).taken ++ q ∷ []) }

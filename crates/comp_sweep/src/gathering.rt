@@ -1,4 +1,4 @@
-//! Lots, when their workers have ended.
+//! Gathers the ways of lots after their workers have ended.
 ghost use Rattle.std.specs.Prelude.{◌≡◌, ℕ, [], length, map};
 ghost use Rattle.comp_mutator.specs.Lists.{Each};
 ghost use Rattle.comp_sweep.specs.Lots.{HasGathered, IsAlone, Linked, put_in, standings, taken_in, way_name};
@@ -7,7 +7,7 @@ use crate::deques::Way;
 use crate::lots::Lot;
 use std::alloc::Global;
 
-/// Gives each of these ways back to the deque to which it leads.
+// Gives each of these ways back to the deque to which it leads.
 fn give_back(lots: &mut Vec<Lot>, ways: Vec<Way>)
     requires { Linked (standings lots.old.items) (map way_name ways.items) }
     ensures { HasGathered lots.old.items lots.new.items ways.items }
@@ -19,9 +19,10 @@ fn give_back(lots: &mut Vec<Lot>, ways: Vec<Way>)
     }
 }
 
-/// Gives each way back to the deque to which it leads. What was put and what was taken in all is as before.
+/// Gives each way back to the deque to which it leads. What was put and what was taken in all is unchanged.
 ///
-/// It asks that all ways to these lots' deques are there, and no others, as `deal` makes them and `next_region` keeps them.
+/// Requires that the lots hold all ways to their deques, and no others. `deal` makes them so, and `next_region` keeps
+/// them so.
 pub fn gather(alloc: Global, lots: &mut Vec<Lot>)
     requires { Linked (standings lots.old.items) [] }
     ensures count { length lots.new.items ≡ length lots.old.items }

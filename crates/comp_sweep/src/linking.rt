@@ -5,7 +5,7 @@ ghost use Rattle.comp_sweep.specs.Lots.{HasLinked, Linked, standings};
 use crate::lots::Lot;
 use heap_layout::OutOfMemory;
 
-/// A way from worker `from` to the deque of worker `to`.
+// Makes a way from worker `from` to the deque of worker `to`.
 fn link_to(lots: &mut Vec<Lot>, from: usize, to: usize) -> Result<(), OutOfMemory>
     requires from { from < length lots.old.items }
     requires to { to < length lots.old.items }
@@ -19,7 +19,8 @@ fn link_to(lots: &mut Vec<Lot>, from: usize, to: usize) -> Result<(), OutOfMemor
     Ok(())
 }
 
-/// Ways from this worker to all others, to that behind it first: so idle workers do not all begin with the same one.
+// Makes ways from this worker to all others, first to the next one: so idle workers do not all begin with the same
+// deque.
 fn link_all(lots: &mut Vec<Lot>, from: usize) -> Result<(), OutOfMemory>
     requires from { from < length lots.old.items }
     requires linked { Linked (standings lots.old.items) [] }
@@ -32,7 +33,7 @@ fn link_all(lots: &mut Vec<Lot>, from: usize) -> Result<(), OutOfMemory>
     Ok(())
 }
 
-/// Ways from each worker to all others.
+/// Makes ways from each worker to all others.
 pub(crate) fn link(lots: &mut Vec<Lot>) -> Result<(), OutOfMemory>
     requires { Linked (standings lots.old.items) [] }
     ensures { OnOk result (HasLinked lots.old.items lots.new.items) }

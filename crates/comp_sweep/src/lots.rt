@@ -1,4 +1,4 @@
-//! What a worker takes its regions from.
+//! Lots, from which workers take their regions.
 ghost use Rattle.std.specs.Prelude.{◌≡◌};
 
 use crate::deques::{Own, Way};
@@ -19,7 +19,7 @@ impl Lot {
     ghost use Rattle.comp_mutator.specs.Lists.{only, times};
     ghost use Rattle.comp_sweep.specs.Lots.{Gives, HasBack, IsNew, IsOut, SameLot, StillLot, own_deque, standing, taken, taken_on, way_deque, way_name, way_view};
 
-    /// A lot with no region and no way, and with room for so many regions.
+    /// Makes a lot with no region and no way, and with room for `room` regions.
     pub(crate) fn new(alloc: Global, room: usize) -> Result<Lot, OutOfMemory>
         ensures { IfOk result IsNew }
     {
@@ -30,7 +30,7 @@ impl Lot {
         })
     }
 
-    /// Puts a region behind the others.
+    /// Puts a region after the others.
     pub(crate) fn put(&mut self, region: u64) -> Result<(), OutOfMemory>
         ensures still { OnOk result (StillLot self.old self.new) }
         ensures ways { OnOk result ((standing self.new).ways ≡ (standing self.old).ways) }
@@ -41,14 +41,14 @@ impl Lot {
         self.own.put(region)
     }
 
-    /// A way to the deque of this lot, which has this number.
+    /// Makes a way to the deque of this lot, which has number `index`.
     pub(crate) fn way(&mut self, index: usize) -> Result<Way, OutOfMemory>
         ensures { IfOk result (λ way. Gives index self.old self.new way) }
     {
         self.own.way(index)
     }
 
-    /// A way for this lot.
+    /// Adds a way to another deque to this lot.
     pub(crate) fn hold(&mut self, way: Way) -> Result<(), OutOfMemory>
         ensures still { OnOk result (StillLot self.old self.new) }
         ensures put { OnOk result ((standing self.new).put ≡ (standing self.old).put) }
@@ -61,7 +61,7 @@ impl Lot {
         Ok(())
     }
 
-    /// The ways of this lot, which then has none.
+    /// Takes all ways out of this lot.
     pub(crate) fn free(&mut self, alloc: Global) -> Vec<Way>
         ensures still { StillLot self.old self.new }
         ensures put { (standing self.new).put ≡ (standing self.old).put }
@@ -73,7 +73,7 @@ impl Lot {
         mem::replace(&mut self.ways, Vec::new(alloc))
     }
 
-    /// A way to the deque of this lot comes back.
+    /// Takes back a way to the deque of this lot.
     pub(crate) fn absorb(&mut self, way: Way)
         requires { way_deque way ≡ (standing self.old).deque }
         ensures { HasBack self.old self.new way }
@@ -81,7 +81,7 @@ impl Lot {
         self.own.absorb(way);
     }
 
-    /// A region that is stolen: each of the other deques is looked at in turn.
+    // Steals a region: looks at each of the other deques in turn.
     fn steal(&mut self, rt: &impl Wait) -> Option<u64>
         ensures same { SameLot self.old self.new }
         ensures own { self.new.own ≡ self.old.own }
@@ -97,8 +97,8 @@ impl Lot {
         None
     }
 
-    /// The next region: of the own deque or, where that is empty, of one of the others, to which it goes round in turn. `None`: each was found empty. It tries again
-    /// where a steal met another one.
+    /// Takes the next region: from the own deque or, if that is empty, from the first of the other deques that has one.
+    /// `None` means that each deque was found empty. Retries a steal that loses a race.
     pub fn next_region(&mut self, rt: &impl Wait) -> Option<u64>
         ensures same { SameLot self.old self.new }
         ensures some { IfSome result (λ q. (x : ℕ) → taken x self.new ≡ taken x self.old + only x q) }

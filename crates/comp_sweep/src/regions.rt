@@ -1,11 +1,11 @@
-//! Regions: eight compacted pages each, the last one those that are left.
+//! Regions of eight compacted pages each. The last region has the pages that are left.
 ghost use Rattle.std.specs.Prelude.{◌≡◌};
 ghost use Rattle.comp_sweep.specs.RegionSplits.{regions_of};
 
-/// The compacted pages of a region.
+/// The number of compacted pages of a region.
 pub const REGION_PAGES: u64 = 8;
 
-/// How many regions so many compacted pages have.
+/// The number of regions of `pages` compacted pages.
 pub fn region_count(pages: u64) -> u64
     ensures { result ≡ regions_of pages }
 {

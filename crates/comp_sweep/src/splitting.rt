@@ -1,4 +1,4 @@
-//! The regions of a heap, dealt to the workers.
+//! Deals the regions of a heap to the workers.
 ghost use Rattle.std.specs.Prelude.{◌≡◌, ℕ, ◌<◌, ◌≤◌, length, vec_capacity, OnOk, IfOk};
 ghost use Rattle.comp_sweep.specs.Lots.{AreDealt, standings, taken_in};
 
@@ -7,7 +7,7 @@ use crate::lots::Lot;
 use heap_layout::OutOfMemory;
 use std::alloc::Global;
 
-/// A lot for each worker, with no region and no way, and with room for so many regions in each.
+// Makes a lot for each worker, with no region and no way, and with room for `room` regions.
 fn empty_lots(alloc: Global, room: usize, workers: usize) -> Result<Vec<Lot>, OutOfMemory>
     ensures count { IfOk result (λ lots. length lots.items ≡ workers) }
     ensures dealt { IfOk result (λ lots. AreDealt 0 (standings lots.items)) }
@@ -20,7 +20,8 @@ fn empty_lots(alloc: Global, room: usize, workers: usize) -> Result<Vec<Lot>, Ou
     Ok(lots)
 }
 
-/// Puts the regions below `regions` into the lots: region q into that with number q modulo their number, which no clause says.
+// Puts each region below `regions` into one of the lots: region q into lot q modulo the number of lots. No clause
+// promises which.
 fn put_all(lots: &mut Vec<Lot>, regions: u64) -> Result<(), OutOfMemory>
     requires some { 0 < length lots.old.items }
     requires dealt { AreDealt 0 (standings lots.old.items) }
@@ -36,7 +37,8 @@ fn put_all(lots: &mut Vec<Lot>, regions: u64) -> Result<(), OutOfMemory>
     Ok(())
 }
 
-/// A lot for each worker, with the regions below `regions`, each in one of them, and with ways to all others. It asks for one worker at least.
+/// Makes a lot for each worker, with ways to all others, and puts each region below `regions` into one of the lots.
+/// Requires at least one worker.
 pub fn deal(alloc: Global, regions: u64, workers: usize) -> Result<Vec<Lot>, OutOfMemory>
     requires { 0 < workers }
     ensures count { IfOk result (λ lots. length lots.items ≡ workers) }

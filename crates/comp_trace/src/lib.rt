@@ -1,4 +1,5 @@
-//! Traces: what a text asks of mutators, line by line, and its runs: a replay in one thread, a race in threads, a chain of cycles.
+//! Traces: scripts of what mutators do, line by line, and their runs: a replay by one thread, a race of several
+//! threads, and a chain of cycles.
 #![tactic(auto)]
 
 pub use trace_cycles::{CycleFault, CycleHalt, CyclesStopped, Ran, replay_cycles, run_cycle};

@@ -1,4 +1,4 @@
-//! The program: fetches its words, and does what they ask.
+//! The program: fetches its words, and does what they ask for.
 #![tactic(auto)]
 
 ghost use Rattle.std.specs.Prelude.{◌≤◌};
@@ -14,7 +14,7 @@ fn main(rt: HostRuntime) -> ExitCode {
     ExitCode::from(start(&rt, &mut rt.stderr()))
 }
 
-// Fetches the words, and sets up standard output, which is written through a buffer; then does what they ask.
+// Fetches the words, sets up standard output with a buffer, and does what the words ask for.
 fn start<R: Env + Files + Print + AllocGlobal + Threads + Wait + Sync, E: Write>(
     rt: &R,
     err: &mut E,
@@ -29,7 +29,8 @@ fn start<R: Env + Files + Print + AllocGlobal + Threads + Wait + Sync, E: Write>
         return tell_unstarted(ErrorKind::OutOfMemory, err);
     };
     let status = run(rt, words, &mut out, err);
-    // A run that could print has flushed all of it. What is left where a call failed is not tried again, as a drop of the buffer would.
+    // A run that could print has flushed its output. What is left after a failed call is not written again, as a drop
+    // of the buffer would do.
     let (_writer, _unsent) = out.into_parts();
     status
 }

@@ -1,4 +1,4 @@
-//! An example of a runtime: it compacts its heap while one mutator goes on and two sweep, and audits what is left.
+//! An example of a runtime that compacts its heap while one mutator works and two sweep, and audits the result.
 #![tactic(auto)]
 
 mod cycle;

@@ -1,4 +1,4 @@
-//! The example on a heap of three objects.
+//! The example on the heap of the three objects.
 use crate::cycle::compact;
 use comp_audit::Verdict;
 use heap_layout::MarkedHeap;
@@ -15,7 +15,7 @@ fn three_objects(rt: &impl Abort, alloc: Global) -> MarkedHeap {
     }
 }
 
-// The heap is compacted, and the audit says yes.
+// Panics unless the heap is compacted and the audit accepts it.
 fn expect_yes<R: Abort + Threads + Wait + Sync>(rt: &R, alloc: Global) {
     let verdict = compact(alloc, rt, three_objects(rt, alloc));
     assert!(rt; verdict == Some(Verdict::Yes));

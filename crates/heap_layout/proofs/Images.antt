@@ -1,4 +1,4 @@
--- Lemmas on what was read of an image, and on what is refused behind it.
+-- Lemmas on the parts of an image that were read, and on what is refused after them.
 use Rattle.std.proofs.Common.{◌≡◌, ℕ, ◌+◌, ◌*◌, ◌≤◌, inl, inr, List, [], ◌++◌, length, Option, IfSome, refl, sym, ap, ◌∙◌, subst, arith, append_assoc, append-nil, length-append}
 use Rattle.std.specs.Io.KnownBytes.{Consumes}
 use Rattle.std.specs.List.{flat_map}
@@ -12,7 +12,7 @@ use Rattle.heap_layout.specs.declared.fault.LayoutFault.TheVariants.{TooLarge, O
 use Rattle.heap_layout.proofs.PartFaults.{IsOfPart, first_of_part}
 use Rattle.heap_layout.proofs.Reading.{behind_read}
 
--- what is refused behind the magic and the version, as a fact of all the bytes
+-- if the bytes after the magic and the version are refused as counts, the whole image is refused
 refused_counts : (edition : Edition) (rest : List ℕ) (fault : LayoutFault) → RefusesCounts fault rest → Refuses fault (preamble edition ++ rest)
 refused_counts edition rest TooLarge (words, marks, roots, over, (more, same, _)) = (
   edition,
@@ -27,12 +27,12 @@ refused_counts edition rest OutOfMemory short = tt
 refused_counts edition rest Device short = tt
 refused_counts edition rest _ short = absurd short
 
--- the same of a reader that has read those
+-- the same for a reader that has read the magic and the version
 pub ends_in_counts : (a b : Option (List ℕ)) (edition : Edition) (fault : LayoutFault) → Consumes a b (preamble edition) → IfSome b (RefusesCounts fault) → IfSome a (Refuses fault)
 ends_in_counts a b edition fault read cut =
     behind_read a b (preamble edition) (RefusesCounts fault) (Refuses fault) read cut (λ rest why. refused_counts edition rest fault why)
 
--- what ends behind the front of the numbers ends among them, as a fact of the bytes
+-- if the bytes end early among the numbers, after `front`, the whole image is refused
 refused_in_body : (edition : Edition) (words marks roots n : ℕ) (front rest : List ℕ) (fault : LayoutFault) → AreWithin words marks roots
     → length front + n ≤ body_len words marks roots → EndsBefore n fault rest
     → Refuses fault (head edition words marks roots ++ front ++ rest)
@@ -42,7 +42,7 @@ refused_in_body edition words marks roots n front rest OutOfMemory within room s
 refused_in_body edition words marks roots n front rest Device within room short = tt
 refused_in_body edition words marks roots n front rest _ within room short = absurd short
 
--- the same of a reader that has read that front
+-- the same for a reader that has read the head and `front`
 pub ends_in_body : (a b : Option (List ℕ)) (edition : Edition) (words marks roots n : ℕ) (front all : List ℕ) (fault : LayoutFault)
     → all ≡ head edition words marks roots ++ front → Consumes a b all → AreWithin words marks roots
     → length front + n ≤ body_len words marks roots → IfSome b (EndsBefore n fault) → IfSome a (Refuses fault)
@@ -50,7 +50,7 @@ ends_in_body a b edition words marks roots n front all fault same read within ro
     behind_read a b (head edition words marks roots ++ front) (EndsBefore n fault) (Refuses fault) (subst (Consumes a b) same read) cut
     (λ rest short. refused_in_body edition words marks roots n front rest fault within room short)
 
--- the same of a reader that has read the head alone and then ends among the words
+-- the same for a reader that has read only the head
 pub ends_in_words : (start behind_magic behind_counts : Option (List ℕ)) (edition : Edition) (words marks roots : ℕ) (fault : LayoutFault) → Consumes start behind_magic (preamble edition)
     → Consumes behind_magic behind_counts (counts words marks roots) → AreWithin words marks roots
     → IfSome behind_counts (EndsBefore (8 * words) fault) → IfSome start (Refuses fault)
@@ -59,7 +59,7 @@ ends_in_words start behind_magic behind_counts edition words marks roots fault m
     let front = head edition words marks roots in
     ends_in_body start behind_counts edition words marks roots (8 * words) [] front fault (sym (append-nil front)) read within (omega arith) cut
 
--- what is refused behind an image, as a fact of all the bytes
+-- if the bytes after an image are refused, the whole is refused
 refused_end : (heap : Heap) (rest : List ℕ) (fault : LayoutFault) → IsStored heap
     → AreWithin (length heap.words) (length heap.marks) (length heap.roots)
     → RefusesEnd fault rest → Refuses fault (encoding heap ++ rest)
@@ -67,14 +67,14 @@ refused_end heap rest TrailingBytes stored within more = (heap, stored, within, 
 refused_end heap rest Device stored within more = tt
 refused_end heap rest _ stored within more = absurd more
 
--- the same of a reader that has read the image
+-- the same for a reader that has read the image
 pub more_behind : (a b : Option (List ℕ)) (heap : Heap) (fault : LayoutFault) → IsStored heap
     → AreWithin (length heap.words) (length heap.marks) (length heap.roots)
     → Consumes a b (encoding heap) → IfSome b (RefusesEnd fault) → IfSome a (Refuses fault)
 more_behind a b heap fault stored within read cut =
     behind_read a b (encoding heap) (RefusesEnd fault) (Refuses fault) read cut (λ rest more. refused_end heap rest fault stored within more)
 
--- the image of a heap whose first fault is of a part is refused for it
+-- the image of a heap is refused for its first fault, if that is the fault of a part
 refused_part : (heap : Heap) (fault : LayoutFault) → IsStored heap → IsOfPart fault → IsFirst (faults heap) fault → Refuses fault (encoding heap)
 refused_part heap (ObjectPastEnd i) stored part first = (heap, stored, refl, first)
 refused_part heap (ObjectTooLong i) stored part first = (heap, stored, refl, first)
@@ -85,7 +85,7 @@ refused_part heap (UnmarkedTarget i) stored part first = (heap, stored, refl, fi
 refused_part heap (BadWeak i) stored part first = (heap, stored, refl, first)
 refused_part heap _ stored part first = absurd part
 
--- the image of a heap within the limits is refused for the heap's first fault
+-- the image of a heap within the limits is refused for the first fault of the heap
 pub refused_heap : (heap : Heap) (fault : LayoutFault) → IsStored heap
     → AreWithin (length heap.words) (length heap.marks) (length heap.roots)
     → IsFirst (faults heap) fault → Refuses fault (encoding heap)
@@ -99,7 +99,7 @@ words_read start behind_magic behind_counts now edition words marks roots number
     let head_read = Consumes-trans start behind_magic behind_counts (preamble edition) (counts words marks roots) magic_read counts_read in
     Consumes-trans start behind_counts now (head edition words marks roots) (flat_map eight_bytes numbers) head_read read
 
--- the five parts of an image were read one after the other, and so the whole image
+-- the five parts of an image were read one after the other, so the whole image was read
 pub image_read : (start behind_magic behind_counts behind_words behind_marks now : Option (List ℕ)) (heap : Heap) (words marks roots : ℕ)
     → length heap.words ≡ words → length heap.marks ≡ marks → length heap.roots ≡ roots
     → Consumes start behind_magic (preamble heap.edition) → Consumes behind_magic behind_counts (counts words marks roots)

@@ -20,7 +20,7 @@ use Rattle.heap_layout.specs.declared.fault.LayoutFault.{LayoutFault}
 use Rattle.heap_layout.specs.declared.fault.LayoutFault.TheVariants.{BadRoot}
 use Rattle.heap_layout.proofs.Rows.{append-none, unless-none, placed-start, reached-first, starts-apart, words-from}
 
--- a mark without a fault is not too low, an object starts there, and the marks behind it have no fault
+-- if a mark has no fault, it is not too low, an object starts there, and the marks after it have no fault
 mark-parts : (row : List ℕ) (low mark : ℕ) (marks : List ℕ) → mark_faults row low (mark ∷ marks) ≡ []
     → (low ≤ mark) × (is_start row mark ≡ true) × (mark_faults row (mark + 1) marks ≡ [])
 mark-parts row low mark marks none =
@@ -28,14 +28,14 @@ mark-parts row low mark marks none =
     let tests = append-none (unless _ _) (unless _ _) parts.0 in
     (leb-true low mark (unless-none _ _ tests.0), unless-none _ _ tests.1, parts.1)
 
--- at each mark an object starts
+-- an object starts at each mark
 pub marks-started : (row : List ℕ) (low : ℕ) (marks : List ℕ) → mark_faults row low marks ≡ [] → All (λ mark. is_start row mark ≡ true) marks
 marks-started row low [] none = All-nil (λ mark. is_start row mark ≡ true)
 marks-started row low (mark ∷ marks) none =
     let parts = mark-parts row low mark marks none in
     All-cons (λ k. is_start row k ≡ true) mark marks parts.1 (marks-started row (mark + 1) marks parts.2)
 
--- marks rise
+-- the marks rise
 pub marks-rising : (row : List ℕ) (low : ℕ) (marks : List ℕ) → mark_faults row low marks ≡ [] → IsStrictlyIncreasing marks
 marks-rising row low [] none k within = absurd (omega arith)
 marks-rising row low (mark ∷ []) none k within = absurd (omega arith)
@@ -48,14 +48,14 @@ marks-rising row low (mark ∷ (next ∷ marks)) none (suc k) within =
     let index : suc k + 1 ≡ suc (k + 1) = omega arith in
     rw index (marks-rising row (mark + 1) (next ∷ marks) parts.2 k (omega arith))
 
--- marks that rise do not fall
+-- of two marks in rising order, the earlier is not above the later
 rising-order : (marks : List ℕ) → IsStrictlyIncreasing marks → (steps i j : ℕ) → i + steps ≡ j → j < length marks → get_or marks i 0 ≤ get_or marks j 0
 rising-order marks rising zero i j same within = let here : i ≡ j = omega arith in rw here (omega arith)
 rising-order marks rising (suc steps) i j same within =
     let below = rising-order marks rising steps (i + 1) j (omega arith) within in
     omega (arith, rising i (omega arith))
 
--- what was found of the index `mark` among the marks tells whether the reference to it is a target
+-- a reference is a target exactly if its index was found among the marks
 target-found : (marks : List ℕ) (mark reference : ℕ) (found : Result ℕ ℕ) → reference ≡ 2 ^ 32 + mark
     → MatchResult found (λ i. (i < length marks) × (get_or marks i 0 ≡ mark))
     (λ i. (i ≤ length marks) × ((k : ℕ) → k < i → get_or marks k 0 < mark) × ((k : ℕ) → i ≤ k → k < length marks → mark < get_or marks k 0))
@@ -69,7 +69,7 @@ target-found marks mark reference (Err i) same nowhere =
     sym (or_from _ _ (ne_eqb reference 0 (λ q. omega arith))
     (list_any_none (λ mark. eqb (from_address mark) reference) marks (λ k d within. ne_eqb _ _ (other k d within))))
 
--- what a binary search of the marks for the index `mark` answers tells it
+-- a binary search of the marks for the index of a reference finds it exactly if the reference is a target
 pub target-searched : (marks : List ℕ) (mark reference : ℕ) (found : Result ℕ ℕ) → IsStrictlyIncreasing marks → reference ≡ 2 ^ 32 + mark
     → IsBinarySearchResult (λ other. nat_cmp other mark) marks found → is_ok found ≡ is_target marks reference
 target-searched marks mark reference found rising same answer =
@@ -81,13 +81,13 @@ pub target-below : (marks : List ℕ) (reference : ℕ) → eqb reference 0 ≡ 
 target-below marks reference not_null below =
     or_from _ _ not_null (list_any_none (λ mark. eqb (from_address mark) reference) marks (λ k d within. ne_eqb _ _ (λ q. omega arith)))
 
--- a reference so far above from-space that its index fits no mark is no target
+-- a reference is no target if it is so far above from-space that its index fits no mark
 pub target-past : (marks : List ℕ) (reference : ℕ) → eqb reference 0 ≡ false → All (λ mark. mark < 2 ^ 32) marks → 2 ^ 33 ≤ reference
     → is_target marks reference ≡ false
 target-past marks reference not_null small past =
     or_from _ _ not_null (list_any_none (λ mark. eqb (from_address mark) reference) marks (λ k d within. ne_eqb _ _ (λ q. omega (arith, small k d within))))
 
--- of numbered references, each that is no target is a fault
+-- a fault for each numbered reference that is no target
 abbrev pub numbered_faults : (ℕ → LayoutFault) → List ℕ → ℕ → List ℕ → List LayoutFault
 numbered_faults fault marks first references = flat_map (λ reference. unless (is_target marks reference.1) (fault reference.0)) (enumerate_from first references)
 
@@ -107,7 +107,8 @@ fields-at Reference edition words i = refl
 fields-at Weak edition words i = ap (λ at. take (weak_of (header_at edition words i)) (drop at words)) (omega arith)
 fields-at Data edition words i = ap (λ at. take (data_of (header_at edition words i)) (drop at words)) (omega arith)
 
--- the faults of the marked objects that are left are those of the first of them, whose fields are read as a range of the words, and of the rest
+-- the faults of the remaining marked objects are those of the first of them, with its fields read as a range of the
+-- words, and those of the rest
 pub fields-next : (kind : Kind) (edition : Edition) (test : ℕ → Bool) (words marks : List ℕ) (k : ℕ) (header : Head) (first count : ℕ) → k < length marks
     → header ≡ header_at edition words (get_or marks k 0) → first ≡ first_of kind header → count ≡ count_of kind header
     → reference_faults_by kind test (get_or marks k 0 + first) (slice_range words (get_or marks k 0 + first) (get_or marks k 0 + first + count))
@@ -134,16 +135,16 @@ field-targets kind edition words row (mark ∷ marks) none =
     All-cons (λ k. All (IsTarget row) (fields_of kind (object_at edition words k))) mark marks
     (numbered-targets (misled kind) row first fields parts.0) (field-targets kind edition words row marks parts.1)
 
--- of faults that are some and then more, the first is the first of some
+-- the first fault of a list is also that of a longer list that begins with it
 pub first-told : (some more whole : List LayoutFault) (fault : LayoutFault) → some ++ more ≡ whole → IsFirst some fault → IsFirst whole fault
 first-told [] more whole fault same first = absurd first
 first-told (x ∷ some) more whole fault same first = subst (λ (list : List LayoutFault). IsFirst list fault) same first
 
--- where some are none, the first is the first of more
+-- if the first list is empty, the first fault of both is that of the second
 pub first-behind : (some more : List LayoutFault) (fault : LayoutFault) → some ≡ [] → IsFirst more fault → IsFirst (some ++ more) fault
 first-behind some more fault none first = rw none first
 
--- where there are few enough words, marks and roots, the first fault of the row and its marks is the first of all
+-- if the sizes have no fault, the first fault of the row and its marks is the first of all
 pub first-object : (sizes row marks roots targets weak : List LayoutFault) (fault : LayoutFault) → sizes ≡ [] → IsFirst (row ++ marks) fault
     → IsFirst (sizes ++ row ++ marks ++ roots ++ targets ++ weak) fault
 first-object sizes row marks roots targets weak fault none first =
@@ -151,11 +152,11 @@ first-object sizes row marks roots targets weak fault none first =
     (first-told ((row ++ marks) ++ roots ++ targets) weak _ fault refl
     (first-told ((row ++ marks) ++ roots) targets _ fault refl (first-told (row ++ marks) roots _ fault refl first)))
 
--- where some are none, it is more
+-- if the first list is empty, both joined are the second
 pub rest-told : (some more whole : List LayoutFault) → some ++ more ≡ whole → some ≡ [] → more ≡ whole
 rest-told some more whole same none = sym (ap (λ (list : List LayoutFault). list ++ more) none) ∙ same
 
--- a heap that is accepted passes each test
+-- an accepted heap passes each test
 pub record Passed (heap : Heap) : Type 0 where
   pub sizes : size_faults (length heap.words) (length heap.marks) (length heap.roots) ≡ []
   pub row : flat_map (object_faults heap.edition heap.words) (starts heap.edition heap.words) ≡ []
@@ -178,14 +179,14 @@ passed heap accepted =
     let one = append-none sizes row two.0 in
     record { sizes = one.0; row = one.1; marks = two.1; roots = three.1; targets = four.1; weak = five.1 }
 
--- sizes without a fault are few enough
+-- sizes without a fault are within the limits
 pub sizes-few : (words marks roots : ℕ) → size_faults words marks roots ≡ [] → (words ≤ 2 ^ 20) × (marks ≤ 2 ^ 20) × (roots ≤ 2 ^ 12)
 sizes-few words marks roots none =
     let two = append-none (unless _ _ ++ unless _ _) (unless _ _) none in
     let one = append-none (unless _ _) (unless _ _) two.0 in
     (leb-true _ _ (unless-none _ _ one.0), leb-true _ _ (unless-none _ _ one.1), leb-true _ _ (unless-none _ _ two.1))
 
--- marks without a fault are placed, in a row without faults
+-- in a row without faults, an object without a fault is at each mark
 pub marks-placed : (edition : Edition) (words marks : List ℕ) → flat_map (object_faults edition words) (starts edition words) ≡ [] → mark_faults (starts edition words) 0 marks ≡ []
     → All (IsPlaced edition words) marks
 marks-placed edition words marks row none k d within = placed-start edition words (starts edition words) _ row (marks-started (starts edition words) 0 marks none k d within)

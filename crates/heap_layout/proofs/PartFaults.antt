@@ -1,4 +1,4 @@
--- Lemmas on the first fault of a heap: it tells of a part of the heap, unless the heap is too large.
+-- Lemmas on the first fault of a heap: it is the fault of a part of the heap, unless the heap is too large.
 use Rattle.std.proofs.Common.{◌≡◌, ℕ, ◌+◌, ◌^◌, Bool, true, false, leb, List, [], ◌∷◌, ◌++◌, length, All, Result, Ok, Err, IfErr, refl, sym, subst}
 use Rattle.std.specs.List.{flat_map, enumerate_from}
 use Rattle.std.proofs.lemmas.Bool.{le-leb}
@@ -15,7 +15,7 @@ use Rattle.heap_layout.specs.Faults.{unless, size_faults, object_faults, mark_fa
 use Rattle.heap_layout.specs.declared.fault.LayoutFault.{LayoutFault}
 use Rattle.heap_layout.specs.declared.fault.LayoutFault.TheVariants.{ObjectPastEnd, ObjectTooLong, MarkNotStart, MarksNotRising, BadRoot, UnmarkedTarget, BadWeak, Device}
 
--- the fault tells of an object, a mark, a root or a reference
+-- the fault is one of an object, a mark, a root, a reference or a weak word
 abbrev pub IsOfPart : LayoutFault → Type 0
 IsOfPart (ObjectPastEnd i) = Unit {0}
 IsOfPart (ObjectTooLong i) = Unit {0}
@@ -26,23 +26,23 @@ IsOfPart (UnmarkedTarget i) = Unit {0}
 IsOfPart (BadWeak i) = Unit {0}
 IsOfPart _ = ⊥
 
--- a test that fails with a fault of a part has only that fault
+-- a test that fails with the fault of a part has only that fault
 unless_of_part : (holds : Bool) (fault : LayoutFault) → IsOfPart fault → All IsOfPart (unless holds fault)
 unless_of_part true fault part = All-nil IsOfPart
 unless_of_part false fault part = All-cons IsOfPart fault [] part (All-nil IsOfPart)
 
--- what has faults of a part at each item has only such faults
+-- if each item has only faults of parts, so has the whole list
 each_of_part : {X : Type 0} (f : X → List LayoutFault) → ((x : X) → All IsOfPart (f x)) → (xs : List X) → All IsOfPart (flat_map f xs)
 each_of_part f part [] = All-nil IsOfPart
 each_of_part f part (x ∷ xs) = All-append IsOfPart (f x) (flat_map f xs) (part x) (each_of_part f part xs)
 
--- the same of two tests
+-- the same for two tests
 both_of_part : (one_holds other_holds : Bool) (one other : LayoutFault) → IsOfPart one → IsOfPart other
     → All IsOfPart (unless one_holds one ++ unless other_holds other)
 both_of_part one_holds other_holds one other of_one of_other =
     All-append IsOfPart (unless one_holds one) (unless other_holds other) (unless_of_part one_holds one of_one) (unless_of_part other_holds other of_other)
 
--- the faults of objects, of marks, of roots and of references are of a part
+-- the faults of objects, of marks, of roots and of references are faults of parts
 objects_of_part : (edition : Edition) (words : List ℕ) (i : ℕ) → All IsOfPart (object_faults edition words i)
 objects_of_part edition words i =
     let size = size_of (header_at edition words i) in
@@ -81,19 +81,19 @@ no_size_fault words marks roots within =
     let r : leb roots (2 ^ 12) ≡ true = le-leb roots (2 ^ 12) within.few_roots in
     rw (w, m, r) refl
 
--- what holds of all faults of a list holds of its first
+-- what holds for all faults of a list holds for its first
 first_all : (P : LayoutFault → Type 0) (list : List LayoutFault) (fault : LayoutFault) → All P list → IsFirst list fault → P fault
 first_all P [] fault all first = absurd first
 first_all P (one ∷ others) fault all first = subst P (sym first) (All-head P one others all)
 
--- what holds of all faults of six lists holds of those of the lists joined
+-- what holds for all faults of six lists holds for those of the joined list
 all_six : (P : LayoutFault → Type 0) (a b c d e f : List LayoutFault) → All P a → All P b → All P c → All P d → All P e → All P f
     → All P (a ++ b ++ c ++ d ++ e ++ f)
 all_six P a b c d e f of_a of_b of_c of_d of_e of_f =
     All-append P (a ++ b ++ c ++ d ++ e) f
     (All-append P (a ++ b ++ c ++ d) e (All-append P (a ++ b ++ c) d (All-append P (a ++ b) c (All-append P a b of_a of_b) of_c) of_d) of_e) of_f
 
--- the first fault of a heap within the limits tells of a part of it
+-- the first fault of a heap within the limits is the fault of a part
 pub first_of_part : (heap : Heap) (fault : LayoutFault) → AreWithin (length heap.words) (length heap.marks) (length heap.roots)
     → IsFirst (faults heap) fault → IsOfPart fault
 first_of_part heap fault within first =
@@ -113,7 +113,7 @@ first_of_part heap fault within first =
     (fields_of_part Weak heap.edition (is_target (starts heap.edition heap.words)) heap.words heap.marks))
     first
 
--- a fault of a part of the heap is no failure of the device
+-- the fault of a part of the heap is no failure of the device
 pub counts_kept : (T : Type 0) (before after : ℕ) (result : Result T LayoutFault) → IfErr result IsOfPart → after ≡ before → CountsFailure before after result
 counts_kept T before after (Ok _) part same = same
 counts_kept T before after (Err Device) part same = absurd part

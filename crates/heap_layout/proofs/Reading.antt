@@ -1,4 +1,4 @@
--- Lemmas on what was read into a buffer, and on what is refused behind it.
+-- Lemmas on what was read into a buffer, and on what is refused after it.
 use Rattle.std.proofs.Common.{◌≡◌, ◌≢◌, ℕ, zero, suc, ◌+◌, ◌^◌, ◌<◌, ◌≤◌, ◌⊎◌, inl, inr, Bool, true, false, leb, List, [], ◌∷◌, ◌++◌, length, take, drop, get_or, Option, None, Some, IfSome, Result, Ok, Err, IfErr, refl, sym, ap, ◌∙◌, subst, arith, length-append}
 use Rattle.std.proofs.lemmas.Bool.{leb-false}
 use Rattle.std.proofs.lemmas.List.{take-append-le, length-take-le, take_at}
@@ -13,7 +13,7 @@ use Rattle.heap_layout.specs.declared.fault.LayoutFault.{LayoutFault}
 use Rattle.heap_layout.specs.declared.fault.LayoutFault.TheVariants.{TooLarge, BadMagic, Truncated, OutOfMemory, Device}
 use borrow.Rule.Slice.PartMut.{put_mid, post_of}
 
--- a buffer that was filled up to a, and n more of whose bytes were then read behind those
+-- a buffer was filled up to a, and then n more bytes were read into it
 pub take_filled : (a k n : ℕ) (xs ys : List ℕ) → a ≤ length xs → n ≤ length ys → take (a + n) (put_mid a k xs ys) ≡ take a xs ++ take n ys
 take_filled a k n xs ys h m =
     let front = take a xs in
@@ -22,20 +22,20 @@ take_filled a k n xs ys h m =
     ∙ take-append-add front rest n
     ∙ ap (λ (part : List ℕ). front ++ part) (take-append-le n ys (post_of a k xs) m)
 
--- what holds of the bytes behind those that were read, as a fact of all of them
+-- if P holds for the bytes after those that were read, Q holds for all bytes
 pub behind_read : (a b : Option (List ℕ)) (front : List ℕ) (P Q : List ℕ → Type 0) → Consumes a b front → IfSome b P
     → ((rest : List ℕ) → P rest → Q (front ++ rest)) → IfSome a Q
 behind_read None b front P Q read rest f = tt
 behind_read (Some xs) None front P Q read rest f = absurd read
 behind_read (Some xs) (Some ys) front P Q read rest f = subst Q (sym read) (f ys rest)
 
--- what holds of all bytes that begin with those that were read
+-- what holds for all bytes that begin with those that were read
 pub with_front : (a b : Option (List ℕ)) (front : List ℕ) (Q : List ℕ → Type 0) → Consumes a b front → ((rest : List ℕ) → Q (front ++ rest)) → IfSome a Q
 with_front None b front Q read f = tt
 with_front (Some xs) None front Q read f = absurd read
 with_front (Some xs) (Some ys) front Q read f = subst Q (sym read) (f ys)
 
--- what ends before the 8 bytes of the magic
+-- the bytes end within the magic
 pub cut_in_magic : (a : Option (List ℕ)) (fault : LayoutFault) → IfSome a (EndsBefore 8 fault) → IfSome a (Refuses fault)
 cut_in_magic None fault cut = tt
 cut_in_magic (Some bytes) Truncated cut = inl cut
@@ -43,24 +43,24 @@ cut_in_magic (Some bytes) OutOfMemory cut = tt
 cut_in_magic (Some bytes) Device cut = tt
 cut_in_magic (Some bytes) _ cut = absurd cut
 
--- what ends before the 4 bytes of the version, behind the magic
+-- the bytes end within the version, after the magic
 ends_in_version : (rest : List ℕ) (fault : LayoutFault) → EndsBefore 4 fault rest → Refuses fault (magic ++ rest)
 ends_in_version rest Truncated short = inr (inl (rest, refl, short))
 ends_in_version rest OutOfMemory short = tt
 ends_in_version rest Device short = tt
 ends_in_version rest _ short = absurd short
 
--- the same of a reader that has read the magic
+-- the same for a reader that has read the magic
 pub cut_in_version : (a b : Option (List ℕ)) (fault : LayoutFault) → Consumes a b magic → IfSome b (EndsBefore 4 fault) → IfSome a (Refuses fault)
 cut_in_version a b fault read cut = behind_read a b magic (EndsBefore 4 fault) (Refuses fault) read cut (λ rest short. ends_in_version rest fault short)
 
--- 8 other bytes than the magic were read
+-- 8 bytes were read that are not the magic
 pub other_magic : (a b : Option (List ℕ)) (front : List ℕ) → Consumes a b front → length front ≡ 8 → front ≢ magic → IfSome a (Refuses BadMagic)
 other_magic a b front read long other =
     with_front a b front (Refuses BadMagic) read
     (λ rest. inl (simp length-append (omega arith), λ same. other (sym (take_at front rest 8 long) ∙ same)))
 
--- the magic was read, and then 4 other bytes than the version
+-- the magic was read, and then 4 bytes that are no version
 pub other_version : (a b c : Option (List ℕ)) (front : List ℕ) → Consumes a b magic → Consumes b c front
     → length front ≡ 4 → ((edition : Edition) → front ≢ version edition) → IfSome a (Refuses BadMagic)
 other_version a b c front first read long other =
@@ -69,13 +69,13 @@ other_version a b c front first read long other =
     (with_front b c front P read (λ rest. (simp length-append (omega arith), λ edition same. other edition (sym (take_at front rest 4 long) ∙ same))))
     (λ rest is. inr (rest, refl, is))
 
--- three counts were read, one of them past its limit
+-- three counts were read, and one of them is above its limit
 pub over_limit : (a b : Option (List ℕ)) (words marks roots : ℕ) → Consumes a b (counts words marks roots)
     → IsOver words marks roots → IfSome a (RefusesCounts TooLarge)
 over_limit a b words marks roots read over =
     with_front a b (counts words marks roots) (RefusesCounts TooLarge) read (λ rest. (words, marks, roots, over, (rest, refl, tt)))
 
--- the first fault of the three tests of the sizes tells that one failed
+-- the first fault of the three size tests is that of a test that failed
 first_of_sizes : (words marks roots : Bool) (fault : LayoutFault)
     → IsFirst (unless words TooLarge ++ unless marks TooLarge ++ unless roots TooLarge) fault → (fault ≡ TooLarge) × ((words ≡ false) ⊎ (marks ≡ false) ⊎ (roots ≡ false))
 first_of_sizes false marks roots fault first = (first, inl refl)
@@ -83,7 +83,7 @@ first_of_sizes true false roots fault first = (first, inr (inl refl))
 first_of_sizes true true false fault first = (first, inr (inr refl))
 first_of_sizes true true true fault first = absurd first
 
--- the fault of the sizes tells that one is past its limit
+-- if the sizes have a fault, one of them is above its limit
 pub size_fault : (words marks roots : ℕ) (fault : LayoutFault) → IsFirst (size_faults words marks roots) fault
     → (fault ≡ TooLarge) × ((2 ^ 20 < words) ⊎ (2 ^ 20 < marks) ⊎ (2 ^ 12 < roots))
 size_fault words marks roots fault first =
@@ -95,35 +95,35 @@ size_fault words marks roots fault first =
       ],
     )
 
--- what ends before m behind a front ends before n, if m is as far behind the front
+-- what ends before m more bytes after a front ends before n bytes, if the front and m have at most n bytes
 ends_later : (m n : ℕ) (front rest : List ℕ) (fault : LayoutFault) → length front + m ≤ n → EndsBefore m fault rest → EndsBefore n fault (front ++ rest)
 ends_later m n front rest Truncated h short = simp length-append (omega arith)
 ends_later m n front rest OutOfMemory h short = tt
 ends_later m n front rest Device h short = tt
 ends_later m n front rest _ h short = absurd short
 
--- what ends behind the bytes that were read ends among all of them
+-- what ends early after the bytes that were read ends early as a whole
 pub ends_behind : (a b : Option (List ℕ)) (front : List ℕ) (m n : ℕ) (fault : LayoutFault) → Consumes a b front → length front + m ≤ n
     → IfSome b (EndsBefore m fault) → IfSome a (EndsBefore n fault)
 ends_behind a b front m n fault read h cut =
     behind_read a b front (EndsBefore m fault) (EndsBefore n fault) read cut (λ rest short. ends_later m n front rest fault h short)
 
--- want of memory is not in the bytes
+-- running out of memory does not depend on the bytes
 pub cut_for_memory : (a : Option (List ℕ)) (n : ℕ) → IfSome a (EndsBefore n OutOfMemory)
 cut_for_memory None n = tt
 cut_for_memory (Some bytes) n = tt
 
--- a failure is one since the start, where none was before
+-- a call counts as failed since the start, if none had failed before it
 pub failed_since : (start before after : ℕ) (fault : LayoutFault) → before ≡ start → CountsFailure {T = Unit {0}} before after (Err fault)
     → CountsFailure {T = Unit {0}} start after (Err fault)
 failed_since start before after fault same = subst (λ (failures : ℕ). CountsFailure {T = Unit {0}} failures after (Err fault)) same
 
--- what holds of a fault holds where it is handed on
+-- what holds for a fault holds for the answer that hands it on
 pub handed_on : {T : Type 0} (r : Result T LayoutFault) (Q : LayoutFault → Type 0) (fault : LayoutFault) → IsErrAnd r (λ told. told ≡ fault) → Q fault → IfErr r Q
 handed_on (Ok x) Q fault told q = absurd told
 handed_on (Err y) Q fault told q = subst Q (sym told) q
 
--- a failure that is handed on is one since the start, where none was before
+-- a failure that is handed on counts since the start, if none had failed before
 pub failure_handed_on : {T : Type 0} (r : Result T LayoutFault) (start before after : ℕ) (fault : LayoutFault) → IsErrAnd r (λ told. told ≡ fault)
     → before ≡ start → CountsFailure {T = Unit {0}} before after (Err fault) → CountsFailure start after r
 failure_handed_on (Ok x) start before after fault told same counted = absurd told

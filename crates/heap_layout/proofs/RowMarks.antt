@@ -1,4 +1,4 @@
--- One walk over the row, object by object, which meets the marks in their turn.
+-- One walk over the row, object by object, which meets the marks in order.
 use Rattle.std.proofs.Common.{◌≡◌, ◌≢◌, ℕ, ◌+◌, ◌<◌, ◌≤◌, ◌==◌, ◌&&◌, ◌||◌, Bool, true, false, ltb, List, [], ◌∷◌, ◌++◌, inl, inr, length, get_or, take, drop, refl, sym, ap, ◌∙◌, arith}
 use Rattle.std.specs.Int.{from_bool}
 use Rattle.std.specs.List.{flat_map, list_any}
@@ -13,7 +13,7 @@ use Rattle.heap_layout.specs.Faults.{object_faults, mark_faults, Meets}
 use Rattle.heap_layout.proofs.MarkBits.{leads-targets, or_none}
 use Rattle.heap_layout.proofs.Rows.{faults-behind, start-here, behind-here, IsSameFrom}
 
--- One came to index i object by object, and met so many marks. The objects from there on have the faults of the whole row.
+-- The walk came to index `start`, and met `met` marks. The objects from there on have the faults of the whole row.
 pub record IsMet (edition : Edition) (words marks : List ℕ) (start met : ℕ) (bits : List ℕ) : Type 0 where
   pub within : start ≤ length words
   pub faults : flat_map (object_faults edition words) (starts_at edition words start) ≡ flat_map (object_faults edition words) (starts edition words)
@@ -31,14 +31,14 @@ met-first edition words marks bits none = record {
   before = omega arith;
 }
 
--- a mark that rises, where an object starts, has no fault
+-- a mark that rises, at the start of an object, has no fault
 mark-met : (row : List ℕ) (low mark k : ℕ) (marks : List ℕ) → k < length marks → get_or marks k 0 ≡ mark → low ≤ mark → is_start row mark ≡ true
     → mark_faults row (mark + 1) (drop (k + 1) marks) ≡ mark_faults row low (drop k marks)
 mark-met row low mark k marks lt at rises start =
     sym (at_drop_more (mark_faults row low) marks k 0 lt
     ∙ rw (at, le-leb low mark rises, start) refl)
 
--- one mark more among those that were met
+-- one mark more was met
 bit-met : (marks old new : List ℕ) (k mark : ℕ) → k < length marks → get_or marks k 0 ≡ mark → ((j : ℕ) → bit old j ≡ list_any (λ m. m == j) (take k marks))
     → bit new mark ≡ (bit old mark || true) → ((j : ℕ) → j ≢ mark → bit new j ≡ bit old j) → (j : ℕ) → bit new j ≡ list_any (λ m. m == j) (take (k + 1) marks)
 bit-met marks old new k mark lt at same here others j =
@@ -92,7 +92,7 @@ met-next edition words marks old new start met next more false of lt placed told
       before = omega (arith, of.before);
     })
 
--- once all marks are met they have no fault, and the bits lead to them
+-- if all marks are met, they have no fault, and the bits lead to them
 pub met-all : (row marks bits : List ℕ) (met : ℕ) → length marks ≤ met → Meets row marks met bits → (mark_faults row 0 marks ≡ []) × (leads bits ≡ is_target marks)
 met-all row marks bits met all meets = (
   sym meets.faults ∙ ap (mark_faults row meets.low) (drop_all met marks all),

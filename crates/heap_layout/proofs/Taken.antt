@@ -4,13 +4,13 @@ use Rattle.std.specs.Io.KnownBytes.{Appends, Keeps}
 use Rattle.std.proofs.KnownBytes.{Appends-kept}
 use Rattle.heap_layout.specs.Counted.{AppendsBeginning}
 
--- a writer that took none has the bytes that it had
+-- a writer that took nothing has the bytes that it had
 pub none_kept : (a b : Option (List ℕ)) (n : ℕ) (rest : List ℕ) → n ≡ 0 → Appends a b (take n rest) → Keeps a b
 none_kept None b n rest none written = tt
 none_kept (Some xs) None n rest none written = absurd written
 none_kept (Some xs) (Some ys) n rest none written = written ∙ ap (λ (k : ℕ). xs ++ take k rest) none ∙ append-nil xs
 
--- a beginning was taken, and none by the call that ended the writing
+-- a beginning was taken, and nothing by the call that ended the writing
 pub beginning_taken : (start before after : Option (List ℕ)) (was_flushed flushed_before is_flushed : Bool) (taken : ℕ) (part : List ℕ)
     → taken < length part → Appends start before (take taken part) → Keeps before after
     → (taken ≡ 0 → flushed_before ≡ was_flushed) → (0 < taken → flushed_before ≡ false) → is_flushed ≡ flushed_before
@@ -23,10 +23,10 @@ beginning_taken start before after was_flushed flushed_before is_flushed taken p
   something = λ some. same ∙ unflushed some;
 }
 
--- what is left of a part, a beginning of which was taken, is not empty
+-- if only a beginning of a part was taken, the rest is not empty
 pub rest_not_empty : (taken : ℕ) (part : List ℕ) → taken < length part → 0 < length (take (length part - taken) (drop taken part))
 rest_not_empty taken part more = simp (length-take, length-drop) (omega arith)
 
--- nor is the part
+-- and the part is not empty
 pub part_not_empty : (taken long : ℕ) → taken < long → long ≡ 0 → ⊥
 part_not_empty taken long more none = omega arith

@@ -1,5 +1,6 @@
--- The verdict on the bytes of an image: the fault that they tell of, or none where they are the image of an accepted heap. It is described stage by
--- stage, as an image is read; at each stage the bytes decide whether to stop there or to go on, so they have one verdict.
+-- The verdict on the bytes of an image: their fault, or none if they are the image of an accepted heap. It is defined
+-- stage by stage, as an image is read. At each stage the bytes decide whether to stop or to go on, so there is only one
+-- verdict.
 use Rattle.std.proofs.Common.{◌≡◌, ◌≢◌, ℕ, ◌^◌, ◌<◌, ◌≤◌, ◌⊎◌, inl, inr, Bool, true, false, leb, List, [], ◌∷◌, ◌++◌, length, take, Option, None, Some, refl, sym, ap, ◌∙◌, subst, arith, append_assoc, length-append}
 use Rattle.std.specs.List.{flat_map}
 use Rattle.std.proofs.lemmas.Bool.{leb-true}
@@ -20,11 +21,11 @@ first_of (fault ∷ others) = Some fault
 
 -- ---- the stages, the last one first
 
--- behind the image of a heap: a byte more, or the end
+-- after the image of a heap: a byte more, or the end
 abbrev AtEnd : Heap → Option LayoutFault → List ℕ → Type 0
 AtEnd heap verdict bytes = ((0 < length bytes) × (verdict ≡ Some TrailingBytes)) ⊎ ((bytes ≡ []) × (verdict ≡ first_of (faults heap)))
 
--- behind the head: all the numbers of a heap
+-- after the head: all the numbers of a heap
 pub record HasNumbers (edition : Edition) (words marks roots : ℕ) (verdict : Option LayoutFault) (bytes : List ℕ) : Type 0 where
   heap : Heap
   stored : IsStored heap
@@ -36,17 +37,17 @@ pub record HasNumbers (edition : Edition) (words marks roots : ℕ) (verdict : O
   same : bytes ≡ body heap ++ rest
   next : AtEnd heap verdict rest
 
--- behind the head: too few bytes, or all the numbers of a heap
+-- after the head: too few bytes, or all the numbers of a heap
 abbrev AtNumbers : Edition → ℕ → ℕ → ℕ → Option LayoutFault → List ℕ → Type 0
 AtNumbers edition words marks roots verdict bytes =
     ((length bytes < body_len words marks roots) × (verdict ≡ Some Truncated)) ⊎ HasNumbers edition words marks roots verdict bytes
 
--- the counts are past a limit, or within the limits
+-- a count is above its limit, or all are within their limits
 abbrev AtLimits : Edition → ℕ → ℕ → ℕ → Option LayoutFault → List ℕ → Type 0
 AtLimits edition words marks roots verdict bytes =
     (IsOver words marks roots × (verdict ≡ Some TooLarge)) ⊎ (AreWithin words marks roots × AtNumbers edition words marks roots verdict bytes)
 
--- behind the version: three counts
+-- after the version: three counts
 pub record HasCounts (edition : Edition) (verdict : Option LayoutFault) (bytes : List ℕ) : Type 0 where
   words : ℕ
   marks : ℕ
@@ -58,18 +59,18 @@ pub record HasCounts (edition : Edition) (verdict : Option LayoutFault) (bytes :
   same : bytes ≡ counts words marks roots ++ rest
   next : AtLimits edition words marks roots verdict rest
 
--- behind the version: too few bytes, or three counts
+-- after the version: too few bytes, or three counts
 abbrev AtCounts : Edition → Option LayoutFault → List ℕ → Type 0
 AtCounts edition verdict bytes = ((length bytes < 12) × (verdict ≡ Some Truncated)) ⊎ HasCounts edition verdict bytes
 
--- too few bytes, other bytes than a version, or the version of an edition and what is behind it
+-- after the magic: too few bytes, bytes that are no version, or the version of an edition and what follows
 abbrev AtVersion : Option LayoutFault → List ℕ → Type 0
 AtVersion verdict bytes =
     ((length bytes < 4) × (verdict ≡ Some Truncated))
     ⊎ (((4 ≤ length bytes) × ((edition : Edition) → take 4 bytes ≢ version edition)) × (verdict ≡ Some BadMagic))
     ⊎ ((edition : Edition) × Behind (version edition) (AtCounts edition verdict) bytes)
 
--- too few bytes, other bytes than `front`, or `front` and what is behind it
+-- too few bytes, bytes that are not `front`, or `front` and what follows
 abbrev AtFront : List ℕ → (Option LayoutFault → List ℕ → Type 0) → Option LayoutFault → List ℕ → Type 0
 AtFront front Next verdict bytes =
     ((length bytes < length front) × (verdict ≡ Some Truncated))
@@ -82,14 +83,14 @@ IsVerdict verdict bytes = AtFront magic AtVersion verdict bytes
 
 -- ---- one verdict at each stage
 
--- the bytes behind an image decide the verdict there
+-- the bytes after an image have one verdict
 end_agrees : (heap : Heap) (one other : Option LayoutFault) (bytes : List ℕ) → AtEnd heap one bytes → AtEnd heap other bytes → one ≡ other
 end_agrees heap one other bytes (inl p) (inl q) = p.1 ∙ sym q.1
 end_agrees heap one other bytes (inl p) (inr q) = absurd (omega (arith, p.0, ap length q.0))
 end_agrees heap one other bytes (inr p) (inl q) = absurd (omega (arith, q.0, ap length p.0))
 end_agrees heap one other bytes (inr p) (inr q) = p.1 ∙ sym q.1
 
--- all the numbers are not too few bytes
+-- if all numbers are there, the bytes are not too few
 enough : (edition : Edition) (words marks roots : ℕ) (verdict : Option LayoutFault) (bytes : List ℕ) → HasNumbers edition words marks roots verdict bytes
     → length bytes < body_len words marks roots → ⊥
 enough edition words marks roots verdict bytes has short =
@@ -100,7 +101,7 @@ enough edition words marks roots verdict bytes has short =
     let r = has.of_roots in
     omega arith
 
--- the bytes behind the head do
+-- the bytes after the head have one verdict
 numbers_agree : (edition : Edition) (words marks roots : ℕ) (one other : Option LayoutFault) (bytes : List ℕ) → AtNumbers edition words marks roots one bytes
     → AtNumbers edition words marks roots other bytes → one ≡ other
 numbers_agree edition words marks roots one other bytes (inl p) (inl q) = p.1 ∙ sym q.1
@@ -112,7 +113,7 @@ numbers_agree edition words marks roots one other bytes (inr p) (inr q) =
     let of_heap = subst (λ (heap : Heap). AtEnd heap other q.rest) (sym found.0) q.next in
     end_agrees p.heap one other p.rest p.next (subst (AtEnd p.heap other) (sym found.1) of_heap)
 
--- counts are not past a limit and within the limits
+-- counts are not both above a limit and within the limits
 not_both : (words marks roots : ℕ) → IsOver words marks roots → AreWithin words marks roots → ⊥
 not_both words marks roots over within =
     elim over.over [
@@ -120,7 +121,7 @@ not_both words marks roots over within =
       | inr rest ↦ elim rest [ inl m ↦ omega (arith, m, within.few_marks) | inr r ↦ omega (arith, r, within.few_roots) ]
     ]
 
--- the counts and the bytes behind them do
+-- the counts and the bytes after them have one verdict
 limits_agree : (edition : Edition) (words marks roots : ℕ) (one other : Option LayoutFault) (bytes : List ℕ) → AtLimits edition words marks roots one bytes
     → AtLimits edition words marks roots other bytes → one ≡ other
 limits_agree edition words marks roots one other bytes (inl p) (inl q) = p.1 ∙ sym q.1
@@ -128,7 +129,7 @@ limits_agree edition words marks roots one other bytes (inl p) (inr q) = absurd 
 limits_agree edition words marks roots one other bytes (inr p) (inl q) = absurd (not_both words marks roots q.0 p.0)
 limits_agree edition words marks roots one other bytes (inr p) (inr q) = numbers_agree edition words marks roots one other bytes p.1 q.1
 
--- the bytes behind the version do
+-- the bytes after the version have one verdict
 counts_agree : (edition : Edition) (bytes : List ℕ) (one other : Option LayoutFault) → AtCounts edition one bytes → AtCounts edition other bytes → one ≡ other
 counts_agree edition bytes one other (inl p) (inl q) = p.1 ∙ sym q.1
 counts_agree edition bytes one other (inl p) (inr q) = absurd (omega (arith, p.0, ap length q.same))
@@ -141,11 +142,11 @@ counts_agree edition bytes one other (inr p) (inr q) =
     let of_roots = subst (λ (n : ℕ). AtLimits edition p.words p.marks n other q.rest) (sym found.2) of_marks in
     limits_agree edition p.words p.marks p.roots one other p.rest p.next (subst (AtLimits edition p.words p.marks p.roots other) (sym found.3) of_roots)
 
--- bytes that begin with `front` have it as their front
+-- if bytes begin with `front`, it is their front
 front_is : (front rest bytes : List ℕ) → bytes ≡ front ++ rest → take (length front) bytes ≡ front
 front_is front rest bytes same = ap (take (length front)) same ∙ take_at front rest (length front) refl
 
--- the bytes at a front do, if those behind it do
+-- bytes that begin with a front have one verdict, if the bytes after it have
 front_agrees : (front : List ℕ) (Next : Option LayoutFault → List ℕ → Type 0)
     → ((rest : List ℕ) (one other : Option LayoutFault) → Next one rest → Next other rest → one ≡ other)
     → (bytes : List ℕ) (one other : Option LayoutFault) → AtFront front Next one bytes → AtFront front Next other bytes → one ≡ other
@@ -161,11 +162,11 @@ front_agrees front Next agree bytes one other (inr (inr p)) (inr (inr q)) =
     let rest : p.0 ≡ q.0 = append_cancel_left front p.0 q.0 (sym p.1 ∙ q.1) in
     agree p.0 one other p.2 (subst (Next other) (sym rest) q.2)
 
--- bytes that begin with a version have it as their first four
+-- if bytes begin with a version, it is their first 4 bytes
 version_is : (edition : Edition) (rest bytes : List ℕ) → bytes ≡ version edition ++ rest → take 4 bytes ≡ version edition
 version_is edition rest bytes same = ap (take 4) same ∙ take_at (version edition) rest 4 refl
 
--- the bytes behind the magic do
+-- the bytes after the magic have one verdict
 version_agrees : (bytes : List ℕ) (one other : Option LayoutFault) → AtVersion one bytes → AtVersion other bytes → one ≡ other
 version_agrees bytes one other (inl p) (inl q) = p.1 ∙ sym q.1
 version_agrees bytes one other (inl p) (inr (inl q)) = absurd (omega (arith, p.0, q.0.0))
@@ -180,13 +181,13 @@ version_agrees bytes one other (inr (inr p)) (inr (inr q)) =
     let of_edition = subst (λ (e : Edition). AtCounts e other q.1.0) (sym found.0) q.1.2 in
     counts_agree p.0 p.1.0 one other p.1.2 (subst (AtCounts p.0 other) (sym found.1) of_edition)
 
--- bytes have one verdict
+-- all bytes have one verdict
 pub verdicts_agree : (bytes : List ℕ) (one other : Option LayoutFault) → IsVerdict one bytes → IsVerdict other bytes → one ≡ other
 verdicts_agree = front_agrees magic AtVersion version_agrees
 
 -- ---- each cause is a verdict
 
--- what is decided behind the head
+-- the verdict after the head is that on the whole
 behind_head : (edition : Edition) (words marks roots : ℕ) (verdict : Option LayoutFault) (bytes rest : List ℕ) → words < 2 ^ 32 → marks < 2 ^ 32 → roots < 2 ^ 32
     → bytes ≡ head edition words marks roots ++ rest → AtLimits edition words marks roots verdict rest → IsVerdict verdict bytes
 behind_head edition words marks roots verdict bytes rest w m r same next =
@@ -195,7 +196,7 @@ behind_head edition words marks roots verdict bytes rest w m r same next =
     record { words = words; marks = marks; roots = roots; words_fit = w; marks_fit = m; roots_fit = r; rest = rest; same = refl; next = next } in
     inr (inr (version edition ++ behind, same, inr (inr (edition, (behind, refl, inr has)))))
 
--- what is decided behind the image of a heap within the limits
+-- the verdict after the image of a heap within the limits is that on the whole
 behind_image : (heap : Heap) (verdict : Option LayoutFault) (bytes rest : List ℕ) → IsStored heap → AreWithin (length heap.words) (length heap.marks) (length heap.roots)
     → bytes ≡ encoding heap ++ rest → AtEnd heap verdict rest → IsVerdict verdict bytes
 behind_image heap verdict bytes rest stored within same next =
@@ -211,7 +212,7 @@ behind_image heap verdict bytes rest stored within same next =
     record { heap = heap; stored = stored; of_edition = refl; of_words = refl; of_marks = refl; of_roots = refl; rest = rest; same = refl; next = next } in
     behind_head heap.edition words marks roots verdict bytes (body heap ++ rest) (omega arith) (omega arith) (omega arith) whole (inr (within, inr has))
 
--- where the first fault is not the size, the tests of the size hold
+-- if the first fault is not the size, the size tests hold
 all_hold : (words marks roots : Bool) (a b c d e : List LayoutFault)
     → (first_of ((unless words TooLarge ++ unless marks TooLarge ++ unless roots TooLarge) ++ a ++ b ++ c ++ d ++ e) ≡ Some TooLarge → ⊥)
     → (words ≡ true) × (marks ≡ true) × (roots ≡ true)
@@ -220,7 +221,7 @@ all_hold true false roots a b c d e other = absurd (other refl)
 all_hold true true false a b c d e other = absurd (other refl)
 all_hold true true true a b c d e other = (refl, refl, refl)
 
--- a heap whose first fault is not its size is within the limits
+-- a heap is within the limits if its first fault is not the size
 within_limits : (heap : Heap) → (first_of (faults heap) ≡ Some TooLarge → ⊥) → AreWithin (length heap.words) (length heap.marks) (length heap.roots)
 within_limits heap other =
     let hold = all_hold (leb (length heap.words) (2 ^ 20)) (leb (length heap.marks) (2 ^ 20)) (leb (length heap.roots) (2 ^ 12))
@@ -228,18 +229,18 @@ within_limits heap other =
     (root_faults heap.marks heap.roots) (target_faults heap.edition heap.words heap.marks heap.marks) (weak_faults heap.edition heap.words heap.marks) other in
     record { few_words = leb-true _ _ hold.0; few_marks = leb-true _ _ hold.1; few_roots = leb-true _ _ hold.2 }
 
--- the verdict on a whole image is the heap's first fault
+-- the verdict on a whole image is the first fault of the heap
 whole_image : (heap : Heap) (bytes : List ℕ) → IsStored heap → bytes ≡ encoding heap → (first_of (faults heap) ≡ Some TooLarge → ⊥)
     → IsVerdict (first_of (faults heap)) bytes
 whole_image heap bytes stored same other =
     behind_image heap (first_of (faults heap)) bytes [] stored (within_limits heap other) (same ∙ sym (append-nil (encoding heap))) (inr (refl, refl))
 
--- the first fault, said in two ways
+-- the first fault, written in two ways
 first_is : (list : List LayoutFault) (fault : LayoutFault) → IsFirst list fault → first_of list ≡ Some fault
 first_is [] fault first = absurd first
 first_is (one ∷ others) fault first = ap (λ (x : LayoutFault). Some x) (sym first)
 
--- a fault of a part, in a whole image
+-- the fault of a part, in a whole image
 refuses_part : (fault : LayoutFault) (bytes : List ℕ) → IsOfPart fault → ((heap : Heap) × IsStored heap × (bytes ≡ encoding heap) × IsFirst (faults heap) fault)
     → IsVerdict (Some fault) bytes
 refuses_part fault bytes part cause =
@@ -247,7 +248,7 @@ refuses_part fault bytes part cause =
     let other : first_of (faults cause.0) ≡ Some TooLarge → ⊥ = λ large. (let same : fault ≡ TooLarge = cc in subst IsOfPart same part) in
     subst (λ (verdict : Option LayoutFault). IsVerdict verdict bytes) first (whole_image cause.0 bytes cause.1 cause.2 other)
 
--- an early end, wherever it is
+-- an early end, at any place
 ends_early : (bytes : List ℕ) → Refuses Truncated bytes → IsVerdict (Some Truncated) bytes
 ends_early bytes (inl short) = inl (short, refl)
 ends_early bytes (inr (inl in_version)) = inr (inr (in_version.0, in_version.1, inl (in_version.2, refl)))
@@ -267,7 +268,7 @@ begins_otherwise : (bytes : List ℕ) → Refuses BadMagic bytes → IsVerdict (
 begins_otherwise bytes (inl other) = inr (inl (other, refl))
 begins_otherwise bytes (inr version) = inr (inr (version.0, version.1, inr (inl (version.2, refl))))
 
--- a cause in the bytes is their verdict
+-- if the bytes are refused for a fault, it is their verdict
 pub refusal_is_verdict : (fault : LayoutFault) (bytes : List ℕ) → IsOfBytes fault → Refuses fault bytes → IsVerdict (Some fault) bytes
 refusal_is_verdict TooLarge bytes told cause =
     let over = cause.4 in
@@ -286,7 +287,7 @@ refusal_is_verdict BadMagic bytes told cause = begins_otherwise bytes cause
 refusal_is_verdict OutOfMemory bytes told cause = absurd told
 refusal_is_verdict Device bytes told cause = absurd told
 
--- no fault is the verdict on the image of an accepted heap
+-- the image of an accepted heap has no fault as its verdict
 pub accepted_is_verdict : (heap : Heap) → IsStored heap → IsAccepted heap → IsVerdict None (encoding heap)
 accepted_is_verdict heap stored accepted =
     let none : first_of (faults heap) ≡ None = ap first_of accepted in

@@ -1,4 +1,4 @@
--- The image of the parts of a heap is the heap's image.
+-- The image written part by part is the image of the heap.
 use Rattle.std.proofs.Common.{◌≡◌, ℕ, List, refl}
 use Rattle.heap_layout.specs.Heap.{Heap}
 use Rattle.heap_layout.specs.declared.edition.Edition.{Edition}

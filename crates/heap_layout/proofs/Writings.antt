@@ -1,4 +1,4 @@
--- Lemmas on writing one part behind another.
+-- Lemmas on writing one part after another.
 use Rattle.std.proofs.Common.{◌≡◌, ℕ, suc, ◌+◌, ◌-◌, ◌<◌, inl, inr, List, ◌∷◌, ◌++◌, length, take, drop, get_or, Option, Result, Ok, Err, sym, ap, subst, ◌∙◌, arith, take-append-drop}
 use Rattle.std.specs.List.{flat_map}
 use Rattle.std.specs.Io.KnownBytes.{Appends}
@@ -9,7 +9,7 @@ use Rattle.std.proofs.lemmas.Bool.{cases_lt}
 use Rattle.std.proofs.Math.Seq.{take-add, take-append-add, drop-cons}
 use Rattle.heap_layout.specs.Writing.{AppendsSome, Writes}
 
--- a beginning of the first part is one of both
+-- a beginning of the first part is a beginning of both
 pub some_first : (a b : Option (List ℕ)) (part more : List ℕ) → AppendsSome a b part → AppendsSome a b (part ++ more)
 some_first a b part more some =
     let taken = some.taken in
@@ -21,19 +21,19 @@ some_first a b part more some =
       }
     ]
 
--- so are all of the first part and a beginning of the second
+-- all of the first part and a beginning of the second are a beginning of both
 pub some_then : (a b c : Option (List ℕ)) (part more : List ℕ) → Appends a b part → AppendsSome b c more → AppendsSome a c (part ++ more)
 some_then a b c part more first some = record {
   taken = length part + some.taken;
   bytes = subst (Appends a c) (sym (take-append-add part more some.taken)) (Appends-trans a b c part (take some.taken more) first some.bytes);
 }
 
--- all of the first part, and of the second what a call wrote
+-- all of the first part, and then what a call wrote of the second
 pub writes_then : {E : Type 0} (a b c : Option (List ℕ)) (part more : List ℕ) (result : Result (Unit {0}) E) → Appends a b part → Writes b c more result → Writes a c (part ++ more) result
 writes_then a b c part more (Ok _) first next = Appends-trans a b c part more first next
 writes_then a b c part more (Err _) first next = some_then a b c part more first next
 
--- one of several is not written
+-- the items before i were written, and a beginning of item i
 pub some_in : {X : Type 0} (bytes : X → List ℕ) (a b c : Option (List ℕ)) (i : ℕ) (d x : X) (xs : List X) → i < length xs → x ≡ get_or xs i d
     → Appends a b (flat_map bytes (take i xs)) → AppendsSome b c (bytes x) → AppendsSome a c (flat_map bytes xs)
 some_in {X = X} bytes a b c i d x xs inside is before h =
@@ -45,7 +45,7 @@ some_in {X = X} bytes a b c i d x xs inside is before h =
     subst (AppendsSome a c) (sym all)
     (some_then a b c (flat_map bytes (take i xs)) (bytes x ++ flat_map bytes behind) before (some_first b c (bytes x) (flat_map bytes behind) h))
 
--- some items more, behind the first i
+-- n items more, after the first i
 pub items_more : {X : Type 0} (bytes : X → List ℕ) (a b c : Option (List ℕ)) (i n : ℕ) (xs : List X)
     → Appends a b (flat_map bytes (take i xs)) → Appends b c (flat_map bytes (take (i + n - i) (drop i xs))) → Appends a c (flat_map bytes (take (i + n) xs))
 items_more {X = X} bytes a b c i n xs before h =
@@ -56,7 +56,7 @@ items_more {X = X} bytes a b c i n xs before h =
     let appended : Appends b c (flat_map bytes some) = subst (λ (k : ℕ). Appends b c (flat_map bytes (take k (drop i xs)))) many h in
     subst (Appends a c) (sym all) (Appends-trans a b c (flat_map bytes (take i xs)) (flat_map bytes some) before appended)
 
--- of some items behind the first i a beginning is written
+-- the first i items were written, and a beginning of the next n
 pub some_within : {X : Type 0} (bytes : X → List ℕ) (a b c : Option (List ℕ)) (i n : ℕ) (xs : List X)
     → Appends a b (flat_map bytes (take i xs)) → AppendsSome b c (flat_map bytes (take n (drop i xs))) → AppendsSome a c (flat_map bytes xs)
 some_within {X = X} bytes a b c i n xs before h =

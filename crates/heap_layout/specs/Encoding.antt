@@ -24,7 +24,7 @@ eight_bytes n = to_le_bytes w64 n
 abbrev pub magic : List ℕ
 magic = codes "COMPHEAP"
 
--- the version, in 4 bytes
+-- the version of an edition, in 4 bytes
 abbrev pub version : Edition → List ℕ
 version edition = four_bytes (version_of edition)
 
@@ -47,17 +47,17 @@ encoding heap =
     ++ flat_map four_bytes heap.marks
     ++ flat_map eight_bytes heap.roots
 
--- how many bytes stand behind the head
+-- how many bytes follow the head
 abbrev pub body_len : ℕ → ℕ → ℕ → ℕ
 body_len words marks roots = 8 * words + 4 * marks + 8 * roots
 
--- as many words, marks and roots as an image may have
+-- the counts are within their limits
 pub record AreWithin (words marks roots : ℕ) : Type 0 where
   pub few_words : words ≤ 2 ^ 20
   pub few_marks : marks ≤ 2 ^ 20
   pub few_roots : roots ≤ 2 ^ 12
 
--- one count is past its limit, and each fits its field
+-- one count is above its limit, and each fits its field
 pub record IsOver (words marks roots : ℕ) : Type 0 where
   pub words_fit : words < 2 ^ 32
   pub marks_fit : marks < 2 ^ 32
@@ -70,7 +70,7 @@ pub record AreCounted (heap : Heap) : Type 0 where
   pub marks : length heap.marks < 2 ^ 32
   pub roots : length heap.roots < 2 ^ 32
 
--- the bytes begin with `front`, and P holds of those that follow
+-- the bytes begin with `front`, and P holds of the rest
 abbrev pub Behind : List ℕ → (List ℕ → Type 0) → List ℕ → Type 0
 Behind front P bytes = (rest : List ℕ) × (bytes ≡ front ++ rest) × P rest
 
@@ -88,14 +88,14 @@ abbrev pub EndsInBody : List ℕ → Type 0
 EndsInBody bytes =
     (edition : Edition) × (words marks roots : ℕ) × AreWithin words marks roots × Behind (head edition words marks roots) (λ rest. length rest < body_len words marks roots) bytes
 
--- there are other bytes where the magic stands, or other ones where the version does
+-- the first 8 bytes are not the magic, or the 4 bytes after them are no version
 abbrev pub HasOtherMagic : List ℕ → Type 0
 HasOtherMagic bytes = (8 ≤ length bytes) × (take 8 bytes ≢ magic)
 
 abbrev pub HasOtherVersion : List ℕ → Type 0
 HasOtherVersion bytes = Behind magic (λ rest. (4 ≤ length rest) × ((edition : Edition) → take 4 rest ≢ version edition)) bytes
 
--- a count is past its limit, whatever follows
+-- a count is above its limit, whatever follows
 abbrev pub HasLargeCount : List ℕ → Type 0
 HasLargeCount bytes = (edition : Edition) × (words marks roots : ℕ) × IsOver words marks roots × Behind (head edition words marks roots) (λ _. Unit {0}) bytes
 
@@ -104,11 +104,12 @@ abbrev pub HasMore : List ℕ → Type 0
 HasMore bytes =
     (heap : Heap) × IsStored heap × AreWithin (length heap.words) (length heap.marks) (length heap.roots) × Behind (encoding heap) (λ rest. 0 < length rest) bytes
 
--- the image of a heap whose first fault is this one
+-- the image of a heap that has this fault as its first
 abbrev pub HasHeapWith : LayoutFault → List ℕ → Type 0
 HasHeapWith fault bytes = (heap : Heap) × IsStored heap × (bytes ≡ encoding heap) × IsFirst (faults heap) fault
 
--- the cause of each fault of an image; want of memory and a failing device are not in the bytes
+-- for each fault, the images that are refused with it; running out of memory and a failing device do not depend on the
+-- bytes
 abbrev pub Refuses : LayoutFault → List ℕ → Type 0
 Refuses TooLarge bytes = HasLargeCount bytes
 Refuses (ObjectPastEnd i) bytes = HasHeapWith (ObjectPastEnd i) bytes
@@ -124,7 +125,7 @@ Refuses BadMagic bytes = HasOtherMagic bytes ⊎ HasOtherVersion bytes
 Refuses OutOfMemory bytes = Unit {0}
 Refuses Device bytes = Unit {0}
 
--- the bytes alone tell of this fault
+-- the fault depends on the bytes alone
 abbrev pub IsOfBytes : LayoutFault → Type 0
 IsOfBytes OutOfMemory = ⊥
 IsOfBytes Device = ⊥
@@ -138,23 +139,23 @@ CausesExclude = (bytes : List ℕ) (one other : LayoutFault) → IsOfBytes one �
 abbrev pub AcceptedIsTaken : Type 0
 AcceptedIsTaken = (heap : Heap) (fault : LayoutFault) → IsStored heap → IsAccepted heap → IsOfBytes fault → Refuses fault (encoding heap) → ⊥
 
--- two heaps have one image only where they are one heap
+-- two heaps with the same image are the same heap
 abbrev pub ImagesDiffer : Type 0
 ImagesDiffer = (one other : Heap) → IsStored one → IsStored other → AreCounted one → AreCounted other → encoding one ≡ encoding other → one ≡ other
 
--- Reading n bytes failed: there are fewer, or a call of the device failed, or a growth was refused.
+-- Why reading n bytes failed: there are fewer, a call of the device failed, or an allocation failed.
 abbrev pub EndsBefore : ℕ → LayoutFault → List ℕ → Type 0
 EndsBefore n Truncated bytes = length bytes < n
 EndsBefore n OutOfMemory bytes = Unit {0}
 EndsBefore n Device bytes = Unit {0}
 EndsBefore n _ bytes = ⊥
 
--- The same for the three counts, one of which may be past its limit.
+-- Why reading the three counts failed: as for any 12 bytes, or one of them is above its limit.
 abbrev pub RefusesCounts : LayoutFault → List ℕ → Type 0
 RefusesCounts TooLarge bytes = (words marks roots : ℕ) × IsOver words marks roots × Behind (counts words marks roots) (λ _. Unit {0}) bytes
 RefusesCounts fault bytes = EndsBefore 12 fault bytes
 
--- The same for the end, where a byte may follow.
+-- Why reading the end failed: a byte follows, or a call of the device failed.
 abbrev pub RefusesEnd : LayoutFault → List ℕ → Type 0
 RefusesEnd TrailingBytes bytes = 0 < length bytes
 RefusesEnd Device bytes = Unit {0}

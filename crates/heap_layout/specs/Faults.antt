@@ -1,5 +1,5 @@
--- Why a heap is refused. The faults of a heap stand in one list, in the order in which they count: a heap is accepted where the list is empty, and
--- else its first one is the answer.
+-- Why a heap is refused. All faults of a heap stand in one list, in the order in which they count. The heap is accepted
+-- if the list is empty. Otherwise the first fault of the list is the answer.
 use Rattle.std.specs.Prelude.{◌≡◌, ℕ, ◌+◌, ◌^◌, ◌≤◌, Bool, ◌==◌, nat_le, List, [], ◌∷◌, ◌++◌, length, take, drop, if◌then◌else◌, Result, Ok, Err}
 use Rattle.std.specs.List.{flat_map, enumerate_from, list_any}
 use Rattle.heap_layout.specs.Header.{size_of}
@@ -12,66 +12,70 @@ use Rattle.heap_layout.specs.declared.kind.Kind.TheVariants.{Reference, Weak}
 use Rattle.heap_layout.specs.declared.fault.LayoutFault.{LayoutFault}
 use Rattle.heap_layout.specs.declared.fault.LayoutFault.TheVariants.{TooLarge, ObjectPastEnd, ObjectTooLong, MarkNotStart, MarksNotRising, BadRoot, UnmarkedTarget, BadWeak}
 
--- the fault, where the test fails
+-- the fault, if the test fails
 abbrev pub unless : Bool → LayoutFault → List LayoutFault
 unless holds fault = if holds then [] else fault ∷ []
 
--- more words, marks or roots than an image may have
+-- the numbers of words, marks or roots that are above the limits of an image
 abbrev pub size_faults : ℕ → ℕ → ℕ → List LayoutFault
 size_faults words marks roots =
     unless (nat_le words (2 ^ 20)) TooLarge ++ unless (nat_le marks (2 ^ 20)) TooLarge ++ unless (nat_le roots (2 ^ 12)) TooLarge
 
--- the object at i is too long, or ends past the words
+-- the object at index i is too long, or ends past the words
 abbrev pub object_faults : Edition → List ℕ → ℕ → List LayoutFault
 object_faults edition words i =
     let size = size_of (header_at edition words i) in
     unless (nat_le size 1024) (ObjectTooLong i) ++ unless (nat_le (i + size) (length words)) (ObjectPastEnd i)
 
--- object by object one comes to index i: the objects from there on have no fault, and they are what the whole row has from there on
+-- a walk object by object comes to index i: the objects from there on have no fault, and they are those of the whole
+-- row from there on
 pub record IsReached (edition : Edition) (words : List ℕ) (i : ℕ) : Type 0 where
   pub within : i ≤ length words
   pub sound : flat_map (object_faults edition words) (starts_at edition words i) ≡ []
   pub same : (k : ℕ) → i ≤ k → is_start (starts edition words) k ≡ is_start (starts_at edition words i) k
 
--- of marks, of which the next has to be at least `low`: each has to rise, and to be where an object of the row starts
+-- the faults of marks of which the next must be at least `low`: each mark must rise, and an object of the row must
+-- start there
 abbrev pub mark_faults : List ℕ → ℕ → List ℕ → List LayoutFault
 mark_faults row low [] = []
 mark_faults row low (mark ∷ marks) =
     (unless (nat_le low mark) (MarksNotRising mark) ++ unless (is_start row mark) (MarkNotStart mark)) ++ mark_faults row (mark + 1) marks
 
--- of marks, each in its turn was met where an object starts, as many as `met`: the others have the faults of all, and the bits are those of the ones that were met
+-- the first `met` marks were each met at the start of an object: the other marks have the same faults as all, and the
+-- bits are set at the marks that were met
 pub record Meets (row marks : List ℕ) (met : ℕ) (bits : List ℕ) : Type 0 where
   pub low : ℕ
   pub faults : mark_faults row low (drop met marks) ≡ mark_faults row 0 marks
   pub same : (j : ℕ) → bit bits j ≡ list_any (λ mark. mark == j) (take met marks)
 
--- each root passes the test; a fault names the root's number
+-- a fault for each root that fails the test, with the number of the root
 abbrev pub root_faults_by : (ℕ → Bool) → List ℕ → List LayoutFault
 root_faults_by test roots = flat_map (λ root. unless (test root.1) (BadRoot root.0)) (enumerate_from 0 roots)
 
--- a word of this kind, at index i, leads nowhere
+-- the fault of a word of this kind, at index i, that leads nowhere
 abbrev pub misled : Kind → ℕ → LayoutFault
 misled Weak i = BadWeak i
 misled _ i = UnmarkedTarget i
 
--- each of the words of a kind, the first of which stands at index `first`, likewise; a fault names the word's index
+-- a fault for each of these words of one kind that fails the test, with the index of the word; the first word has index
+-- `first`
 abbrev pub reference_faults_by : Kind → (ℕ → Bool) → ℕ → List ℕ → List LayoutFault
 reference_faults_by kind test first references = flat_map (λ reference. unless (test reference.1) (misled kind reference.0)) (enumerate_from first references)
 
--- the fields of a kind of each marked object likewise
+-- a fault for each field of this kind of each marked object that fails the test
 abbrev pub field_faults_by : Kind → Edition → (ℕ → Bool) → List ℕ → List ℕ → List LayoutFault
 field_faults_by kind edition test words marks =
     flat_map (λ mark. reference_faults_by kind test (mark + first_of kind (header_at edition words mark)) (fields_of kind (object_at edition words mark))) marks
 
--- each root is null or a marked object's address
+-- each root is null or the address of a marked object
 abbrev pub root_faults : List ℕ → List ℕ → List LayoutFault
 root_faults marks roots = root_faults_by (is_target marks) roots
 
--- each reference of a marked object likewise
+-- each reference of these marked objects is null or the address of a marked object
 abbrev pub target_faults : Edition → List ℕ → List ℕ → List ℕ → List LayoutFault
 target_faults edition words all_marks marks = field_faults_by Reference edition (is_target all_marks) words marks
 
--- each weak word of a marked object is null or an object's address
+-- each weak word of a marked object is null or the address of an object
 abbrev pub weak_faults : Edition → List ℕ → List ℕ → List LayoutFault
 weak_faults edition words marks = field_faults_by Weak edition (is_target (starts edition words)) words marks
 
@@ -92,7 +96,7 @@ abbrev pub IsFirst : List LayoutFault → LayoutFault → Type 0
 IsFirst [] fault = ⊥
 IsFirst (first ∷ others) fault = fault ≡ first
 
--- the answer tells of these faults: Ok where there are none, and else the first
+-- the answer for this list of faults: Ok if it is empty, otherwise its first fault
 abbrev pub Tells : {T : Type 0} → List LayoutFault → Result T LayoutFault → Type 0
 Tells list (Ok _) = list ≡ []
 Tells list (Err fault) = IsFirst list fault

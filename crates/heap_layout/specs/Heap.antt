@@ -1,4 +1,5 @@
--- A marked heap: its edition, its words, the indices of its marked objects, its roots. The objects stand in the words side by side from index 0.
+-- A marked heap: its edition, its words, the indices of its marked objects, its roots. The objects stand side by side
+-- from index 0.
 use Rattle.std.specs.Prelude.{◌≡◌, ℕ, zero, suc, ◌+◌, ◌-◌, ◌^◌, ◌<◌, ◌≤◌, ◌==◌, ◌||◌, Bool, true, List, [], ◌∷◌, ◌++◌, length, take, drop, map, All, slice_index}
 use Rattle.std.specs.List.{list_any}
 use Rattle.heap_layout.specs.declared.edition.Edition.{Edition}
@@ -19,11 +20,11 @@ pub record Object : Type 0 where
   pub weak : List ℕ
   pub data_words : List ℕ
 
--- the word at index i, as a header
+-- the word at index i, read as a header
 abbrev pub header_at : Edition → List ℕ → ℕ → Head
 header_at edition words i = header_of edition (slice_index words i)
 
--- the object whose header stands at index i
+-- the object with its header at index i
 abbrev pub object_at : Edition → List ℕ → ℕ → Object
 object_at edition words i =
     let header = header_at edition words i in
@@ -35,7 +36,7 @@ object_at edition words i =
       data_words = take (data_of header) (drop (i + 1 + refs_of header + weak_of header) words);
     }
 
--- the fields of a kind, in order
+-- the fields of this kind, in order
 abbrev pub fields_of : Kind → Object → List ℕ
 fields_of Header object = []
 fields_of Reference object = object.references
@@ -46,7 +47,8 @@ fields_of Data object = object.data_words
 abbrev pub words_of : Object → List ℕ
 words_of object = object.header.word ∷ (object.references ++ object.weak ++ object.data_words)
 
--- the indices at which objects start, in words that begin at index i and whose first `covered` belong to an object before
+-- the indices at which objects start; the words begin at index i, and the first `covered` of them belong to an earlier
+-- object
 abbrev pub starts_from : Edition → ℕ → ℕ → List ℕ → List ℕ
 starts_from edition i covered [] = []
 starts_from edition i zero (word ∷ words) = i ∷ starts_from edition (i + 1) (size_of (header_of edition word) - 1) words
@@ -56,7 +58,7 @@ starts_from edition i (suc covered) (word ∷ words) = starts_from edition (i + 
 abbrev pub starts : Edition → List ℕ → List ℕ
 starts edition words = starts_from edition 0 0 words
 
--- those from index i on, where an object starts at i or the words end there
+-- the indices from i on at which objects start, if an object starts at i or the words end there
 abbrev pub starts_at : Edition → List ℕ → ℕ → List ℕ
 starts_at edition words i = starts_from edition i 0 (drop i words)
 
@@ -72,18 +74,18 @@ live heap = map (object_at heap.edition heap.words) heap.marks
 abbrev pub from_address : ℕ → ℕ
 from_address i = 2 ^ 32 + i
 
--- an object starts at index i
+-- whether an object starts at index i
 abbrev pub is_start : List ℕ → ℕ → Bool
 is_start row i = list_any (λ start. start == i) row
 
--- a root, a reference or a weak word is null, or the address of one of the objects that start at these indices
+-- whether a root, a reference or a weak word is null, or the address of one of the objects that start at these indices
 abbrev pub is_target : List ℕ → ℕ → Bool
 is_target marks reference = (reference == 0) || list_any (λ mark. from_address mark == reference) marks
 
 abbrev pub IsTarget : List ℕ → ℕ → Type 0
 IsTarget marks reference = is_target marks reference ≡ true
 
--- the object at i ends within the words, and has at most 1,024 of them
+-- the object at index i ends within the words, and has at most 1,024 words
 pub record IsPlaced (edition : Edition) (words : List ℕ) (i : ℕ) : Type 0 where
   pub within : i + size_of (header_at edition words i) ≤ length words
   pub short : size_of (header_at edition words i) ≤ 1024
@@ -94,8 +96,9 @@ pub record IsStored (heap : Heap) : Type 0 where
   pub marks : All (λ mark. mark < 2 ^ 32) heap.marks
   pub roots : All (λ root. root < 2 ^ 64) heap.roots
 
--- What acceptance means: marked objects are objects of the row and lie apart, every root and every reference of a marked object is null or a
--- marked object's address, and every weak word of one is null or an object's address.
+-- What acceptance means. The marked objects are objects of the row and do not overlap. Every root and every reference
+-- of a marked object is null or the address of a marked object. Every weak word of a marked object is null or the
+-- address of an object.
 pub record IsClosed (heap : Heap) : Type 0 where
   pub few_words : length heap.words ≤ 2 ^ 20
   pub few_marks : length heap.marks ≤ 2 ^ 20

@@ -1,4 +1,4 @@
--- The version of the images and dumps of an edition.
+-- The version numbers in images and dumps.
 use Rattle.std.specs.Prelude.{ℕ}
 use Rattle.heap_layout.specs.declared.edition.Edition.{Edition}
 use Rattle.heap_layout.specs.declared.edition.Edition.TheVariants.{One, Two}

@@ -1,4 +1,4 @@
-//! The tests that a heap passes before it is accepted, in the order in which their faults count. None takes memory.
+//! The checks that a heap passes before it is accepted, in the order in which their faults count. None allocates.
 ghost use Rattle.std.specs.Prelude.{◌≡◌, ℕ, ◌+◌, ◌^◌, ◌≤◌, ◌==◌, ◌&&◌, ◌++◌, nat_lt, false, [], All, length, slice_index, IfOk};
 ghost use Rattle.std.specs.List.Sorted.{IsStrictlyIncreasing};
 ghost use Rattle.std.specs.List.{flat_map};
@@ -12,22 +12,22 @@ use crate::header::Header;
 use crate::kind::Kind;
 use crate::targets::Targets;
 
-/// The most words of a heap.
+/// The most words that a heap may have.
 pub const MOST_WORDS: usize = 1_048_576;
 
-/// The most marks of a heap.
+/// The most marks that a heap may have.
 pub const MOST_MARKS: usize = 1_048_576;
 
-/// The most roots of a heap.
+/// The most roots that a heap may have.
 pub const MOST_ROOTS: usize = 4_096;
 
-/// The most words of an object.
+/// The most words that an object may have, with its header.
 pub const MOST_OBJECT_WORDS: usize = 1_024;
 
 /// The address of from-space word 0.
 pub const FROM_SPACE: u64 = 4_294_967_296;
 
-/// Ok where a heap of these parts is accepted, and else its first fault.
+/// Checks a heap made of these parts: Ok if it is accepted, otherwise Err with its first fault.
 pub fn check(
     edition: Edition,
     words: &[u64],
@@ -44,7 +44,7 @@ pub fn check(
     check_weak(edition, words, marks, &mut targets)
 }
 
-/// Whether there are few enough words, marks and roots.
+/// Checks the numbers of words, marks and roots against their limits: Err with `TooLarge` if one is exceeded.
 pub fn check_sizes(words: usize, marks: usize, roots: usize) -> Result<(), LayoutFault>
     ensures { Tells (size_faults words marks roots) result }
 {
@@ -55,8 +55,8 @@ pub fn check_sizes(words: usize, marks: usize, roots: usize) -> Result<(), Layou
     }
 }
 
-// The row and its marks: object by object, none is too long, or ends past the words; each mark is above the one before it, and an object starts there. What
-// were no targets become those of the marks.
+// Checks the objects, then the marks. No object may be too long or end past the words. Each mark must be above the one
+// before it and be the start of an object. `targets` must be empty; after an Ok it holds the marked objects.
 fn check_objects(
     edition: Edition,
     words: &[u64],
@@ -77,8 +77,8 @@ fn check_objects(
     Ok(())
 }
 
-// Object by object: none is too long, or ends past the words. Answers how many marks it met, of which each in its turn was where an object starts: they are
-// the targets now.
+// Checks that no object is too long or ends past the words. Answers how many marks, from the first on, were met in
+// order at starts of objects. These are then in `targets`, which must be empty before.
 fn check_row(
     edition: Edition,
     words: &[u64],
@@ -108,14 +108,14 @@ fn check_row(
     Ok(met)
 }
 
-// Whether the mark of this number is this index.
+// Whether there is a mark with this number and it equals `i`.
 fn is_mark(marks: &[u32], number: usize, i: usize) -> bool
     ensures { result ≡ (nat_lt number (length marks.now) && (slice_index marks.now number == i)) }
 {
     number < marks.len() && marks[number] as usize == i
 }
 
-// Mark by mark: each is above the one before it, and an object of the row starts there.
+// Checks that each mark is above the one before it and is the start of an object.
 fn check_marks(edition: Edition, words: &[u64], marks: &[u32]) -> Result<(), LayoutFault>
     requires few { length words.now ≤ 2 ^ 20 }
     requires row { flat_map (object_faults edition words.now) (starts edition words.now) ≡ [] }
@@ -137,7 +137,7 @@ fn check_marks(edition: Edition, words: &[u64], marks: &[u32]) -> Result<(), Lay
     Ok(())
 }
 
-// From the object at `start` on, the first start that is not below `low`, or the end of the row.
+// The first object start at or above `low`, or the end of the words. The walk begins with the object at `start`.
 fn next_start(edition: Edition, words: &[u64], mut start: usize, low: usize) -> usize
     requires few { length words.now ≤ 2 ^ 20 }
     requires reached { IsReached edition words.now start }
@@ -151,7 +151,7 @@ fn next_start(edition: Edition, words: &[u64], mut start: usize, low: usize) -> 
     start
 }
 
-/// Whether a word is null or the address of a marked object. The marks rise.
+/// Whether a word is null or the address of a marked object. The marks must rise.
 pub fn is_target(marks: &[u32], reference: u64) -> bool
     requires { IsStrictlyIncreasing marks.now }
     ensures { result ≡ is_target marks.now reference }
@@ -168,7 +168,7 @@ pub fn is_target(marks: &[u32], reference: u64) -> bool
     }
 }
 
-// Each root is null or a marked object's address.
+// Checks that each root is null or the address of a marked object.
 fn check_roots(targets: &Targets, roots: &[u64]) -> Result<(), LayoutFault>
     ensures { Tells (root_faults_by (leads targets.now) roots.now) result }
 {
@@ -180,7 +180,8 @@ fn check_roots(targets: &Targets, roots: &[u64]) -> Result<(), LayoutFault>
     Ok(())
 }
 
-// Each weak word of each marked object is null or an object's address. The targets become all objects of a row of edition two.
+// Checks that each weak word of each marked object is null or the address of an object, marked or not. Of a row of
+// edition two the targets are then all objects.
 fn check_weak(
     edition: Edition,
     words: &[u64],
@@ -201,7 +202,7 @@ fn check_weak(
     }
 }
 
-// Each field of a kind of each marked object passes.
+// Checks that each field of this kind of each marked object is null or leads to one of the targets.
 fn check_fields(
     targets: &Targets,
     kind: Kind,
@@ -222,7 +223,8 @@ fn check_fields(
     Ok(())
 }
 
-// Each of the words of a kind, the first of which stands at index `first`, passes.
+// Checks that each of these words is null or leads to one of the targets. They are of one kind; the first has index
+// `first`.
 fn check_references(
     targets: &Targets,
     kind: Kind,
@@ -240,7 +242,7 @@ fn check_references(
     Ok(())
 }
 
-// What is wrong with a word of this kind that leads nowhere.
+// The fault of a word of this kind, at index `i`, that is neither null nor leads to one of its targets.
 fn misled(kind: Kind, i: u64) -> LayoutFault
     ensures { result ≡ misled kind i }
 {

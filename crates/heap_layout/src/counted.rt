@@ -5,18 +5,19 @@ ghost use Rattle.heap_layout.specs.Counted.{inner_of, failures_of, is_flushed_of
 
 use std::io::{Error, ErrorKind, Read, Result, Write};
 
-/// A reader or a writer, with the number of its calls that failed: those that answered an error and, of a writer, those that took none of a part
-/// that is not empty. Of a writer it also knows whether all that was taken has been flushed since.
+/// A reader or writer that counts its failed calls. A call fails if it answers an error. A write also fails if it takes
+/// no byte of a part that is not empty. For a writer it also records whether all bytes that were taken have been
+/// flushed since.
 #[derive(Debug, Drop)]
 pub struct Counted<R> {
     inner: R,
     failures: u64,
-    // Only the calls of a writer change it.
+    // Only the calls of a writer change this.
     flushed: bool,
 }
 
 impl<R> Counted<R> {
-    /// Around a reader or a writer, no call of which has failed so far. Nothing has been written through it, so nothing is left to flush.
+    /// Wraps a reader or writer. No call has failed yet, and nothing is left to flush.
     pub fn new(inner: R) -> Counted<R>
         ensures inner { inner_of result ≡ inner }
         ensures none { failures_of result ≡ 0 }
@@ -29,28 +30,28 @@ impl<R> Counted<R> {
         }
     }
 
-    /// How many calls have failed; it stays at `u64::MAX`.
+    /// How many calls have failed. The count saturates at `u64::MAX`.
     pub fn failures(&self) -> u64
         ensures { result ≡ failures_of self.now }
     {
         self.failures
     }
 
-    /// Whether all that the writer took through it has been flushed since.
+    /// Whether all bytes that the writer has taken have been flushed since.
     pub fn is_flushed(&self) -> bool
         ensures { result ≡ is_flushed_of self.now }
     {
         self.flushed
     }
 
-    /// The reader or writer itself.
+    /// The reader or writer inside.
     pub fn into_inner(self) -> R
         ensures { result ≡ inner_of self }
     {
         self.inner
     }
 
-    // Counts a call that failed.
+    // Counts a failed call.
     fn count_failure(&mut self)
         ensures inner { inner_of self.new ≡ inner_of self.old }
         ensures counted { failures_of self.new ≡ one_more (failures_of self.old) }
@@ -59,7 +60,7 @@ impl<R> Counted<R> {
         self.failures = self.failures.saturating_add(1);
     }
 
-    // Notes what a writer answered to a part: a failure is counted, and what was taken is left to flush.
+    // Records the answer to a write: counts it if it failed, and clears `flushed` if bytes were taken.
     fn note_write(&mut self, answer: &Result<usize>, part: &[u8])
         ensures inner { inner_of self.new ≡ inner_of self.old }
         ensures taken { IfOk answer.now (λ n. 0 < n → (failures_of self.new ≡ failures_of self.old) × (is_flushed_of self.new ≡ false)) }
@@ -75,7 +76,7 @@ impl<R> Counted<R> {
         }
     }
 
-    // Notes what a writer answered to a flush.
+    // Records the answer to a flush: sets `flushed` if it succeeded, and counts it if it failed.
     fn note_flush(&mut self, answer: &Result<()>)
         ensures inner { inner_of self.new ≡ inner_of self.old }
         ensures ok { OnOk answer.now ((failures_of self.new ≡ failures_of self.old) × (is_flushed_of self.new ≡ true)) }
@@ -138,9 +139,9 @@ impl<W: Write> Write for Counted<W> {
     }
 }
 
-/// A writer that is lent: what these calls print is then in that very writer, which its owner gets back.
+/// A borrowed writer: these methods write into the writer that was lent, which its owner gets back.
 impl<W: Write> Counted<&mut W> {
-    // Writes the beginning of a part.
+    // Writes the part or a beginning of it, by one call, and answers how many bytes were taken.
     fn write_some(&mut self, part: &[u8]) -> Result<usize>
         ensures bound { WritesAtMost result part.now }
         ensures bytes { WriteAppends (W.contents (inner_of self.old).now) (W.contents (inner_of self.new).now) result part.now }
@@ -157,8 +158,8 @@ impl<W: Write> Counted<&mut W> {
         answer
     }
 
-    /// Writes a whole part, by as many calls as the writer wants. The first call that fails ends the writing, an interrupted one too; what was taken
-    /// before it stays written.
+    /// Writes a whole part, by as many calls as the writer needs. The first call that fails ends the writing, even if
+    /// it was only interrupted. What was taken before it stays written.
     pub fn write_part(&mut self, part: &[u8]) -> Result<()>
         ensures written { OnOk result (Appends (W.contents (inner_of self.old).now) (W.contents (inner_of self.new).now) part.now) }
         ensures begun { OnErr result (AppendsBeginning (W.contents (inner_of self.old).now) (W.contents (inner_of self.new).now) (is_flushed_of self.old) (is_flushed_of self.new) part.now) }
@@ -179,7 +180,7 @@ impl<W: Write> Counted<&mut W> {
         Ok(())
     }
 
-    /// Sends on what the writer still holds, by one call.
+    /// Flushes the writer, by one call.
     pub fn flush_all(&mut self) -> Result<()>
         ensures kept { Keeps (W.contents (inner_of self.old).now) (W.contents (inner_of self.new).now) }
         ensures ok { OnOk result (failures_of self.new ≡ failures_of self.old) }

@@ -4,7 +4,7 @@ ghost use Rattle.heap_layout.specs.declared.fault.LayoutFault.TheVariants as lay
 use std::alloc::AllocError;
 use thiserror::Error;
 
-/// A growth was refused. That one was no contract can say.
+/// An allocation failed. No contract says when that happens.
 #[derive(Clone, Copy, Debug, PartialEq, Eq, Error)]
 #[error("OutOfMemory")]
 pub struct OutOfMemory;
@@ -15,12 +15,13 @@ impl From<AllocError> for OutOfMemory {
     }
 }
 
-/// Why a heap, or the image of one, is refused. Of several causes the first counts, in this order: the size; then object by object its length and
-/// its end; then mark by mark its order and its place; then the roots; then the references; then the weak words. While an image is read, its ending, its
-/// magic and its length come before.
+/// Why a heap, or the image of one, is refused. If there are several causes, the first in this order counts: the sizes;
+/// for each object in turn its length and its end; for each mark in turn its order and its place; the roots; the
+/// references; the weak words. While an image is read, its magic, its length and bytes after its end come before these,
+/// except that the sizes are checked as soon as the counts are read.
 #[derive(Clone, Copy, Debug, PartialEq, Eq, Error)]
 pub enum LayoutFault {
-    /// More than 1,048,576 words, 1,048,576 marks or 4,096 roots.
+    /// There are more than 1,048,576 words, 1,048,576 marks or 4,096 roots.
     #[error("H1 TooLarge")]
     TooLarge,
     /// The object at this index ends past the words.
@@ -29,34 +30,35 @@ pub enum LayoutFault {
     /// The object at this index has more than 1,024 words.
     #[error("H3 ObjectTooLong({0})")]
     ObjectTooLong(u64),
-    /// This mark is no object's index.
+    /// No object starts at the index that this mark gives.
     #[error("H4 MarkNotStart({0})")]
     MarkNotStart(u64),
     /// This mark is not above the mark before it.
     #[error("H5 MarksNotRising({0})")]
     MarksNotRising(u64),
-    /// The root of this number is neither null nor a marked object's address.
+    /// The root with this number is neither null nor the address of a marked object.
     #[error("H6 BadRoot({0})")]
     BadRoot(u64),
-    /// The reference word at this index, of a marked object, is neither null nor a marked object's address.
+    /// The word at this index is a reference of a marked object, but neither null nor the address of a marked object.
     #[error("H7 UnmarkedTarget({0})")]
     UnmarkedTarget(u64),
     /// The image ends early.
     #[error("H8 Truncated")]
     Truncated,
-    /// A byte follows the image.
+    /// Bytes follow the image.
     #[error("H9 TrailingBytes")]
     TrailingBytes,
-    /// The first 8 bytes or the version are not those of an image.
+    /// The first 8 bytes are not the magic, or the version is unknown.
     #[error("H10 BadMagic")]
     BadMagic,
-    /// A growth was refused.
+    /// An allocation failed.
     #[error("H11 OutOfMemory")]
     OutOfMemory,
-    /// A call of the reader or writer answered an error, an interrupted one too.
+    /// A call of the reader or writer failed, even if it was only interrupted.
     #[error("H12 Device")]
     Device,
-    /// The weak word at this index, of a marked object, is neither null nor an object's address, marked or not.
+    /// The word at this index is a weak word of a marked object, but neither null nor the address of an object, marked
+    /// or not.
     #[error("H13 BadWeak({0})")]
     BadWeak(u64),
 }

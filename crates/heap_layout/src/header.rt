@@ -7,8 +7,8 @@ use crate::edition::Edition;
 use crate::kind::Kind;
 use std::marker::Model;
 
-/// A word, and the edition by which it is read as a header: how many words of each kind follow it, and a tag. Every word is one, in either edition;
-/// headers of one word and two editions differ.
+/// A word that is read as a header by an edition: how many words of each kind follow it, and a tag. Every word is a
+/// header in both editions. Headers of the same word and different editions are different.
 #[derive(Clone, Copy, Debug, PartialEq, Eq)]
 pub struct Header {
     edition: Edition,
@@ -26,7 +26,7 @@ impl Model for Header {
 }
 
 impl Header {
-    /// In edition one, the header of an object of `refs` references and `data_words` words of data, with this tag.
+    /// The header, in edition one, of an object with `refs` references and `data_words` data words, and with this tag.
     pub fn new(refs: u16, data_words: u16, tag: u32) -> Header
         ensures { result ≡ header_of One (header_word refs data_words tag) }
     {
@@ -36,7 +36,8 @@ impl Header {
         }
     }
 
-    /// In edition two, the header of an object of `refs` references, `weak` weak words and `data_words` words of data, with this tag.
+    /// The header, in edition two, of an object with `refs` references, `weak` weak words and `data_words` data words,
+    /// and with this tag.
     pub fn new_weak(refs: u16, weak: u16, data_words: u16, tag: u16) -> Header
         ensures { result ≡ header_of Two (weak_header_word refs weak data_words tag) }
     {
@@ -49,8 +50,9 @@ impl Header {
         }
     }
 
-    /// The header of an object of `refs` references, `weak` weak words and `data_words` words of data, with this tag. None where the edition has none:
-    /// edition one has no weak words, edition two no tag of 2^16 or more.
+    /// The header of an object with `refs` references, `weak` weak words and `data_words` data words, and with this
+    /// tag. None if the edition has no header for these: edition one has no weak words, edition two no tag of 2^16 or
+    /// more.
     pub fn of_counts(
         edition: Edition,
         refs: u16,
@@ -70,28 +72,28 @@ impl Header {
         }
     }
 
-    /// The header that a word is in edition one.
+    /// Reads a word as a header of edition one.
     pub fn from_word(word: u64) -> Header
         ensures { result ≡ header_of One word }
     {
         Header::from_word_of(Edition::One, word)
     }
 
-    /// The header that a word is in an edition.
+    /// Reads a word as a header of this edition.
     pub fn from_word_of(edition: Edition, word: u64) -> Header
         ensures { result ≡ header_of edition word }
     {
         Header { edition, word }
     }
 
-    /// The header's word.
+    /// The word of the header.
     pub fn word(self) -> u64
         ensures { result ≡ self.word }
     {
         self.word
     }
 
-    /// How many reference words follow the header.
+    /// How many references follow the header.
     pub fn refs(self) -> u16
         ensures { result ≡ refs_of self }
     {
@@ -115,7 +117,7 @@ impl Header {
         ((self.word >> 16) & 0xffff) as u16
     }
 
-    /// The tag: 32 bits in edition one, 16 in edition two.
+    /// The tag: 32 bits in edition one, 16 bits in edition two.
     pub fn tag(self) -> u32
         ensures { result ≡ tag_of self }
     {
@@ -125,7 +127,7 @@ impl Header {
         }
     }
 
-    /// How many fields of a kind the object has: none of kind Header.
+    /// How many fields of this kind the object has. The header is no field: 0 for kind Header.
     pub fn count(self, kind: Kind) -> u16
         ensures count { result ≡ count_of kind self }
         ensures inside { first_of kind self + result ≤ size_of self }
@@ -138,7 +140,7 @@ impl Header {
         }
     }
 
-    /// Which word of the object the first field of a kind is, or would be: the header is word 0.
+    /// The offset, in words, at which the fields of this kind begin in the object. The header has offset 0.
     pub fn first(self, kind: Kind) -> u32
         ensures { result ≡ first_of kind self }
     {
@@ -150,7 +152,7 @@ impl Header {
         }
     }
 
-    /// The words of the object, its header among them: 1 to 131,071 in edition one, to 196,606 in edition two.
+    /// How many words the object has, with its header: 1 to 131,071 in edition one, 1 to 196,606 in edition two.
     pub fn size(self) -> u32
         ensures { result ≡ size_of self }
     {

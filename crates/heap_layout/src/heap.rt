@@ -10,9 +10,10 @@ use crate::fault::LayoutFault;
 use crate::header::Header;
 use std::marker::Model;
 
-/// A heap as a marking phase left it: from-space words that are a row of objects without gaps, the rising indices of the marked objects, and roots.
-/// Every root, and every reference of a marked object, is null or a marked object's address, and every weak word of one null or an object's address.
-/// From-space word `i` has the address `2^32 + i`.
+/// A heap as marking left it: the from-space words, the rising indices of the marked objects, and the roots. The words
+/// are objects side by side, without gaps. Every root, and every reference of a marked object, is null or the address
+/// of a marked object. Every weak word of a marked object is null or the address of an object. From-space word `i` has
+/// the address `2^32 + i`.
 #[derive(Debug, Drop)]
 pub struct MarkedHeap {
     edition: Edition,
@@ -33,7 +34,7 @@ impl Model for MarkedHeap {
 }
 
 impl MarkedHeap {
-    /// The heap of edition one of these words, marks and roots, as by `from_parts_of`.
+    /// Makes a heap of edition one from words, marks and roots, as `from_parts_of` does.
     pub fn from_parts(
         words: Vec<u64>,
         marks: Vec<u32>,
@@ -48,7 +49,8 @@ impl MarkedHeap {
         MarkedHeap::from_parts_of(Edition::One, words, marks, roots)
     }
 
-    /// The heap of this edition, of these words, marks and roots, where it is accepted, and else its first fault. It takes no memory.
+    /// Makes a heap of this edition from words, marks and roots. Err with the first fault if the heap is not accepted.
+    /// It does not allocate.
     pub fn from_parts_of(
         edition: Edition,
         words: Vec<u64>,
@@ -70,14 +72,14 @@ impl MarkedHeap {
         })
     }
 
-    /// By which layout the objects are read.
+    /// The layout by which the objects are read.
     pub fn edition(&self) -> Edition
         ensures { result ≡ self.now.edition }
     {
         self.edition
     }
 
-    /// The from-space words, index 0 first: the words of all objects, object by object.
+    /// The from-space words, from index 0 on: the words of all objects, one object after the other.
     pub fn words(&self) -> &[u64]
         ensures words { result.now ≡ self.now.words }
         ensures row { self.now.words ≡ flat_map words_of (objects self.now) }
@@ -86,7 +88,7 @@ impl MarkedHeap {
         &self.words
     }
 
-    /// The word at an index, read as a header. It asks for an index of a word.
+    /// The word at index `i`, read as a header. There must be a word at `i`.
     pub fn header_at(&self, i: usize) -> Header
         requires { i < length self.now.words }
         ensures { result ≡ header_at self.now.edition self.now.words i }
@@ -102,7 +104,7 @@ impl MarkedHeap {
         &self.marks
     }
 
-    /// The roots: each is null or a marked object's address.
+    /// The roots. Each is null or the address of a marked object.
     pub fn roots(&self) -> &[u64]
         ensures roots { result.now ≡ self.now.roots }
         ensures closed { IsClosed self.now }
@@ -110,7 +112,7 @@ impl MarkedHeap {
         &self.roots
     }
 
-    /// Whether a word is null or a marked object's address.
+    /// Whether a word is null or the address of a marked object.
     pub fn is_target(&self, reference: u64) -> bool
         ensures target { result ≡ is_target self.now.marks reference }
         ensures closed { IsClosed self.now }

@@ -1,4 +1,4 @@
-//! Reading an image, piece by piece.
+//! Reads an image, in pieces of bounded size.
 ghost use Rattle.std.specs.Prelude.{◌≡◌, ℕ, ◌+◌, ◌-◌, ◌*◌, ◌/◌, ◌%◌, ◌^◌, ◌<◌, ◌≤◌, ◌++◌, All, IfOk, IfErr, IfSome, OnOk, length, slice_index, vec_len, vec_capacity};
 ghost use Rattle.std.specs.Io.KnownBytes.{Consumes, IsAtEnd};
 ghost use Rattle.std.specs.List.{flat_map};
@@ -21,15 +21,15 @@ use std::io::Read;
 /// The first bytes of an image.
 pub const MAGIC: [u8; 8] = *b"COMPHEAP";
 
-/// How many numbers are fetched at once.
+// How many numbers are read in one piece.
 const PIECE: usize = 8_192;
 
-/// Reads the image of a heap, all that the reader has left, and answers the heap, or why there is none.
+/// Reads an image from all bytes that the reader has left. Answers its heap, or why it is refused.
 ///
-/// The magic is judged as soon as its 8 bytes are there, the version as soon as its 4 are, and the counts once all three are, whatever follows; then
-/// the numbers are read, then one byte more is asked for, and then the heap is judged as by `from_parts_of`. A call of the reader that answers an error
-/// ends the reading, an interrupted one too. After an Err the reader has lost what was read. It asks that fewer than `u64::MAX`
-/// calls of the reader have failed.
+/// The magic is checked as soon as its 8 bytes are read, the version after its 4 bytes, and the three counts after
+/// theirs, whatever follows. Then the numbers are read, then one byte more is asked for, and then the heap is checked
+/// as by `from_parts_of`. The first call of the reader that fails ends the reading, even if it was only interrupted.
+/// After an Err the bytes that were read are lost. Fewer than `u64::MAX` calls of the reader may have failed before.
 pub fn read_image<R: Read>(alloc: Global, r: &mut Counted<R>) -> Result<MarkedHeap, LayoutFault>
     requires { failures_of r.old < 2 ^ 64 - 1 }
     ensures image { IfOk result (λ heap. IfSome (R.remaining (inner_of r.old)) (λ bytes. bytes ≡ encoding heap)) }
@@ -55,7 +55,7 @@ struct Counts {
     roots: u32,
 }
 
-// Fills the buffer.
+// Fills the buffer, as `fill` does.
 fn read_part<R: Read>(r: &mut Counted<R>, buf: &mut [u8]) -> Result<(), LayoutFault>
     requires { failures_of r.old < 2 ^ 64 - 1 }
     ensures read { OnOk result (Consumes (R.remaining (inner_of r.old)) (R.remaining (inner_of r.new)) buf.new) }
@@ -70,7 +70,7 @@ fn read_part<R: Read>(r: &mut Counted<R>, buf: &mut [u8]) -> Result<(), LayoutFa
     }
 }
 
-// The magic and the version, which tells the edition.
+// Reads the magic and the version, and answers the edition of that version.
 fn read_magic<R: Read>(r: &mut Counted<R>) -> Result<Edition, LayoutFault>
     requires { failures_of r.old < 2 ^ 64 - 1 }
     ensures read { IfOk result (λ edition. Consumes (R.remaining (inner_of r.old)) (R.remaining (inner_of r.new)) (preamble edition)) }
@@ -90,7 +90,7 @@ fn read_magic<R: Read>(r: &mut Counted<R>) -> Result<Edition, LayoutFault>
     }
 }
 
-// The three counts, within their limits.
+// Reads the three counts. Err with `TooLarge` if one is above its limit.
 fn read_counts<R: Read>(r: &mut Counted<R>) -> Result<Counts, LayoutFault>
     requires { failures_of r.old < 2 ^ 64 - 1 }
     ensures read { IfOk result (λ found. Consumes (R.remaining (inner_of r.old)) (R.remaining (inner_of r.new))
@@ -112,7 +112,7 @@ fn read_counts<R: Read>(r: &mut Counted<R>) -> Result<Counts, LayoutFault>
     })
 }
 
-// As many words or roots as are wanted.
+// Reads `count` words or roots.
 fn read_words<R: Read>(
     alloc: Global,
     r: &mut Counted<R>,
@@ -138,7 +138,7 @@ fn read_words<R: Read>(
     Ok(words)
 }
 
-// As many marks as are wanted.
+// Reads `count` marks.
 fn read_marks<R: Read>(
     alloc: Global,
     r: &mut Counted<R>,
@@ -164,7 +164,7 @@ fn read_marks<R: Read>(
     Ok(marks)
 }
 
-// Adds the numbers that stand in the bytes, 8 bytes each; there is room.
+// Appends the numbers in these bytes, 8 bytes each. The vector must have room for them.
 fn push_words(words: &mut Vec<u64>, bytes: &[u8])
     requires whole { length bytes.now % 8 ≡ 0 }
     requires room { vec_len words.old + length bytes.now / 8 ≤ vec_capacity words.old }
@@ -178,7 +178,7 @@ fn push_words(words: &mut Vec<u64>, bytes: &[u8])
     }
 }
 
-// Adds the numbers that stand in the bytes, 4 bytes each; there is room.
+// Appends the numbers in these bytes, 4 bytes each. The vector must have room for them.
 fn push_marks(marks: &mut Vec<u32>, bytes: &[u8])
     requires whole { length bytes.now % 4 ≡ 0 }
     requires room { vec_len marks.old + length bytes.now / 4 ≤ vec_capacity marks.old }
@@ -192,7 +192,7 @@ fn push_marks(marks: &mut Vec<u32>, bytes: &[u8])
     }
 }
 
-// The reader has no byte left.
+// Checks that the reader has no byte left.
 fn expect_end<R: Read>(r: &mut Counted<R>) -> Result<(), LayoutFault>
     requires { failures_of r.old < 2 ^ 64 - 1 }
     ensures end { OnOk result (IsAtEnd (R.remaining (inner_of r.old))) }

@@ -1,4 +1,4 @@
-//! Parts of many bytes, read or written whole, by as many calls as the device wants.
+//! Reading and writing parts of many bytes whole, by as many calls as the device needs.
 ghost use Rattle.std.specs.Prelude.{◌≡◌, ℕ, ◌^◌, ◌-◌, ◌<◌, false, length, slice_index, IfErr, IfSome, OnErr, OnOk};
 ghost use Rattle.std.specs.Io.KnownBytes.{Appends, Consumes};
 ghost use Rattle.heap_layout.specs.Counted.{inner_of, failures_of, is_flushed_of, one_more, AppendsBeginning};
@@ -11,14 +11,14 @@ use std::io::{Error, ErrorKind, Read, Write};
 /// Why a part was not read whole.
 #[derive(Clone, Copy, Debug, PartialEq, Eq)]
 pub enum Cut {
-    /// The reader's bytes ended within it.
+    /// The bytes of the reader ended within it.
     Ended,
-    /// A call of the reader answered an error, an interrupted one too.
+    /// A call of the reader failed, even if it was only interrupted.
     Failed,
 }
 
-/// Fills the buffer. The first call of the reader that answers an error ends it. After an Err the reader has lost what was read, and the buffer holds
-/// some of it. It asks that fewer than `u64::MAX` calls of the reader have failed.
+/// Fills the buffer. The first call of the reader that fails ends it. After an Err the bytes that were read are lost,
+/// and the buffer holds some of them. Fewer than `u64::MAX` calls of the reader may have failed before.
 pub fn fill<R: Read>(r: &mut Counted<R>, buf: &mut [u8]) -> Result<(), Cut>
     requires { failures_of r.old < 2 ^ 64 - 1 }
     ensures read { OnOk result (Consumes (R.remaining (inner_of r.old)) (R.remaining (inner_of r.new)) buf.new) }
@@ -38,8 +38,8 @@ pub fn fill<R: Read>(r: &mut Counted<R>, buf: &mut [u8]) -> Result<(), Cut>
     Ok(())
 }
 
-/// Writes a whole part. The first call of the writer that fails ends it, an interrupted one too, and so does one that takes none of the part; what was
-/// taken before stays written.
+/// Writes a whole part. The first call of the writer that fails ends it, even if it was only interrupted, and also one
+/// that takes no byte. What was taken before stays written.
 pub fn write_whole<W: Write>(w: &mut Counted<W>, part: &[u8]) -> std::io::Result<()>
     ensures written { OnOk result (Appends (W.contents (inner_of w.old)) (W.contents (inner_of w.new)) part.now) }
     ensures begun { OnErr result (AppendsBeginning (W.contents (inner_of w.old)) (W.contents (inner_of w.new)) (is_flushed_of w.old) (is_flushed_of w.new) part.now) }

@@ -1,4 +1,4 @@
-//! The words that lead to some objects, each told in constant time.
+//! A set of objects, which answers in constant time whether a word leads to one of them.
 ghost use Rattle.std.specs.Prelude.{◌≡◌, ◌≢◌, ℕ, ◌^◌, ◌<◌, ◌≤◌, ◌||◌, false, [], All, length};
 ghost use Rattle.std.specs.List.{flat_map};
 ghost use Rattle.heap_layout.specs.Bits.{bit, leads};
@@ -11,10 +11,10 @@ use crate::edition::Edition;
 use crate::header::Header;
 use std::marker::Model;
 
-// Blocks of 64 bits, one bit for each word of the largest heap.
+// The number of blocks of 64 bits that have one bit for each word of the largest heap.
 const BLOCKS: usize = MOST_WORDS / 64;
 
-/// For each from-space word whether one of the objects starts there.
+/// A set of objects: one bit for each from-space word, set if one of the objects starts there.
 #[derive(Drop)]
 pub struct Targets {
     starts: [u64; BLOCKS],
@@ -29,14 +29,14 @@ impl Model for Targets {
 }
 
 impl Targets {
-    /// No object.
+    /// The empty set.
     pub fn none() -> Targets
         ensures { (i : ℕ) → bit result i ≡ false }
     {
         Targets { starts: zeros() }
     }
 
-    /// Adds the object at this index, if there is one. It asks for an index below 2^20.
+    /// Adds the object at index `i` if `there` is true. The index must be below 2^20.
     pub fn add_if(&mut self, there: bool, i: usize)
         requires { i < 2 ^ 20 }
         ensures here { bit self.new i ≡ (bit self.old i || there) }
@@ -45,7 +45,7 @@ impl Targets {
         set_if(&mut self.starts, there, i);
     }
 
-    /// The objects at these marks, in place of those before. It asks for marks below 2^20.
+    /// Puts the objects at these marks in place of those before. The marks must be below 2^20.
     pub fn put_marks(&mut self, marks: &[u32])
         requires { All (λ mark. mark < 2 ^ 20) marks.now }
         ensures { leads self.new ≡ is_target marks.now }
@@ -56,7 +56,8 @@ impl Targets {
         }
     }
 
-    /// All objects of a row, in place of those before. It asks for at most 2^20 words, which are objects without gaps.
+    /// Puts all objects of these words in place of those before. There must be at most 2^20 words, and they must be
+    /// objects side by side, without gaps.
     pub fn put_row(&mut self, edition: Edition, words: &[u64])
         requires few { length words.now ≤ 2 ^ 20 }
         requires row { flat_map (object_faults edition words.now) (starts edition words.now) ≡ [] }
@@ -70,7 +71,7 @@ impl Targets {
         }
     }
 
-    // No object any more.
+    // Takes all objects out.
     fn clear(&mut self)
         ensures { (i : ℕ) → bit self.new i ≡ false }
     {
@@ -81,14 +82,14 @@ impl Targets {
     pub fn has(&self, reference: u64) -> bool
         ensures { result ≡ leads self.now reference }
     {
-        // Without a branch on null, which is as likely as not.
+        // This does not branch on null: null is about as frequent as not.
         let i = reference.wrapping_sub(FROM_SPACE);
         let there = is_set(&self.starts, (i % MOST_WORDS as u64) as usize);
         (reference == 0) | ((i < MOST_WORDS as u64) & there)
     }
 }
 
-// Blocks in which no bit is set.
+// Blocks with no bit set.
 fn zeros<const N: usize>() -> [u64; N]
     ensures { (i : ℕ) → bit result i ≡ false }
 {

@@ -1,11 +1,11 @@
-//! The version of the images and dumps of an edition.
+//! The version numbers in images and dumps.
 ghost use Rattle.std.specs.Prelude.{◌≡◌, ◌≢◌, IfNone, IfSome};
 ghost use Rattle.heap_layout.specs.Versions.{version_of};
 ghost use Rattle.heap_layout.specs.declared.edition.Edition.{Edition as Editions};
 
 use crate::edition::Edition;
 
-/// The version of the images and dumps of an edition.
+/// The version number in images and dumps of this edition.
 pub fn version_of(edition: Edition) -> u32
     ensures { result ≡ version_of edition }
 {
@@ -15,7 +15,7 @@ pub fn version_of(edition: Edition) -> u32
     }
 }
 
-/// The edition whose images and dumps have this version. None where no edition has it.
+/// The edition that has this version number. None if no edition has it.
 pub fn edition_of(version: u32) -> Option<Edition>
     ensures found { IfSome result (λ edition. version_of edition ≡ version) }
     ensures none { IfNone result ((edition : Editions) → version_of edition ≢ version) }

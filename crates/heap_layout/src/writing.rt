@@ -1,4 +1,4 @@
-//! Writing the parts of images and dumps, and whole images.
+//! Writes whole images, and the parts that images and dumps share.
 ghost use Rattle.std.specs.Prelude.{◌≡◌, ◌-◌, ◌^◌, ◌<◌, ◌≤◌, IfErr, length};
 ghost use Rattle.std.specs.List.{flat_map};
 ghost use Rattle.heap_layout.specs.Counted.{inner_of, failures_of};
@@ -27,7 +27,7 @@ pub fn write_part<W: Write>(w: &mut Counted<W>, part: &[u8]) -> std::io::Result<
     }
 }
 
-/// A number of 4 bytes.
+/// Writes a number in 4 bytes, little-endian.
 pub fn write_four<W: Write>(w: &mut Counted<W>, n: u32) -> std::io::Result<()>
     ensures writes { Writes (W.contents (inner_of w.old)) (W.contents (inner_of w.new)) (four_bytes n) result }
     ensures counts { CountsOne (failures_of w.old) (failures_of w.new) result }
@@ -35,7 +35,7 @@ pub fn write_four<W: Write>(w: &mut Counted<W>, n: u32) -> std::io::Result<()>
     write_part(w, &n.to_le_bytes())
 }
 
-/// The version that tells the edition, in images and in dumps.
+/// Writes the version of the edition, as it stands in images and dumps.
 pub fn write_version<W: Write>(w: &mut Counted<W>, edition: Edition) -> std::io::Result<()>
     ensures writes { Writes (W.contents (inner_of w.old)) (W.contents (inner_of w.new)) (version edition) result }
     ensures counts { CountsOne (failures_of w.old) (failures_of w.new) result }
@@ -43,7 +43,7 @@ pub fn write_version<W: Write>(w: &mut Counted<W>, edition: Edition) -> std::io:
     write_four(w, version_of(edition))
 }
 
-/// At most 64 numbers of 8 bytes each, as one part.
+// Writes at most 64 numbers, 8 bytes each, as one part.
 fn write_some_words<W: Write>(w: &mut Counted<W>, words: &[u64]) -> std::io::Result<()>
     requires { length words.now ≤ 64 }
     ensures writes { Writes (W.contents (inner_of w.old)) (W.contents (inner_of w.new)) (flat_map eight_bytes words.now) result }
@@ -55,7 +55,7 @@ fn write_some_words<W: Write>(w: &mut Counted<W>, words: &[u64]) -> std::io::Res
     write_part(w, part)
 }
 
-/// Numbers of 8 bytes each, 64 of them at a time.
+/// Writes numbers of 8 bytes each, at most 64 in one part.
 pub fn write_words<W: Write>(w: &mut Counted<W>, words: &[u64]) -> std::io::Result<()>
     ensures writes { Writes (W.contents (inner_of w.old)) (W.contents (inner_of w.new)) (flat_map eight_bytes words.now) result }
     ensures counts { CountsOne (failures_of w.old) (failures_of w.new) result }
@@ -69,7 +69,7 @@ pub fn write_words<W: Write>(w: &mut Counted<W>, words: &[u64]) -> std::io::Resu
     Ok(())
 }
 
-/// Numbers of 4 bytes each.
+/// Writes numbers of 4 bytes each.
 pub fn write_numbers<W: Write>(w: &mut Counted<W>, numbers: &[u32]) -> std::io::Result<()>
     ensures writes { Writes (W.contents (inner_of w.old)) (W.contents (inner_of w.new)) (flat_map four_bytes numbers.now) result }
     ensures counts { CountsOne (failures_of w.old) (failures_of w.new) result }
@@ -80,7 +80,7 @@ pub fn write_numbers<W: Write>(w: &mut Counted<W>, numbers: &[u32]) -> std::io::
     Ok(())
 }
 
-/// All that stands before the words of an image.
+// Writes all that stands before the words in an image: the magic, the version and the counts.
 fn write_head<W: Write>(
     w: &mut Counted<W>,
     edition: Edition,
@@ -98,7 +98,7 @@ fn write_head<W: Write>(
     write_four(w, roots)
 }
 
-/// An image of these parts.
+// Writes the image of a heap with these parts.
 fn write_heap<W: Write>(
     w: &mut Counted<W>,
     edition: Edition,
@@ -123,8 +123,9 @@ fn write_heap<W: Write>(
     write_words(w, roots)
 }
 
-/// Writes the image of a heap, and takes no memory. The first call of the writer that fails ends the writing, an interrupted one too, and so does one that
-/// takes none of a part; what was taken before stays written, a beginning of the image. That it was sent on is not said: who writes an image flushes it.
+/// Writes the image of a heap, without allocating. The first call of the writer that fails ends the writing, even if it
+/// was only interrupted, and also one that takes no byte. What was taken before stays written: it is a beginning of the
+/// image. The image is not flushed: the caller does that.
 pub fn write_image<W: Write>(heap: &MarkedHeap, w: &mut Counted<W>) -> Result<(), LayoutFault>
     ensures writes { Writes (W.contents (inner_of w.old)) (W.contents (inner_of w.new)) (encoding heap.now) result }
     ensures counts { CountsOne (failures_of w.old) (failures_of w.new) result }

@@ -19,10 +19,12 @@ use heap_layout::Kind;
 use page_plan::Builder;
 
 impl<B: Builder> Cells<B> {
-    /// Writes one entry into the page that the pass has taken, and answers its stamp. After a header the start bit of the new object is set.
+    /// Writes one entry into the page that the pass has taken, and answers the entry's stamp. If the entry is a header,
+    /// the start bit of the new object is set too. Refusals: `JournalFull` if the journal has 1,024 entries, and
+    /// `OutOfMemory`. After either nothing has changed.
     ///
-    /// It asks that the pass was made with these cells, for an offset below 64, that such an entry may follow those of the page (`Fits`), and that what is
-    /// written into a reference or a weak field is null or a start that the pass knows.
+    /// Requires that the pass was made with these cells, an offset below 64, and that the entry may follow those of the
+    /// page (`Fits`). A value for a reference or weak field must be null or a start that the pass knows.
     pub fn append(
         &self,
         pass: &mut Pass,
@@ -59,7 +61,8 @@ impl<B: Builder> Cells<B> {
         Ok(self.write_reserved(pass, taken, draft))
     }
 
-    /// Writes an entry for which room is reserved, and after a header sets the start bit. It takes no memory.
+    // Writes an entry for which room is reserved, and sets the start bit if the entry is a header. It allocates no
+    // memory.
     fn write_reserved(&self, pass: &mut Pass, taken: &mut Taken, draft: Entry) -> u64
         requires of { IsPassOf self.now pass.old }
         requires has { Has self.now pass.old taken.old }

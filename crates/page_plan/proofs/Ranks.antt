@@ -1,4 +1,4 @@
--- How many objects start up to a place of the slid words, and so which object has a word: by the bits of the starts.
+-- How many objects start up to a slid word, and so which object has the word: by the object-start bits.
 use Rattle.std.proofs.Common.{◌≡◌, ◌≢◌, ℕ, zero, suc, ◌+◌, ◌-◌, ◌*◌, ◌/◌, ◌%◌, ◌^◌, ◌<◌, ◌≤◌, Bool, true, false, cond, Option, Some, None, List, [], ◌∷◌, ◌++◌, length, get_or, take, replicate, count_ones, refl, sym, ap, subst, ◌∙◌, inl, inr, ⊎_elim, arith, length-append}
 use Rattle.std.proofs.lemmas.Bool.{cases_Bool, cases_lt, cases_order, cases_eq, both_ways, false≢true}
 use Rattle.std.specs.Option.{is_some}
@@ -25,7 +25,7 @@ words-rise [] (suc j) (suc k) le = omega arith
 words-rise (object ∷ objects) (suc j) (suc k) le =
     omega (arith, live_words-cons object (take j objects), live_words-cons object (take k objects), words-rise objects j k (omega (arith, le)))
 
--- and each object has words of its own
+-- each object has a word
 own-words : (objects : List Object) (k : ℕ) → k < length objects → live_words (take k objects) < live_words (take (k + 1) objects)
 own-words [] k lt = absurd (omega (arith, lt))
 own-words (object ∷ objects) zero lt = omega (arith, live_words-cons object [])
@@ -33,15 +33,15 @@ own-words (object ∷ objects) (suc k) lt =
     let one : suc k + 1 ≡ suc (k + 1) = omega arith in
     rw one (omega (arith, live_words-cons object (take k objects), live_words-cons object (take (k + 1) objects), own-words objects k (omega (arith, lt))))
 
--- so an object starts among the live words
+-- an object starts among the live words
 pub start-within : (objects : List Object) (k : ℕ) → k < length objects → live_words (take k objects) < live_words objects
 start-within objects k lt = omega (arith, own-words objects k lt, sum_by-take-le size objects (k + 1))
 
--- an object has its first word
+-- an object has its own first word
 pub start-covers : (objects : List Object) (k : ℕ) → k < length objects → Covers objects (live_words (take k objects)) k
 start-covers objects k lt = record { known = lt; begun = omega arith; ends = own-words objects k lt }
 
--- each live word is some object's
+-- each live word belongs to an object
 pub covered : (objects : List Object) (n : ℕ) → n < live_words objects → (k : ℕ) × Covers objects n k
 covered [] n lt = absurd (omega (arith, lt))
 covered (object ∷ objects) n lt =
@@ -60,7 +60,7 @@ covered (object ∷ objects) n lt =
     ))
     (cases_lt n (size object))
 
--- and no other's
+-- each live word belongs to one object only
 pub one-covers : (objects : List Object) (n j k : ℕ) → Covers objects n j → Covers objects n k → j ≡ k
 one-covers objects n j k a b =
     elim (cases_order j k) [
@@ -82,7 +82,7 @@ until-first bits p =
     omega (arith, passing-block bits p 1 (omega arith), ones-halves block 0, no_bits, ap count_ones none)
 
 module _ (objects : List Object) (bits : List ℕ) (are : AreStarts objects bits) where
-  -- none starts at the other words of an object
+  -- no object starts at the other words of an object
   no-start : (n k j : ℕ) → Covers objects n k → live_words (take k objects) < j → j ≤ n → bit bits j ≡ false
   no-start n k j covers above le =
       elim (cases_Bool (bit bits j)) [
@@ -95,7 +95,8 @@ module _ (objects : List Object) (bits : List ℕ) (are : AreStarts objects bits
         | inr fails ↦ fails
       ]
 
-  -- as many objects start up to a word as its object's number, and one more, if as many start before that object
+  -- the number of objects that start up to a word is 1 more than the number of its object, if that holds for the
+  -- objects before
   started-from : (n k : ℕ) → Covers objects n k → length (passing (bit bits) (live_words (take k objects))) ≡ k → length (passing (bit bits) (suc n)) ≡ suc k
   started-from n k covers before =
       let start = live_words (take k objects) in
@@ -116,7 +117,7 @@ module _ (objects : List Object) (bits : List ℕ) (are : AreStarts objects bits
       let e : suc (start - 1) ≡ start = omega (arith, own) in
       started-from n (suc k) covers (ap (λ (m : ℕ). length (passing (bit bits) m)) (sym e) ∙ last)
 
-  -- the object that has a word, by the first one of the page and the starts behind the page's first word
+  -- the object of a word: the object of the first word of its page, and one more for each start after that word
   pub number-found : (n f k : ℕ) → Covers objects (64 * (n / 64)) f → Covers objects n k → f + count_ones (get_or bits (n / 64) 0 / 2 % 2 ^ (n % 64)) ≡ k
   number-found n f k first covers =
       let p = n / 64 in
@@ -135,13 +136,13 @@ module _ (objects : List Object) (bits : List ℕ) (are : AreStarts objects bits
         ones-halves block o,
       )
 
--- the bits of the starts of the first k objects are set, and no others
+-- the start bits of the first k objects are set, and no others
 pub record AreStartsOf (objects : List Object) (k : ℕ) (bits : List ℕ) : Type 0 where
   pub long : length bits ≡ pages objects
   pub there : (j : ℕ) → j < k → bit bits (live_words (take j objects)) ≡ true
   pub only : (i : ℕ) → bit bits i ≡ true → (j : ℕ) × (j < k) × (i ≡ live_words (take j objects))
 
--- of zeros none is set
+-- no bit of zeros is set
 pub starts-none : (objects : List Object) (n : ℕ) → n ≡ pages objects → AreStartsOf objects 0 (replicate n 0)
 starts-none objects n long = record {
   long = length-replicate {A = ℕ} n 0 ∙ long;
@@ -171,7 +172,7 @@ starts-next objects k old new place are at long here others = record {
   ];
 }
 
--- all objects, once none is left
+-- all objects
 pub starts-all : (objects : List Object) (k : ℕ) (bits : List ℕ) → k ≡ length objects → AreStartsOf objects k bits → AreStarts objects bits
 starts-all objects k bits last are = record {
   long = are.long;
@@ -179,7 +180,7 @@ starts-all objects k bits last are = record {
   only = λ i holds. let s = are.only i holds in (s.0, omega (arith, s.1, last), s.2);
 }
 
--- the numbers of the objects that have the first words of the first p pages, before which so many objects start
+-- the numbers of the objects that have the first words of the first p pages; `before` objects start before page p
 pub record AreFirstTo (bits : List ℕ) (p before : ℕ) (firsts : List ℕ) : Type 0 where
   pub long : length firsts ≡ p
   pub count : before ≡ length (passing (bit bits) (64 * p))
@@ -214,7 +215,7 @@ firsts-next bits firsts p before block first are small here told =
       ];
     }
 
--- once no page is left
+-- all pages
 pub firsts-all : (bits firsts : List ℕ) (p before : ℕ) → length bits ≤ p → AreFirstTo bits p before firsts → p ≤ length bits
     → (objects : List Object) → AreStarts objects bits → AreFirst objects firsts
 firsts-all bits firsts p before all are within objects starts = record {
@@ -227,12 +228,12 @@ firsts-all bits firsts p before all are within objects starts = record {
       subst (λ (n : ℕ). Covers objects (64 * q) n) (sym number) covers;
 }
 
--- an option that is some has a value
+-- if is_some holds, there is a value
 value_of : (found : Option Head) → is_some found ≡ true → (header : Head) × (found ≡ Some header)
 value_of None some = absurd (false≢true some)
 value_of (Some header) some = (header, refl)
 
--- the bit of a place tells whether an object starts there
+-- the start bit of a word says whether an object starts there
 pub start-told : (objects : List Object) (bits : List ℕ) → AreStarts objects bits → (place address : ℕ) → address ≡ 2 ^ 33 + place → bit bits place ≡ is_some (shape_at objects address)
 start-told objects bits are place address at =
     elim (shape_at objects address) as (λ found. shape_at objects address ≡ found → bit bits place ≡ is_some found) [
@@ -251,14 +252,14 @@ start-told objects bits are place address at =
           ap (bit bits) e ∙ are.there only.0 only.1
     ] refl
 
--- an address at which an object starts is that of a live word
+-- if an object starts at an address, the address is that of a live word
 pub start-live : (objects : List Object) (address : ℕ) → is_some (shape_at objects address) ≡ true → (2 ^ 33 ≤ address) × (address - 2 ^ 33 < live_words objects)
 start-live objects address some =
     let is = value_of (shape_at objects address) some in
     let only = place-only objects address is in
     (omega (arith, only.2), omega (arith, only.2, start-within objects only.0 only.1))
 
--- and the object that has that word starts there
+-- if an object starts at an address, it is the object that has the word there
 pub start-at : (objects : List Object) (address number : ℕ) → is_some (shape_at objects address) ≡ true → Covers objects (address - 2 ^ 33) number
     → address ≡ 2 ^ 33 + live_words (take number objects)
 start-at objects address number some covers =

@@ -12,8 +12,9 @@ use std::alloc::Global;
 use std::marker::Model;
 use std::thread::Threads;
 
-/// The plan of a compaction by sliding (Kermany and Petrank, 2006): where each live object goes, and each page of the result by itself. To-space word
-/// `i` has the address `2^33 + i`.
+/// The plan of a sliding compaction: the forwarding address of each live object, and each page of the result on its
+/// own. To-space word `i` has the address `2^33 + i`. The algorithm is that of the Compressor (Kermany and Petrank,
+/// 2006).
 #[derive(Debug, Drop)]
 pub struct Plan {
     heap: MarkedHeap,
@@ -34,7 +35,7 @@ impl Model for Plan {
 }
 
 impl Plan {
-    /// The plan for this heap.
+    /// Makes the plan of this heap. Err if out of memory.
     pub fn new(
         alloc: Global,
         rt: &(impl Threads + Sync),
@@ -60,7 +61,7 @@ impl Plan {
         &self.heap
     }
 
-    /// The tables of the heap.
+    /// The mark bitmap and offset vector of the heap.
     pub(crate) fn tables(&self) -> &Tables
         ensures indices { result.now ≡ live_indices (live self.now) }
         ensures closed { IsClosed self.now }
@@ -68,7 +69,7 @@ impl Plan {
         &self.tables
     }
 
-    /// For each page the number of the live object that has its first word.
+    /// The first-object table: for each page, the number of the live object that has its first word.
     pub(crate) fn first_objects(&self) -> &[u32]
         ensures first { AreFirst (live self.now) result.now }
         ensures closed { IsClosed self.now }
@@ -76,7 +77,8 @@ impl Plan {
         &self.first_objects
     }
 
-    /// One bit for each slid word, a block of 64 for each page: set where an object starts.
+    /// The object-start bits: one bit for each slid word, a block of 64 for each page. A bit is set if an object starts
+    /// at its word.
     pub(crate) fn starts(&self) -> &[u64]
         ensures starts { AreStarts (live self.now) result.now }
         ensures closed { IsClosed self.now }
@@ -92,7 +94,7 @@ impl Plan {
         self.tables().live_words()
     }
 
-    /// How many pages of 64 words they fill, the last one perhaps in part.
+    /// How many pages of 64 words the slid words fill. The last page may be filled in part.
     pub fn pages(&self) -> u64
         ensures pages { result ≡ pages (live self.now) }
         ensures few { result ≤ 2 ^ 14 }
@@ -100,7 +102,7 @@ impl Plan {
         self.live_words().div_ceil(64)
     }
 
-    /// The from-space index of the first live object that has a word on page `p`; None past the last page.
+    /// The from-space index of the first live object with a word on page `p`. None if there is no page `p`.
     pub fn first_object(&self, p: u64) -> Option<u64>
         ensures { result ≡ first_object (live self.now) p }
     {
@@ -111,7 +113,7 @@ impl Plan {
         Some(u64::from(self.heap.marks()[number]))
     }
 
-    /// Whether a slid object starts at an address. It takes constant time.
+    /// Whether a slid object starts at this address. Takes constant time.
     pub fn is_start(&self, address: u64) -> bool
         ensures { result ≡ is_some (shape_at (live self.now) address) }
     {
@@ -125,7 +127,7 @@ impl Plan {
         is_set(self.starts(), place as usize)
     }
 
-    /// The header of the slid object that starts at an address; None where none starts there. It takes constant time.
+    /// The header of the slid object that starts at this address. None if no object starts there. Takes constant time.
     pub fn shape_at(&self, address: u64) -> Option<Header>
         ensures shape { result ≡ shape_at (live self.now) address }
         ensures above { IfSome result (λ _. to_address 0 ≤ address) }
@@ -139,7 +141,8 @@ impl Plan {
         Some(self.heap().header_at(start as usize))
     }
 
-    /// Where a reference leads after sliding: 0 for 0, the to-space address for a live object's address, None for all else. It takes constant time.
+    /// Forwards a reference: 0 to 0, the address of a live object to its forwarding address. None for every other word.
+    /// Takes constant time.
     pub fn forward(&self, reference: u64) -> Option<u64>
         ensures { result ≡ forward (live self.now) reference }
     {
@@ -149,7 +152,7 @@ impl Plan {
         if reference < FROM_SPACE {
             return None;
         }
-        // The place of a live word is a start where the word is its object's first one.
+        // A live word is the first word of its object if the start bit at its to-space index is set.
         let place = self.tables().new_place(reference - FROM_SPACE)?;
         if is_set(self.starts(), place as usize) {
             Some(TO_SPACE + place)
@@ -158,14 +161,15 @@ impl Plan {
         }
     }
 
-    /// Where the roots lead after sliding.
+    /// The forwarded roots, in their order. Err if they can not be allocated.
     pub fn forward_roots(&self, alloc: Global) -> Result<Vec<u64>, OutOfMemory>
         ensures { IfOk result (λ roots. map (λ place. Some place) roots.items ≡ map (forward (live self.now)) self.now.roots) }
     {
         Ok(places::places_of(alloc, self, self.heap.roots())?)
     }
 
-    /// Page `p`, which is below `pages()`: its 64 words, with zeros behind the last live word.
+    /// Builds page `p`: its 64 words, with zeros after the last slid word. `p` must be below `pages()`. Err if out of
+    /// memory.
     pub fn build_page(&self, alloc: Global, p: u64) -> Result<PageWords, OutOfMemory>
         requires { p < pages (live self.now) }
         ensures page { IfOk result (λ words. words ≡ page (live self.now) p) }
@@ -181,7 +185,8 @@ impl Plan {
         Ok(page)
     }
 
-    /// What each of the 64 words of page `p`, which is below `pages()`, is; None behind the last live word. Takes no memory.
+    /// What each of the 64 words of page `p` is. None after the last slid word. `p` must be below `pages()`. Does not
+    /// allocate.
     pub fn page_kinds(&self, p: u64) -> [Option<Kind>; 64]
         requires { p < pages (live self.now) }
         ensures { (offset : ℕ) → offset < 64 → slice_index_or result offset None ≡ kind (live self.now) (64 * p + offset) }

@@ -1,4 +1,4 @@
-//! Where the slid objects start, and which of them has a word: one bit for each slid word, a block of 64 for each page.
+//! The object-start bits of the slid words: one bit for each slid word, a block of 64 for each page.
 ghost use Rattle.std.specs.Prelude.{◌≡◌, ◌/◌, ◌%◌, ◌^◌, ◌<◌, count_ones, IfOk};
 ghost use Rattle.heap_layout.specs.Heap.{live, IsClosed};
 ghost use Rattle.mark_tables.specs.LiveWords.{live_indices};
@@ -10,7 +10,8 @@ use heap_layout::{MarkedHeap, set};
 use mark_tables::Tables;
 use std::alloc::{AllocError, Global};
 
-/// The bits of the slid words: that of a word is set where an object starts. It asks for the tables of the heap.
+/// The object-start bits: the bit of a slid word is set if an object starts there. The tables must be those of the
+/// heap. Err if they can not be allocated.
 pub fn start_bits(alloc: Global, heap: &MarkedHeap, tables: &Tables) -> Result<Vec<u64>, AllocError>
     requires { tables.now ≡ live_indices (live heap.now) }
     ensures starts { IfOk result (λ bits. AreStarts (live heap.now) bits.items) }
@@ -24,7 +25,8 @@ pub fn start_bits(alloc: Global, heap: &MarkedHeap, tables: &Tables) -> Result<V
     Ok(bits)
 }
 
-/// The number of the live object that has the slid word at this place: that of the page's first one, and one more for each start behind the page's first word.
+/// The number of the live object that has the slid word with the to-space index `place`: that of the first object of
+/// its page, and one more for each start from the second word of the page up to this word.
 pub fn number_at(plan: &Plan, place: u64) -> usize
     requires { place < live_words (live plan.now) }
     ensures { Covers (live plan.now) place result }
@@ -34,7 +36,7 @@ pub fn number_at(plan: &Plan, place: u64) -> usize
     plan.first_objects()[page] as usize + behind as usize
 }
 
-// How many bits of a block are set up to this one, its first one left out.
+// How many bits of a block are set from bit 1 up to and including bit `offset`.
 fn starts_behind(block: u64, offset: u64) -> u32
     requires { offset < 64 }
     ensures { result ≡ count_ones (block / 2 % 2 ^ offset) }

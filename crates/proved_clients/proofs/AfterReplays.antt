@@ -1,4 +1,4 @@
--- What is known at the end of a read that was made before a trace was replayed.
+-- What is known at the end about a read that was made before a trace was replayed.
 use Rattle.std.proofs.Common.{◌≡◌, ℕ, ◌<◌, List, length, map, set, sym, ap, subst, ◌∙◌, ⊎_elim, arith, get_or-set_same, length-set}
 use mathlib.Core.Option.{some}
 use lib.ListN.{get_elem?}
@@ -24,11 +24,11 @@ use Rattle.comp_trace.proofs.Elements.{at_or}
 use Rattle.comp_trace.proofs.MetPairs.{each_set}
 use Rattle.proved_clients.specs.Histories.{StandsInHistory}
 
--- what was put at a place stands there
+-- a list has the element that was put at a place
 pub set_there : {A : Type 0} (l : List A) (k : ℕ) (x : A) → k < length l → get_elem? (set l k x) k ≡ some x
 set_there l k x lt = at_or (set l k x) k x (omega (arith, length-set l k x, lt)) ∙ ap some (get_or-set_same l k x x lt)
 
--- they are all mutators still, where one of them made a call
+-- all are still mutators of the space if one of them made a call
 pub all_set : {L : Type 0} {B : Type 0} {g : Ghosts B} (space : Space L B g) (mutators : List (Mutator L)) (k : ℕ) (old new : Mutator L) → AreAll space mutators → get_elem? mutators k ≡ some old
     → IsMutatorOf space new → number_of_mutator new ≡ number_of_mutator old → AreAll space (set mutators k new)
 all_set space mutators k old new all there of same = record {
@@ -40,11 +40,11 @@ all_set space mutators k old new all there of same = record {
       (at_set mutators k j new m at);
 }
 
--- they stand in the order of their numbers
+-- they are in the order of their numbers
 pub row_of : {L : Type 0} {B : Type 0} {g : Ghosts B} (space : Space L B g) (mutators : List (Mutator L)) → AreAll space mutators → IsRow (setup_of space).mutators mutators mutators
 row_of space mutators all = record { count = all.count; numbers = all.numbers; given = λ k m at. (k, at) }
 
--- what a mutator read before is read in the one history
+-- a read that a mutator made before stands in the one history
 pub still_reads : {L : Type 0} (u : Setup) (before after : List (Mutator L)) (k : ℕ) (m : Mutator L) (f : Finished) (kind : Kind) (object field word : ℕ) → get_elem? before k ≡ some m → k < length before
     → AreLater before after → IsFinished u (map pass_of after) f → Reads u (seen (pass_of m)) kind object field word → StandsInHistory u f kind object field word
 still_reads u before after k m f kind object field word at lt later end read =

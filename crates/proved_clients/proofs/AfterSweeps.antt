@@ -1,4 +1,4 @@
--- What is known at the end of mutators that swept.
+-- What is known at the end about mutators that swept.
 use Rattle.std.proofs.Common.{ℕ, List, map, IsSome, sym, ◌∙◌}
 use Rattle.std.proofs.lemmas.List.{length-map}
 use Rattle.std.proofs.lemmas.Slice.Zip.{AllZip-long}
@@ -17,7 +17,7 @@ use Rattle.comp_sweep.specs.Sweeps.{HandsBack, SomeSeesBuilt, Sweeps}
 use Rattle.comp_sweep.proofs.Told.{beside}
 
 module _ {L B : Type 0} {g : Ghosts B} (space : Space L B g) (n : ℕ) (given back : List (Mutator L)) (new : AreNew (steps_of (cells_of space)) n (map pass_of given)) (h : HandsBack space given back) where
-  -- they stand in the order of their numbers
+  -- they are in the order of their numbers
   pub still_row : IsRow n back back
   still_row = record {
     count = AllZip-long (Sweeps space) given back h ∙ (sym (length-map given pass_of) ∙ new.count);
@@ -25,6 +25,6 @@ module _ {L B : Type 0} {g : Ghosts B} (space : Space L B g) (n : ℕ) (given ba
     given = λ k m at. (k, at);
   }
 
--- a page that one of them has seen built is there
+-- a page that one of them has seen built exists
 pub there : {L : Type 0} (u : Setup) (back : List (Mutator L)) (f : Finished) (p : ℕ) → SomeSeesBuilt back p → IsFinished u (map pass_of back) f → IsSome (page_at (pages_of f) p)
 there u back f p sees end = end.pages.known sees.1.0 (pass_of sees.0) (at_map pass_of back sees.1.0 sees.0 sees.1.1) p sees.2

@@ -12,11 +12,11 @@ use Rattle.page_cells.specs.Calls.{Grows, Meets}
 use Rattle.page_cells.proofs.Growing.{begins_then}
 use Rattle.page_cells.proofs.Meetings.{nothing_new, between}
 
--- what a pass remembers of all pages
+-- what a pass remembers about all pages
 abbrev pub RemembersAll : Setup → Pass → Type 0
 RemembersAll u pass = (p : ℕ) → Remembers u u.mutators pass p (seen pass p)
 
--- Of two passes the first, a, and the second, b, met; b made a call that wrote nothing; and they met again.
+-- Two passes, a and b, met; b made a call that wrote nothing; and they met again.
 pub record MeetTwice (u : Setup) (a met_a last_a b met_b read last_b : Pass) : Type 0 where
   pub two : u.mutators ≡ 2
   pub first : number_of a ≡ 0
@@ -35,7 +35,7 @@ pub record MeetTwice (u : Setup) (a met_a last_a b met_b read last_b : Pass) : T
   pub last_remembers_b : RemembersAll u last_b
 
 module _ (u : Setup) (a met_a last_a b met_b read last_b : Pass) (s : MeetTwice u a met_a last_a b met_b read last_b) where
-  -- no writer has more entries in what they have seen in the end
+  -- in the end no writer has more entries in what they have seen
   same_by : (p k : ℕ) → by k (seen last_b p) ≡ by k (seen met_b p)
   same_by p k = dite (ℕ_discrete k 0)
       (λ zero_.
@@ -52,12 +52,12 @@ module _ (u : Setup) (a met_a last_a b met_b read last_b : Pass) (s : MeetTwice 
       let last : number_of last_a ≡ 0 = s.again_a.grows.number ∙ first in
       ap (by k) (sym (s.same_again p)) ∙ (s.last_remembers_a p).strangers last k (omega (arith, s.two)) ∙ sym ((s.remembers_a p).strangers first k (omega (arith, s.two))) ∙ ap (by k) (s.same p)))
 
-  -- so the call saw nothing new
+  -- the call saw nothing new
   saw_nothing : (p : ℕ) → seen read p ≡ seen met_b p
   saw_nothing p =
       let end = begins_then (seen met_b p) (seen read p) (seen last_b p) (s.grows.seen p) (s.again_b.grows.seen p) in
       between (seen met_b p) (seen read p) (seen last_b p) (s.grows.seen p) (s.again_b.grows.seen p) (nothing_new (seen met_b p) (seen last_b p) end (same_by p))
 
-  -- where the first had seen all that the second had, the call saw what the first had seen when they met
+  -- if the first had seen all that the second had, the call saw what the first had seen when they met
   pub sees_what_it_met : ((p : ℕ) → StartsWith (seen a p) (seen b p)) → (p : ℕ) → seen read p ≡ seen a p
   sees_what_it_met all p = saw_nothing p ∙ s.meets_b.seen p ∙ longer_whole (seen b p) (seen a p) (all p)

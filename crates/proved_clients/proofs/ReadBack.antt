@@ -1,4 +1,4 @@
--- What a mutator that is alone reads.
+-- What a mutator alone reads.
 use Rattle.std.proofs.Common.{◌≡◌, ℕ, ◌+◌, ◌<◌, ◌==◌, Bool, true, false, cond, List, [], ◌∷◌, ◌++◌, get_or, Some, None, Result, Ok, Err, IfOk, refl, sym, ap, ◌∙◌, arith, eqb-true}
 use Rattle.std.specs.Prelude.{◌^◌, nat_lt}
 use Rattle.page_plan.specs.Header.{data_of, header_of, header_with, header_word, refs_of, size_of, weak_header_word, weak_of, Head}
@@ -20,21 +20,21 @@ use Rattle.comp_mutator.specs.Reads.{Reads}
 use Rattle.comp_mutator.specs.Writes.{entry_by, Writes}
 use Rattle.comp_mutator.specs.Refusal.{Refusal}
 
--- what holds of two answers holds where both are Ok
+-- what holds for two answers holds if both are Ok
 pub both_ok : (s w : Result ℕ Refusal) (P Q R : ℕ → Type 0) → IfOk s P → IfOk w Q → ((a b : ℕ) → P a → Q b → R b) → IfOk s (λ a. IfOk w R)
 both_ok (Ok a) (Ok b) P Q R h k f = f a b h k
 both_ok (Ok a) (Err e) P Q R h k f = tt
 both_ok (Err e) w P Q R h k f = tt
 
--- a field has one place, in what one pass has seen and in what another has
+-- a field has the same place in what one pass has seen and in what another has
 abbrev pub HaveOnePlace : Setup → Pass → Pass → Kind → ℕ → ℕ → Type 0
 HaveOnePlace u a b kind object field = (place other : ℕ) → IsFieldOf u (seen a) kind object field place → IsFieldOf u (seen b) kind object field other → other ≡ place
 
--- a word is what was written there last
+-- a word is what was last written there
 abbrev pub IsLastWritten : Setup → Type 0
 IsLastWritten u = (p : ℕ) (journal : List Entry) (e : Entry) → e.offset < 64 → get_or (replayed (base_of u p) (journal ++ e ∷ [])) e.offset 0 ≡ e.value
 
--- what is read once nothing more was seen is what was written
+-- a read answers what was written before it, if nothing more was seen in between
 pub reads_back : (u : Setup) (old wrote read : Pass) (kind : Kind) (object field value stamp word : ℕ) → ((p : ℕ) → seen read p ≡ seen wrote p) → HaveOnePlace u wrote read kind object field
     → IsLastWritten u → Writes u old wrote kind object field value stamp → Reads u (seen read) kind object field word → word ≡ value
 reads_back u old wrote read kind object field value stamp word same one last w r =
@@ -43,7 +43,7 @@ reads_back u old wrote read kind object field value stamp word same one last w r
     r.word_is ∙ ap (word_at u (seen read)) (one w.place r.place w.field_of r.field_of)
     ∙ ap (λ journal. get_or (replayed (base_of u p) journal) (offset_at w.place) 0) (same p ∙ w.adds.seen) ∙ last p w.adds.journal e (omega arith)
 
--- An object was made that has so many words of each kind.
+-- An object was made with these numbers of words of each kind.
 pub record IsMade (u : Setup) (old made : Pass) (refs weak data_words object : ℕ) : Type 0 where
   pub header : Head
   pub refs_are : refs_of header ≡ refs
@@ -58,7 +58,7 @@ where_so u old made refs weak data_words object header true counts h =
     record { header = header; refs_are = are.0; weak_are = are.1; data_are = are.2; allocates = h }
 where_so u old made refs weak data_words object header false counts h = absurd h
 
--- one that was asked for has the words that were asked for
+-- an object that was asked for has the words that were asked for
 pub is_made : (u : Setup) (old made : Pass) (edition : Edition) (refs weak data_words tag object : ℕ) → refs < 2 ^ 16 → weak < 2 ^ 16 → data_words < 2 ^ 16
     → AllocatesAsked u old made (header_with edition refs weak data_words tag) object → IsMade u old made refs weak data_words object
 is_made u old made One refs weak data_words tag object r w d h =
@@ -68,11 +68,11 @@ is_made u old made Two refs weak data_words tag object r w d h =
     where_so u old made refs weak data_words object (header_of Two (weak_header_word refs weak data_words tag)) (nat_lt tag (2 ^ 16))
     (λ small. (omega (arith, r, w, d), omega (arith, r, w, d), omega (arith, r, w, d))) h
 
--- where there is one field, there is the first
+-- if there is one field, there is the first
 pub first_there : (n : ℕ) → n ≡ 1 → 0 < n
 first_there n one = omega (arith, one)
 
--- a field stands behind the header
+-- a field comes after the header
 behind : (kind : Kind) (header : Head) (field : ℕ) → field < count_of kind header → 0 < first_of kind header + field
 behind Header header field inside = absurd (omega arith)
 behind Reference header field inside = omega arith
@@ -80,7 +80,7 @@ behind Weak header field inside = omega arith
 behind Data header field inside = omega arith
 
 module _ (u : Setup) (old made read : Pass) (refs weak data_words object : ℕ) (same : (p : ℕ) → seen read p ≡ seen made p) (is : IsMade u old made refs weak data_words object) where
-  -- each word behind the header of a new object is 0
+  -- each word after the header of a new object is 0
   word_behind : (distance place word : ℕ) → 0 < distance → distance < size_of is.header → place ≡ object + distance → word ≡ word_at u (seen read) place → word ≡ 0
   word_behind distance place word more less at word_is =
       let a = is.allocates in
@@ -92,7 +92,7 @@ module _ (u : Setup) (old made read : Pass) (refs weak data_words object : ℕ) 
       word_is ∙ ap (λ q. get_or (replayed (base_of u q) (seen read q)) (offset_at place) 0) page ∙ ap (λ o. get_or (replayed (base_of u p) (seen read p)) o 0) there
       ∙ ap (λ journal. get_or (replayed (base_of u p) journal) (offset + distance) 0) (same p) ∙ a.zero (offset + distance) (omega (arith, more)) (omega (arith, less))
 
-  -- each field of a new object is null, or 0
+  -- each field of a new object is null or 0
   pub new_field : HasShape u (seen made) object is.header → (kind : Kind) (field word : ℕ) → field < count_of kind is.header → HaveOnePlace u made read kind object field
       → Reads u (seen read) kind object field word → word ≡ 0
   new_field shape kind field word inside one r =

@@ -8,7 +8,7 @@ use Rattle.comp_mutator.specs.Reads.{Reads}
 use Rattle.comp_mutator.specs.Finishes.{history_of}
 use Rattle.comp_mutator.specs.Finished.{Finished}
 
--- The word is the one of the object's field where each page has a beginning of what the one history writes to it.
+-- The word is that of the object's field when each page has a beginning of what the one history writes to it.
 pub record StandsInHistory (u : Setup) (f : Finished) (kind : Kind) (object field word : ℕ) : Type 0 where
   pub seen : Journals
   pub begins : (p : ℕ) → StartsWith (on p (history_of u f)) (seen p)

@@ -1,4 +1,4 @@
-//! What a mutator that is alone reads of what it wrote and made.
+//! What a mutator alone reads of what it wrote and made.
 ghost use Rattle.std.specs.Prelude.{◌≡◌, IfOk};
 ghost use Rattle.comp_mutator.specs.Mutators.{setup_of, IsMutatorOf};
 
@@ -6,7 +6,7 @@ use comp_mutator::{Builder, Mutator, Refusal, Space};
 use std::alloc::Global;
 use std::sync::ledger::Ledger as Named;
 
-// Writes a value into a data field and reads the field: where both are done, the word is the value.
+// Writes a value into a data field and reads the field. If both succeed, the word is the value.
 fn write_and_read<L: Named, B: Builder>(
     alloc: Global,
     space: &Space<L, B>,
@@ -27,7 +27,7 @@ fn write_and_read<L: Named, B: Builder>(
     (stamp, word)
 }
 
-/// Writes null or a start into a weak field and reads the field: where both are done, the word is what was written.
+/// Writes null or a start into a weak field and reads the field. If both succeed, the word is what was written.
 pub fn write_weak_and_read<L: Named, B: Builder>(
     alloc: Global,
     space: &Space<L, B>,
@@ -48,7 +48,7 @@ pub fn write_weak_and_read<L: Named, B: Builder>(
     (stamp, word)
 }
 
-/// Writes 7 into a data field and reads the field: where both are done, the word is 7.
+/// Writes 7 into a data field and reads the field. If both succeed, the word is 7.
 pub fn write_seven_and_read<L: Named, B: Builder>(
     alloc: Global,
     space: &Space<L, B>,
@@ -65,7 +65,7 @@ pub fn write_seven_and_read<L: Named, B: Builder>(
     word
 }
 
-/// Makes an object of one reference and one data word and reads both fields: where they are read, they are null and 0.
+/// Makes an object of one reference and one data word and reads both fields. If the reads succeed, they are null and 0.
 pub fn make_and_read<L: Named, B: Builder>(
     alloc: Global,
     space: &Space<L, B>,
@@ -86,7 +86,7 @@ pub fn make_and_read<L: Named, B: Builder>(
     Ok((reference, data))
 }
 
-/// Makes an object of one weak word and reads it: where it is read, it is null.
+/// Makes an object of one weak word and reads it. If the read succeeds, it is null.
 pub fn make_weak_and_read<L: Named, B: Builder>(
     alloc: Global,
     space: &Space<L, B>,

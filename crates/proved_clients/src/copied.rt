@@ -1,4 +1,4 @@
-//! What a mutator may do with a page that it copied or read, whoever else is at work.
+//! What a mutator may do with a page that it copied or read, whatever the others do.
 ghost use Rattle.std.specs.Prelude.{◌≡◌, ◌+◌, ◌*◌, ◌^◌, ◌<◌, ℕ, Ok, IfOk, IsErrOf};
 ghost use mathlib.Core.Option.{some};
 ghost use lib.ListN.{get_elem?};
@@ -16,7 +16,7 @@ use page_plan::TO_SPACE;
 use std::alloc::Global;
 use std::sync::ledger::Ledger as Named;
 
-/// A page that was copied is then known to be built.
+/// A copied page is known to be built.
 pub fn touch_copied<L: Named, B: Builder>(
     alloc: Global,
     space: &Space<L, B>,
@@ -31,7 +31,7 @@ pub fn touch_copied<L: Named, B: Builder>(
     Ok(space.try_touch(alloc, m, p))
 }
 
-/// A read that was done needs no memory when it is made again.
+/// A read that succeeded needs no memory when it is made again.
 pub fn read_again<L: Named, B: Builder>(
     alloc: Global,
     space: &Space<L, B>,
@@ -46,7 +46,7 @@ pub fn read_again<L: Named, B: Builder>(
     Ok(space.try_read_data(alloc, m, object, field))
 }
 
-/// Stores a reference of a page that was copied: it is never refused as no start.
+/// Stores a reference of a copied page. It is never refused with `NotAStart`.
 pub fn store_reference<L: Named, B: Builder>(
     alloc: Global,
     space: &Space<L, B>,
@@ -67,7 +67,7 @@ pub fn store_reference<L: Named, B: Builder>(
     space.try_write_ref(alloc, m, object, field, value)
 }
 
-/// Stores the address of an object that the journal of a page that was copied makes: it is never refused as no start.
+/// Stores the address of an object that the journal of a copied page makes. It is never refused with `NotAStart`.
 pub fn store_made<L: Named, B: Builder>(
     alloc: Global,
     space: &Space<L, B>,

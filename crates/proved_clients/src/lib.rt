@@ -1,4 +1,5 @@
-//! What callers conclude from the contracts of the calls of mutators, of the sweep and of replays, and from the laws, and from nothing else.
+//! What a caller can conclude from the contracts of the mutators' calls, of the sweep and of replays, and from the
+//! laws, and from nothing else.
 #![tactic(auto)]
 
 mod alone;

@@ -1,4 +1,4 @@
-//! What a mutator reads that another one wrote, once the two met.
+//! What a mutator reads of another one's writes after they met.
 ghost use Rattle.std.specs.Prelude.{◌≡◌, ℕ, IfOk};
 ghost use Rattle.page_cells.specs.Lists.{StartsWith};
 ghost use Rattle.page_cells.specs.Passes.{number_of, seen};
@@ -8,8 +8,9 @@ use comp_mutator::{Builder, Mutator, Refusal, Space};
 use std::alloc::Global;
 use std::sync::ledger::Ledger as Named;
 
-/// The first of two mutators writes a value into a data field, and the second, which it met, reads the field: where both are done, the word is the value. The
-/// first had seen all that the second had, as new mutators have, and those that met. They meet once more, so that it is known that nobody wrote meanwhile.
+/// The first of two mutators writes a value into a data field, and the second, which it then meets, reads the field. If
+/// both succeed, the word is the value. Before, the first has seen all that the second has, as new mutators have and
+/// those that met. They meet once more at the end, which shows that nobody wrote meanwhile.
 pub fn read_after_meeting<L: Named, B: Builder>(
     alloc: Global,
     space: &Space<L, B>,

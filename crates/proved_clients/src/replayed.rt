@@ -1,4 +1,4 @@
-//! What a caller concludes of a word that was read before a trace was replayed.
+//! What a caller can conclude about a word that was read before a trace was replayed.
 ghost use Rattle.std.specs.Prelude.{◌≡◌, ◌<◌, length, IfSome};
 ghost use Rattle.page_plan.specs.Kind.TheVariants.{Data};
 ghost use Rattle.comp_mutator.specs.Mutators.{setup_of};
@@ -11,7 +11,8 @@ use comp_trace::{Trace, replay};
 use std::alloc::Global;
 use std::sync::ledger::Ledger as Named;
 
-/// A mutator reads a data word, a trace is replayed by all of them, and the heap is finished: where all three are done, that read stands in the one history.
+/// A mutator reads a data word, all mutators replay a trace, and the heap is finished. If all three succeed, that read
+/// stands in the one history.
 pub fn read_replay_and_finish<L: Named, B: Builder>(
     alloc: Global,
     space: Space<L, B>,

@@ -1,4 +1,4 @@
-//! What a caller concludes of a heap that it swept.
+//! What a caller can conclude about a heap that it swept.
 ghost use Rattle.std.specs.Prelude.{◌≡◌, ℕ, ◌<◌, IfSome, IsSome};
 ghost use Rattle.page_plan.specs.Heap.{live};
 ghost use Rattle.page_plan.specs.Sliding.{pages};
@@ -13,7 +13,7 @@ use std::sync::ledger::{Blank, Ledger as Named};
 use std::sync::{Arc, Wait};
 use std::thread::Threads;
 
-/// Flips a heap and sweeps it: where both are done, each page of the slid words was seen built by a mutator that was handed back.
+/// Flips a heap and sweeps it. If both succeed, a mutator that came back has seen each page of the slid words built.
 pub fn flip_and_sweep<L: Named + Send, B: Builder, R: Threads + Wait + Sync>(
     alloc: Global,
     rt: &R,
@@ -35,7 +35,8 @@ pub fn flip_and_sweep<L: Named + Send, B: Builder, R: Threads + Wait + Sync>(
     }
 }
 
-/// Flips a heap, sweeps it with all its mutators and finishes it: where all three are done, each page of the slid words is there.
+/// Flips a heap, sweeps it with all its mutators and finishes it. If all three succeed, each page of the slid words
+/// exists.
 pub fn sweep_and_finish<L: Named + Send, B: Builder, R: Threads + Wait + Sync>(
     alloc: Global,
     rt: &R,

@@ -1,4 +1,4 @@
-//! Calls that are made again where memory was refused.
+//! Calls that are made again if memory is refused.
 ghost use Rattle.comp_mutator.specs.Mutators.{IsMutatorOf};
 
 use crate::rows::{Call, Row};
@@ -8,7 +8,7 @@ use page_plan::Plan;
 use std::alloc::Global;
 use std::sync::ledger::Ledger as Named;
 
-// The answer of a touch of a page that is there.
+// The answer of a touch of a page, which exists.
 fn touch<L: Named>(
     alloc: Global,
     space: &Space<L, Plan>,
@@ -28,7 +28,7 @@ fn touch<L: Named>(
     }
 }
 
-// How many entries the journal of a page has that is there.
+// The number of entries of the journal of a page, which exists.
 fn copy<L: Named>(
     alloc: Global,
     space: &Space<L, Plan>,
@@ -72,7 +72,7 @@ fn answer<L: Named>(
     }
 }
 
-// No object is known to start where a refused allocation would have made one.
+// Whether no object starts at the address that a refused allocation would have used.
 fn is_unknown<L: Named>(
     alloc: Global,
     space: &Space<L, Plan>,
@@ -90,7 +90,7 @@ fn is_unknown<L: Named>(
     }
 }
 
-// The journal of the page that a refused call touched is as long as before, where this mutator built the page.
+// Whether the journal of the page that a refused call touches is as long as before, if this mutator built the page.
 fn is_as_long<L: Named>(
     alloc: Global,
     space: &Space<L, Plan>,
@@ -106,8 +106,9 @@ fn is_as_long<L: Named>(
     copy(alloc, space, m, row.2) == Ok(row.3 as u64)
 }
 
-/// A call is answered as its row has it. Where memory is refused, the mutator wrote nothing, has posted and not posted what it had, and has built no page but
-/// perhaps the one that the call touches; the call is then made again.
+/// Whether the call is answered as its row says. If memory is refused, the mutator wrote nothing, has posted and not
+/// posted the same words, and has built no page except perhaps the one that the call touches; the call is then made
+/// again.
 pub fn is_answered<L: Named>(
     alloc: Global,
     space: &Space<L, Plan>,

@@ -1,4 +1,4 @@
-//! Two cycles of a heap, which begin anew where memory was refused in either.
+//! Two cycles of a heap, which begin again if memory is refused in either.
 use crate::heaps::{Heap, heap_of};
 use comp_mutator::Refusal;
 use comp_trace::{CycleFault, CyclesStopped, Shown, TraceFault, parse, replay_cycles};
@@ -6,20 +6,20 @@ use heap_layout::LayoutFault;
 use std::alloc::Global;
 use std::thread::Threads;
 
-// The data word of the first object is shown, and a new object stored.
+// The data word of the first object is shown, and a new object is stored.
 const FIRST: &[u8] =
     b"0 root 0 0\n0 load 1 0 0\n0 get 1 0\n0 new 2 1 0 9\n0 store 2 0 1\n0 store 0 0 2\n";
 
-// The same data word, by way of that object.
+// The same data word is shown by way of that object.
 const SECOND: &[u8] = b"0 root 0 0\n0 load 1 0 0\n0 load 2 1 0\n0 get 2 0\n";
 
-// The line of each cycle that shows the data word.
+// In each cycle, the line that shows the data word.
 const SHOWING: [u64; 2] = [3, 4];
 
 // The data word.
 const VALUE: u64 = 11;
 
-// Of so many cycles each showed the data word, and nothing else was shown.
+// Whether each of the first `cycles` cycles showed the data word, and nothing else was shown.
 fn are_shown(shown: &[Vec<Shown>], cycles: usize) -> bool {
     let mut so = shown.len() == cycles;
     for (cycle, values) in shown.iter().enumerate() {
@@ -30,7 +30,7 @@ fn are_shown(shown: &[Vec<Shown>], cycles: usize) -> bool {
     so
 }
 
-// What was shown where line `n` of a cycle was refused: what the lines before it show, and what the cycles before it showed.
+// Whether the values are those before line `n` of a cycle, which was refused, and of the cycles before it.
 fn are_cut(shown: &[Vec<Shown>], cycle: usize, n: u64) -> bool {
     if SHOWING.get(cycle).copied().unwrap_or(0) < n {
         return are_shown(shown, cycle.wrapping_add(1));
@@ -41,8 +41,8 @@ fn are_cut(shown: &[Vec<Shown>], cycle: usize, n: u64) -> bool {
     last.is_empty() && are_shown(before, cycle)
 }
 
-// Memory was refused to the cycles, and what was shown until then is what had to be. The list of marks is copied for the cycle that it ends, and a cycle that was not finished has
-// shown all that its lines show.
+// Whether the cycles were refused memory and had shown what they must have shown by then. A cycle that did not finish
+// has shown all that its lines show, since the list of marks is copied in the cycle that it ends.
 fn is_memory(stopped: &CyclesStopped) -> bool {
     let shown = stopped.shown.as_slice();
     match stopped.fault {
@@ -61,7 +61,7 @@ fn is_memory(stopped: &CyclesStopped) -> bool {
     }
 }
 
-// The cycles, where there was memory for all that they take.
+// The cycles, or `None` if memory was refused before they began.
 fn cycles_once(rt: &(impl Threads + Sync), alloc: Global) -> Option<bool> {
     let heap = heap_of(alloc, Heap::Three)?;
     let roots = heap.roots().len() as u16;
@@ -77,7 +77,7 @@ fn cycles_once(rt: &(impl Threads + Sync), alloc: Global) -> Option<bool> {
     }
 }
 
-/// The cycles go as they have to.
+/// Whether the cycles are as expected.
 pub fn are_cycled(rt: &(impl Threads + Sync), alloc: Global) -> bool {
     match cycles_once(rt, alloc) {
         Some(well) => well,

@@ -1,4 +1,4 @@
-//! Heaps that are swept and finished, again where memory was refused.
+//! Sweeps and finishes, made again if memory is refused.
 ghost use Rattle.std.specs.Prelude.{◌≡◌, IfSome};
 ghost use Rattle.comp_mutator.specs.Finishes.{IsOfFlip};
 ghost use Rattle.comp_mutator.specs.Mutators.{setup_of, AreMutatorsOf};
@@ -33,12 +33,12 @@ fn work_of<L: Named>(mutators: &[Mutator<L>]) -> Work {
     work
 }
 
-// Nothing was written or posted in between.
+// Whether nothing was written or posted in between.
 fn wrote_nothing(before: Work, after: Work) -> bool {
     after.entries == before.entries && after.unposted == before.unposted
 }
 
-// Finishes what was handed back where memory was refused; the mutators are as they were.
+// Finishes with what a finish that was refused memory handed back. The mutators must be as they were.
 fn finish_again<L: Named>(
     alloc: Global,
     left: Unfinished<L, Plan>,
@@ -61,7 +61,7 @@ fn finish_again<L: Named>(
     }
 }
 
-/// The heap, finished with all its mutators.
+/// Finishes the heap with all its mutators.
 pub fn finish<L: Named>(
     alloc: Global,
     space: Space<L, Plan>,
@@ -78,7 +78,7 @@ pub fn finish<L: Named>(
     }
 }
 
-// A refusal of a sweep is for want of memory, and names a page that there is.
+// Whether a sweep was refused memory, and names a page that exists.
 fn is_memory(fault: SweepFault, pages: u64) -> bool {
     match fault {
         SweepFault::OutOfMemory(p) => p < pages,
@@ -87,7 +87,8 @@ fn is_memory(fault: SweepFault, pages: u64) -> bool {
     }
 }
 
-/// All mutators, which have swept the heap. Where memory was refused they have not, wrote nothing and lost no build, and sweep again.
+/// Sweeps the heap with all mutators. If memory is refused, they have written nothing and lost no build, and sweep
+/// again.
 pub fn swept<L: Named + Send, R: Threads + Wait + Sync>(
     rt: &R,
     alloc: Global,

@@ -10,7 +10,7 @@ use std::alloc::Global;
 use std::sync::Arc;
 use std::sync::ledger::{Blank, Ledger as Named};
 
-/// A flipped heap and its two mutators, where there is memory for them.
+/// A flipped heap and its two mutators, or `None` if there is no memory for them.
 pub fn flipped<L: Named>(
     alloc: Global,
     blank: Blank,

@@ -9,17 +9,17 @@ use test_support::{F, THREE, judged, zeros_object};
 /// The heap of a run.
 #[derive(Clone, Copy)]
 pub enum Heap {
-    /// One object of one word, which is a root.
+    /// One object of one word, which the root refers to.
     Smallest,
-    /// Three objects, of which the first and the last are marked, with the last as root.
+    /// Three objects. The first and the last are marked, and the root refers to the last.
     Three,
-    /// An object without references and with as many data words, which are 0.
+    /// An object without references and with this many data words, which are 0.
     Zeros(u16),
     /// Two objects of 640 words.
     Twenty,
 }
 
-// A heap of these parts, where there is memory for it.
+// A heap of these parts, or `None` if there is no memory for it.
 fn heap_with(alloc: Global, words: &[u64], marks: &[u32], roots: &[u64]) -> Option<MarkedHeap> {
     match judged(alloc, Edition::One, words, marks, roots) {
         Ok(Ok(heap)) => Some(heap),
@@ -27,7 +27,7 @@ fn heap_with(alloc: Global, words: &[u64], marks: &[u32], roots: &[u64]) -> Opti
     }
 }
 
-// The words of objects without references, of so many data words each, which are 0.
+// The words of one or two objects without references, of `data_words` data words each, which are 0.
 fn zeros(alloc: Global, data_words: u16, twice: bool) -> Option<Vec<u64>> {
     let mut words = zeros_object(alloc, data_words).ok()?;
     if twice {
@@ -37,7 +37,7 @@ fn zeros(alloc: Global, data_words: u16, twice: bool) -> Option<Vec<u64>> {
     Some(words)
 }
 
-/// The heap, where there is memory for it.
+/// The heap, or `None` if there is no memory for it.
 pub fn heap_of(alloc: Global, which: Heap) -> Option<MarkedHeap> {
     match which {
         Heap::Smallest => heap_with(alloc, &[30_064_771_072], &[0], &[F]),
@@ -47,7 +47,7 @@ pub fn heap_of(alloc: Global, which: Heap) -> Option<MarkedHeap> {
     }
 }
 
-/// The plan of the heap, to be shared, where there is memory for it.
+/// The plan of the heap, shared, or `None` if there is no memory for it.
 pub fn plan_of(rt: &(impl Threads + Sync), alloc: Global, which: Heap) -> Option<Arc<Plan>> {
     let plan = Plan::new(alloc, rt, heap_of(alloc, which)?).ok()?;
     Arc::new(alloc, plan).ok()

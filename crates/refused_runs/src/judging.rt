@@ -1,4 +1,4 @@
-//! Dumps that are made, written, read and judged, each again where memory was refused.
+//! Dumps that are made, written, read and audited. Each step is made again if memory is refused.
 ghost use Rattle.comp_mutator.specs.Finishes.{IsOfFlip};
 
 use comp_audit::{Dump, DumpFault, Verdict, audit, read_dump, write_dump};
@@ -17,7 +17,7 @@ fn dump_of<'a>(alloc: Global, finished: &'a Finished) -> Option<Dump<'a>>
     }
 }
 
-// Room for so many bytes.
+// Room for `bytes` bytes.
 fn room(alloc: Global, bytes: usize) -> Option<Vec<u8>> {
     match Vec::with_capacity(alloc, bytes) {
         Ok(room) => Some(room),
@@ -25,7 +25,7 @@ fn room(alloc: Global, bytes: usize) -> Option<Vec<u8>> {
     }
 }
 
-// The bytes of a dump. Writing it takes no memory.
+// The bytes of a dump. Writing takes no memory.
 fn bytes_of(alloc: Global, dump: &Dump<'_>) -> Option<Vec<u8>> {
     let mut writer = Counted::new(room(alloc, 656)?);
     match write_dump(dump, &mut writer) {
@@ -34,7 +34,7 @@ fn bytes_of(alloc: Global, dump: &Dump<'_>) -> Option<Vec<u8>> {
     }
 }
 
-// The dump that these bytes are.
+// The dump that these bytes are read as.
 fn dump_in(alloc: Global, bytes: &[u8]) -> Option<Dump<'static>> {
     match read_dump(alloc, &mut Counted::new(bytes)) {
         Ok(dump) => Some(dump),
@@ -43,7 +43,7 @@ fn dump_in(alloc: Global, bytes: &[u8]) -> Option<Dump<'static>> {
     }
 }
 
-// The audit says yes.
+// Whether the audit accepts the dump.
 fn is_yes(alloc: Global, plan: &Plan, dump: &Dump<'_>) -> bool {
     let verdict = match audit(alloc, plan, dump) {
         Ok(verdict) => Some(verdict),
@@ -52,7 +52,7 @@ fn is_yes(alloc: Global, plan: &Plan, dump: &Dump<'_>) -> bool {
     verdict == Some(Verdict::Yes)
 }
 
-// The bytes of a dump are read as a dump that passes.
+// Whether the bytes of a dump are read as a dump that the audit accepts.
 fn passes(alloc: Global, plan: &Plan, bytes: &[u8]) -> bool {
     match dump_in(alloc, bytes) {
         Some(dump) => bytes.len() == 656 && is_yes(alloc, plan, &dump),
@@ -60,7 +60,7 @@ fn passes(alloc: Global, plan: &Plan, bytes: &[u8]) -> bool {
     }
 }
 
-/// The dump of the finished heap has 656 bytes, and passes.
+/// Whether the dump of the finished heap has 656 bytes and the audit accepts it.
 pub fn is_lawful(alloc: Global, plan: &Plan, finished: &Finished) -> bool
     requires { IsOfFlip 2 64 finished.now }
 {

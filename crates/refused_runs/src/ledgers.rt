@@ -1,4 +1,4 @@
-//! A ledger that is posted with and gathered. Only its making takes memory.
+//! A ledger whose shares post and are gathered. Only the making of the ledger takes memory.
 ghost use Rattle.std.specs.Prelude.{◌≡◌};
 
 use comp_ledger::{Ledger, LedgerFault};
@@ -7,7 +7,7 @@ use std::marker::Brand;
 use std::sync::Wait;
 use std::sync::ledger::{Blank, Ledger as Named};
 
-// Two words are posted, and no third fits; where there is memory for the ledger.
+// Posts two words, after which no third fits. `None` if there is no memory for the ledger.
 fn keeps_named<L: Named, R: Wait>(rt: &R, alloc: Global, blank: Blank) -> Option<bool>
     requires name { blank.name ≡ L.name }
     requires parts { blank.parts ≡ L.parts }
@@ -28,12 +28,12 @@ fn keeps_named<L: Named, R: Wait>(rt: &R, alloc: Global, blank: Blank) -> Option
     }
 }
 
-// The ledger, where there is memory for it.
+// Makes a ledger and posts, or `None` if there is no memory.
 fn keeps_once<R: Wait>(rt: &R, alloc: Global) -> Option<bool> {
     keeps_named::<Brand, R>(rt, alloc, Blank::new(1))
 }
 
-/// The ledger keeps what it has to, again where its making was refused memory.
+/// Whether the ledger is as expected, made again if memory was refused.
 pub fn is_kept<R: Wait>(rt: &R, alloc: Global) -> bool {
     match keeps_once(rt, alloc) {
         Some(well) => well,

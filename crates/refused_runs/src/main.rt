@@ -1,5 +1,6 @@
-//! Runs whose every allocation can be made to fail, each in turn. A call that is refused memory says so by its own name, has changed nothing but perhaps a page that
-//! it built, and is made again. So what is printed is the same, whichever allocation fails.
+//! Runs in which each allocation can be made to fail, one at a time. A call that is refused memory names that cause,
+//! has changed nothing except that it may have built a page, and is made again. So the output is the same, whichever
+//! allocation fails.
 #![tactic(auto)]
 
 mod answers;
@@ -21,7 +22,7 @@ fn main(rt: HostRuntime) {
     run_all(&rt);
 }
 
-// Tells how a run went.
+// Prints how a run went.
 fn tell<R: Print>(rt: &R, name: &str, well: bool) {
     let _ = match well {
         true => println!(rt; "{name}: as it has to be"),
@@ -29,7 +30,8 @@ fn tell<R: Print>(rt: &R, name: &str, well: bool) {
     };
 }
 
-// Makes all runs. The status tells nothing of them: who lets an allocation fail looks for another text under the same status.
+// Makes all runs. The exit status says nothing about them: the tool that lets an allocation fail looks for another text
+// with the same status.
 fn run_all<R: Print + AllocGlobal + Threads + Wait + Sync>(rt: &R) {
     let alloc = rt.alloc();
     for case in tables::cases() {

@@ -14,24 +14,24 @@ use std::sync::ledger::{Blank, Ledger as Named};
 use std::sync::{Arc, Wait};
 use std::thread::Threads;
 
-/// A run: a heap, flipped, what its mutators do, and what is left.
+/// A run: a heap that is flipped, what its mutators do, and what they leave.
 pub struct Case {
     pub name: &'static str,
     pub heap: Heap,
     pub mutators: u32,
     pub fresh_pages: u32,
     pub rows: &'static [Row],
-    /// Whether the first mutator settles behind the rows.
+    /// Whether the first mutator settles after the rows.
     pub settles: bool,
-    /// Whether all mutators sweep behind that.
+    /// Whether all mutators sweep after that.
     pub sweeps: bool,
-    /// How many words there are in the end.
+    /// The number of words at the end.
     pub live_words: u64,
-    /// Which pages each mutator built.
+    /// The pages that each mutator built.
     pub builds: &'static [&'static [u64]],
 }
 
-// A row of the mutator that it names.
+// Whether the row of the mutator that it names is answered.
 fn is_done<L: Named>(
     alloc: Global,
     space: &Space<L, Plan>,
@@ -48,7 +48,7 @@ fn is_done<L: Named>(
     is_answered(alloc, space, &mut mutators[number], row)
 }
 
-// The rows of all mutators, one after another.
+// Whether the rows of all mutators are answered, one after another.
 fn are_answered<L: Named>(
     alloc: Global,
     space: &Space<L, Plan>,
@@ -66,7 +66,7 @@ fn are_answered<L: Named>(
     true
 }
 
-// The first mutator settles, which takes no memory.
+// Whether the first mutator settles, which takes no memory.
 fn is_settled<L: Named, R: Wait>(
     rt: &R,
     space: &Space<L, Plan>,
@@ -84,7 +84,7 @@ fn is_settled<L: Named, R: Wait>(
     settled && unposted == 0
 }
 
-// Each mutator built just these pages.
+// Whether each mutator built these pages, and no others.
 fn are_builds(builds: &[Vec<u64>], wanted: &[&[u64]]) -> bool {
     if builds.len() != wanted.len() {
         return false;
@@ -97,7 +97,7 @@ fn are_builds(builds: &[Vec<u64>], wanted: &[&[u64]]) -> bool {
     true
 }
 
-// The finished heap is that of the run.
+// Whether the finished heap is that of the run.
 fn is_end(finished: &Option<Finished>, case: &Case) -> bool {
     match finished {
         Some(finished) => {
@@ -107,7 +107,7 @@ fn is_end(finished: &Option<Finished>, case: &Case) -> bool {
     }
 }
 
-// A flipped heap, swept where the run has it so, and finished.
+// Sweeps a flipped heap if the run says so, and finishes it.
 fn ends<L: Named + Send, R: Threads + Wait + Sync>(
     rt: &R,
     alloc: Global,
@@ -144,7 +144,7 @@ fn plays<L: Named + Send, R: Threads + Wait + Sync>(
     ends(rt, alloc, space, mutators, case) && answered && settled
 }
 
-// The run, where there is memory for its flip.
+// The run, or `None` if there is no memory for its flip.
 fn plays_named<L: Named + Send, R: Threads + Wait + Sync>(
     rt: &R,
     alloc: Global,
@@ -163,14 +163,14 @@ fn plays_named<L: Named + Send, R: Threads + Wait + Sync>(
     }
 }
 
-// The run, where there is memory for its heap.
+// The run, or `None` if there is no memory for its heap.
 fn plays_once<R: Threads + Wait + Sync>(rt: &R, alloc: Global, case: &Case) -> Option<bool> {
     let plan = plan_of(rt, alloc, case.heap)?;
     let blank = Blank::new(u64::from(case.mutators));
     plays_named::<Brand, R>(rt, alloc, blank, plan, case)
 }
 
-/// The run goes as it has to. It begins anew where its heap was refused memory.
+/// Whether the run is as expected. It begins again if its heap is refused memory.
 pub fn is_played<R: Threads + Wait + Sync>(rt: &R, alloc: Global, case: &Case) -> bool {
     match plays_once(rt, alloc, case) {
         Some(well) => well,

@@ -1,4 +1,4 @@
-//! A replay, whose heap is dumped and judged.
+//! A replay. Its heap is dumped and audited.
 ghost use Rattle.std.specs.Prelude.{◌≡◌, length};
 ghost use Rattle.comp_mutator.specs.Mutators.{setup_of};
 ghost use Rattle.comp_trace.specs.AllMutators.{AreAll};
@@ -17,10 +17,10 @@ use std::sync::Arc;
 use std::sync::ledger::{Blank, Ledger as Named};
 use std::thread::Threads;
 
-// Mutator 0 writes 7, which mutator 1 reads in line 6.
+// Mutator 0 writes 7, and line 6 of mutator 1 shows it.
 const TEXT: &[u8] = b"0 root 0 0\n0 load 1 0 0\n0 put 1 0 7\n1 root 0 0\n1 load 1 0 0\n1 get 1 0\n";
 
-// A replay stopped for want of memory, and showed nothing before line 6.
+// Whether a replay was refused memory and showed nothing before line 6.
 fn is_memory(stopped: &Stopped) -> bool {
     let refused = match stopped.fault {
         TraceFault::OutOfMemory => true,
@@ -30,7 +30,7 @@ fn is_memory(stopped: &Stopped) -> bool {
     refused && stopped.shown.is_empty()
 }
 
-// Line 6 showed 7, and nothing else was shown.
+// Whether line 6 showed 7 and nothing else was shown.
 fn is_shown(shown: &[Shown]) -> bool {
     match shown.first() {
         Some(first) => shown.len() == 1 && first.line == 6 && first.value == 7,
@@ -38,7 +38,7 @@ fn is_shown(shown: &[Shown]) -> bool {
     }
 }
 
-// The replay on a flipped heap, which is then finished and judged. It is none where memory was refused to the replay.
+// Replays on a flipped heap, which is then finished and audited. `None` if the replay was refused memory.
 fn replays<L: Named>(
     alloc: Global,
     space: Space<L, Plan>,
@@ -70,7 +70,7 @@ fn replays<L: Named>(
     }
 }
 
-// The replay, where there is memory for its flip.
+// The replay, or `None` if there is no memory for its flip.
 fn replays_named<L: Named>(
     alloc: Global,
     blank: Blank,
@@ -85,14 +85,14 @@ fn replays_named<L: Named>(
     replays(alloc, space, mutators, plan)
 }
 
-// The replay, where there is memory for its heaps.
+// The replay, or `None` if there is no memory for its heaps.
 fn replays_once(rt: &(impl Threads + Sync), alloc: Global) -> Option<bool> {
     let plan = plan_of(rt, alloc, Heap::Three)?;
     let builder = plan_of(rt, alloc, Heap::Three)?;
     replays_named::<Brand>(alloc, Blank::new(2), builder, &plan)
 }
 
-/// The replay goes as it has to. It begins anew where memory was refused before its end.
+/// Whether the replay is as expected. It begins again if memory is refused before its end.
 pub fn is_replayed(rt: &(impl Threads + Sync), alloc: Global) -> bool {
     match replays_once(rt, alloc) {
         Some(well) => well,

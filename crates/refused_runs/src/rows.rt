@@ -1,23 +1,24 @@
-//! What a mutator is asked for, and what it answers.
+//! The calls of a mutator and their answers.
 use comp_mutator::Refusal;
 use heap_layout::Kind;
 
 /// A call of a mutator.
 #[derive(Clone, Copy)]
 pub enum Call {
-    /// A touch of a page: 1 where this call built it, and else 0.
+    /// A touch of a page. The answer is 1 if this call built it, else 0.
     Touch(u64),
     /// A read of a field: its kind, the object and the field.
     Read(Kind, u64, u16),
     /// A write of a field: its kind, the object, the field and the value.
     Write(Kind, u64, u16, u64),
-    /// A new object: how many references and data words it has, and its tag.
+    /// A new object: its numbers of references and data words, and its tag.
     Alloc(u16, u16, u32),
-    /// A copy of a page: how many entries its journal has.
+    /// A copy of a page. The answer is the number of entries of its journal.
     Copy(u64),
 }
 
-/// A call: the number of the mutator, the call, the page that it touches, how many entries the page's journal has before it, and the answer.
+/// A call: the number of the mutator, the call, the page that it touches, the number of entries of that page's journal
+/// before the call, and the answer.
 #[derive(Clone, Copy)]
 pub struct Row(
     pub usize,

@@ -11,7 +11,7 @@ const SECOND: u64 = T + 64;
 
 const THIRD: u64 = T + 128;
 
-// A data word is written.
+// Writes a data word.
 const WRITTEN: Case = Case {
     name: "a write",
     heap: Heap::Three,
@@ -47,7 +47,7 @@ const ALLOCATED: Case = Case {
     builds: &[&[1, 2]],
 };
 
-// A page is touched.
+// Touches a page.
 const TOUCHED: Case = Case {
     name: "a touch",
     heap: Heap::Zeros(255),
@@ -79,7 +79,7 @@ const SETTLED: Case = Case {
     builds: &[&[1], &[2]],
 };
 
-// Objects refer to one another across mutators.
+// Objects of two mutators refer to one another.
 const REFERRED: Case = Case {
     name: "references to new objects",
     heap: Heap::Three,
@@ -113,7 +113,7 @@ const REFERRED: Case = Case {
     builds: &[&[1, 0], &[2]],
 };
 
-// One worker sweeps twenty pages.
+// One worker sweeps the twenty pages.
 const SWEPT: Case = Case {
     name: "a sweep",
     heap: Heap::Twenty,

@@ -1,4 +1,4 @@
-//! Forged dumps that are judged.
+//! Audits of forged dumps.
 use crate::places::{File, Memory};
 use crate::printing::{Asked, is_answered};
 use command_io::Refusal;
@@ -10,10 +10,10 @@ use test_support::{
     REFERENCE_KIND, REFERENCE_STAMP, REFERENCE_VALUE, ROOT, TOTAL, VERSION, bytes_in,
 };
 
-// A forged dump: its name, two changes, and what is refused.
+// A forged dump: its name, two changes, and the refusal.
 type Forgery = (&'static str, Change, Change, Refusal);
 
-// A dump is refused so, where the heap of an image was compacted, and nothing is printed.
+// Whether a dump is refused so for the heap of an image, with nothing printed.
 fn is_refused(
     rt: &(impl AllocGlobal + Threads + Sync),
     image: &[u8],
@@ -34,7 +34,7 @@ fn is_refused(
     is_answered(rt, &Memory { files: &files }, asked, Err(refusal), "")
 }
 
-// All these forgeries.
+// Checks these forgeries.
 fn expect_refused(
     rt: &(impl Abort + AllocGlobal + Threads + Sync),
     image: &[u8],
@@ -47,7 +47,7 @@ fn expect_refused(
     }
 }
 
-/// Forgeries of the dump behind the run that makes a new object in the heap of three objects.
+/// Forgeries of the dump after the run that makes a new object in the heap of three objects.
 pub fn expect_forgeries(rt: &(impl Abort + AllocGlobal + Threads + Sync), three: &[u8]) {
     expect_refused(rt, three, &FORGED);
 }
@@ -56,7 +56,7 @@ const TRUNCATED: Refusal = Refusal::Dump(DumpFault::Truncated);
 
 // All forged dumps.
 static FORGED: [Forgery; 28] = [
-    // Each dump has a second fault, which is not told.
+    // Each dump has a second fault, which is not reported.
     (
         "a root",
         Change::Word(ROOT, 0),

@@ -1,4 +1,4 @@
-//! Heaps in memory that are compacted or replayed: the dump and the line; and those that are not.
+//! Compactions and replays on files in memory: the dump and the printed line, and the refusals.
 use crate::dumps::{Dump, dump_of};
 use crate::places::{File, Memory, Place};
 use crate::printing::{Asked, is_answered};
@@ -12,33 +12,33 @@ use std::sync::Wait;
 use std::thread::Threads;
 use test_support::{Failure, Narrow};
 
-// What writes a dump.
+// The command that writes a dump.
 #[derive(Clone, Copy)]
 enum Writing {
-    // The heap is compacted, by so many workers.
+    // A compaction by this many workers.
     Compact(u8),
-    // The trace at this path is replayed, by one mutator and with so many fresh pages.
+    // A replay of the trace at this path, by one mutator and with this many fresh pages.
     Replay(&'static str, u32),
 }
 
-/// A command in memory that writes a dump, and what has to come of it.
+/// A command in memory that writes a dump, and its expected result.
 #[derive(Clone, Copy)]
 pub struct Row {
     name: &'static str,
     writing: Writing,
-    /// The path of the image, and that of the dump, which is to be `out`.
+    /// The path of the image, and that of the dump. Only `out` can be created.
     image: &'static str,
     path: &'static str,
-    /// How many bytes the writer of the dump takes, and how it fails then.
+    /// The number of bytes that the writer of the dump takes, and how it fails then.
     room: usize,
     failure: Failure,
-    /// How many bytes can be printed.
+    /// The number of bytes that can be printed.
     printable: usize,
     answer: Result<(), Refusal>,
     printed: &'static str,
-    /// The whole dump, where one was created.
+    /// The whole dump, if one is created.
     dump: Dump,
-    /// How many bytes of it are left. A dump is cut off only where it is refused.
+    /// The number of its bytes left. A dump is cut only if the command is refused.
     left: usize,
 }
 
@@ -75,12 +75,12 @@ fn write_dump<R: Abort + AllocGlobal + Threads + Wait + Sync>(
     }
 }
 
-// How many bytes of a dump of the twenty pages come before the lists of builds, and behind them.
+// The number of bytes of a dump of the twenty pages before the lists of builds, and after them.
 const BEFORE_BUILDS: usize = 10_368;
 
 const BEHIND_BUILDS: usize = 8;
 
-// These dumps of the twenty pages agree but for who built which page.
+// Whether these dumps of the twenty pages are equal apart from the lists of builds.
 fn agree_but_for_builds(dumped: &[u8], whole: &[u8]) -> bool {
     let behind = whole.len().saturating_sub(BEHIND_BUILDS);
     dumped.len() == whole.len()
@@ -88,7 +88,7 @@ fn agree_but_for_builds(dumped: &[u8], whole: &[u8]) -> bool {
         && dumped.get(behind..) == whole.get(behind..)
 }
 
-// This is the dump of the row, as far as it goes. Where several workers sweep, who builds which page is as it comes.
+// Whether this is the dump of the row, as far as it goes. If several workers sweep, the lists of builds may be any.
 fn is_dump(row: &Row, dumped: &[u8], whole: &[u8]) -> bool {
     match row.writing {
         Writing::Compact(workers) if workers > 1 && !whole.is_empty() => {
@@ -98,7 +98,7 @@ fn is_dump(row: &Row, dumped: &[u8], whole: &[u8]) -> bool {
     }
 }
 
-// Where several workers swept, a compaction can have left the dump: each page was built once.
+// If several workers swept, checks that the audit accepts the dump.
 fn is_judged(
     rt: &(impl AllocGlobal + Threads + Sync),
     row: &Row,
@@ -124,7 +124,7 @@ fn is_judged(
     }
 }
 
-// This was answered and printed, a dump was created or was not, and so much of it is left.
+// Whether the answer, the output, the creation of the dump and the number of its bytes are as the row says.
 fn is_so(
     row: &Row,
     found: (Result<(), Refusal>, &[u8]),
@@ -142,7 +142,7 @@ fn is_so(
         && (cut_off || dumped.len() == whole.len())
 }
 
-// Just that comes of a row.
+// Checks a row.
 fn expect_row<R: Abort + AllocGlobal + Threads + Wait + Sync>(rt: &R, memory: &Memory, row: &Row) {
     let whole = dump_of(rt, row.dump);
     let mut dumped = Vec::new(rt.alloc());
@@ -175,7 +175,7 @@ fn expect_row<R: Abort + AllocGlobal + Threads + Wait + Sync>(rt: &R, memory: &M
     );
 }
 
-// All rows.
+// Checks these rows.
 fn expect_rows<R: Abort + AllocGlobal + Threads + Wait + Sync>(
     rt: &R,
     memory: &Memory,
@@ -186,7 +186,7 @@ fn expect_rows<R: Abort + AllocGlobal + Threads + Wait + Sync>(
     }
 }
 
-/// Compactions and replays of heaps in memory.
+/// Checks compactions and replays on files in memory.
 pub fn expect_dumps<R: Abort + AllocGlobal + Threads + Wait + Sync>(rt: &R, memory: &Memory) {
     expect_rows(rt, memory, &ROWS);
 }
@@ -215,7 +215,7 @@ const UNFLUSHED: Row = Row {
     ..ALONE
 };
 
-// An image that is cut off, by two workers.
+// An image that is cut, with two workers.
 const CUT_IMAGE: Row = Row {
     name: "an image that is cut off",
     writing: Writing::Compact(2),
@@ -230,7 +230,7 @@ const CUT_IMAGE: Row = Row {
     left: 0,
 };
 
-// A replay whose dump is cut off.
+// A replay whose dump is cut.
 const UNWRITTEN: Row = Row {
     name: "a replay, and no room",
     writing: Writing::Replay("fresh.trace", 2),
@@ -245,7 +245,7 @@ const UNWRITTEN: Row = Row {
     left: 0,
 };
 
-// A weak word is written, which leads to a new object.
+// A weak word is written. It refers to a new object.
 const WEAK: Row = Row {
     name: "weak words",
     writing: Writing::Replay("weak.trace", 1),
@@ -261,7 +261,7 @@ const WEAK: Row = Row {
 };
 
 static ROWS: [Row; 21] = [
-    // By some workers, with just enough room for the dump.
+    // By several workers, with just enough room for the dump.
     ALONE,
     Row {
         name: "two workers",
@@ -287,7 +287,7 @@ static ROWS: [Row; 21] = [
         left: 10_712,
         ..ALONE
     },
-    // The dump is cut off behind so many bytes.
+    // The dump is cut after this many bytes.
     Row {
         name: "room for 0 bytes",
         room: 0,
@@ -324,7 +324,7 @@ static ROWS: [Row; 21] = [
         ..UNFLUSHED
     },
     UNFLUSHED,
-    // No dump is created where the image is refused.
+    // No dump is created if the image is refused.
     CUT_IMAGE,
     Row {
         name: "an image that is absent",
@@ -348,7 +348,7 @@ static ROWS: [Row; 21] = [
         printed: "liv",
         ..ALONE
     },
-    // The dump of a replay is cut off behind so many bytes.
+    // The dump of a replay is cut after this many bytes.
     UNWRITTEN,
     Row {
         name: "a replay, and room for 600 bytes",
@@ -371,7 +371,7 @@ static ROWS: [Row; 21] = [
         left: 1_129,
         ..UNWRITTEN
     },
-    // Objects that have weak words, compacted and replayed, with just enough room for the dump and the lines, and with less.
+    // Objects with weak words, compacted and replayed, with just enough room for the dump and the lines, and with less.
     WEAK,
     Row {
         name: "weak words, and room for 570 bytes",

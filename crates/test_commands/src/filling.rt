@@ -1,5 +1,5 @@
-//! Dumps and new images that go into files of a device that is soon full, that renames none, or that takes no permissions: what was at the path stays, and no
-//! other file is left.
+//! Dumps and new images in files of a device that is soon full, that cannot rename, or that sets no permissions. The
+//! file at the path stays as it was, and no other file is left.
 use command_io::{Dumps, FileDumps, Output, Refusal, write_image_to, write_to};
 use comp_dump::{Dump, DumpFault, read_dump};
 use heap_layout::{Counted, LayoutFault, MarkedHeap, read_image};
@@ -9,7 +9,8 @@ use std::io::{Error, ErrorKind, Read, Result as IoResult, Seek, SeekFrom, Write}
 use std::process::Abort;
 use std::rt::Files;
 
-// A device on which each file has room for so many bytes that are written, and which may rename none, or give none its permissions.
+// A device whose files each have room for a number of bytes, and which may be unable to rename files or to set
+// permissions.
 #[derive(Drop)]
 struct Device<'a, R> {
     rt: &'a R,
@@ -18,7 +19,7 @@ struct Device<'a, R> {
     permits: bool,
 }
 
-// A file that has room for so many bytes, and may take no permissions.
+// A file that has room for a number of bytes, and may refuse permissions.
 #[derive(Drop)]
 struct Small<F: Read + Write + Seek + OpenFile + Drop> {
     file: F,
@@ -133,18 +134,18 @@ impl<R: Files> Files for Device<'_, R> {
     }
 }
 
-// Where a file is written, and the file beside it.
+// The file that is written, and the file beside it.
 const PATH: &str = "filling.tests.out";
 
 const PART: &str = ".compressor-0.part";
 
-// A device, and what comes of a file.
+// A device, and the expected result of a file.
 struct Row {
-    // How many bytes of the file find no room.
+    // The number of bytes of the file that find no room.
     lacks: usize,
     renames: bool,
     permits: bool,
-    // Whether it is written whole where none was there before, and where one was.
+    // Whether the file is written whole if there was none at the path, and if there was one.
     whole: (bool, bool),
 }
 
@@ -181,12 +182,12 @@ static ROWS: [Row; 5] = [
     },
 ];
 
-// The bytes at the path, where there is a file.
+// The bytes at the path, or `None` if there is no file.
 fn bytes_at<R: Files + AllocGlobal>(rt: &R, path: &str) -> Option<Vec<u8>> {
     fs::read(rt, path).ok()
 }
 
-// Writes to a device: the image of a heap, or else a dump.
+// Writes the image of this heap to a device, or else a dump.
 fn write<R: Files + AllocGlobal>(
     rt: &R,
     dump: &Dump<'_>,
@@ -199,7 +200,7 @@ fn write<R: Files + AllocGlobal>(
     }
 }
 
-// What is answered where it is not written whole, which may not even be created.
+// The answer if the file is not written whole. It may not even be created.
 fn refused(heap: Option<&MarkedHeap>, created: bool) -> Refusal {
     match (heap, created) {
         (Some(_), true) => Refusal::Layout(LayoutFault::Device),
@@ -209,7 +210,8 @@ fn refused(heap: Option<&MarkedHeap>, created: bool) -> Refusal {
     }
 }
 
-// Writes these bytes to a device: all of them are there, or what was there before still is; and no file is left beside it.
+// Writes these bytes to a device. Checks that the path has all of them, or what it had before, and that no file is left
+// beside it.
 fn expect_row<R: Abort + Files + AllocGlobal>(
     rt: &R,
     dump: &Dump<'_>,
@@ -254,7 +256,7 @@ fn expect_row<R: Abort + Files + AllocGlobal>(
     }
 }
 
-// Writes these bytes to each of the devices, over a file and where there is none.
+// Writes these bytes to each of the devices, over a file and without one.
 fn expect_rows<R: Abort + Files + AllocGlobal>(
     rt: &R,
     dump: &Dump<'_>,
@@ -267,7 +269,7 @@ fn expect_rows<R: Abort + Files + AllocGlobal>(
     }
 }
 
-// Where no file is renamed, the first flush fails, and so does each later call.
+// If no file can be renamed, the first flush fails, and so does each later call.
 fn expect_given_up<R: Abort + Files + AllocGlobal>(rt: &R) {
     let device = (
         Device {
@@ -287,9 +289,9 @@ fn expect_given_up<R: Abort + Files + AllocGlobal>(rt: &R) {
     assert!(rt; bytes_at(rt, PATH).is_none(), "a file at the path");
 }
 
-/// A dump and an image of these bytes, written to each of the devices.
+/// Writes a dump and an image of these bytes to each of the devices.
 pub fn expect_filled<R: Abort + Files + AllocGlobal>(rt: &R, dump: &[u8], image: &[u8]) {
-    // A run of this test that was killed may have left its files.
+    // An earlier run of this test that was killed may have left its files.
     let _ = fs::remove_file(rt, PART);
     let _ = fs::remove_file(rt, PATH);
     let made = read_dump(rt.alloc(), &mut Counted::new(dump)).expect(rt, "a dump");

@@ -1,4 +1,4 @@
-//! Cycles of heaps in memory: the image of the heap that follows and the lines, also where the writers fail.
+//! Cycles on files in memory: the image of the next heap and the printed lines, also with writers that fail.
 use crate::places::{Memory, Place};
 use command_io::{Input, Output, Refusal};
 use command_line::NextRun;
@@ -8,28 +8,28 @@ use std::process::Abort;
 use std::thread::Threads;
 use test_support::{Failure, Narrow, Part, bytes_of};
 
-// A cycle in memory, and what has to come of it.
+// A cycle on files in memory and its expected result.
 #[derive(Clone, Copy)]
 struct Row {
     name: &'static str,
     marks: &'static str,
-    // The path of the new image, which is to be `out`.
+    // The path of the new image. Only `out` exists.
     path: &'static str,
-    // How many bytes the writer of the image takes, and how it fails then.
+    // The number of bytes that the writer of the image takes, and how it fails then.
     room: usize,
     failure: Failure,
-    // How many bytes can be printed.
+    // The number of bytes that can be printed.
     printable: usize,
     answer: Result<(), Refusal>,
     printed: &'static str,
-    // Whether an image was created, and how many bytes of it are left.
+    // Whether an image was created, and the number of its bytes left.
     created: bool,
     left: usize,
 }
 
 const ZEROS: [u64; 188] = [0; 188];
 
-// The image of the heap that follows the three objects behind the run that makes a new one.
+// The image of the next heap of the three objects after the run that makes a new one.
 const NEW_IMAGE: [Part; 6] = [
     Part::Bytes(b"COMPHEAP"),
     Part::Numbers(&[1, 192, 2, 1]),
@@ -60,7 +60,7 @@ fn write_next<'a>(
     print_next(rt.alloc(), rt, images, texts, place, asked, &mut counted)
 }
 
-// Just that comes of a row.
+// Checks a row.
 fn expect_row(rt: &(impl Abort + AllocGlobal + Threads + Sync), memory: &Memory, row: &Row) {
     let whole = bytes_of(rt.alloc(), &NEW_IMAGE).expect(rt, "memory for an image");
     let mut written = Vec::new(rt.alloc());
@@ -95,7 +95,7 @@ fn expect_row(rt: &(impl Abort + AllocGlobal + Threads + Sync), memory: &Memory,
     );
 }
 
-/// Cycles of the three objects in memory.
+/// Checks cycles of the three objects on files in memory.
 pub fn expect_cycles(rt: &(impl Abort + AllocGlobal + Threads + Sync), memory: &Memory) {
     for row in &ROWS {
         expect_row(rt, memory, row);
@@ -124,7 +124,7 @@ const UNFLUSHED: Row = Row {
     ..WRITTEN
 };
 
-// There are no marks.
+// The file of marks does not exist.
 const UNMARKED: Row = Row {
     name: "marks that are absent",
     marks: "absent.marks",
@@ -167,7 +167,7 @@ static ROWS: [Row; 9] = [
         ..WRITTEN
     },
     UNMARKED,
-    // A trace that is no marks, and no place for the image.
+    // The marks are those of a trace, and there is no place for the image.
     Row {
         name: "a trace as marks",
         marks: "fresh.trace",

@@ -1,7 +1,7 @@
-//! What tests expect.
+//! Checks of tests.
 use std::process::Abort;
 
-/// It is so. Where it is not, the test ends, and tells its name and a number: of a mutator or of an entry.
+/// Panics with the name and the number, which is that of a mutator or of an entry, unless `so` holds.
 pub fn expect_so(rt: &impl Abort, name: &str, so: bool, number: u64) {
     assert!(rt; so, "{name}: {number}");
 }

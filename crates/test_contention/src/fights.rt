@@ -11,14 +11,14 @@ use std::thread::Threads;
 /// A fight for page 0.
 #[derive(Clone, Copy)]
 pub struct Fight {
-    /// What a failing test tells.
+    /// The name that a failing test prints.
     pub name: &'static str,
     pub mutators: u8,
-    /// How often each of them writes, or tries to.
+    /// How often each mutator writes, or tries to.
     pub writes: u64,
     /// Whether a write waits while the page is busy.
     pub waits: bool,
-    /// Whether the journal is full then.
+    /// Whether the writes fill the journal.
     pub fills: bool,
 }
 
@@ -46,7 +46,7 @@ static FIGHTS: [Fight; 3] = [
     },
 ];
 
-// A fight on a heap of three objects.
+// Runs a fight on the heap of the three objects.
 fn fight_out<R: Abort + Threads + Wait + Sync>(rt: &R, alloc: Global, fight: &Fight) {
     let plan = plan_of(rt, alloc);
     let builder = shared(rt, alloc, plan_of(rt, alloc));

@@ -1,4 +1,4 @@
-//! The heap of three objects, to be flipped.
+//! The plan of the three objects.
 use page_plan::Plan;
 use std::alloc::Global;
 use std::process::Abort;
@@ -7,7 +7,7 @@ use std::test::Fail;
 use std::thread::Threads;
 use test_support::{planned, three};
 
-// What was made.
+// The value, which must be there.
 fn made<T>(rt: &impl Abort, found: Result<T, Fail>) -> T {
     match found {
         Ok(value) => value,
@@ -21,7 +21,7 @@ pub fn plan_of(rt: &(impl Abort + Threads + Sync), alloc: Global) -> Plan {
     made(rt, planned(alloc, rt, heap))
 }
 
-/// The plan, to be shared.
+/// The plan, shared.
 pub fn shared(rt: &impl Abort, alloc: Global, plan: Plan) -> Arc<Plan> {
     Arc::new(alloc, plan).expect(rt, "memory for the builder")
 }

@@ -7,7 +7,7 @@ use comp_mutator::Finished;
 use heap_layout::Kind;
 use std::process::Abort;
 
-// An entry that this stamp has: of a mutator's, into the first data word of the first object.
+// Whether the entry has this stamp and is a write of one of the mutators into the first data word of the first object.
 fn is_entry(entry: &Entry, stamp: u64, fight: Fight) -> bool {
     entry.stamp == stamp
         && entry.writer < fight.mutators
@@ -15,7 +15,8 @@ fn is_entry(entry: &Entry, stamp: u64, fight: Fight) -> bool {
         && entry.offset == 1
 }
 
-// The values of a writer rise, and are of those that it wrote; where none of its writes was refused they are all of these.
+// Whether the values of a writer rise and are among those that it wrote. If no write may be refused, they must be all
+// of them.
 fn are_of_writer(journal: &[Entry], writer: u8, fight: Fight) -> bool {
     let mut step = 0u64;
     for entry in journal {
@@ -34,7 +35,7 @@ fn are_of_writer(journal: &[Entry], writer: u8, fight: Fight) -> bool {
     !fight.waits || step == fight.writes
 }
 
-// The word is that of the last entry.
+// Whether the word is that of the last entry.
 fn has_last(page: &JournaledPage) -> bool {
     match page.journal().last() {
         Some(last) => page.words().as_slice().get(1) == Some(&last.value),
@@ -42,7 +43,7 @@ fn has_last(page: &JournaledPage) -> bool {
     }
 }
 
-// Just these entries were written: their stamps count from 0, and each writer's values rise.
+// Panics unless the journal has `entries` entries, their stamps count from 0, and the values of each writer rise.
 fn expect_journal(rt: &impl Abort, journal: &[Entry], entries: u64, fight: Fight) {
     expect_so(rt, fight.name, journal.len() as u64 == entries, entries);
     for (stamp, entry) in journal.iter().enumerate() {
@@ -55,7 +56,7 @@ fn expect_journal(rt: &impl Abort, journal: &[Entry], entries: u64, fight: Fight
     }
 }
 
-/// The one page of a finished heap has as many entries as all mutators told, and the last one's value.
+/// Panics unless the one page has as many entries as the mutators counted, and its word is that of the last entry.
 pub fn expect_page(rt: &impl Abort, finished: &Finished, entries: u64, fight: Fight) {
     let page = finished.pages().first().expect(rt, fight.name);
     match page {

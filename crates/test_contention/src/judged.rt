@@ -16,7 +16,7 @@ use std::sync::ledger::{Blank, Ledger as Named};
 use std::sync::{Arc, Wait};
 use std::thread::Threads;
 
-// The audit says yes to the dump of the finished heap.
+// Panics unless the audit accepts the dump of the finished heap.
 fn expect_lawful(rt: &impl Abort, alloc: Global, plan: &Plan, finished: &Finished, fight: Fight)
     requires { IsOfFlip fight.mutators 0 finished.now }
 {
@@ -26,7 +26,7 @@ fn expect_lawful(rt: &impl Abort, alloc: Global, plan: &Plan, finished: &Finishe
     expect_so(rt, fight.name, verdict == Verdict::Yes, 0);
 }
 
-// The heap is finished, and has what was written.
+// Finishes the heap, and panics unless it has all that was written.
 fn end<L: Named>(
     rt: &impl Abort,
     alloc: Global,
@@ -49,7 +49,7 @@ fn end<L: Named>(
     expect_lawful(rt, alloc, plan, &finished, fight);
 }
 
-/// All mutators of a flipped heap write at once; then it is finished, dumped and judged.
+/// Flips the heap, lets all mutators write at once, finishes, dumps and audits.
 pub fn fight_named<L: Named + Send + Sync, R: Abort + Threads + Wait + Sync>(
     rt: &R,
     alloc: Global,

@@ -1,4 +1,4 @@
-//! As many mutators as there may be, in threads, which fight for one page: what no contract says, with values from outside.
+//! The largest number of mutators, one a thread, that write to one page at once. The tests show what no contract says.
 #![tactic(auto)]
 
 #[cfg(test)]

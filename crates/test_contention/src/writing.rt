@@ -1,4 +1,4 @@
-//! Writes into the first data word of the three objects, by many threads at once.
+//! Writes of many threads at once into the first data word of the three objects.
 ghost use Rattle.comp_mutator.specs.Mutators.{AreMutatorsOf, IsMutatorOf};
 
 use crate::expected::expect_so;
@@ -11,12 +11,13 @@ use std::sync::ledger::Ledger as Named;
 use std::thread::{self, Threads};
 use test_support::T;
 
-/// What a mutator writes at this step: 100 times its number, and the step.
+/// The value that a mutator writes at this step: 100 times its number, plus the step.
 pub fn value_at(number: u8, step: u64) -> u64 {
     u64::from(number).wrapping_mul(100).wrapping_add(step)
 }
 
-// Writes this value: whether an entry was written. A write that does not wait may find the page busy; it has no other refusal.
+// Writes this value. Answers whether an entry was written. The only refusal is Busy, of a write that does not wait, or
+// a full journal.
 fn writes<L: Named, B: Builder, R: Abort + Wait>(
     rt: &R,
     alloc: Global,
@@ -37,7 +38,7 @@ fn writes<L: Named, B: Builder, R: Abort + Wait>(
     told.is_ok()
 }
 
-// All writes of a mutator, which then tells just as many entries as were written.
+// Writes all values of a mutator. Panics unless it counts as many entries as were written.
 fn write_all<L: Named, B: Builder, R: Abort + Wait>(
     rt: &R,
     alloc: Global,
@@ -58,7 +59,7 @@ fn write_all<L: Named, B: Builder, R: Abort + Wait>(
     expect_so(rt, fight.name, m.entries() == count, u64::from(number));
 }
 
-/// The writes of all mutators, each in a thread of its own.
+/// Lets each mutator write in a thread of its own.
 pub fn write_at_once<L: Named + Send + Sync, B: Builder, R: Abort + Threads + Wait + Sync>(
     rt: &R,
     alloc: Global,
@@ -80,7 +81,7 @@ pub fn write_at_once<L: Named + Send + Sync, B: Builder, R: Abort + Threads + Wa
     );
 }
 
-/// How many entries all mutators wrote together.
+/// The number of entries that all mutators wrote.
 pub fn count_entries<L: Named>(mutators: &[Mutator<L>]) -> u64 {
     let mut count = 0u64;
     for m in mutators {
@@ -89,7 +90,7 @@ pub fn count_entries<L: Named>(mutators: &[Mutator<L>]) -> u64 {
     count
 }
 
-/// Where the journal is full one more write is refused, and counts nothing.
+/// Panics unless one more write is refused because the journal is full, and counts no entry.
 pub fn expect_full<L: Named, B: Builder>(
     rt: &impl Abort,
     alloc: Global,

@@ -1,4 +1,4 @@
-//! Heaps over which texts are run, and the heaps that follow.
+//! Runs of texts over heaps, and the next heaps.
 ghost use Rattle.std.specs.Prelude.{◌≤◌};
 ghost use Rattle.comp_cycles.specs.Ends.{IsEndOf};
 
@@ -11,12 +11,12 @@ use std::process::Abort;
 use std::test::Fail;
 use std::thread::Threads;
 
-/// It is so. Where it is not, the test ends, and tells its name and a number.
+/// Panics with the name and the number unless `so` holds.
 pub fn expect_so(rt: &impl Abort, name: &str, so: bool, number: u64) {
     assert!(rt; so, "{name}: {number}");
 }
 
-/// The heap of a table, which is accepted.
+/// The heap, which must be accepted.
 pub fn made(rt: &impl Abort, heap: Result<MarkedHeap, Fail>) -> MarkedHeap {
     match heap {
         Ok(heap) => heap,
@@ -24,7 +24,7 @@ pub fn made(rt: &impl Abort, heap: Result<MarkedHeap, Fail>) -> MarkedHeap {
     }
 }
 
-/// What is left of a heap over which a text was run, by so many mutators, with so many fresh pages.
+/// A run of a text over a heap, by `mutators` mutators and with `fresh` fresh pages.
 pub fn ran(
     rt: &(impl Abort + Threads + Sync),
     alloc: Global,
@@ -45,7 +45,7 @@ pub fn ran(
     }
 }
 
-/// The heap that follows with these marks, or why none does.
+/// The next heap with these marks, or the refusal.
 pub fn followed(
     rt: &impl Abort,
     alloc: Global,
@@ -58,7 +58,7 @@ pub fn followed(
     ran.finished.next_cycle(alloc, &*ran.plan, marks)
 }
 
-/// The heap that follows with these marks, which are accepted.
+/// The next heap with these marks, which must be accepted.
 pub fn follow(rt: &impl Abort, alloc: Global, ran: Ran, marks: &[u32]) -> MarkedHeap
     requires { IsEndOf ran.plan.value ran.finished }
 {
@@ -68,7 +68,7 @@ pub fn follow(rt: &impl Abort, alloc: Global, ran: Ran, marks: &[u32]) -> Marked
     }
 }
 
-/// Page 0 of a plan, which has pages.
+/// Page 0 of a plan, which must exist.
 pub fn first_page(rt: &impl Abort, alloc: Global, plan: &Plan) -> PageWords {
     assert!(rt; 0 < plan.pages(), "no page");
     plan.build_page(alloc, 0).expect(rt, "a page")

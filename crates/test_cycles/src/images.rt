@@ -1,11 +1,11 @@
-//! Images of heaps that follow.
+//! Images of next heaps.
 use crate::chains::{expect_so, follow};
 use crate::rows::linked;
 use heap_layout::{Counted, Edition, MarkedHeap, read_image, write_image};
 use std::alloc::Global;
 use std::process::Abort;
 
-/// The image of a heap. It is read as that heap again.
+/// The image of a heap. Checks that it is read as that heap.
 pub fn image(rt: &impl Abort, alloc: Global, heap: &MarkedHeap) -> Vec<u8> {
     let mut writer = Counted::new(Vec::new(alloc));
     write_image(heap, &mut writer).expect(rt, "writing into memory");

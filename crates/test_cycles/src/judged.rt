@@ -1,4 +1,4 @@
-//! The last heap of several cycles is dumped, and the audit says yes to it.
+//! The audit accepts the dump of the last heap of several cycles.
 use crate::chains::{expect_so, follow, made};
 use crate::rows::{LINKED, linked};
 use comp_audit::{Dump, Verdict, audit};
@@ -12,7 +12,7 @@ use test_support::three;
 // The marks that begin the second cycle.
 const MARKS: [u32; 2] = [2, 64];
 
-// Whether the audit says yes to this dump, where this plan compacted the heap.
+// Whether the audit accepts this dump of the heap that this plan compacted.
 fn is_lawful(rt: &impl Abort, alloc: Global, plan: &Plan, dump: &Dump<'_>) -> bool {
     let verdict = audit(alloc, plan, dump).expect(rt, "a verdict");
     verdict == Verdict::Yes

@@ -1,4 +1,4 @@
-//! The heaps that follow have at most 1,048,576 words, and as many marks.
+//! The next heap has at most 1,048,576 words, and as many marks.
 ghost use Rattle.std.specs.Prelude.{◌≤◌};
 
 use crate::chains::{expect_so, followed, made, ran};
@@ -11,7 +11,7 @@ use std::test::Fail;
 use std::thread::Threads;
 use test_support::heap;
 
-// 769 objects of 1,024 words, which are 12,304 pages. All are marked.
+// 769 objects of 1,024 words, all marked. They fill 12,304 pages.
 fn long_objects(alloc: Global) -> Result<MarkedHeap, Fail> {
     let header = Header::new(0, 1_023, 0).word();
     let mut words = vec![in alloc; 0; 787_456]?;
@@ -26,7 +26,7 @@ fn long_objects(alloc: Global) -> Result<MarkedHeap, Fail> {
     heap(alloc, &words, &marks, &[])
 }
 
-// The heap that follows them, with so many fresh pages, and these marks; or why none does.
+// The next heap after them, with `fresh` fresh pages and these marks, or the refusal.
 fn behind_long_objects(
     rt: &(impl Abort + Threads + Sync),
     alloc: Global,
@@ -49,7 +49,7 @@ fn is_too_large(heap: &Result<MarkedHeap, NotCycled>) -> bool {
 #[test]
 fn pages_that_are_too_many(rt: HostRuntime) {
     let alloc = rt.alloc();
-    // The mark is on no start, which comes second.
+    // The mark is on no start, which is checked later.
     let refused = behind_long_objects(&rt, alloc, 4_081, &[1]);
     expect_so(&rt, "too large", is_too_large(&refused), 16_385);
     match behind_long_objects(&rt, alloc, 4_080, &[0, 1_024]) {
@@ -61,7 +61,7 @@ fn pages_that_are_too_many(rt: HostRuntime) {
 #[test]
 fn marks_that_are_too_many(rt: HostRuntime) {
     let alloc = rt.alloc();
-    // They do not rise, which comes second.
+    // The marks do not rise, which is checked later.
     let marks = vec![in alloc; 0; 1_048_577].expect(&rt, "marks");
     let refused = followed(&rt, alloc, linked(&rt, alloc), &marks);
     expect_so(&rt, "too large", is_too_large(&refused), 1_048_577);

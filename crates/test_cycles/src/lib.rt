@@ -1,4 +1,5 @@
-//! Cycles, one behind the other: the heap with which the next one begins, its image, and why marks are refused, with values from outside; and chains of cycles that look random, beside
+//! Cycles, one after another: the next heap, its image, and refused marks, with expected values from outside; and
+//! chains of pseudorandom cycles, compared with a plain model whose objects never move.
 //! objects that never move.
 #![tactic(auto)]
 

@@ -1,4 +1,4 @@
-//! Texts of marks, cut and changed: what is read of each is what a second hand reads.
+//! Texts of marks, cut and changed. The reader must read each as the plain reader of this module does.
 use crate::chains::expect_so;
 use comp_trace::{MarksFault, read_marks};
 use std::alloc::{AllocError, Global};
@@ -6,7 +6,7 @@ use std::process::Abort;
 
 const TEXT: &[u8] = b"0\n7\n64\n100\n4294967295\n";
 
-// The marks of the text, or the number of the first line that is none. A line that no line feed ends is none.
+// The marks of the text, or the number of the first line that is no mark. A last line without a line feed is no mark.
 fn plain_marks(alloc: Global, text: &[u8]) -> Result<Result<Vec<u32>, u64>, AllocError> {
     let mut marks = Vec::new(alloc);
     let mut digits = 0u32;
@@ -38,7 +38,7 @@ fn plain_marks(alloc: Global, text: &[u8]) -> Result<Result<Vec<u32>, u64>, Allo
     }
 }
 
-// Both read the same.
+// Checks that both readers read the same.
 fn expect_alike(rt: &impl Abort, alloc: Global, text: &[u8], number: u64) {
     let wanted = plain_marks(alloc, text).expect(rt, "memory for marks");
     let alike = match (read_marks(alloc, text), wanted) {
@@ -58,7 +58,7 @@ fn marks_are_cut(rt: HostRuntime) {
     }
 }
 
-// What a byte becomes.
+// What each byte is changed to.
 const BYTES: &[u8] = b"\0\t\n\r +-/019:x\xff";
 
 #[test]
@@ -74,7 +74,7 @@ fn marks_are_changed(rt: HostRuntime) {
     }
 }
 
-// Texts, and the line of each that is no mark; 0 where each is one.
+// A text, and the number of its line that is no mark, or 0 if all are marks.
 struct Row(&'static [u8], u64);
 
 static ROWS: [Row; 16] = [

@@ -1,4 +1,5 @@
-//! Where an allocation is refused, as the test run's own switch has it, cycles tell want of memory by its name, and show what was shown before.
+//! If an allocation is refused, as a switch of the test run asks, cycles report that they are out of memory and show
+//! what they showed before.
 use crate::chains::expect_so;
 use call_refusals::Refusal;
 use comp_trace::{CycleFault, CyclesStopped, Shown, TraceFault, parse, replay_cycles};
@@ -8,13 +9,13 @@ use std::process::Abort;
 use std::thread::Threads;
 use test_support::{F, THREE};
 
-// The first object's data word is shown, a new object stored, and in the second cycle it is shown again.
+// The first object's data word is shown and a new object is stored. The second cycle shows the data word again.
 const FIRST: &[u8] =
     b"0 root 0 0\n0 load 1 0 0\n0 get 1 0\n0 new 2 1 0 9\n0 store 2 0 1\n0 store 0 0 2\n";
 
 const SECOND: &[u8] = b"0 root 0 0\n0 load 1 0 0\n0 load 2 1 0\n0 get 2 0\n";
 
-// What these faults say is that memory was refused.
+// Whether the fault reports that memory was refused.
 fn wants_memory(fault: CycleFault) -> bool {
     match fault {
         CycleFault::NotMarked(_, fault) => fault == LayoutFault::OutOfMemory,
@@ -23,7 +24,7 @@ fn wants_memory(fault: CycleFault) -> bool {
     }
 }
 
-// A line whose call was refused memory.
+// Whether the fault is a line whose call was refused memory.
 fn is_refused(fault: TraceFault) -> bool {
     match fault {
         TraceFault::Refused(_, refusal) => refusal == Refusal::OutOfMemory,
@@ -31,10 +32,11 @@ fn is_refused(fault: TraceFault) -> bool {
     }
 }
 
-// The lines of the two cycles that show the data word.
+// In each of the two cycles, the line that shows the data word.
 const SHOWING: [u64; 2] = [3, 4];
 
-// How many cycles have a list of values, at least and at most. A cycle whose lines had begun has one, and so have those before it.
+// The least and the most cycles with a list of values. A cycle has a list if its lines had begun, and so have those
+// before it.
 fn lists(fault: CycleFault) -> (u64, u64) {
     match fault {
         CycleFault::NotMarked(c, _fault) => (c.wrapping_add(1), c.wrapping_add(1)),
@@ -54,7 +56,7 @@ fn had_shown(fault: CycleFault, c: u64, line: u64) -> bool {
     }
 }
 
-// The values are those of the cycles before the one that was stopped, and of its lines before the refused one.
+// Checks that the values are those of the cycles before the stopped one, and of its lines before the refused one.
 fn expect_shown(rt: &impl Abort, stopped: &CyclesStopped) {
     let (least, most) = lists(stopped.fault);
     let count = stopped.shown.len() as u64;
@@ -70,7 +72,7 @@ fn expect_shown(rt: &impl Abort, stopped: &CyclesStopped) {
     }
 }
 
-// The cycles; None where memory was wanting before they began.
+// The cycles, or `None` if memory was refused before they began.
 fn cycles(rt: &(impl Abort + Threads + Sync), alloc: Global) -> Option<Result<u64, CyclesStopped>> {
     let words = THREE.to_vec(alloc).ok()?;
     let marks = [0, 5].to_vec(alloc).ok()?;

@@ -1,4 +1,4 @@
-//! All cycles of a chain by one call: each shows what it showed when it was run alone.
+//! All cycles of a chain by one call. Each shows what it showed when it was run alone.
 ghost use Rattle.std.specs.Prelude.{All};
 ghost use Rattle.comp_trace.specs.CycleRuns.{IsParsedFor};
 
@@ -10,7 +10,8 @@ use std::alloc::Global;
 use std::process::Abort;
 use std::thread::Threads;
 
-/// A cycle that was run: the marks with which its heap was made, none of the first; the text of its lines; and the values that they showed.
+/// A cycle that was run: the marks with which its heap was made (none for the first), the text of its lines, and the
+/// values shown.
 #[derive(Drop)]
 pub struct Past {
     pub marks: Vec<u32>,
@@ -18,7 +19,7 @@ pub struct Past {
     pub shown: Vec<u64>,
 }
 
-/// These values were shown, and no others.
+/// Checks that these values were shown, and no others.
 pub fn expect_values(rt: &impl Abort, shown: &[Shown], wanted: &[u64], name: &str) {
     expect_so(rt, name, shown.len() == wanted.len(), 0);
     for (value, wanted) in shown.iter().zip(wanted) {
@@ -26,7 +27,7 @@ pub fn expect_values(rt: &impl Abort, shown: &[Shown], wanted: &[u64], name: &st
     }
 }
 
-// The traces of these cycles, each beside its marks.
+// The traces of these cycles, each with its marks.
 fn further(rt: &impl Abort, alloc: Global, past: &[Past], roots: u16) -> Vec<(Vec<u32>, Trace)>
     ensures { All (λ one. IsParsedFor 2 roots one.1) result.items }
 {
@@ -41,7 +42,7 @@ fn further(rt: &impl Abort, alloc: Global, past: &[Past], roots: u16) -> Vec<(Ve
     further
 }
 
-/// The cycles of a chain that began with this heap show what they showed.
+/// Checks that one call over this heap shows what the cycles of the chain showed.
 pub fn expect_past(
     rt: &(impl Abort + Threads + Sync),
     alloc: Global,

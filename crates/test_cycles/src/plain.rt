@@ -1,14 +1,14 @@
-//! Objects that never move. Cycles only tell where they are.
+//! A plain model of the objects, which never move. A cycle only changes their addresses.
 use crate::chains::expect_so;
 use heap_layout::{Edition, Header, MarkedHeap};
 use std::alloc::{AllocError, Global};
 use std::process::Abort;
 use test_support::F;
 
-/// Where an object is that was dropped.
+/// The index of an object that was dropped.
 const NOWHERE: u64 = u64::MAX;
 
-/// What a field is.
+/// A field of an object.
 #[derive(Clone, Copy)]
 pub enum Field {
     Reference(u16),
@@ -16,8 +16,8 @@ pub enum Field {
     Data(u16),
 }
 
-/// An object: its header, and its fields, the references first, then the weak words, and then the data words. A reference and a weak word are the number of an object, from 1, or 0.
-/// `at` is the index of its header among the words of the heap as it now is.
+/// An object: its header, and its fields, references first, then weak words, then data words. A reference or a weak
+/// word is the number of an object, counted from 1, or 0. `at` is the index of its header in the current heap.
 #[derive(Drop)]
 pub struct Plain {
     pub header: Header,
@@ -27,7 +27,7 @@ pub struct Plain {
 }
 
 impl Plain {
-    // The place of a field among all fields, if it is there.
+    // The place of a field among all fields, or `None` if it does not exist.
     fn place(&self, field: Field) -> Option<usize> {
         let (first, count, number) = match field {
             Field::Reference(number) => (0, self.header.refs(), number),
@@ -40,13 +40,14 @@ impl Plain {
         None
     }
 
-    // How many of its fields, from the first on, name objects.
+    // The number of its references and weak words. They come before the data words.
     fn references(&self) -> usize {
         usize::from(self.header.refs()) + usize::from(self.header.weak())
     }
 }
 
-/// All objects by their numbers, those to which the roots lead, how many mutators there are, and the words that are used of each fresh page of this cycle.
+/// All objects by number, the objects that the roots refer to, the number of mutators, and the words used of each fresh
+/// page of this cycle.
 #[derive(Drop)]
 pub struct Life {
     pub edition: Edition,
@@ -58,18 +59,18 @@ pub struct Life {
 }
 
 impl Life {
-    /// The object of this number.
+    /// The object with this number.
     pub fn object(&self, number: u64) -> Option<&Plain> {
         self.objects.get((number as usize).wrapping_sub(1))
     }
 
-    /// The field of an object, if it is there.
+    /// The value of a field, or `None` if it does not exist.
     pub fn get(&self, number: u64, field: Field) -> Option<u64> {
         let object = self.object(number)?;
         object.fields.get(object.place(field)?).copied()
     }
 
-    /// Sets the field of an object. Whether it is there.
+    /// Sets a field. Answers whether it exists.
     pub fn set(&mut self, number: u64, field: Field, value: u64) -> bool {
         let Some(object) = self.objects.get_mut((number as usize).wrapping_sub(1)) else {
             return false;
@@ -83,7 +84,8 @@ impl Life {
         true
     }
 
-    /// A new object of mutator `maker`, whose fields are 0, on the first of its fresh pages `maker`, `maker + mutators`, .. that has room; its number. None where no page has.
+    /// Adds an object of mutator `maker`, whose fields are 0, on the first of the fresh pages `maker`, `maker +
+    /// mutators`, .. that has room. Answers its number, or `None` if no page has room.
     pub fn add(
         &mut self,
         alloc: Global,
@@ -109,7 +111,7 @@ impl Life {
         Ok(None)
     }
 
-    // The number of the kept object that is the next behind this index, if any is.
+    // The number of the first kept object at or after this index, if there is one.
     fn next_kept(&self, from: u64) -> Option<u64> {
         let mut next = None;
         let mut least = NOWHERE;
@@ -122,7 +124,7 @@ impl Life {
         next
     }
 
-    /// A cycle begins: the kept objects slide, and there are so many fresh pages.
+    /// Begins a cycle: the kept objects slide, and there are `fresh` fresh pages.
     pub fn begin(&mut self, alloc: Global, fresh: usize) -> Result<(), AllocError> {
         let mut place = 0u64;
         let mut from = 0;
@@ -147,7 +149,7 @@ impl Life {
         }
     }
 
-    // Keeps all to which a kept object refers.
+    // Keeps all objects that a kept object refers to.
     fn keep_targets(&mut self, object: usize) {
         let count = match self.objects.get(object) {
             Some(one) if one.kept => one.header.refs(),
@@ -161,7 +163,8 @@ impl Life {
         }
     }
 
-    /// Marks: the objects that the roots reach by references are kept, and no others. The indices at which they start, rising.
+    /// Marks: keeps the objects that are reachable from the roots by references, and no others. Answers the indices of
+    /// their headers, rising.
     pub fn mark(&mut self, alloc: Global) -> Result<Vec<u32>, AllocError> {
         for object in &mut self.objects {
             object.kept = false;
@@ -191,7 +194,7 @@ impl Life {
         Ok(marks)
     }
 
-    // The from-space address of an object, which may be null.
+    // The from-space address of an object, or null for number 0.
     fn address(&self, number: u64) -> u64 {
         match self.object(number) {
             Some(object) => F.wrapping_add(object.at),
@@ -199,7 +202,7 @@ impl Life {
         }
     }
 
-    // The object of this number has its words in this heap.
+    // Checks that this heap has the words of this object.
     fn expect_words(&self, rt: &impl Abort, heap: &MarkedHeap, name: &str, object: &Plain) {
         let index = object.at as usize;
         let header = heap.words().get(index).copied();
@@ -217,7 +220,7 @@ impl Life {
         }
     }
 
-    /// The heap that follows has the words of all objects that were there, kept or not, and the roots.
+    /// Checks that the next heap has the words of all objects, kept or not, and the roots.
     pub fn expect_heap(&self, rt: &impl Abort, heap: &MarkedHeap, name: &str) {
         expect_so(rt, name, heap.edition() == self.edition, 0);
         for object in &self.objects {
@@ -231,7 +234,7 @@ impl Life {
         }
     }
 
-    // Whether the object of this number was dropped, or is to be.
+    // Whether the object with this number is not kept.
     fn is_dropped(&self, number: u64) -> bool {
         match self.object(number) {
             Some(object) => !object.kept,
@@ -239,7 +242,7 @@ impl Life {
         }
     }
 
-    /// Drops what is not kept: a weak word for it becomes null.
+    /// Drops the objects that are not kept. Each weak word for one of them becomes null.
     pub fn drop_others(&mut self) {
         for object in 0..self.objects.len() {
             let number = (object as u64).wrapping_add(1);

@@ -1,5 +1,6 @@
-//! Chains of ten cycles of two mutators that look random, in both editions: each cycle shows what the objects show that never move, and the heap that follows has their words; and so do
-//! all cycles of a chain by one call.
+//! Pseudorandom chains of ten cycles of two mutators, in both editions. Each cycle shows what the plain model shows,
+//! whose objects never move, and the next heap has the words of the model. All cycles of a chain by one call show the
+//! same.
 use crate::chains::{follow, made, ran};
 use crate::images::image;
 use crate::one_call::{Past, expect_past, expect_values};
@@ -10,20 +11,21 @@ use std::process::Abort;
 use std::thread::Threads;
 use test_support::{F, Random, heap_of};
 
-// How many chains there are of each edition, cycles of a chain, and lines that are drawn for a cycle.
+// The number of chains of each edition, of cycles of a chain, and of lines drawn for a cycle.
 const CHAINS: u64 = 40;
 
 const CYCLES: u32 = 10;
 
 const DRAWS: u32 = 40;
 
-/// How many mutators there are.
+/// The number of mutators.
 pub const MUTATORS: u8 = 2;
 
-/// How many fresh pages each cycle has: two of the first mutator, and one of the second.
+/// The number of fresh pages of each cycle: two of the first mutator, one of the second.
 pub const FRESH: u32 = 3;
 
-// The objects, the registers of both mutators, the one whose line is drawn, what the lines of the cycle showed, their text, and the marks with which it began; and the cycles before it.
+// The objects, the registers of both mutators, the mutator of the drawn line, the values that the lines of the cycle
+// show, their text, the marks with which the cycle began, and the cycles before it.
 #[derive(Drop)]
 struct Chain {
     life: Life,
@@ -51,7 +53,7 @@ fn plain(alloc: Global, header: Header, fields: &[u64], at: u64) -> Result<Plain
     })
 }
 
-// Two objects that refer to one another; in edition two each has a weak word for itself.
+// Two objects that refer to one another. In edition two each has a weak word for itself.
 fn opening(alloc: Global, edition: Edition) -> Result<Life, AllocError> {
     let (first, second) = (header(edition, 2, 1, 1, 1), header(edition, 1, 1, 1, 2));
     let objects = match edition {
@@ -74,7 +76,7 @@ fn opening(alloc: Global, edition: Edition) -> Result<Life, AllocError> {
     })
 }
 
-// Their heap.
+// The heap of these two objects.
 fn opening_heap(rt: &impl Abort, alloc: Global, edition: Edition) -> MarkedHeap {
     let first = header(edition, 2, 1, 1, 1).word();
     let second = header(edition, 1, 1, 1, 2).word();
@@ -106,7 +108,7 @@ impl Chain {
         }
     }
 
-    // A register, which mostly is not null.
+    // A register, which is seldom null.
     fn register(&self, random: &mut Random) -> u8 {
         let mut register = 0;
         for _ in 0..4 {
@@ -118,7 +120,7 @@ impl Chain {
         register
     }
 
-    // A field of the kind that has addresses, and the letter before the name of its lines.
+    // A field of the kind that holds addresses, and the letter before the names of its lines.
     fn field(&self, random: &mut Random) -> (u16, Field, &'static str) {
         let number = random.small(3);
         match self.life.edition {
@@ -202,7 +204,7 @@ impl Chain {
         Ok(())
     }
 
-    // A line more of either mutator, where it is not one that would be refused.
+    // Adds a line of either mutator, unless its call would be refused.
     fn line(&mut self, alloc: Global, random: &mut Random) -> Result<(), AllocError> {
         self.mutator = (random.below(u64::from(MUTATORS)) % 2) as u8;
         match random.below(10) {
@@ -215,7 +217,7 @@ impl Chain {
         }
     }
 
-    // A cycle begins: its registers are null, and its lines are drawn.
+    // Begins a cycle: its registers are null, and its lines are drawn.
     fn begin(&mut self, alloc: Global, random: &mut Random) -> Result<(), AllocError> {
         self.life.begin(alloc, FRESH as usize)?;
         self.registers = [[0; 16]; 2];
@@ -227,7 +229,7 @@ impl Chain {
         Ok(())
     }
 
-    // The cycle is over, and these marks are handed in.
+    // Ends a cycle with these marks.
     fn end(&mut self, alloc: Global, marks: Vec<u32>) -> Result<(), AllocError> {
         self.past.push(Past {
             marks: self.marks.to_vec(alloc)?,
@@ -238,7 +240,7 @@ impl Chain {
         Ok(())
     }
 
-    // A cycle over this heap; the heap that follows.
+    // A cycle over this heap. Answers the next heap.
     fn cycle(
         &mut self,
         rt: &(impl Abort + Threads + Sync),
@@ -259,7 +261,8 @@ impl Chain {
     }
 }
 
-// The chain of this seed. The image of the last heap is read as that heap, and the cycles are run again by one call.
+// Checks the chain of this seed. The image of the last heap must be read as that heap, and one call must run all cycles
+// again.
 fn run_chain(rt: &(impl Abort + Threads + Sync), alloc: Global, edition: Edition, seed: u64) {
     let name = format!(in alloc; "seed {seed}").expect(rt, "a name");
     let mut random = Random { state: seed };

@@ -1,4 +1,4 @@
-//! The three objects: the heap that follows, why marks are refused, and how several cycles stop.
+//! The three objects: the next heap, refused marks, and how several cycles stop.
 ghost use Rattle.comp_cycles.specs.Ends.{IsEndOf};
 
 use crate::chains::{expect_so, first_page, follow, followed, made, ran};
@@ -11,13 +11,13 @@ use std::process::Abort;
 use std::thread::Threads;
 use test_support::{F, T, three};
 
-/// The last of the three objects gets a reference to a new one.
+/// The last of the three objects gets a reference to a new object.
 pub const LINKED: &[u8] = b"0 root 0 0\n0 new 1 0 0 9\n0 store 0 0 1\n";
 
-// The object to which it refers has no data word.
+// The object that it refers to has no data word.
 const PUT: &[u8] = b"0 root 0 0\n0 load 1 0 0\n0 put 1 0 1\n";
 
-/// The words of the heap that follows, but for zeros: each with its index.
+/// The words of the next heap that are not 0, each with its index.
 const WORDS: [(usize, u64); 5] = [
     (0, 4_295_032_832),
     (1, 11),
@@ -26,14 +26,14 @@ const WORDS: [(usize, u64); 5] = [
     (64, 38_654_705_664),
 ];
 
-/// What is left of the three objects behind that text.
+/// A run of that text over the three objects.
 pub fn linked(rt: &(impl Abort + Threads + Sync), alloc: Global) -> Ran
     ensures { IsEndOf result.plan.value result.finished }
 {
     ran(rt, alloc, made(rt, three(alloc)), LINKED, 1, 2)
 }
 
-// The word that stands at an index of that heap.
+// The word at an index of the next heap.
 fn wanted(index: usize) -> u64 {
     for (at, word) in &WORDS {
         if *at == index {
@@ -67,7 +67,7 @@ fn the_next_heap(rt: HostRuntime) {
     }
 }
 
-// Marks, and why they are refused.
+// Marks, and the fault that refuses them.
 struct Refused(&'static [u32], LayoutFault);
 
 static REFUSED: [Refused; 6] = [
@@ -93,7 +93,8 @@ fn marks_are_refused(rt: HostRuntime) {
     }
 }
 
-// The fault of two cycles over the three objects, with these marks between them, and how many cycles showed values.
+// The fault of two cycles over the three objects with these marks between them, and the number of lists of shown
+// values. `None` if they do not stop.
 fn stop(
     rt: &(impl Abort + Threads + Sync),
     alloc: Global,

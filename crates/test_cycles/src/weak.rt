@@ -1,4 +1,4 @@
-//! The heap with weak words, and those that follow.
+//! The heap with weak words, and the next heaps.
 use crate::chains::{expect_so, first_page, follow, made, ran};
 use crate::images::image;
 use heap_layout::{Edition, MarkedHeap};
@@ -12,7 +12,7 @@ fn weak_heap(rt: &impl Abort, alloc: Global, root: u64) -> MarkedHeap {
     made(rt, heap_of(alloc, Edition::Two, &WEAK, &[0, 5], &[root]))
 }
 
-// The heap that follows it without a line, with these marks.
+// The next heap after a cycle without lines, with these marks.
 fn next(rt: &(impl Abort + Threads + Sync), alloc: Global, root: u64, marks: &[u32]) -> MarkedHeap {
     follow(
         rt,
@@ -46,7 +46,8 @@ fn weak_words_are_forwarded_again(rt: HostRuntime) {
     expect_so(&rt, "field 1", page.get(2) == 8_589_934_596, 1);
 }
 
-// A weak word whose object is not marked keeps its address in the heap that follows, and becomes 0 where that is compacted.
+// A weak word of an object that is not marked keeps its address in the next heap, and becomes 0 when that heap is
+// compacted.
 #[test]
 fn weak_words_of_dropped_objects(rt: HostRuntime) {
     let alloc = rt.alloc();
@@ -60,7 +61,7 @@ fn weak_words_of_dropped_objects(rt: HostRuntime) {
     expect_so(&rt, "data", page.get(3) == 9, 3);
 }
 
-// A line stores a weak word of a new object, which is then marked.
+// A line stores a weak word for a new object, which is then marked.
 const STORED: &[u8] =
     b"0 root 0 0\n0 wnew 1 0 1 1 3\n0 put 1 0 5\n0 wstore 0 0 1\n0 wstore 1 0 0\n0 wload 2 0 0\n0 get 2 0\n";
 

@@ -1,4 +1,4 @@
-//! Dumps with each of their bytes changed to each other value.
+//! Dumps with each byte changed to each other value.
 use crate::encoded::{Whole, encoded};
 use crate::expected::expect_so;
 use crate::judged::{Told, told};
@@ -7,20 +7,22 @@ use page_plan::Plan;
 use std::alloc::Global;
 use std::process::Abort;
 
-/// What becomes of a dump one byte of which is changed.
+/// What becomes of a dump after a change of one byte.
 pub enum Becomes {
-    /// That is told.
+    /// This is reported.
     Is(Told),
-    /// It is no dump: what lies behind the byte is read as other fields than it was written for, and these do not fit.
+    /// It is no dump: the bytes after the change are read as other fields than they were written for, and these do not
+    /// fit.
     Shifted,
-    /// The word in which the byte lies is wrong, counted from the first byte of this page's words.
+    /// The word of the byte is wrong. Words are counted from the first byte of the words of this page.
     WrongWord(u64),
 }
 
-/// A byte from the first place to the last one, with a value from the least to the most.
+/// The first and the last place of a byte, the least and the most value, and what becomes of the dump.
 pub struct Rule(pub usize, pub usize, pub u8, pub u8, pub Becomes);
 
-// What is told of a dump with a byte at a place, by the rule that is for it. Where the rule leaves a choice, and what was found is one of them, that is it.
+// The expected report for a byte at a place, by its rule. If the rule allows several, and `found` is one of them, it is
+// `found`.
 fn reckoned(rule: &Rule, at: usize, found: Told) -> Told {
     let Rule(first, _, _, _, becomes) = rule;
     match becomes {
@@ -36,7 +38,7 @@ fn reckoned(rule: &Rule, at: usize, found: Told) -> Told {
     }
 }
 
-// What is told of a dump with this byte at that place is what was reckoned.
+// Checks the report for this byte at that place.
 fn expect_reckoned(rt: &impl Abort, rules: &[Rule], found: Told, at: usize, byte: u8) {
     for rule in rules {
         let Rule(first, last, least, most, _) = rule;
@@ -50,7 +52,8 @@ fn expect_reckoned(rt: &impl Abort, rules: &[Rule], found: Told, at: usize, byte
     rt.panic("no rule")
 }
 
-// Each other value at each place of a dump, which has these bytes. The last value at a place is the right one, with which it is left.
+// Checks each other value at each place of a dump with these bytes. The last value at a place is the right one, which
+// stays.
 fn expect_each(rt: &impl Abort, alloc: Global, plan: &Plan, rules: &[Rule], bytes: &mut [u8]) {
     let mut right = 0;
     let mut byte = 0u8;
@@ -70,8 +73,8 @@ fn expect_each(rt: &impl Abort, alloc: Global, plan: &Plan, rules: &[Rule], byte
     }
 }
 
-/// The dump has so many bytes, becomes by the first rule that is for it what that rule says where one of them is changed, and is lawful once each of them is the
-/// right one again.
+/// Checks that the dump has this many bytes, that each change of a byte is reported as the first rule for it says, and
+/// that the dump is lawful with all bytes right again.
 pub fn expect_bytes(
     rt: &impl Abort,
     alloc: Global,

@@ -1,4 +1,4 @@
-//! Worked heaps, flipped, worked on and finished, and their dumps.
+//! Worked heaps that are flipped, worked on and finished, and their dumps.
 ghost use Rattle.std.specs.Prelude.{◌≡◌};
 ghost use Rattle.comp_mutator.specs.Mutators.{setup_of, AreMutatorsOf, IsMutatorOf};
 
@@ -18,47 +18,47 @@ use std::thread::Threads;
 
 /// A call of a mutator.
 pub enum Call {
-    /// How many pages the space has.
+    /// The number of pages of the space.
     Pages,
-    /// A touch of a page that is there: 1 is the answer where the page was not built, and the call has built it.
+    /// A touch of a page, which exists. The answer is 1 if this call built it, else 0.
     Touch(u64),
     /// A read of a reference field: the object and the field.
     ReadRef(u64, u16),
     /// A read of a data field: the object and the field.
     ReadData(u64, u16),
-    /// A write of a reference field, whose answer is the entry's stamp: the object, the field and the value.
+    /// A write of a reference field: the object, the field and the value. The answer is the stamp of the entry.
     WriteRef(u64, u16, u64),
-    /// A write of a data field, whose answer is the entry's stamp: the object, the field and the value.
+    /// A write of a data field: the object, the field and the value. The answer is the stamp of the entry.
     WriteData(u64, u16, u64),
-    /// A new object of one word with tag 0, whose address is the answer.
+    /// A new object of one word with tag 0. The answer is its address.
     Alloc,
     /// A read of a weak field: the object and the field.
     ReadWeak(u64, u16),
-    /// A write of a weak field, whose answer is the entry's stamp: the object, the field and the value.
+    /// A write of a weak field: the object, the field and the value. The answer is the stamp of the entry.
     WriteWeak(u64, u16, u64),
-    /// A new object of one weak word with tag 5, whose address is the answer.
+    /// A new object of one weak word with tag 5. The answer is its address.
     AllocWeak,
 }
 
-/// The mutator of this number makes this call, and this is the answer.
+/// The number of a mutator, its call, and the answer.
 pub struct Row(pub usize, pub Call, pub u64);
 
-/// A run: a heap, flipped, and what its mutators do.
+/// A run: a heap that is flipped, and what its mutators do.
 pub struct Run {
     pub name: &'static str,
     pub heap: Worked,
     pub mutators: u32,
     pub fresh_pages: u32,
     pub rows: &'static [Row],
-    /// Whether the last mutator comes first when all are handed back.
+    /// Whether the last mutator is handed in first.
     pub last_first: bool,
-    /// How many bytes the dump of what is left has.
+    /// The number of bytes of the dump.
     pub length: usize,
-    /// That dump.
+    /// The dump.
     pub parts: Whole,
 }
 
-// What a call is answered.
+// The answer of a call.
 fn answer<L: Named>(
     rt: &impl Abort,
     alloc: Global,
@@ -93,7 +93,7 @@ fn answer<L: Named>(
     }
 }
 
-// One of the mutators makes its call.
+// Checks the call of one mutator.
 fn expect_row<L: Named>(
     rt: &impl Abort,
     alloc: Global,
@@ -113,7 +113,7 @@ fn expect_row<L: Named>(
     expect_so(rt, name, at, found == Ok(*wanted));
 }
 
-// The calls of a run, one after another.
+// Checks the calls of a run, one after another.
 fn expect_rows<L: Named>(
     rt: &impl Abort,
     alloc: Global,
@@ -132,7 +132,7 @@ fn expect_rows<L: Named>(
     }
 }
 
-// This dump of what a run left is what it has to be.
+// Checks the dump that a run left.
 fn expect_left(rt: &(impl Abort + Threads + Sync), alloc: Global, run: &Run, dump: &Dump<'_>) {
     let plan = plan_of(rt, alloc, &run.heap);
     let wanted = encoded(rt, alloc, &run.parts);
@@ -140,7 +140,7 @@ fn expect_left(rt: &(impl Abort + Threads + Sync), alloc: Global, run: &Run, dum
     expect_dump(rt, alloc, &plan, dump, &wanted);
 }
 
-// Finishes with all mutators. The dump of what the run left is what it has to be.
+// Finishes with all mutators, and checks the dump that the run left.
 fn expect_finish<L: Named>(
     rt: &(impl Abort + Threads + Sync),
     alloc: Global,
@@ -178,7 +178,7 @@ fn expect_run_of<L: Named>(
     expect_finish(rt, alloc, run, space, mutators);
 }
 
-/// The calls of a run are answered as they have to be, and so is the dump of what it left.
+/// Checks the calls of a run and the dump that it left.
 pub fn expect_run(rt: &(impl Abort + Threads + Sync), alloc: Global, run: &Run) {
     let blank = Blank::new(u64::from(run.mutators));
     expect_run_of::<Brand>(rt, alloc, blank, run);

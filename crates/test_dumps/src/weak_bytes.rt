@@ -1,4 +1,4 @@
-//! A dump of edition two with each of its bytes changed to each other value, reckoned in the same way.
+//! A dump of edition two with each byte changed to each other value, by rules as in `each_byte`.
 use crate::changed_bytes::{Becomes, Rule, expect_bytes};
 use crate::encoded::Whole;
 use crate::planned::{Worked, plan_of};
@@ -39,23 +39,24 @@ const WRONG_WORD_64: Becomes = Becomes::Is(Ok(Verdict::No(AuditFault::WrongWord(
 
 const WRONG_WORD_65: Becomes = Becomes::Is(Ok(Verdict::No(AuditFault::WrongWord(T + 65))));
 
-// What becomes of the dump with a byte at a place, where another stood, by the first of these rules that is for it.
+// What becomes of the dump after a change of a byte, by the first rule for that byte and value.
 static RULES: [Rule; 46] = [
     // A dump of edition one has no entry of a weak word.
     Rule(8, 8, 1, 1, BAD_FIELD),
     Rule(0, 11, 0, 255, BAD_MAGIC),
-    // The numbers of mutators (1), fresh pages (1), all pages (2) and roots (1).
+    // The numbers of mutators (1), fresh pages (1), pages (2) and roots (1).
     Rule(16, 16, 0, 2, WRONG_HEAD),
     Rule(24, 27, 0, 255, Becomes::Shifted),
     Rule(12, 23, 0, 255, BAD_FIELD),
     // The root.
     Rule(28, 35, 0, 255, WRONG_HEAD),
-    // The flag of the compacted page, its words, and how many entries it has.
+    // The flag of the compacted page, its words, and the number of its entries.
     Rule(36, 36, 0, 1, Becomes::Shifted),
     Rule(36, 36, 2, 255, BAD_FIELD),
     Rule(37, 548, 0, 255, Becomes::WrongWord(T)),
     Rule(549, 552, 0, 255, Becomes::Shifted),
-    // The entry on the compacted page: its stamp is 1, it is of a weak word, its offset is 1, and its value stands in word 1. Word 2 is a weak word too.
+    // The entry on the compacted page: its stamp is 1, its kind is weak, its offset is 1, and its value is in word 1.
+    // Word 2 is a weak word too.
     Rule(553, 553, 0, 0, REPEATED_0),
     Rule(553, 553, 2, 2, REPEATED_2),
     Rule(553, 560, 0, 255, MISSING_1),
@@ -70,8 +71,9 @@ static RULES: [Rule; 46] = [
     Rule(572, 572, 2, 255, BAD_FIELD),
     Rule(573, 1_084, 0, 255, Becomes::WrongWord(T + 64)),
     Rule(1_085, 1_088, 0, 255, Becomes::Shifted),
-    // The header that was written on it: its stamp is 0, which the next entry's has to be above; its offset is 0; it says that the object has one weak word
-    // and tag 5. With a reference that word is no weak one, nor is it without a weak word; with more than 63 fields the object has no room on its page.
+    // The entry of the header on that page. Its stamp is 0, which must be less than that of the next entry; its offset
+    // is 0. The header gives one weak word and tag 5. With a reference, that word is no weak word; without a weak word,
+    // it is none either; with more than 63 fields the object has no room on its page.
     Rule(1_089, 1_089, 1, 1, REPEATED_1),
     Rule(1_089, 1_096, 0, 255, BAD_MADE),
     Rule(1_098, 1_098, 0, 3, BAD_HEADER),
@@ -83,7 +85,7 @@ static RULES: [Rule; 46] = [
     Rule(1_104, 1_104, 2, 63, WRONG_WORD_64),
     Rule(1_106, 1_107, 0, 255, WRONG_WORD_64),
     Rule(1_100, 1_105, 0, 255, BAD_HEADER),
-    // The entry of the new object's weak word: its stamp is 2, its offset 1, and its value stands in word 1.
+    // The entry of the new object's weak word: its stamp is 2, its offset is 1, and its value is in word 1.
     Rule(1_108, 1_108, 0, 0, BAD_MADE),
     Rule(1_108, 1_108, 1, 1, REPEATED_1),
     Rule(1_108, 1_115, 0, 255, MISSING_2),
@@ -91,7 +93,7 @@ static RULES: [Rule; 46] = [
     Rule(1_118, 1_118, 0, 63, BAD_MADE),
     Rule(1_116, 1_118, 0, 255, BAD_FIELD),
     Rule(1_119, 1_126, 0, 255, WRONG_WORD_65),
-    // The list of builds: 2 of them, of page 1 and of page 0.
+    // The list of builds: 2 pages, page 1 and page 0.
     Rule(1_127, 1_127, 0, 1, TOO_LONG),
     Rule(1_131, 1_131, 0, 0, UNCLAIMED_0),
     Rule(1_135, 1_135, 1, 1, UNCLAIMED_0),

@@ -1,10 +1,10 @@
-//! Dumps of edition two with some fields changed, dumps of the other edition, and what is told of them.
+//! Dumps of edition two with some fields changed, dumps of the other edition, and the report on each.
 use crate::encoded::{Change, Whole};
 use crate::judged::{Row, Told};
 use comp_audit::{AuditFault, DumpFault, Verdict};
 use test_support::{F, T};
 
-// Where fields of the dump lie.
+// The places of fields of the dump.
 const VERSION: usize = 8;
 
 const ROOT: usize = 28;
@@ -76,15 +76,15 @@ const NO_FIELD: Told = Err(DumpFault::BadField);
 
 const NO_VERSION: Told = Err(DumpFault::BadMagic);
 
-/// Where the three objects of edition two were compacted.
+/// For the compacted three objects of edition two.
 pub static WEAK_FORGED: [Row; 49] = [
     // No change.
     Row(Whole::WeakLinked, &[], YES),
-    // The dump of edition one has no weak word.
+    // A dump of edition one has no weak word.
     Row(Whole::WeakLinked, &[Change(VERSION, 4, 4, 1)], NO_FIELD),
-    // No version.
+    // A version that does not exist.
     Row(Whole::WeakLinked, &[Change(VERSION, 4, 4, 3)], NO_VERSION),
-    // The dump of edition one, entries of references in place of weak words.
+    // A dump of edition one, with entries of references in place of weak words.
     Row(
         Whole::WeakLinked,
         &[
@@ -94,7 +94,7 @@ pub static WEAK_FORGED: [Row; 49] = [
         ],
         WRONG_HEAD,
     ),
-    // The same and a wrong build, and the same and a wrong total.
+    // The same with a wrong build, and with a wrong total.
     Row(
         Whole::WeakLinked,
         &[
@@ -121,7 +121,7 @@ pub static WEAK_FORGED: [Row; 49] = [
     Row(Whole::WeakLinked, &[Change(KIND, 1, 1, 0)], BAD_SLID),
     Row(Whole::WeakLinked, &[Change(KIND, 1, 1, 1)], BAD_SLID),
     Row(Whole::WeakLinked, &[Change(KIND, 1, 1, 2)], BAD_SLID),
-    // An entry of a weak word at a header, at data, at a reference, and behind all objects.
+    // An entry of a weak word at a header, at data, at a reference, and after all objects.
     Row(Whole::WeakLinked, &[Change(OFFSET, 1, 1, 0)], BAD_SLID),
     Row(Whole::WeakLinked, &[Change(OFFSET, 1, 1, 3)], BAD_SLID),
     Row(Whole::WeakLinked, &[Change(OFFSET, 1, 1, 5)], BAD_SLID),
@@ -151,7 +151,7 @@ pub static WEAK_FORGED: [Row; 49] = [
     // The same at the new object, which has one weak word.
     Row(Whole::WeakLinked, &[Change(MADE_KIND, 1, 1, 1)], BAD_MADE),
     Row(Whole::WeakLinked, &[Change(MADE_KIND, 1, 1, 2)], BAD_MADE),
-    // The new object has a reference in place of it, and data.
+    // The new object has a reference in place of it, and a data word.
     Row(
         Whole::WeakLinked,
         &[
@@ -213,7 +213,7 @@ pub static WEAK_FORGED: [Row; 49] = [
         ],
         BAD_HEADER,
     ),
-    // A weak word is not what its entry says, nor what slid.
+    // A weak word that is neither what its entry says nor what slid.
     Row(Whole::WeakLinked, &[Change(WORD_1, 8, 8, 0)], WRONG_WORD_1),
     Row(Whole::WeakLinked, &[Change(WORD_2, 8, 8, 0)], WRONG_WORD_2),
     Row(
@@ -226,7 +226,8 @@ pub static WEAK_FORGED: [Row; 49] = [
         &[Change(MADE_BEHIND, 8, 8, 1)],
         WRONG_WORD_66,
     ),
-    // A weak word leads into an object, behind all objects, to a fresh page, and to from-space, there to an object that did not slide.
+    // A weak word for the inside of an object, after all objects, on a fresh page, and in from-space for an object that
+    // did not slide.
     Row(
         Whole::WeakLinked,
         &[Change(WORD_1, 8, 8, T + 1), Change(VALUE, 8, 8, T + 1)],
@@ -247,7 +248,7 @@ pub static WEAK_FORGED: [Row; 49] = [
         &[Change(WORD_1, 8, 8, F + 4), Change(VALUE, 8, 8, F + 4)],
         LOOSE_1,
     ),
-    // That of the new object leads into it.
+    // The weak word of the new object for the inside of that object.
     Row(
         Whole::WeakLinked,
         &[
@@ -256,7 +257,7 @@ pub static WEAK_FORGED: [Row; 49] = [
         ],
         LOOSE_65,
     ),
-    // A weak word becomes null, leads to either object that slid, and that of the new object to itself.
+    // A weak word that is null or for either object that slid, and that of the new object for itself.
     Row(
         Whole::WeakLinked,
         &[Change(WORD_1, 8, 8, 0), Change(VALUE, 8, 8, 0)],
@@ -280,7 +281,7 @@ pub static WEAK_FORGED: [Row; 49] = [
         ],
         YES,
     ),
-    // A weak word leads to what was made later.
+    // A weak word for an object that was made later.
     Row(
         Whole::WeakLinked,
         &[Change(STAMP, 8, 8, 0), Change(HEADER_STAMP, 8, 8, 1)],
@@ -294,10 +295,10 @@ pub static WEAK_FORGED: [Row; 49] = [
         &[Change(STAMP, 8, 8, 2), Change(MADE_STAMP, 8, 8, 1)],
         YES,
     ),
-    // Total: the words that slid, and one more than there are.
+    // Total: only the words that slid, and one word more than there are.
     Row(Whole::WeakLinked, &[Change(TOTAL, 8, 8, 6)], WRONG_TOTAL),
     Row(Whole::WeakLinked, &[Change(TOTAL, 8, 8, 9)], WRONG_TOTAL),
-    // A page that was touched alone: a dump of edition one differs by the version alone.
+    // A page that was only touched: a dump of edition one differs by the version alone.
     Row(Whole::WeakTouched, &[], YES),
     Row(Whole::WeakTouched, &[Change(VERSION, 4, 4, 1)], WRONG_HEAD),
     // Dumps of other heaps.
@@ -305,9 +306,10 @@ pub static WEAK_FORGED: [Row; 49] = [
     Row(Whole::Linked, &[Change(VERSION, 4, 4, 2)], WRONG_HEAD),
 ];
 
-/// Where the three objects of edition one were compacted.
+/// For the compacted three objects of edition one.
 pub static OTHER_EDITION: [Row; 8] = [
-    // The dump of edition two differs by the version alone, and has a null root, a wrong build, an entry of a weak word, or a wrong total as well.
+    // A dump of edition two that differs by the version alone, and with a null root, a wrong build, an entry of a weak
+    // word, or a wrong total too.
     Row(Whole::Linked, &[Change(VERSION, 4, 4, 2)], WRONG_HEAD),
     Row(
         Whole::Linked,
@@ -329,7 +331,7 @@ pub static OTHER_EDITION: [Row; 8] = [
         &[Change(VERSION, 4, 4, 2), Change(1_121, 8, 8, 6)],
         WRONG_HEAD,
     ),
-    // In edition one there is no entry of a weak word.
+    // Edition one has no entry of a weak word.
     Row(Whole::Linked, &[Change(KIND, 1, 1, 3)], NO_FIELD),
     // Dumps of other heaps.
     Row(Whole::WeakLinked, &[], WRONG_HEAD),

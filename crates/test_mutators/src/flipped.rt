@@ -1,4 +1,4 @@
-//! Heaps that are flipped, and finished.
+//! Heaps that are flipped and finished.
 ghost use Rattle.std.specs.Prelude.{◌≡◌};
 ghost use Rattle.comp_mutator.specs.Mutators.{setup_of, AreMutatorsOf};
 
@@ -18,23 +18,24 @@ use test_support::{
 /// The heap of a case.
 #[derive(Clone, Copy)]
 pub enum Heap {
-    /// No object at all.
+    /// The empty heap.
     Empty,
-    /// One object of one word, which is a root.
+    /// One object of one word, which the root refers to.
     Smallest,
-    /// Three objects, of which the first and the last are marked, with the last as root.
+    /// Three objects. The first and the last are marked, and the root refers to the last.
     Three,
-    /// Three objects of edition two, of which the first, which has two weak words, and the last are marked, with the last as root.
+    /// Three objects of edition two. The first, which has two weak words, and the last are marked, and the root refers
+    /// to the last.
     Weak,
-    /// An object of one word and one of 1,024.
+    /// An object of one word and one of 1,024 words.
     Seventeen,
-    /// An object without references and with as many data words, which count from 1.
+    /// An object without references and with this many data words, which count from 1.
     Counting(u16),
-    /// An object without references and with as many data words, which are 0.
+    /// An object without references and with this many data words, which are 0.
     Zeros(u16),
 }
 
-/// What was made.
+/// The value, which must be there.
 pub fn made<T>(rt: &impl Abort, found: Result<T, Fail>) -> T {
     match found {
         Ok(value) => value,
@@ -56,7 +57,7 @@ pub fn plan_of(rt: &(impl Abort + Threads + Sync), alloc: Global, heap: Heap) ->
     made(rt, planned(alloc, rt, made(rt, heap)))
 }
 
-/// The builder, to be shared.
+/// The builder, shared.
 pub fn shared<B: Builder>(rt: &impl Abort, alloc: Global, builder: B) -> Arc<B> {
     let Ok(builder) = Arc::new(alloc, builder) else {
         panic!(rt; "memory for the builder");
@@ -85,7 +86,8 @@ pub fn flipped<L: Named, B: Builder>(
     flipped
 }
 
-/// One mutator is missing at first: the space is handed back with the others, and then that one is handed in too.
+/// Tries to finish with one mutator missing. The refusal hands back the space and the others, and the missing one is
+/// added.
 pub fn hand_back<L: Named, B: Builder>(
     rt: &impl Abort,
     alloc: Global,
@@ -107,7 +109,8 @@ pub fn hand_back<L: Named, B: Builder>(
     left
 }
 
-// The finish was refused since the mutator of this number was missing, and so many were handed back.
+// Checks that the finish was refused because the mutator of this number was missing, and that this many mutators came
+// back.
 fn expect_missing(
     rt: &impl Abort,
     case: &'static str,
@@ -120,7 +123,8 @@ fn expect_missing(
     expect_so(rt, At { case, row }, missing && back == row);
 }
 
-/// Finishes with all mutators, the first one handed in last. Where memory is refused once, what was handed back is finished.
+/// Finishes with all mutators, the first one last in the list. If memory is refused once, it finishes with what came
+/// back.
 pub fn finish<L: Named, B: Builder>(
     rt: &impl Abort,
     alloc: Global,
@@ -138,7 +142,7 @@ pub fn finish<L: Named, B: Builder>(
     }
 }
 
-// Finishes what was handed back where memory was refused.
+// Finishes with what came back from a finish that was refused memory.
 fn finish_again<L: Named, B: Builder>(
     rt: &impl Abort,
     alloc: Global,

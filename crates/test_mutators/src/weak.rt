@@ -1,4 +1,4 @@
-//! Weak fields: reads, writes and new objects that have some, in both editions.
+//! Weak fields in both editions: reads, writes, and new objects with weak words.
 use crate::cases::{BuiltBy, Case};
 use crate::endings::{End, Ending};
 use crate::flipped::Heap;
@@ -8,16 +8,16 @@ use comp_mutator::Refusal;
 use heap_layout::Kind;
 use test_support::T;
 
-// Where the second slid object starts.
+// The start of the second slid object.
 const SECOND: u64 = T + 4;
 
 // A weak word of the first one.
 const INNER: u64 = T + 2;
 
-// Where the first fresh page begins.
+// The start of the first fresh page.
 const FRESH: u64 = T + 64;
 
-// What the slid page has after these calls: a weak word was written twice, and its object once more.
+// The entries of the slid page after these calls: a weak word was written twice, and its object once more.
 const SLID: [Entry; 2] = [
     Entry {
         stamp: 0,
@@ -35,7 +35,7 @@ const SLID: [Entry; 2] = [
     },
 ];
 
-// What the fresh page has: a new object, whose weak word leads to the first one.
+// The entries of the fresh page: a new object, and its weak word, which refers to the first object.
 const MADE: [Entry; 2] = [
     Entry {
         stamp: 1,
@@ -53,8 +53,8 @@ const MADE: [Entry; 2] = [
     },
 ];
 
-// The object of the first weak word did not slide, so that word is null, and that of the other did. Weak words are written, and an object is made that has one.
-// Finished, 6 words slid and 2 were made.
+// The object of the first weak word was not marked, so that word is null; the object of the other slid. Weak words are
+// written, and an object with a weak word is made. At the end 6 words slid and 2 were made.
 const FIELDS: Case = Case {
     name: "reads and writes weak words",
     heap: Heap::Weak,
@@ -107,7 +107,7 @@ const FIELDS: Case = Case {
     }),
 };
 
-// What each refusal of a read or a write is, where it comes first. The page keeps its words.
+// The refusals of a read or a write, each beside those that come after it. The page keeps its words.
 const REFUSALS: Case = Case {
     name: "refuses weak fields as references",
     heap: Heap::Weak,
@@ -134,7 +134,8 @@ const REFUSALS: Case = Case {
     }),
 };
 
-// A tag of 17 bits, whatever the size is and whether there is room, and tags and sizes that the edition has. Finished, 6 words slid and 64 were made.
+// Tags of 17 bits, which are refused whatever the size and the room, and tags and sizes that edition two has. At the
+// end 6 words slid and 64 were made.
 const TAGS: Case = Case {
     name: "refuses tags of 17 bits in edition two",
     heap: Heap::Weak,
@@ -166,8 +167,8 @@ const TAGS: Case = Case {
     }),
 };
 
-// In edition one no object has weak words: to read or write one is as it is for a field that is not there, and to make one is refused whatever the size is and
-// whether there is room. Finished, 1 word slid and 64 were made.
+// In edition one no object has weak words. A read or a write of one is refused as a field that does not exist, and an
+// object with weak words is refused whatever its size and the room. At the end 1 word slid and 64 were made.
 const NONE: Case = Case {
     name: "has no weak words in edition one",
     heap: Heap::Smallest,
@@ -200,7 +201,7 @@ const NONE: Case = Case {
     }),
 };
 
-// The calls that wait, of a mutator that is alone: each answers at once.
+// The calls that wait, of a mutator that is alone. Each answers at once.
 const AT_ONCE: Case = Case {
     name: "answers at once of weak words when no page is busy",
     heap: Heap::Weak,
@@ -220,5 +221,5 @@ const AT_ONCE: Case = Case {
     end: End::Untold,
 };
 
-/// Those cases.
+/// The cases of this module.
 pub static CASES: [Case; 5] = [FIELDS, REFUSALS, TAGS, NONE, AT_ONCE];

@@ -1,20 +1,20 @@
-//! Which words ask what.
+//! Which words ask for which task.
 use command_line::{VERSION_LINE, read_task};
 use std::process::Abort;
 use test_support::words_of;
 
-// What is told of a line.
+// The expected text about a line.
 #[derive(Clone, Copy)]
 enum Told<'a> {
-    // Just this task, as `Debug` writes it.
+    // This task, as `Debug` prints it.
     Task(&'a str),
-    // How the program is used.
+    // The help of the program.
     Help,
-    // That the words are no command.
+    // An error: the words are no command.
     Error,
 }
 
-// A text tells this.
+// Whether a text is as expected.
 fn tells(text: &str, wanted: Told) -> bool {
     match wanted {
         Told::Task(task) => text == task,
@@ -23,7 +23,7 @@ fn tells(text: &str, wanted: Told) -> bool {
     }
 }
 
-// The words of a line ask this, or are refused so.
+// Whether the words of a line ask for this, or are refused with this.
 fn is_told(rt: &(impl Abort + AllocGlobal), line: &str, wanted: Told) -> bool {
     let words = words_of(rt.alloc(), line).expect(rt, "memory for words");
     let text = match read_task(rt.alloc(), &words) {
@@ -33,24 +33,24 @@ fn is_told(rt: &(impl Abort + AllocGlobal), line: &str, wanted: Told) -> bool {
     tells(&text.expect(rt, "memory for a text"), wanted)
 }
 
-// Of each of these lines this is told.
+// Checks each of these lines.
 fn expect_lines(rt: &(impl Abort + AllocGlobal), lines: &[&str], wanted: Told) {
     for line in lines {
         assert!(rt; is_told(rt, line, wanted), "{line}");
     }
 }
 
-// A line, and the task that it asks.
+// A line and the task that it asks for.
 type Row = (&'static str, &'static str);
 
-// Each of these lines asks its own.
+// Checks the tasks of these lines.
 fn expect_rows(rt: &(impl Abort + AllocGlobal), rows: &[Row]) {
     for (line, task) in rows {
         assert!(rt; is_told(rt, line, Told::Task(task)), "{line}");
     }
 }
 
-// Lines, and the tasks that they ask.
+// Lines and the tasks that they ask for.
 static TASKS: [Row; 24] = [
     ("plan three.img", "Plan { image: \"three.img\" }"),
     ("plan -- --help", "Plan { image: \"--help\" }"),

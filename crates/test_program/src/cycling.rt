@@ -1,24 +1,24 @@
-//! Cycles: the image of the heap that follows, the lines, and what a refusal leaves.
+//! Cycles: the image of the next heap, the printed lines, and what a refusal leaves.
 use test_support::{Content, Step};
 
-// The last of the three objects gets a reference to a new one.
+// The last of the three objects gets a reference to a new object.
 const LINKED: Content = Content::Text("0 root 0 0\n0 new 1 0 0 9\n0 store 0 0 1\n");
 
 // The first object's data word is shown.
 const SHOWN: Content = Content::Text("0 root 0 0\n0 load 1 0 0\n0 get 1 0\n");
 
-// Line 3 puts a data word into the object to which the root refers.
+// Line 3 writes a data word into the object that the root's object refers to.
 const PUT: Content = Content::Text("0 root 0 0\n0 load 1 0 0\n0 put 1 0 1\n");
 
-// A new object alone, whose data word is shown.
+// A new object alone. Its data word is shown.
 const ALONE: Content = Content::Text("0 new 0 0 1 7\n0 put 0 0 5\n0 get 0 0\n");
 
-// Line 3 shows a value, and line 4 reads a field that is not there.
+// Line 3 shows a value, and line 4 reads a field that does not exist.
 const HALTED: Content = Content::Text("0 root 0 0\n0 load 1 0 0\n0 get 1 0\n0 get 1 9\n");
 
 const NO_TEXT: Content = Content::Text("");
 
-/// Cycles that come to their end, and what the other commands make of the heaps that follow.
+/// Cycles that end, and other commands on the next heaps.
 pub const CYCLED: &[Step] = &[
     Step::Write("cycle.tests.img", Content::ThreeImage),
     Step::Write("cycle.tests.trace", LINKED),
@@ -41,7 +41,7 @@ pub const CYCLED: &[Step] = &[
         "live 3\n",
     ),
     Step::Prints("audit new.tests.img new.tests.out", "ok 3\n"),
-    // The new object has no data word, in the second cycle neither.
+    // The new object has no data word, nor has it one in the second cycle.
     Step::Write("cycle.tests.trace", PUT),
     Step::Refuses(
         "next --mutators 1 --fresh 2 new.tests.img cycle.tests.trace cycle.tests.marks newer.tests.img",
@@ -49,7 +49,7 @@ pub const CYCLED: &[Step] = &[
         "T6 Refused(3, M3 NoSuchField)",
     ),
     Step::Absent("newer.tests.img"),
-    // The image may be written over the one that was read.
+    // The image may replace the one that was read.
     Step::Write("cycle.tests.trace", NO_TEXT),
     Step::Write("cycle.tests.marks", Content::Text("0\n2\n")),
     Step::Prints(
@@ -63,7 +63,7 @@ pub const CYCLED: &[Step] = &[
         "3 11\nlive 4\n",
     ),
     Step::Length("new.tests.img", 33_320),
-    // No object at all, and one that is new.
+    // The empty heap, and one new object.
     Step::Write("cycle.tests.img", Content::EmptyImage),
     Step::Write("cycle.tests.trace", NO_TEXT),
     Step::Write("cycle.tests.marks", NO_TEXT),
@@ -86,14 +86,14 @@ pub const CYCLED: &[Step] = &[
     Step::Remove("new.tests.out"),
 ];
 
-// The cycle of the files that were written last.
+// The cycle of the files written last.
 const NEXT: &str =
     "next --mutators 1 --fresh 2 stay.tests.img stay.tests.trace stay.tests.marks stay.tests.new";
 
-// What the image was to take the place of.
+// The file that the image would replace.
 const KEPT: Content = Content::Text("kept");
 
-/// Marks that are refused: the file that was there stays as it was.
+/// Refused marks. The file at the path of the image stays as it was.
 pub const UNMARKED: &[Step] = &[
     Step::Write("stay.tests.img", Content::ThreeImage),
     Step::Write("stay.tests.trace", LINKED),
@@ -110,7 +110,7 @@ pub const UNMARKED: &[Step] = &[
     Step::Refuses(NEXT, "", "H6 BadRoot(0)"),
     Step::Write("stay.tests.marks", Content::Text("4294967295\n")),
     Step::Refuses(NEXT, "", "H4 MarkNotStart(4294967295)"),
-    // Lines that are no mark.
+    // Lines that are no marks.
     Step::Write("stay.tests.marks", Content::Text("02\n")),
     Step::Refuses(NEXT, "", "P6 BadMarks(1)"),
     Step::Write("stay.tests.marks", Content::Text("2\n64")),
@@ -132,10 +132,11 @@ pub const UNMARKED: &[Step] = &[
     Step::Remove("stay.tests.new"),
 ];
 
-// The cycle of the files that were written last, to an absent folder.
+// The cycle of the files written last, with the image in a folder that does not exist.
 const NOWHERE: &str = "next stay.tests.img stay.tests.trace stay.tests.marks absent.tests/new.img";
 
-/// Files that are not there, or are refused: the image first, then the trace, then the marks, then the run, then the new heap, and the new image last.
+/// Files that do not exist or are refused: the image first, then the trace, the marks, the run, the next heap, and the
+/// new image last.
 pub const ORDERED: &[Step] = &[
     Step::Refuses(NOWHERE, "", "P1 CannotOpen(image)"),
     Step::Write("stay.tests.img", Content::BadRootImage),

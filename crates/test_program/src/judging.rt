@@ -1,10 +1,10 @@
-//! Audits by the program.
+//! Runs of `audit`.
 use test_support::{
     Change, Content, FIRST_DATA, HEADER_OFFSET, HEADER_STAMP, LAST_PAGE, LAST_WORD, REFERENCE,
     REFERENCE_STAMP, REFERENCE_VALUE, ROOT, Step, TOTAL, VERSION,
 };
 
-/// Dumps that pass.
+/// Dumps that are accepted.
 pub const PASSED: &[Step] = &[
     Step::Write("left.tests.img", Content::ThreeImage),
     Step::Write("left.tests.trace", Content::FreshTrace),
@@ -20,7 +20,7 @@ pub const PASSED: &[Step] = &[
     Step::Remove("left.tests.out"),
 ];
 
-/// Files that do not pass, or are no dumps.
+/// Dumps that are refused, and files that are no dumps.
 pub const JUDGED: &[Step] = &[
     Step::Write("judge.tests.img", Content::ThreeImage),
     Step::MakeFolder("judge.tests"),
@@ -44,7 +44,8 @@ pub const JUDGED: &[Step] = &[
 // The audit of the dump that was forged last.
 const AUDIT: &str = "audit forge.tests.img forged.tests.dump";
 
-/// Dumps that are forged in one thing alone: a reference that was written has its value in its entry and its word on the page, and stamps that change places are two.
+/// Dumps with one thing forged. A reference that was written has its value both in its entry and in its word on the
+/// page, and two stamps that are exchanged are one thing.
 pub const FORGED: &[Step] = &[
     Step::Write("forge.tests.img", Content::ThreeImage),
     Step::Write("forged.tests.dump", Content::FreshDump),

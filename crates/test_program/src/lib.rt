@@ -1,4 +1,5 @@
-//! What words ask of the program, and its runs: what it prints, tells, writes and refuses, also where its output takes only so much, with values from outside.
+//! The words of a line and the task that they ask for, and runs of the program: output, standard error, files and
+//! refusals, also with an output that takes a limited number of bytes, with expected values from outside.
 #![tactic(auto)]
 
 #[cfg(test)]

@@ -1,4 +1,4 @@
-//! Runs whose output takes only so much, by three bytes at a time.
+//! Runs whose output takes a limited number of bytes, three bytes at a time.
 use commands::run;
 use std::rt::Files;
 use std::sync::Wait;
@@ -6,7 +6,7 @@ use std::test::Fail;
 use std::thread::Threads;
 use test_support::{Content, Failure, Narrow, Run, Step, Text, expect_ran, words_of};
 
-// What has to come of a line that is refused since it cannot print, or of one that is not refused. What it prints is not looked at.
+// The expected result of a line: refused because it cannot print, or not refused. Its output is not checked.
 fn wanted_of(line: &'static str, refused: bool) -> Run {
     Run {
         line,
@@ -20,7 +20,7 @@ fn wanted_of(line: &'static str, refused: bool) -> Run {
     }
 }
 
-// A run of a line, with an output that has so much room.
+// Checks a run of a line whose output has room for `room` bytes.
 fn expect_narrow<R: Files + AllocGlobal + Threads + Wait + Sync>(
     rt: &R,
     line: &'static str,
@@ -41,7 +41,8 @@ fn expect_narrow<R: Files + AllocGlobal + Threads + Wait + Sync>(
     expect_ran(&wanted_of(line, refused), status, &[], &err)
 }
 
-// With less room than this line prints a run is refused; with more it is not, unless the output cannot be flushed.
+// Checks that a run is refused with less room than this line prints, and not with more, unless the output cannot be
+// flushed.
 fn expect_cut_off<R: Files + AllocGlobal + Threads + Wait + Sync>(
     rt: &R,
     line: &'static str,
@@ -55,7 +56,7 @@ fn expect_cut_off<R: Files + AllocGlobal + Threads + Wait + Sync>(
     expect_narrow(rt, line, true, 4_096, Failure::Flush)
 }
 
-/// Lines, and how many bytes they print at least.
+/// Lines, and the least number of bytes that they print.
 pub const LINES: [(&str, usize); 8] = [
     ("word print.tests.img 2", 12),
     ("plan print.tests.img", 48),
@@ -70,7 +71,7 @@ pub const LINES: [(&str, usize); 8] = [
     ("--version", 17),
 ];
 
-/// Each of these lines cannot print.
+/// Checks that each of these lines fails if it cannot print.
 pub fn expect_lines<R: Files + AllocGlobal + Threads + Wait + Sync>(
     rt: &R,
     lines: &[(&'static str, usize)],
@@ -81,14 +82,14 @@ pub fn expect_lines<R: Files + AllocGlobal + Threads + Wait + Sync>(
     Ok(())
 }
 
-/// The files that they read. Of the trace, a race shows 7, or 11 by one byte more.
+/// The files that the lines read. A race of the trace shows 7 or 11, which is one byte more.
 pub const WRITTEN: &[Step] = &[
     Step::Write("print.tests.img", Content::ThreeImage),
     Step::Write("print.tests.trace", Content::SeenTrace),
     Step::Write("print.tests.dump", Content::FreshDump),
 ];
 
-/// The last dump that they wrote is whole; then the files are not needed any more.
+/// The last dump that the lines wrote is whole. Then the files are removed.
 pub const REMOVED: &[Step] = &[
     Step::Length("print.tests.out", 573),
     Step::Remove("print.tests.img"),

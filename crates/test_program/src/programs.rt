@@ -1,4 +1,4 @@
-//! Runs of the program: what it prints, and its status.
+//! Runs of the program: output and status.
 use test_support::{Content, Step};
 
 /// Words, plans, compactions and audits, and words that are no command.
@@ -15,7 +15,7 @@ pub const STEPS: &[Step] = &[
         "live 4\npages 1\npage 0 first 0\nroot 0 8589934594\n",
     ),
     Step::Remove("three.tests.img"),
-    // Words and plans that there are not.
+    // Words and plans that do not exist.
     Step::Write("whole.tests.img", Content::ThreeImage),
     Step::Write("root.tests.img", Content::BadRootImage),
     Step::Write("empty.tests.img", Content::Text("")),
@@ -61,7 +61,7 @@ pub const STEPS: &[Step] = &[
     Step::Prints("-V", "compressor 0.1.0\n"),
     Step::Prints("-Vx", "compressor 0.1.0\n"),
     Step::Prints("--version word", "compressor 0.1.0\n"),
-    // Small heaps that are compacted, the first one over a longer file; and a dump that cannot be created.
+    // Compactions of small heaps, the first one over a longer file; and a dump that cannot be created.
     Step::Write("none.tests.img", Content::EmptyImage),
     Step::Write("one.tests.img", Content::ThreeImage),
     Step::Write(
@@ -82,7 +82,7 @@ pub const STEPS: &[Step] = &[
     Step::Remove("none.tests.img"),
     Step::Remove("one.tests.img"),
     Step::Remove("all.tests.out"),
-    // The twenty pages, compacted by some workers; and what is refused then.
+    // Compactions of the twenty pages by several workers, and their refusals.
     Step::Write("run.tests.img", Content::TwentyImage),
     Step::Prints(
         "compact --workers 2 run.tests.img run.tests.out",

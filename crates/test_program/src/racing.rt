@@ -1,13 +1,13 @@
-//! Traces whose mutators race over heaps: the lines, the dump, and what refusals leave.
+//! Races of traces: the printed lines, the dump, and what refusals leave.
 use crate::replaying::KEPT;
 use test_support::{Content, Step};
 
-// Each of both mutators shows a value, and reads a field of null then: mutator 1 in line 7, and mutator 0 in line 9.
+// Each of the two mutators shows a value and then reads a field of null: mutator 1 in line 7, and mutator 0 in line 9.
 const STOPPED: Content = Content::Text(
     "0 root 0 0\n0 load 1 0 0\n1 root 0 0\n1 load 1 0 0\n0 get 1 0\n1 get 1 0\n1 get 2 0\n0 get 1 0\n0 get 2 0\n1 get 1 0\n",
 );
 
-/// Races that come to their end.
+/// Races that end.
 pub const RACED: &[Step] = &[
     Step::Write("race.tests.img", Content::ThreeImage),
     Step::Write("race.tests.trace", Content::SeenTrace),
@@ -30,10 +30,10 @@ pub const RACED: &[Step] = &[
     Step::Remove("race.tests.out"),
 ];
 
-// The race of the trace that was written last.
+// The race of the trace written last.
 const STOP: &str = "race stop.tests.img stop.tests.trace stop.tests.out";
 
-/// Races that are refused: no dump is there, and a file that was there stays as it was.
+/// Refused races. No dump is created, and a file at its path stays as it was.
 pub const HALTED: &[Step] = &[
     Step::Write("stop.tests.img", Content::ThreeImage),
     Step::Write("stop.tests.trace", STOPPED),

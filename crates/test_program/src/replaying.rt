@@ -1,7 +1,7 @@
-//! Traces that are run over heaps: the dump, the lines, and what a refusal leaves.
+//! Replays of traces: the dump, the printed lines, and what a refusal leaves.
 use test_support::{Content, Step};
 
-/// Traces that are run to their end.
+/// Traces that run to their end.
 pub const REPLAYED: &[Step] = &[
     Step::Write("rows.tests.img", Content::ThreeImage),
     Step::Write("rows.tests.trace", Content::SeenTrace),
@@ -31,18 +31,18 @@ pub const REPLAYED: &[Step] = &[
     Step::Remove("rows.tests.out"),
 ];
 
-// Line 3 shows a value, and line 4 reads a field that is not there.
+// Line 3 shows a value, and line 4 reads a field that does not exist.
 const HALTED: Content = Content::Text(
     "0 root 0 0\n0 load 1 0 0\n0 get 1 0\n0 get 1 9\n0 get 1 0\n",
 );
 
-/// What the dumps were to take the place of.
+/// The file that a dump would replace.
 pub const KEPT: Content = Content::Text("kept");
 
-// The run of the trace that was written last.
+// The replay of the trace written last.
 const HALT: &str = "replay halt.tests.img halt.tests.trace halt.tests.out";
 
-/// Traces that are refused: no dump is there, and a file that was there stays as it was.
+/// Refused traces. No dump is created, and a file at its path stays as it was.
 pub const STOPPED: &[Step] = &[
     Step::Write("halt.tests.img", Content::ThreeImage),
     Step::Write("halt.tests.trace", HALTED),
@@ -77,14 +77,14 @@ pub const STOPPED: &[Step] = &[
     Step::Remove("halt.tests.out"),
 ];
 
-// The run that makes a new object, whose dump goes to one of the files of the folder.
+// The run that makes a new object. Its dump goes to a file of the folder.
 const TO_TRACE: &str =
     "replay --mutators 1 --fresh 2 place.tests/img place.tests/trace place.tests/trace";
 
 const TO_IMAGE: &str =
     "replay --mutators 1 --fresh 2 place.tests/img place.tests/trace place.tests/img";
 
-/// Dumps in place of the trace and of the image that the run read, beside a file that a run left that was killed.
+/// Dumps that replace the trace and the image that the run read, beside a file that a killed run left.
 pub const PLACED: &[Step] = &[
     Step::MakeFolder("place.tests"),
     Step::Write("place.tests/.compressor-0.part", KEPT),
@@ -108,7 +108,7 @@ pub const PLACED: &[Step] = &[
     Step::RemoveFolder("place.tests"),
 ];
 
-/// Files that are not there, and folders in place of files.
+/// Files that do not exist, and folders in place of files.
 pub const WRONG_FILES: &[Step] = &[
     Step::Write("file.tests.img", Content::ThreeImage),
     Step::Write("file.tests.trace", Content::SeenTrace),

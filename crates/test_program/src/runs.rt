@@ -6,7 +6,7 @@ use std::test::Fail;
 use std::thread::Threads;
 use test_support::{Run, Step, expect_ran, run_of, take_file_step, words_of};
 
-// Runs the program, and has come of it what has to.
+// Runs the program. Fails unless the result is as expected.
 fn expect_run<R: Files + AllocGlobal + Threads + Wait + Sync>(
     rt: &R,
     wanted: &Run,

@@ -1,4 +1,4 @@
-//! How runs begin: words of a machine in memory, and what is told where they cannot be had.
+//! How runs begin: the words of a machine in memory, and the report if they cannot be had.
 use commands::{fetch_words, tell_unstarted};
 use std::env::FillError;
 use std::io::ErrorKind;
@@ -6,7 +6,7 @@ use std::process::Abort;
 use std::rt::Env;
 use test_support::words_of;
 
-// A machine that gives these words, the program's name first.
+// A machine that gives these words. The program's name comes first.
 #[derive(Drop)]
 struct Machine<'a> {
     words: &'a [&'a [u8]],
@@ -33,7 +33,7 @@ impl Env for Machine<'_> {
     }
 }
 
-// The words behind the program's name are those of a line, or the error is of this kind.
+// Whether the words after the program's name are those of a line, or the error is of this kind.
 fn is_given(
     rt: &(impl Abort + AllocGlobal),
     words: &[&[u8]],
@@ -46,19 +46,19 @@ fn is_given(
     }
 }
 
-// These words are given, or the error is of this kind.
+// Checks that these words are given, or that the error is of this kind.
 fn expect_given(rt: &(impl Abort + AllocGlobal), words: &[&[u8]], wanted: Result<&str, ErrorKind>) {
     assert!(rt; is_given(rt, words, wanted));
 }
 
-// A kind of error ends with this status, and tells just this.
+// Checks the status and the text that a kind of error ends with.
 fn expect_told(rt: &(impl Abort + AllocGlobal), kind: ErrorKind, status: u8, text: &str) {
     let mut err = Vec::new(rt.alloc());
     let found = tell_unstarted(kind, &mut err);
     assert!(rt; found == status && err.as_slice() == text.as_bytes());
 }
 
-// What is told of a word that is not UTF-8.
+// The report on a word that is not UTF-8.
 const NO_TEXT: &str = "error: invalid UTF-8 was detected in one or more arguments\n";
 
 #[test]

@@ -1,4 +1,4 @@
-//! The tables of all runs: one test runs all of them, which costs its proof less than a test for each.
+//! The tables of all runs. One test runs all of them, since that costs its proof less than a test for each.
 use crate::printing::{LINES, REMOVED, WRITTEN, expect_lines};
 use crate::runs::take_steps;
 use crate::{cycling, judging, programs, racing, replaying, weak};
@@ -8,7 +8,8 @@ use std::test::Fail;
 use std::thread::Threads;
 use test_support::Step;
 
-// All tables, the last of which writes the image that the lines print of. As a constant they would cost the proof of the test five times as much.
+// All tables. The last one writes the image that the lines print. As a constant they would cost the proof of the test
+// five times as much.
 fn tables() -> [&'static [Step]; 16] {
     [
         programs::STEPS,

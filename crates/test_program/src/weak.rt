@@ -1,22 +1,22 @@
-//! Runs on objects that have weak words.
+//! Runs on objects with weak words.
 use crate::replaying::KEPT;
 use test_support::{
     Change, Content, REFERENCE_KIND, REFERENCE_VALUE, SLID_WEAK_WORD, Step, VERSION,
 };
 
-// The audit of the dump that was written last.
+// The audit of the dump written last.
 const AUDIT: &str = "audit weak.tests.img weak.tests.out";
 
-// Runs of the trace that was written last.
+// Runs of the trace written last.
 const REPLAY: &str = "replay --mutators 1 --fresh 1 weak.tests.img weak.tests.trace weak.tests.out";
 
 const RACE: &str = "race --mutators 1 --fresh 1 weak.tests.img weak.tests.trace weak.tests.out";
 
-// Cycles of that trace, and of the marks that were written last.
+// Cycles of that trace with the marks written last.
 const NEXT: &str =
     "next --mutators 1 --fresh 1 weak.tests.img weak.tests.trace weak.tests.marks weak.tests.new";
 
-/// Their plan and words, a trace that is replayed and raced, their compaction, the dumps, and the heaps that follow.
+/// Plan and words, a trace that is replayed and raced, a compaction, the dumps, and the next heaps.
 pub const RUN: &[Step] = &[
     Step::Write("weak.tests.img", Content::WeakImage),
     Step::Length("weak.tests.img", 96),
@@ -49,7 +49,7 @@ pub const RUN: &[Step] = &[
     ),
     Step::Holds("weak.tests.out", Content::WeakSweptDump),
     Step::Prints(AUDIT, "ok 6\n"),
-    // The new object is marked, and then it is not: the weak word that names it becomes null.
+    // The new object is marked first, and then not: the weak word that refers to it becomes null.
     Step::Write("weak.tests.marks", Content::Text("0\n4\n64\n")),
     Step::Prints(NEXT, "6 9\nlive 8\n"),
     Step::Length("weak.tests.new", 1_068),
@@ -75,7 +75,7 @@ pub const RUN: &[Step] = &[
     Step::Remove("weak.tests.img"),
 ];
 
-/// Weak words that lead into an object, lines that are refused, and dumps that are forged.
+/// A weak word for the inside of an object, refused lines, and forged dumps.
 pub const REFUSED: &[Step] = &[
     Step::Write("weak.tests.out", KEPT),
     Step::Write("weak.tests.trace", Content::WeakTrace),
@@ -146,7 +146,7 @@ pub const REFUSED: &[Step] = &[
     Step::Refuses(AUDIT, "", "A1 WrongWord(8589934593)"),
     Step::Write("weak.tests.out", Content::FreshDump),
     Step::Refuses(AUDIT, "", "A8 WrongHead"),
-    // In edition one no object has weak words.
+    // In edition one no object has a weak word.
     Step::Write("weak.tests.out", KEPT),
     Step::Write("weak.tests.img", Content::ThreeImage),
     Step::Write("weak.tests.trace", Content::Text("0 wnew 0 0 1 0 5\n")),

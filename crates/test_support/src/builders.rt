@@ -1,14 +1,14 @@
-//! Builders that tests watch, refuse or hold.
+//! Builders that count, refuse or hold a build.
 use heap_layout::{OutOfMemory, PageWords};
 use page_plan::{Builder, Plan};
 use std::alloc::Global;
 use std::hint;
 use std::sync::atomic::{AtomicU64, Ordering};
 
-// How often one thread looks at most for the other. It rests between two looks, so that another thread which is not run for a while is still waited for.
+// The most times that a thread looks for the other. It rests between two looks, so that the other thread gets its turn.
 const TURNS: u64 = 10_000_000;
 
-/// A plan whose builds are counted.
+/// A plan that counts its builds.
 #[derive(Drop)]
 pub struct Counting {
     pub plan: Plan,
@@ -16,7 +16,7 @@ pub struct Counting {
 }
 
 impl Counting {
-    /// Over a plan, with no build so far.
+    /// Over a plan, with the count 0.
     pub fn new(plan: Plan) -> Counting {
         Counting {
             plan,
@@ -24,7 +24,7 @@ impl Counting {
         }
     }
 
-    /// How many builds were asked for.
+    /// How many builds were begun.
     pub fn count(&self) -> u64 {
         self.builds.load(Ordering::SeqCst)
     }
@@ -43,7 +43,7 @@ impl Builder for Counting {
     }
 }
 
-/// A plan that builds pages 0 and 1 only when both builds have begun.
+/// A plan whose builds of pages 0 and 1 each wait until the other has begun.
 #[derive(Drop)]
 pub struct Meeting {
     plan: Plan,
@@ -51,7 +51,7 @@ pub struct Meeting {
 }
 
 impl Meeting {
-    /// Over a plan, with no build begun.
+    /// Over a plan, with neither build begun.
     pub fn new(plan: Plan) -> Meeting {
         Meeting {
             plan,
@@ -78,13 +78,14 @@ impl Builder for Meeting {
     }
 }
 
-/// Says that one of two has begun, and waits until the other has: not for ever, so that the answer is whether it has.
+/// Notes that the build of `own` has begun and waits for the other. Answers whether the other began. The wait is
+/// bounded.
 pub fn met(own: &AtomicU64, other: &AtomicU64) -> bool {
     own.store(1, Ordering::SeqCst);
     both(own, other)
 }
 
-/// Waits until both have come: not for ever, so that the answer is whether they have.
+/// Waits until both have begun. Answers whether they have. The wait is bounded.
 pub fn both(one: &AtomicU64, other: &AtomicU64) -> bool {
     for _ in 0..TURNS {
         if one.load(Ordering::SeqCst) == 1 && other.load(Ordering::SeqCst) == 1 {
@@ -95,7 +96,7 @@ pub fn both(one: &AtomicU64, other: &AtomicU64) -> bool {
     false
 }
 
-/// A plan whose first build of one page asks for more memory than there is, and hands the refusal on.
+/// A plan whose first build of one page asks for more memory than there is, and answers the refusal.
 #[derive(Drop)]
 pub struct Refusing {
     plan: Plan,
@@ -104,7 +105,7 @@ pub struct Refusing {
 }
 
 impl Refusing {
-    /// Over a plan, with no build of this page asked for.
+    /// Over a plan, with no build of page `page` begun.
     pub fn new(plan: Plan, page: u64) -> Refusing {
         Refusing {
             plan,

@@ -1,66 +1,67 @@
-//! Changes of files: of the dump behind the run that makes a new object, where its fields lie, and of those with weak words.
+//! Changes of files, and the places of fields in the dump after the run that makes a new object and in the files with
+//! weak words.
 use std::alloc::AllocError;
 
 /// A change of a file.
 #[derive(Clone, Copy)]
 pub enum Change {
-    /// None at all.
+    /// No change.
     None,
-    /// At this place stands this byte.
+    /// The byte at this place becomes this one.
     Byte(usize, u8),
-    /// At this place stands this word of 8 bytes.
+    /// The word of 8 bytes at this place becomes this one.
     Word(usize, u64),
-    /// Only so many bytes are left.
+    /// The file is cut to this length.
     Cut(usize),
-    /// This byte is put behind it.
+    /// This byte is added at the end.
     Push(u8),
-    /// These numbers are the lists of builds of that dump.
+    /// These numbers become the lists of builds of that dump.
     Builds(&'static [u32]),
 }
 
-/// Where its version stands.
+/// The place of its version.
 pub const VERSION: usize = 8;
 
-/// Where its root stands.
+/// The place of its root.
 pub const ROOT: usize = 28;
 
-/// Where the data word of the first object stands.
+/// The place of the data word of the first object.
 pub const FIRST_DATA: usize = 45;
 
-/// Where the reference stands that was written.
+/// The place of the reference that was written.
 pub const REFERENCE: usize = 61;
 
-/// Where the last word of page 0 stands.
+/// The place of the last word of page 0.
 pub const LAST_WORD: usize = 541;
 
-/// Where the stamp of the reference's entry stands.
+/// The place of the stamp of the reference's entry.
 pub const REFERENCE_STAMP: usize = 553;
 
-/// Where the kind of the reference's entry stands.
+/// The place of the kind of the reference's entry.
 pub const REFERENCE_KIND: usize = 562;
 
-/// Where the value of the reference's entry stands.
+/// The place of the value of the reference's entry.
 pub const REFERENCE_VALUE: usize = 564;
 
-/// Where the stamp of the header's entry stands.
+/// The place of the stamp of the header's entry.
 pub const HEADER_STAMP: usize = 1_089;
 
-/// Where the offset of the header's entry stands.
+/// The place of the offset of the header's entry.
 pub const HEADER_OFFSET: usize = 1_099;
 
-/// Where the record of the last page stands.
+/// The place of the record of the last page.
 pub const LAST_PAGE: usize = 1_108;
 
-/// Where its live words stand.
+/// The place of its live words.
 pub const TOTAL: usize = 1_121;
 
-/// Where the first weak word stands in the image of the objects that have some.
+/// The place of the first weak word in the image of the three objects of edition two.
 pub const WEAK_WORD: usize = 32;
 
-/// Where it stands in a dump of them. The entry of page 0 lies where that of the reference does.
+/// The place of that weak word in a dump of them. The entry of page 0 is at the place of the reference's entry.
 pub const SLID_WEAK_WORD: usize = 45;
 
-// Where the lists of builds begin.
+// The place of the lists of builds.
 const BUILDS: usize = 1_109;
 
 // Its live words.
@@ -79,14 +80,14 @@ pub fn make_change(bytes: &mut Vec<u8>, change: Change) -> Result<(), AllocError
     Ok(())
 }
 
-// Puts bytes at a place, as many as there is room for.
+// Puts bytes at a place. Bytes past the end are dropped.
 fn put(bytes: &mut [u8], at: usize, new: &[u8]) {
     for (place, byte) in bytes.iter_mut().skip(at).zip(new) {
         *place = *byte;
     }
 }
 
-// Puts lists of builds in place of those of a dump, and the live words behind them.
+// Replaces the lists of builds of a dump, and puts its live words after them.
 fn put_builds(bytes: &mut Vec<u8>, numbers: &[u32]) -> Result<(), AllocError> {
     bytes.truncate(BUILDS);
     for number in numbers {

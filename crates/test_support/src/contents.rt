@@ -1,4 +1,5 @@
-//! What the files of tests hold, by name: a table that names it costs the proof of a test less than one that holds it.
+//! What the files of tests hold, by name. A table that names a content costs a test's proof less than one that holds
+//! it.
 use crate::changes::{Change, WEAK_WORD, make_change};
 use crate::images::{
     BAD_ROOT_IMAGE, EMPTY_IMAGE, FRESH_DUMP, THREE_IMAGE, TWENTY_IMAGE, WEAK_DUMP, WEAK_IMAGE,
@@ -10,35 +11,36 @@ use std::alloc::{AllocError, Global};
 /// What a file holds.
 #[derive(Clone, Copy)]
 pub enum Content {
-    /// Just this text.
+    /// This text.
     Text(&'static str),
-    /// The trace whose mutator 0 writes 7 into a data field, which mutator 1 reads in line 6.
+    /// A trace: mutator 0 writes 7 into a data field, and line 6 of mutator 1 shows it.
     SeenTrace,
-    /// The trace that makes a new object, which becomes the field of the root.
+    /// A trace that makes a new object and stores it in the field of the root's object.
     FreshTrace,
-    /// The trace that makes an object with a weak word, lets a weak word of the first object lead there, reads it, and shows the data word behind it.
+    /// A trace that makes an object with a weak word, writes its address into a weak word of the first object, reads
+    /// that weak word, and shows the data word of the new object.
     WeakTrace,
-    /// The image of no object at all.
+    /// The image of the empty heap.
     EmptyImage,
-    /// The image of three objects.
+    /// The image of the three objects.
     ThreeImage,
-    /// The same, with a root that leads to none of them.
+    /// The same image with a root that refers to no object.
     BadRootImage,
-    /// The image of two objects of 640 words.
+    /// The image of two objects of 640 words, which fill twenty pages.
     TwentyImage,
-    /// The image of three objects of edition two, of which the first has two weak words.
+    /// The image of the three objects of edition two. The first object has two weak words.
     WeakImage,
-    /// The same, whose first weak word is this.
+    /// The same image with this number as its first weak word.
     BadWeakImage(u64),
-    /// The dump behind the run that makes a new object.
+    /// The dump after the run that makes a new object.
     FreshDump,
-    /// The same, with two changes.
+    /// That dump with two changes.
     ForgedDump(Change, Change),
-    /// The dump behind the run that writes a weak word.
+    /// The dump after the run that writes a weak word.
     WeakDump,
-    /// The same, with two changes.
+    /// That dump with two changes.
     ForgedWeakDump(Change, Change),
-    /// The dump of the three objects of edition two where one worker alone swept them.
+    /// The dump of the three objects of edition two after a sweep by one worker.
     WeakSweptDump,
 }
 

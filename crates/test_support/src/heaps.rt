@@ -1,4 +1,4 @@
-//! The heaps of the tests, written by a second hand.
+//! The heaps of the tests, encoded by hand.
 use heap_layout::{Edition, Header, LayoutFault, MarkedHeap};
 use page_plan::Plan;
 use std::alloc::{AllocError, Global};
@@ -11,7 +11,7 @@ pub const F: u64 = 4_294_967_296;
 /// The address of to-space word 0.
 pub const T: u64 = 8_589_934_592;
 
-/// Three objects, of which the first and the last are marked.
+/// Three objects. The first and the last are marked.
 pub const THREE: [u64; 7] = [
     4_295_032_832,
     11,
@@ -22,8 +22,8 @@ pub const THREE: [u64; 7] = [
     4_294_967_296,
 ];
 
-/// Three objects of edition two, of which the first and the last are marked: the first has two weak words, which lead to the other two, and a data word, and
-/// the last refers to the first.
+/// Three objects of edition two. The first and the last are marked. The first has two weak words, which name the other
+/// two objects, and a data word; the last refers to the first.
 pub const WEAK: [u64; 7] = [
     281_483_566_710_784,
     4_294_967_300,
@@ -34,7 +34,7 @@ pub const WEAK: [u64; 7] = [
     4_294_967_296,
 ];
 
-/// The heap of these parts, or its fault.
+/// The heap of these parts, or the fault that refuses it.
 pub fn judged(
     alloc: Global,
     edition: Edition,
@@ -50,7 +50,7 @@ pub fn judged(
     ))
 }
 
-/// The heap of these parts, which is accepted.
+/// The heap of these parts, which must be accepted.
 pub fn heap_of(
     alloc: Global,
     edition: Edition,
@@ -61,7 +61,7 @@ pub fn heap_of(
     Ok(judged(alloc, edition, words, marks, roots)??)
 }
 
-/// The heap of edition one of these parts, which is accepted.
+/// The heap of edition one of these parts, which must be accepted.
 pub fn heap(
     alloc: Global,
     words: &[u64],
@@ -71,17 +71,17 @@ pub fn heap(
     heap_of(alloc, Edition::One, words, marks, roots)
 }
 
-/// The three objects, with the last as root.
+/// The three objects. The root refers to the last.
 pub fn three(alloc: Global) -> Result<MarkedHeap, Fail> {
     heap(alloc, &THREE, &[0, 5], &[F + 5])
 }
 
-/// The three objects of edition two, with the last as root.
+/// The three objects of edition two. The root refers to the last.
 pub fn weak(alloc: Global) -> Result<MarkedHeap, Fail> {
     heap_of(alloc, Edition::Two, &WEAK, &[0, 5], &[F + 5])
 }
 
-/// An object without references, whose data words count from 1.
+/// An object without references whose data words count from 1.
 pub fn counting_object(alloc: Global, data_words: u16) -> Result<Vec<u64>, AllocError> {
     let mut words = vec![in alloc; Header::new(0, data_words, 0).word()]?;
     for k in 0..data_words {
@@ -90,12 +90,12 @@ pub fn counting_object(alloc: Global, data_words: u16) -> Result<Vec<u64>, Alloc
     Ok(words)
 }
 
-/// Such an object alone in its heap, marked.
+/// A heap of that object alone, marked.
 pub fn counting_heap(alloc: Global, data_words: u16) -> Result<MarkedHeap, Fail> {
     heap(alloc, &counting_object(alloc, data_words)?, &[0], &[])
 }
 
-/// An object without references, whose data words are 0.
+/// An object without references whose data words are 0.
 pub fn zeros_object(alloc: Global, data_words: u16) -> Result<Vec<u64>, AllocError> {
     let mut words = vec![in alloc; Header::new(0, data_words, 0).word()]?;
     for _ in 0..data_words {
@@ -104,22 +104,22 @@ pub fn zeros_object(alloc: Global, data_words: u16) -> Result<Vec<u64>, AllocErr
     Ok(words)
 }
 
-/// Such an object alone in its heap, marked.
+/// A heap of that object alone, marked.
 pub fn zeros_heap(alloc: Global, data_words: u16) -> Result<MarkedHeap, Fail> {
     heap(alloc, &zeros_object(alloc, data_words)?, &[0], &[])
 }
 
-/// The smallest heap: one object of one word, which is a root.
+/// The smallest heap: one object of one word, which the root refers to.
 pub fn smallest(alloc: Global) -> Result<MarkedHeap, Fail> {
     heap(alloc, &[30_064_771_072], &[0], &[F])
 }
 
-/// No object at all.
+/// The empty heap.
 pub fn empty(alloc: Global) -> Result<MarkedHeap, Fail> {
     heap(alloc, &[], &[], &[])
 }
 
-/// An object of one word and one of 1,024, which ends alone on page 16. Both are marked.
+/// An object of one word and one of 1,024 words, both marked. The last word alone is on page 16.
 pub fn seventeen_pages(alloc: Global) -> Result<MarkedHeap, Fail> {
     let mut words = counting_object(alloc, 1_023)?;
     words.insert(0, 0)?;

@@ -1,6 +1,7 @@
-//! What the tests that cross crates share: worked heaps; builders that tests watch, refuse or hold; objects kept plainly, beside which tests put
-//! mutators; and of commands images, dumps and changes of them, writers that fail, and runs. All this promises nothing: a test asserts
-//! what it needs of them. Each page that a builder builds is the page that sliding compaction defines.
+//! What the test crates share: worked heaps; builders that count, refuse or hold a build; a plain model of the objects,
+//! against which tests compare mutators; images, dumps and changes of them; writers that fail; and runs of the program.
+//! No contract says anything about them: a test asserts what it needs of them. The builders build the pages that
+//! sliding compaction defines.
 #![tactic(auto)]
 
 mod builders;

@@ -1,7 +1,7 @@
-//! Bytes of files, told by their parts.
+//! The bytes of files, given as parts.
 use std::alloc::{AllocError, Global};
 
-/// A part of a file's bytes. All numbers have their least byte first.
+/// A part of a file. All numbers are little-endian.
 pub enum Part {
     /// These bytes.
     Bytes(&'static [u8]),
@@ -9,9 +9,9 @@ pub enum Part {
     Numbers(&'static [u32]),
     /// Words of 8 bytes each.
     Words(&'static [u64]),
-    /// An object of 640 words without references, whose data words are zeros.
+    /// An object of 640 words without references, whose data words are 0.
     Object,
-    /// The ten pages of a dump that such an object fills, each with no entry.
+    /// The ten pages of a dump that this object fills, without an entry.
     Pages,
 }
 
@@ -22,7 +22,7 @@ pub fn bytes_of(alloc: Global, parts: &[Part]) -> Result<Vec<u8>, AllocError> {
     Ok(bytes)
 }
 
-// Puts the bytes of these parts behind others.
+// Appends the bytes of these parts.
 fn push_parts(bytes: &mut Vec<u8>, parts: &[Part]) -> Result<(), AllocError> {
     for part in parts {
         push_part(bytes, part)?;
@@ -30,7 +30,7 @@ fn push_parts(bytes: &mut Vec<u8>, parts: &[Part]) -> Result<(), AllocError> {
     Ok(())
 }
 
-// Puts the bytes of a part behind others.
+// Appends the bytes of a part.
 fn push_part(bytes: &mut Vec<u8>, part: &Part) -> Result<(), AllocError> {
     match part {
         Part::Bytes(given) => bytes.extend_from_slice(given),
@@ -41,7 +41,7 @@ fn push_part(bytes: &mut Vec<u8>, part: &Part) -> Result<(), AllocError> {
     }
 }
 
-// Numbers of 4 bytes.
+// Appends numbers of 4 bytes.
 fn push_numbers(bytes: &mut Vec<u8>, numbers: &[u32]) -> Result<(), AllocError> {
     for number in numbers {
         bytes.extend_from_slice(&number.to_le_bytes())?;
@@ -49,7 +49,7 @@ fn push_numbers(bytes: &mut Vec<u8>, numbers: &[u32]) -> Result<(), AllocError> 
     Ok(())
 }
 
-// Words of 8 bytes.
+// Appends words of 8 bytes.
 fn push_words(bytes: &mut Vec<u8>, words: &[u64]) -> Result<(), AllocError> {
     for word in words {
         bytes.extend_from_slice(&word.to_le_bytes())?;
@@ -57,7 +57,7 @@ fn push_words(bytes: &mut Vec<u8>, words: &[u64]) -> Result<(), AllocError> {
     Ok(())
 }
 
-// Words of an object of 640 words: its header, and its data words, which are zeros.
+// Appends the words `from` to `to` of the object of 640 words: its header, and data words that are 0.
 fn push_object_words(bytes: &mut Vec<u8>, from: u64, to: u64) -> Result<(), AllocError> {
     for at in from..to {
         let word: u64 = if at == 0 { 41_877_504 } else { 0 };
@@ -66,7 +66,7 @@ fn push_object_words(bytes: &mut Vec<u8>, from: u64, to: u64) -> Result<(), Allo
     Ok(())
 }
 
-// The ten pages of a dump that such an object fills: 64 words each, and no entry.
+// Appends the ten pages of a dump that this object fills: 64 words each, and no entry.
 fn push_pages(bytes: &mut Vec<u8>) -> Result<(), AllocError> {
     for page in 0..10u64 {
         bytes.push(1)?;

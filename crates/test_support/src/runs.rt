@@ -1,24 +1,24 @@
-//! Runs of the program, and what has to come of them.
+//! Runs of the program and their expected results.
 use std::alloc::{AllocError, Global};
 use std::str::from_utf8;
 use std::test::Fail;
 
-/// What a text has to be.
+/// What a text is expected to be.
 #[derive(Clone, Copy)]
 pub enum Text {
-    /// Just this text.
+    /// This text.
     Is(&'static str),
-    /// The one text or the other.
+    /// One of these two texts.
     Either(&'static str, &'static str),
-    /// A text that has this in it.
+    /// A text that contains this one.
     Has(&'static str),
-    /// Some text.
+    /// Any text but the empty one.
     Some,
-    /// The line that tells this refusal.
+    /// The line that prints this refusal.
     Refusal(&'static str),
 }
 
-/// A run on the words of a line: the status that it has to end with, what it has to print, and to tell on standard error.
+/// A run on the words of a line, with its expected status, output and standard error.
 #[derive(Clone, Copy)]
 pub struct Run {
     pub line: &'static str,
@@ -36,7 +36,7 @@ pub fn words_of(alloc: Global, line: &str) -> Result<Vec<String>, AllocError> {
     Ok(words)
 }
 
-/// A run ended with this status, and left these bytes on its output and on standard error: it has to be so, or the line is told.
+/// Fails with the line unless the run ended with the expected status, output and standard error.
 pub fn expect_ran(run: &Run, status: u8, out: &[u8], err: &[u8]) -> Result<(), Fail> {
     if status == run.status && fits(text_of(out), run.out) && fits(text_of(err), run.err) {
         return Ok(());
@@ -52,7 +52,7 @@ fn text_of(bytes: &[u8]) -> &str {
     }
 }
 
-// A text is as it has to be.
+// Whether a text is as expected.
 fn fits(text: &str, wanted: Text) -> bool {
     match wanted {
         Text::Is(whole) => text == whole,

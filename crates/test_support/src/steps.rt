@@ -1,4 +1,4 @@
-//! Tests of the program as lists of steps: files that are written, runs, and what they leave.
+//! Tests of the program as lists of steps: writes of files, runs, and checks of what the runs leave.
 use crate::contents::{Content, bytes_in};
 use crate::runs::{Run, Text};
 use std::fs;
@@ -6,35 +6,35 @@ use std::io::ErrorKind;
 use std::rt::Files;
 use std::test::Fail;
 
-/// A step of a test. Of a run it has the line first.
+/// A step of a test. A run begins with its command line.
 pub enum Step {
-    /// A file is written: its path, and what it holds.
+    /// Writes this content to the file at this path.
     Write(&'static str, Content),
-    /// A folder is made.
+    /// Makes a folder.
     MakeFolder(&'static str),
-    /// A run does what it was asked, and prints just this.
+    /// This run succeeds and prints this text.
     Prints(&'static str, &'static str),
-    /// A run does what it was asked, and prints just the one or just the other.
+    /// This run succeeds and prints one of these two texts.
     PrintsEither(&'static str, &'static str, &'static str),
-    /// A run prints how the program is used.
+    /// This run prints how the program is used.
     Helps(&'static str),
-    /// A run prints just this, and is refused so, in one line on standard error.
+    /// This run prints this text (the second) and fails with this refusal (the third), in one line on standard error.
     Refuses(&'static str, &'static str, &'static str),
-    /// The words are wrong: a run prints nothing, and tells something on standard error.
+    /// The words of this run are no command: it prints nothing, and an error on standard error.
     Misuses(&'static str),
-    /// The file at this path holds just this.
+    /// The file at this path holds this content.
     Holds(&'static str, Content),
-    /// The file at this path has so many bytes.
+    /// The file at this path has this number of bytes.
     Length(&'static str, usize),
-    /// No file is at this path.
+    /// There is no file at this path.
     Absent(&'static str),
-    /// A file is removed.
+    /// Removes a file.
     Remove(&'static str),
-    /// A folder is removed.
+    /// Removes a folder.
     RemoveFolder(&'static str),
 }
 
-/// The run that a step is, if it is one.
+/// The run of a step, or `None` if the step is no run.
 pub fn run_of(step: &Step) -> Option<Run> {
     let (line, status, out, err) = match step {
         Step::Prints(line, out) => (*line, 0, Text::Is(*out), Text::Is("")),
@@ -57,7 +57,7 @@ pub fn run_of(step: &Step) -> Option<Run> {
     })
 }
 
-/// Takes a step that is no run.
+/// Takes a step that is no run. Fails if the file is not as the step says.
 pub fn take_file_step<R: Files + AllocGlobal>(rt: &R, step: &Step) -> Result<(), Fail> {
     match step {
         Step::Write(path, content) => write_file(rt, path, *content),
@@ -79,13 +79,13 @@ pub fn take_file_steps<R: Files + AllocGlobal>(rt: &R, steps: &[Step]) -> Result
     Ok(())
 }
 
-// Writes the file at a path, which then holds this.
+// Writes this content to the file at a path.
 fn write_file<R: Files + AllocGlobal>(rt: &R, path: &str, content: Content) -> Result<(), Fail> {
     let bytes = bytes_in(rt.alloc(), content)?;
     Ok(fs::write(rt, path, bytes.as_slice())?)
 }
 
-// The file at a path holds just this.
+// Fails unless the file at a path holds this content.
 fn expect_file<R: Files + AllocGlobal>(rt: &R, path: &str, content: Content) -> Result<(), Fail> {
     let wanted = bytes_in(rt.alloc(), content)?;
     let found = fs::read(rt, path)?;
@@ -95,7 +95,7 @@ fn expect_file<R: Files + AllocGlobal>(rt: &R, path: &str, content: Content) -> 
     Err(Fail::new(format_args!("{path} has other bytes")))
 }
 
-// The file at a path has so many bytes.
+// Fails unless the file at a path has this length.
 fn expect_length<R: Files + AllocGlobal>(rt: &R, path: &str, length: usize) -> Result<(), Fail> {
     let found = fs::read(rt, path)?.len();
     if found == length {
@@ -104,7 +104,7 @@ fn expect_length<R: Files + AllocGlobal>(rt: &R, path: &str, length: usize) -> R
     Err(Fail::new(format_args!("{path} has {found} bytes")))
 }
 
-// No file is at a path.
+// Fails if there is a file at a path.
 fn expect_absent<R: Files + AllocGlobal>(rt: &R, path: &str) -> Result<(), Fail> {
     match fs::read(rt, path) {
         Err(error) if error.kind() == ErrorKind::NotFound => Ok(()),

@@ -1,4 +1,4 @@
-//! Writers that take only so much.
+//! Writers that take a limited number of bytes.
 use std::io::{Error, ErrorKind, Result as IoResult, Write};
 
 /// How a writer fails.
@@ -9,7 +9,7 @@ pub enum Failure {
     Flush,
 }
 
-/// Takes as many bytes as it has room for, so many at once at most, and then fails.
+/// Takes at most `at_once` bytes a call until `room` bytes are taken, and then fails as `failure` says.
 #[derive(Drop)]
 pub struct Narrow<'a> {
     pub taken: &'a mut Vec<u8>,

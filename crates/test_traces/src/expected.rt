@@ -1,4 +1,4 @@
-//! What tests expect.
+//! Checks of tests.
 use heap_layout::MarkedHeap;
 use page_plan::Plan;
 use std::alloc::Global;
@@ -7,12 +7,12 @@ use std::test::Fail;
 use std::thread::Threads;
 use test_support::planned;
 
-/// It is so. Where it is not, the test ends, and tells its name and a number: of a page, a mutator, a stamp or words.
+/// Panics with the name and the number, which is that of a page, a mutator, a stamp or words, unless `so` holds.
 pub fn expect_so(rt: &impl Abort, name: &str, so: bool, number: u64) {
     assert!(rt; so, "{name}: {number}");
 }
 
-/// The plan of the heap that was made.
+/// The plan of the heap, which must be accepted.
 pub fn plan_of(
     rt: &(impl Abort + Threads + Sync),
     alloc: Global,
@@ -24,7 +24,7 @@ pub fn plan_of(
     }
 }
 
-/// The plan that was made.
+/// The plan, which must be there.
 pub fn expect_plan(rt: &impl Abort, made: Result<Plan, Fail>) -> Plan {
     match made {
         Ok(plan) => plan,

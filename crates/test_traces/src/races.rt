@@ -1,4 +1,5 @@
-//! Races: what lines show and refuse, in threads of their own. Each row is a text that is raced by all its mutators, and the size of the finished heap.
+//! Races: what lines show and refuse with one thread a mutator. Each row is a text that all its mutators race, and the
+//! live words at the end.
 use crate::expected::{expect_so, plan_of};
 use crate::flipped::Case;
 use crate::ran::raced;
@@ -15,17 +16,17 @@ use std::sync::ledger::Blank;
 use std::thread::Threads;
 use test_support::{F, Meeting, heap, three, weak};
 
-// What is to come of a mutator's run.
+// The expected run of a mutator.
 enum Wanted {
-    // It comes to its end, and shows nothing.
+    // It runs to its end and shows nothing.
     Nothing,
-    // So it does, but this line shows one of two values.
+    // It runs to its end, and this line shows one of these two values.
     Shows(u64, u64, u64),
-    // This line is refused so, and nothing is shown.
+    // This line is refused for this cause, and nothing is shown.
     Refused(u64, Refusal),
 }
 
-// A text, and what is to come of it.
+// A text and the expected runs.
 struct Row {
     case: Case<'static>,
     runs: &'static [Wanted],
@@ -123,7 +124,7 @@ static WEAK_ROWS: [Row; 3] = [
     },
 ];
 
-// On an object of four pages, of which two are built only at one time.
+// On an object of four pages. Two of them are only built at the same time.
 static SIDE_BY_SIDE: Row = Row {
     case: Case {
         name: "runs lines side by side",
@@ -135,7 +136,7 @@ static SIDE_BY_SIDE: Row = Row {
     live_words: 256,
 };
 
-// The run showed just one of these values, by this line.
+// Whether the run showed one of these values by this line, and nothing else.
 fn is_shown(run: &Run, line: u64, one: u64, other: u64) -> bool {
     match run.shown.first() {
         Some(shown) => {
@@ -147,7 +148,7 @@ fn is_shown(run: &Run, line: u64, one: u64, other: u64) -> bool {
     }
 }
 
-// The run came to what is wanted.
+// Whether the run is as expected.
 fn is_run(run: &Run, wanted: &Wanted) -> bool {
     match *wanted {
         Wanted::Nothing => run.shown.is_empty() && run.fault.is_none(),
@@ -160,7 +161,7 @@ fn is_run(run: &Run, wanted: &Wanted) -> bool {
     }
 }
 
-// All runs are what the row wants, and so is the size of the heap.
+// Checks that all runs and the live words are as the row says.
 fn expect_row(rt: &impl Abort, row: &Row, runs: &[Run], finished: &Finished) {
     let live = finished.live_words();
     let mut same = runs.len() == row.runs.len() && live == row.live_words;
@@ -172,7 +173,7 @@ fn expect_row(rt: &impl Abort, row: &Row, runs: &[Run], finished: &Finished) {
     expect_so(rt, row.case.name, same, live);
 }
 
-// The text of a row is raced on the heap of this builder, which this plan compacted, and the heap finished.
+// Races the text of a row on the heap of this builder, which this plan compacted, and finishes.
 fn race_row<B: Builder, R: Abort + Threads + Wait + Sync>(
     rt: &R,
     alloc: Global,
@@ -192,14 +193,14 @@ fn zeros(rt: &(impl Abort + Threads + Sync), alloc: Global) -> Plan {
     plan_of(rt, alloc, heap(alloc, &words, &[0], &[F]))
 }
 
-// All rows on the three objects, whose plan this is.
+// All rows on the three objects, which have this plan.
 fn race_rows<R: Abort + Threads + Wait + Sync>(rt: &R, alloc: Global, plan: &Plan) {
     for row in &ROWS {
         race_row(rt, alloc, plan_of(rt, alloc, three(alloc)), plan, row);
     }
 }
 
-// All rows on the three objects of edition two, whose plan this is.
+// All rows on the three objects of edition two, which have this plan.
 fn race_weak_rows<R: Abort + Threads + Wait + Sync>(rt: &R, alloc: Global, plan: &Plan) {
     for row in &WEAK_ROWS {
         race_row(rt, alloc, plan_of(rt, alloc, weak(alloc)), plan, row);

@@ -1,4 +1,4 @@
-//! Texts that are replayed or raced on flipped heaps, which then are finished and judged.
+//! Texts that are replayed or raced on flipped heaps, which are then finished and audited.
 ghost use Rattle.std.specs.Prelude.{◌≡◌};
 
 use crate::flipped::{Case, flipped, read_for, root_count};
@@ -12,7 +12,8 @@ use std::sync::Wait;
 use std::sync::ledger::{Blank, Ledger};
 use std::thread::Threads;
 
-/// What a text shows by one thread on the heap of this builder, and the finished heap, which is lawful for this plan.
+/// Replays a text on the heap of this builder, by one thread. Answers the shown values and the finished heap, which the
+/// audit for this plan must accept.
 pub fn replayed<L: Ledger>(
     rt: &impl Abort,
     alloc: Global,
@@ -33,7 +34,8 @@ pub fn replayed<L: Ledger>(
     (run, finished)
 }
 
-/// What the lines of a text show in threads of their own on the heap of this builder, and the finished heap, which is lawful for this plan.
+/// Races a text on the heap of this builder, one thread a mutator. Answers the runs and the finished heap, which the
+/// audit for this plan must accept.
 pub fn raced<L: Ledger + Send + Sync, B: Builder, R: Abort + Threads + Wait + Sync>(
     rt: &R,
     alloc: Global,

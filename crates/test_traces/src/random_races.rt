@@ -1,4 +1,5 @@
-//! Traces that look random, raced by one mutator, just as objects kept plainly have it, and by several, and the history that they leave.
+//! Pseudorandom traces, raced by one mutator, which must do as the plain model does, and by several, whose history must
+//! be a run of the model.
 use crate::drawn::Drawn;
 use crate::expected::{expect_plan, expect_so};
 use crate::finished::{expect_pages, take_history};
@@ -17,7 +18,7 @@ use std::sync::ledger::Blank;
 use std::thread::Threads;
 use test_support::{Objects, opening, two_live};
 
-// Why a line can be refused that waits and has memory.
+// The refusals of a line that waits and has memory.
 const STOPS: [Refusal; 5] = [
     Refusal::Null,
     Refusal::NoSuchField,
@@ -26,10 +27,10 @@ const STOPS: [Refusal; 5] = [
     Refusal::NotInEdition,
 ];
 
-/// The data words of the two live objects, and those of a new object.
+/// The data words of the two live objects and of a new object.
 const FIRST_VALUES: [u64; 4] = [10, 30, 31, 0];
 
-// A mutator's number and run, and what all mutators wrote.
+// The number and the run of a mutator, and what all mutators wrote.
 #[derive(Clone, Copy)]
 struct Deeds<'a> {
     mutator: u8,
@@ -37,7 +38,8 @@ struct Deeds<'a> {
     objects: &'a Objects,
 }
 
-// What a line writes: of a reference or a weak word it is not told which. Of an object that its edition has not, none is told.
+// What a line writes; of a reference or a weak word only the kind. `None` if it writes nothing or makes an object that
+// its edition does not have.
 fn write_of(objects: &Objects, action: Action) -> Option<(Kind, u64)> {
     match action {
         Action::Store { weak: false, .. } => Some((Kind::Reference, 0)),
@@ -57,7 +59,7 @@ fn write_of(objects: &Objects, action: Action) -> Option<(Kind, u64)> {
     }
 }
 
-// An entry, of which it is not told to which object a reference or a weak word leads.
+// What an entry writes; of a reference or a weak word only the kind.
 fn told(entry: Entry) -> (Kind, u64) {
     match entry.kind {
         Kind::Reference => (Kind::Reference, 0),
@@ -66,7 +68,7 @@ fn told(entry: Entry) -> (Kind, u64) {
     }
 }
 
-// What a mutator wrote when it had written `count` times.
+// What a mutator wrote in its write number `count`, or `None`.
 fn write_at(objects: &Objects, mutator: u8, count: usize) -> Option<(Kind, u64)> {
     let mut left = count;
     for written in &objects.written {
@@ -80,7 +82,7 @@ fn write_at(objects: &Objects, mutator: u8, count: usize) -> Option<(Kind, u64)>
     None
 }
 
-// The value was there at the beginning, or was written.
+// Whether a write or one of the first objects has this value.
 fn is_known(objects: &Objects, value: u64) -> bool {
     let mut known = FIRST_VALUES.contains(&value);
     for written in &objects.written {
@@ -90,7 +92,8 @@ fn is_known(objects: &Objects, value: u64) -> bool {
     known
 }
 
-// What line `number` shows or writes is what its mutator did next, behind so many values that it showed and so many writes. A value was there or was written.
+// Whether the next thing that a mutator did, after the given numbers of shown values and writes, is what line `number`
+// shows or writes. A value must be known.
 fn is_next(
     deeds: Deeds,
     shown: &mut usize,
@@ -115,7 +118,7 @@ fn is_next(
     write_at(deeds.objects, deeds.mutator, count) == write
 }
 
-// What a mutator showed and wrote is just what the lines say that it ran, in their order: its own, before the one that was refused, if any.
+// Whether a mutator showed and wrote what its own lines up to the refused one say, in their order, and nothing else.
 fn is_told(lines: &[Line], deeds: Deeds) -> bool {
     let end = match deeds.run.fault {
         Some(stop) => stop.line,
@@ -134,7 +137,8 @@ fn is_told(lines: &[Line], deeds: Deeds) -> bool {
         && write_at(deeds.objects, deeds.mutator, written).is_none()
 }
 
-// What a mutator did is what its lines say. A refused line is its own, and the refusal is one that a line can have which waits and has memory.
+// Whether a mutator did what its lines say. A refused line must be its own, for a cause that a line may have that waits
+// and has memory.
 fn is_run(lines: &[Line], deeds: Deeds) -> bool {
     if let Some(stop) = deeds.run.fault {
         let at = stop.line.wrapping_sub(1) as usize;
@@ -149,7 +153,7 @@ fn is_run(lines: &[Line], deeds: Deeds) -> bool {
     is_told(lines, deeds)
 }
 
-// What each mutator wrote and showed is what its lines say.
+// Checks that each mutator wrote and showed what its lines say.
 fn expect_runs(rt: &impl Abort, drawn: &Drawn, runs: &[Run], objects: &Objects) {
     for (k, run) in runs.iter().enumerate() {
         let mutator = (k % 256) as u8;
@@ -162,14 +166,15 @@ fn expect_runs(rt: &impl Abort, drawn: &Drawn, runs: &[Run], objects: &Objects) 
     }
 }
 
-// A mutator that is alone showed the values of the plain run, and stopped where that did.
+// Checks that a mutator alone showed the values of the plain model and stopped where the model did.
 fn expect_alone(rt: &impl Abort, drawn: &Drawn, runs: &[Run]) {
     let run = runs.first().expect(rt, &drawn.name);
     let same = run.shown.as_slice() == drawn.run.shown.as_slice() && run.fault == drawn.stop;
     expect_so(rt, &drawn.name, same, 0);
 }
 
-// The finished heap has one history, which is what `n` mutators ran; of one that is alone it is the plain run.
+// Checks that the finished heap has one history, and that it is what `n` mutators ran. A mutator alone must do as the
+// plain model does.
 fn expect_raced(
     rt: &impl Abort,
     alloc: Global,
@@ -190,7 +195,7 @@ fn expect_raced(
     expect_runs(rt, drawn, runs, &objects);
 }
 
-/// The trace, raced by `n` mutators, and the finished heap.
+/// Races the trace by `n` mutators, and checks the finished heap.
 pub fn race_drawn<R: Abort + Threads + Wait + Sync>(
     rt: &R,
     alloc: Global,

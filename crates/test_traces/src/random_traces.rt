@@ -1,4 +1,5 @@
-//! A thousand traces of each edition that look random, replayed by one thread: just as objects kept plainly have it. Such traces are raced as well.
+//! A thousand pseudorandom traces of each edition, replayed by one thread or raced. A replay must do as the plain model
+//! does.
 use crate::drawn::{Drawn, draw_trace};
 use crate::expected::expect_plan;
 use crate::finished::expect_pages;
@@ -19,14 +20,14 @@ use std::sync::ledger::Blank;
 use std::thread::Threads;
 use test_support::two_live;
 
-// Whether a trace is raced, or else replayed by one thread.
+// Whether a trace is raced, or replayed by one thread.
 #[derive(Clone, Copy)]
 enum Way {
     Replayed,
     Raced,
 }
 
-// A number of mutators, how many traces of theirs are drawn in each edition, and what is done with each.
+// A number of mutators, how many of their traces are drawn in each edition, and what is done with each.
 struct Draws(u8, u64, Way);
 
 static DRAWS: [Draws; 7] = [
@@ -49,7 +50,7 @@ pub fn case_of(drawn: &Drawn, n: u8) -> Case<'_> {
     }
 }
 
-// The values, the fault and the pages are those of the plain run.
+// Checks that the values, the fault and the pages are those of the plain model.
 fn expect_drawn(
     rt: &impl Abort,
     alloc: Global,
@@ -62,7 +63,7 @@ fn expect_drawn(
     expect_pages(rt, alloc, &drawn.name, finished, &drawn.run.objects);
 }
 
-// The trace, replayed by one thread, and the finished heap.
+// Replays the trace by one thread, and checks the finished heap.
 fn replay_drawn(
     rt: &(impl Abort + Threads + Sync),
     alloc: Global,
@@ -77,7 +78,8 @@ fn replay_drawn(
     expect_drawn(rt, alloc, drawn, &run, &finished);
 }
 
-// The trace, replayed or raced by `n` mutators. Its text, which is read for the three roots of the two live objects, has its lines.
+// Replays or races the trace by `n` mutators. Its text, read for the three roots of the two live objects, must have its
+// lines.
 fn run_drawn<R: Abort + Threads + Wait + Sync>(
     rt: &R,
     alloc: Global,

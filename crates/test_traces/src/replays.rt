@@ -1,4 +1,5 @@
-//! Replays: what lines show, write and refuse, one after the other. Each row is a text that is replayed on the three objects, and the finished heap.
+//! Replays: what lines show, write and refuse, one after another. Each row is a text that is replayed on the three
+//! objects, and the finished heap.
 use crate::expected::{expect_so, plan_of};
 use crate::flipped::Case;
 use crate::ran::replayed;
@@ -14,10 +15,10 @@ use std::sync::ledger::Blank;
 use std::thread::Threads;
 use test_support::{three, weak};
 
-// The only entry of a page, which mutator 0 wrote: the page's number, and the entry's stamp, kind, offset and value.
+// The only entry of a page, by mutator 0: the number of the page, and the stamp, kind, offset and value of the entry.
 struct Only(usize, u64, Kind, u8, u64);
 
-// A text, and what is to come of it.
+// A text and its expected replay.
 struct Row {
     case: Case<'static>,
     shown: &'static [Shown],
@@ -219,11 +220,12 @@ static WEAK_ROWS: [Row; 4] = [
     },
 ];
 
-/// An object is made that has a weak word, a weak word of the first object is to lead there, it is read, and so is the data word behind it.
+/// The text makes an object with a weak word, writes it into a weak word of the first object, reads that, and shows the
+/// data word of the new object.
 pub const WEAK_TEXT: &[u8] =
     b"0 root 0 0\n0 load 1 0 0\n0 wnew 2 0 1 0 5\n0 wstore 1 0 2\n0 wload 3 1 0\n0 get 1 0\n";
 
-// Behind its text there are 1,025 lines `0 put 1 0 7`.
+// Its text is followed by 1,025 lines `0 put 1 0 7`.
 static FULL: Row = Row {
     case: Case {
         name: "stops at a full journal",
@@ -237,7 +239,7 @@ static FULL: Row = Row {
     entries: &[],
 };
 
-/// The replay showed this, and stopped for this cause, if any.
+/// Checks what the replay showed, and the cause of its stop, if it stopped.
 pub fn expect_replay(
     rt: &impl Abort,
     name: &str,
@@ -252,7 +254,7 @@ pub fn expect_replay(
     expect_so(rt, name, all.as_slice() == shown && cause == fault, 0);
 }
 
-// The page has just this entry.
+// Whether the page has this entry alone.
 fn has_only(finished: &Finished, only: &Only) -> bool {
     let Only(page, stamp, kind, offset, value) = *only;
     let entry = Entry {
@@ -268,7 +270,7 @@ fn has_only(finished: &Finished, only: &Only) -> bool {
     }
 }
 
-// The finished heap has so many words, and these entries.
+// Checks the live words and the entries of the finished heap.
 fn expect_finished(rt: &impl Abort, row: &Row, finished: &Finished) {
     let mut same = finished.live_words() == row.live_words;
     for only in row.entries {
@@ -277,7 +279,7 @@ fn expect_finished(rt: &impl Abort, row: &Row, finished: &Finished) {
     expect_so(rt, row.case.name, same, finished.live_words());
 }
 
-// This text of a row is replayed on the heap of this builder, which this plan compacted, and the heap finished.
+// Replays this text of a row on the heap of this builder, which this plan compacted, and finishes.
 fn replay_row(rt: &impl Abort, alloc: Global, builder: Plan, plan: &Plan, row: &Row, text: &[u8]) {
     let case = Case { text, ..row.case };
     let blank = Blank::new(u64::from(row.case.mutators));
@@ -286,7 +288,7 @@ fn replay_row(rt: &impl Abort, alloc: Global, builder: Plan, plan: &Plan, row: &
     expect_finished(rt, row, &finished);
 }
 
-// So many writes into one page that its journal is full.
+// More writes to one page than its journal holds.
 fn replay_full(rt: &(impl Abort + Threads + Sync), alloc: Global, plan: &Plan) {
     let mut text = FULL.case.text.to_vec(alloc).expect(rt, "a text");
     for _ in 0..1_025 {
@@ -303,7 +305,7 @@ fn replay_full(rt: &(impl Abort + Threads + Sync), alloc: Global, plan: &Plan) {
     );
 }
 
-/// All rows on the three objects, whose plan this is.
+/// All rows on the three objects, which have this plan.
 pub fn replay_rows(rt: &(impl Abort + Threads + Sync), alloc: Global, plan: &Plan) {
     for row in &ROWS {
         let builder = plan_of(rt, alloc, three(alloc));
@@ -312,7 +314,7 @@ pub fn replay_rows(rt: &(impl Abort + Threads + Sync), alloc: Global, plan: &Pla
     replay_full(rt, alloc, plan);
 }
 
-/// All rows on the three objects of edition two, whose plan this is.
+/// All rows on the three objects of edition two, which have this plan.
 pub fn replay_weak_rows(rt: &(impl Abort + Threads + Sync), alloc: Global, plan: &Plan) {
     for row in &WEAK_ROWS {
         let builder = plan_of(rt, alloc, weak(alloc));

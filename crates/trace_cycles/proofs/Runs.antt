@@ -13,7 +13,7 @@ use Rattle.comp_cycles.proofs.Chapters.{rising}
 use Rattle.trace_cycles.specs.CycleRuns.{last_heap, AreRuns, HaveRun, IsLastRun, IsRun}
 
 module _ (mutators fresh : ℕ) where
-  -- the marks that are handed in later change nothing of a run
+  -- the marks that are handed in later do not change a run
   pub marked : (lines : List Line) (shown : List Shown) (heap : Heap) (f : Finished) (marks : List ℕ) → IsRun mutators fresh lines shown heap (cycle_of heap f []) → IsRun mutators fresh lines shown heap (cycle_of heap f marks)
   marked lines shown heap f marks r = record { end = r.end; runs = r.runs; shown_is = r.shown_is; setup_is = r.setup_is; entries_are = r.entries_are }
 

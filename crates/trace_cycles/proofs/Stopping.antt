@@ -45,7 +45,7 @@ module _ {T : Type 0} (mutators fresh : ℕ) (heap : Heap) (lines : List Line) (
   abbrev before : (shown : List (List Shown)) (f : Finished) → HaveRun mutators fresh heap lines (map pair (take c rest)) shown f → HaveRun mutators fresh heap lines (take c (map pair rest)) shown f
   before shown f h = record { cycles = h.cycles; runs = subst (λ (l : List (List ℕ × List Line)). AreRuns mutators fresh heap lines l shown h.cycles f) (sym (take-map pair c rest)) h.runs; follow = h.follow; life = h.life; last = h.last; rising = h.rising }
 
-  -- what followed in that place follows in the list
+  -- the cycle that followed with the marks of the pair followed with those at its index in the list
   followed : (f : Finished) (now : Heap) (cs : List Cycle) → last_heap heap cs ≡ now → IsCycleOf now (cycle_of now f (pair x).0)
       → IsCycleOf (last_heap heap cs) (cycle_of (last_heap heap cs) f (get_or (map pair rest) c none_further).0)
   followed f now cs at h =
@@ -117,12 +117,12 @@ stops_first mutators fresh heap lines rest (Some values) fault h = ⊎_elim
     h
 stops_first mutators fresh heap lines rest None fault h = subst (StopsCycles mutators fresh heap lines rest []) (sym h) (inl (refl, refl))
 
--- the roots stay as many
+-- the number of roots is unchanged
 pub same_roots : (mutators fresh : ℕ) (now next : Heap) (f left : Finished) (marks : List ℕ) (lines : List Line) (values : List Shown) → IsEndOf now f → IsNextRun mutators fresh now f marks lines next values left → length next.roots ≡ length now.roots
 same_roots mutators fresh now next f left marks lines values e h =
     ap (λ (n : Heap). length n.roots) h.next_is ∙ length-map (roots_of f) lowered ∙ roots_count now (roots_of f) e.finished.roots
 
--- a cycle that is not run to its end, over the heap that followed, is not run after the one before it
+-- a cycle that is not run to its end over the next heap is not run after the cycle before it
 pub not_next : {A : Type 0} (mutators fresh : ℕ) (now next : Heap) (f : Finished) (marks : List ℕ) (lines : List Line) (c : ℕ) → IsCycleOf now (cycle_of now f marks) → next ≡ heap_after (cycle_of now f marks)
     → (shown : Option (Vec Shown A)) (fault : CycleFault) → IsNotRunOver mutators fresh lines next (c + 1) shown fault → IsNotNext mutators fresh now f marks lines c shown fault
 not_next mutators fresh now next f marks lines c cycle is (Some values) fault h =

@@ -16,11 +16,12 @@ use Rattle.trace_replay.specs.Runs.{beginning, Moment, Runs}
 use Rattle.trace_cycles.specs.declared.cycle.CycleHalt.{CycleHalt}
 use Rattle.trace_cycles.specs.declared.cycle.CycleHalt.TheVariants.{Halted, Unplanned}
 
--- it was parsed for as many mutators and roots
+-- the trace was parsed for these numbers of mutators and roots
 abbrev pub IsParsedFor : ℕ → ℕ → Trace → Type 0
 IsParsedFor mutators roots trace = (mutators_of trace ≡ mutators) × (roots_of trace ≡ roots)
 
--- The heap was flipped for this many mutators and fresh pages, and one thread ran these lines, which showed these values; what they added is the cycle's history.
+-- The heap was flipped for these numbers of mutators and fresh pages, and one thread ran these lines, which showed
+-- these values. The entries that the lines added are the cycle's history.
 pub record IsRun (mutators fresh : ℕ) (lines : List Line) (shown : List Shown) (heap : Heap) (c : Cycle) : Type 0 where
   pub end : Moment
   pub runs : Runs (flipped heap mutators fresh) no_entries 1 lines beginning end
@@ -28,46 +29,49 @@ pub record IsRun (mutators fresh : ℕ) (lines : List Line) (shown : List Shown)
   pub setup_is : c.setup ≡ flipped heap mutators fresh
   pub entries_are : entries_of c ≡ end.added
 
--- the last of several runs: this is left of it
+-- the last of several runs, which left this heap
 pub record IsLastRun (mutators fresh : ℕ) (lines : List Line) (shown : List Shown) (heap : Heap) (f : Finished) : Type 0 where
   pub run : IsRun mutators fresh lines shown heap (cycle_of heap f [])
   pub end : IsEndOf heap f
 
--- why a cycle does not come to its end: memory was wanted for its plan, or its heap did not
+-- why a cycle does not come to its end: memory ran out for its plan, or the run over its heap was halted
 abbrev pub IsCycleHaltOf : ℕ → ℕ → List Line → Heap → CycleHalt → Type 0
 IsCycleHaltOf mutators fresh lines heap Unplanned = Unit {0}
 IsCycleHaltOf mutators fresh lines heap (Halted halt) = IsHaltOf mutators fresh lines heap halt
 
--- Over a heap some lines were run, which showed some values; some marks were handed in, and over the heap with which the next cycle began other lines were run, and so on.
+-- One of several cycles: these lines were run over the heap and showed these values, and then these marks were handed
+-- in for the next heap.
 pub record IsPart (mutators fresh : ℕ) (lines : List Line) (shown : List Shown) (marks : List ℕ) (heap : Heap) (c : Cycle) : Type 0 where
   pub run : IsRun mutators fresh lines shown heap c
   pub cycle : IsCycleOf heap c
   pub marks_are : c.marks ≡ marks
 
--- cycles that are over, and a last one, of which this is left; `rest` has for each further cycle the marks that began it, and its lines
+-- the cycles that are over, and a last one, which left this heap; `rest` has for each further cycle the marks that
+-- began it, and its lines
 abbrev pub AreRuns : ℕ → ℕ → Heap → List Line → List (List ℕ × List Line) → List (List Shown) → List Cycle → Finished → Type 0
 AreRuns mutators fresh heap lines [] (s ∷ []) [] f = IsLastRun mutators fresh lines s heap f
 AreRuns mutators fresh heap lines (r ∷ rest) (s ∷ shown) (c ∷ cs) f = IsPart mutators fresh lines s r.0 heap c × AreRuns mutators fresh (heap_after c) r.1 rest shown cs f
 AreRuns mutators fresh heap lines _ _ _ f = ⊥
 
--- the heap over which the last of them ran
+-- the heap of the last cycle
 abbrev pub last_heap : Heap → List Cycle → Heap
 last_heap heap [] = heap
 last_heap heap (c ∷ cs) = last_heap (heap_after c) cs
 
--- From what was left of a cycle, with some marks the next heap was made, and over it these lines were run, which showed these values.
+-- With these marks, what was left of a cycle made the next heap; and these lines were run over it and showed these
+-- values.
 pub record IsNextRun (mutators fresh : ℕ) (heap : Heap) (f : Finished) (marks : List ℕ) (lines : List Line) (next : Heap) (shown : List Shown) (left : Finished) : Type 0 where
   pub cycle : IsCycleOf heap (cycle_of heap f marks)
   pub next_is : next ≡ heap_after (cycle_of heap f marks)
   pub run : IsLastRun mutators fresh lines shown next left
 
--- The traces were run so, and all cycles but the last are one life of a heap whose objects never move.
+-- The traces were run over these cycles, and all cycles but the last are one life of a heap whose objects never move.
 pub record HaveRun (mutators fresh : ℕ) (heap : Heap) (lines : List Line) (rest : List (List ℕ × List Line)) (shown : List (List Shown)) (f : Finished) : Type 0 where
   pub cycles : List Cycle
   pub runs : AreRuns mutators fresh heap lines rest shown cycles f
   pub follow : Follow heap cycles (last_heap heap cycles)
   pub life : IsOneLife heap cycles (last_heap heap cycles)
-  -- and what was written in the last cycle is written in that life
+  -- what was written in the last cycle is written in that life too
   pub last : IsWriting (cycle_of (last_heap heap cycles) f []) (numbers_left cycles (first_numbers heap) (length heap.marks)) (lived (first_told heap) (story cycles (first_numbers heap) (length heap.marks)))
-  -- and its forwarding keeps the order of addresses too
+  -- the forwarding of the last cycle keeps the order of addresses
   pub rising : IsRising (last_heap heap cycles)

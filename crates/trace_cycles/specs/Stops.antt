@@ -18,7 +18,7 @@ use Rattle.trace_cycles.specs.CycleRuns.{last_heap, HaveRun}
 use Rattle.trace_cycles.specs.declared.fault.CycleFault.{CycleFault}
 use Rattle.trace_cycles.specs.declared.fault.CycleFault.TheVariants.{NotMarked, Stopped, OutOfMemory}
 
--- the lists that these hold
+-- the elements of these lists
 abbrev pub values_of : {A : Type 0} → List (Vec Shown A) → List (List Shown)
 values_of {A} lists = map (λ (list : Vec Shown A). list.items) lists
 
@@ -30,7 +30,8 @@ marks_and_lines x = (x.0.items, lines_of x.1)
 abbrev pub none_further : List ℕ × List Line
 none_further = ([], [])
 
--- the marks that are handed in after cycle c are refused: the cycles until then were run, and this is the first fault of the next heap
+-- the marks that are handed in after cycle c are refused: the cycles up to it were run, and this is the first fault of
+-- the next heap
 pub record IsNotMarked (mutators fresh : ℕ) (heap : Heap) (lines : List Line) (rest : List (List ℕ × List Line)) (shown : List (List Shown)) (c : ℕ) (fault : LayoutFault) : Type 0 where
   pub further : c < length rest
   pub left : Finished
@@ -41,7 +42,8 @@ pub record IsNotMarked (mutators fresh : ℕ) (heap : Heap) (lines : List Line) 
 abbrev pub Extent : Type 1
 Extent = Setup → List Line → List Shown → Type 0
 
--- cycle c + 1 was begun, but has no end: the cycles until then were run, and over the next heap its lines so far, which showed the last values
+-- cycle c + 1 was begun, but has no end: the cycles before it were run, and its lines so far were run over its heap and
+-- showed the last values
 pub record IsStopped (mutators fresh : ℕ) (heap : Heap) (lines : List Line) (rest : List (List ℕ × List Line)) (shown : List (List Shown)) (c : ℕ) (runs : Extent) : Type 0 where
   pub further : c < length rest
   pub left : Finished
@@ -57,7 +59,8 @@ abbrev pub StopsAt : ℕ → ℕ → Heap → List Line → List (List ℕ × Li
 StopsAt mutators fresh heap lines rest shown zero runs = (last : List Shown) × (shown ≡ last ∷ []) × runs (flipped heap mutators fresh) lines last
 StopsAt mutators fresh heap lines rest shown (suc c) runs = IsStopped mutators fresh heap lines rest shown c runs
 
--- Memory was wanted where so many further cycles had ended: to copy the marks that are handed in after the last of them, or for the next cycle, whose marks were accepted.
+-- Memory ran out after this number of further cycles had ended: to copy the marks that are handed in after the last of
+-- them, or for the next cycle, after its marks were accepted.
 pub record IsCutOff (mutators fresh : ℕ) (heap : Heap) (lines : List Line) (rest : List (List ℕ × List Line)) (shown : List (List Shown)) (c : ℕ) : Type 0 where
   pub ended : ℕ
   pub further : ended < length rest
@@ -65,11 +68,12 @@ pub record IsCutOff (mutators fresh : ℕ) (heap : Heap) (lines : List Line) (re
   pub ran : HaveRun mutators fresh heap lines (take ended rest) shown left
   pub next : (c ≡ ended) ⊎ ((c ≡ ended + 1) × IsCycleOf (last_heap heap ran.cycles) (cycle_of (last_heap heap ran.cycles) left (slice_index_or rest ended none_further).0))
 
--- memory was wanted for the first cycle, which showed nothing; or where some had ended; or to finish cycle c, all of whose lines had run
+-- memory ran out for the first cycle, which showed nothing; or after some further cycles had ended; or to finish cycle
+-- c, after all its lines had run
 abbrev pub IsShort : ℕ → ℕ → Heap → List Line → List (List ℕ × List Line) → List (List Shown) → ℕ → Type 0
 IsShort mutators fresh heap lines rest shown c = ((c ≡ 0) × (shown ≡ [])) ⊎ IsCutOff mutators fresh heap lines rest shown c ⊎ StopsAt mutators fresh heap lines rest shown c RunsThrough
 
--- why the cycles are not run to their end, where these values were shown
+-- why the cycles are not run to their end, if these values were shown
 abbrev pub StopsCycles : ℕ → ℕ → Heap → List Line → List (List ℕ × List Line) → List (List Shown) → CycleFault → Type 0
 StopsCycles mutators fresh heap lines rest shown (NotMarked c fault) = IsNotMarked mutators fresh heap lines rest shown c fault
 StopsCycles mutators fresh heap lines rest shown (Stopped c fault) = StopsAt mutators fresh heap lines rest shown c (λ u ran values. CutsShort u ran values fault)
@@ -77,21 +81,21 @@ StopsCycles mutators fresh heap lines rest shown (OutOfMemory c) = IsShort mutat
 
 -- ---- within a replay
 
--- what a cycle had shown, where it had begun
+-- the values that a cycle had shown, if its lines had begun
 abbrev pub some_values : {A : Type 0} → Option (Vec Shown A) → List (List Shown)
 some_values None = []
 some_values (Some values) = values.items ∷ []
 
--- why cycle c has no end where its lines had begun: they stopped, or all had run, and memory was wanted to finish it
+-- why cycle c has no end, if its lines had begun: they stopped, or all had run and memory ran out to finish it
 abbrev pub HasNoEnd : ℕ → CycleFault → Extent
 HasNoEnd c fault u lines shown = ((f : TraceFault) × (fault ≡ Stopped c f) × CutsShort u lines shown f) ⊎ ((fault ≡ OutOfMemory c) × RunsThrough u lines shown)
 
--- why a cycle is not run over a heap, where it had shown this
+-- why a cycle is not run to its end over a heap, if it had shown these values
 abbrev pub IsNotRunOver : {A : Type 0} → ℕ → ℕ → List Line → Heap → ℕ → Option (Vec Shown A) → CycleFault → Type 0
 IsNotRunOver mutators fresh lines heap c (Some values) fault = HasNoEnd c fault (flipped heap mutators fresh) lines values.items
 IsNotRunOver mutators fresh lines heap c None fault = fault ≡ OutOfMemory c
 
--- why the cycle after cycle c is not run, where this is left of cycle c
+-- why the cycle after cycle c is not run to its end, if this is left of cycle c
 abbrev pub IsNotNext : {A : Type 0} → ℕ → ℕ → Heap → Finished → List ℕ → List Line → ℕ → Option (Vec Shown A) → CycleFault → Type 0
 IsNotNext mutators fresh heap f marks lines c (Some values) fault =
     IsCycleOf heap (cycle_of heap f marks) × HasNoEnd (c + 1) fault (flipped (heap_after (cycle_of heap f marks)) mutators fresh) lines values.items

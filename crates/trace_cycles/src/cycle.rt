@@ -1,4 +1,4 @@
-//! One cycle: a heap, from its flip to its end, with the trace that is run in between.
+//! Runs one cycle: flips a heap, runs a trace over it, and finishes it.
 ghost use Rattle.std.specs.Prelude.{◌≡◌, ◌≤◌, IfErr, IfOk, length};
 ghost use Rattle.comp_cycles.specs.Ends.{IsEndOf};
 ghost use Rattle.comp_cycles.specs.Finishes.{IsOfFlip};
@@ -18,7 +18,7 @@ use trace_text::Trace;
 /// A cycle that was run.
 #[derive(Drop)]
 pub struct Ran {
-    /// The plan of the heap that was compacted: the builder for which `Finished::next_cycle` asks.
+    /// The plan of the compacted heap. It is the builder that `Finished::next_cycle` requires.
     pub plan: Arc<Plan>,
     /// The values that the `get` lines showed, in the order of the lines.
     pub shown: Vec<Shown>,
@@ -26,20 +26,25 @@ pub struct Ran {
     pub finished: Finished,
 }
 
-/// Why a cycle does not come to its end.
+/// Why a cycle did not come to its end.
 #[derive(Drop)]
 pub enum CycleHalt {
-    /// A growth was refused, for the plan.
+    /// Out of memory for the plan.
     Unplanned,
-    /// The planned heap does not come to its end.
+    /// The planned heap did not come to its end.
     Halted(Halt),
 }
 
-/// Runs one cycle: flips the heap for this many mutators and fresh pages, runs the trace over it by one thread, line by line, and finishes it. There are 1 to 64 mutators
-/// and at most 4,096 fresh pages, and the trace was parsed for these mutators and for the heap's number of roots.
+/// Runs one cycle: flips the heap for this number of mutators and fresh pages, runs the trace over it by one thread,
+/// and finishes it.
 ///
-/// Within `Halted`, `Halt::Cut` comes where a line is refused, with the values of the lines before it, or where there is no memory for the values, with none;
-/// `Halt::Unflipped` comes where a growth is refused for the flip, and `Halt::Unfinished` where one is refused for the finish, with the values of all lines. `Unplanned` comes where one is refused for the plan. The heap is dropped then.
+/// `Unplanned` means out of memory for the plan. Within `Halted`, `Halt::Cut` means that a line was refused, and has
+/// the values of the lines before it; or that memory ran out for the values, and has none. `Halt::Unflipped` means out
+/// of memory for the flip. `Halt::Unfinished` means out of memory for the finish, and has the values of all lines. In
+/// each case the heap is dropped.
+///
+/// Requires 1 to 64 mutators, at most 4,096 fresh pages, and a trace that was parsed for these mutators and for the
+/// heap's number of roots.
 pub fn run_cycle(
     alloc: Global,
     rt: &(impl Threads + Sync),

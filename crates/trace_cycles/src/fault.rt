@@ -5,13 +5,15 @@ use trace_text::TraceFault;
 /// Why cycles were not run to their end. Cycles are counted from 0.
 #[derive(Clone, Copy, Debug, PartialEq, Eq, Error)]
 pub enum CycleFault {
-    /// The marks that were handed in after this cycle are refused: this is the first fault of the heap that would have followed, or `OutOfMemory`.
+    /// The marks that were handed in after this cycle are refused. The layout fault is the first fault of the next
+    /// heap, or `OutOfMemory`.
     #[error("Y1 NotMarked({0}, {1})")]
     NotMarked(u64, LayoutFault),
-    /// A line of this cycle's trace was refused, or there was no memory for the values of its lines.
+    /// A line of this cycle's trace was refused, or memory ran out for the values of its lines.
     #[error("Y2 Stopped({0}, {1})")]
     Stopped(u64, TraceFault),
-    /// A growth was refused: for this cycle's plan, its flip or its finish, or for a copy of the marks that were handed in after it. At cycle 0 also for the list of all values.
+    /// Out of memory for this cycle's plan, its flip or its finish, or for a copy of the marks that were handed in
+    /// after it. At cycle 0 also for the list of all values.
     #[error("Y3 OutOfMemory({0})")]
     OutOfMemory(u64),
 }

@@ -1,4 +1,4 @@
-//! Cycles over which traces are run, one after the other, by one thread.
+//! Runs cycles one after the other by one thread, with a trace over each.
 #![tactic(auto)]
 
 mod cycle;

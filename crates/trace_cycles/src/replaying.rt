@@ -1,4 +1,4 @@
-//! Several cycles, over each of which a trace is run.
+//! Runs several cycles, with a trace over each.
 ghost use Rattle.std.specs.Prelude.{◌≡◌, ℕ, ◌+◌, ◌^◌, ◌<◌, ◌≤◌, ◌++◌, All, IfErr, IfOk, List, length, map, vec_capacity};
 ghost use Rattle.comp_cycles.specs.Ends.{IsEndOf};
 ghost use Rattle.comp_cycles.specs.Finishes.{IsOfFlip};
@@ -20,10 +20,10 @@ use trace_replay::Halt;
 use trace_steps::Shown;
 use trace_text::Trace;
 
-/// What is left of cycles over which traces were run.
+/// What is left after cycles with traces.
 #[derive(Drop)]
 pub struct CyclesRun {
-    /// For each cycle the values that its `get` lines showed, in the order of the lines.
+    /// For each cycle, the values that its `get` lines showed, in the order of the lines.
     pub shown: Vec<Vec<Shown>>,
     /// The heap at the end of the last cycle.
     pub finished: Finished,
@@ -32,20 +32,21 @@ pub struct CyclesRun {
 /// Why cycles were not run to their end.
 #[derive(Drop)]
 pub struct CyclesStopped {
-    /// The values of each cycle that came to its end. Where a cycle was begun but has no end, the values of its lines so far follow as one list more.
+    /// The values of each cycle that came to its end. If a further cycle was flipped, the values of its lines so far
+    /// follow as one list more.
     pub shown: Vec<Vec<Shown>>,
     /// The fault, with the number of the cycle, from 0.
     pub fault: CycleFault,
 }
 
-/// Why a cycle was not run to its end, and what it had shown where its lines had begun.
+// Why a cycle was not run to its end, and the values that it had shown, if it was flipped.
 #[derive(Drop)]
 struct NotRun {
     shown: Option<Vec<Shown>>,
     fault: CycleFault,
 }
 
-/// Why cycle `c` was not run to its end.
+// Why cycle `c` was not run to its end.
 fn not_run(c: u64, halt: CycleHalt) -> NotRun
     ensures { (mutators fresh : ℕ) (lines : List Line) (heap : Heap) → IsCycleHaltOf mutators fresh lines heap halt → IsNotRunOver mutators fresh lines heap c result.shown result.fault }
 {
@@ -65,7 +66,8 @@ fn not_run(c: u64, halt: CycleHalt) -> NotRun
     }
 }
 
-/// Runs the cycle after cycle `c`: makes with these marks the heap that follows from what is left of cycle `c`, and runs the trace over it.
+// Runs the cycle after cycle `c`: makes the next heap of what is left of cycle `c`, with these marks, and runs the
+// trace over it.
 fn run_next(
     alloc: Global,
     rt: &(impl Threads + Sync),
@@ -104,7 +106,8 @@ fn run_next(
     }
 }
 
-/// The values that were shown until a cycle was not run to its end, its own at the end of the list. The list has room for one more.
+// Adds the values of the cycle that was not run to its end, if there are any, after the values shown before. Requires
+// room for one more list.
 fn stopped(mut shown: Vec<Vec<Shown>>, not: NotRun) -> CyclesStopped
     requires { length shown.items < vec_capacity shown }
     ensures shown { values_of result.shown.items ≡ values_of shown.items ++ some_values not.shown }
@@ -117,12 +120,16 @@ fn stopped(mut shown: Vec<Vec<Shown>>, not: NotRun) -> CyclesStopped
     CyclesStopped { shown, fault }
 }
 
-/// Runs cycles, one after the other; one thread runs their lines. The first cycle runs the trace `first` over the heap. Each pair of `rest` is one cycle more: its marks
-/// make the heap that follows, as by `Finished::next_cycle`, and its trace runs over that heap. Each cycle is flipped for this many mutators, 1 to 64, and fresh pages,
-/// at most 4,096. Each trace was parsed for these mutators and for as many roots as the heap has.
+/// Runs cycles, one after the other, by one thread. The first cycle runs the trace `first` over the heap. Each pair of
+/// `rest` is one cycle more: its marks make the next heap, as in `Finished::next_cycle`, and its trace runs over that
+/// heap. Each cycle is flipped for this number of mutators and fresh pages.
 ///
-/// An Err names a cycle `c`, counted from 0: `Stopped(c, ..)` where its trace stops, `NotMarked(c, ..)` where the marks handed in after it are refused, and
-/// `OutOfMemory(c)` where a growth is refused otherwise. It has the values that were shown until then; the heap is dropped.
+/// An Err names a cycle `c`, counted from 0: `Stopped(c, ..)` if its trace was stopped, `NotMarked(c, ..)` if the marks
+/// that were handed in after it are refused, and `OutOfMemory(c)` if memory ran out elsewhere. It has the values that
+/// were shown until then; the heap is dropped.
+///
+/// Requires 1 to 64 mutators, at most 4,096 fresh pages, and traces that were parsed for these mutators and for the
+/// heap's number of roots.
 pub fn replay_cycles(
     alloc: Global,
     rt: &(impl Threads + Sync),

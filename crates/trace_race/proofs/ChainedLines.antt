@@ -8,7 +8,7 @@ use Rattle.trace_race.specs.Races.{numbered, own_lines}
 use Rattle.trace_race.specs.Chains.{IsNextOwn}
 use Rattle.trace_text.specs.declared.line.Line.{Line}
 
--- What is known of the lines from one place on.
+-- What is known of the lines from one index on.
 pub record ChainedFrom (lines : List Line) (place : ℕ) (firsts counts nexts : List ℕ) : Type 0 where
   pub within : place ≤ length lines
   pub numbers : (length firsts ≡ 256) × (length counts ≡ 256)
@@ -17,7 +17,7 @@ pub record ChainedFrom (lines : List Line) (place : ℕ) (firsts counts nexts : 
   pub count : (number : ℕ) → number < 256 → get_or counts number 0 ≡ length (own_lines number (numbered (place + 1) (drop place lines)))
   pub next : (i : ℕ) (line : Line) → place ≤ i → get_elem? lines i ≡ some line → IsNextOwn lines line.mutator (i + 1) (get_or nexts i 0)
 
--- behind the last line there is none
+-- after the last line there is none
 none_behind : (lines : List Line) (number : ℕ) → IsNextOwn lines number (length lines) (length lines)
 none_behind lines number = record {
   above = omega arith;
@@ -46,7 +46,7 @@ drop_at [] k line at = absurd (omega (arith, is_inside [] k line at))
 drop_at (x ∷ lines) zero line at = ap (λ (l : Line). l ∷ lines) (some-injective x line at)
 drop_at (x ∷ lines) (suc k) line at = drop_at lines k line at
 
--- how many lines a mutator has, with one line more
+-- the number of lines of a mutator, with one line more
 count_own : (number n : ℕ) (x : Line) (lines : List Line) → x.mutator ≡ number → length (own_lines number (numbered n (x ∷ lines))) ≡ suc (length (own_lines number (numbered (n + 1) lines)))
 count_own number n x lines e = ap (λ (t : Bool). length (cond t ((n, x) ∷ own_lines number (numbered (n + 1) lines)) (own_lines number (numbered (n + 1) lines)))) (eq-eqb x.mutator number e)
 
@@ -73,7 +73,7 @@ module _ (lines : List Line) (place : ℕ) (line : Line) (at : get_elem? lines p
     own = λ other there. ap (λ (l : Line). l.mutator) (some-injective other line (sym there ∙ at));
   }
 
-  -- and is passed by any other
+  -- any other mutator skips the line
   passed : (number next : ℕ) → number ≢ line.mutator → IsNextOwn lines number (place + 1) next → IsNextOwn lines number place next
   passed number next ne h = record {
     above = omega (arith, h.above);

@@ -3,6 +3,6 @@ use Rattle.std.proofs.Common.{ℕ, IsErrOf, Ok}
 use Rattle.comp_mutator.specs.Refusal.{Refusal}
 use Rattle.comp_mutator.specs.Refusal.TheVariants.{Busy}
 
--- what was answered is no busy page
+-- an Ok is not `Busy`
 pub ok_waits : (a p : ℕ) → IsErrOf {T = ℕ} {E = Refusal} (Ok a) (Busy p) → ⊥
 ok_waits a p e = cc e

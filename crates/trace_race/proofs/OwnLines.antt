@@ -27,7 +27,7 @@ lines_append n (x ∷ xs) b = elim (eqb x.1.mutator n) as (λ t. cond t (x ∷ o
   | false ↦ lines_append n xs b
 ]
 
--- a line of its own, or another's
+-- a line of this mutator, or of another
 line_own : (n : ℕ) (line : ℕ × Line) → line.1.mutator ≡ n → own_lines n (line ∷ []) ≡ line ∷ []
 line_own n line e = ap (λ t. cond t (line ∷ []) []) (eq-eqb line.1.mutator n e)
 
@@ -109,7 +109,7 @@ module _ (u : Setup) (lines : List (ℕ × Line)) (k : ℕ) (old : Pass) (regist
         few = omega (arith, ap length more, length-append (own_lines (number_of old) (take k lines)) (line ∷ []), length-append shown (shown_at line.0 line.1.action answer), shows_one line.0 line.1.action answer, h.few);
       }
 
-  -- a line of another's is left to it
+  -- a line of another mutator is skipped
   pub has_run_other : line.1.mutator ≢ number_of now → HasRunFirst u lines (k + 1) old registers shown now
   has_run_other other =
       let more = others_more (number_of old) lines k line at (λ e. other (e ∙ sym h.number)) in
@@ -126,7 +126,7 @@ module _ (u : Setup) (lines : List (ℕ × Line)) (k : ℕ) (old : Pass) (regist
       let first = first_own (number_of old) lines (k + 1) in
       omega (arith, ap length more, length-append (own_lines (number_of old) (take k lines)) (line ∷ []), ap length first.1, length-append (own_lines (number_of old) (take (k + 1) lines)) first.0, h.few)
 
-  -- or it was refused
+  -- the line was refused
   pub ran_to : (new : Pass) (stop : Stop) → line.1.mutator ≡ number_of now → stop.line ≡ line.0 → Grows now new → did new ≡ did now → Refuses u line.1.action registers now new stop.refusal → ((q : ℕ) → stop.refusal ≡ Busy q → ⊥)
       → Ran u (own_lines (number_of old) lines) old new shown (Some stop)
   ran_to new stop own number grows same refuses waited =
@@ -155,7 +155,7 @@ ran_all u lines k old registers shown now h le =
       ends = (omega arith, refl);
     }
 
--- lines of others are left to them, up to the next of its own
+-- lines of other mutators are skipped, up to the next own line
 pub has_run_others : (u : Setup) (lines : List (ℕ × Line)) (k more : ℕ) (old : Pass) (registers : List ℕ) (shown : List Shown) (now : Pass)
     → ((i : ℕ) (line : ℕ × Line) → k ≤ i → i < k + more → get_elem? lines i ≡ some line → line.1.mutator ≢ number_of old) → k + more ≤ length lines → HasRunFirst u lines k old registers shown now
     → HasRunFirst u lines (k + more) old registers shown now
@@ -178,7 +178,7 @@ pub numbered_length : (n : ℕ) (lines : List Line) → length (numbered n lines
 numbered_length n [] = refl
 numbered_length n (x ∷ xs) = ap suc (numbered_length (n + 1) xs)
 
--- what has this number is that line
+-- the line of a number is the line at its index
 pub at_numbered : (n : ℕ) (lines : List Line) (k : ℕ) (line : ℕ × Line) → get_elem? (numbered n lines) k ≡ some line → get_elem? lines k ≡ some line.1
 at_numbered n [] k line at = absurd (some-ne-none line (sym at))
 at_numbered n (x ∷ xs) zero line at = ap (λ (l : ℕ × Line). some l.1) (some-injective (n, x) line at)
@@ -193,7 +193,7 @@ run_to_next u lines k next old registers shown now h run =
     (has_run_others u (numbered 1 lines) k (next - k) old registers shown now (λ i line from lt at. h.others i line.1 from (omega (arith, lt, same)) (at_numbered 1 lines i line at))
     (omega (arith, same, h.inside, numbered_length 1 lines)) run)
 
--- what the mutator was, it is
+-- the number of the mutator is unchanged
 ends_number : (u : Setup) (lines : List (ℕ × Line)) (count : ℕ) (registers : List ℕ) (old new : Pass) (fault : Option Stop) → Ends u lines count registers old new fault → number_of new ≡ number_of old
 ends_number u lines count registers old new None e = ap number_of e.1
 ends_number u lines count registers old new (Some stop) e = e.grows.number

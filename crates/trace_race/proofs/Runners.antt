@@ -29,12 +29,12 @@ pub record Running {L : Type 0} {B : Type 0} {g : Ghosts B} (space : Space L B g
   pub room : vec_capacity runner.shown ≡ vec_capacity before.shown
   pub run : HasRunFirst (setup_of space) (numbered 1 lines) k (pass_of before.mutator) runner.registers runner.shown.items (pass_of runner.mutator)
 
--- The line at a place, if there is one, is the runner's.
+-- The line at an index, if there is one, is the runner's.
 pub record IsNextLine {L : Type 0} (lines : List Line) (place : ℕ) (runner : Runner L) : Type 0 where
   pub inside : place ≤ length lines
   pub own : (line : Line) → get_elem? lines place ≡ some line → line.mutator ≡ number_of_mutator runner.mutator
 
--- what holds of all, by places
+-- what holds of all, by indices
 pub all_at : {A : Type 0} (P : A → Type 0) (l : List A) → All P l → (k : ℕ) (a : A) → get_elem? l k ≡ some a → P a
 all_at P l h k a at = subst P (read_at l k a a at) (h k a (is_inside l k a at))
 
@@ -57,7 +57,7 @@ ready_of {L} {B} {g} {A} space lines mutators rooms runners are have blank h all
       room = omega (arith, fits.1, ap (λ (x : List Shown × ℕ). x.1) room.2);
     }
 
--- what is known of a runner's lines, by its mutator and by what it is told
+-- what is known of a runner's lines, by its mutator and by its run
 moved : {L : Type 0} (u : Setup) (k : ℕ) (lines : List Line) (x y : Runner L) (old new : Mutator L) (run : Run) → mutator_of x ≡ old → mutator_of y ≡ new → run_of y ≡ run → number_of_mutator old ≡ k
     → Ran u (lines_for lines x.mutator) (pass_of x.mutator) (pass_of y.mutator) y.shown.items y.fault
     → Ran u (own_lines k (numbered 1 lines)) (pass_of old) (pass_of new) run.shown.items run.fault
@@ -101,7 +101,7 @@ raced_of {L} {B} {g} space lines mutators runners after are long all ran =
           moved u k lines x.0 y.0 old new run old_is y.2 (ap run_of (sym same) ∙ z.2) (all.numbers k old at) x.2.ran;
     }
 
--- no rooms are enough for no mutators
+-- for no mutators, no rooms are enough
 pub no_rooms : {L : Type 0} {A : Type 0} (lines : List Line) (rooms : List (Vec Shown A)) → rooms ≡ [] → HaveRooms {L = L} lines [] rooms
 no_rooms lines rooms none = record { count = ap length none; each = λ k m room there has. absurd (omega (arith, is_inside [] k m there)) }
 
@@ -125,12 +125,12 @@ rooms_more {L} {A} lines mutators rooms k m room h at none fits =
 pub one_moved : {A B : Type 0} (f : A → B) (done more : List B) (x : A) (left rest : List A) (all : List B) → more ≡ done ++ f x ∷ [] → rest ≡ x ∷ left → done ++ map f rest ≡ all → more ++ map f left ≡ all
 one_moved f done more x left rest all e r h = ap (λ l. l ++ map f left) e ∙ append_assoc done (f x ∷ []) (map f left) ∙ ap (λ l. done ++ map f l) (sym r) ∙ h
 
--- how many there are once they are written back
+-- the number of elements after they are written back
 pub written_count : {A B : Type 0} (f : A → B) (n : ℕ) (after before : List A) (all : List B) → map f before ≡ all → length after ≡ length before → n ≡ length before
     → length (take n (after ++ drop (length after) before)) ≡ length all
 written_count f n after before all are long len = ap length (written_back n after before (len ∙ sym long)) ∙ long ∙ sym (length-map before f) ∙ ap length are
 
--- once nothing is left, all is done
+-- if nothing is left, all is done
 pub nothing_left : {A : Type 0} (done left all : List A) → length left ≡ 0 → done ++ left ≡ all → done ≡ all
 nothing_left done [] all e h = sym (append-nil done) ∙ h
 nothing_left done (x ∷ xs) all e h = absurd (omega (arith, e))

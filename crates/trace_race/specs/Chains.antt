@@ -1,4 +1,4 @@
--- Lines of one mutator that follow one another among those of all.
+-- The next line of a mutator among the lines of all mutators.
 use Rattle.std.specs.Prelude.{◌≡◌, ◌≢◌, ℕ, ◌+◌, ◌<◌, ◌≤◌, List, length, slice_index}
 use mathlib.Core.Option.{some}
 use lib.ListN.{get_elem?}
@@ -6,7 +6,7 @@ use Rattle.trace_race.specs.Races.{numbered, own_lines}
 use Rattle.trace_text.specs.declared.line.Line.{Line}
 use Rattle.trace_race.specs.declared.chains.Chains.{Chains}
 
--- The first line of a mutator from one place on stands at another; it is the count of lines where there is none.
+-- The first line of the mutator from index `start` on is at `place`; if there is none, `place` is the number of lines.
 pub record IsNextOwn (lines : List Line) (number start place : ℕ) : Type 0 where
   pub above : start ≤ place
   pub inside : place ≤ length lines

@@ -1,4 +1,4 @@
--- What it is that each mutator runs its own lines.
+-- What it means that each mutator runs its own lines.
 use Rattle.std.specs.Prelude.{◌≡◌, ℕ, ◌+◌, ◌≤◌, ◌==◌, cond, List, [], ◌∷◌, ◌++◌, length, take, Option, None, Some}
 use mathlib.Core.Option.{some}
 use lib.ListN.{get_elem?}
@@ -18,25 +18,26 @@ use Rattle.trace_race.specs.declared.racing.Run.{Run}
 use Rattle.trace_steps.specs.declared.shown.Shown.{Shown}
 use Rattle.trace_steps.specs.AllMutators.{AreAll}
 
--- the lines with their numbers, where the first has number n
+-- the lines with their numbers; the first line has number n
 abbrev pub numbered : ℕ → List Line → List (ℕ × Line)
 numbered n [] = []
 numbered n (line ∷ lines) = (n, line) ∷ numbered (n + 1) lines
 
--- of these lines, those of mutator k
+-- the lines of mutator k among these
 abbrev pub own_lines : ℕ → List (ℕ × Line) → List (ℕ × Line)
 own_lines k [] = []
 own_lines k (line ∷ lines) = cond (line.1.mutator == k) (line ∷ own_lines k lines) (own_lines k lines)
 
--- The lines ran well, one after the other, over these registers: what the mutator had seen is a beginning of what it has seen after each, and each built no page but
--- the one that it touched, which the mutator has then seen built.
+-- The lines ran, one after the other, over these registers. With each line, what the mutator has seen grew. Each line
+-- built at most the page that it touched, and the mutator has then seen that page built.
 abbrev pub Went : Setup → List (ℕ × Line) → List ℕ → Pass → List Shown → List ℕ → Pass → Type 0
 Went u [] registers old shown after new = (after ≡ registers) × (new ≡ old) × (shown ≡ [])
 Went u (line ∷ lines) registers old shown after new =
     (middle : Pass) × (answer : ℕ) × (rest : List Shown) × Steps u line.1.action registers old middle answer × (shown ≡ shown_at line.0 line.1.action answer ++ rest)
     × Went u lines (registers_after line.1.action registers answer) middle rest after new
 
--- The line after the first `count` was refused. The mutator, which is the one that ran those, wrote nothing in it, and forgot nothing.
+-- The line after the first `count` was refused. The mutator, which ran the lines before it, wrote nothing in it, and
+-- forgot nothing.
 pub record Stops (u : Setup) (lines : List (ℕ × Line)) (count : ℕ) (registers : List ℕ) (old new : Pass) (stop : Stop) : Type 0 where
   pub line : ℕ × Line
   pub there : get_elem? lines count ≡ some line
@@ -47,12 +48,12 @@ pub record Stops (u : Setup) (lines : List (ℕ × Line)) (count : ℕ) (registe
   -- a busy page is waited for
   pub waited : (p : ℕ) → stop.refusal ≡ Busy p → ⊥
 
--- after the first `count` lines there is none, or the next one was refused
+-- there are no lines after the first `count`, or the next line was refused
 abbrev pub Ends : Setup → List (ℕ × Line) → ℕ → List ℕ → Pass → Pass → Option Stop → Type 0
 Ends u lines count registers old new None = (length lines ≤ count) × (new ≡ old)
 Ends u lines count registers old new (Some stop) = Stops u lines count registers old new stop
 
--- A mutator ran its lines before its refused one, or all, in order, over registers that were null.
+-- A mutator ran its lines in order, from null registers: all of them, or those before its refused line.
 pub record Ran (u : Setup) (lines : List (ℕ × Line)) (old new : Pass) (shown : List Shown) (fault : Option Stop) : Type 0 where
   pub count : ℕ
   pub registers : List ℕ
@@ -60,7 +61,7 @@ pub record Ran (u : Setup) (lines : List (ℕ × Line)) (old new : Pass) (shown 
   pub went : Went u (take count lines) null_registers old shown registers last
   pub ends : Ends u lines count registers last new fault
 
--- Each mutator ran its own lines of the trace, and is handed back at its place.
+-- Each mutator ran its own lines of the trace, and is handed back at its index.
 pub record HaveRaced {L : Type 0} {B : Type 0} {g : Ghosts B} (space : Space L B g) (lines : List Line) (before after : List (Mutator L)) (runs : List Run) : Type 0 where
   pub all : AreAll space after
   pub count : length runs ≡ length before

@@ -37,7 +37,7 @@ pub record HaveRooms {L : Type 0} {A : Type 0} (lines : List Line) (mutators : L
   pub each : (k : ℕ) (m : Mutator L) (room : Vec Shown A) → get_elem? mutators k ≡ some m → get_elem? rooms k ≡ some room
       → (room.items ≡ []) × (length (lines_for lines m) ≤ vec_capacity room)
 
--- what a list of shown values has, and for how much it has room
+-- the elements of a list of shown values, and its capacity
 abbrev pub room_in : {A : Type 0} → Vec Shown A → List Shown × ℕ
 room_in shown = (shown.items, vec_capacity shown)
 
@@ -48,7 +48,7 @@ room_of runner = room_in runner.shown
 abbrev pub mutator_of : {L : Type 0} → Runner L → Mutator L
 mutator_of runner = runner.mutator
 
--- what is told of the runner's lines
+-- what a race answers about the runner's lines
 abbrev pub run_of : {L : Type 0} → Runner L → Run
 run_of runner = record { shown = runner.shown; fault = runner.fault }
 

@@ -1,4 +1,4 @@
-//! The lines of each mutator, one after the other.
+//! Chains that lead from each line to the next line of the same mutator.
 ghost use Rattle.std.specs.Prelude.{IfOk};
 ghost use Rattle.trace_race.specs.Chains.{AreChained};
 
@@ -6,11 +6,11 @@ use heap_layout::OutOfMemory;
 use std::alloc::Global;
 use trace_text::Line;
 
-/// How many numbers of mutators a line can name.
+// The number of mutators that a line can name.
 const NUMBERS: usize = 256;
 
-/// Where each mutator's first line stands, how many lines each has, and for each line where the next one of its mutator stands. Where there is none, it is
-/// the count of all lines.
+/// The index of each mutator's first line, the number of lines of each mutator, and for each line the index of the next
+/// line of its mutator. If there is no such line, the index is the number of all lines.
 #[derive(Drop)]
 pub(crate) struct Chains {
     pub(crate) firsts: [usize; NUMBERS],
@@ -18,7 +18,7 @@ pub(crate) struct Chains {
     pub(crate) nexts: Vec<usize>,
 }
 
-/// The chains of some lines, made from the last line to the first.
+/// Makes the chains of these lines, from the last line to the first.
 pub(crate) fn chained(alloc: Global, lines: &[Line]) -> Result<Chains, OutOfMemory>
     ensures { IfOk result (AreChained lines.now) }
 {

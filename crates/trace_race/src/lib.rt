@@ -1,4 +1,4 @@
-//! Races: mutators that run their own lines of a trace side by side, and wait for busy pages.
+//! Races: the mutators run their own lines of a trace side by side, and wait for busy pages.
 #![tactic(auto)]
 
 mod chains;

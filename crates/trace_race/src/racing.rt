@@ -1,4 +1,4 @@
-//! Traces whose mutators run their lines side by side.
+//! Runs a trace by its mutators side by side.
 ghost use Rattle.std.specs.Prelude.{◌≡◌, ℕ, ◌≤◌, [], map, length, IfErr, IfOk, vec_capacity};
 ghost use mathlib.Core.Option.{some};
 ghost use lib.ListN.{get_elem?};
@@ -23,28 +23,28 @@ use std::thread::Threads;
 use trace_steps::Shown;
 use trace_text::{Line, Stop, Trace, TraceFault};
 
-/// What a mutator's lines showed, and the one that was refused, if any.
+/// The values that a mutator's lines showed, and the line that was refused, if there is one.
 #[derive(Debug, Drop)]
 pub struct Run {
     pub shown: Vec<Shown>,
     pub fault: Option<Stop>,
 }
 
-/// The mutators after a race, in the order of their numbers, and beside them what each ran.
+/// The mutators after a race, in the order of their numbers, and what each of them ran.
 #[derive(Drop)]
 pub struct Raced<L: Ledger> {
     pub mutators: Vec<Mutator<L>>,
     pub runs: Vec<Run>,
 }
 
-/// A race that did not begin, its mutators, as they were handed in, and why: for want of memory.
+/// A race that did not begin: the fault, which is out of memory, and the mutators as they were handed in.
 #[derive(Drop)]
 pub struct NotRaced<L: Ledger> {
     pub fault: TraceFault,
     pub mutators: Vec<Mutator<L>>,
 }
 
-/// The race did not begin for want of memory.
+// The race did not begin, since memory ran out.
 fn not_raced<L: Ledger>(mutators: Vec<Mutator<L>>) -> NotRaced<L>
     ensures fault { result.fault ≡ TraceFault.OutOfMemory }
     ensures back { result.mutators ≡ mutators }
@@ -55,7 +55,7 @@ fn not_raced<L: Ledger>(mutators: Vec<Mutator<L>>) -> NotRaced<L>
     }
 }
 
-/// Room for what each mutator's lines may show.
+// Reserves room for the values that each mutator's lines may show.
 fn rooms<L: Ledger>(
     alloc: Global,
     lines: &[Line],
@@ -73,7 +73,7 @@ fn rooms<L: Ledger>(
     Ok(rooms)
 }
 
-/// The mutators with their rooms, and nothing run.
+// Makes a runner of each mutator and its room. Nothing has run yet.
 fn readied<L: Ledger>(
     mutators: Vec<Mutator<L>>,
     mut rooms: Vec<Vec<Shown>>,
@@ -97,7 +97,7 @@ fn readied<L: Ledger>(
     runners
 }
 
-/// Each runner runs its lines in a thread of its own, and in the caller's where no thread can be had.
+// Lets each runner run its lines in its own thread, or in the caller's if no thread can be started.
 fn run_all<L: Ledger + Send + Sync, B: Builder, R: Threads + Wait + Sync>(
     alloc: Global,
     rt: &R,
@@ -126,7 +126,7 @@ fn run_all<L: Ledger + Send + Sync, B: Builder, R: Threads + Wait + Sync>(
     );
 }
 
-/// The mutators of runners, and what each ran.
+// Takes the runners apart: their mutators, and what each of them ran.
 fn parted<L: Ledger>(
     runners: Vec<Runner<L>>,
     mut mutators: Vec<Mutator<L>>,
@@ -147,9 +147,14 @@ fn parted<L: Ledger>(
     Raced { mutators, runs }
 }
 
-/// Each mutator runs its own lines of a trace, in their order, in a thread of its own where one can be had, and waits for busy pages. A refused line ends its
-/// mutator's run. The mutators are all of the space's, in the order of their numbers, and the trace was parsed for as many mutators and roots as there are. Room
-/// for the order of each mutator's lines, and for all that they can show, is asked for first: where it is refused, the fault is `OutOfMemory`, and no line runs.
+/// Lets each mutator run its own lines of a trace, in order. Each runs in its own thread, or in the caller's if no
+/// thread can be started, and waits for busy pages. A refused line ends the run of its mutator.
+///
+/// Memory for the chains of lines and for all values is reserved first. If it runs out, the fault is `OutOfMemory`, no
+/// line has run, and the mutators come back unchanged.
+///
+/// Requires all mutators of the space, in the order of their numbers, and a trace that was parsed for the numbers of
+/// mutators and roots that there are.
 pub fn race<L: Ledger + Send + Sync, B: Builder, R: Threads + Wait + Sync>(
     alloc: Global,
     rt: &R,

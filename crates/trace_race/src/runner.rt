@@ -1,4 +1,4 @@
-//! A mutator that runs its own lines.
+//! Runs the lines of one mutator.
 ghost use Rattle.std.specs.Prelude.{◌≡◌, ◌≤◌, [], None, length, vec_capacity};
 ghost use Rattle.comp_mutator.specs.Mutators.{pass_of, setup_of, IsMutatorOf};
 ghost use Rattle.comp_mutator.specs.Orders.{number_of_mutator};
@@ -16,7 +16,7 @@ use std::sync::ledger::Ledger;
 use trace_steps::{Shown, show};
 use trace_text::{Line, Stop};
 
-/// A mutator that runs its lines: its registers, what its lines showed, and its refused line.
+/// A mutator that runs its lines: its registers, the values that its lines showed, and its refused line.
 #[derive(Drop)]
 pub(crate) struct Runner<L: Ledger> {
     pub(crate) mutator: Mutator<L>,
@@ -25,8 +25,8 @@ pub(crate) struct Runner<L: Ledger> {
     pub(crate) fault: Option<Stop>,
 }
 
-/// Runs the lines of one mutator, in order, up to the first that is refused. The chains are those of the lines, and room for what the mutator's lines show is
-/// reserved.
+/// Runs the lines of one mutator, in order, up to the first that is refused. Requires null registers, the chains of the
+/// lines, and room for the values that the mutator's lines show.
 pub(crate) fn run_own<L: Ledger, B: Builder>(
     alloc: Global,
     rt: &impl Wait,

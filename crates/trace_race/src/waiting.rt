@@ -1,4 +1,4 @@
-//! What one mutator does for a line, where it waits for busy pages.
+//! What one mutator does for a line. It waits for busy pages.
 ghost use Rattle.std.specs.Prelude.{◌≡◌, ℕ, IfErr, IfOk, IsErrOf, OnErr};
 ghost use Rattle.comp_mutator.specs.Passes.{did};
 ghost use Rattle.comp_mutator.specs.Setup.{Setup};
@@ -14,7 +14,8 @@ use std::sync::ledger::Ledger;
 use trace_steps::{held, kind_if, root_at};
 use trace_text::Action;
 
-/// Does what a line says, and answers what its call does: 0 for a register that becomes null.
+/// Does what a line says, and answers what its call answers; a line `root` answers the forwarded root, and a line `nil`
+/// 0. Requires a mutator of this space, and a line whose registers and root exist.
 pub(crate) fn act_waiting<L: Ledger, B: Builder>(
     alloc: Global,
     rt: &impl Wait,
@@ -40,7 +41,7 @@ pub(crate) fn act_waiting<L: Ledger, B: Builder>(
     answer
 }
 
-// Makes the call that a line says, and answers what it does.
+// Makes the call of a line, and answers what the call answers.
 fn call_waiting<L: Ledger, B: Builder>(
     alloc: Global,
     rt: &impl Wait,
@@ -98,7 +99,7 @@ fn call_waiting<L: Ledger, B: Builder>(
     }
 }
 
-// Puts what a line's call answered into the register that the line names, if it names one.
+// Sets the register that a line sets, if there is one, to the answer of its call.
 fn keep_answer(registers: &mut [u64; 16], action: Action, answer: u64)
     requires { (u : Setup) × Fits u action }
     ensures { registers.new ≡ registers_after action registers.old answer }

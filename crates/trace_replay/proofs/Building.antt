@@ -17,7 +17,7 @@ use Rattle.comp_mutator.specs.Finished.{Finished}
 use Rattle.comp_mutator.specs.declared.mutator.Mutator.{Mutator}
 use Rattle.trace_steps.specs.Builds.{built_by, HaveBuilt}
 
--- the lists of mutators that built just these, from one place on
+-- the lists of mutators that built exactly these pages, from one index on
 lists_from : {L : Type 0} (low : ℕ) (mutators : List (Mutator L)) (built : List (ℕ × ℕ))
     → ((k : ℕ) (m : Mutator L) → get_elem? mutators k ≡ some m → builds_of (pass_of m) ≡ built_by (low + k) built)
     → map builds_of (map pass_of mutators) ≡ map (λ (k : ℕ). built_by k built) (range_with_len low (length mutators))

@@ -41,7 +41,7 @@ show_once differ mutators fresh image text shown other x y =
     let same : x.heap ≡ y.heap = differ x.heap y.heap x.stored y.stored x.counted y.counted (sym x.image_is ∙ y.image_is) in
     shown_once x.heap mutators fresh text shown other x.shows (subst (λ (heap : Heap). Shows (flipped heap mutators fresh) text other) (sym same) y.shows)
 
--- ---- where nothing was done
+-- ---- if nothing was done
 
 pub deeds_none : {L : Type 0} (mutators : List (Mutator L)) → DidNothingYet mutators → (k : ℕ) → deeds_of mutators k ≡ []
 deeds_none [] none k = refl

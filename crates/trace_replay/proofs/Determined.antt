@@ -1,4 +1,4 @@
--- A run is determined but for stamps.
+-- A run is determined, except for stamps.
 use Rattle.std.proofs.Common.{◌≡◌, ◌≢◌, ℕ, zero, suc, ◌+◌, ◌%◌, ◌<◌, ◌≤◌, ◌==◌, Bool, cond, true, false, List, [], ◌∷◌, ◌++◌, Option, Some, None, length, map, slice_index, refl, sym, ap, subst, ◌∙◌, arith, inl, inr, append_assoc, length-append, eq-eqb, ne_eqb}
 use Rattle.std.proofs.lemmas.List.{append-nil}
 use Rattle.std.proofs.lemmas.Bool.{cases_lt}
@@ -75,7 +75,7 @@ map_append : {A B : Type 0} (f : A → B) (xs ys : List A) → map f (xs ++ ys) 
 map_append f [] ys = refl
 map_append {A} {B} f (x ∷ xs) ys = ap (λ (l : List B). f x ∷ l) (map_append f xs ys)
 
--- journals that are the same but for stamps
+-- journals that are the same except for stamps
 abbrev Same : Journals → Journals → Type 0
 Same js ls = (p : ℕ) → map unstamped (js p) ≡ map unstamped (ls p)
 
@@ -104,7 +104,7 @@ used_same u js ls m index same =
     sym (one (js p)) ∙ ap (λ (l : List Entry). filled edition (by m l)) (same p) ∙ one (ls p)
 
 -- ---- an object has one header
--- each header stands behind the objects that were made before it, on a page of its writer's
+-- each header is after the objects that were made before it, on a page of its writer
 abbrev HeadsAfter : Setup → ℕ → List Entry → List Entry → Type 0
 HeadsAfter u p before [] = Unit {0}
 HeadsAfter u p before (e ∷ es) = (e.kind ≡ Header → IsNext u p before e.writer e.offset e.value) × HeadsAfter u p (before ++ e ∷ []) es
@@ -128,7 +128,7 @@ filled_head edition before e is =
 filled_grows : (edition : Edition) (before : List Entry) (e : Entry) → filled edition before ≤ filled edition (before ++ e ∷ [])
 filled_grows edition before e = omega (arith, filled_append edition before (e ∷ []))
 
--- a header behind what was there
+-- a header is after what was there
 head_behind : (u : Setup) (p : ℕ) (before j : List Entry) → HeadsAfter u p before j → (i : ℕ) (e : Entry) → get_elem? j i ≡ maybe.some e → e.kind ≡ Header → filled u.heap.edition before ≤ e.offset
 head_behind u p before [] h i e at is = absurd (maybe.some-ne-none e (sym at))
 head_behind u p before (x ∷ xs) h zero e at is =
@@ -214,7 +214,7 @@ module _ (u : Setup) (js ls : Journals) (slid : u.compacted ≡ sliding.pages (l
   asked_once m None xs ys a b x y = absurd x
   asked_once m (Some header) xs ys a b x y = makes_once m header xs ys a b x y
 
-  -- What a line leaves, but for stamps.
+  -- What a line leaves, except for stamps.
   record OneOutcome (action : Action) (registers : List ℕ) (xs ys : List (ℕ × Entry)) (a b : ℕ) : Type 0 where
     after : registers_after action registers a ≡ registers_after action registers b
     shown : (n : ℕ) → shown_at n action a ≡ shown_at n action b

@@ -31,7 +31,7 @@ pub record AreAdded (n : ℕ) (added : List (ℕ × Entry)) : Type 0 where
   pub rises : Rise stamp_of 0 added
   pub writers : (x : ℕ × Entry) → In x added → x.1.writer < n
 
--- one entry of mutator m, behind all
+-- one entry of mutator m, after all others
 record AddsOne (journals : Journals) (m : ℕ) (new : List (ℕ × Entry)) : Type 0 where
   p : ℕ
   e : Entry

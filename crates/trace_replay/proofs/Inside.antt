@@ -1,4 +1,4 @@
--- The lines of a text that is a trace name mutators that are there.
+-- The lines of a text that is a trace name mutators that exist.
 use Rattle.std.proofs.Common.{◌≡◌, ℕ, zero, suc, ◌<◌, ◌+◌, ◌==◌, Bool, true, false, cond, List, [], ◌∷◌, All, length, Result, Ok, Err, refl, ap, subst, arith, nat_le}
 use Rattle.std.proofs.lemmas.Bool.{leb-false}
 use Rattle.std.specs.List.{list_any}

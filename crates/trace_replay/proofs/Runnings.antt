@@ -36,7 +36,7 @@ use Rattle.trace_replay.proofs.Bytes.{cut_of, deeds_none, have_none, AreOf}
 use Rattle.trace_replay.proofs.Histories.{all_added, same_history}
 use Rattle.trace_replay.proofs.Inside.{AreInside}
 
--- all mutators stand in the order of their numbers, and none is missing
+-- all mutators are in the order of their numbers, and none is missing
 module _ {L B : Type 0} {g : Ghosts B} (space : Space L B g) (back : List (Mutator L)) (all : AreAll space back) where
   pub all_row : IsRow (setup_of space).mutators back back
   all_row = record { count = all.count; numbers = all.numbers; given = λ k m at. (k, at) }
@@ -47,7 +47,7 @@ module _ {L B : Type 0} {g : Ghosts B} (space : Space L B g) (back : List (Mutat
       let x = there_at back k (omega (arith, count, lt)) in
       (x.0, (k, x.1), all.numbers k x.0 x.1)
 
--- what a mutator at a place did
+-- what the mutator at an index did
 deeds_at : {L : Type 0} (mutators : List (Mutator L)) (k : ℕ) (m : Mutator L) → get_elem? mutators k ≡ some m → deeds_of mutators k ≡ did (pass_of m)
 deeds_at [] k m at = absurd (some-ne-none m (sym at))
 deeds_at {L} (x ∷ xs) zero m at = ap (λ (y : Mutator L). did (pass_of y)) (some-injective x m at)

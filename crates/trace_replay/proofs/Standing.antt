@@ -1,4 +1,4 @@
--- Where a replay stands after one line more.
+-- The state of a replay after one line more.
 use Rattle.std.proofs.Common.{◌≡◌, ℕ, zero, suc, ◌+◌, ◌<◌, ◌==◌, cond, List, [], ◌∷◌, ◌++◌, length, replicate, get_or, set, refl, sym, ap, subst, ◌∙◌, arith, append_assoc, eq-eqb, ne_eqb, get_or-set_same, get_or-set_other}
 use Rattle.std.proofs.lemmas.List.{append-nil}
 use Rattle.std.proofs.lemmas.List.Elements.{filter-append}
@@ -40,7 +40,7 @@ runs_more u start n (first ∷ lines) line before now after run does =
 written_append : (k : ℕ) (xs ys : List (ℕ × Entry)) → written_by k (xs ++ ys) ≡ written_by k xs ++ written_by k ys
 written_append k xs ys = filter-append (λ (x : ℕ × Entry). x.1.writer == k) xs ys
 
--- the journals with the entries so far, and those of a line
+-- the journals with the entries so far, and then with those of a line
 further : (start : Journals) (added new : List (ℕ × Entry)) → with_entries (with_entries start added) new ≡ with_entries start (added ++ new)
 further start added new = λ i p. (append_assoc (start p) (on p added) (on p new) ∙ ap (λ (l : List Entry). start p ++ l) (sym (on_append p added new))) i
 
@@ -98,7 +98,7 @@ module _ (u : Setup) (n : ℕ) (start : Journals) (first deeds : Deeds) (now : M
           ap (λ (r : List ℕ). built_after now.built m (touched u line.action r answer)) (sym held),
         )
 
--- the same, where the place of the mutator was made of the line's number
+-- with the index of the mutator made of the line's number
 module _ {L : Type 0} (u : Setup) (before after : List (Mutator L)) (line : Line) (items : List (List ℕ)) (own : List ℕ) (i : ℕ)
     (at : i ≡ line.mutator) (inside : line.mutator < length before) (wide : length items ≡ length before) (is : own ≡ get_or items i [])
   where
@@ -144,13 +144,13 @@ later_then a b c h k = record {
       learns_then (pass_of before) (pass_of middle.0) (pass_of after) (h.learn j before middle.0 was middle.1) (k.learn j middle.0 after middle.1 is);
 }
 
--- each knows what it made, still
+-- each still knows what it made
 know_later : {L : Type 0} (a b : List (Mutator L)) → AreLater a b → KnowTheirs a → KnowTheirs b
 know_later a b h made j m at =
     let was = there_at a j (omega (arith, is_inside b j m at, h.count)) in
     (h.learn j was.0 m was.1 at).1 (made j was.0 was.1)
 
--- what was refused was refused to a mutator that had come there; and what held of it at the call holds still
+-- what was refused since a later start was refused since the first; and what held of the pass at the call still holds
 pub refused_since : {L : Type 0} (u : Setup) (i : ℕ) (first before after : List (Mutator L)) (journals : Journals) (action : Action) (registers : List ℕ) (refusal : Refusal) → AreLater first before
     → (h : IsTurnedDown u i before after journals action registers refusal) → (Q : Pass → Type 0) → Q h.old → (t : IsTurnedDown u i first after journals action registers refusal) × Q t.old
 refused_since u i first before after journals action registers refusal later h Q q = (
@@ -171,7 +171,7 @@ refused_since u i first before after journals action registers refusal later h Q
   q,
 )
 
--- mutators that have seen all that they did have seen what a replay had added when it stood there
+-- mutators that have seen all that they did have seen all that the replay added
 pub seen_there : {L : Type 0} (u : Setup) (start : Journals) (first deeds : Deeds) (lines : List Line) (items : List (List ℕ)) (shown : List Shown) (n : ℕ) (after : List (Mutator L)) (now : Moment)
     → HaveSeenAll after → length after ≡ n → ((k : ℕ) → k < n → deeds_of after k ≡ deeds k) → StandsAt u n start first deeds lines items shown now
     → HaveSeen after (with_entries start now.added)
@@ -184,13 +184,13 @@ pub ran_to : (u : Setup) (n : ℕ) (start : Journals) (first deeds later : Deeds
     → ((k : ℕ) → k < n → later k ≡ deeds k) → RanTo u n start first later lines shown now
 ran_to u n start first deeds later lines shown now h same = record { runs = h.runs; did = λ k lt. same k lt ∙ h.did k lt; shows = h.shows }
 
--- where a replay stands, said of equal things
+-- the state of a replay, written with equal numbers and lists
 pub restand : (u : Setup) (n m : ℕ) (start : Journals) (first deeds : Deeds) (lines : List Line) (items others : List (List ℕ)) (shown : List Shown) (now : Moment) → n ≡ m → items ≡ others
     → StandsAt u n start first deeds lines items shown now → StandsAt u m start first deeds lines others shown now
 restand u n m start first deeds lines items others shown now long same h =
     subst (λ (k : ℕ). StandsAt u k start first deeds lines others shown now) long (subst (λ (l : List (List ℕ)). StandsAt u n start first deeds lines l shown now) same h)
 
--- a start of the same deeds
+-- if the mutators did nothing since, they have the same start
 pub start_same : {L : Type 0} (u : Setup) (old new : List (Mutator L)) → length new ≡ length old → DidNothing old new → HaveStart u new → HaveStart u old
 start_same u old new long same h =
     (h.0, λ p. subst (λ (n : ℕ). IsMerged n (deeds_of old) p (h.0 p)) long (merged_by (length new) (deeds_of new) (deeds_of old) p (h.0 p) (λ k lt. same k (omega (arith, lt, long))) (h.1 p)), h.2)

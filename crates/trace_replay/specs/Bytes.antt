@@ -1,4 +1,4 @@
--- What a replay shows, by the bytes of an image and the text of a trace.
+-- What a replay shows, given the bytes of an image and the text of a trace.
 use Rattle.std.specs.Prelude.{◌≡◌, ◌⊎◌, ℕ, ◌+◌, true, List, [], Ok, Err, length, take}
 use mathlib.Core.Option.{some}
 use lib.ListN.{get_elem?}
@@ -23,11 +23,11 @@ use Rattle.trace_text.specs.declared.fault.TraceFault.TheVariants.{BadLine, NoSu
 use Rattle.trace_text.specs.declared.line.Line.{Line}
 use Rattle.trace_steps.specs.declared.shown.Shown.{Shown}
 
--- nothing was written
+-- journals without entries
 abbrev pub no_entries : Journals
 no_entries p = []
 
--- The text is a trace, whose run from no entries at all shows these values.
+-- The text is a trace, and its run from journals without entries shows these values.
 pub record Shows (u : Setup) (text : List ℕ) (shown : List Shown) : Type 0 where
   pub lines : List Line
   pub text_is : trace_of u.mutators (length u.heap.roots) text ≡ Ok lines
@@ -35,8 +35,9 @@ pub record Shows (u : Setup) (text : List ℕ) (shown : List Shown) : Type 0 whe
   pub runs : Runs u no_entries 1 lines beginning end
   pub shown_is : shown ≡ end.shown
 
--- The run of these lines from no entries at all shows these values before the line of this number. The call of that line was refused to the line's mutator of
--- this very heap, which had done just what the run says of it, and knew all entries, all objects, and each page that was built. It wrote nothing, and forgot nothing.
+-- The run of these lines from journals without entries shows these values before the line of this number. The call of
+-- that line was refused. The mutator of the line works on this heap. It had done exactly what the run says of it, and
+-- knew all entries, all objects, and each page that was built. It wrote nothing, and forgot nothing.
 pub record IsCutShort (u : Setup) (lines : List Line) (shown : List Shown) (number : ℕ) (refusal : Refusal) : Type 0 where
   pub count : ℕ
   pub number_is : number ≡ count + 1
@@ -57,7 +58,7 @@ pub record IsCutShort (u : Setup) (lines : List Line) (shown : List Shown) (numb
   pub grows : Grows old new
   pub refuses : Refuses u line.action (end.registers line.mutator) old new refusal
 
--- the run of these lines stopped: before the first of them, for want of memory, or at a refused line
+-- the run of these lines stopped: memory ran out before the first line, or a line was refused
 abbrev pub CutsShort : Setup → List Line → List Shown → TraceFault → Type 0
 CutsShort u lines shown (Refused number refusal) = IsCutShort u lines shown number refusal
 CutsShort u lines shown OutOfMemory = shown ≡ []
@@ -67,19 +68,19 @@ CutsShort u lines shown (NoSuchRegister number) = ⊥
 CutsShort u lines shown (NumberTooLarge number) = ⊥
 CutsShort u lines shown (NoSuchRoot number) = ⊥
 
--- all of these lines were run from no entries at all, and showed these values
+-- all these lines were run from journals without entries, and showed these values
 pub record RunsThrough (u : Setup) (lines : List Line) (shown : List Shown) : Type 0 where
   pub end : Moment
   pub runs : Runs u no_entries 1 lines beginning end
   pub shown_is : shown ≡ end.shown
 
--- The text is a trace, whose run was cut short so.
+-- The text is a trace, and this fault cut its run short.
 pub record Interrupts (u : Setup) (text : List ℕ) (shown : List Shown) (fault : TraceFault) : Type 0 where
   pub lines : List Line
   pub text_is : trace_of u.mutators (length u.heap.roots) text ≡ Ok lines
   pub cut : CutsShort u lines shown fault
 
--- the text is no trace, by this fault, or reading it wanted memory
+-- the text is not a trace, by this fault, or memory ran out for reading it
 abbrev pub IsNoTrace : Setup → List ℕ → TraceFault → Type 0
 IsNoTrace u text fault = IsReadAs {A = List Line} (λ lines. lines) (Err fault) (trace_of u.mutators (length u.heap.roots) text)
 
@@ -87,11 +88,11 @@ IsNoTrace u text fault = IsReadAs {A = List Line} (λ lines. lines) (Err fault) 
 abbrev pub StopsShowing : Setup → List ℕ → List Shown → TraceFault → Type 0
 StopsShowing u text shown fault = ((shown ≡ []) × IsNoTrace u text fault) ⊎ Interrupts u text shown fault
 
--- what a flipped heap is about
+-- the setup of a flipped heap
 abbrev pub flipped : Heap → ℕ → ℕ → Setup
 flipped heap mutators fresh = record { heap = heap; compacted = pages (live heap); fresh = fresh; mutators = mutators }
 
--- The image is a heap's, and the trace is run over that heap.
+-- The image is that of a heap, and the run of the trace over that heap shows these values.
 pub record ReplayShows (mutators fresh : ℕ) (image text : List ℕ) (shown : List Shown) : Type 0 where
   pub heap : Heap
   pub stored : IsStored heap

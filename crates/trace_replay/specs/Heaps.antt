@@ -13,7 +13,8 @@ use Rattle.trace_replay.specs.Runs.{beginning, Moment, Runs}
 use Rattle.trace_replay.specs.declared.running.Halt.{Halt}
 use Rattle.trace_replay.specs.declared.running.Halt.TheVariants.{Cut, Unflipped, Unfinished}
 
--- The heap was flipped for so many mutators and fresh pages, one thread ran these lines, which showed these values, and this is the heap at the end.
+-- The heap was flipped for these numbers of mutators and fresh pages, one thread ran these lines, which showed these
+-- values, and this is the heap at the end.
 pub record HasRunOver (mutators fresh : ℕ) (lines : List Line) (shown : List Shown) (heap : Heap) (f : Finished) : Type 0 where
   pub end : Moment
   pub runs : Runs (flipped heap mutators fresh) no_entries 1 lines beginning end
@@ -28,7 +29,8 @@ pub record HasRunOver (mutators fresh : ℕ) (lines : List Line) (shown : List S
   -- the heap was accepted
   pub closed : IsClosed heap
 
--- why it does not come to its end: the run was cut short, or memory was wanted, for the flip, or for the finish, once the lines were run
+-- why the run does not come to its end: it was cut short, or memory ran out for the flip, or for the finish after all
+-- lines were run
 abbrev pub IsHaltOf : ℕ → ℕ → List Line → Heap → Halt → Type 0
 IsHaltOf mutators fresh lines heap (Cut stopped) = CutsShort (flipped heap mutators fresh) lines stopped.shown.items stopped.fault
 IsHaltOf mutators fresh lines heap Unflipped = Unit {0}

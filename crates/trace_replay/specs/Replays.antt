@@ -18,32 +18,36 @@ use Rattle.trace_text.specs.declared.fault.TraceFault.TheVariants.{BadLine, NoSu
 use Rattle.trace_text.specs.declared.line.Line.{Line}
 use Rattle.trace_steps.specs.declared.shown.Shown.{Shown}
 
--- The lines were run, from where no register is set, to this moment. Each of n mutators did what it had done, and then what it added.
+-- The lines were run from null registers to this moment. Each of n mutators did what it had done before, and then what
+-- it added.
 pub record RanTo (u : Setup) (n : ℕ) (start : Journals) (first deeds : Deeds) (lines : List Line) (shown : List Shown) (end : Moment) : Type 0 where
   pub runs : Runs u start 1 lines beginning end
   pub did : (k : ℕ) → k < n → deeds k ≡ first k ++ written_by k end.added
   pub shows : shown ≡ end.shown
 
--- where the mutators had built nothing before, they have built what was built by this moment
+-- if the mutators had built nothing before, they have built what was built by this moment
 abbrev pub BuiltTo : {L : Type 0} → List (Mutator L) → List (Mutator L) → Moment → Type 0
 BuiltTo before after end = HaveBuilt before [] → HaveBuilt after end.built
 
--- where a line was run, each of the mutators has then seen all that was there at the start and all that the run added, and no more
+-- if a line was run, each of the mutators has then seen all that was there at the start and all that the run added, and
+-- no more
 abbrev pub SeenTo : {L : Type 0} → Journals → List (Mutator L) → List Line → Moment → Type 0
 SeenTo start after lines end = 0 < length lines → HaveSeen after (with_entries start end.added)
 
--- the mutators ran the lines, which showed this, by all journals that have just what they had done before, to some moment
+-- for all journals that have exactly what the mutators had done before, they ran the lines to some moment, and the lines
+-- showed these values
 abbrev pub HaveReplayed : {L : Type 0} → Setup → List (Mutator L) → List (Mutator L) → List Line → List Shown → Type 0
 HaveReplayed u before after lines shown =
     (start : Journals) → HaveAll before start → (end : Moment) × RanTo u (length before) start (deeds_of before) (deeds_of after) lines shown end
     × BuiltTo before after end × SeenTo start after lines end
 
--- no line was run: no value is shown, and the mutators are as they were
+-- no line was run: no value is shown, and the mutators are unchanged
 abbrev pub RanNothing : {L : Type 0} → List (Mutator L) → List (Mutator L) → List Shown → Type 0
 RanNothing before after shown = (shown ≡ []) × (after ≡ before)
 
--- The line after the first `count` was refused, and those before it were run. At its call its mutator knew all that the mutators did, and had seen each page built that
--- the run has as built, and there was a cause. After the line each of them has seen all that was there at the start and all that the run added.
+-- The line after the first `count` was refused, and the lines before it were run. At its call its mutator knew all that
+-- the mutators did, and had seen each page built that the run built, and there was a cause. After the line each of the
+-- mutators has seen all that was there at the start and all that the run added.
 pub record IsRefused {L : Type 0} (u : Setup) (start : Journals) (before after : List (Mutator L)) (lines : List Line) (shown : List Shown) (number : ℕ) (refusal : Refusal) : Type 0 where
   pub count : ℕ
   pub number_is : number ≡ count + 1
@@ -55,7 +59,7 @@ pub record IsRefused {L : Type 0} (u : Setup) (start : Journals) (before after :
   pub built : (p : ℕ) → is_built end.built p ≡ true → HasSeenBuilt cause.old p
   pub seen : HaveSeen after (with_entries start end.added)
 
--- Why a replay stopped: for want of memory, before its first line, or at a line whose call was refused.
+-- Why a replay stopped: memory ran out before its first line, or the call of a line was refused.
 abbrev pub HaveStopped : {L : Type 0} → Setup → List (Mutator L) → List (Mutator L) → List Line → List Shown → TraceFault → Type 0
 HaveStopped u before after lines shown OutOfMemory = RanNothing before after shown
 HaveStopped u before after lines shown (Refused number refusal) =
@@ -66,7 +70,7 @@ HaveStopped u before after lines shown (NoSuchRegister number) = ⊥
 HaveStopped u before after lines shown (NumberTooLarge number) = ⊥
 HaveStopped u before after lines shown (NoSuchRoot number) = ⊥
 
--- a line's call was refused
+-- the call of a line was refused
 abbrev pub IsRefusal : TraceFault → Type 0
 IsRefusal (Refused number refusal) = Unit {0}
 IsRefusal OutOfMemory = ⊥
@@ -78,17 +82,17 @@ IsRefusal (NoSuchRoot number) = ⊥
 
 -- ---- within a replay
 
--- the registers of n mutators hold this
+-- the registers of n mutators hold these words
 abbrev pub Hold : ℕ → List (List ℕ) → (ℕ → List ℕ) → Type 0
 Hold n items registers = (m : ℕ) → m < n → get_or items m [] ≡ registers m
 
--- Where a replay stands after some lines.
+-- The state of a replay after some lines.
 pub record StandsAt (u : Setup) (n : ℕ) (start : Journals) (first deeds : Deeds) (lines : List Line) (items : List (List ℕ)) (shown : List Shown) (now : Moment) : Type 0 where
   pub ran : RanTo u n start first deeds lines shown now
   pub merged : AreMerged n deeds (with_entries start now.added)
   pub hold : Hold n items now.registers
 
--- a replay that stood where the line of this number comes next stands behind that line
+-- if the replay had come to the line of this number, it has then come to the line after it
 abbrev pub GoesOn : {L : Type 0} → Setup → Line → ℕ → List (Mutator L) → List (Mutator L) → List (List ℕ) → List (List ℕ) → List Shown → List Shown → Type 0
 GoesOn u line number before after items holding shown showing =
     (start : Journals) (first : Deeds) (lines : List Line) (now : Moment) → number ≡ 1 + length lines
@@ -96,7 +100,7 @@ GoesOn u line number before after items holding shown showing =
     → (later : Moment) × StandsAt u (length before) start first (deeds_of after) (lines ++ line ∷ []) holding showing later
     × (HaveBuilt before now.built → HaveBuilt after later.built) × (HaveSeenBuilt before now.built → HaveSeenBuilt after later.built)
 
--- the line's call was refused, wherever the replay stood
+-- the call of the line was refused, whatever the state of the replay
 abbrev pub CannotGoOn : {L : Type 0} → Setup → Line → List (Mutator L) → List (Mutator L) → List (List ℕ) → List Shown → Refusal → Type 0
 CannotGoOn u line before after items shown refusal =
     (start : Journals) (first : Deeds) (lines : List Line) (now : Moment)

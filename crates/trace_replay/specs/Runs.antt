@@ -13,8 +13,8 @@ use Rattle.trace_text.specs.declared.line.Line.{Line}
 use Rattle.trace_steps.specs.declared.shown.Shown.{Shown}
 use Rattle.trace_steps.specs.Lines.{with_entries, Acts}
 
--- Where a run stands: what the registers of each mutator hold, the entries that were added since it began, the values that were shown, each with its line, and the
--- pages that were built, each behind the mutator that built it.
+-- A moment of a run: the words in the registers of each mutator, the entries that were added since the run began, the
+-- values that were shown, each with its line, and the pages that were built, each with the mutator that built it.
 pub record Moment : Type 0 where
   pub registers : ℕ → List ℕ
   pub added : List (ℕ × Entry)
@@ -42,14 +42,14 @@ Runs u start n (line ∷ lines) before after = (middle : Moment) × Does u start
 
 -- ---- a run is determined
 
--- an entry with its page, but for its stamp
+-- an entry without its stamp, and also with its page
 abbrev pub unstamped : Entry → Entry
 unstamped e = record e { stamp = 0 }
 
 abbrev pub unstamped_on : ℕ × Entry → ℕ × Entry
 unstamped_on x = (x.0, unstamped x.1)
 
--- The moments are the same, but for the stamps of entries.
+-- The moments are the same, except for the stamps of entries.
 pub record AreAlike (a b : Moment) : Type 0 where
   pub registers : a.registers ≡ b.registers
   pub added : map unstamped_on a.added ≡ map unstamped_on b.added
@@ -62,8 +62,8 @@ pub record MayBegin (u : Setup) (lines : List Line) (start : Journals) : Type 0 
   pub lawful : (p : ℕ) → IsLawful u p (start p)
   pub mutators : All (λ (line : Line). line.mutator < u.mutators) lines
 
--- Two runs of the same lines, from journals that are the same but for stamps, show the same values, leave the same in the registers, build the same pages by the same
--- mutators, and add the same entries but for stamps.
+-- Two runs of the same lines, from journals that are the same except for stamps, show the same values, leave the same
+-- words in the registers, build the same pages by the same mutators, and add the same entries except for stamps.
 abbrev pub IsDetermined : Setup → List Line → Type 0
 IsDetermined u lines = (start other : Journals) → MayBegin u lines start → ((p : ℕ) → map unstamped (start p) ≡ map unstamped (other p))
     → (a b : Moment) → Runs u start 1 lines beginning a → Runs u other 1 lines beginning b → AreAlike a b

@@ -1,4 +1,4 @@
-//! Laws of runs, each the contract of a function that does nothing.
+//! Laws about runs. Each is the contract of a function that does nothing.
 ghost use Rattle.std.specs.Prelude.{List};
 ghost use Rattle.comp_mutator.specs.Setup.{Setup};
 ghost use Rattle.trace_replay.specs.Bytes.{ShowOnce};
@@ -7,13 +7,15 @@ ghost use Rattle.trace_text.specs.declared.line.Line.{Line};
 
 use heap_layout::images_differ;
 
-/// The run of a trace by one thread is determined by the heap, the numbers of mutators and of fresh pages, the entries at the start, and the lines: what is shown, what
-/// registers hold, which mutator builds which page, and the entries that are added, but for their stamps.
+/// The run of a trace by one thread is determined by the heap, the numbers of mutators and of fresh pages, the entries
+/// at the start, and the lines. That is: the values shown, the words in registers, which mutator builds which page, and
+/// the entries added, except for their stamps.
 pub fn runs_are_determined()
     ensures { (u : Setup) (lines : List Line) → IsDetermined u lines }
 {}
 
-/// What a replay shows is determined by the bytes of the image and of the trace, and by the numbers of mutators and of fresh pages.
+/// The values that a replay shows are determined by the bytes of the image and of the trace, and by the numbers of
+/// mutators and of fresh pages.
 pub fn replays_show_once()
     ensures { ShowOnce }
 {

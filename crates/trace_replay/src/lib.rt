@@ -1,4 +1,4 @@
-//! Runs of traces by one thread, and laws of them.
+//! Runs of traces by one thread, and laws about them.
 #![tactic(auto)]
 
 mod laws;

@@ -1,4 +1,4 @@
-//! Traces that are run by one thread.
+//! Runs a trace by one thread.
 ghost use Rattle.std.specs.Prelude.{◌≡◌, ◌<◌, ◌≤◌, ◌+◌, length, replicate, vec_capacity, IfErr, IfOk, OnErr, OnOk};
 ghost use Rattle.comp_mutator.specs.Mutators.{setup_of};
 ghost use Rattle.trace_steps.specs.Acting.{null_registers, Fits};
@@ -15,14 +15,14 @@ use std::sync::ledger::Ledger;
 use trace_steps::{Shown, show, step};
 use trace_text::{Line, Trace, TraceFault};
 
-/// The values that were shown before a replay stopped, and why it did.
+/// The values that were shown before a replay stopped, and the fault that stopped it.
 #[derive(Debug, Drop)]
 pub struct Stopped {
     pub shown: Vec<Shown>,
     pub fault: TraceFault,
 }
 
-/// Runs line `number`.
+// Runs line `number`.
 fn run_line<L: Ledger, B: Builder>(
     alloc: Global,
     space: &Space<L, B>,
@@ -57,7 +57,7 @@ fn run_line<L: Ledger, B: Builder>(
     }
 }
 
-/// The registers of `n` mutators, which all are null.
+// The registers of `n` mutators, all null.
 #[tactic(auto, using(crate::proofs::Standing::replicate_more))]
 fn all_null(alloc: Global, n: usize) -> Result<Vec<[u64; 16]>, AllocError>
     ensures { IfOk result (λ registers. registers.items ≡ replicate n null_registers) }
@@ -69,7 +69,7 @@ fn all_null(alloc: Global, n: usize) -> Result<Vec<[u64; 16]>, AllocError>
     Ok(registers)
 }
 
-/// Runs the lines in their order.
+// Runs the lines in order.
 fn run_lines<L: Ledger, B: Builder>(
     alloc: Global,
     lines: &[Line],
@@ -122,14 +122,19 @@ fn run_lines<L: Ledger, B: Builder>(
     Ok(shown)
 }
 
-/// Runs the lines of a trace in their order by one thread, each call once. The mutators are all of the space's, in the order of their numbers. Before and after each
-/// line its mutator meets all others, so each line sees all that was done before it. The values are those that `get` lines show.
+/// Runs the lines of a trace in order by one thread, each call once, and answers the values that the `get` lines show.
+/// Before and after each line its mutator meets all others, so each line sees all that was done before it.
 ///
-/// What the mutators had seen, built and known does not shrink, whatever is answered. Once a line was run, each of them has seen all that was there at the start, and
-/// all that the run added. A trace without lines shows nothing, and leaves the mutators as they were.
+/// Whatever the answer, the mutators have seen, built and know no less than before. After a line was run, each of them
+/// has seen all that was there at the start, and all that the run added. A trace without lines shows nothing, and
+/// leaves the mutators unchanged.
 ///
-/// Where a line's call is refused, the lines before it stand, and the fault is `Refused` with its number, counted from 1, and the cause. Room for all that the lines can
-/// show is asked for first: where it is refused, the fault is `OutOfMemory`, and no line has run.
+/// Room for all values is reserved first. If memory runs out, the fault is `OutOfMemory`, and no line has run. If the
+/// call of a line is refused, the lines before it were run, and the fault is `Refused` with the number of the line,
+/// counted from 1, and the refusal.
+///
+/// Requires all mutators of the space, in the order of their numbers, and a trace that was parsed for the numbers of
+/// mutators and roots that there are.
 pub fn replay<L: Ledger, B: Builder>(
     alloc: Global,
     trace: &Trace,

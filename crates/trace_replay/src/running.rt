@@ -1,4 +1,4 @@
-//! A heap over which a trace is run by one thread, from its flip to its end.
+//! Runs a trace over a heap by one thread, from the flip to the finish.
 ghost use Rattle.std.specs.Prelude.{◌≡◌, ◌≤◌, map, length, IfErr, IfOk};
 ghost use Rattle.heap_layout.specs.Heap.{live, IsClosed};
 ghost use Rattle.page_plan.specs.Sliding.{pages};
@@ -19,28 +19,28 @@ use std::sync::ledger::{Blank, Ledger};
 use trace_steps::Shown;
 use trace_text::Trace;
 
-/// A heap over which a trace was run, finished, and the values that the trace showed.
+/// A finished heap over which a trace was run, and the values that the trace showed.
 #[derive(Drop)]
 pub struct Run {
-    /// What each `get` line showed, in order.
+    /// The values that the `get` lines showed, in order.
     pub shown: Vec<Shown>,
-    /// What is left of the heap.
+    /// The heap at the end.
     pub finished: Finished,
 }
 
-/// Why a heap does not come to its end.
+/// Why a run did not come to its end.
 #[derive(Drop)]
 pub enum Halt {
-    /// A line was refused, or there was no memory for the values.
+    /// A line was refused, or memory ran out for the values.
     Cut(Stopped),
-    /// A growth was refused for the flip; no line has run.
+    /// Out of memory for the flip. No line has run.
     Unflipped,
-    /// A growth was refused for the finish. All lines have run; these are the values that they showed, in order.
+    /// Out of memory for the finish. All lines were run; these are the values that they showed, in order.
     Unfinished(Vec<Shown>),
 }
 
-/// Flips the heap of a plan, runs a trace over it by one thread, and finishes it. There are 1 to 64 mutators and at most 4,096 fresh pages; the trace is one of these mutators
-/// and of the heap's roots.
+/// Flips the heap of a plan, runs a trace over it by one thread, and finishes it. Requires 1 to 64 mutators, at most
+/// 4,096 fresh pages, and a trace that was parsed for these mutators and the heap's roots.
 pub fn run_over(
     alloc: Global,
     plan: Arc<Plan>,
@@ -66,7 +66,7 @@ pub fn run_over(
     )
 }
 
-// The same, with the name of a ledger.
+// Like `run_over`, for the ledger that `L` names.
 fn flipped_and_run<L: Ledger>(
     alloc: Global,
     blank: Blank,

@@ -1,4 +1,4 @@
-//! Texts of traces that are run.
+//! Runs the text of a trace.
 ghost use Rattle.std.specs.Prelude.{◌≡◌, length, IfErr, IfOk};
 ghost use Rattle.comp_mutator.specs.Mutators.{setup_of};
 ghost use Rattle.trace_steps.specs.Deeds.{DidNothingYet};
@@ -12,10 +12,13 @@ use std::sync::ledger::Ledger;
 use trace_steps::Shown;
 use trace_text::parse;
 
-/// Reads the text of a trace, and runs it over a space whose mutators have written nothing yet. There are `count` mutators and `roots` shared
-/// roots; the mutators are all of the space's, in the order of their numbers.
+/// Reads the text of a trace, and runs it over a space.
 ///
-/// The fault is that of the text, and nothing is shown, or the one for which the replay stopped.
+/// If the text is not a trace, its fault is answered, and nothing is shown. Else the fault is the one that stopped the
+/// replay.
+///
+/// Requires all mutators of the space, in the order of their numbers, which have written nothing yet. `count` is their
+/// number, and `roots` the number of the heap's roots.
 pub fn replay_text<L: Ledger, B: Builder>(
     alloc: Global,
     text: &[u8],

@@ -65,7 +65,7 @@ module _ (table : Steps) (n i : ℕ) (inside : i < n) (first met acted last : �
       strangers = λ k le. none_last k p le;
     }
 
-    -- then all have seen just what they all did
+    -- then all have seen exactly what they all did
     pub seen_all : (journals : Journals) → AreMerged n (dids last) journals → (k p : ℕ) → k < n → seen (last k) p ≡ journals p
     seen_all journals merged k p lt = all_seen k p lt ∙ merged_once n (dids last) p (seen (acted i) p) (journals p) (known_after p) (merged p)
 
@@ -81,13 +81,14 @@ module _ (table : Steps) (n i : ℕ) (inside : i < n) (first met acted last : �
       strangers = λ k le. by_none k (seen (acted i) p) (seen (met i) p) (more p) (none_last k p le);
     }
 
-    -- After a line that writes nothing it has seen just the journals that are merged.
+    -- After a line that writes nothing it has seen exactly the merged journals.
     pub reads_all : (journals : Journals) → AreMerged n (dids first) journals → ((k : ℕ) → k < n → did (last k) ≡ did (first k)) → (p : ℕ) → seen (acted i) p ≡ journals p
     reads_all journals merged same p =
         let now : IsMerged n (dids last) p (journals p) = merged_by n (dids first) (dids last) p (journals p) (λ k lt. sym (same k lt)) (merged p) in
         merged_once n (dids last) p (seen (acted i) p) (journals p) (known_after p) now
 
-    -- After a line that writes an entry it has seen just these and the entry, whose stamp is above all.
+    -- After a line that writes an entry it has seen exactly these and the entry, and the stamp of the entry is above
+    -- all others.
     pub writes_all : (journals : Journals) → AreMerged n (dids first) journals → (p : ℕ) (e : Entry) → did (met i) ≡ did (first i) → IsOneMore n (dids first) (dids last) i p e → e.writer ≡ i
         → IsAboveAll (seen (met i)) e.stamp → IsAboveAll journals e.stamp × ((q : ℕ) → seen (acted i) q ≡ journals q ++ on q ((p, e) ∷ []))
     writes_all journals merged p e mine one writer above =

@@ -109,7 +109,7 @@ HaveStrange n passes = (p : ℕ) × ((k : ℕ) → k < n → HasSeenBuilt (passe
 module _ (n i : ℕ) (inside : i < n) (first met acted last : ℕ → Pass) (before : Met n i first met) (after : Met n i acted last)
     (grows : Grows (met i) (acted i)) (others : (k : ℕ) → k ≢ i → acted k ≡ met k)
   where
-    -- what one had seen built, all have then
+    -- all have then seen built what one had seen built
     kept : (k j p : ℕ) → k < n → j < n → HasSeenBuilt (first j) p → HasSeenBuilt (last k) p
     kept k j p lt there h = after.told_built k p lt (grows.built p (before.built j p there h))
 
@@ -131,7 +131,7 @@ module _ (n i : ℕ) (inside : i < n) (first met acted last : ℕ → Pass) (bef
       known = λ p k there lt. kept k k p lt lt (h.known p k there lt);
     }
 
-    -- a page that was touched, all have seen built then
+    -- all have then seen the touched page built
     touch_seen : (p : ℕ) → HasSeenBuilt (acted i) p → (built : List (ℕ × ℕ)) → SeeTheirs n first built → SeeTheirs n last (built ++ (i, p) ∷ [])
     touch_seen p seen built h q k there lt =
         ⊎_elim (λ was. kept k k q lt lt (h q k was lt)) (λ is. subst (HasSeenBuilt (last k)) is (after.told_built k p lt seen)) (is_built_more built i p q there)
@@ -172,7 +172,7 @@ module _ (n i : ℕ) (inside : i < n) (first met acted last : ℕ → Pass) (bef
               (λ page. inl (subst (λ (t : Bool). BuiltTheirs n last (cond t built (built ++ (i, p) ∷ []))) (sym none) (one_more page)))
               may
 
-    -- a page that none of them built stays one
+    -- a page that none of them built is still built by none of them
     still_strange : (page : Option ℕ) → BuildsTouched page (met i) (acted i) → HaveStrange n first → HaveStrange n last
     still_strange page call (q, h) = (q, λ k lt. (kept k k q lt lt (h k lt).0, unnamed page call k lt))
       where

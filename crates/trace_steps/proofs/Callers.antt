@@ -1,4 +1,5 @@
--- What callers know of a flipped heap: its mutators are all of its space's, and its roots are as many as the heap's.
+-- What callers know of a flipped heap: its mutators are all mutators of its space, and it has as many roots as the
+-- heap.
 use Rattle.std.proofs.Common.{◌≡◌, ℕ, List, [], length, map, Some, inl, sym, ap, ◌∙◌}
 use Rattle.std.proofs.lemmas.List.{length-map}
 use Rattle.heap_layout.specs.Heap.{Heap, live}

@@ -1,4 +1,4 @@
--- Fields that are found by the journals before an entry which makes no object.
+-- Fields that the journals before an entry have already, if the entry makes no object.
 use Rattle.std.proofs.Common.{◌≡◌, ℕ, zero, suc, Bool, cond, List, [], ◌∷◌, ◌++◌, sym, ap, ◌∙◌, inl, inr, eq-eqb, ne_eqb}
 use Rattle.std.proofs.lemmas.List.{append-nil}
 use mathlib.Core.Option as maybe

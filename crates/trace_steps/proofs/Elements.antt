@@ -1,4 +1,4 @@
--- Elements of lists, by their places.
+-- Elements of lists, by their indices.
 use Rattle.std.proofs.Common.{◌≡◌, ℕ, zero, suc, ◌<◌, drop, List, [], ◌∷◌, ◌++◌, length, take, get_or, refl, ap, ◌∙◌, arith}
 use mathlib.Core.Option.{some}
 use lib.ListN.{get_elem?}

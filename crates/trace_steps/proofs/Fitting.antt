@@ -1,4 +1,4 @@
--- The lines of a trace name what is there.
+-- The lines of a trace name only what exists.
 use Rattle.std.proofs.Common.{◌≡◌, ℕ, zero, suc, ◌<◌, ◌&&◌, Bool, true, false, cond, List, [], ◌∷◌, length, get_or, Result, Ok, Err, refl, arith, nat_le}
 use Rattle.std.specs.Prelude.{is_ok}
 use Rattle.std.proofs.lemmas.Bool.{leb-false, or_parts}

@@ -38,7 +38,7 @@ use Rattle.trace_steps.proofs.Merging.{merged_by, merged_more, merged_once, merg
 abbrev entry_of : ℕ → ℕ → Kind → ℕ → ℕ → Entry
 entry_of i stamp kind offset value = record { stamp = stamp; writer = i; kind = kind; offset = offset; value = value }
 
--- the same of each page is the same
+-- journals that are the same on each page are the same
 same_journals : (a b : Journals) → ((p : ℕ) → a p ≡ b p) → a ≡ b
 same_journals a b h = λ i p. h p i
 
@@ -60,7 +60,7 @@ module _ (table : Steps) (n i : ℕ) (first met acted last : ℕ → Pass) (line
       ∙ dite (ℕ_discrete k i) (λ is. ap (λ (x : ℕ). did (acted x)) is ∙ same ∙ ap (λ (x : ℕ). did (met x)) (sym is)) (λ not. ap did (line.others k not))
       ∙ line.before.did k lt
 
-  -- a read answers by all that the mutators did
+  -- a read answers from all that the mutators did
   pub reads_known : did (acted i) ≡ did (met i) → (u : Setup) (kind : Kind) (object field word : ℕ) → Reads u (seen (acted i)) kind object field word
       → (journals : Journals) → AreMerged n (dids first) journals → Reads u journals kind object field word
   reads_known same u kind object field word read journals merged =
@@ -179,7 +179,7 @@ module _ (table : Steps) (n i : ℕ) (first met acted last : ℕ → Pass) (line
     makes (Some header) action registers answer h acts =
         some (own_page u (number_of (met i)) h.index) Header (used u (met i) h.index) header.word h.stamp h.adds action registers answer (acts _ (made header answer h))
 
-    -- what a line's call answers is what the run says
+    -- what the call of a line answers is what the run says
     pub advances : (action : Action) (registers : List ℕ) (answer : ℕ) → Answers u action registers (met i) (acted i) answer → Advances u n i (dids first) (dids last) journals action registers answer
     advances (Root to root) registers answer h = none (Root to root) registers answer (ap did h.0) (refl, h.1)
     advances (Load weak to object field) registers answer h = none (Load weak to object field) registers answer h.0 (refl, read (kind_if weak) (slice_index registers object) field answer h.0 h.1)
@@ -193,13 +193,13 @@ module _ (table : Steps) (n i : ℕ) (first met acted last : ℕ → Pass) (line
         makes (header_with u.heap.edition refs weak data_words tag) (New to refs weak data_words tag) registers answer h (λ added acts. acts)
     advances (Nil to) registers answer h = none (Nil to) registers answer (ap did h.0) (refl, h.1)
 
-    -- at its call it knows each object that was made, where each mutator knew what it made
+    -- at its call it knows each object that was made, if each mutator knew what it made
     pub knows_starts : ((k : ℕ) → k < n → KnowsMade (first k)) → (p offset : ℕ) → HasHead (journals p) offset → KnowsFresh (met i) p offset
     knows_starts made p offset there =
         let whose = made_whose n (dids first) p (journals p) (merged p) offset there in
         line.before.starts whose.0 p offset whose.1 (made whose.0 whose.1 p offset whose.2)
 
-  -- each knows no less after the line, nor does it forget what it made
+  -- each knows no less after the line, and does not forget what it made
   pub learnt : (k : ℕ) → k < n → Learns (first k) (last k)
   learnt k lt =
       let call : Learns (met k) (acted k) = dite (ℕ_discrete k i) (λ is. subst (λ (y : ℕ). Learns (met y) (acted y)) (sym is) line.learns)

@@ -27,7 +27,7 @@ use Rattle.trace_text.specs.declared.line.Action.{Action}
 use Rattle.trace_text.specs.declared.line.Action.TheVariants.{Root, Load, Get, Store, Put, New, Nil}
 use Rattle.trace_steps.proofs.Merging.{mine, others}
 
--- what did the same, and knows no less, knows what it made
+-- a pass that did the same, and knows no less, knows what it made
 pub made_same : (old new : Pass) → did new ≡ did old → Grows old new → KnowsMade old → KnowsMade new
 made_same old new same grows made p offset h = grows.starts p offset (made p offset (subst (λ (l : List (ℕ × Entry)). HasHead (on p l) offset) same h))
 
@@ -37,7 +37,7 @@ at_last [] (suc i) e x at = inl at
 at_last (y ∷ ys) zero e x at = inl at
 at_last (y ∷ ys) (suc i) e x at = at_last ys i e x at
 
--- an entry more
+-- one entry more
 made_more : (old new : Pass) (p : ℕ) (e : Entry) → did new ≡ did old ++ (p, e) ∷ [] → Grows old new → (e.kind ≡ Header → KnowsFresh new p e.offset) → KnowsMade old → KnowsMade new
 made_more old new p e one grows known made q offset h =
     let at : get_elem? (on q (did old) ++ on q ((p, e) ∷ [])) h.0 ≡ maybe.some h.1 = ap (λ (l : List Entry). get_elem? l h.0) (sym (ap (on q) one ∙ on_append q (did old) ((p, e) ∷ []))) ∙ h.2 in

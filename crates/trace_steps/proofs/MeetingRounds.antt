@@ -115,7 +115,7 @@ module _ (n i j : ℕ) (inside : i < n) (there : j < n) (other : j ≢ i) (old n
     mine : (p : ℕ) → StartsWith (seen (after i) p) (seen (new i) p)
     mine p = meeting.grows.seen p
 
-    -- of those below j + 1
+    -- what holds below j and at j holds below j + 1
     below : (P : ℕ → Type 0) → ((k : ℕ) → k < j → P k) → P j → (k : ℕ) → k < j + 1 → P k
     below P lower at k lt = dite (ℕ_discrete k j) (λ is. subst P (sym is) at) (λ no. lower k (omega arith))
 
@@ -151,7 +151,7 @@ module _ (n i j : ℕ) (inside : i < n) (there : j < n) (other : j ≢ i) (old n
           (meeting.longer p);
     }
 
--- mutator i is no other
+-- mutator i does not meet itself
 pub met_itself : (n i : ℕ) (old new : ℕ → Pass) → i < n → MetBelow n i i old new → MetBelow n i (i + 1) old new
 met_itself n i old new inside h = record {
   did = h.did;

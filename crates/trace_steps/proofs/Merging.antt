@@ -74,13 +74,13 @@ alike_same (e ∷ es) (f ∷ fs) low low' high high' h i same =
     let moved : Alike (e ∷ es) (e ∷ fs) = λ k. same k ∙ ap (λ (x : Entry). by k (x ∷ fs)) (sym first) in
     ap (λ (x : Entry). x ∷ es) first ∙ ap (λ (xs : List Entry). f ∷ xs) (alike_same es fs (e.stamp + 1) (f.stamp + 1) high high' h.1 i.1 (same_rest e es fs moved))
 
--- there is one journal that is merged
+-- there is at most one merged journal
 pub merged_once : (n : ℕ) (deeds : Deeds) (p : ℕ) (j l : List Entry) → IsMerged n deeds p j → IsMerged n deeds p l → j ≡ l
 merged_once n deeds p j l h i =
     alike_same j l 0 0 h.rises.0 i.rises.0 h.rises.1 i.rises.1
     (λ k. elim (cases_lt k n) [ inl lt ↦ h.own k lt ∙ sym (i.own k lt) | inr le ↦ h.strangers k le ∙ sym (i.strangers k le) ])
 
--- ---- an entry more
+-- ---- one entry more
 
 -- what the mutators did, with one entry more of mutator i
 abbrev pub IsOneMore : ℕ → Deeds → Deeds → ℕ → ℕ → Entry → Type 0
@@ -113,10 +113,10 @@ merged_more n deeds later i p q e j more lt writer below h =
     by_others : (k q p : ℕ) (e : Entry) → e.writer ≢ k → by k (on q ((p, e) ∷ [])) ≡ []
     by_others k q p e w = elim (p == q) as (λ t. by k (cond t (e ∷ []) []) ≡ []) [ true ↦ others e [] k w | false ↦ refl ]
 
--- what has all of these deeds has all of the same
+-- a merged journal of some deeds is one of equal deeds
 pub merged_by : (n : ℕ) (deeds later : Deeds) (p : ℕ) (j : List Entry) → ((k : ℕ) → k < n → deeds k ≡ later k) → IsMerged n deeds p j → IsMerged n later p j
 merged_by n deeds later p j same h = record { rises = h.rises; own = λ k lt. h.own k lt ∙ ap (on p) (same k lt); strangers = h.strangers }
 
--- nothing more
+-- a merged journal is merged still if nothing is added
 pub merged_still : (n : ℕ) (deeds : Deeds) (p : ℕ) (j : List Entry) → IsMerged n deeds p j → IsMerged n deeds p (j ++ [])
 merged_still n deeds p j = subst (IsMerged n deeds p) (sym (append-nil j))

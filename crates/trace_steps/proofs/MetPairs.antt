@@ -12,7 +12,7 @@ use Rattle.comp_mutator.specs.declared.mutator.Mutator.{Mutator}
 use Rattle.trace_steps.specs.Rounds.{row, HaveMet}
 use Rattle.trace_steps.proofs.MeetingRounds.{meeting_of, met_more, MetBelow}
 
--- what holds of each, where one is exchanged
+-- what holds of each still holds after one is replaced
 pub each_set : {A : Type 0} (Q : A → Type 0) (l : List A) (j : ℕ) (x : A) → All Q l → Q x → All Q (set l j x)
 each_set Q l j x h q k d lt =
     let inside : k < length l = omega (arith, lt, length-set l j x) in
@@ -20,7 +20,7 @@ each_set Q l j x h q k d lt =
     (λ is. subst Q (sym (ap (λ i. get_or (set l j x) i d) is ∙ get_or-set_same l j x d (omega (arith, is, inside)))) q)
     (λ not. subst Q (sym (get_or-set_other l j k x d not)) (h k d inside))
 
--- two parts, of each of which one is exchanged
+-- two parts, with one element of each replaced
 pub low_pair : {A : Type 0} (whole front back : List A) (k i : ℕ) (x y : A) → whole ≡ front ++ back → length front ≡ i → k < i → set front k x ++ set back 0 y ≡ set (set whole k x) i y
 low_pair whole front back k i x y parts long lt =
     let none : i - i ≡ 0 = omega arith in
@@ -42,7 +42,7 @@ in_back whole front back j d e parts long some =
     let at : j ≡ length front + 0 = omega (arith, long) in
     ap (λ l. get_or l j d) parts ∙ ap (λ i. get_or (front ++ back) i d) at ∙ get_or-append-add front back 0 d ∙ get_or_default back 0 d e some
 
--- the two at places k and i were a and b
+-- the mutators at indices k and i were a and b
 pub pair_met : {L : Type 0} (old new : List (Mutator L)) (k i : ℕ) (a b told m : Mutator L) → k ≢ i → k < length old → i < length old → ((d : Mutator L) → get_or old k d ≡ a) → ((d : Mutator L) → get_or old i d ≡ b)
     → new ≡ set (set old k told) i m → Meets (pass_of b) (pass_of a) (pass_of told) → Meets (pass_of a) (pass_of b) (pass_of m) → ((p : ℕ) → seen (pass_of told) p ≡ seen (pass_of m) p) → HaveMet k i old new
 pair_met {L} old new k i a b told m apart low high at_k at_i new_is tells meets same =
@@ -60,7 +60,7 @@ pair_met {L} old new k i a b told m apart low high at_k at_i new_is tells meets 
     moved : (a b c a' b' c' : Pass) → a' ≡ a → b' ≡ b → c' ≡ c → Meets a b c → Meets a' b' c'
     moved a b c a' b' c' p q r h = subst (λ (x : Pass). Meets x b' c') (sym p) (subst (λ (x : Pass). Meets a x c') (sym q) (subst (λ (x : Pass). Meets a b x) (sym r) h))
 
--- one more was met
+-- one more mutator was met
 pub met_next : {L : Type 0} (n i k : ℕ) (d : Mutator L) (first : ℕ → Pass) (old new : List (Mutator L)) → i < n → k < n → k ≢ i → MetBelow n i k first (row d old) → HaveMet k i old new → MetBelow n i (k + 1) first (row d new)
 met_next n i k d first old new inside there apart below h =
     met_more n i k inside there apart first (row d old) (row d new) below (meeting_of (row d old k) (row d old i) (row d new k) (row d new i) (h.told d) (h.met d) (h.same d)) (h.others d)

@@ -1,4 +1,4 @@
--- A line: what it stores, what it shows, and where its root leads.
+-- A line: what it stores, what it shows, and the forwarding address of its root.
 use Rattle.std.proofs.Common.{◌≡◌, ℕ, ◌<◌, ◌≤◌, List, length, map, get_or, IfErr, IfOk, Result, Ok, Err, Some, refl, sym, ap, ◌∙◌, arith, subst}
 use mathlib.Core.Option.{some}
 use lib.ListN.{get_elem?}
@@ -45,7 +45,7 @@ stored u weak object field value registers old new kind o v (Ok a) ek eo ev grow
     }
 stored u weak object field value registers old new kind o v (Err e) ek eo ev grows wrote target builds = tt
 
--- why one was not
+-- why it was not
 pub unstored : (u : Setup) (weak : Bool) (object field value : ℕ) (registers : List ℕ) (old new : Pass) (kind : Kind) (o v : ℕ) (r : Result ℕ Refusal) → kind ≡ kind_if weak
     → o ≡ get_or registers object 0 → v ≡ get_or registers value 0 → IfErr r (ReferenceRefused u old new kind o field v)
     → IfErr r (ReferenceRefused u old new (kind_if weak) (get_or registers object 0) field (get_or registers value 0))
@@ -86,7 +86,7 @@ loaded u weak to object field registers old new kind o (Ok a) ek eo grows read k
     }
 loaded u weak to object field registers old new kind o (Err refusal) ek eo grows read known builds = tt
 
--- why one was not
+-- why it was not
 pub unloaded : (u : Setup) (weak : Bool) (object field : ℕ) (registers : List ℕ) (old new : Pass) (kind : Kind) (o : ℕ) (r : Result ℕ Refusal) → kind ≡ kind_if weak
     → o ≡ get_or registers object 0 → IfErr r (FieldRefused u old new kind o field) → IfErr r (FieldRefused u old new (kind_if weak) (get_or registers object 0) field)
 unloaded u weak object field registers old new kind o r ek eo h =
@@ -118,7 +118,7 @@ pub on_ok : (r : Result ℕ Refusal) (P : ℕ → Type 0) → ((answer : ℕ) �
 on_ok (Ok answer) P h = h answer
 on_ok (Err refusal) P h = tt
 
--- what holds anyway holds where a call is refused
+-- what holds anyway holds if a call is refused
 pub on_err : (r : Result ℕ Refusal) (P : Type 0) → P → OnErr r P
 on_err (Ok a) P h = tt
 on_err (Err refusal) P h = h
@@ -133,7 +133,7 @@ shows_one number (Put object field value) answer = omega arith
 shows_one number (New to refs weak data_words tag) answer = omega arith
 shows_one number (Nil to) answer = omega arith
 
--- where a root leads
+-- the forwarding address of a root
 pub leads_at : (f : ℕ → Option ℕ) (xs ys : List ℕ) → map (λ (place : ℕ). Some place) xs ≡ map f ys → (i : ℕ) → i < length ys → (i < length xs) × (f (get_or ys i 0) ≡ Some (get_or xs i 0))
 leads_at f xs ys e i lt =
     let there : get_elem? (map (λ (place : ℕ). Some place) xs) i ≡ some (f (get_or ys i 0)) = ap (λ l. get_elem? l i) e ∙ at_map f ys i (get_or ys i 0) (at_or ys i 0 lt) in

@@ -1,4 +1,4 @@
--- Mutators as a list, and their passes by places.
+-- Mutators as a list, and their passes by indices.
 use Rattle.std.proofs.Common.{◌≡◌, ℕ, zero, suc, ◌<◌, ◌++◌, List, [], ◌∷◌, length, get_or, inl, inr, refl, sym, ap, subst, ◌∙◌, arith}
 use Rattle.std.specs.Prelude.{◌⊎◌}
 use mathlib.Core.Option.{some}
@@ -27,13 +27,13 @@ use Rattle.trace_steps.proofs.Building.{BuiltTheirs, HaveStrange, SeeTheirs}
 use Rattle.trace_steps.proofs.Merging.{merged_by}
 use Rattle.trace_steps.proofs.Elements.{at_or}
 
--- what the mutator at a place did
+-- what the mutator at an index did
 pub deeds_at : {L : Type 0} (mutators : List (Mutator L)) (d : Mutator L) (k : ℕ) → k < length mutators → deeds_of mutators k ≡ dids (row d mutators) k
 deeds_at [] d k lt = absurd (omega arith)
 deeds_at (m ∷ mutators) d zero lt = refl
 deeds_at (m ∷ mutators) d (suc k) lt = deeds_at mutators d k (omega arith)
 
--- the pass of the mutator at a place
+-- the pass of the mutator at an index
 pub row_at : {L : Type 0} (mutators : List (Mutator L)) (d m : Mutator L) (k : ℕ) → get_elem? mutators k ≡ some m → row d mutators k ≡ pass_of m
 row_at mutators d m k at = ap pass_of (read_at mutators k m d at)
 
@@ -44,7 +44,7 @@ rows_have mutators d journals h p = merged_by (length mutators) (deeds_of mutato
 pub have_all : {L : Type 0} (mutators : List (Mutator L)) (d : Mutator L) (journals : Journals) → AreMerged (length mutators) (dids (row d mutators)) journals → HaveAll mutators journals
 have_all mutators d journals h p = merged_by (length mutators) (dids (row d mutators)) (deeds_of mutators) p (journals p) (λ k lt. sym (deeds_at mutators d k lt)) (h p)
 
--- a line that ran, where the deeds are told otherwise
+-- a line that ran, with the deeds written in another way
 pub advances_by : (u : Setup) (n i : ℕ) (deeds later other after : Deeds) (journals : Journals) (action : Action) (registers : List ℕ) (answer : ℕ) → ((k : ℕ) → k < n → deeds k ≡ other k)
     → ((k : ℕ) → k < n → later k ≡ after k) → Advances u n i deeds later journals action registers answer → Advances u n i other after journals action registers answer
 advances_by u n i deeds later other after journals action registers answer was is h = record {
@@ -62,7 +62,7 @@ crew_of space mutators d all = record {
   works = λ k lt. subst (λ (n : ℕ). Works (steps_of (cells_of space)) n (row d mutators k)) (sym all.count) (all.of k d lt);
 }
 
--- they are so later on, where each works still, by the same number
+-- they still are later, if each mutator still works and has the same number
 pub crew_later : {L : Type 0} {B : Type 0} {g : Ghosts B} (space : Space L B g) (n : ℕ) (mutators : List (Mutator L)) (d : Mutator L) → n ≡ (setup_of space).mutators → length mutators ≡ n
     → AreMutatorsOf space mutators → ((k : ℕ) → k < n → number_of (row d mutators k) ≡ k) → IsCrew (steps_of (cells_of space)) n (row d mutators)
 crew_later space n mutators d count long of numbers = record {
@@ -89,14 +89,14 @@ later_by old new d long h = record {
 pub nothing_by : {L : Type 0} (old new : List (Mutator L)) (d : Mutator L) → length new ≡ length old → ((k : ℕ) → k < length old → did (row d new k) ≡ did (row d old k)) → DidNothing old new
 nothing_by old new d long h k lt = deeds_at new d k (omega (arith, lt, long)) ∙ h k lt ∙ sym (deeds_at old d k lt)
 
--- what all have seen built, by places
+-- what all have seen built, by indices
 pub rows_seen_built : {L : Type 0} (mutators : List (Mutator L)) (d : Mutator L) (built : List (ℕ × ℕ)) → HaveSeenBuilt mutators built → SeeTheirs (length mutators) (row d mutators) built
 rows_seen_built mutators d built h = λ p k there lt. h p there k (get_or mutators k d) (at_or mutators k d lt)
 
 pub have_seen_built : {L : Type 0} (mutators : List (Mutator L)) (d : Mutator L) (built : List (ℕ × ℕ)) → SeeTheirs (length mutators) (row d mutators) built → HaveSeenBuilt mutators built
 have_seen_built mutators d built h = λ p there k m at. subst (λ (x : Pass). HasSeenBuilt x p) (row_at mutators d m k at) (h p k there (is_inside mutators k m at))
 
--- what was built, by places
+-- what was built, by indices
 pub rows_built : {L : Type 0} (mutators : List (Mutator L)) (d : Mutator L) (built : List (ℕ × ℕ)) → HaveBuilt mutators built
     → BuiltTheirs (length mutators) (row d mutators) built ⊎ HaveStrange (length mutators) (row d mutators)
 rows_built mutators d built (inl h) = inl (record {

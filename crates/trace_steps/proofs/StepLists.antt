@@ -1,4 +1,5 @@
--- A line between two rounds of meetings, of the mutators as lists: before it, after the first round, and after the second one. The call was of the mutator at place i.
+-- A line between two rounds of meetings, with the mutators as lists: before it, after the first round, and after the
+-- second round. The call is by the mutator at index i.
 use Rattle.std.proofs.Common.{◌≡◌, ℕ, ◌<◌, List, length, get_or, set, sym, ap, subst, ◌∙◌, arith, get_or-set_same, get_or-set_other, length-set}
 use Rattle.std.specs.Prelude.{◌⊎◌, IfErr, OnErr, Option, Result, Ok, Err}
 use native.Mathlib.Decide.{ℕ_discrete}
@@ -142,7 +143,7 @@ module _ {L : Type 0} {B : Type 0} {g : Ghosts B} (space : Space L B g) (i : ℕ
           ends = λ x at. subst (λ (y : Pass). Grows (row m acted i) y) (row_at last m x i at) (second.grows i inside);
         }
 
--- what holds of a refusal, with what holds of any
+-- what holds of a refusal, together with what holds of every refusal
 pub err_with : {T E : Type 0} (r : Result T E) (Q : Type 0) (P P' : E → Type 0) → OnErr r Q → (Q → (e : E) → P e → P' e) → IfErr r P → IfErr r P'
 err_with (Ok x) Q P P' q f h = tt
 err_with (Err e) Q P P' q f h = f q e h

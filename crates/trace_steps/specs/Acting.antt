@@ -1,4 +1,4 @@
--- What a line's call does to the mutator that runs it: in a replay and in a race alike.
+-- What the call of a line does to its mutator, in a replay and in a race.
 use Rattle.std.specs.Prelude.{◌≡◌, ℕ, ◌<◌, List, [], ◌∷◌, length, replicate, slice_index, slice_set, Some}
 use Rattle.heap_layout.specs.Heap.{live}
 use Rattle.heap_layout.specs.Header.{header_with}
@@ -17,7 +17,7 @@ use Rattle.trace_text.specs.declared.line.Action.TheVariants.{Root, Load, Get, S
 use Rattle.trace_steps.specs.Builds.{kind_if, touched, BuildsTouched}
 use Rattle.trace_steps.specs.declared.shown.Shown.{Shown}
 
--- the line's registers are there, and its root is
+-- the registers and the root of the line exist
 abbrev pub Fits : Setup → Action → Type 0
 Fits u (Root to root) = (to < 16) × (root < length u.heap.roots)
 Fits u (Load weak to object field) = (to < 16) × (object < 16)
@@ -31,7 +31,7 @@ Fits u (Nil to) = to < 16
 abbrev pub null_registers : List ℕ
 null_registers = replicate 16 0
 
--- a mutator's registers after a line whose call answered this
+-- the registers of a mutator after a line, if its call gave this answer
 abbrev pub registers_after : Action → List ℕ → ℕ → List ℕ
 registers_after (Root to root) registers answer = slice_set registers to answer
 registers_after (Load weak to object field) registers answer = slice_set registers to answer
@@ -41,7 +41,7 @@ registers_after (Put object field value) registers answer = registers
 registers_after (New to refs weak data_words tag) registers answer = slice_set registers to answer
 registers_after (Nil to) registers answer = slice_set registers to answer
 
--- what line n shows whose call answered this
+-- what line n shows, if its call gave this answer
 abbrev pub shown_at : ℕ → Action → ℕ → List Shown
 shown_at n (Root to root) answer = []
 shown_at n (Load weak to object field) answer = []
@@ -51,8 +51,9 @@ shown_at n (Put object field value) answer = []
 shown_at n (New to refs weak data_words tag) answer = []
 shown_at n (Nil to) answer = []
 
--- What a line's call answers, which takes the mutator from `old` to `new`: a read what the journals then seen make of the pages, a write the stamp of its one
--- entry, an allocation the new object. A root answers where it leads, and is no call.
+-- What the call of a line answers, if it takes the pass from `old` to `new`. A read answers the word that the journals
+-- then seen give, a write the stamp of its one entry, an allocation the place of the new object. A root answers its
+-- forwarding address, and makes no call.
 abbrev pub Answers : Setup → Action → List ℕ → Pass → Pass → ℕ → Type 0
 Answers u (Root to root) registers old new answer = (new ≡ old) × (forward (live u.heap) (slice_index u.heap.roots root) ≡ Some answer)
 Answers u (Load weak to object field) registers old new answer =
@@ -64,7 +65,7 @@ Answers u (Put object field value) registers old new answer = Writes u old new k
 Answers u (New to refs weak data_words tag) registers old new answer = AllocatesAsked u old new (header_with u.heap.edition refs weak data_words tag) answer
 Answers u (Nil to) registers old new answer = (new ≡ old) × (answer ≡ 0)
 
--- Why a line's call is refused.
+-- Why the call of a line is refused.
 abbrev pub Refuses : Setup → Action → List ℕ → Pass → Pass → Refusal → Type 0
 Refuses u (Root to root) registers old new refusal = ⊥
 Refuses u (Load weak to object field) registers old new refusal = FieldRefused u old new (kind_if weak) (slice_index registers object) field refusal
@@ -75,8 +76,8 @@ Refuses u (Put object field value) registers old new refusal = DataRefused u old
 Refuses u (New to refs weak data_words tag) registers old new refusal = AskedRefused u old new (header_with u.heap.edition refs weak data_words tag) refusal
 Refuses u (Nil to) registers old new refusal = ⊥
 
--- One line ran well. What the mutator had seen is a beginning of what it has then seen. It built no page but the one that the line touched, and has then seen that
--- one built.
+-- One line ran. What the mutator has seen grew. It built at most the page that the line touched, and has then seen that
+-- page built.
 pub record Steps (u : Setup) (action : Action) (registers : List ℕ) (old new : Pass) (answer : ℕ) : Type 0 where
   pub grows : Grows old new
   pub answers : Answers u action registers old new answer

@@ -1,4 +1,4 @@
--- Which pages the lines of a trace build: each page is built by the mutator whose line is the first to touch it.
+-- Which pages the lines of a trace build. Each page is built by the mutator of the first line that touches it.
 use Rattle.std.specs.Prelude.{◌≡◌, ◌⊎◌, ℕ, ◌==◌, Bool, true, cond, List, [], ◌∷◌, ◌++◌, Option, None, Some, filter, map, option_map, slice_index}
 use Rattle.std.specs.List.{list_any}
 use mathlib.Core.Option.{some}
@@ -24,11 +24,13 @@ use Rattle.trace_text.specs.declared.line.Action.TheVariants.{Root, Load, Get, S
 abbrev pub kind_if : Bool → Kind
 kind_if weak = cond weak Weak Reference
 
--- the page of a slid object's field; an object that a line made lies on a page that was built then
+-- the page of a field of a slid object. None for other objects: an object that a line made is on a page that is built
+-- already
 abbrev pub slid_page : Setup → Kind → ℕ → ℕ → Option ℕ
 slid_page u kind object field = option_map (λ (header : Head). page_at (place_of kind object header field)) (shape_at (live u.heap) object)
 
--- the page that a line may have to build whose call answered this, where there is one: that of a slid object's field, or that of the object which it makes
+-- the page that a line may have to build, if its call gave this answer: the page of a slid object's field, or of the
+-- object that the line makes
 abbrev pub touched : Setup → Action → List ℕ → ℕ → Option ℕ
 touched u (Root to root) registers answer = None
 touched u (Load weak to object field) registers answer = slid_page u (kind_if weak) (slice_index registers object) field
@@ -38,11 +40,11 @@ touched u (Put object field value) registers answer = slid_page u Data (slice_in
 touched u (New to refs weak data_words tag) registers answer = Some (page_at answer)
 touched u (Nil to) registers answer = None
 
--- the page is among those that were built, each of which stands with the mutator that built it
+-- the page is among the built ones, each of which is listed with the mutator that built it
 abbrev pub is_built : List (ℕ × ℕ) → ℕ → Bool
 is_built built p = list_any (λ (x : ℕ × ℕ). x.1 == p) built
 
--- what was built, once a line of mutator m touched this page: it builds the page where nobody had
+-- what was built after a line of mutator m touched this page: the mutator builds the page if nobody had
 abbrev pub built_after : List (ℕ × ℕ) → ℕ → Option ℕ → List (ℕ × ℕ)
 built_after built m None = built
 built_after built m (Some p) = cond (is_built built p) built (built ++ (m, p) ∷ [])
@@ -51,32 +53,33 @@ built_after built m (Some p) = cond (is_built built p) built (built ++ (m, p) �
 abbrev pub built_by : ℕ → List (ℕ × ℕ) → List ℕ
 built_by k built = map (λ (x : ℕ × ℕ). x.1) (filter (λ (x : ℕ × ℕ). x.0 == k) built)
 
--- a call that touched this page built no other, and has then seen it built
+-- a call that touched this page built no other page, and its pass has then seen this page built
 abbrev pub BuildsTouched : Option ℕ → Pass → Pass → Type 0
 BuildsTouched None old new = BuildsNothing old new
 BuildsTouched (Some p) old new = MayBuild p old new × HasSeenBuilt new p
 
--- all of them have seen these pages built
+-- all these mutators have seen these pages built
 abbrev pub HaveSeenBuilt : {L : Type 0} → List (Mutator L) → List (ℕ × ℕ) → Type 0
 HaveSeenBuilt {L} mutators built = (p : ℕ) → is_built built p ≡ true → Each mutators (λ (m : Mutator L). HasSeenBuilt (pass_of m) p)
 
--- The mutators built just these pages, each its own in this order, and all of them know it.
+-- The mutators built exactly these pages, each its own in this order, and all of them know it.
 pub record BuiltJust {L : Type 0} (mutators : List (Mutator L)) (built : List (ℕ × ℕ)) : Type 0 where
   pub own : (k : ℕ) (m : Mutator L) → get_elem? mutators k ≡ some m → builds_of (pass_of m) ≡ built_by k built
   pub known : HaveSeenBuilt mutators built
 
--- there is a page that all of them have seen built, and that none of them built: where the mutators are all of a space's, it has none such in the end
+-- there is a page that all of them have seen built, and that none of them built; if they are all the mutators of a
+-- space, there is none in the end
 abbrev pub HaveStrangePage : {L : Type 0} → List (Mutator L) → Type 0
 HaveStrangePage {L} mutators = (p : ℕ) × Each mutators (λ (m : Mutator L). HasSeenBuilt (pass_of m) p × (times p (builds_of (pass_of m)) ≡ 0))
 
--- the mutators built just these pages, unless there is one that none of them built
+-- the mutators built exactly these pages, unless there is a page that all have seen built and none of them built
 abbrev pub HaveBuilt : {L : Type 0} → List (Mutator L) → List (ℕ × ℕ) → Type 0
 HaveBuilt mutators built = BuiltJust mutators built ⊎ HaveStrangePage mutators
 
--- the mutator at place i touched this page
+-- the mutator at index i touched this page: how that changes what the mutators built
 abbrev pub BuildOn : {L : Type 0} → ℕ → Option ℕ → List (Mutator L) → List (Mutator L) → Type 0
 BuildOn i page before after = (built : List (ℕ × ℕ)) → HaveBuilt before built → HaveBuilt after (built_after built i page)
 
--- the same of what all of them have seen built, whoever built it
+-- how it changes what all of them have seen built, whoever built it
 abbrev pub SeeBuiltOn : {L : Type 0} → ℕ → Option ℕ → List (Mutator L) → List (Mutator L) → Type 0
 SeeBuiltOn i page before after = (built : List (ℕ × ℕ)) → HaveSeenBuilt before built → HaveSeenBuilt after (built_after built i page)

@@ -1,4 +1,4 @@
--- What the mutators of a space did, and the journals that have just this.
+-- What the mutators of a space did, and the journals that have exactly this.
 use Rattle.std.specs.Prelude.{◌≡◌, ℕ, zero, suc, ◌<◌, ◌≤◌, List, [], ◌∷◌, length}
 use Rattle.comp_mutator.specs.Entry.{Entry}
 use Rattle.comp_mutator.specs.Setup.{Setup}
@@ -14,13 +14,13 @@ use Rattle.comp_mutator.specs.declared.mutator.Mutator.{Mutator}
 abbrev pub Deeds : Type 0
 Deeds = ℕ → List (ℕ × Entry)
 
--- what the mutator at each place of a list did
+-- what the mutator at each index of a list did
 abbrev pub deeds_of : {L : Type 0} → List (Mutator L) → Deeds
 deeds_of [] k = []
 deeds_of (m ∷ mutators) zero = did (pass_of m)
 deeds_of (m ∷ mutators) (suc k) = deeds_of mutators k
 
--- The journal has, by stamp, all entries on page p that stand in what one of n mutators did, and no others.
+-- The journal has all entries on page p that one of n mutators wrote, in the order of their stamps, and no others.
 pub record IsMerged (n : ℕ) (deeds : Deeds) (p : ℕ) (journal : List Entry) : Type 0 where
   pub rises : (high : ℕ) × Rises 0 journal high
   pub own : (k : ℕ) → k < n → by k journal ≡ on p (deeds k)
@@ -29,7 +29,7 @@ pub record IsMerged (n : ℕ) (deeds : Deeds) (p : ℕ) (journal : List Entry) :
 abbrev pub AreMerged : ℕ → Deeds → Journals → Type 0
 AreMerged n deeds journals = (p : ℕ) → IsMerged n deeds p (journals p)
 
--- the journals have just what these mutators did
+-- the journals have exactly what these mutators did
 abbrev pub HaveAll : {L : Type 0} → List (Mutator L) → Journals → Type 0
 HaveAll mutators journals = AreMerged (length mutators) (deeds_of mutators) journals
 
@@ -41,7 +41,7 @@ HaveSeen {L} mutators journals = Each mutators (λ (m : Mutator L). (p : ℕ) �
 abbrev pub HaveSeenAll : {L : Type 0} → List (Mutator L) → Type 0
 HaveSeenAll mutators = (journals : Journals) → HaveAll mutators journals → HaveSeen mutators journals
 
--- there are lawful journals that have just what these mutators did
+-- there are lawful journals that have exactly what these mutators did
 abbrev pub HaveStart : {L : Type 0} → Setup → List (Mutator L) → Type 0
 HaveStart u mutators = (start : Journals) × HaveAll mutators start × ((p : ℕ) → IsLawful u p (start p))
 

@@ -1,4 +1,4 @@
--- What a line of a trace answers by the journals of all pages, and the entries that it adds.
+-- What a line of a trace answers, given the journals of all pages, and the entries that it adds.
 use Rattle.std.specs.Prelude.{◌≡◌, ℕ, ◌+◌, ◌*◌, ◌<◌, ◌≤◌, List, [], ◌∷◌, ◌++◌, All, Option, None, Some, slice_index}
 use Rattle.heap_layout.specs.Header.{header_with, size_of, Head}
 use Rattle.heap_layout.specs.Heap.{live}
@@ -18,7 +18,7 @@ use Rattle.trace_steps.specs.Builds.{kind_if}
 use Rattle.trace_text.specs.declared.line.Action.{Action}
 use Rattle.trace_text.specs.declared.line.Action.TheVariants.{Root, Load, Get, Store, Put, New, Nil}
 
--- the journals, with these entries behind them
+-- the journals, with these entries after them
 abbrev pub with_entries : Journals → List (ℕ × Entry) → Journals
 with_entries journals added p = journals p ++ on p added
 
@@ -26,7 +26,7 @@ with_entries journals added p = journals p ++ on p added
 abbrev pub IsAboveAll : Journals → ℕ → Type 0
 IsAboveAll journals stamp = (p : ℕ) → All (λ (e : Entry). e.stamp < stamp) (journals p)
 
--- the one entry of mutator m, to page p: its stamp is above all that there were
+-- there is one entry, of mutator m on page p, and its stamp is above all stamps before
 pub record IsOneEntry (journals : Journals) (m p : ℕ) (kind : Kind) (offset value stamp : ℕ) (added : List (ℕ × Entry)) : Type 0 where
   pub above : IsAboveAll journals stamp
   pub added_is : added ≡ (p, record { stamp = stamp; writer = m; kind = kind; offset = offset; value = value }) ∷ []
@@ -37,11 +37,11 @@ pub record WritesField (u : Setup) (journals : Journals) (m : ℕ) (kind : Kind)
   pub field_of : IsFieldOf u journals kind object field place
   pub entry : IsOneEntry journals m (page_at place) kind (offset_at place) value stamp added
 
--- how many words of a page the objects have that the mutator made there
+-- the number of words of the objects that the mutator made on its own page of this index
 abbrev pub used_by : Setup → Journals → ℕ → ℕ → ℕ
 used_by u journals m index = filled u.heap.edition (by m (journals (own_page u m index)))
 
--- An object was made behind the objects on the lowest page of the mutator that has room.
+-- An object was made after the others on the lowest page of the mutator that has room.
 pub record MakesObject (u : Setup) (journals : Journals) (m : ℕ) (header : Head) (added : List (ℕ × Entry)) (place : ℕ) : Type 0 where
   -- the header is one of the heap's edition
   pub edition : header.edition ≡ u.heap.edition
@@ -53,12 +53,13 @@ pub record MakesObject (u : Setup) (journals : Journals) (m : ℕ) (header : Hea
   pub stamp : ℕ
   pub entry : IsOneEntry journals m (own_page u m index) Header (used_by u journals m index) header.word stamp added
 
--- the object with the header that was asked for was made; there is one
+-- the edition has the header that was asked for, and an object with it was made
 abbrev pub MakesAsked : Setup → Journals → ℕ → Option Head → List (ℕ × Entry) → ℕ → Type 0
 MakesAsked u journals m None added place = ⊥
 MakesAsked u journals m (Some header) added place = MakesObject u journals m header added place
 
--- What a line of mutator m answers, where its registers hold this and the pages have these journals, and the entries that it adds.
+-- What a line of mutator m answers, and the entries that it adds, if its registers hold these words and the pages have
+-- these journals.
 abbrev pub Acts : Setup → Journals → ℕ → Action → List ℕ → List (ℕ × Entry) → ℕ → Type 0
 Acts u journals m (Root to root) registers added answer = (added ≡ []) × (sliding.forward (live u.heap) (slice_index u.heap.roots root) ≡ Some answer)
 Acts u journals m (Load weak to object field) registers added answer = (added ≡ []) × Reads u journals (kind_if weak) (slice_index registers object) field answer

@@ -19,38 +19,38 @@ use Rattle.trace_steps.specs.Deeds.{deeds_of, AreMerged, Deeds, HaveAll, KnowsMa
 use Rattle.trace_steps.specs.Lines.{with_entries, Acts}
 use Rattle.trace_text.specs.declared.line.Action.{Action}
 
--- the passes of mutators, by their places; `d` is any of them
+-- the passes of mutators, by their indices; `d` is any mutator
 abbrev pub row : {L : Type 0} → Mutator L → List (Mutator L) → ℕ → Pass
 row d mutators k = pass_of (get_or mutators k d)
 
--- The mutators at places k and i met, and no other one changed.
+-- The mutators at indices k and i met, and no other mutator changed.
 pub record HaveMet {L : Type 0} (k i : ℕ) (old new : List (Mutator L)) : Type 0 where
   pub told : (d : Mutator L) → Meets (row d old i) (row d old k) (row d new k)
   pub met : (d : Mutator L) → Meets (row d old k) (row d old i) (row d new i)
   pub same : (d : Mutator L) (p : ℕ) → seen (row d new k) p ≡ seen (row d new i) p
   pub others : (d : Mutator L) (j : ℕ) → j ≢ i → j ≢ k → row d new j ≡ row d old j
 
--- Of n passes, that of number i met each other one, which was told: they did and built nothing.
+-- Of n passes, pass i met each other one. They wrote and built nothing.
 pub record Met (n i : ℕ) (old new : ℕ → Pass) : Type 0 where
   pub did : (k : ℕ) → k < n → did (new k) ≡ did (old k)
   pub builds : (k : ℕ) → k < n → builds_of (new k) ≡ builds_of (old k)
   pub grows : (k : ℕ) → k < n → Grows (old k) (new k)
-  -- it has then seen what each had seen, and knows the starts that each knew
+  -- pass i has then seen what each had seen, and knows the starts that each knew
   pub more : (k p : ℕ) → k < n → StartsWith (seen (new i) p) (seen (old k) p)
   pub starts : (k p offset : ℕ) → k < n → KnowsFresh (old k) p offset → KnowsFresh (new i) p offset
   pub built : (k p : ℕ) → k < n → HasSeenBuilt (old k) p → HasSeenBuilt (new i) p
-  -- each has seen what it had seen, and nothing that it has not
+  -- each has then seen what pass i had seen, and nothing that pass i has not seen
   pub told : (k p : ℕ) → k < n → StartsWith (seen (new k) p) (seen (old i) p)
   pub told_built : (k p : ℕ) → k < n → HasSeenBuilt (old i) p → HasSeenBuilt (new k) p
   pub within : (k p : ℕ) → k < n → StartsWith (seen (new i) p) (seen (new k) p)
-  -- of each page it has seen what one of them had seen
+  -- of each page, pass i has then seen what one of them had seen
   pub longest : (p : ℕ) → (k : ℕ) × (k < n) × (seen (new i) p ≡ seen (old k) p)
 
--- the mutator at place i met each other one
+-- the mutator at index i met each other one
 abbrev pub HasMetAll : {L : Type 0} → ℕ → List (Mutator L) → List (Mutator L) → Type 0
 HasMetAll {L} i old new = (d : Mutator L) → Met (length old) i (row d old) (row d new)
 
--- what a pass knows does not shrink; nor does it forget what it made
+-- the pass knows no less than before, and does not forget what it made
 abbrev pub Learns : Pass → Pass → Type 0
 Learns old new = Grows old new × (KnowsMade old → KnowsMade new)
 
@@ -63,20 +63,20 @@ pub record AreLater {L : Type 0} (old new : List (Mutator L)) : Type 0 where
 abbrev pub DidNothing : {L : Type 0} → List (Mutator L) → List (Mutator L) → Type 0
 DidNothing old new = (k : ℕ) → k < length old → deeds_of new k ≡ deeds_of old k
 
--- Mutator i of n ran a line, by all that the mutators did before it.
+-- Mutator i of n ran a line, on all that the mutators did before it.
 pub record Advances (u : Setup) (n i : ℕ) (deeds later : Deeds) (journals : Journals) (action : Action) (registers : List ℕ) (answer : ℕ) : Type 0 where
   pub added : List (ℕ × Entry)
   pub acts : Acts u journals i action registers added answer
   pub did : (k : ℕ) → k < n → later k ≡ deeds k ++ written_by k added
   pub merged : AreMerged n later (with_entries journals added)
 
--- The mutator at place i ran a line, by all journals that have just what the mutators did before it.
+-- The mutator at index i ran a line, for all journals that have exactly what the mutators did before it.
 abbrev pub RanLine : {L : Type 0} → Setup → ℕ → List (Mutator L) → List (Mutator L) → Action → List ℕ → ℕ → Type 0
 RanLine u i before after action registers answer =
     (journals : Journals) → HaveAll before journals → Advances u (length before) i (deeds_of before) (deeds_of after) journals action registers answer
 
--- The call of the mutator at place i was refused, where it knew all that the mutators did. What it knew before the line it knew at the call, and what it knew then it
--- knows after the line.
+-- The call of the mutator at index i was refused, and at the call it knew all that the mutators did. What it knew
+-- before the line it knew at the call, and what it knew at the call it knows after the line.
 pub record IsTurnedDown {L : Type 0} (u : Setup) (i : ℕ) (before after : List (Mutator L)) (journals : Journals) (action : Action) (registers : List ℕ) (refusal : Refusal) : Type 0 where
   pub old : Pass
   pub new : Pass
@@ -85,12 +85,13 @@ pub record IsTurnedDown {L : Type 0} (u : Setup) (i : ℕ) (before after : List 
   pub wrote_none : did new ≡ did old
   pub did : did old ≡ deeds_of after i
   pub knows : (p : ℕ) → seen old p ≡ journals p
-  -- and each object that was made, where each mutator knew what it made
+  -- it knows each object that was made, if each mutator knew what it made
   pub starts : KnowTheirs before → (p offset : ℕ) → HasHead (journals p) offset → KnowsFresh old p offset
   pub grows : Grows old new
   pub refuses : Refuses u action registers old new refusal
   pub ends : (m : Mutator L) → get_elem? after i ≡ some m → Grows new (pass_of m)
 
--- The call of the mutator at place i was refused, by all journals that have just what the mutators did before the line.
+-- The call of the mutator at index i was refused, for all journals that have exactly what the mutators did before the
+-- line.
 abbrev pub WasTurnedDown : {L : Type 0} → Setup → ℕ → List (Mutator L) → List (Mutator L) → Action → List ℕ → Refusal → Type 0
 WasTurnedDown u i before after action registers refusal = (journals : Journals) → HaveAll before journals → IsTurnedDown u i before after journals action registers refusal

@@ -6,10 +6,10 @@ use Rattle.trace_text.specs.declared.line.Line.{Line}
 use Rattle.trace_text.specs.declared.trace.Trace.{Trace}
 use Rattle.trace_steps.specs.Acting.{Fits}
 
--- it was parsed for as many mutators and roots as there are
+-- the trace was parsed for the numbers of mutators and roots that there are
 abbrev pub IsParsedFor : Setup → Trace → Type 0
 IsParsedFor u trace = (mutators_of trace ≡ u.mutators) × (roots_of trace ≡ length u.heap.roots)
 
--- the mutators, registers and roots of all lines are there
+-- the mutators, registers and roots of all lines exist
 abbrev pub AllFit : Setup → List Line → Type 0
 AllFit u lines = All (λ (line : Line). (line.mutator < u.mutators) × Fits u line.action) lines

@@ -1,4 +1,4 @@
-//! What one mutator does for a line, where each call is made once.
+//! What one mutator does for a line. Each call is made once.
 ghost use Rattle.std.specs.Prelude.{◌≡◌, IfErr, IfOk, OnErr};
 ghost use Rattle.comp_mutator.specs.Passes.{did};
 ghost use Rattle.comp_mutator.specs.Calls.{Grows};
@@ -11,7 +11,8 @@ use std::alloc::Global;
 use std::sync::ledger::Ledger;
 use trace_text::Action;
 
-/// Does what a line says, and answers what its call does: 0 for a register that becomes null. A busy page is not waited for.
+/// Does what a line says, and answers what its call answers; a line `root` answers the forwarded root, and a line `nil`
+/// 0. Does not wait for a busy page. Requires a mutator of this space, and a line whose registers and root exist.
 pub(crate) fn act<L: Ledger, B: Builder>(
     alloc: Global,
     space: &Space<L, B>,

@@ -1,4 +1,5 @@
-//! A line of a trace: what its mutator does for it, registers, shown values, and the rounds of meetings around it.
+//! One line of a trace: what its mutator does, its registers, the values that it shows, and the rounds of meetings
+//! around it.
 #![tactic(auto)]
 
 mod acting;

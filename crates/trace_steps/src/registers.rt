@@ -10,7 +10,7 @@ use comp_mutator::{Builder, Space};
 use heap_layout::Kind;
 use std::sync::ledger::Ledger;
 
-/// What a register, one of 16, holds.
+/// The word in a register. There are 16 registers.
 pub fn held(registers: &[u64; 16], register: u8) -> u64
     requires { register < 16 }
     ensures { result ≡ slice_index registers.now register }
@@ -18,7 +18,7 @@ pub fn held(registers: &[u64; 16], register: u8) -> u64
     registers[usize::from(register)]
 }
 
-/// Where a root of the space's heap leads.
+/// The forwarded root of this number. Requires that the heap has it.
 pub fn root_at<L: Ledger, B: Builder>(space: &Space<L, B>, root: u16) -> u64
     requires { root < length (setup_of space.now).heap.roots }
     ensures { forward (live (setup_of space.now).heap) (slice_index (setup_of space.now).heap.roots root) ≡ Some result }
@@ -26,7 +26,7 @@ pub fn root_at<L: Ledger, B: Builder>(space: &Space<L, B>, root: u16) -> u64
     space.roots()[usize::from(root)]
 }
 
-/// The kind of the field that a load or a store names: weak where `weak` holds, and else a reference. Either refers.
+/// The kind of the field that a load or a store names: weak if `weak`, and else a reference. Both kinds refer.
 pub fn kind_if(weak: bool) -> Kind
     ensures kind { result ≡ kind_if weak }
     ensures refers { refers result ≡ true }

@@ -1,4 +1,4 @@
-//! Values that lines show.
+//! The values that lines show.
 ghost use Rattle.std.specs.Prelude.{◌≡◌, ◌+◌, ◌≤◌, ◌++◌, length, vec_capacity};
 ghost use Rattle.trace_steps.specs.Acting.{shown_at};
 
@@ -11,7 +11,8 @@ pub struct Shown {
     pub value: u64,
 }
 
-/// Keeps what a line shows whose call answered this value. Room for it is reserved.
+/// Adds what a line shows, if its call answered `value`: a line `get` shows it, and other lines show nothing. Requires
+/// room for it.
 pub fn show(shown: &mut Vec<Shown>, line: u64, action: Action, value: u64)
     requires room { length shown.old.items + length (shown_at line action value) ≤ vec_capacity shown.old }
     ensures shown { shown.new.items ≡ shown.old.items ++ shown_at line action value }

@@ -1,4 +1,4 @@
-//! A line between two rounds of meetings.
+//! Runs a line between two rounds of meetings.
 ghost use Rattle.std.specs.Prelude.{◌≡◌, ◌≢◌, ◌<◌, length, IfErr, IfOk, OnErr};
 ghost use Rattle.comp_mutator.specs.Mutators.{setup_of, AreMutatorsOf};
 ghost use Rattle.trace_steps.specs.Acting.{registers_after, Fits};
@@ -13,7 +13,7 @@ use std::alloc::Global;
 use std::sync::ledger::Ledger;
 use trace_text::Action;
 
-/// The mutators at places `k` and `i` meet.
+// Lets the mutators at indices `k` and `i` meet.
 fn meet_at<L: Ledger, B: Builder>(
     space: &Space<L, B>,
     mutators: &mut [Mutator<L>],
@@ -34,7 +34,8 @@ fn meet_at<L: Ledger, B: Builder>(
     }
 }
 
-/// Mutator `i` meets each other one: all have then seen what any of them had.
+// Lets mutator `i` meet each other mutator. Mutator `i` has then seen all that any of them had seen, and each of the
+// others has seen all that mutator `i` had seen before.
 fn meet_others<L: Ledger, B: Builder>(space: &Space<L, B>, mutators: &mut [Mutator<L>], i: usize)
     requires of { AreMutatorsOf space.now mutators.old }
     requires inside { i < length mutators.old }
@@ -49,7 +50,9 @@ fn meet_others<L: Ledger, B: Builder>(space: &Space<L, B>, mutators: &mut [Mutat
     }
 }
 
-/// Mutator `i` does what a line says, by all that all mutators did.
+/// Runs a line by mutator `i`, between two rounds of meetings. So the line acts on all that all mutators did before,
+/// and all mutators have then seen all that was done. Requires all mutators of the space, in order, and a line that
+/// fits.
 pub fn step<L: Ledger, B: Builder>(
     alloc: Global,
     space: &Space<L, B>,

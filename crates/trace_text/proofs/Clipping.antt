@@ -1,4 +1,4 @@
--- Numbers that are clipped are judged as those that are not.
+-- Clipped numbers are judged like the numbers themselves.
 use Rattle.std.proofs.Common.{◌≡◌, ℕ, ◌^◌, ◌<◌, ◌≤◌, ◌||◌, Bool, true, false, cond, List, [], ◌∷◌, map, Option, Some, None, Result, Ok, Err, option_map, refl, sym, ap, ◌∙◌, arith, nat_le, codes, inl, inr}
 use Rattle.std.proofs.lemmas.Bool.{leb-false, le-leb, lt-leb, or_parts, cases_lt}
 use Rattle.std.specs.List.{list_any}
@@ -9,7 +9,7 @@ use Rattle.trace_text.specs.declared.line.Action.TheVariants.{Root, Load, Get, S
 use Rattle.trace_text.specs.declared.line.Line.{Line}
 use Rattle.trace_text.specs.Grammar.{clipped, judged, line_with, registers_of, is_too_large, roots_of}
 
--- a bound that is told apart
+-- a bound that clipping keeps
 abbrev IsBound : ℕ → Type 0
 IsBound b = b ≤ 2 ^ 64
 
@@ -25,7 +25,7 @@ same b x bound small = omega (arith, leb-false b x small)
 any_one : (b x : ℕ) → list_any (nat_le b) (x ∷ []) ≡ false → nat_le b x ≡ false
 any_one b x h = (or_parts _ _ h).0
 
--- the same tests, and the same line where none applies
+-- the tests of a line, in order, and the line if none applies
 abbrev tests : Bool → Bool → Bool → Bool → TraceFault → TraceFault → TraceFault → TraceFault → Line → Result Line TraceFault
 tests a b c d e f g h line = cond a (Err e) (cond b (Err f) (cond c (Err g) (cond d (Err h) (Ok line))))
 
@@ -39,7 +39,7 @@ alike false false false false e f g h line other p = ap (λ (l : Line). Ok l) (p
 abbrev with : ℕ → Action → Line
 with m action = record { mutator = m; action = action }
 
--- a line is judged alike whose tests are the same
+-- lines with the same tests are judged alike
 judged_alike : (ms rs n m : ℕ) (a b : Action) → IsBound ms → list_any (nat_le 16) (registers_of a) ≡ list_any (nat_le 16) (registers_of b) → is_too_large a ≡ is_too_large b
     → list_any (nat_le rs) (roots_of a) ≡ list_any (nat_le rs) (roots_of b)
     → (list_any (nat_le 16) (registers_of b) ≡ false → is_too_large b ≡ false → list_any (nat_le rs) (roots_of b) ≡ false → a ≡ b)
@@ -91,7 +91,7 @@ new ms rs n m a b c d e ms-bound = judged_alike ms rs n m (New (clipped a) (clip
     (λ r l o. let parts = or_parts _ _ l in let more = or_parts _ _ parts.1 in let last = or_parts _ _ more.1 in
     rw (small 16 a (omega arith) r, same (2 ^ 16) b (omega arith) parts.0, same (2 ^ 16) c (omega arith) more.0, same (2 ^ 16) d (omega arith) last.0, same (2 ^ 32) e (omega arith) last.1) refl)
 
--- the same where a name chooses the line
+-- the lines that a name gives are judged alike
 abbrev Alike : ℕ → ℕ → ℕ → ℕ → Option Action → Option Action → Type 0
 Alike ms rs n m a b = judged ms rs n (option_map (with (clipped m)) a) ≡ judged ms rs n (option_map (with m) b)
 
@@ -103,7 +103,7 @@ other_name : (ms rs n m : ℕ) (s : Bool) (a b : Action) (c d : Option Action) �
 other_name ms rs n m true a b c d p q = p
 other_name ms rs n m false a b c d p q = q
 
--- lines whose numbers are clipped are judged as lines whose numbers are not
+-- a line with clipped numbers is judged like the line with the numbers themselves
 pub told_apart : (ms rs n m : ℕ) (name : List ℕ) (ns : List ℕ) → ms < 2 ^ 8 → rs < 2 ^ 16 → judged ms rs n (line_with (clipped m) name (map clipped ns)) ≡ judged ms rs n (line_with m name ns)
 told_apart ms rs n m name [] x y = refl
 told_apart ms rs n m name (a ∷ []) x y =

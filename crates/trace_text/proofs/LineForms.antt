@@ -36,7 +36,7 @@ number_once byte text n m rest other off p q =
 numbers_more : (word : List ℕ) (n : ℕ) (words : List (List ℕ)) (ns : List ℕ) → number_of word ≡ Some n → numbers_of words ≡ Some ns → numbers_of (word ∷ words) ≡ Some (n ∷ ns)
 numbers_more word n words ns p q = rw (p, q) refl
 
--- the line whose numbers they are
+-- the line with these numbers
 abbrev LineOfNumbers : List ℕ → List ℕ → List ℕ → Type 0
 LineOfNumbers text ns rest = (line : List ℕ) × (text ≡ line ++ 10 ∷ rest) × Without 10 line × (numbers_of (parts 32 line) ≡ Some ns)
 
@@ -55,7 +55,7 @@ line_of_numbers text (n ∷ m ∷ more) rest h =
       ap numbers_of (cut_at 32 word line.0 (digits_without 32 word refl are)) ∙ numbers_more word n (parts 32 line.0) (m ∷ more) h.1.2 line.3,
     )
 
--- and what the numbers of a line are
+-- the first number of a line, and the others
 numbers_cons : (o : Option ℕ) (os : Option (List ℕ)) (ns : List ℕ) → option_and_then (λ (n : ℕ). option_map (λ (ms : List ℕ). n ∷ ms) os) o ≡ Some ns
     → (n : ℕ) × (ms : List ℕ) × (o ≡ Some n) × (os ≡ Some ms) × (ns ≡ n ∷ ms)
 numbers_cons None os ns e = absurd cc
@@ -91,7 +91,7 @@ numbers_of_parts (w ∷ ws) line ns rest p h = elim (first_cut 32 line) [
       subst (λ (l : List ℕ). NumbersOfLine (line ++ 10 ∷ rest) l rest) (sym one.4) (onto_numbers (line ++ 10 ∷ rest) one.0 (after ++ 10 ∷ rest) one.1 rest (front, begins, one.2) more)
 ]
 
--- A line of a mutator's number, a name and numbers stands at the front of the text.
+-- The text begins with a line: a mutator's number, a name and numbers.
 pub record HasLine (text : List ℕ) (mutator : ℕ) (name ns rest : List ℕ) : Type 0 where
   pub behind : List ℕ
   pub numbers : List ℕ
@@ -150,7 +150,7 @@ no_line None name os f = refl
 no_line (Some m) name None f = refl
 no_line (Some m) name (Some ns) f = rw (f m ns refl refl) refl
 
--- no line that stands at the front of the text has a meaning
+-- no line at the front of the text has an action
 abbrev pub IsBad : List ℕ → Type 0
 IsBad text = (m : ℕ) (name ns rest : List ℕ) → HasLine text m name ns rest → action_of name ns ≡ None
 
@@ -180,7 +180,7 @@ bad_part text front rest e bad = elim (first_cut 32 front) [
 bad_last : (ms rs n : ℕ) (text : List ℕ) → 0 < length text → read_from ms rs n (text ∷ []) ≡ Err (BadLine n)
 bad_last ms rs n text some = rw (ne_eqb (length text) 0 (λ e. omega (arith, e, some))) refl
 
--- such a line is told by its number
+-- a text that begins with no line is refused, with the number of the line
 pub bad_read : (ms rs n : ℕ) (text : List ℕ) → 0 < length text → IsBad text → read_from ms rs n (parts 10 text) ≡ Err (BadLine n)
 bad_read ms rs n text some bad = elim (first_cut 10 text) [
   | inl without ↦ ap (read_from ms rs n) (uncut 10 text without) ∙ bad_last ms rs n text some

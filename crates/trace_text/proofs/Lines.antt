@@ -7,7 +7,7 @@ use Rattle.trace_text.specs.declared.line.Line.{Line}
 use Rattle.trace_text.specs.Grammar.{◌>>=◌, is_too_large, is_within, judged, parts, registers_of, roots_of, IsReadAs}
 use Rattle.std.specs.Prelude.{◌&&◌, is_ok, nat_le}
 
--- what a function of the value, if there is one, is
+-- the value of a mapped option
 pub mapped : {A B : Type 0} (f : A → B) (o : Option A) (y : B) → option_map f o ≡ Some y → (x : A) × (o ≡ Some x) × (y ≡ f x)
 mapped f None y e = absurd cc
 mapped f (Some x) y e = (x, refl, cc)
@@ -25,12 +25,12 @@ some_part byte (b ∷ text) =
 abbrev pub before : List Line → Result (List Line) TraceFault → Result (List Line) TraceFault
 before front read = read >>= (λ (more : List Line). Ok (front ++ more))
 
--- a line that is read belongs to those before it
+-- a line that is read joins the lines before it
 pub regroup : (front : List Line) (l : Line) (read : Result (List Line) TraceFault) → before front (before (l ∷ []) read) ≡ before (front ++ l ∷ []) read
 regroup front l (Ok ls) = ap (λ (xs : List Line). Ok xs) (sym (append_assoc front (l ∷ []) ls))
 regroup front l (Err fault) = refl
 
--- a fault is that of the whole
+-- a fault of a part is the fault of the whole
 told : {A B : Type 0} (view : A → B) (fault : TraceFault) (whole : Result B TraceFault) → whole ≡ Err fault → IsReadAs {A = A} view (Err fault) whole
 told view (BadLine n) whole e = e
 told view (NoSuchMutator n) whole e = e
@@ -46,7 +46,7 @@ told_on {A} {B} view r y fault whole p q e = subst (λ (s : Result A TraceFault)
 abbrev tests : Bool → Bool → Bool → Bool → TraceFault → TraceFault → TraceFault → TraceFault → Line → Result Line TraceFault
 tests a b c d e f g h line = cond a (Err e) (cond b (Err f) (cond c (Err g) (cond d (Err h) (Ok line))))
 
--- a line that is read as it is has nothing wrong with it, whatever its number
+-- a line that is read has no fault, whatever its number
 passed : (a b c d : Bool) (e f g h e' f' g' h' : TraceFault) (line l : Line) → tests a b c d e f g h line ≡ Ok l → (is_ok (tests a b c d e' f' g' h' line) ≡ true) × (line ≡ l)
 passed true b c d e f g h e' f' g' h' line l is = absurd cc
 passed false true c d e f g h e' f' g' h' line l is = absurd cc

@@ -8,7 +8,7 @@ use Rattle.trace_text.proofs.Lines.{some_part}
 use Rattle.trace_text.proofs.LineForms.{all_digits}
 use Rattle.trace_text.proofs.Splits.{cut_at, digits_without, first_cut, uncut}
 
--- these marks stand before what was read behind them
+-- these marks, and then what was read after them
 abbrev pub behind : List ℕ → Result (List ℕ) ℕ → Result (List ℕ) ℕ
 behind front (Ok marks) = Ok (front ++ marks)
 behind front (Err line) = Err line
@@ -17,7 +17,7 @@ regroup : (front : List ℕ) (n mark : ℕ) (read : Result (List ℕ) ℕ) → b
 regroup front n mark (Ok marks) = ap (λ (ms : List ℕ). Ok ms) (sym (append_assoc front (mark ∷ []) marks))
 regroup front n mark (Err line) = refl
 
--- before anything was read, what is read is the whole
+-- if nothing was read before, what is read is the whole
 pub at_first : (read : Result (List ℕ) ℕ) → read ≡ behind [] read
 at_first (Ok marks) = refl
 at_first (Err line) = refl
@@ -38,7 +38,7 @@ large_mark k n mark e is same lt = let small : k < 2 ^ 32 = omega (arith, is, sa
     none_apart : (a : ℕ) → None ≡ Some a → ⊥
     none_apart a h = absurd cc
 
--- a mark that is read, and those behind it
+-- one more mark is read, and the marks after it
 pub one_more : (n : ℕ) (text more front : List ℕ) (mark : ℕ) → MarkBefore text mark more → behind front (marks_from n (parts 10 text)) ≡ behind (front ++ mark ∷ []) (marks_from (n + 1) (parts 10 more))
 one_more n text more front mark h =
     let line = mark_line text mark more h in
@@ -64,7 +64,7 @@ none_or : (o : Option ℕ) → ((mark : ℕ) → o ≡ Some mark → ⊥) → o 
 none_or None f = refl
 none_or (Some mark) f = absurd (f mark refl)
 
--- a text that begins with none
+-- a text that does not begin with a mark is refused
 pub one_refused : (n : ℕ) (text front : List ℕ) → 0 < length text → ((mark : ℕ) (rest : List ℕ) → MarkBefore text mark rest → ⊥) → behind front (marks_from n (parts 10 text)) ≡ Err n
 one_refused n text front some none = elim (first_cut 10 text) [
   | inl without ↦ ap (λ (ps : List (List ℕ)). behind front (marks_from n ps)) (uncut 10 text without) ∙ ap (behind front) (last_refused n text some)

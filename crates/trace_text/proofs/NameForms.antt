@@ -23,7 +23,7 @@ ne_bytes a b ne = no (bytes_eq a b) (bytes_eq-Decides a b)
     no true d = absurd (ne (d.0 refl))
     no false d = refl
 
--- what stands behind a word is told by the text
+-- the text determines what is after a word
 behind_word : (word rest more : List ℕ) → word ++ rest ≡ word ++ more → rest ≡ more
 behind_word [] rest more e = e
 behind_word (w ∷ word) rest more e = behind_word word rest more (tails w (word ++ rest) (word ++ more) e)
@@ -31,7 +31,7 @@ behind_word (w ∷ word) rest more e = behind_word word rest more (tails w (word
     tails : (x : ℕ) (xs ys : List ℕ) → x ∷ xs ≡ x ∷ ys → xs ≡ ys
     tails x xs ys h = cc
 
--- a text that begins with a word, and a blank behind that or none
+-- a text that begins with a word, and has a blank after it or not
 pub word_there : (text word rest : List ℕ) → text ≡ word ++ rest → 0 < length rest → get_or rest 0 0 ≡ 32 → text ≡ word ++ 32 ∷ drop 1 rest
 word_there text word [] e some here = absurd (omega (arith, some))
 word_there text word (b ∷ rest) e some here = e ∙ ap (λ (k : ℕ). word ++ k ∷ rest) here
@@ -41,7 +41,7 @@ blank_behind text word rest more e h =
     let same = behind_word word rest (32 ∷ more) (sym e ∙ h) in
     (omega (arith, ap length same), ap (λ (l : List ℕ). get_or l 0 0) same)
 
--- a name that is none of them does nothing
+-- an unknown name has no action
 unknown_name : (name ns : List ℕ) → ((k : Name) → name ≡ written k → ⊥) → action_of name ns ≡ None
 unknown_name name [] f = refl
 unknown_name name (a ∷ []) f = rw (ne_bytes name (codes "nil") (f Nil)) refl
@@ -58,7 +58,7 @@ unknown_name name (a ∷ b ∷ c ∷ d ∷ []) f = rw (ne_bytes name (codes "new
 unknown_name name (a ∷ b ∷ c ∷ d ∷ e ∷ []) f = rw (ne_bytes name (codes "wnew") (f WeakNew)) refl
 unknown_name name (a ∷ b ∷ c ∷ d ∷ e ∷ g ∷ ns) f = refl
 
--- how many numbers stand behind a name
+-- the number of numbers after a name
 abbrev pub arity : Name → ℕ
 arity Root = 2
 arity Load = 3
@@ -71,7 +71,7 @@ arity WeakLoad = 3
 arity WeakStore = 3
 arity WeakNew = 5
 
--- with another count of numbers it does nothing
+-- with another count of numbers a name has no action
 other_count : (name : Name) (ns : List ℕ) → (length ns ≡ arity name → ⊥) → action_of (written name) ns ≡ None
 other_count name [] f = refl
 other_count Nil (a ∷ []) f = absurd (f refl)
@@ -131,7 +131,7 @@ one_word WeakLoad = refl
 one_word WeakStore = refl
 one_word WeakNew = refl
 
--- texts that begin with no line: no number, no name behind it, or other numbers behind that
+-- texts that begin with no line: no number, no name after it, or other numbers after that
 pub bad_mutator : (text : List ℕ) → ((n : ℕ) (rest : List ℕ) → NumberBefore 32 text n rest → ⊥) → IsBad text
 bad_mutator text none = λ m name ns rest h. absurd (none m h.behind h.first)
 

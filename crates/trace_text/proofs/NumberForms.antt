@@ -22,7 +22,7 @@ number_ends byte text count n rest off first ends h =
       ap (λ (t : List ℕ). number_of (take count t)) h.1 ∙ ap (λ (k : ℕ). number_of (take k (word ++ byte ∷ rest))) end ∙ ap number_of (before_cut word rest byte) ∙ h.2,
     )
 
--- digits that are a number, and the byte behind them
+-- digits that are a number, and the byte after them
 pub number_there : (byte : ℕ) (text rest : List ℕ) (count : ℕ) (number : Number) → count < length text → get_or text count 0 ≡ byte → rest ≡ drop (count + 1) text
     → option_map size (Some number) ≡ option_map clipped (number_of (take count text)) → (n : ℕ) × (size number ≡ clipped n) × NumberBefore byte text n rest
 number_there byte text rest count number lt here behind h =
@@ -41,7 +41,7 @@ pub reads_more : (text : List ℕ) (k n : ℕ) (behind ks rest : List ℕ) → k
 reads_more text k n behind ks rest e h more =
     (n ∷ more.0, ap (λ (j : ℕ). j ∷ ks) e ∙ ap (λ (l : List ℕ). clipped n ∷ l) more.1, onto_numbers text n behind more.0 rest h more.2)
 
--- no line of so many numbers, since there is no first one
+-- there is no line of one number if the text does not begin with one
 pub none_one : (text : List ℕ) → ((n : ℕ) (rest : List ℕ) → NumberBefore 10 text n rest → ⊥) → (ns rest : List ℕ) → length ns ≡ 1 → NumbersOfLine text ns rest → ⊥
 none_one text f [] rest e h = h
 none_one text f (n ∷ []) rest e h = f n rest h
@@ -52,7 +52,7 @@ none_first count text f [] rest e h = h
 none_first count text f (n ∷ []) rest e h = omega (arith, e)
 none_first count text f (n ∷ m ∷ more) rest e h = f n h.0 h.1
 
--- or no others behind it
+-- there is no line of more numbers if the text after the first has no line of the others
 pub none_then : (count : ℕ) (text : List ℕ) (n : ℕ) (behind : List ℕ) → NumberBefore 32 text n behind → HasNone (count + 1) behind → (ns rest : List ℕ) → length ns ≡ count + 2 → NumbersOfLine text ns rest → ⊥
 none_then count text n behind p f [] rest e h = h
 none_then count text n behind p f (m ∷ []) rest e h = omega (arith, e)

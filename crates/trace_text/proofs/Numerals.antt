@@ -31,7 +31,7 @@ some (c ∷ cs) h = omega arith
 pub number_is_text : (word : List ℕ) → is_number word ≡ true → IsUtf8 word
 number_is_text word h = IsUtf8-from_ascii word (IsAscii-from_digits word (own.to word (digits word h)))
 
--- what reading it at 64 bits gives
+-- what parsing it as 64 bits gives
 pub parsed_small : {E : Type 0} (word : List ℕ) (r : Result ℕ E) (n : ℕ) → is_number word ≡ true → ParsesUnsigned 64 10 word r → r ≡ Ok n → Some n ≡ option_map clipped (number_of word)
 parsed_small {E} word r n h p e =
     let facts = parse_digits own {E = E} 64 word (Ok n) (subst (ParsesUnsigned 64 10 word) e p) (digits word h) in
@@ -51,7 +51,7 @@ few_digits word value h few e =
     let same : value ≡ min (digits_value 10 word) (2 ^ 64) = omega (arith, e, short) in
     rw h (ap (λ (k : ℕ). Some k) same)
 
--- digits that are no number
+-- digits that are not a number
 pub no_number : (word : List ℕ) → is_number word ≡ false → None ≡ option_map clipped (number_of word)
 no_number word h = rw h refl
 

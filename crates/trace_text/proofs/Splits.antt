@@ -41,7 +41,7 @@ pub cut_at : (byte : ℕ) (front rest : List ℕ) → Without byte front → par
 cut_at byte [] rest w = slice_split-cons_yes (λ (b : ℕ). eqb b byte) byte rest (eq-eqb byte byte refl)
 cut_at byte (b ∷ front) rest w = slice_split-cons_no (λ (x : ℕ). eqb x byte) b (front ++ byte ∷ rest) (ne_eqb b byte w.0) ∙ ap (onto_first b) (cut_at byte front rest w.1)
 
--- and is one part where there is none
+-- a text without this byte is one part
 pub uncut : (byte : ℕ) (text : List ℕ) → Without byte text → parts byte text ≡ text ∷ []
 uncut byte [] w = refl
 uncut byte (b ∷ text) w = slice_split-cons_no (λ (x : ℕ). eqb x byte) b text (ne_eqb b byte w.0) ∙ ap (onto_first b) (uncut byte text w.1)
@@ -66,7 +66,7 @@ tails x y xs ys e = cc
 heads : (x y : ℕ) (xs ys : List ℕ) → x ∷ xs ≡ y ∷ ys → x ≡ y
 heads x y xs ys e = cc
 
--- what stands before the first such byte, and behind it, is told by the text
+-- the text determines what is before the first such byte, and what is after it
 pub same_cut : (byte : ℕ) (a b x y : List ℕ) → Without byte a → Without byte b → a ++ byte ∷ x ≡ b ++ byte ∷ y → (a ≡ b) × (x ≡ y)
 same_cut byte [] [] x y u v e = (refl, tails byte byte x y e)
 same_cut byte [] (d ∷ b) x y u v e = absurd (v.0 (sym (heads byte d x (b ++ byte ∷ y) e)))
@@ -75,7 +75,7 @@ same_cut byte (c ∷ a) (d ∷ b) x y u v e =
     let more = same_cut byte a b x y u.1 v.1 (tails c d (a ++ byte ∷ x) (b ++ byte ∷ y) e) in
     (ap (λ (l : List ℕ). c ∷ l) more.0 ∙ ap (λ (k : ℕ). k ∷ b) (heads c d (a ++ byte ∷ x) (b ++ byte ∷ y) e), more.1)
 
--- a part behind a byte belongs to the text in front
+-- a part after a byte joins the text before it
 pub joined : (byte : ℕ) (front more rest : List ℕ) → front ++ byte ∷ (more ++ rest) ≡ (front ++ byte ∷ more) ++ rest
 joined byte front more rest = sym (append_assoc front (byte ∷ more) rest)
 
@@ -87,13 +87,13 @@ pub before_cut : (front rest : List ℕ) (byte : ℕ) → take (length front) (f
 before_cut [] rest byte = refl
 before_cut (b ∷ front) rest byte = ap (λ (l : List ℕ). b ∷ l) (before_cut front rest byte)
 
--- a text is what stands before an index, the byte there, and what stands behind it
+-- a text is the part before an index, the byte there, and the part after it
 pub cut_here : (text : List ℕ) (k : ℕ) → k < length text → text ≡ take k text ++ get_or text k 0 ∷ drop (suc k) text
 cut_here [] k lt = absurd (omega (arith, lt))
 cut_here (b ∷ text) zero lt = refl
 cut_here (b ∷ text) (suc k) lt = ap (λ (l : List ℕ). b ∷ l) (cut_here text k (omega (arith, lt)))
 
--- where digits end that a byte follows
+-- the digits before another byte end at that byte
 pub digits_end : (byte : ℕ) (word rest : List ℕ) (count : ℕ) → is_ascii_digit byte ≡ false → list_all is_ascii_digit word ≡ true
     → list_all is_ascii_digit (take count (word ++ byte ∷ rest)) ≡ true
     → (count < length (word ++ byte ∷ rest) → is_ascii_digit (get_or (word ++ byte ∷ rest) count 0) ≡ false) → count ≡ length word

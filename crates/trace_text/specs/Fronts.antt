@@ -1,4 +1,4 @@
--- What stands at the front of a text.
+-- What a text begins with.
 use Rattle.std.specs.Prelude.{◌≡◌, ℕ, ◌^◌, List, [], ◌∷◌, ◌++◌, length, map, codes, None, Some, Result, Ok}
 use Rattle.trace_text.specs.Grammar.{◌>>=◌, action_of, clipped, judged, line_with, number_of}
 use Rattle.trace_text.specs.declared.fault.TraceFault.{TraceFault}
@@ -8,38 +8,38 @@ use Rattle.trace_text.specs.declared.name.Name.TheVariants.{Root, Load, Get, Sto
 use Rattle.trace_text.specs.declared.numbers.Number.{Number}
 use Rattle.trace_text.specs.declared.numbers.Number.TheVariants.{Small, Large}
 
--- how large a number is; of all that 64 bits do not hold, the least stands for them
+-- the size of a number; 2 ^ 64 stands for all numbers that do not fit 64 bits
 abbrev pub size : Number → ℕ
 size (Small n) = n
 size Large = 2 ^ 64
 
--- n stands at the front of the text, then this byte, then the rest
+-- the text begins with n, then this byte, then the rest
 abbrev pub NumberBefore : ℕ → List ℕ → ℕ → List ℕ → Type 0
 NumberBefore byte text n rest = (word : List ℕ) × (text ≡ word ++ byte ∷ rest) × (number_of word ≡ Some n)
 
--- these numbers stand at the front of the text, blanks between them, then a line feed, then the rest
+-- the text begins with these numbers, with blanks between them, then a line feed, then the rest
 abbrev pub NumbersOfLine : List ℕ → List ℕ → List ℕ → Type 0
 NumbersOfLine text [] rest = ⊥
 NumbersOfLine text (n ∷ []) rest = NumberBefore 10 text n rest
 NumbersOfLine text (n ∷ next ∷ more) rest = (behind : List ℕ) × NumberBefore 32 text n behind × NumbersOfLine behind (next ∷ more) rest
 
--- such numbers, of which these are told apart
+-- the text begins with the numbers of a line, and these are the numbers clipped
 abbrev pub ReadsNumbers : List ℕ → List ℕ → List ℕ → Type 0
 ReadsNumbers text numbers rest = (ns : List ℕ) × (numbers ≡ map clipped ns) × NumbersOfLine text ns rest
 
--- no line of so many numbers stands there
+-- the text does not begin with a line of this count of numbers
 abbrev pub HasNone : ℕ → List ℕ → Type 0
 HasNone count text = (ns rest : List ℕ) → length ns ≡ count → NumbersOfLine text ns rest → ⊥
 
--- the line behind a name, judged: its numbers as they are told apart
+-- the text after a name begins with the numbers of a line, and this is the line, judged with its numbers clipped
 abbrev pub ReadsLine : ℕ → ℕ → ℕ → ℕ → List ℕ → List ℕ → Result Line TraceFault → List ℕ → Type 0
 ReadsLine mutators roots n mutator name text line rest = (ns : List ℕ) × (line ≡ judged mutators roots n (line_with mutator name (map clipped ns))) × NumbersOfLine text ns rest
 
--- whatever numbers stand there, the name has none such
+-- whatever numbers of a line the text begins with, the name has no action with them
 abbrev pub HasNoAction : List ℕ → List ℕ → Type 0
 HasNoAction name text = (ns rest : List ℕ) → NumbersOfLine text ns rest → action_of name ns ≡ None
 
--- a line, and those that are read behind it
+-- a line, and the lines that are read after it
 abbrev pub line_before : Line → Result (List Line) TraceFault → Result (List Line) TraceFault
 line_before line read = read >>= λ lines. Ok (line ∷ lines)
 

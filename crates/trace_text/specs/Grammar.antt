@@ -10,28 +10,28 @@ use Rattle.trace_text.specs.declared.line.Action.{Action}
 use Rattle.trace_text.specs.declared.line.Action.TheVariants.{Root, Load, Get, Store, Put, New, Nil}
 use Rattle.trace_text.specs.declared.line.Line.{Line}
 
--- the parts of a text: what stands before, between and behind the bytes that are this one
+-- the parts of a text, which is split at each byte that is this one
 abbrev pub parts : ℕ → List ℕ → List (List ℕ)
 parts byte text = slice_split (λ b. b == byte) text
 
--- digits, of which the first is not 0, or which are just one
+-- the word is all digits, and the first is not 0 or is the only one
 abbrev pub is_number : List ℕ → Bool
 is_number word = (nat_lt 48 (slice_index word 0) || length word == 1) && list_all is_ascii_digit word
 
--- the number that a word is, of any size
+-- the number that the word writes, of any size
 abbrev pub number_of : List ℕ → Option ℕ
 number_of word = if is_number word then Some (digits_value 10 word) else None
 
--- the numbers that the words are, if each is one
+-- the numbers that the words write, if each is a number
 abbrev pub numbers_of : List (List ℕ) → Option (List ℕ)
 numbers_of [] = Some []
 numbers_of (word ∷ words) = option_and_then (λ (n : ℕ). option_map (λ (ns : List ℕ). n ∷ ns) (numbers_of words)) (number_of word)
 
--- the greatest number that is told apart: larger ones are past every bound
+-- the number, or 2 ^ 64 if it is larger; numbers from 2 ^ 64 on are past every bound
 abbrev pub clipped : ℕ → ℕ
 clipped n = min n (2 ^ 64)
 
--- what a line does, by its name and the numbers behind the name
+-- what a line does, by its name and the numbers after the name
 abbrev pub action_of : List ℕ → List ℕ → Option Action
 action_of name (d ∷ []) = if bytes_eq name (codes "nil") then Some (Nil d) else None
 action_of name (a ∷ b ∷ []) =
@@ -47,11 +47,11 @@ action_of name (a ∷ b ∷ c ∷ d ∷ []) = if bytes_eq name (codes "new") the
 action_of name (a ∷ b ∷ c ∷ d ∷ e ∷ []) = if bytes_eq name (codes "wnew") then Some (New a b c d e) else None
 action_of name _ = None
 
--- the line of this mutator's number, name and numbers
+-- the line of this mutator, name and numbers
 abbrev pub line_with : ℕ → List ℕ → List ℕ → Option Line
 line_with mutator name numbers = option_map (λ (action : Action). record { mutator = mutator; action = action }) (action_of name numbers)
 
--- the line that the words are, its numbers of any size: the mutator's number, the name, and the name's numbers
+-- the line of these words, with numbers of any size: the mutator's number, the name, and the numbers of the name
 abbrev pub line_of : List (List ℕ) → Option Line
 line_of (mutator ∷ name ∷ words) =
     option_and_then (λ (m : ℕ). option_and_then (line_with m name) (numbers_of words)) (number_of mutator)
@@ -67,7 +67,7 @@ registers_of (Put object field value) = object ∷ []
 registers_of (New to refs weak data_words tag) = to ∷ []
 registers_of (Nil to) = to ∷ []
 
--- a number of the line is past its type
+-- a number of the line is too large for its type
 abbrev pub is_too_large : Action → Bool
 is_too_large (Root to root) = false
 is_too_large (Load weak to object field) = nat_le (2 ^ 16) field
@@ -87,13 +87,13 @@ roots_of (Put object field value) = []
 roots_of (New to refs weak data_words tag) = []
 roots_of (Nil to) = []
 
--- what follows from a result that is Ok, or the fault
+-- goes on with the value of an Ok, or keeps the fault
 infixl 10 ◌>>=◌
 abbrev pub ◌>>=◌ : {A B : Type 0} → Result A TraceFault → (A → Result B TraceFault) → Result B TraceFault
 (Ok x) >>= f = f x
 (Err fault) >>= f = Err fault
 
--- line n, or the first thing that is wrong with it
+-- line n, or its first fault
 abbrev pub judged : ℕ → ℕ → ℕ → Option Line → Result Line TraceFault
 judged mutators roots n None = Err (BadLine n)
 judged mutators roots n (Some line) =
@@ -103,7 +103,7 @@ judged mutators roots n (Some line) =
     else (if list_any (nat_le roots) (roots_of line.action) then Err (NoSuchRoot n)
     else Ok line)))
 
--- nothing is wrong with the line
+-- the line has no fault
 abbrev pub is_within : ℕ → ℕ → Line → Bool
 is_within mutators roots line = is_ok (judged mutators roots 0 (Some line))
 
@@ -119,7 +119,7 @@ read_from mutators roots n (text ∷ next ∷ more) =
 abbrev pub trace_of : ℕ → ℕ → List ℕ → Result (List Line) TraceFault
 trace_of mutators roots text = read_from mutators roots 1 (parts 10 text)
 
--- what was read is this, unless a growth was refused
+-- the answer is what was to be read, unless memory ran out
 abbrev pub IsReadAs : {A B : Type 0} → (A → B) → Result A TraceFault → Result B TraceFault → Type 0
 IsReadAs view (Ok x) read = read ≡ Ok (view x)
 IsReadAs view (Err fault) read = IsTold fault read

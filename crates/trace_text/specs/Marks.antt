@@ -5,25 +5,25 @@ use Rattle.trace_text.specs.Fronts.{NumberBefore}
 use Rattle.trace_text.specs.declared.marks.MarksFault.{MarksFault}
 use Rattle.trace_text.specs.declared.marks.MarksFault.TheVariants.{BadMarks, OutOfMemory}
 
--- a number of 32 bits
+-- the number, if it fits 32 bits
 abbrev pub short_number : ℕ → Option ℕ
 short_number n = if nat_le (2 ^ 32) n then None else Some n
 
--- the mark that a line is
+-- the mark of a line
 abbrev pub mark_of : List ℕ → Option ℕ
 mark_of line = option_and_then short_number (number_of line)
 
--- the mark stands at the front of the text, then a line feed, then the rest
+-- the text begins with the mark, then a line feed, then the rest
 abbrev pub MarkBefore : List ℕ → ℕ → List ℕ → Type 0
 MarkBefore text mark rest = (mark < 2 ^ 32) × NumberBefore 10 text mark rest
 
--- the mark of line n before what was read behind it, or the line's number where it is none
+-- the mark of line n and the marks that were read after it; or n, if the line is not a mark
 abbrev pub mark_before : ℕ → Option ℕ → Result (List ℕ) ℕ → Result (List ℕ) ℕ
 mark_before n None read = Err n
 mark_before n (Some mark) (Ok marks) = Ok (mark ∷ marks)
 mark_before n (Some mark) (Err line) = Err line
 
--- the marks from line n on, or the number of the first line that is none
+-- the marks from line n on, or the number of the first line that is not a mark
 abbrev pub marks_from : ℕ → List (List ℕ) → Result (List ℕ) ℕ
 marks_from n [] = Ok []
 marks_from n (last ∷ []) = if length last == 0 then Ok [] else Err n
@@ -33,7 +33,7 @@ marks_from n (line ∷ next ∷ more) = mark_before n (mark_of line) (marks_from
 abbrev pub marks_of : List ℕ → Result (List ℕ) ℕ
 marks_of text = marks_from 1 (parts 10 text)
 
--- why there are no marks: the first line that is none, or a growth was refused
+-- why there are no marks: the first line that is not a mark, or out of memory
 abbrev pub RefusesMarks : MarksFault → Result (List ℕ) ℕ → Type 0
 RefusesMarks (BadMarks n) read = read ≡ Err n
 RefusesMarks OutOfMemory read = Unit {0}

@@ -7,10 +7,10 @@ use Rattle.trace_text.specs.declared.trace.Trace.{Trace}
 abbrev pub lines_of : Trace → List Line
 lines_of trace = trace.lines.items
 
--- how many mutators it was parsed for
+-- the number of mutators that it was parsed for
 abbrev pub mutators_of : Trace → ℕ
 mutators_of trace = trace.mutators
 
--- how many roots it was parsed for
+-- the number of roots that it was parsed for
 abbrev pub roots_of : Trace → ℕ
 roots_of trace = trace.roots

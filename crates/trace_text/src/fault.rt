@@ -5,33 +5,33 @@ use call_refusals::Refusal;
 use std::alloc::{AllocError, AllocFailed};
 use thiserror::Error;
 
-/// Why a trace was not read, or not run. Lines are counted from 1.
+/// Why a trace was not read, or not run. Each fault but the last has the number of its line, counted from 1.
 #[derive(Clone, Copy, Debug, PartialEq, Eq, Error)]
 pub enum TraceFault {
-    /// The line has not the form of one.
+    /// The line does not have the form of a line.
     #[error("T1 BadLine({0})")]
     BadLine(u64),
-    /// There is no mutator of this number.
+    /// The line names a mutator that does not exist.
     #[error("T2 NoSuchMutator({0})")]
     NoSuchMutator(u64),
-    /// A register is not below 16.
+    /// The line names a register that is not below 16.
     #[error("T3 NoSuchRegister({0})")]
     NoSuchRegister(u64),
-    /// A field, a count, a tag or a value is past its type.
+    /// A field, a count, a tag or a value is too large for its type.
     #[error("T4 NumberTooLarge({0})")]
     NumberTooLarge(u64),
-    /// There is no root of this number.
+    /// The line names a root that does not exist.
     #[error("T5 NoSuchRoot({0})")]
     NoSuchRoot(u64),
-    /// The line's call was refused. The lines before it stand.
+    /// The call of the line was refused. The lines before it were run.
     #[error("T6 Refused({0}, {1})")]
     Refused(u64, Refusal),
-    /// A growth was refused.
+    /// Out of memory.
     #[error("T7 OutOfMemory")]
     OutOfMemory,
 }
 
-/// A line whose call was refused: its number, counted from 1, and why.
+/// A line whose call was refused: its number, counted from 1, and the refusal.
 #[derive(Clone, Copy, Debug, PartialEq, Eq)]
 pub struct Stop {
     pub line: u64,

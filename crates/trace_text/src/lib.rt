@@ -1,4 +1,4 @@
-//! Texts of traces and of marks, and how they are read.
+//! Reads the texts of traces and of marks.
 #![tactic(auto)]
 
 mod fault;

@@ -1,37 +1,39 @@
-/// What a line of a trace does. Registers are those of its mutator, 0 to 15; a root, a field and counts are numbers.
+/// What a line of a trace does. A register is one of the 16 of its mutator, numbered from 0.
 #[derive(Clone, Copy, Debug, PartialEq, Eq)]
 pub enum Action {
-    /// A register becomes a shared root.
+    /// Sets register `to` to a shared root.
     Root {
         to: u8,
         root: u16,
     },
-    /// A register becomes a reference field of the object in another, or, where `weak` holds, a weak one.
+    /// Sets register `to` to a reference field, or to a weak field if `weak`, of the object in register `object`.
     Load {
         weak: bool,
         to: u8,
         object: u8,
         field: u16,
     },
-    /// A data field of the object in a register is shown.
+    /// Shows a data field of the object in register `object`.
     Get {
         object: u8,
         field: u16,
     },
-    /// A reference field of the object in a register, or, where `weak` holds, a weak one, becomes what another holds.
+    /// Writes register `value` into a reference field, or into a weak field if `weak`, of the object in register
+    /// `object`.
     Store {
         weak: bool,
         object: u8,
         field: u16,
         value: u8,
     },
-    /// A data field of the object in a register becomes a value.
+    /// Writes `value` into a data field of the object in register `object`.
     Put {
         object: u8,
         field: u16,
         value: u64,
     },
-    /// A register becomes a fresh object, with so many references, weak words and data words, and a tag. A line `new` has no weak words.
+    /// Makes an object with these numbers of references, weak words and data words, and this tag, and sets register
+    /// `to` to it. A line `new` has no weak words.
     New {
         to: u8,
         refs: u16,
@@ -39,13 +41,13 @@ pub enum Action {
         data_words: u16,
         tag: u32,
     },
-    /// A register becomes null.
+    /// Sets register `to` to null.
     Nil {
         to: u8,
     },
 }
 
-/// A line of a trace: the number of its mutator, and what that does.
+/// A line of a trace: the number of its mutator, and what that mutator does.
 #[derive(Clone, Copy, Debug, PartialEq, Eq)]
 pub struct Line {
     pub mutator: u8,

@@ -1,4 +1,4 @@
-//! Texts of marks.
+//! Reads the texts of marks.
 ghost use Rattle.std.specs.Prelude.{◌≡◌, ℕ, List, Ok, IfErr, IfNone, IfOk, IfSome};
 ghost use Rattle.trace_text.specs.declared.marks.MarksFault.TheVariants as faults;
 ghost use Rattle.trace_text.specs.Marks.{marks_of, MarkBefore, RefusesMarks};
@@ -9,9 +9,9 @@ use std::alloc::{AllocFailed, Global};
 /// Why marks were not read.
 #[derive(Clone, Copy, Debug, PartialEq, Eq)]
 pub enum MarksFault {
-    /// The line of this number, counted from 1, is no mark.
+    /// The line of this number, counted from 1, is not a mark.
     BadMarks(u64),
-    /// A growth was refused.
+    /// Out of memory.
     OutOfMemory,
 }
 
@@ -23,7 +23,8 @@ impl<T: Drop> From<AllocFailed<T>> for MarksFault {
     }
 }
 
-/// Reads the text of marks: an index a line, each line ended by a line feed. Err is the number of the first line that is no mark, counted from 1; or a growth was refused.
+/// Reads the text of marks: one index of 32 bits on each line, and each line ended by a line feed. If a line is not a
+/// mark, the first of them is reported (`BadMarks`).
 pub fn read_marks(alloc: Global, text: &[u8]) -> Result<Vec<u32>, MarksFault>
     ensures marks { IfOk result (λ marks. marks_of text.now ≡ Ok marks.items) }
     ensures cause { IfErr result (λ fault. RefusesMarks fault (marks_of text.now)) }
@@ -42,7 +43,8 @@ pub fn read_marks(alloc: Global, text: &[u8]) -> Result<Vec<u32>, MarksFault>
     Ok(marks)
 }
 
-/// The mark at the front of a text, a number of 32 bits, where a line feed follows it, and what stands behind the line feed.
+// Reads the mark at the front of a text, a number of 32 bits before a line feed. Answers it and the text after the
+// line feed.
 fn read_mark(text: &[u8]) -> Option<(u32, &[u8])>
     ensures some { IfSome result (λ read. MarkBefore text.now read.0 read.1.now) }
     ensures none { IfNone result ((mark : ℕ) (rest : List ℕ) → MarkBefore text.now mark rest → ⊥) }

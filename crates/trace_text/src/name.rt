@@ -1,8 +1,8 @@
-//! Names of lines.
+//! Reads the names of lines.
 ghost use Rattle.std.specs.Prelude.{◌≡◌, ◌∷◌, ◌++◌, List, ℕ, IfNone, IfSome};
 ghost use Rattle.trace_text.specs.Fronts.{written};
 
-/// What a line of a trace does, by its name.
+/// The name of a line, which says what the line does.
 #[derive(Clone, Copy)]
 pub(crate) enum Name {
     Root,
@@ -17,7 +17,7 @@ pub(crate) enum Name {
     WeakNew,
 }
 
-/// What stands behind this word and a blank, where the text begins with them.
+// The text after this word and a blank, if the text begins with them.
 fn behind<'a>(text: &'a [u8], word: &[u8]) -> Option<&'a [u8]>
     ensures some { IfSome result (λ rest. text.now ≡ word.now ++ 32 ∷ rest.now) }
     ensures none { IfNone result ((rest : List ℕ) → text.now ≡ word.now ++ 32 ∷ rest → ⊥) }
@@ -34,7 +34,7 @@ fn behind<'a>(text: &'a [u8], word: &[u8]) -> Option<&'a [u8]>
     Some(&rest[1..])
 }
 
-/// The name at the front of a text, where a blank follows it, and what stands behind the blank.
+/// Reads the name at the front of a text, before a blank. Answers it and the text after the blank.
 pub(crate) fn read_name(text: &[u8]) -> Option<(Name, &[u8])>
     ensures some { IfSome result (λ read. text.now ≡ written read.0 ++ 32 ∷ read.1.now) }
     ensures none { IfNone result ((name : Name) (rest : List ℕ) → text.now ≡ written name ++ 32 ∷ rest → ⊥) }

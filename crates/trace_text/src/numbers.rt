@@ -1,4 +1,4 @@
-//! Numbers in a text.
+//! Reads the numbers in a text.
 ghost use Rattle.std.specs.Prelude.{◌≡◌, ◌<◌, ◌≤◌, ℕ, List, [], ◌∷◌, true, false, None, Some, length, slice_index, take, option_map, IfNone, IfSome, if◌then◌else◌, nat_le};
 ghost use Rattle.std.specs.List.{list_all};
 ghost use Rattle.std.specs.Char.{is_ascii_digit};
@@ -7,14 +7,14 @@ ghost use Rattle.trace_text.specs.Grammar as grammar;
 ghost use Rattle.trace_text.specs.Grammar.{clipped, number_of};
 ghost use Rattle.trace_text.specs.Fronts.{size, HasNone, NumberBefore, ReadsNumbers};
 
-/// A number of a text. All that are larger than 64 bits hold are alike: they are past every bound.
+/// A number of a text. All numbers that do not fit 64 bits are `Large`: they are above every bound.
 #[derive(Clone, Copy)]
 pub(crate) enum Number {
     Small(u64),
     Large,
 }
 
-/// The number, where it is below a bound.
+/// The number, if it is below a bound.
 pub(crate) fn below(number: Number, bound: u64) -> Option<u64>
     ensures { result ≡ (if nat_le bound (size number) then None else Some (size number)) }
 {
@@ -24,17 +24,17 @@ pub(crate) fn below(number: Number, bound: u64) -> Option<u64>
     }
 }
 
-/// How many digits 64 bits hold, whichever they are.
+// Every number of this many digits fits 64 bits.
 const DIGITS: usize = 19;
 
-/// The digits at the front of a text: how many there are, and the value of the first 19.
+// The digits at the front of a text: how many there are, and the value of the first 19.
 #[derive(Clone, Copy)]
 struct Digits {
     count: usize,
     value: u64,
 }
 
-/// All digits at the front of a text.
+// Reads all digits at the front of a text.
 fn front_digits(text: &[u8]) -> Digits
     ensures within { result.count ≤ length text.now }
     ensures are { list_all is_ascii_digit (take result.count text.now) ≡ true }
@@ -55,7 +55,7 @@ fn front_digits(text: &[u8]) -> Digits
     Digits { count, value }
 }
 
-/// Whether digits are a number: the first is not 0, or it is the only one.
+// Whether digits are a number: the first digit is not 0, or it is the only one.
 fn is_number(digits: &[u8]) -> bool
     requires { list_all is_ascii_digit digits.now ≡ true }
     ensures { result ≡ grammar.is_number digits.now }
@@ -66,7 +66,7 @@ fn is_number(digits: &[u8]) -> bool
     *first > b'0' || digits.len() == 1
 }
 
-/// The number that many digits are.
+// The number that these digits write, however many there are.
 fn long_number(digits: &[u8]) -> Number
     requires { grammar.is_number digits.now ≡ true }
     ensures { Some (size result) ≡ option_map clipped (number_of digits.now) }
@@ -80,7 +80,7 @@ fn long_number(digits: &[u8]) -> Number
     }
 }
 
-/// The number that digits are, if they are one. Of few digits the value is known.
+// The number that these digits write, if they are a number. `value` is its value if there are at most 19 digits.
 fn number_in(digits: &[u8], value: u64) -> Option<Number>
     requires are { list_all is_ascii_digit digits.now ≡ true }
     requires value { length digits.now ≤ 19 → value ≡ digits_value 10 digits.now }
@@ -95,7 +95,7 @@ fn number_in(digits: &[u8], value: u64) -> Option<Number>
     Some(long_number(digits))
 }
 
-/// The number at the front of a text, where this byte follows it, and what stands behind the byte.
+/// Reads the number at the front of a text, before this byte. Answers it and the text after the byte.
 pub(crate) fn number_before(text: &[u8], byte: u8) -> Option<(Number, &[u8])>
     requires { is_ascii_digit byte ≡ false }
     ensures some { IfSome result (λ read. (n : ℕ) × (size read.0 ≡ clipped n) × NumberBefore byte text.now n read.1.now) }
@@ -114,7 +114,7 @@ pub(crate) fn number_before(text: &[u8], byte: u8) -> Option<(Number, &[u8])>
     Some((number, &text[count + 1..]))
 }
 
-/// The one number of a line, and what stands behind the line.
+/// Reads the one number of a line. Answers it and the text after the line.
 pub(crate) fn one_number(text: &[u8]) -> Option<(Number, &[u8])>
     ensures some { IfSome result (λ read. ReadsNumbers text.now (size read.0 ∷ []) read.1.now) }
     ensures none { IfNone result (HasNone 1 text.now) }
@@ -125,7 +125,7 @@ pub(crate) fn one_number(text: &[u8]) -> Option<(Number, &[u8])>
     Some((number, rest))
 }
 
-/// The two numbers of a line, a blank between them, and what stands behind the line.
+/// Reads the two numbers of a line, with a blank between them. Answers them and the text after the line.
 pub(crate) fn two_numbers(text: &[u8]) -> Option<(Number, Number, &[u8])>
     ensures some { IfSome result (λ read. ReadsNumbers text.now (size read.0 ∷ size read.1 ∷ []) read.2.now) }
     ensures none { IfNone result (HasNone 2 text.now) }
@@ -139,7 +139,7 @@ pub(crate) fn two_numbers(text: &[u8]) -> Option<(Number, Number, &[u8])>
     Some((first, second, rest))
 }
 
-/// The same of three numbers.
+/// Like `two_numbers`, for three numbers.
 pub(crate) fn three_numbers(text: &[u8]) -> Option<(Number, Number, Number, &[u8])>
     ensures some { IfSome result (λ read. ReadsNumbers text.now (size read.0 ∷ size read.1 ∷ size read.2 ∷ []) read.3.now) }
     ensures none { IfNone result (HasNone 3 text.now) }
@@ -153,7 +153,7 @@ pub(crate) fn three_numbers(text: &[u8]) -> Option<(Number, Number, Number, &[u8
     Some((first, second, third, rest))
 }
 
-/// The same of four numbers.
+/// Like `two_numbers`, for four numbers.
 pub(crate) fn four_numbers(text: &[u8]) -> Option<(Number, Number, Number, Number, &[u8])>
     ensures some { IfSome result (λ read. ReadsNumbers text.now (size read.0 ∷ size read.1 ∷ size read.2 ∷ size read.3 ∷ []) read.4.now) }
     ensures none { IfNone result (HasNone 4 text.now) }
@@ -167,7 +167,7 @@ pub(crate) fn four_numbers(text: &[u8]) -> Option<(Number, Number, Number, Numbe
     Some((first, second, third, fourth, rest))
 }
 
-/// The same of five numbers.
+/// Like `two_numbers`, for five numbers.
 pub(crate) fn five_numbers(text: &[u8]) -> Option<(Number, Number, Number, Number, Number, &[u8])>
     ensures some { IfSome result (λ read. ReadsNumbers text.now (size read.0 ∷ size read.1 ∷ size read.2 ∷ size read.3 ∷ size read.4 ∷ []) read.5.now) }
     ensures none { IfNone result (HasNone 5 text.now) }

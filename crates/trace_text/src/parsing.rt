@@ -1,4 +1,4 @@
-//! Texts of traces.
+//! Reads the texts of traces.
 ghost use Rattle.std.specs.Prelude.{◌≡◌, IfOk, IsTrue};
 ghost use Rattle.std.specs.List.{list_all};
 ghost use Rattle.trace_text.specs.Grammar.{is_within, trace_of, IsReadAs};
@@ -11,7 +11,7 @@ use crate::trace::Trace;
 use std::alloc::Global;
 
 impl Trace {
-    /// The lines, in order: the first is line 1. They name only mutators and roots that the trace was parsed for.
+    /// The lines, in order; the first is line 1. They name only mutators and roots that the trace was parsed for.
     pub fn lines(&self) -> &[Line]
         ensures lines { result.now ≡ lines_of self.now }
         ensures within { IsTrue (list_all (is_within (mutators_of self.now) (roots_of self.now)) (lines_of self.now)) }
@@ -20,9 +20,9 @@ impl Trace {
     }
 }
 
-/// Reads the text of a trace: its lines, or the first thing that is wrong with it. There are `mutators` mutators and `roots` shared roots.
+/// Reads the text of a trace for `mutators` mutators and `roots` shared roots. Answers its lines, or the first fault.
 ///
-/// A fault names its line, counted from 1, but for `OutOfMemory`: that a growth was refused.
+/// A fault has the number of its line, counted from 1; only `OutOfMemory` has none.
 pub fn parse(alloc: Global, text: &[u8], mutators: u8, roots: u16) -> Result<Trace, TraceFault>
     ensures lines { IsReadAs lines_of result (trace_of mutators roots text.now) }
     ensures bounds { IfOk result (λ trace. (mutators_of trace ≡ mutators) × (roots_of trace ≡ roots)) }

@@ -1,4 +1,4 @@
-//! Lines of a trace.
+//! Reads the lines of a trace.
 ghost use Rattle.std.specs.Prelude.{◌≡◌, ◌+◌, ◌<◌, Some, Ok, Err, length, nat_le, if◌then◌else◌, IfErr, IfNone, IfOk, IfSome, IsTrue};
 ghost use Rattle.trace_text.specs.declared.fault.TraceFault.TheVariants as faults;
 ghost use Rattle.trace_text.specs.declared.line.Action.TheVariants as actions;
@@ -13,7 +13,7 @@ use crate::numbers::{
     two_numbers,
 };
 
-/// How many registers a mutator has.
+// The number of registers of a mutator.
 const REGISTERS: u64 = 16;
 
 fn register(number: Number, n: u64) -> Result<u8, TraceFault>
@@ -70,7 +70,7 @@ fn mutator_number(number: Number, mutators: u8, n: u64) -> Result<u8, TraceFault
     }
 }
 
-/// What the numbers of a line are held against, and which line it is.
+// The bounds for the numbers of a line, and the number `n` of the line.
 #[derive(Clone, Copy)]
 struct Limits {
     mutators: u8,
@@ -190,7 +190,8 @@ fn nil_line(mutator: Number, to: Number, by: Limits) -> Result<Line, TraceFault>
     Ok(Line { mutator, action })
 }
 
-/// The line of a name and the numbers behind it, or the first thing that is wrong with it, and what stands behind the line; None where there is none.
+// Reads the numbers after a name. Answers the line or its first fault, and the text after the line; or `None` if the
+// name has no line with the numbers there.
 fn numbered_line(
     mutator: Number,
     name: Name,
@@ -267,7 +268,7 @@ fn numbered_line(
     }
 }
 
-/// The line at the front of a text, and what stands behind it; or the first thing that is wrong with it.
+/// Reads the line at the front of a text. Answers it and the text after it, or the first fault of the line.
 pub(crate) fn read_line(
     text: &[u8],
     mutators: u8,

@@ -4,7 +4,8 @@ ghost use Rattle.trace_text.specs.Grammar.{is_within};
 
 use crate::line::Line;
 
-/// What the text of a trace says, line by line. It was parsed for some mutators and some shared roots; its lines name no others.
+/// A trace: what its text says, line by line. It was parsed for a number of mutators and a number of shared roots, and
+/// its lines name no others.
 #[derive(Debug, Drop)]
 pub struct Trace {
     pub(crate) lines: Vec<Line>,

@@ -1,4 +1,4 @@
-//! The numbers and the fixed bytes of a dump.
+//! Reads the numbers and the fixed bytes of a dump.
 ghost use Rattle.std.specs.Prelude.{◌≡◌, ℕ, ◌-◌, ◌^◌, ◌<◌, ◌≤◌, IfOk, IfErr, IfSome, OnOk, length, slice_index};
 ghost use Rattle.std.specs.Io.KnownBytes.{Consumes, IsAtEnd};
 ghost use Rattle.byteorder.specs.Endian.{little_bytes};
@@ -33,7 +33,7 @@ pub(crate) fn read_part<R: Read>(r: &mut Counted<R>, buf: &mut [u8]) -> Result<(
     }
 }
 
-/// A number of one byte, up to `high`.
+/// Reads a number of one byte, at most `high`.
 pub(crate) fn read_one<R: Read>(r: &mut Counted<R>, high: u8) -> Result<u8, DumpFault>
     requires { failures_of r.old < 2 ^ 64 - 1 }
     ensures read { IfOk result (λ n. Consumes (R.remaining (inner_of r.old)) (R.remaining (inner_of r.new)) (little_bytes 1 n)) }
@@ -50,7 +50,7 @@ pub(crate) fn read_one<R: Read>(r: &mut Counted<R>, high: u8) -> Result<u8, Dump
     Ok(n)
 }
 
-/// A number of 4 bytes, in a range.
+/// Reads a number of 4 bytes, from `low` to `high`.
 pub(crate) fn read_four<R: Read>(r: &mut Counted<R>, low: u32, high: u32) -> Result<u32, DumpFault>
     requires { failures_of r.old < 2 ^ 64 - 1 }
     ensures read { IfOk result (λ n. Consumes (R.remaining (inner_of r.old)) (R.remaining (inner_of r.new)) (little_bytes 4 n)) }
@@ -67,7 +67,7 @@ pub(crate) fn read_four<R: Read>(r: &mut Counted<R>, low: u32, high: u32) -> Res
     Ok(n)
 }
 
-/// Any number of 8 bytes.
+/// Reads any number of 8 bytes.
 pub(crate) fn read_eight<R: Read>(r: &mut Counted<R>) -> Result<u64, DumpFault>
     requires { failures_of r.old < 2 ^ 64 - 1 }
     ensures read { IfOk result (λ n. Consumes (R.remaining (inner_of r.old)) (R.remaining (inner_of r.new)) (little_bytes 8 n)) }
@@ -79,7 +79,7 @@ pub(crate) fn read_eight<R: Read>(r: &mut Counted<R>) -> Result<u64, DumpFault>
     Ok(LittleEndian::read_u64(&bytes))
 }
 
-/// These very bytes, at most 8.
+/// Reads exactly these bytes, at most 8.
 pub(crate) fn expect<R: Read>(r: &mut Counted<R>, wanted: &[u8]) -> Result<(), DumpFault>
     requires room { failures_of r.old < 2 ^ 64 - 1 }
     requires few { length wanted.now ≤ 8 }
@@ -96,7 +96,7 @@ pub(crate) fn expect<R: Read>(r: &mut Counted<R>, wanted: &[u8]) -> Result<(), D
     Ok(())
 }
 
-/// The version, and the edition that it tells.
+/// Reads the version, and answers its edition.
 pub(crate) fn read_edition<R: Read>(r: &mut Counted<R>) -> Result<Edition, DumpFault>
     requires { failures_of r.old < 2 ^ 64 - 1 }
     ensures read { IfOk result (λ edition. Consumes (R.remaining (inner_of r.old)) (R.remaining (inner_of r.new)) (four_bytes (version_of edition))) }
@@ -111,7 +111,7 @@ pub(crate) fn read_edition<R: Read>(r: &mut Counted<R>) -> Result<Edition, DumpF
     }
 }
 
-/// The reader has no byte left.
+/// Refuses if the reader has a byte left.
 pub(crate) fn expect_end<R: Read>(r: &mut Counted<R>) -> Result<(), DumpFault>
     requires { failures_of r.old < 2 ^ 64 - 1 }
     ensures end { OnOk result (IsAtEnd (R.remaining (inner_of r.old))) }

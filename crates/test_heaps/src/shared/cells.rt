@@ -1,4 +1,4 @@
-//! Cells of pages with two passes, which work at once or by turns.
+//! The cells of pages with two passes that work at once or by turns.
 ghost use Rattle.std.specs.Prelude.{All};
 ghost use Rattle.cell_steps.specs.Passes.{Rests};
 ghost use Rattle.page_cells.specs.Cells.{IsPassOf};
@@ -15,12 +15,12 @@ use std::test::Fail;
 use std::thread::Threads;
 use test_support::{Meeting, Refusing, planned, three, zeros_heap};
 
-// What two passes do at once: the rows of the first, and those of the second.
+// What two passes do at once: the rows of the first and of the second.
 type Round = (&'static [Row], &'static [Row]);
 
-// What two passes do, round by round, and how many pages both have built then.
+// What two passes do, round by round, and how many pages both have built at the end.
 struct Case {
-    // What a failing test tells.
+    // The name that a failing test prints.
     name: &'static str,
     rounds: &'static [Round],
     builds: usize,
@@ -41,7 +41,7 @@ pub(crate) fn opened<B: Builder>(
     opened
 }
 
-// How many pages the passes have built.
+// The number of pages that the passes have built.
 fn builds_of(passes: &[Pass]) -> usize {
     let mut builds: usize = 0;
     for pass in passes {
@@ -50,7 +50,7 @@ fn builds_of(passes: &[Pass]) -> usize {
     builds
 }
 
-// The rounds of a case, one after another.
+// Plays the rounds of a case, one after another.
 fn play_rounds<B: Builder, R: Abort + Threads + Sync>(
     rt: &R,
     alloc: Global,
@@ -76,7 +76,7 @@ fn play_rounds<B: Builder, R: Abort + Threads + Sync>(
     expect_so(rt, end, builds_of(passes) == case.builds);
 }
 
-// A case, with this builder.
+// Plays a case with this builder.
 fn play_case<B: Builder, R: Abort + Threads + Sync>(
     rt: &R,
     alloc: Global,
@@ -87,7 +87,7 @@ fn play_case<B: Builder, R: Abort + Threads + Sync>(
     play_rounds(rt, alloc, &cells, &mut passes, case);
 }
 
-// What was made.
+// The value, which must be there.
 fn made<T>(rt: &impl Abort, found: Result<T, Fail>) -> T {
     match found {
         Ok(value) => value,
@@ -114,14 +114,14 @@ fn planned_four_pages(rt: &(impl Abort + Threads + Sync), alloc: Global) -> Plan
     plan_of(rt, alloc, zeros_heap(alloc, 255))
 }
 
-// The first pass writes; then the other one reads.
+// The first pass writes, then the other one reads.
 const WRITTEN: Case = Case {
     name: "reads a write of another pass",
     rounds: &[(&[Row::WriteSeven], &[]), (&[], &[Row::FindSeven])],
     builds: 1,
 };
 
-// Two passes that build one page at once.
+// Two passes build one page at once.
 const RACE: Case = Case {
     name: "builds a page once",
     rounds: &[(&[Row::Race], &[Row::Race])],
@@ -143,7 +143,7 @@ const REFUSED: Case = Case {
     builds: 1,
 };
 
-// Two pages, whose builds wait for one another.
+// The builds of two pages wait for one another.
 const TWO_PAGES: Case = Case {
     name: "builds two pages at once",
     rounds: &[

@@ -1,26 +1,27 @@
-//! The cases, and the refusals as they are printed.
+//! The cases of sweeps, and the printed refusals.
 use crate::sweeping::expected::expect;
 use crate::sweeping::played::play_case;
 use comp_sweep::SweepFault;
 
-/// What goes on beside the sweep of a case.
+/// What happens beside the sweep of a case.
 #[derive(Clone, Copy)]
 pub enum Beside {
     /// Nothing.
     Nothing,
-    /// The gate counts how often each region is begun and ended.
+    /// The gate counts how often each region begins and ends.
     Counts,
-    /// The gate lets each of the regions 0 and 1 begin only when the other one has begun.
+    /// The gate lets each of the regions 0 and 1 begin only after the other one has begun.
     Holds,
-    /// The gate lets region 0 begin only when the regions 1 and 2 have ended.
+    /// The gate lets region 0 begin only after the regions 1 and 2 have ended.
     Steals,
-    /// The last mutator is no worker, and reads the last data word of the second object in a thread of its own: this one.
+    /// The last mutator does not sweep. In a thread of its own it reads the last data word of the second object, which
+    /// is this.
     Reader(u64),
-    /// A sweep before it asks for more memory than there is for page 9.
+    /// An earlier sweep asks for more memory than there is for page 9.
     Refusal,
 }
 
-/// An object without references, with so many data words.
+/// An object without references, with this many data words.
 #[derive(Clone, Copy)]
 pub enum Object {
     /// Its data words are 0.
@@ -29,19 +30,19 @@ pub enum Object {
     Counting(u16),
 }
 
-/// A sweep of a heap of equal objects, which is swept by no worker then, and finished.
+/// A sweep of a heap of equal objects. Afterwards the heap is swept again without workers, and finished.
 pub struct Case {
-    /// What a failing test tells.
+    /// The name that a failing test prints.
     pub name: &'static str,
-    /// Each of its objects.
+    /// Each of the objects.
     pub object: Object,
-    /// Where they begin. All are marked.
+    /// The starts of the objects. All are marked.
     pub marks: &'static [u32],
     pub mutators: u32,
     pub beside: Beside,
-    /// The mutators that sweep.
+    /// The number of mutators that sweep.
     pub workers: usize,
-    /// The regions, which may be cut among them in any way.
+    /// The number of regions. Any worker may sweep any of them.
     pub regions: u64,
     pub pages: u64,
     pub live_words: u64,

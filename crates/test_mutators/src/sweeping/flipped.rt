@@ -1,4 +1,4 @@
-//! Flipped heaps, and their mutators taken apart.
+//! Flipped heaps and their mutators.
 ghost use Rattle.std.specs.Prelude.{◌≡◌};
 ghost use Rattle.comp_mutator.specs.Mutators.{setup_of, AreMutatorsOf, IsMutatorOf};
 
@@ -13,7 +13,7 @@ use std::sync::ledger::{Blank, Ledger as Named};
 use std::thread::Threads;
 use test_support::{counting_object, judged, zeros_object};
 
-// As many equal objects, one behind the other.
+// The words of equal objects, one after another.
 fn equal_objects(rt: &impl Abort, alloc: Global, object: Object, objects: usize) -> Vec<u64> {
     let words = match object {
         Object::Zeros(data_words) => zeros_object(alloc, data_words),
@@ -35,7 +35,7 @@ pub fn plan_of(rt: &(impl Abort + Threads + Sync), alloc: Global, case: &Case) -
     Plan::new(alloc, rt, judged.expect(rt, "a heap")).expect(rt, "a plan")
 }
 
-/// A flipped heap and its mutators. There is no fresh page.
+/// A flipped heap and its mutators. There are no fresh pages.
 pub fn flipped<L: Named, B: Builder>(
     rt: &impl Abort,
     alloc: Global,
@@ -67,7 +67,7 @@ pub fn without_last<L: Named, B: Builder>(
     (mutators, last)
 }
 
-/// The finished heap, where no mutator is missing.
+/// The finished heap. No mutator may be missing.
 pub fn finish<L: Named, B: Builder>(
     rt: &impl Abort,
     alloc: Global,

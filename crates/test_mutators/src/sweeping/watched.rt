@@ -1,4 +1,4 @@
-//! A gate that is told of regions.
+//! A gate that counts or holds regions.
 use crate::sweeping::cases::Beside;
 use crate::sweeping::expected::expect;
 use comp_sweep::Gate;
@@ -6,7 +6,7 @@ use std::process::Abort;
 use std::sync::atomic::{AtomicU64, Ordering};
 use test_support::{both, met};
 
-/// The gate of a case. One that counts is told of three regions. One that holds counts the regions for which that was in vain.
+/// The gate of a case. It counts the begun and ended regions, or the regions that it held in vain.
 #[derive(Drop)]
 pub struct Watch {
     beside: Beside,
@@ -16,7 +16,7 @@ pub struct Watch {
 }
 
 impl Watch {
-    /// Nothing was told yet.
+    /// A gate that has counted nothing.
     pub fn new(beside: Beside) -> Watch {
         Watch {
             beside,
@@ -45,7 +45,7 @@ impl Watch {
         }
     }
 
-    /// No region was held in vain. Where regions are counted, each was begun and ended once.
+    /// Checks that no region was held in vain. If regions are counted, each must have begun and ended once.
     pub fn expect_told(&self, rt: &impl Abort, case: &'static str) {
         let missed = self.missed.load(Ordering::SeqCst);
         expect(rt, case, "no region held in vain", missed == 0);
@@ -56,14 +56,14 @@ impl Watch {
     }
 }
 
-// Counts one call for this region.
+// Counts a call for this region.
 fn count(calls: &[AtomicU64], region: u64) {
     if let Some(calls) = calls.get(region as usize) {
         calls.fetch_add(1, Ordering::SeqCst);
     }
 }
 
-// Each region was told once.
+// Checks that each region was counted once.
 fn expect_once(rt: &impl Abort, case: &'static str, calls: &[AtomicU64]) {
     for calls in calls {
         let once = calls.load(Ordering::SeqCst) == 1;

@@ -7,7 +7,7 @@ use Rattle.audit_checks.specs.Noted.{Notes}
 use Rattle.audit_checks.proofs.Noting.{notes_entry}
 use Rattle.audit_checks.proofs.starts.note_page.Goals as goal
 
--- an entry that stands for none
+-- a default entry
 abbrev no_entry : Entry
 no_entry = record { stamp = 0; writer = 0; kind = Header; offset = 0; value = 0 }
 

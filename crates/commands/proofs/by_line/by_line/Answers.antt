@@ -9,7 +9,7 @@ use Rattle.commands.proofs.Walking.{left_all, left_of, listed, none_there, shown
 use Rattle.commands.proofs.by_line.by_line.Goals as goal
 use Rattle.commands.proofs.by_line.by_line.Goals.{in-Some, in_default}
 
--- a line that stands for none
+-- a default line
 abbrev no_line : Line
 no_line = record { mutator = 0; action = Root 0 0 }
 

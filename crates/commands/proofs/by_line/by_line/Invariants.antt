@@ -2,7 +2,7 @@ use Rattle.std.proofs.Common.{◌≡◌, ◌+◌, ◌≤◌, ◌++◌, drop, len
 use Rattle.commands.proofs.Walking.{left_of, shown_by, walked}
 use Rattle.commands.proofs.by_line.by_line.Given as goal
 
--- what was told so far, and what the walk tells from here on, is what it tells of all lines
+-- what was taken so far, and what the walk takes from here on, is what it takes of all lines
 abbrev pub invariant-loop-at : goal.invariant-loop-at
 invariant-loop-at l = record {
   walk : l.shown.items ++ walked (l.at + 1) (drop l.at l.lines) (left_of l.runs l.next) ≡ walked 1 l.lines (shown_by l.runs);

@@ -11,7 +11,7 @@ use Rattle.comp_access.proofs.Growing.{fresh_more}
 use Rattle.comp_access.proofs.KnownStarts.{knows_fresh}
 use Rattle.comp_access.proofs.finding.fresh_field.Goals as goal
 
--- the header that a word is in the heap's edition
+-- a header read by an edition that equals the heap's is the header by the heap's edition
 header_read : {told edition : Edition} {word : ℕ} {header : Head} → told ≡ edition → header ≡ header_of told word → header ≡ header_of edition word
 header_read {word = word} edition header = header ∙ ap (λ (e : Edition). header_of e word) edition
 

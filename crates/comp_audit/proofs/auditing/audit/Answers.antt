@@ -11,7 +11,7 @@ use Rattle.audit_checks.specs.declared.fault.Stop.{Stop}
 use Rattle.audit_checks.specs.declared.fault.Stop.TheVariants as stop
 use Rattle.comp_audit.proofs.auditing.audit.Goals as goal
 
--- what is wrong with a dump is wrong with its parts
+-- the faults of a dump are those of its parts
 parts_faults : (heap : Heap) (dump : Dumped) (edition : Edition) (fresh mutators : ℕ) (roots : List ℕ) (builds : List (List ℕ)) (pages : List (Option BuiltPage)) (total : ℕ)
     → edition ≡ dump.edition → fresh ≡ dump.fresh → mutators ≡ dump.mutators → roots ≡ dump.roots → builds ≡ dump.builds → pages ≡ dump.pages → total ≡ dump.total
     → faults_for (setup_for heap fresh mutators) edition roots builds pages total ≡ faults heap dump
@@ -24,7 +24,7 @@ parts_faults heap dump edition fresh mutators roots builds pages total e f m r b
     ∙ ap (λ (l : List (Option BuiltPage)). faults_for (setup_for heap dump.fresh dump.mutators) dump.edition dump.roots dump.builds l total) p
     ∙ ap (λ (n : ℕ). faults_for (setup_for heap dump.fresh dump.mutators) dump.edition dump.roots dump.builds dump.pages n) t
 
--- a fault that is told is the first
+-- the fault that is answered is the first
 told_first : (list all : List AuditFault) (result : Result (Unit {0}) Stop) (why : Stop) (fault : AuditFault) → result ≡ Err why → why ≡ stop.Fault fault → list ≡ all
     → Tells list result → IsFirst all fault
 told_first list all result why fault is was same told =

@@ -6,7 +6,7 @@ use Rattle.cell_steps.specs.Lawful.{kinds_by}
 use Rattle.comp_history.proofs.JournalKinds.{filled_front, kinds_more}
 use Rattle.comp_history.proofs.kinds.kinds_made.Goals as goal
 
--- an entry that stands for none
+-- a default entry
 abbrev no_entry : Entry
 no_entry = record { stamp = 0; writer = 0; kind = Header; offset = 0; value = 0 }
 

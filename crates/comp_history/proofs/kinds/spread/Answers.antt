@@ -7,7 +7,7 @@ use Rattle.heap_layout.specs.declared.kind.Kind.{Kind}
 use Rattle.heap_layout.specs.declared.kind.Kind.TheVariants.{Header}
 use Rattle.comp_history.proofs.kinds.spread.Goals as goal
 
--- none is told yet
+-- no kind is set at first
 none_told : (n o : ℕ) (none : Option Kind) → get_or (replicate n none) o none ≡ none
 none_told n o none =
     elim (cases_lt o n) [
@@ -15,7 +15,7 @@ none_told n o none =
       | inr ge ↦ get_or_past (replicate n none) o none (omega (arith, length-replicate n none, ge))
     ]
 
--- one kind more
+-- one more kind is set
 told_more : (kinds : List Kind) (all : List (Option Kind)) (i : ℕ) → i < length kinds → length kinds ≤ length all
     → ((o : ℕ) → o < i → get_or all o None ≡ slice_get kinds o) → (o : ℕ) → o < i + 1 → get_or (set all i (Some (get_or kinds i Header))) o None ≡ slice_get kinds o
 told_more kinds all i inside few told o lt =
@@ -27,12 +27,12 @@ told_more kinds all i inside few told o lt =
           (get_or-set_same all i (Some (get_or kinds i Header)) None (omega (arith, inside, few)) ∙ sym (slice_get-get_or kinds i Header inside))
     ]
 
--- behind those that are told there are none
+-- no kind is set after those that were
 rest_more : (all : List (Option Kind)) (i : ℕ) (kind : Option Kind) → ((o : ℕ) → i ≤ o → get_or all o None ≡ None)
     → (o : ℕ) → i + 1 ≤ o → get_or (set all i kind) o None ≡ None
 rest_more all i kind rest o le = get_or-set_other all i o kind None (λ e. omega (arith, le, e)) ∙ rest o (omega (arith, le))
 
--- so all are told
+-- all kinds are set at the end
 all_told : (kinds : List Kind) (all : List (Option Kind)) (i : ℕ) → length kinds ≤ i → ((o : ℕ) → o < i → get_or all o None ≡ slice_get kinds o)
     → ((o : ℕ) → i ≤ o → get_or all o None ≡ None) → (o : ℕ) → get_or all o None ≡ slice_get kinds o
 all_told kinds all i past told rest o =

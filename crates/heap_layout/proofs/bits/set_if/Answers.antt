@@ -5,7 +5,7 @@ use Rattle.heap_layout.proofs.MarkBits.{or_none}
 use Rattle.std.proofs.lemmas.Nat.Bits.{bit_at_or, bit_at-zero, bit_at_set_same, bit_at_set_other}
 use Rattle.heap_layout.proofs.bits.set_if.Goals as goal
 
--- the bit of a block is set if it is to be, and else as it was
+-- the bit of a block is set if `there` is true, otherwise it stays
 set-here : (block k n : ℕ) (there : Bool) → n ≡ from_bool there → k < 64 → (bit_at (bit_or block (n * 2 ^ k % 18446744073709551616)) k == 1) ≡ ((bit_at block k == 1) || there)
 set-here block k n true is lt = rw is (ap (λ (n : ℕ). n == 1) (bit_at_set_same w64 block k lt) ∙ sym (or_right (bit_at block k == 1) true refl))
 set-here block k n false is lt =

@@ -3,7 +3,7 @@ use Rattle.heap_layout.specs.Bits.{leads}
 use Rattle.heap_layout.specs.Faults.{field_faults_by}
 use Rattle.heap_layout.proofs.checks.check_fields.Given as goal
 
--- the marked objects that are left have the faults of all
+-- the remaining marked objects have the faults of all
 abbrev pub invariant-loop-mark : goal.invariant-loop-mark
 invariant-loop-mark l =
     field_faults_by l.kind l.edition (leads l.targets) l.words (drop l.mark-index l.marks) ≡ field_faults_by l.kind l.edition (leads l.targets) l.words l.marks

@@ -36,13 +36,13 @@ pub returns-in_err-read_part-2-clause-counts : goal.returns-in_err-read_part-2-c
 returns-in_err-read_part-2-clause-counts g c =
     failure_handed_on _ _ _ _ _ c.from_residual-in_err-read_part-2.ensures.1 c.in_ok-read_part.ensures.counts c.in_err-read_part-2.ensures.counts
 
--- the bytes of a version are those of its number
+-- four bytes are the bytes of the number that they encode
 version_bytes : (bytes : List ℕ) (n : ℕ) → length bytes ≡ 4 → ((i : ℕ) → get_or bytes i 0 < 2 ^ 8) → n ≡ little_number 4 bytes → bytes ≡ four_bytes n
 version_bytes bytes n long small read =
     let whole : take 4 bytes ≡ bytes = take_all 4 bytes (omega arith) in
     sym whole ∙ sym (four_bytes-read bytes 0 4 n small (omega arith) (omega arith) (read ∙ ap (little_number 4) (sym whole)))
 
--- bytes of another number than the versions are of none
+-- if no edition has the version n, the bytes of n are no version
 not_version : (bytes : List ℕ) (n : ℕ) → n ≡ little_number 4 bytes → ((edition : Edition) → version_of edition ≢ n) → (edition : Edition) → bytes ≢ version edition
 not_version bytes n read none One is = none One (sym (read ∙ ap (little_number 4) is))
 not_version bytes n read none Two is = none Two (sym (read ∙ ap (little_number 4) is))

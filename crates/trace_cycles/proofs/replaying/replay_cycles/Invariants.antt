@@ -8,7 +8,7 @@ use Rattle.trace_cycles.specs.CycleRuns.{last_heap, AreRuns}
 use Rattle.trace_cycles.specs.Stops.{marks_and_lines, values_of}
 use Rattle.trace_cycles.proofs.replaying.replay_cycles.Given as goal
 
--- the first cycle and as many further ones as the loop has come to were run
+-- the first cycle, and the further ones up to the loop's index, were run
 abbrev pub invariant-loop-c : goal.invariant-loop-c
 invariant-loop-c g l = record {
   cycles : List Cycle;

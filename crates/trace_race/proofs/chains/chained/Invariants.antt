@@ -1,7 +1,7 @@
 use Rattle.trace_race.proofs.ChainedLines.{ChainedFrom}
 use Rattle.trace_race.proofs.chains.chained.Given as goal
 
--- the lines from the place on are chained
+-- the lines from the index on are chained
 abbrev pub invariant-loop-place : goal.invariant-loop-place
 invariant-loop-place l = ChainedFrom l.lines l.place l.firsts l.counts l.nexts.items
 

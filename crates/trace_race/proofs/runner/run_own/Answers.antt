@@ -20,7 +20,7 @@ use Rattle.trace_race.proofs.runner.run_own.Goals as goal
 abbrev no_line : Line
 no_line = record { mutator = 0; action = Root 0 0 }
 
--- the line at a place, with its number
+-- the line at an index, with its number
 at_number : (lines : List Line) (k : ℕ) → k < length lines → get_elem? (numbered 1 lines) k ≡ some (k + 1, get_or lines k no_line)
 at_number lines k lt = let one : 1 + k ≡ k + 1 = omega arith in numbered_at 1 lines k no_line lt ∙ ap (λ (i : ℕ). some (i, get_or lines k no_line)) one
 

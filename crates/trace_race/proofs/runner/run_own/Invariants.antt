@@ -2,7 +2,7 @@ use Rattle.std.proofs.Common.{◌-◌, length}
 use Rattle.trace_race.proofs.Runners.{IsNextLine, Running}
 use Rattle.trace_race.proofs.runner.run_own.Given as goal
 
--- the lines before the place have run, and the one there is the mutator's next
+-- the lines before the index have run, and the line there is the mutator's next
 abbrev pub invariant-loop-place : goal.invariant-loop-place
 invariant-loop-place g l = record {
   next : IsNextLine l.lines l.place l.fn.runner;

@@ -6,12 +6,12 @@ use Rattle.std.proofs.lemmas.Nat.Bits.{bit_at-zero}
 use Rattle.heap_layout.specs.Bits.{bit, leads}
 use Rattle.heap_layout.proofs.targets.Targets.has.Goals as goal
 
--- behind the blocks no bit is set
+-- no bit is set after the blocks
 bit-past : (bits : List ℕ) (j : ℕ) → 64 * length bits ≤ j → bit bits j ≡ false
 bit-past bits j past =
     ap (λ (n : ℕ). bit_at n (j % 64) == 1) (get_or_past bits (j / 64) 0 (omega (arith, past))) ∙ ap (λ (n : ℕ). n == 1) (bit_at-zero (j % 64))
 
--- the bit of a word's index, which is far behind the blocks where the word is below from-space
+-- the bit of the index of a word; a word below from-space has an index far after the blocks
 has-told : (bits : List ℕ) (reference i : ℕ) (there : Bool) → length bits ≡ 16384 → reference < 2 ^ 64 → i ≡ (reference + (2 ^ 64 - 2 ^ 32)) % 2 ^ 64
     → there ≡ bit bits (i % 2 ^ 20) → ((reference == 0) || (ltb i (2 ^ 20) && there)) ≡ leads bits reference
 has-told bits reference i there long small is told = ap (λ (b : Bool). (reference == 0) || b) (

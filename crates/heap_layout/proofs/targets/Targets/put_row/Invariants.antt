@@ -3,7 +3,7 @@ use Rattle.heap_layout.specs.Faults.{IsReached}
 use Rattle.heap_layout.proofs.RowBits.{AreBelow}
 use Rattle.heap_layout.proofs.targets.Targets.put_row.Given as goal
 
--- one comes to the objects one by one, and the bits of those before are set
+-- the walk came to an object, and the bits of the objects before it are set
 abbrev pub invariant-loop-start : goal.invariant-loop-start
 invariant-loop-start l = record { reached : IsReached l.edition l.words l.start; below : AreBelow l.edition l.words l.self-inside.starts l.start }
 

@@ -5,7 +5,7 @@ use Rattle.cell_steps.specs.declared.pass.Pass.{Pass}
 use Rattle.page_cells.specs.Cells.{IsPassOf}
 use Rattle.test_heaps.proofs.shared.held.two.Goals as goal
 
--- the pass is one of these cells', and has no page
+-- the pass belongs to these cells and holds no page
 abbrev IsReady : (g : _) (c : goal.After-drop-passes g) → Pass → Type 0
 IsReady g c pass = IsPassOf c.opened-cells.result.0 pass × Rests pass
 
