@@ -10,8 +10,8 @@ use Rattle.comp_history.specs.Objects.{AreLawful}
 use Rattle.comp_dump.specs.Dumped.{BuiltPage}
 use Rattle.comp_dump.specs.declared.fault.AuditFault.{AuditFault}
 use Rattle.audit_checks.specs.Checks.{of_built, each_built, journal_of, journals_in, build_faults, journal_faults, word_faults}
-use Rattle.audit_checks.specs.Told.{page_faults}
-use Rattle.audit_checks.proofs.Telling.{none_both, item_none, none_items}
+use Rattle.audit_checks.specs.Reported.{page_faults}
+use Rattle.audit_checks.proofs.Reporting.{none_both, item_none, none_items}
 use Rattle.audit_checks.proofs.Meanings.{faultless_is_lawful}
 
 -- a page that was built has a place

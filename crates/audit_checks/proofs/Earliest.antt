@@ -11,9 +11,9 @@ use Rattle.comp_dump.specs.declared.fault.AuditFault.{AuditFault}
 use Rattle.comp_dump.specs.declared.fault.AuditFault.TheVariants.{BadEntry}
 use Rattle.audit_checks.specs.declared.late.Late.{Late}
 use Rattle.audit_checks.specs.Checks.{unless, above, all_stamps, journal_of, of_built, late_on, late_with, late_faults}
-use Rattle.audit_checks.specs.Told.{IsFirst}
+use Rattle.audit_checks.specs.Reported.{IsFirst}
 use Rattle.audit_checks.specs.Noted.{IsEarliest}
-use Rattle.audit_checks.proofs.Telling.{faults_more}
+use Rattle.audit_checks.proofs.Reporting.{faults_more}
 use Rattle.audit_checks.proofs.Ranges.{first_in_range, none_in_range}
 use Rattle.audit_checks.proofs.Built.{none_built, built_inside}
 use Rattle.audit_checks.proofs.Entries.{stamp_below}

@@ -8,7 +8,7 @@ use Rattle.comp_history.specs.Setup.{Setup}
 use Rattle.comp_dump.specs.declared.fault.AuditFault.{AuditFault}
 use Rattle.comp_dump.specs.declared.fault.AuditFault.TheVariants.{BadEntry}
 use Rattle.audit_checks.specs.Checks.{unless, entry_faults, fits}
-use Rattle.audit_checks.specs.Told.{IsFirst}
+use Rattle.audit_checks.specs.Reported.{IsFirst}
 
 both_true : (a b : Bool) (fault : AuditFault) → a ≡ true → b ≡ true → unless (a && b) fault ≡ []
 both_true a b fault p q = rw (p, q) refl

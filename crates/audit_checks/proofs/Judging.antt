@@ -6,9 +6,9 @@ use Rattle.comp_dump.specs.Dumped.{BuiltPage}
 use Rattle.comp_dump.specs.declared.fault.AuditFault.{AuditFault}
 use Rattle.audit_checks.specs.declared.fault.Stop.{Stop}
 use Rattle.audit_checks.specs.Checks.{all_entries, all_stamps, each_built, is_led, is_made_before, is_place, is_start, late_faults, missing_faults, reference_faults, repeat_faults}
-use Rattle.audit_checks.specs.Told.{history_faults, Tells}
+use Rattle.audit_checks.specs.Reported.{history_faults, Reports}
 use Rattle.audit_checks.specs.Noted.{is_noted_before, leads, Notes, Stamped}
-use Rattle.audit_checks.proofs.Telling.{tells_first, tells_then, none_both}
+use Rattle.audit_checks.proofs.Reporting.{reports_first, reports_then, none_both}
 
 module _ (u : Setup) (records : List (Option BuiltPage)) (starts : Stamped) (notes : Notes starts (all_entries records)) where
   abbrev loose : (ℕ → Bool) → List AuditFault
@@ -31,22 +31,22 @@ module _ (u : Setup) (records : List (Option BuiltPage)) (starts : Stamped) (not
   none_loose none = ap loose (sym leads_are) ∙ none
 
   -- the check of references ends early, or that of stamps does, or all are passed up to the last
-  pub references_end : (why : Stop) → Tells (loose (leads u.heap starts)) (Err why) → Tells (history_faults u records) (Err why)
-  references_end why told =
-      tells_first (loose (is_start u.heap (all_entries records))) _ why (subst (λ (f : ℕ → Bool). Tells (loose f) (Err why)) leads_are told)
+  pub references_end : (why : Stop) → Reports (loose (leads u.heap starts)) (Err why) → Reports (history_faults u records) (Err why)
+  references_end why reported =
+      reports_first (loose (is_start u.heap (all_entries records))) _ why (subst (λ (f : ℕ → Bool). Reports (loose f) (Err why)) leads_are reported)
 
-  pub stamps_end : (why : Stop) → loose (leads u.heap starts) ≡ [] → Tells stamp_faults (Err why) → Tells (history_faults u records) (Err why)
-  stamps_end why none told =
-      tells_then (loose (is_start u.heap (all_entries records))) _ (Err why) (none_loose none)
-      (subst (λ (l : List AuditFault). Tells l (Err why))
+  pub stamps_end : (why : Stop) → loose (leads u.heap starts) ≡ [] → Reports stamp_faults (Err why) → Reports (history_faults u records) (Err why)
+  stamps_end why none reported =
+      reports_then (loose (is_start u.heap (all_entries records))) _ (Err why) (none_loose none)
+      (subst (λ (l : List AuditFault). Reports l (Err why))
       (append_assoc (repeat_faults (all_stamps records)) (missing_faults (all_stamps records)) (late (is_made_before (all_entries records))))
-      (tells_first stamp_faults (late (is_made_before (all_entries records))) why told))
+      (reports_first stamp_faults (late (is_made_before (all_entries records))) why reported))
 
-  pub late_end : (result : Result (Unit {0}) Stop) → loose (leads u.heap starts) ≡ [] → stamp_faults ≡ [] → Tells (late (is_noted_before starts)) result
-      → Tells (history_faults u records) result
-  late_end result none stamps told =
+  pub late_end : (result : Result (Unit {0}) Stop) → loose (leads u.heap starts) ≡ [] → stamp_faults ≡ [] → Reports (late (is_noted_before starts)) result
+      → Reports (history_faults u records) result
+  late_end result none stamps reported =
       let both = none_both (repeat_faults (all_stamps records)) (missing_faults (all_stamps records)) stamps in
-      tells_then (loose (is_start u.heap (all_entries records))) _ result (none_loose none)
-      (tells_then (repeat_faults (all_stamps records)) _ result both.0
-      (tells_then (missing_faults (all_stamps records)) _ result both.1
-      (subst (λ (f : ℕ → ℕ → Bool). Tells (late f) result) before_are told)))
+      reports_then (loose (is_start u.heap (all_entries records))) _ result (none_loose none)
+      (reports_then (repeat_faults (all_stamps records)) _ result both.0
+      (reports_then (missing_faults (all_stamps records)) _ result both.1
+      (subst (λ (f : ℕ → ℕ → Bool). Reports (late f) result) before_are reported)))

@@ -1,4 +1,4 @@
-pub mod Telling
+pub mod Reporting
 pub mod Ranges
 pub mod Meanings
 pub mod EntryByEntry

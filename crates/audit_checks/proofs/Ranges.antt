@@ -10,8 +10,8 @@ use Rattle.comp_history.specs.Lists.{times, total, only}
 use Rattle.comp_dump.specs.declared.fault.AuditFault.{AuditFault}
 use Rattle.comp_dump.specs.declared.fault.AuditFault.TheVariants.{StampRepeated, StampMissing}
 use Rattle.audit_checks.specs.Checks.{unless, above, repeat_faults, missing_faults}
-use Rattle.audit_checks.specs.Told.{IsFirst}
-use Rattle.audit_checks.proofs.Telling.{first_part}
+use Rattle.audit_checks.specs.Reported.{IsFirst}
+use Rattle.audit_checks.proofs.Reporting.{first_part}
 
 -- the first number of a range that has a fault
 pub first_in_range : (f : ℕ → List AuditFault) (low n v : ℕ) (fault : AuditFault) → low ≤ v → v < low + n → ((s : ℕ) → low ≤ s → s < v → f s ≡ [])

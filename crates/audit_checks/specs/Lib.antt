@@ -1,4 +1,4 @@
 pub mod Checks
-pub mod Told
+pub mod Reported
 pub mod Noted
 pub mod Faultless

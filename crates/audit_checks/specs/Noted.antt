@@ -6,7 +6,7 @@ use Rattle.heap_layout.specs.Heap.{Heap}
 use Rattle.comp_journal.specs.declared.entry.Entry.{Entry}
 use Rattle.comp_history.specs.Setup.{Setup}
 use Rattle.audit_checks.specs.Checks.{setup_for, is_place, makes, is_made_before}
-use Rattle.audit_checks.specs.Told.{IsFirst}
+use Rattle.audit_checks.specs.Reported.{IsFirst}
 use Rattle.comp_dump.specs.declared.fault.AuditFault.{AuditFault}
 use Rattle.comp_dump.specs.declared.fault.AuditFault.TheVariants.{BadEntry}
 use Rattle.audit_checks.specs.declared.late.Late.{Late}

@@ -6,7 +6,7 @@ ghost use Rattle.comp_history.specs.Objects.{AreLawful};
 ghost use Rattle.comp_dump.specs.Dumped.{IsStoredList, IsStoredRecord};
 ghost use Rattle.audit_checks.specs.Checks.{journals_in};
 ghost use Rattle.audit_checks.specs.Noted.{setup_at};
-ghost use Rattle.audit_checks.specs.Told.{faults_for, history_faults, page_faults, Tells};
+ghost use Rattle.audit_checks.specs.Reported.{faults_for, history_faults, page_faults, Reports};
 
 use crate::claims::check_builds;
 use crate::fault::Stop;
@@ -36,7 +36,7 @@ pub fn check(
     requires few { length records.now ≤ 20480 }
     requires pages { All (IsStoredRecord setting.edition setting.mutators) records.now }
     requires builds { All (IsStoredList (length records.now)) (items_of builds.now) }
-    ensures { Tells (faults_for (setup_at setting.entry) setting.entry.edition roots.now (items_of builds.now) records.now total) result }
+    ensures { Reports (faults_for (setup_at setting.entry) setting.entry.edition roots.now (items_of builds.now) records.now total) result }
 {
     check_head(alloc, setting, roots, records)?;
     check_pages(alloc, setting, builds, records)?;
@@ -56,7 +56,7 @@ fn check_pages(
     requires places { length records.now ≡ pages (setup_at setting) }
     requires pages { All (IsStoredRecord setting.edition setting.mutators) records.now }
     requires builds { All (IsStoredList (length records.now)) (items_of builds.now) }
-    ensures { Tells (page_faults (setup_at setting.entry) (items_of builds.now) records.now) result }
+    ensures { Reports (page_faults (setup_at setting.entry) (items_of builds.now) records.now) result }
 {
     check_builds(alloc, builds, records)?;
     check_journals(alloc, setting, records)?;
@@ -73,7 +73,7 @@ fn check_history(
     requires places { length records.now ≡ pages (setup_at setting) }
     requires pages { All (IsStoredRecord setting.edition setting.mutators) records.now }
     requires lawful { AreLawful (setup_at setting) (journals_in records.now) }
-    ensures { Tells (history_faults (setup_at setting.entry) records.now) result }
+    ensures { Reports (history_faults (setup_at setting.entry) records.now) result }
 {
     let starts = starts_of(alloc, setting, records)?;
     check_references(alloc, setting, &starts, records)?;

@@ -5,7 +5,7 @@ ghost use Rattle.comp_history.specs.Ends.{lists as items_of};
 ghost use Rattle.comp_history.specs.Builds.{named};
 ghost use Rattle.audit_checks.specs.Checks.{build_faults, is_claimed};
 ghost use Rattle.comp_dump.specs.Dumped.{IsStoredList};
-ghost use Rattle.audit_checks.specs.Told.{Tells};
+ghost use Rattle.audit_checks.specs.Reported.{Reports};
 
 use crate::fault::Stop;
 use comp_dump::{AuditFault, DumpedPage};
@@ -19,7 +19,7 @@ pub fn check_builds(
 ) -> Result<(), Stop>
     requires few { length records.now ≤ 20480 }
     requires builds { All (IsStoredList (length records.now)) (items_of builds.now) }
-    ensures { Tells (build_faults (items_of builds.now) records.now) result }
+    ensures { Reports (build_faults (items_of builds.now) records.now) result }
 {
     let counts = count_builds(alloc, records.len(), builds)?;
     for (p, place) in records.iter().enumerate() {

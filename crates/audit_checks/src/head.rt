@@ -2,7 +2,7 @@
 ghost use Rattle.std.specs.Prelude.{◌≡◌, ◌≤◌, OnOk, length};
 ghost use Rattle.comp_history.specs.Setup.{pages};
 ghost use Rattle.audit_checks.specs.Checks.{head_faults, is_edition};
-ghost use Rattle.audit_checks.specs.Told.{Tells};
+ghost use Rattle.audit_checks.specs.Reported.{Reports};
 ghost use Rattle.audit_checks.specs.Noted.{setup_at};
 
 use crate::fault::Stop;
@@ -20,7 +20,7 @@ pub fn check_head(
     records: &[Option<DumpedPage<'_>>],
 ) -> Result<(), Stop>
     requires { length records.now ≤ 20480 }
-    ensures told { Tells (head_faults (setup_at setting.entry) setting.entry.edition roots.now records.now) result }
+    ensures reported { Reports (head_faults (setup_at setting.entry) setting.entry.edition roots.now records.now) result }
     ensures places { OnOk result (length records.now ≡ pages (setup_at setting.entry)) }
 {
     let plan = setting.plan;

@@ -7,7 +7,7 @@ ghost use Rattle.comp_history.specs.Setup.{fresh_page, pages, Setup};
 ghost use Rattle.comp_history.specs.Lawful.{kinds_by, kinds_in};
 ghost use Rattle.audit_checks.specs.Checks.{each_built, entry_faults, fits, journal_faults, setup_for};
 ghost use Rattle.comp_dump.specs.Dumped.{IsStoredEntry, IsStoredRecord};
-ghost use Rattle.audit_checks.specs.Told.{Tells};
+ghost use Rattle.audit_checks.specs.Reported.{Reports};
 ghost use Rattle.audit_checks.specs.Noted.{setup_at};
 
 use crate::fault::Stop;
@@ -29,7 +29,7 @@ pub fn check_journals(
     requires few { length records.now ≤ 20480 }
     requires places { length records.now ≡ pages (setup_at setting) }
     requires pages { All (IsStoredRecord setting.edition setting.mutators) records.now }
-    ensures { Tells (each_built (journal_faults (setup_at setting.entry)) records.now) result }
+    ensures { Reports (each_built (journal_faults (setup_at setting.entry)) records.now) result }
 {
     for (p, place) in records.iter().enumerate() {
         if let Some(page) = place {
@@ -44,7 +44,7 @@ fn check_journal(alloc: Global, setting: Setting<'_>, p: u64, journal: &[Entry])
     requires some { 0 < setting.mutators }
     requires inside { p < pages (setup_at setting) }
     requires stored { All (IsStoredEntry setting.edition setting.mutators) journal.now }
-    ensures { Tells (entry_faults (setup_at setting.entry) p 0 0 [] journal.now) result }
+    ensures { Reports (entry_faults (setup_at setting.entry) p 0 0 [] journal.now) result }
 {
     let compacted = setting.plan.pages();
     if p < compacted {
@@ -58,7 +58,7 @@ fn check_journal(alloc: Global, setting: Setting<'_>, p: u64, journal: &[Entry])
 fn check_compacted(setting: Setting<'_>, p: u64, journal: &[Entry]) -> Result<(), Stop>
     requires compacted { p < (setup_at setting).compacted }
     requires stored { All (IsStoredEntry setting.edition setting.mutators) journal.now }
-    ensures { Tells (entry_faults (setup_at setting.entry) p 0 0 [] journal.now) result }
+    ensures { Reports (entry_faults (setup_at setting.entry) p 0 0 [] journal.now) result }
 {
     if journal.is_empty() {
         return Ok(());
@@ -103,7 +103,7 @@ fn check_fresh(
     requires number { p ≡ fresh_page (setup_at setting) number }
     requires fresh { number < setting.fresh }
     requires stored { All (IsStoredEntry setting.edition setting.mutators) journal.now }
-    ensures { Tells (entry_faults (setup_at setting.entry) p 0 0 [] journal.now) result }
+    ensures { Reports (entry_faults (setup_at setting.entry) p 0 0 [] journal.now) result }
 {
     let edition = setting.plan.heap().edition();
     let mut kinds = Vec::with_capacity(alloc, 64)?;

@@ -1,7 +1,7 @@
 //! The eighth check: each reference and weak word that was written is null, or leads to an object that is older.
 ghost use Rattle.std.specs.Prelude.{◌≡◌, ℕ, List, ◌==◌, ◌<◌, ◌≤◌, ◌++◌, not, length, Some};
 ghost use Rattle.audit_checks.specs.Checks.{is_led, late_faults, late_on, late_with, unless};
-ghost use Rattle.audit_checks.specs.Told.{Tells};
+ghost use Rattle.audit_checks.specs.Reported.{Reports};
 ghost use Rattle.audit_checks.specs.Noted.{is_noted_before, IsEarliest};
 ghost use Rattle.comp_dump.specs.declared.fault.AuditFault.{AuditFault};
 ghost use Rattle.comp_dump.specs.declared.fault.AuditFault.TheVariants.{BadEntry};
@@ -28,7 +28,7 @@ pub fn check_late(
     starts: &Starts,
     records: &[Option<DumpedPage<'_>>],
 ) -> Result<(), Stop>
-    ensures { Tells (late_faults (is_led plan.now (is_noted_before starts.now)) records.now) result }
+    ensures { Reports (late_faults (is_led plan.now (is_noted_before starts.now)) records.now) result }
 {
     match earliest(plan, starts, records) {
         None => Ok(()),

@@ -4,7 +4,7 @@ ghost use Rattle.comp_journal.specs.Journal.{replayed};
 ghost use Rattle.comp_history.specs.Setup.{base_of};
 ghost use Rattle.audit_checks.specs.Checks.{each_built, same_words, word_faults};
 ghost use Rattle.comp_dump.specs.Dumped.{IsStoredPage, IsStoredRecord};
-ghost use Rattle.audit_checks.specs.Told.{Tells};
+ghost use Rattle.audit_checks.specs.Reported.{Reports};
 ghost use Rattle.audit_checks.specs.Noted.{setup_at};
 
 use crate::fault::Stop;
@@ -23,7 +23,7 @@ pub fn check_words(
 ) -> Result<(), Stop>
     requires few { length records.now ≤ 20480 }
     requires pages { All (IsStoredRecord setting.edition setting.mutators) records.now }
-    ensures { Tells (each_built (word_faults (setup_at setting.entry)) records.now) result }
+    ensures { Reports (each_built (word_faults (setup_at setting.entry)) records.now) result }
 {
     for (p, place) in records.iter().enumerate() {
         if let Some(page) = place {
@@ -42,7 +42,7 @@ fn check_page(
 ) -> Result<(), Stop>
     requires inside { p < 20480 }
     requires stored { IsStoredPage setting.edition setting.mutators page.now }
-    ensures { Tells (word_faults (setup_at setting.entry) p page.now) result }
+    ensures { Reports (word_faults (setup_at setting.entry) p page.now) result }
 {
     let mut right = base(alloc, setting, p)?;
     replay(&mut right, page.journal());
@@ -75,7 +75,7 @@ fn check_same(right: &[u64], p: u64, words: &[u64]) -> Result<(), Stop>
     requires inside { p < 20480 }
     requires long { length right.now ≡ 64 }
     requires as_long { length words.now ≡ 64 }
-    ensures { Tells (same_words right.now p words.now) result }
+    ensures { Reports (same_words right.now p words.now) result }
 {
     for (offset, &word) in words.iter().enumerate() {
         if word != right[offset] {

@@ -5,7 +5,7 @@ ghost use Rattle.comp_history.specs.Setup.{pages};
 ghost use Rattle.comp_history.specs.Objects.{AreLawful};
 ghost use Rattle.audit_checks.specs.Checks.{each_built, some_refers, journals_in, loose_faults, reference_faults};
 ghost use Rattle.comp_dump.specs.Dumped.{IsStoredPage, IsStoredRecord};
-ghost use Rattle.audit_checks.specs.Told.{Tells};
+ghost use Rattle.audit_checks.specs.Reported.{Reports};
 ghost use Rattle.audit_checks.specs.Noted.{leads, setup_at};
 
 use crate::fault::Stop;
@@ -29,7 +29,7 @@ pub fn check_references(
     requires places { length records.now ≡ pages (setup_at setting) }
     requires pages { All (IsStoredRecord setting.edition setting.mutators) records.now }
     requires lawful { AreLawful (setup_at setting) (journals_in records.now) }
-    ensures { Tells (each_built (reference_faults (leads setting.entry.plan.now starts.now) (setup_at setting.entry)) records.now) result }
+    ensures { Reports (each_built (reference_faults (leads setting.entry.plan.now starts.now) (setup_at setting.entry)) records.now) result }
 {
     for (p, place) in records.iter().enumerate() {
         if let Some(page) = place {
@@ -51,7 +51,7 @@ fn check_page(
     requires inside { p < pages (setup_at setting) }
     requires stored { IsStoredPage setting.edition setting.mutators page.now }
     requires lawful { IsLawful (setup_at setting) p page.now.journal }
-    ensures { Tells (reference_faults (leads setting.entry.plan.now starts.now) (setup_at setting.entry) p page.now) result }
+    ensures { Reports (reference_faults (leads setting.entry.plan.now starts.now) (setup_at setting.entry) p page.now) result }
 {
     let kinds = kinds_on(alloc, setting.plan, p, page.journal())?;
     check_loose(setting.plan, starts, &kinds, p, page.words())
@@ -68,7 +68,7 @@ fn check_loose(
 ) -> Result<(), Stop>
     requires inside { p < 20480 }
     requires long { length words.now ≡ 64 }
-    ensures { Tells (loose_faults (λ offset. some_refers (slice_index_or kinds.now offset None)) (leads plan.now starts.now) p words.now) result }
+    ensures { Reports (loose_faults (λ offset. some_refers (slice_index_or kinds.now offset None)) (leads plan.now starts.now) p words.now) result }
 {
     for (offset, &word) in words.iter().enumerate() {
         if refers(kinds[offset]) && word != 0 && !starts.leads(plan, word) {

@@ -2,7 +2,7 @@
 ghost use Rattle.std.specs.Prelude.{◌≡◌, ℕ, ◌<◌, ◌≤◌, ◌+◌, ◌++◌, IfOk, OnOk, length, map, slice_index};
 ghost use Rattle.comp_journal.specs.declared.entry.Entry.{Entry};
 ghost use Rattle.audit_checks.specs.Checks.{all_stamps, missing_faults, repeat_faults};
-ghost use Rattle.audit_checks.specs.Told.{Tells};
+ghost use Rattle.audit_checks.specs.Reported.{Reports};
 
 use crate::fault::Stop;
 use crate::record::journal_of;
@@ -12,7 +12,7 @@ use std::alloc::{AllocError, Global};
 
 /// Checks that the stamps of all n entries are the numbers below n, each once.
 pub fn check_stamps(alloc: Global, records: &[Option<DumpedPage<'_>>]) -> Result<(), Stop>
-    ensures { Tells (repeat_faults (all_stamps records.now) ++ missing_faults (all_stamps records.now)) result }
+    ensures { Reports (repeat_faults (all_stamps records.now) ++ missing_faults (all_stamps records.now)) result }
 {
     let mut stamps = gather_stamps(alloc, records)?;
     check_numbers(&mut stamps)
@@ -41,7 +41,7 @@ fn add_stamps(stamps: &mut Vec<u64>, journal: &[Entry]) -> Result<(), AllocError
 
 // Sorts n numbers, and checks that they are the numbers below n, each once.
 fn check_numbers(stamps: &mut [u64]) -> Result<(), Stop>
-    ensures { Tells (repeat_faults stamps.old ++ missing_faults stamps.old) result }
+    ensures { Reports (repeat_faults stamps.old ++ missing_faults stamps.old) result }
 {
     stamps.sort_unstable();
     check_sorted(stamps)
@@ -50,7 +50,7 @@ fn check_numbers(stamps: &mut [u64]) -> Result<(), Stop>
 // Checks that n sorted numbers are the numbers below n, each once.
 fn check_sorted(stamps: &[u64]) -> Result<(), Stop>
     requires sorted { (i j : ℕ) → i ≤ j → j < length stamps.now → slice_index stamps.now i ≤ slice_index stamps.now j }
-    ensures { Tells (repeat_faults stamps.now ++ missing_faults stamps.now) result }
+    ensures { Reports (repeat_faults stamps.now ++ missing_faults stamps.now) result }
 {
     check_repeats(stamps)?;
     check_missing(stamps)
@@ -59,7 +59,7 @@ fn check_sorted(stamps: &[u64]) -> Result<(), Stop>
 // Checks that none of these sorted numbers stands twice.
 fn check_repeats(stamps: &[u64]) -> Result<(), Stop>
     requires sorted { (i j : ℕ) → i ≤ j → j < length stamps.now → slice_index stamps.now i ≤ slice_index stamps.now j }
-    ensures told { Tells (repeat_faults stamps.now) result }
+    ensures reported { Reports (repeat_faults stamps.now) result }
     ensures rises { OnOk result ((k : ℕ) → k + 1 < length stamps.now → slice_index stamps.now k < slice_index stamps.now (k + 1)) }
 {
     for i in 1..stamps.len() {
@@ -74,7 +74,7 @@ fn check_repeats(stamps: &[u64]) -> Result<(), Stop>
 fn check_missing(stamps: &[u64]) -> Result<(), Stop>
     requires sorted { (i j : ℕ) → i ≤ j → j < length stamps.now → slice_index stamps.now i ≤ slice_index stamps.now j }
     requires rises { (k : ℕ) → k + 1 < length stamps.now → slice_index stamps.now k < slice_index stamps.now (k + 1) }
-    ensures { Tells (missing_faults stamps.now) result }
+    ensures { Reports (missing_faults stamps.now) result }
 {
     for (i, &stamp) in stamps.iter().enumerate() {
         if stamp != i as u64 {

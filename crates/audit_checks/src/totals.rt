@@ -5,7 +5,7 @@ ghost use Rattle.comp_history.specs.Lists.{total as added};
 ghost use Rattle.comp_history.specs.Shares.{allocated, words_by};
 ghost use Rattle.audit_checks.specs.Checks.{all_entries, total_faults};
 ghost use Rattle.comp_dump.specs.Dumped.{HasFewEntries};
-ghost use Rattle.audit_checks.specs.Told.{Tells};
+ghost use Rattle.audit_checks.specs.Reported.{Reports};
 
 use crate::fault::Stop;
 use crate::record::journal_of;
@@ -18,7 +18,7 @@ use page_plan::Plan;
 pub fn check_total(plan: &Plan, total: u64, records: &[Option<DumpedPage<'_>>]) -> Result<(), Stop>
     requires few { length records.now ≤ 20480 }
     requires pages { All HasFewEntries records.now }
-    ensures { Tells (total_faults plan.now total records.now) result }
+    ensures { Reports (total_faults plan.now total records.now) result }
 {
     if total != plan.live_words() + all_words(plan.heap().edition(), records) {
         return Err(Stop::Fault(AuditFault::WrongTotal));

@@ -158,12 +158,12 @@ module _ (words : List (List ℕ)) (f : Found) (form : Form) (asked : CommandAsk
       subst (λ (r : Option (List ℕ)). IfSome r (Takes o.takes)) (sym (number_is f asked.0 asked.1 o.takes.id)) (chosen_fits form o has asked.2.gives apart asked.2.fit)
 
   -- its number is the one that was read
-  pub choice_told : (id : List ℕ) (default n : ℕ) → IsNumberOr default (one_text f id) n → IsNumberOr default (text_given id asked.0) n
-  choice_told id default n h = subst (λ (r : Option (List ℕ)). IsNumberOr default r n) (number_is f asked.0 asked.1 id) h
+  pub choice_reported : (id : List ℕ) (default n : ℕ) → IsNumberOr default (one_text f id) n → IsNumberOr default (text_given id asked.0) n
+  choice_reported id default n h = subst (λ (r : Option (List ℕ)). IsNumberOr default r n) (number_is f asked.0 asked.1 id) h
 
   -- and so is a path
-  pub path_told : (id path : List ℕ) → Some path ≡ first_value f id → text_given id asked.0 ≡ Some path
-  path_told id path h = sym (h ∙ text_is f asked.0 asked.1 id)
+  pub path_reported : (id path : List ℕ) → Some path ≡ first_value f id → text_given id asked.0 ≡ Some path
+  path_reported id path h = sym (h ∙ text_is f asked.0 asked.1 id)
 
 -- each of three paths, or of two, was found
 pub three_paths : (words : List (List ℕ)) (f : Found) (form : Form) → (asked : CommandAsked words f form) → (a b c : Parameter) → form.arguments ≡ a ∷ b ∷ c ∷ []
@@ -206,11 +206,11 @@ module _ (words : List (List ℕ)) (f : Found) (name : List ℕ) (asked : Comman
   run_asked run is = record {
     texts = asked.0;
     is_command = asked.2;
-    with_image = path_told words f (run_form name) asked (codes "IMAGE") run.image is.image_is;
-    with_trace = path_told words f (run_form name) asked (codes "TRACE") run.trace is.trace_is;
-    with_dump = path_told words f (run_form name) asked (codes "DUMP") run.dump is.dump_is;
-    with_mutators = choice_told words f (run_form name) asked (codes "mutators") 2 run.count is.mutators_are;
-    with_fresh = choice_told words f (run_form name) asked (codes "fresh") 64 run.pages is.fresh_are;
+    with_image = path_reported words f (run_form name) asked (codes "IMAGE") run.image is.image_is;
+    with_trace = path_reported words f (run_form name) asked (codes "TRACE") run.trace is.trace_is;
+    with_dump = path_reported words f (run_form name) asked (codes "DUMP") run.dump is.dump_is;
+    with_mutators = choice_reported words f (run_form name) asked (codes "mutators") 2 run.count is.mutators_are;
+    with_fresh = choice_reported words f (run_form name) asked (codes "fresh") 64 run.pages is.fresh_are;
   }
 
 -- ---- `compact`
@@ -230,9 +230,9 @@ module _ (words : List (List ℕ)) (f : Found) (asked : CommandAsked words f com
   compact_asked image dump n at_image at_dump h = (
     asked.0,
     asked.2,
-    path_told words f compact_form asked (codes "IMAGE") image at_image,
-    path_told words f compact_form asked (codes "DUMP") dump at_dump,
-    choice_told words f compact_form asked (codes "workers") 2 n h,
+    path_reported words f compact_form asked (codes "IMAGE") image at_image,
+    path_reported words f compact_form asked (codes "DUMP") dump at_dump,
+    choice_reported words f compact_form asked (codes "workers") 2 n h,
   )
 
 -- ---- `audit`
@@ -328,7 +328,7 @@ answer_counts error (Ok (Audit image dump)) answer = _
 answer_counts error (Ok (Next next)) answer = absurd answer
 answer_counts error (Ok (Help text)) answer = _
 answer_counts error (Ok Version) answer = _
-answer_counts error (Err told) answer = _
+answer_counts error (Err reported) answer = _
 
 module _ (forms : List Form) (is : IsProgram forms) (has : HasCommands forms) (words : List (List ℕ)) (utf8 : All IsUtf8 words) where
   -- help comes only if they ask for nothing, and some word is for help
@@ -340,29 +340,29 @@ module _ (forms : List Form) (is : IsProgram forms) (has : HasCommands forms) (w
   version_asked here = (faulty forms is words has (some_kind DisplayVersion (fault_of (program forms) words) here), versioned forms is words utf8 here)
 
   -- a text of help, and the version, is what the words ask
-  pub answer_told : (error : Error) (r : Result Task Error) → HasKind (fault_of (program forms) words) error → IfOk r (IsAnswerOf (kind_of error)) → IfOk r (Asks words)
-  answer_told error (Ok (Plan image)) kind answer = absurd answer
-  answer_told error (Ok (Word image index)) kind answer = absurd answer
-  answer_told error (Ok (Replay run)) kind answer = absurd answer
-  answer_told error (Ok (Race run)) kind answer = absurd answer
-  answer_told error (Ok (Compact image dump n)) kind answer = absurd answer
-  answer_told error (Ok (Audit image dump)) kind answer = absurd answer
-  answer_told error (Ok (Next next)) kind answer = absurd answer
-  answer_told error (Ok (Help text)) kind answer = help_asked (among_kinds _ error DisplayHelp kind answer (λ e. cc))
-  answer_told error (Ok Version) kind answer = version_asked (among_kinds _ error DisplayVersion kind answer (λ e. cc))
-  answer_told error (Err told) kind answer = _
+  pub answer_reported : (error : Error) (r : Result Task Error) → HasKind (fault_of (program forms) words) error → IfOk r (IsAnswerOf (kind_of error)) → IfOk r (Asks words)
+  answer_reported error (Ok (Plan image)) kind answer = absurd answer
+  answer_reported error (Ok (Word image index)) kind answer = absurd answer
+  answer_reported error (Ok (Replay run)) kind answer = absurd answer
+  answer_reported error (Ok (Race run)) kind answer = absurd answer
+  answer_reported error (Ok (Compact image dump n)) kind answer = absurd answer
+  answer_reported error (Ok (Audit image dump)) kind answer = absurd answer
+  answer_reported error (Ok (Next next)) kind answer = absurd answer
+  answer_reported error (Ok (Help text)) kind answer = help_asked (among_kinds _ error DisplayHelp kind answer (λ e. cc))
+  answer_reported error (Ok Version) kind answer = version_asked (among_kinds _ error DisplayVersion kind answer (λ e. cc))
+  answer_reported error (Err reported) kind answer = _
 
   -- and an error other than out of memory comes only if they have a fault
-  pub error_told : (error : Error) (r : Result Task Error) → HasKind (fault_of (program forms) words) error
-      → IfErr r (λ told. (kind_of told ≡ OutOfMemory) ⊎ (kind_of told ≡ kind_of error)) → IfErr r (λ told. kind_of told ≢ OutOfMemory → fault_of (program forms) words ≡ [] → ⊥)
-  error_told error (Ok task) kind same = _
-  error_told error (Err told) kind same = λ other. elim same [
+  pub error_reported : (error : Error) (r : Result Task Error) → HasKind (fault_of (program forms) words) error
+      → IfErr r (λ reported. (kind_of reported ≡ OutOfMemory) ⊎ (kind_of reported ≡ kind_of error)) → IfErr r (λ reported. kind_of reported ≢ OutOfMemory → fault_of (program forms) words ≡ [] → ⊥)
+  error_reported error (Ok task) kind same = _
+  error_reported error (Err reported) kind same = λ other. elim same [
     | inl memory ↦ absurd (other memory)
     | inr e ↦ wrong_kind _ error kind (λ memory. other (e ∙ memory))
   ]
 
 -- so they are none of the commands that stand
-pub none_told : (words : List (List ℕ)) (r : Result Task Error) → IfErr r (λ told. kind_of told ≢ OutOfMemory → fault_of (program standing) words ≡ [] → ⊥)
-    → IfErr r (λ told. kind_of told ≢ OutOfMemory → AsksNoCommand words)
-none_told words (Ok task) h = _
-none_told words (Err told) h = λ other. faulty standing standing_program words standing_commands (h other)
+pub none_reported : (words : List (List ℕ)) (r : Result Task Error) → IfErr r (λ reported. kind_of reported ≢ OutOfMemory → fault_of (program standing) words ≡ [] → ⊥)
+    → IfErr r (λ reported. kind_of reported ≢ OutOfMemory → AsksNoCommand words)
+none_reported words (Ok task) h = _
+none_reported words (Err reported) h = λ other. faulty standing standing_program words standing_commands (h other)

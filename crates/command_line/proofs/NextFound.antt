@@ -7,7 +7,7 @@ use Rattle.clap.proofs.WalkLemmas.{both}
 use Rattle.command_line.specs.Forms.{Parameter, fresh, mutators, next_form, text}
 use Rattle.command_line.specs.Given.{text_given}
 use Rattle.command_line.specs.Nexts.{AsksNext, HasNext, IsNextFound, Next}
-use Rattle.command_line.proofs.Found.{CommandAsked, choice_fits, choice_told, path_told, text_there}
+use Rattle.command_line.proofs.Found.{CommandAsked, choice_fits, choice_reported, path_reported, text_there}
 
 module _ (words : List (List ℕ)) (f : Found) (asked : CommandAsked words f next_form) where
   -- each of four paths was found
@@ -40,10 +40,10 @@ module _ (words : List (List ℕ)) (f : Found) (asked : CommandAsked words f nex
   next_asked next is = record {
     texts = asked.0;
     is_command = asked.2;
-    with_image = path_told words f next_form asked (codes "IMAGE") next.image is.image_is;
-    with_trace = path_told words f next_form asked (codes "TRACE") next.trace is.trace_is;
-    with_marks = path_told words f next_form asked (codes "MARKS") next.marks is.marks_is;
-    with_new = path_told words f next_form asked (codes "NEW") next.new is.new_is;
-    with_mutators = choice_told words f next_form asked (codes "mutators") 2 next.count is.mutators_are;
-    with_fresh = choice_told words f next_form asked (codes "fresh") 64 next.pages is.fresh_are;
+    with_image = path_reported words f next_form asked (codes "IMAGE") next.image is.image_is;
+    with_trace = path_reported words f next_form asked (codes "TRACE") next.trace is.trace_is;
+    with_marks = path_reported words f next_form asked (codes "MARKS") next.marks is.marks_is;
+    with_new = path_reported words f next_form asked (codes "NEW") next.new is.new_is;
+    with_mutators = choice_reported words f next_form asked (codes "mutators") 2 next.count is.mutators_are;
+    with_fresh = choice_reported words f next_form asked (codes "fresh") 64 next.pages is.fresh_are;
   }

@@ -38,7 +38,7 @@ module _ (form : Form) where
   -- ---- a flag that is no option
 
   module _ (helps : Bool) (rows : List Row) (pending : Option (Text × List Text)) (calm : NoAnswer (settle_fault s.rules false (holding rows pending))) (word : Text)
-      (told : is_help word ≡ true → helps ≡ true) where
+      (reported : is_help word ≡ true → helps ≡ true) where
     -- it is refused if it is long
     long_refused : (flag : IsLong word) → option_named form.options flag.name ≡ None
         → Refuses helps (long_fault s.rules false (arg_by_long s.rules flag.name) flag.value (holding rows pending))
@@ -52,7 +52,7 @@ module _ (form : Form) where
         go v help false e = rw (is, e) (refuses_calm helps kind.UnknownArgument [] refl)
         go (Some x) help true e = rw (is, e) (refuses_calm helps kind.TooManyValues [] refl)
         go None help true e = rw (is, e)
-            (refuses_after helps _ _ calm (refuses_help helps (told (help (sym ((bytes_eq-Decides (codes "help") flag.name).0 e)) refl))))
+            (refuses_after helps _ _ calm (refuses_help helps (reported (help (sym ((bytes_eq-Decides (codes "help") flag.name).0 e)) refl))))
 
     -- and if it is a bundle
     bundle_refused : (flag : IsBundle word) → Refuses helps (bundle_fault s.rules false (flag.byte ∷ flag.bytes) (holding rows pending))
@@ -65,7 +65,7 @@ module _ (form : Form) where
             rw (flag.begins, is) (refuses_calm helps kind.UnknownArgument [] refl)
         go true e =
             let is : arg_by_short s.rules flag.first ≡ Some built_help = by_short form.options form.arguments flag.first ∙ rw e refl in
-            rw (flag.begins, is) (refuses_first helps _ _ (refuses_after helps _ _ calm (refuses_help helps (told (flag.help (sym (eqb-true 104 flag.first e)))))))
+            rw (flag.begins, is) (refuses_first helps _ _ (refuses_after helps _ _ calm (refuses_help helps (reported (flag.help (sym (eqb-true 104 flag.first e)))))))
 
   -- a word that no argument takes is refused
   module _ (helps : Bool) (rows : List Row) (pending : Option (Text × List Text)) (position : ℕ) (none : arg_by_index s.rules position ≡ None) (word : Text) (words : List Text) where
@@ -114,7 +114,7 @@ module _ (form : Form) where
     -- and before a flag
     waits_before : (word : Text) → IsUtf8 word → bytes_eq word (codes "--") ≡ false → is_flag word ≡ true → (is_help word ≡ true → helps ≡ true) → (words : List Text)
         → Refuses helps (fault_from s (waiting_for rows o.takes.id position) (word ∷ words))
-    waits_before word utf8 dashes flag told words =
+    waits_before word utf8 dashes flag reported words =
         subst (Refuses helps) (sym (fault_after s (waiting_for rows o.takes.id position) word words)) (refuses_first helps _ _ (refuses_first helps _ _ (go (flag_read word utf8 dashes flag))))
       where
         calm : NoAnswer (settle_fault s.rules false (holding rows (Some (o.takes.id, []))))
@@ -122,7 +122,7 @@ module _ (form : Form) where
 
         long : (flag : IsLong word) → (r : Option Choice) → option_named form.options flag.name ≡ r
             → Refuses helps (long_fault s.rules false (arg_by_long s.rules flag.name) flag.value (holding rows (Some (o.takes.id, []))))
-        long flag None e = long_refused helps rows (Some (o.takes.id, [])) calm word told flag e
+        long flag None e = long_refused helps rows (Some (o.takes.id, [])) calm word reported flag e
         long flag (Some c) e = at_value flag.value
           where
             is : arg_by_long s.rules flag.name ≡ Some (built_option c)
@@ -134,7 +134,7 @@ module _ (form : Form) where
 
         go : IsLong word ⊎ IsBundle word → Refuses helps (word_fault s [] false idle word (holding rows (Some (o.takes.id, []))))
         go (inl flag) = rw (dashes, flag.read) (long flag (option_named form.options flag.name) refl)
-        go (inr flag) = rw (dashes, flag.no_long, flag.read) (bundle_refused helps rows (Some (o.takes.id, [])) calm word told flag)
+        go (inr flag) = rw (dashes, flag.no_long, flag.read) (bundle_refused helps rows (Some (o.takes.id, [])) calm word reported flag)
 
   -- ---- all words
 

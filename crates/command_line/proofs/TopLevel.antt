@@ -67,16 +67,16 @@ refused words kind kinds none = record {
 }
 
 -- words of which the first is for help are answered with help
-told_help : (word : Text) (rest : List Text) (kinds : Kinds) → NoAnswer kinds → is_help word ≡ true → AreRefused (word ∷ rest) (DisplayHelp ∷ kinds)
-told_help word rest kinds none helps = record { some = λ e. cc; help = λ _. (word, rest, refl, helps); version = λ h. absurd (go h) }
+reported_help : (word : Text) (rest : List Text) (kinds : Kinds) → NoAnswer kinds → is_help word ≡ true → AreRefused (word ∷ rest) (DisplayHelp ∷ kinds)
+reported_help word rest kinds none helps = record { some = λ e. cc; help = λ _. (word, rest, refl, helps); version = λ h. absurd (go h) }
   where
     go : IsAmong DisplayVersion (DisplayHelp ∷ kinds) → ⊥
     go (inl same) = cc
     go (inr h) = no_answer_among DisplayVersion refl kinds none h
 
 -- and those of which the first is for the version with the version
-told_version : (word : Text) (rest : List Text) → is_version word ≡ true → AreRefused (word ∷ rest) (DisplayVersion ∷ [])
-told_version word rest asks = record { some = λ e. cc; help = λ h. absurd (go h); version = λ _. (word, rest, refl, asks) }
+reported_version : (word : Text) (rest : List Text) → is_version word ≡ true → AreRefused (word ∷ rest) (DisplayVersion ∷ [])
+reported_version word rest asks = record { some = λ e. cc; help = λ h. absurd (go h); version = λ _. (word, rest, refl, asks) }
   where
     go : IsAmong DisplayHelp (DisplayVersion ∷ []) → ⊥
     go (inl same) = cc
@@ -158,7 +158,7 @@ standing_next = record { is_one = refl; is_met = refl; is_entered = refl; is_not
 
 standing_help : (rest : List Text) → AreRefused (codes "help" ∷ rest) (fault_of (program standing) (codes "help" ∷ rest))
 unfolding clap_on_literals
-standing_help rest = told_help (codes "help") rest (InvalidSubcommand ∷ []) refl refl
+standing_help rest = reported_help (codes "help") rest (InvalidSubcommand ∷ []) refl refl
 
 standing_end : (rest : List Text) → AreRefused (codes "--" ∷ rest) (fault_of (program standing) (codes "--" ∷ rest))
 unfolding clap_on_literals
@@ -268,9 +268,9 @@ module _ (forms : List Form) (word : Text) (rest : List Text) where
       go : (v : Option Text) (h w : Bool) → bytes_eq (codes "help") flag.name ≡ h → bytes_eq (codes "version") flag.name ≡ w
           → (flag.name ≡ codes "help" → v ≡ None → is_help word ≡ true) → (flag.name ≡ codes "version" → v ≡ None → is_version word ≡ true)
           → Refuses (long_fault top_rules false (arg_by_long top_rules flag.name) v nothing_held)
-      go None true w e f help version = rw e (told_help word rest [] refl (help (sym ((bytes_eq-Decides (codes "help") flag.name).0 e)) refl))
+      go None true w e f help version = rw e (reported_help word rest [] refl (help (sym ((bytes_eq-Decides (codes "help") flag.name).0 e)) refl))
       go (Some v) true w e f help version = rw e (refused (word ∷ rest) TooManyValues [] refl)
-      go None false true e f help version = rw (e, f) (told_version word rest (version (sym ((bytes_eq-Decides (codes "version") flag.name).0 f)) refl))
+      go None false true e f help version = rw (e, f) (reported_version word rest (version (sym ((bytes_eq-Decides (codes "version") flag.name).0 f)) refl))
       go (Some v) false true e f help version = rw (e, f) (refused (word ∷ rest) TooManyValues [] refl)
       go v false false e f help version = rw (e, f) (refused (word ∷ rest) UnknownArgument [] refl)
 
@@ -280,8 +280,8 @@ module _ (forms : List Form) (word : Text) (rest : List Text) where
   bundle_first flag = go (104 == flag.first) (86 == flag.first) refl refl
     where
       go : (h w : Bool) → (104 == flag.first) ≡ h → (86 == flag.first) ≡ w → Refuses (bundle_fault top_rules false (flag.byte ∷ flag.bytes) nothing_held)
-      go true w e f = rw (flag.begins, e) (told_help word rest [] refl (flag.help (sym (eqb-true 104 flag.first e))))
-      go false true e f = rw (flag.begins, e, f) (told_version word rest (flag.version (sym (eqb-true 86 flag.first f))))
+      go true w e f = rw (flag.begins, e) (reported_help word rest [] refl (flag.help (sym (eqb-true 104 flag.first e))))
+      go false true e f = rw (flag.begins, e, f) (reported_version word rest (flag.version (sym (eqb-true 86 flag.first f))))
       go false false e f = rw (flag.begins, e, f) (refused (word ∷ rest) UnknownArgument [] refl)
 
   -- so is a flag other than `--`

@@ -146,9 +146,9 @@ fn trace_run<'a>(found: &ArgMatches<'a>) -> TraceRun<'a>
 // If the parser answers with help or the version, the task that prints it; else its error.
 fn answer_task<'a>(alloc: Global, error: Error) -> Result<Task<'a>, Error>
     ensures answer { IfOk result (IsAnswerOf (kind_of error)) }
-    ensures error { IfErr result (λ told. (kind_of told ≡ OutOfMemory) ⊎ (kind_of told ≡ kind_of error)) }
-    ensures no_help { IfErr result (λ told. kind_of told ≢ DisplayHelp) }
-    ensures no_version { IfErr result (λ told. kind_of told ≢ DisplayVersion) }
+    ensures error { IfErr result (λ reported. (kind_of reported ≡ OutOfMemory) ⊎ (kind_of reported ≡ kind_of error)) }
+    ensures no_help { IfErr result (λ reported. kind_of reported ≢ DisplayHelp) }
+    ensures no_version { IfErr result (λ reported. kind_of reported ≢ DisplayVersion) }
 {
     match error.kind() {
         ErrorKind::DisplayHelp => Ok(Task::Help {

@@ -76,19 +76,19 @@ module _ {W : Type 0} (lacks : Type 0) (gives : W → Type 0) (contents : W → 
   made_err (Err halted) h u refusal w = inl (halted, u, w)
 
 -- What the command did, whether the output is flushed after it or not.
-module _ {R S W : Type 0} (given : R → Type 0) (remaining : R → Option (List ℕ)) (told handed : S → Type 0) (rest : S → Option (List ℕ)) (gives : W → Type 0) (contents : W → Option (List ℕ))
+module _ {R S W : Type 0} (given : R → Type 0) (remaining : R → Option (List ℕ)) (texts handed : S → Type 0) (rest : S → Option (List ℕ)) (gives : W → Type 0) (contents : W → Option (List ℕ))
     (mutators fresh : ℕ) (before between after : Option (List ℕ)) where
-  pub flushed_next : Keeps between after → MakesNext given remaining told handed rest gives contents mutators fresh before between → MakesNext given remaining told handed rest gives contents mutators fresh before after
+  pub flushed_next : Keeps between after → MakesNext given remaining texts handed rest gives contents mutators fresh before between → MakesNext given remaining texts handed rest gives contents mutators fresh before after
   flushed_next kept (heap, image, (lines, trace, (marks, own, h))) =
       let printed = Appends-kept before between after _ h.printed kept in
       (heap, image, (lines, trace, (marks, own, record { shown = h.shown; next = h.next; cycled = h.cycled; written = h.written; printed = printed })))
 
-  pub unflushed_next : (absent missing unmarked lacks : Type 0) → MakesNext given remaining told handed rest gives contents mutators fresh before between
-      → RefusesNext absent given remaining missing told unmarked handed rest lacks gives contents mutators fresh before after CannotPrint
+  pub unflushed_next : (absent missing unmarked lacks : Type 0) → MakesNext given remaining texts handed rest gives contents mutators fresh before between
+      → RefusesNext absent given remaining missing texts unmarked handed rest lacks gives contents mutators fresh before after CannotPrint
   unflushed_next absent missing unmarked lacks (heap, image, (lines, trace, (marks, own, h))) =
       inr (inr (heap, image, (lines, trace, (marks, own, inr (h.shown, h.next, h.cycled, h.written)))))
 
   -- what was printed of an accepted heap
-  pub printed_next : MakesNext given remaining told handed rest gives contents mutators fresh before after → SomeHeap (PrintsNext mutators fresh before after)
-  printed_next (heap, (reader, is_given, (other, stored, accepted, (known, same))), (lines, (second, is_told, (text, is_text, has_lines)), (marks, own, h))) =
+  pub printed_next : MakesNext given remaining texts handed rest gives contents mutators fresh before after → SomeHeap (PrintsNext mutators fresh before after)
+  printed_next (heap, (reader, is_given, (other, stored, accepted, (known, same))), (lines, (second, is_text_of, (text, is_text, has_lines)), (marks, own, h))) =
       (other, stored, accepted, subst (PrintsNext mutators fresh before after) (sym same) (text, lines, has_lines, marks, h.shown, h.next, h.cycled, h.printed))

@@ -36,10 +36,10 @@ races : {W : Type 0} (gives : W → Type 0) (contents : W → Option (List ℕ))
 races gives contents mutators fresh before after lines shown f heap h written printed = record { race = has_race mutators fresh lines shown f heap h; written = written; printed = printed }
 
 -- The refusals of the command, from those of its parts.
-module _ {R S W : Type 0} (absent : Type 0) (given : R → Type 0) (remaining : R → Option (List ℕ)) (missing : Type 0) (told : S → Type 0) (rest : S → Option (List ℕ))
+module _ {R S W : Type 0} (absent : Type 0) (given : R → Type 0) (remaining : R → Option (List ℕ)) (missing : Type 0) (texts : S → Type 0) (rest : S → Option (List ℕ))
     (lacks : Type 0) (gives : W → Type 0) (contents : W → Option (List ℕ)) (mutators fresh : ℕ) (before after : Option (List ℕ)) where
   abbrev pub IsCause : Refusal → Type 0
-  IsCause refusal = RefusesRace absent given remaining missing told rest lacks gives contents mutators fresh before after refusal
+  IsCause refusal = RefusesRace absent given remaining missing texts rest lacks gives contents mutators fresh before after refusal
 
   -- there is no heap
   of_image : (refusal : Refusal) → RefusesAt absent given remaining RefusesImage refusal → IsCause refusal
@@ -62,20 +62,20 @@ module _ {R S W : Type 0} (absent : Type 0) (given : R → Type 0) (remaining : 
 
   module _ (heap : Heap) (image : SomeGiven given remaining (IsImageOf (λ other. other ≡ heap))) where
     -- there is no trace for it, and nothing was printed
-    by_trace : Keeps before after → (refusal : Refusal) → RefusesTextAt missing told rest mutators (length heap.roots) refusal → IsCause refusal
+    by_trace : Keeps before after → (refusal : Refusal) → RefusesTextAt missing texts rest mutators (length heap.roots) refusal → IsCause refusal
     by_trace kept (Layout fault) h = absurd h.2
     by_trace kept (Mutator refused) h = absurd h.2
     by_trace kept (Sweep fault) h = absurd h.2
-    by_trace kept (Trace fault) h = inl (some_refused given remaining told rest mutators heap image (Trace fault) h, kept)
+    by_trace kept (Trace fault) h = inl (some_refused given remaining texts rest mutators heap image (Trace fault) h, kept)
     by_trace kept (Dump fault) h = absurd h.2
     by_trace kept (Audit fault) h = absurd h.2
     by_trace kept (CannotOpen inputs.Image) h = absurd h.2
-    by_trace kept (CannotOpen inputs.Trace) h = (h, some_heap given remaining told rest mutators heap image)
+    by_trace kept (CannotOpen inputs.Trace) h = (h, some_heap given remaining texts rest mutators heap image)
     by_trace kept (CannotOpen inputs.Dump) h = absurd h.2
     by_trace kept (CannotOpen inputs.Marks) h = absurd h.2
     by_trace kept (CannotCreate output) h = absurd h.2
     by_trace kept (ReadFailed inputs.Image) h = absurd h.2
-    by_trace kept (ReadFailed inputs.Trace) h = some_refused given remaining told rest mutators heap image (ReadFailed inputs.Trace) h
+    by_trace kept (ReadFailed inputs.Trace) h = some_refused given remaining texts rest mutators heap image (ReadFailed inputs.Trace) h
     by_trace kept (ReadFailed inputs.Dump) h = absurd h.2
     by_trace kept (ReadFailed inputs.Marks) h = absurd h.2
     by_trace kept CannotPrint h = absurd h.2
@@ -83,10 +83,10 @@ module _ {R S W : Type 0} (absent : Type 0) (given : R → Type 0) (remaining : 
     by_trace kept (BadMarks line) h = absurd h.2
     by_trace kept OutOfMemory h = tt
 
-    module _ (lines : List Line) (trace : SomeGiven told rest (IsTextOf mutators (length heap.roots) lines)) where
+    module _ (lines : List Line) (trace : SomeGiven texts rest (IsTextOf mutators (length heap.roots) lines)) where
       by_run : (refusal : Refusal) → RefusesRacing lacks gives contents mutators fresh before after refusal lines heap
-          → SomeRun given remaining told rest mutators (RefusesRacing lacks gives contents mutators fresh before after refusal)
-      by_run refusal h = some_run given remaining told rest mutators heap image (RefusesRacing lacks gives contents mutators fresh before after refusal) lines trace h
+          → SomeRun given remaining texts rest mutators (RefusesRacing lacks gives contents mutators fresh before after refusal)
+      by_run refusal h = some_run given remaining texts rest mutators heap image (RefusesRacing lacks gives contents mutators fresh before after refusal) lines trace h
 
       -- its lines did not all run, and what they showed was printed
       of_halt : (shown : List Shown) → Appends before after (shown_lines shown) → (refusal : Refusal) → IsHaltedRace mutators fresh lines shown heap refusal → IsCause refusal
@@ -94,7 +94,7 @@ module _ {R S W : Type 0} (absent : Type 0) (given : R → Type 0) (remaining : 
       of_halt shown printed (Mutator refused) h = by_run (Mutator refused) h.0
       of_halt shown printed (Sweep fault) h = absurd h
       of_halt shown printed (Trace fault) h =
-          inr (some_run given remaining told rest mutators heap image (StopsRace mutators fresh before after fault) lines trace (shown, h, printed))
+          inr (some_run given remaining texts rest mutators heap image (StopsRace mutators fresh before after fault) lines trace (shown, h, printed))
       of_halt shown printed (Dump fault) h = absurd h
       of_halt shown printed (Audit fault) h = absurd h
       of_halt shown printed (CannotOpen input) h = absurd h
@@ -133,8 +133,8 @@ module _ {R S W : Type 0} (absent : Type 0) (given : R → Type 0) (remaining : 
 
         -- the dump was written, and all was printed
         of_all : WritesWhole gives contents (dump_bytes (dumped_of mutators fresh f)) → PrintsRun before after shown (live_of f)
-            → SomeRun given remaining told rest mutators (Races gives contents mutators fresh before after)
-        of_all written printed = some_run given remaining told rest mutators heap image (Races gives contents mutators fresh before after) lines trace
+            → SomeRun given remaining texts rest mutators (Races gives contents mutators fresh before after)
+        of_all written printed = some_run given remaining texts rest mutators heap image (Races gives contents mutators fresh before after) lines trace
             (races gives contents mutators fresh before after lines shown f heap h written printed)
 
       -- from what became of the run
@@ -153,13 +153,13 @@ module _ {R S W : Type 0} (absent : Type 0) (given : R → Type 0) (remaining : 
 
       pub of_outcome_ok : (outcome : Result Replayed Halted) → IfOk outcome (λ run. IsRacedHeap mutators fresh lines run.shown.items run.finished heap)
           → (result : Result (Unit {0}) Refusal) → OnOk result (IsWritten gives contents mutators fresh before after outcome)
-          → OnOk result (SomeRun given remaining told rest mutators (Races gives contents mutators fresh before after))
+          → OnOk result (SomeRun given remaining texts rest mutators (Races gives contents mutators fresh before after))
       of_outcome_ok outcome ran (Err refusal) h = tt
       of_outcome_ok (Ok run) ran (Ok _) h = of_all run.shown.items run.finished ran h.0 h.1
       of_outcome_ok (Err run) ran (Ok _) h = absurd h
 
   -- there is no heap, or no trace for it
-  pub of_inputs : Keeps before after → (refusal : Refusal) → RefusesInputs absent given remaining missing told rest mutators refusal → IsCause refusal
+  pub of_inputs : Keeps before after → (refusal : Refusal) → RefusesInputs absent given remaining missing texts rest mutators refusal → IsCause refusal
   of_inputs kept refusal (inl h) = of_image refusal h
   of_inputs kept refusal (inr (heap, image, h)) = by_trace heap image kept refusal h
 
@@ -189,11 +189,11 @@ race_halted_by mutators fresh lines heap shown (BadMarks line) h = absurd h
 race_halted_by mutators fresh lines heap shown OutOfMemory h = h
 
 -- What was done of a race, whether the output is flushed after it or not.
-module _ {R S W : Type 0} (given : R → Type 0) (remaining : R → Option (List ℕ)) (told : S → Type 0) (rest : S → Option (List ℕ)) (gives : W → Type 0) (contents : W → Option (List ℕ))
+module _ {R S W : Type 0} (given : R → Type 0) (remaining : R → Option (List ℕ)) (texts : S → Type 0) (rest : S → Option (List ℕ)) (gives : W → Type 0) (contents : W → Option (List ℕ))
     (mutators fresh : ℕ) (before between after : Option (List ℕ)) where
-  pub flushed_race : Keeps between after → SomeRun given remaining told rest mutators (Races gives contents mutators fresh before between)
-      → SomeRun given remaining told rest mutators (Races gives contents mutators fresh before after)
-  flushed_race kept (reader, is_given, (heap, stored, accepted, (known, (other, is_told, (text, is_text, (lines, has_lines, h)))))) = (
+  pub flushed_race : Keeps between after → SomeRun given remaining texts rest mutators (Races gives contents mutators fresh before between)
+      → SomeRun given remaining texts rest mutators (Races gives contents mutators fresh before after)
+  flushed_race kept (reader, is_given, (heap, stored, accepted, (known, (other, is_text_of, (text, is_text, (lines, has_lines, h)))))) = (
     reader,
     is_given,
     (
@@ -204,7 +204,7 @@ module _ {R S W : Type 0} (given : R → Type 0) (remaining : R → Option (List
         known,
         (
           other,
-          is_told,
+          is_text_of,
           (
             text,
             is_text,
@@ -223,7 +223,7 @@ module _ {R S W : Type 0} (given : R → Type 0) (remaining : R → Option (List
     ),
   )
 
-  pub unflushed_race : (lacks : Type 0) → SomeRun given remaining told rest mutators (Races gives contents mutators fresh before between)
-      → SomeRun given remaining told rest mutators (RefusesRacing lacks gives contents mutators fresh before after CannotPrint)
-  unflushed_race lacks (reader, is_given, (heap, stored, accepted, (known, (other, is_told, (text, is_text, (lines, has_lines, h)))))) =
-      (reader, is_given, (heap, stored, accepted, (known, (other, is_told, (text, is_text, (lines, has_lines, inl (h.race, h.written)))))))
+  pub unflushed_race : (lacks : Type 0) → SomeRun given remaining texts rest mutators (Races gives contents mutators fresh before between)
+      → SomeRun given remaining texts rest mutators (RefusesRacing lacks gives contents mutators fresh before after CannotPrint)
+  unflushed_race lacks (reader, is_given, (heap, stored, accepted, (known, (other, is_text_of, (text, is_text, (lines, has_lines, h)))))) =
+      (reader, is_given, (heap, stored, accepted, (known, (other, is_text_of, (text, is_text, (lines, has_lines, inl (h.race, h.written)))))))

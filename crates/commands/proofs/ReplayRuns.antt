@@ -52,34 +52,34 @@ replays gives contents mutators fresh before after lines shown f heap h written 
 }
 
 -- the lines of a text for the number of the heap's roots
-pub some_text : {S : Type 0} (told : S → Type 0) (rest : S → Option (List ℕ)) (mutators roots other : ℕ) (lines : List Line) → roots ≡ other → SomeGiven told rest (IsTextOf mutators roots lines)
-    → SomeGiven told rest (IsTextOf mutators other lines)
-some_text told rest mutators roots other lines e given = subst (λ (r : ℕ). SomeGiven told rest (IsTextOf mutators r lines)) e given
+pub some_text : {S : Type 0} (texts : S → Type 0) (rest : S → Option (List ℕ)) (mutators roots other : ℕ) (lines : List Line) → roots ≡ other → SomeGiven texts rest (IsTextOf mutators roots lines)
+    → SomeGiven texts rest (IsTextOf mutators other lines)
+some_text texts rest mutators roots other lines e given = subst (λ (r : ℕ). SomeGiven texts rest (IsTextOf mutators r lines)) e given
 
-module _ {R S : Type 0} (given : R → Type 0) (remaining : R → Option (List ℕ)) (told : S → Type 0) (rest : S → Option (List ℕ)) (mutators : ℕ) (heap : Heap)
+module _ {R S : Type 0} (given : R → Type 0) (remaining : R → Option (List ℕ)) (texts : S → Type 0) (rest : S → Option (List ℕ)) (mutators : ℕ) (heap : Heap)
     (image : SomeGiven given remaining (IsImageOf (λ other. other ≡ heap))) where
   -- of the lines of a trace, and the heap of an image
-  pub some_run : (P : List Line → Heap → Type 0) (lines : List Line) → SomeGiven told rest (IsTextOf mutators (length heap.roots) lines) → P lines heap → SomeRun given remaining told rest mutators P
+  pub some_run : (P : List Line → Heap → Type 0) (lines : List Line) → SomeGiven texts rest (IsTextOf mutators (length heap.roots) lines) → P lines heap → SomeRun given remaining texts rest mutators P
   some_run P lines trace p = (
     image.0,
     image.1,
-    of_heap (λ (h : Heap). SomeGiven told rest (SomeText (λ text. (ls : List Line) × HasLines mutators (length h.roots) ls text × P ls h))) heap (remaining image.0)
+    of_heap (λ (h : Heap). SomeGiven texts rest (SomeText (λ text. (ls : List Line) × HasLines mutators (length h.roots) ls text × P ls h))) heap (remaining image.0)
         (trace.0, trace.1, (trace.2.0, trace.2.1, (lines, trace.2.2, p))) image.2,
   )
 
   -- a trace that is refused for the heap
-  pub some_refused : (refusal : Refusal) → SomeGiven told rest (RefusesText mutators (length heap.roots) refusal)
-      → SomeGiven given remaining (IsImageOf (λ (h : Heap). SomeGiven told rest (RefusesText mutators (length h.roots) refusal)))
-  some_refused refusal trace = (image.0, image.1, of_heap (λ (h : Heap). SomeGiven told rest (RefusesText mutators (length h.roots) refusal)) heap (remaining image.0) trace image.2)
+  pub some_refused : (refusal : Refusal) → SomeGiven texts rest (RefusesText mutators (length heap.roots) refusal)
+      → SomeGiven given remaining (IsImageOf (λ (h : Heap). SomeGiven texts rest (RefusesText mutators (length h.roots) refusal)))
+  some_refused refusal trace = (image.0, image.1, of_heap (λ (h : Heap). SomeGiven texts rest (RefusesText mutators (length h.roots) refusal)) heap (remaining image.0) trace image.2)
 
   pub some_heap : SomeGiven given remaining (IsImageOf (λ h. ⊤))
   some_heap = (image.0, image.1, of_heap (λ (h : Heap). ⊤) heap (remaining image.0) tt image.2)
 
 -- The refusals of the command, from those of its parts.
-module _ {R S W : Type 0} (absent : Type 0) (given : R → Type 0) (remaining : R → Option (List ℕ)) (missing : Type 0) (told : S → Type 0) (rest : S → Option (List ℕ))
+module _ {R S W : Type 0} (absent : Type 0) (given : R → Type 0) (remaining : R → Option (List ℕ)) (missing : Type 0) (texts : S → Type 0) (rest : S → Option (List ℕ))
     (lacks : Type 0) (gives : W → Type 0) (contents : W → Option (List ℕ)) (mutators fresh : ℕ) (before after : Option (List ℕ)) where
   abbrev pub IsCause : Refusal → Type 0
-  IsCause refusal = RefusesReplay absent given remaining missing told rest lacks gives contents mutators fresh before after refusal
+  IsCause refusal = RefusesReplay absent given remaining missing texts rest lacks gives contents mutators fresh before after refusal
 
   -- there is no heap
   of_image : (refusal : Refusal) → RefusesAt absent given remaining RefusesImage refusal → IsCause refusal
@@ -102,20 +102,20 @@ module _ {R S W : Type 0} (absent : Type 0) (given : R → Type 0) (remaining : 
 
   module _ (heap : Heap) (image : SomeGiven given remaining (IsImageOf (λ other. other ≡ heap))) where
     -- there is no trace for it, and nothing was printed
-    by_trace : Keeps before after → (refusal : Refusal) → RefusesTextAt missing told rest mutators (length heap.roots) refusal → IsCause refusal
+    by_trace : Keeps before after → (refusal : Refusal) → RefusesTextAt missing texts rest mutators (length heap.roots) refusal → IsCause refusal
     by_trace kept (Layout fault) h = absurd h.2
     by_trace kept (Mutator refused) h = absurd h.2
     by_trace kept (Sweep fault) h = absurd h.2
-    by_trace kept (Trace fault) h = inl (some_refused given remaining told rest mutators heap image (Trace fault) h, kept)
+    by_trace kept (Trace fault) h = inl (some_refused given remaining texts rest mutators heap image (Trace fault) h, kept)
     by_trace kept (Dump fault) h = absurd h.2
     by_trace kept (Audit fault) h = absurd h.2
     by_trace kept (CannotOpen inputs.Image) h = absurd h.2
-    by_trace kept (CannotOpen inputs.Trace) h = (h, some_heap given remaining told rest mutators heap image)
+    by_trace kept (CannotOpen inputs.Trace) h = (h, some_heap given remaining texts rest mutators heap image)
     by_trace kept (CannotOpen inputs.Dump) h = absurd h.2
     by_trace kept (CannotOpen inputs.Marks) h = absurd h.2
     by_trace kept (CannotCreate output) h = absurd h.2
     by_trace kept (ReadFailed inputs.Image) h = absurd h.2
-    by_trace kept (ReadFailed inputs.Trace) h = some_refused given remaining told rest mutators heap image (ReadFailed inputs.Trace) h
+    by_trace kept (ReadFailed inputs.Trace) h = some_refused given remaining texts rest mutators heap image (ReadFailed inputs.Trace) h
     by_trace kept (ReadFailed inputs.Dump) h = absurd h.2
     by_trace kept (ReadFailed inputs.Marks) h = absurd h.2
     by_trace kept CannotPrint h = absurd h.2
@@ -123,10 +123,10 @@ module _ {R S W : Type 0} (absent : Type 0) (given : R → Type 0) (remaining : 
     by_trace kept (BadMarks line) h = absurd h.2
     by_trace kept OutOfMemory h = tt
 
-    module _ (lines : List Line) (trace : SomeGiven told rest (IsTextOf mutators (length heap.roots) lines)) where
+    module _ (lines : List Line) (trace : SomeGiven texts rest (IsTextOf mutators (length heap.roots) lines)) where
       by_run : (refusal : Refusal) → RefusesRun lacks gives contents mutators fresh before after refusal lines heap
-          → SomeRun given remaining told rest mutators (RefusesRun lacks gives contents mutators fresh before after refusal)
-      by_run refusal h = some_run given remaining told rest mutators heap image (RefusesRun lacks gives contents mutators fresh before after refusal) lines trace h
+          → SomeRun given remaining texts rest mutators (RefusesRun lacks gives contents mutators fresh before after refusal)
+      by_run refusal h = some_run given remaining texts rest mutators heap image (RefusesRun lacks gives contents mutators fresh before after refusal) lines trace h
 
       -- its lines did not run to their end, and what they showed was printed
       of_halt : (shown : List Shown) → Appends before after (shown_lines shown) → (refusal : Refusal) → IsHalted mutators fresh lines shown heap refusal → IsCause refusal
@@ -134,7 +134,7 @@ module _ {R S W : Type 0} (absent : Type 0) (given : R → Type 0) (remaining : 
       of_halt shown printed (Mutator refused) h = by_run (Mutator refused) h.0
       of_halt shown printed (Sweep fault) h = absurd h
       of_halt shown printed (Trace fault) h =
-          inr (some_run given remaining told rest mutators heap image (StopsReplay mutators fresh before after fault) lines trace (shown, h, printed))
+          inr (some_run given remaining texts rest mutators heap image (StopsReplay mutators fresh before after fault) lines trace (shown, h, printed))
       of_halt shown printed (Dump fault) h = absurd h
       of_halt shown printed (Audit fault) h = absurd h
       of_halt shown printed (CannotOpen input) h = absurd h
@@ -173,8 +173,8 @@ module _ {R S W : Type 0} (absent : Type 0) (given : R → Type 0) (remaining : 
 
         -- the dump was written, and all was printed
         of_all : WritesWhole gives contents (dump_bytes (dumped_of mutators fresh f)) → PrintsRun before after shown (live_of f)
-            → SomeRun given remaining told rest mutators (Replays gives contents mutators fresh before after)
-        of_all written printed = some_run given remaining told rest mutators heap image (Replays gives contents mutators fresh before after) lines trace
+            → SomeRun given remaining texts rest mutators (Replays gives contents mutators fresh before after)
+        of_all written printed = some_run given remaining texts rest mutators heap image (Replays gives contents mutators fresh before after) lines trace
             (replays gives contents mutators fresh before after lines shown f heap h written printed)
 
       -- from what became of the run
@@ -193,13 +193,13 @@ module _ {R S W : Type 0} (absent : Type 0) (given : R → Type 0) (remaining : 
 
       pub of_outcome_ok : (outcome : Result Replayed Halted) → IfOk outcome (λ run. IsReplayedHeap mutators fresh lines run.shown.items run.finished heap)
           → (result : Result (Unit {0}) Refusal) → OnOk result (IsWritten gives contents mutators fresh before after outcome)
-          → OnOk result (SomeRun given remaining told rest mutators (Replays gives contents mutators fresh before after))
+          → OnOk result (SomeRun given remaining texts rest mutators (Replays gives contents mutators fresh before after))
       of_outcome_ok outcome ran (Err refusal) h = tt
       of_outcome_ok (Ok run) ran (Ok _) h = of_all run.shown.items run.finished ran h.0 h.1
       of_outcome_ok (Err run) ran (Ok _) h = absurd h
 
   -- there is no heap, or no trace for it
-  pub of_inputs : Keeps before after → (refusal : Refusal) → RefusesInputs absent given remaining missing told rest mutators refusal → IsCause refusal
+  pub of_inputs : Keeps before after → (refusal : Refusal) → RefusesInputs absent given remaining missing texts rest mutators refusal → IsCause refusal
   of_inputs kept refusal (inl h) = of_image refusal h
   of_inputs kept refusal (inr (heap, image, h)) = by_trace heap image kept refusal h
 
@@ -208,14 +208,14 @@ image_uncounted : {R : Type 0} (absent : Type 0) (given : R → Type 0) (remaini
     → CountsPrint {T = Unit {0}} n n (Err refusal)
 image_uncounted absent given remaining n refusal h = uncounted_by n n refusal refl (λ e. (subst (RefusesAt absent given remaining RefusesImage) e h).2)
 
-trace_uncounted : {S : Type 0} (missing : Type 0) (told : S → Type 0) (rest : S → Option (List ℕ)) (mutators roots n : ℕ) (refusal : Refusal) → RefusesTextAt missing told rest mutators roots refusal
+trace_uncounted : {S : Type 0} (missing : Type 0) (texts : S → Type 0) (rest : S → Option (List ℕ)) (mutators roots n : ℕ) (refusal : Refusal) → RefusesTextAt missing texts rest mutators roots refusal
     → CountsPrint {T = Unit {0}} n n (Err refusal)
-trace_uncounted missing told rest mutators roots n refusal h = uncounted_by n n refusal refl (λ e. (subst (RefusesTextAt missing told rest mutators roots) e h).2)
+trace_uncounted missing texts rest mutators roots n refusal h = uncounted_by n n refusal refl (λ e. (subst (RefusesTextAt missing texts rest mutators roots) e h).2)
 
-pub inputs_uncounted : {R S : Type 0} (absent : Type 0) (given : R → Type 0) (remaining : R → Option (List ℕ)) (missing : Type 0) (told : S → Type 0) (rest : S → Option (List ℕ))
-    (mutators n : ℕ) (refusal : Refusal) → RefusesInputs absent given remaining missing told rest mutators refusal → CountsPrint {T = Unit {0}} n n (Err refusal)
-inputs_uncounted absent given remaining missing told rest mutators n refusal (inl h) = image_uncounted absent given remaining n refusal h
-inputs_uncounted absent given remaining missing told rest mutators n refusal (inr (heap, image, h)) = trace_uncounted missing told rest mutators (length heap.roots) n refusal h
+pub inputs_uncounted : {R S : Type 0} (absent : Type 0) (given : R → Type 0) (remaining : R → Option (List ℕ)) (missing : Type 0) (texts : S → Type 0) (rest : S → Option (List ℕ))
+    (mutators n : ℕ) (refusal : Refusal) → RefusesInputs absent given remaining missing texts rest mutators refusal → CountsPrint {T = Unit {0}} n n (Err refusal)
+inputs_uncounted absent given remaining missing texts rest mutators n refusal (inl h) = image_uncounted absent given remaining n refusal h
+inputs_uncounted absent given remaining missing texts rest mutators n refusal (inr (heap, image, h)) = trace_uncounted missing texts rest mutators (length heap.roots) n refusal h
 
 -- what a trace that is refused before anything is printed leaves of the output
 unprinted_trace : (before : Option (List ℕ)) (fault : TraceFault) → StopsUnprinted {T = Unit {0}} before before (Err (Trace fault))
@@ -359,11 +359,11 @@ pub of_unprinted : (result : Result (Unit {0}) Refusal) (refusal : Refusal) → 
 of_unprinted result refusal is cause = cc
 
 -- What was done of a run, whether the output is flushed after it or not.
-module _ {R S W : Type 0} (given : R → Type 0) (remaining : R → Option (List ℕ)) (told : S → Type 0) (rest : S → Option (List ℕ)) (gives : W → Type 0) (contents : W → Option (List ℕ))
+module _ {R S W : Type 0} (given : R → Type 0) (remaining : R → Option (List ℕ)) (texts : S → Type 0) (rest : S → Option (List ℕ)) (gives : W → Type 0) (contents : W → Option (List ℕ))
     (mutators fresh : ℕ) (before between after : Option (List ℕ)) where
-  pub flushed_run : Keeps between after → SomeRun given remaining told rest mutators (Replays gives contents mutators fresh before between)
-      → SomeRun given remaining told rest mutators (Replays gives contents mutators fresh before after)
-  flushed_run kept (reader, is_given, (heap, stored, accepted, (known, (other, is_told, (text, is_text, (lines, has_lines, h)))))) = (
+  pub flushed_run : Keeps between after → SomeRun given remaining texts rest mutators (Replays gives contents mutators fresh before between)
+      → SomeRun given remaining texts rest mutators (Replays gives contents mutators fresh before after)
+  flushed_run kept (reader, is_given, (heap, stored, accepted, (known, (other, is_text_of, (text, is_text, (lines, has_lines, h)))))) = (
     reader,
     is_given,
     (
@@ -374,7 +374,7 @@ module _ {R S W : Type 0} (given : R → Type 0) (remaining : R → Option (List
         known,
         (
           other,
-          is_told,
+          is_text_of,
           (
             text,
             is_text,
@@ -393,7 +393,7 @@ module _ {R S W : Type 0} (given : R → Type 0) (remaining : R → Option (List
     ),
   )
 
-  pub unflushed_run : (lacks : Type 0) → SomeRun given remaining told rest mutators (Replays gives contents mutators fresh before between)
-      → SomeRun given remaining told rest mutators (RefusesRun lacks gives contents mutators fresh before after CannotPrint)
-  unflushed_run lacks (reader, is_given, (heap, stored, accepted, (known, (other, is_told, (text, is_text, (lines, has_lines, h)))))) =
-      (reader, is_given, (heap, stored, accepted, (known, (other, is_told, (text, is_text, (lines, has_lines, inl (h.run, h.written)))))))
+  pub unflushed_run : (lacks : Type 0) → SomeRun given remaining texts rest mutators (Replays gives contents mutators fresh before between)
+      → SomeRun given remaining texts rest mutators (RefusesRun lacks gives contents mutators fresh before after CannotPrint)
+  unflushed_run lacks (reader, is_given, (heap, stored, accepted, (known, (other, is_text_of, (text, is_text, (lines, has_lines, h)))))) =
+      (reader, is_given, (heap, stored, accepted, (known, (other, is_text_of, (text, is_text, (lines, has_lines, inl (h.run, h.written)))))))

@@ -19,7 +19,7 @@ use Rattle.comp_trace.specs.Action.TheVariants.{Root, Load, Get, Store, Put, New
 use Rattle.comp_trace.specs.Line.{Line}
 use Rattle.comp_trace.specs.Run.{Run}
 use Rattle.comp_trace.specs.Shown.{Shown}
-use Rattle.commands.specs.ByLine.{earlier_of, told_of, AreByLine, AreOf, AreOwn, HasEnded, IsFirstStop, IsLeastStop, LinesRise}
+use Rattle.commands.specs.ByLine.{earlier_of, printed_at, AreByLine, AreOf, AreOwn, HasEnded, IsFirstStop, IsLeastStop, LinesRise}
 
 -- ---- the walk
 
@@ -29,17 +29,17 @@ listed None = []
 listed (Some value) = value ∷ []
 
 -- these values, without the first one if it was taken
-abbrev pub untold : Option Shown → List Shown → List Shown
-untold None values = values
-untold (Some value) values = drop 1 values
+abbrev pub unprinted : Option Shown → List Shown → List Shown
+unprinted None values = values
+unprinted (Some value) values = drop 1 values
 
 -- From line n on, if the mutators have these values left: at each line, the first value that its mutator has left, if
 -- it is of that line.
 abbrev pub walked : ℕ → List Line → (ℕ → List Shown) → List Shown
 walked n [] left = []
 walked n (line ∷ lines) left =
-    let value = told_of n (left line.mutator) in
-    listed value ++ walked (n + 1) lines (but left line.mutator (untold value (left line.mutator)))
+    let value = printed_at n (left line.mutator) in
+    listed value ++ walked (n + 1) lines (but left line.mutator (unprinted value (left line.mutator)))
 
 -- what a run showed, and its place
 abbrev pub shown_by : List Run → ℕ → List Shown
@@ -104,19 +104,19 @@ starts_from k n [] value values h = let none : ⊥ = cc in absurd none
 starts_from k n (line ∷ lines) value values h = starts_at (line.mutator == k) n line (own_lines k (numbered (n + 1) lines)) value values (λ a. starts_from k (n + 1) lines value values a) h
 
 -- ---- the line of a walk
-tells_is : (n : ℕ) (P : Option Shown → Type 0) (value : Shown) → (value.line ≡ n → P (Some value)) → ((value.line ≡ n → ⊥) → P None) → P (if value.line == n then Some value else None)
-tells_is n P value here other = ⊎_elim
+printed_is : (n : ℕ) (P : Option Shown → Type 0) (value : Shown) → (value.line ≡ n → P (Some value)) → ((value.line ≡ n → ⊥) → P None) → P (if value.line == n then Some value else None)
+printed_is n P value here other = ⊎_elim
     (λ (y : (eqb value.line n ≡ true) × (value.line ≡ n)). subst (λ (b : Bool). P (if b then Some value else None)) (sym y.0) (here y.1))
     (λ (z : (eqb value.line n ≡ false) × (value.line ≢ n)). subst (λ (b : Bool). P (if b then Some value else None)) (sym z.0) (other z.1))
     (eqb_tells value.line n)
 
 -- what its mutator then has left is of the lines after it
 left_behind : (n : ℕ) (line : Line) (lines : List Line) (m : ℕ) (values : List Shown) → AreOf ((n, line) ∷ own_lines m (numbered (n + 1) lines)) values
-    → AreOf (own_lines m (numbered (n + 1) lines)) (untold (told_of n values) values)
+    → AreOf (own_lines m (numbered (n + 1) lines)) (unprinted (printed_at n values) values)
 left_behind n line lines m [] h = no_values (own_lines m (numbered (n + 1) lines))
 left_behind n line lines m (value ∷ values) h =
     let own = own_lines m (numbered (n + 1) lines) in
-    tells_is n (λ (o : Option Shown). AreOf own (untold o (value ∷ values))) value
+    printed_is n (λ (o : Option Shown). AreOf own (unprinted o (value ∷ values))) value
     (λ (e : value.line ≡ n). ⊎_elim (λ a. let le = starts_from m (n + 1) lines value values a in absurd (omega (arith, le, e)))
     (λ b. let same : values ≡ b.1 = cc in subst (AreOf own) (sym same) b.3) h)
     (λ (ne : value.line ≡ n → ⊥). ⊎_elim (λ a. a) (λ b. let one : value ≡ record { line = n; value = b.0 } = cc in absurd (ne (ap (λ (x : Shown). x.line) one))) h)
@@ -128,7 +128,7 @@ HaveOwn n lines left = (k : ℕ) → AreOf (own_lines k (numbered n lines)) (lef
 module _ (n : ℕ) (line : Line) (lines : List Line) (left : ℕ → List Shown) where
   -- what the line's mutator has left after it, and what each has
   abbrev behind : List Shown
-  behind = untold (told_of n (left line.mutator)) (left line.mutator)
+  behind = unprinted (printed_at n (left line.mutator)) (left line.mutator)
 
   abbrev then_left : ℕ → List Shown
   then_left = but left line.mutator behind
@@ -151,25 +151,25 @@ rise_lower : (low lower : ℕ) (values : List Shown) → lower ≤ low → Lines
 rise_lower low lower [] le h = tt
 rise_lower low lower (value ∷ values) le h = (omega (arith, le, h.0), h.1)
 
-rise_listed : (n : ℕ) (values more : List Shown) → LinesRise (n + 1) more → LinesRise n (listed (told_of n values) ++ more)
+rise_listed : (n : ℕ) (values more : List Shown) → LinesRise (n + 1) more → LinesRise n (listed (printed_at n values) ++ more)
 rise_listed n [] more h = rise_lower (n + 1) n more (omega arith) h
-rise_listed n (value ∷ values) more h = tells_is n (λ (o : Option Shown). LinesRise n (listed o ++ more)) value
+rise_listed n (value ∷ values) more h = printed_is n (λ (o : Option Shown). LinesRise n (listed o ++ more)) value
     (λ (e : value.line ≡ n). (omega (arith, e), subst (λ (m : ℕ). LinesRise (m + 1) more) (sym e) h))
     (λ (ne : value.line ≡ n → ⊥). rise_lower (n + 1) n more (omega arith) h)
 
-in_told : (n : ℕ) (values : List Shown) (x : Shown) → In x values → In x (listed (told_of n values)) ⊎ In x (untold (told_of n values) values)
-in_told n [] x i = absurd i
-in_told n (value ∷ values) x i = tells_is n (λ (o : Option Shown). In x (listed o) ⊎ In x (untold o (value ∷ values))) value
+in_printed : (n : ℕ) (values : List Shown) (x : Shown) → In x values → In x (listed (printed_at n values)) ⊎ In x (unprinted (printed_at n values) values)
+in_printed n [] x i = absurd i
+in_printed n (value ∷ values) x i = printed_is n (λ (o : Option Shown). In x (listed o) ⊎ In x (unprinted o (value ∷ values))) value
     (λ (e : value.line ≡ n). ⊎_elim (λ (same : value ≡ x). inl (inl same)) (λ t. inr t) i) (λ (ne : value.line ≡ n → ⊥). inr i)
 
-told_in : (n : ℕ) (values : List Shown) (x : Shown) → In x (listed (told_of n values)) → In x values
-told_in n [] x i = absurd i
-told_in n (value ∷ values) x i = tells_is n (λ (o : Option Shown). In x (listed o) → In x (value ∷ values)) value
+printed_in : (n : ℕ) (values : List Shown) (x : Shown) → In x (listed (printed_at n values)) → In x values
+printed_in n [] x i = absurd i
+printed_in n (value ∷ values) x i = printed_is n (λ (o : Option Shown). In x (listed o) → In x (value ∷ values)) value
     (λ (e : value.line ≡ n) (t : In x (value ∷ [])). ⊎_elim (λ (same : value ≡ x). inl same) (λ none. absurd none) t) (λ (ne : value.line ≡ n → ⊥) (t : In x []). absurd t) i
 
-untold_in : (n : ℕ) (values : List Shown) (x : Shown) → In x (untold (told_of n values) values) → In x values
-untold_in n [] x i = absurd i
-untold_in n (value ∷ values) x i = tells_is n (λ (o : Option Shown). In x (untold o (value ∷ values)) → In x (value ∷ values)) value
+unprinted_in : (n : ℕ) (values : List Shown) (x : Shown) → In x (unprinted (printed_at n values) values) → In x values
+unprinted_in n [] x i = absurd i
+unprinted_in n (value ∷ values) x i = printed_is n (λ (o : Option Shown). In x (unprinted o (value ∷ values)) → In x (value ∷ values)) value
     (λ (e : value.line ≡ n) (t : In x values). inr t) (λ (ne : value.line ≡ n → ⊥) (t : In x (value ∷ values)). t) i
 
 -- The values rise with their lines, and are exactly those that the mutators have left.
@@ -182,23 +182,23 @@ walk_is : (n : ℕ) (lines : List Line) (left : ℕ → List Shown) → HaveOwn 
 walk_is n [] left own = record { rise = tt; from = λ x i. absurd i; all = λ x k i. subst (In x) (own k) i }
 walk_is n (line ∷ lines) left own =
     let m = line.mutator in
-    let told = listed (told_of n (left m)) in
+    let reported = listed (printed_at n (left m)) in
     let next = then_left n line lines left in
     let rest = behind n line lines left in
     let more = walked (n + 1) lines next in
     let h = walk_is (n + 1) lines next (own_behind n line lines left own) in
     record {
       rise = rise_listed n (left m) more h.rise;
-      from = λ x i. ⊎_elim (λ t. (m, told_in n (left m) x t))
+      from = λ x i. ⊎_elim (λ t. (m, printed_in n (left m) x t))
           (λ t. let r = h.from x t in ⊎_elim
-          (λ (e : r.0 ≡ m). (m, untold_in n (left m) x (subst (In x) (but-same left m rest) (subst (λ (j : ℕ). In x (next j)) e r.1))))
+          (λ (e : r.0 ≡ m). (m, unprinted_in n (left m) x (subst (In x) (but-same left m rest) (subst (λ (j : ℕ). In x (next j)) e r.1))))
           (λ (ne : r.0 ≡ m → ⊥). (r.0, subst (In x) (but-other left m rest r.0 ne) r.1))
           (same_or_not r.0 m))
-          (in_parts told more x i);
+          (in_parts reported more x i);
       all = λ x k i. ⊎_elim
-          (λ (e : k ≡ m). ⊎_elim (λ t. in_front told more x t) (λ t. in_behind told more x (h.all x m (subst (In x) (sym (but-same left m rest)) t)))
-          (in_told n (left m) x (subst (λ (j : ℕ). In x (left j)) e i)))
-          (λ (ne : k ≡ m → ⊥). in_behind told more x (h.all x k (subst (In x) (sym (but-other left m rest k ne)) i)))
+          (λ (e : k ≡ m). ⊎_elim (λ t. in_front reported more x t) (λ t. in_behind reported more x (h.all x m (subst (In x) (sym (but-same left m rest)) t)))
+          (in_printed n (left m) x (subst (λ (j : ℕ). In x (left j)) e i)))
+          (λ (ne : k ≡ m → ⊥). in_behind reported more x (h.all x k (subst (In x) (sym (but-other left m rest k ne)) i)))
           (same_or_not k m);
     }
 
@@ -219,8 +219,8 @@ shown_at_run (other ∷ runs) zero run e = ap (λ (r : Run). r.shown.items) (som
 shown_at_run (other ∷ runs) (suc k) run e = shown_at_run runs k run e
 
 -- the walk along all lines answers what all runs showed
-pub told_by_line : (lines : List Line) (runs : List Run) → AreOwn lines runs → AreByLine runs (walked 1 lines (shown_by runs))
-told_by_line lines runs own =
+pub printed_by_line : (lines : List Line) (runs : List Run) → AreOwn lines runs → AreByLine runs (walked 1 lines (shown_by runs))
+printed_by_line lines runs own =
     let h = walk_is 1 lines (shown_by runs)
     (own_shown (λ k values. AreOf (own_lines k (numbered 1 lines)) values) runs own (λ k. no_values (own_lines k (numbered 1 lines)))) in
     record {
@@ -235,7 +235,7 @@ told_by_line lines runs own =
 walked_line : (lines : List Line) (at : ℕ) (d : Line) (left : ℕ → List Shown) → at < length lines
     → (let line : Line = get_or lines at d in
     walked (at + 1) (drop at lines) left
-    ≡ listed (told_of (at + 1) (left line.mutator)) ++ walked (at + 1 + 1) (drop (at + 1) lines) (but left line.mutator (untold (told_of (at + 1) (left line.mutator)) (left line.mutator))))
+    ≡ listed (printed_at (at + 1) (left line.mutator)) ++ walked (at + 1 + 1) (drop (at + 1) lines) (but left line.mutator (unprinted (printed_at (at + 1) (left line.mutator)) (left line.mutator))))
 walked_line lines at d left lt =
     let more : suc at ≡ at + 1 = omega arith in
     let cut : drop at lines ≡ get_or lines at d ∷ drop (at + 1) lines = drop-cons lines at d lt ∙ ap (λ (j : ℕ). get_or lines at d ∷ drop j lines) more in
@@ -276,33 +276,33 @@ shown_there (run ∷ runs) zero d lt = refl
 shown_there (run ∷ runs) (suc k) d lt = shown_there runs k d (omega arith)
 
 -- how many values of each run were taken after this one
-abbrev pub told_behind : Option Shown → List ℕ → ℕ → List ℕ
-told_behind None next m = next
-told_behind (Some value) next m = set next m (get_or next m 0 + 1)
+abbrev pub printed_after : Option Shown → List ℕ → ℕ → List ℕ
+printed_after None next m = next
+printed_after (Some value) next m = set next m (get_or next m 0 + 1)
 
 left_behind_line : (runs : List Run) (next : List ℕ) (m : ℕ) (value : Option Shown) → m < length next
-    → but (left_of runs next) m (untold value (left_of runs next m)) ≡ left_of runs (told_behind value next m)
+    → but (left_of runs next) m (unprinted value (left_of runs next m)) ≡ left_of runs (printed_after value next m)
 left_behind_line runs next m None lt = sym (left_same runs next m)
 left_behind_line runs next m (Some value) lt = sym (left_more runs next m lt)
 
 -- what was taken and what is still to be taken stay the same after a line
 pub walk_on : (lines : List Line) (runs : List Run) (next : List ℕ) (at m : ℕ) (d : Line) (run : Run) (value : Option Shown) (out all : List Shown)
     → at < length lines → (let line : Line = get_or lines at d in m ≡ line.mutator) → m < length next → m < length runs → run ≡ get_or runs m run
-    → value ≡ told_of (at + 1) (drop (get_or next m 0) run.shown.items) → out ++ walked (at + 1) (drop at lines) (left_of runs next) ≡ all
-    → (out ++ listed value) ++ walked (at + 1 + 1) (drop (at + 1) lines) (left_of runs (told_behind value next m)) ≡ all
-walk_on lines runs next at m d run value out all lt by few inside is told so_far =
+    → value ≡ printed_at (at + 1) (drop (get_or next m 0) run.shown.items) → out ++ walked (at + 1) (drop at lines) (left_of runs next) ≡ all
+    → (out ++ listed value) ++ walked (at + 1 + 1) (drop (at + 1) lines) (left_of runs (printed_after value next m)) ≡ all
+walk_on lines runs next at m d run value out all lt by few inside is reported so_far =
     let line : Line = get_or lines at d in
     let rest = λ (left : ℕ → List Shown). walked (at + 1 + 1) (drop (at + 1) lines) left in
     let left : left_of runs next m ≡ drop (get_or next m 0) run.shown.items =
     ap (drop (get_or next m 0)) (shown_there runs m run inside ∙ ap (λ (r : Run). r.shown.items) (sym is)) in
-    let tells : told_of (at + 1) (left_of runs next line.mutator) ≡ value = ap (λ (j : ℕ). told_of (at + 1) (left_of runs next j)) (sym by) ∙ ap (told_of (at + 1)) left ∙ sym told in
-    let leaves : but (left_of runs next) line.mutator (untold value (left_of runs next line.mutator)) ≡ left_of runs (told_behind value next m) =
-    ap (λ (j : ℕ). but (left_of runs next) j (untold value (left_of runs next j))) (sym by) ∙ left_behind_line runs next m value few in
-    let line_of : walked (at + 1) (drop at lines) (left_of runs next) ≡ listed value ++ rest (left_of runs (told_behind value next m)) =
+    let tells : printed_at (at + 1) (left_of runs next line.mutator) ≡ value = ap (λ (j : ℕ). printed_at (at + 1) (left_of runs next j)) (sym by) ∙ ap (printed_at (at + 1)) left ∙ sym reported in
+    let leaves : but (left_of runs next) line.mutator (unprinted value (left_of runs next line.mutator)) ≡ left_of runs (printed_after value next m) =
+    ap (λ (j : ℕ). but (left_of runs next) j (unprinted value (left_of runs next j))) (sym by) ∙ left_behind_line runs next m value few in
+    let line_of : walked (at + 1) (drop at lines) (left_of runs next) ≡ listed value ++ rest (left_of runs (printed_after value next m)) =
     walked_line lines at d (left_of runs next) lt
-    ∙ ap (λ (o : Option Shown). listed o ++ rest (but (left_of runs next) line.mutator (untold o (left_of runs next line.mutator)))) tells
+    ∙ ap (λ (o : Option Shown). listed o ++ rest (but (left_of runs next) line.mutator (unprinted o (left_of runs next line.mutator)))) tells
     ∙ ap (λ (left : ℕ → List Shown). listed value ++ rest left) leaves in
-    append_assoc out (listed value) (rest (left_of runs (told_behind value next m))) ∙ ap (λ (l : List Shown). out ++ l) (sym line_of) ∙ so_far
+    append_assoc out (listed value) (rest (left_of runs (printed_after value next m))) ∙ ap (λ (l : List Shown). out ++ l) (sym line_of) ∙ so_far
 
 -- a value that is not there is none
 pub none_there : (value : Option Shown) → ((one : Shown) → value ≡ Some one → ⊥) → value ≡ None
@@ -312,7 +312,7 @@ none_there (Some one) not = absurd (not one refl)
 -- ---- the refused line with the least number
 first_of_more : (runs : List Run) (run : Run) (stop : Stop) → Each runs HasEnded → run.fault ≡ Some stop → IsLeastStop (runs ++ run ∷ []) stop
 first_of_more runs run stop ended fault = record {
-  told = (length runs, run, at_last runs run, fault);
+  reported = (length runs, run, at_last runs run, fault);
   least = λ k r other at is. ⊎_elim
       (λ e. let none : Some other ≡ None = sym is ∙ ended k r e in absurd (some_not_none other none))
       (λ t. let same : Some other ≡ Some stop = sym is ∙ ap (λ (x : Run). x.fault) (sym t.1) ∙ fault in
@@ -323,13 +323,13 @@ first_of_more runs run stop ended fault = record {
 
 least_still : (runs : List Run) (run : Run) (stop : Stop) → IsLeastStop runs stop → ((other : Stop) → run.fault ≡ Some other → stop.line ≤ other.line) → IsLeastStop (runs ++ run ∷ []) stop
 least_still runs run stop h above = record {
-  told = (h.told.0, h.told.1, at_front runs run h.told.0 h.told.1 h.told.2, h.told.3);
+  reported = (h.reported.0, h.reported.1, at_front runs run h.reported.0 h.reported.1 h.reported.2, h.reported.3);
   least = λ k r other at is. ⊎_elim (λ e. h.least k r other e is) (λ t. above other (ap (λ (x : Run). x.fault) t.1 ∙ is)) (last_of runs run r k at);
 }
 
 least_now : (runs : List Run) (run : Run) (stop other : Stop) → IsLeastStop runs stop → run.fault ≡ Some other → other.line < stop.line → IsLeastStop (runs ++ run ∷ []) other
 least_now runs run stop other h fault lt = record {
-  told = (length runs, run, at_last runs run, fault);
+  reported = (length runs, run, at_last runs run, fault);
   least = λ k r third at is. ⊎_elim
       (λ e. let le = h.least k r third e is in omega (arith, le, lt))
       (λ t. let same : Some third ≡ Some other = sym is ∙ ap (λ (x : Run). x.fault) (sym t.1) ∙ fault in

@@ -8,7 +8,7 @@ use Rattle.comp_mutator.specs.Ends.{cycle_of, setup_in, IsRefusedFor}
 use Rattle.comp_mutator.specs.Finishes.{journals_of}
 use Rattle.comp_mutator.specs.NextHeap.{next_faults}
 use Rattle.comp_mutator.specs.Stable.{StableHeap}
-use Rattle.comp_mutator.specs.Told.{IsToldAs}
+use Rattle.comp_mutator.specs.Numbered.{IsNumberedAs}
 use Rattle.comp_mutator.specs.Finished.{Finished}
 use Rattle.comp_trace.specs.Bytes.{flipped, CutsShort}
 use Rattle.comp_trace.specs.CycleRuns.{IsLastRun, IsPart}
@@ -19,7 +19,7 @@ use Rattle.command_io.specs.declared.refusal.Refusal.TheVariants.{Layout, Mutato
 
 -- if a heap whose objects never move stands for this heap, the cycle is a chapter of its life
 abbrev pub IsChapterOf : Heap → Cycle → Type 0
-IsChapterOf heap c = (numbers : List ℕ) (stable : StableHeap) → IsToldAs heap numbers stable → IsChapter c numbers stable
+IsChapterOf heap c = (numbers : List ℕ) (stable : StableHeap) → IsNumberedAs heap numbers stable → IsChapter c numbers stable
 
 -- with these marks, this heap follows what is left of a cycle
 pub record IsNextHeap (heap : Heap) (f : Finished) (marks : List ℕ) (next : Heap) : Type 0 where

@@ -47,16 +47,16 @@ RefusesCycle lacks gives contents mutators fresh before after lines marks heap r
 
 -- P holds of the heap of an image, of the lines of a trace for it, and of marks, each read by some reader that is given
 abbrev pub SomeCycle : {R S : Type 0} → (R → Type 0) → (R → Option (List ℕ)) → (S → Type 0) → (S → Type 0) → (S → Option (List ℕ)) → ℕ → (List Line → List ℕ → Heap → Type 0) → Type 0
-SomeCycle given remaining told handed rest mutators P =
+SomeCycle given remaining texts handed rest mutators P =
     (heap : Heap) × SomeGiven given remaining (IsImageOf (λ other. other ≡ heap))
-    × ((lines : List Line) × SomeGiven told rest (IsTextOf mutators (length heap.roots) lines)
+    × ((lines : List Line) × SomeGiven texts rest (IsTextOf mutators (length heap.roots) lines)
     × ((marks : List ℕ) × SomeGiven handed rest (AreMarksOf marks) × P lines marks heap))
 
 -- what the command does
 abbrev pub MakesNext : {R S W : Type 0} → (R → Type 0) → (R → Option (List ℕ)) → (S → Type 0) → (S → Type 0) → (S → Option (List ℕ)) → (W → Type 0) → (W → Option (List ℕ))
     → ℕ → ℕ → Option (List ℕ) → Option (List ℕ) → Type 0
-MakesNext given remaining told handed rest gives contents mutators fresh before after =
-    SomeCycle given remaining told handed rest mutators (Nexts gives contents mutators fresh before after)
+MakesNext given remaining texts handed rest gives contents mutators fresh before after =
+    SomeCycle given remaining texts handed rest mutators (Nexts gives contents mutators fresh before after)
 
 -- what was printed, between these two contents of the output, are the values of a trace that was run over the heap,
 -- and the live words of the heap that followed with some marks
@@ -66,18 +66,18 @@ PrintsNext mutators fresh before after heap = (text : List ℕ) × (lines : List
 
 -- there are the heap of an image and the lines of a trace for it; the marks are refused, or there are none
 abbrev pub RefusesHanded : {R S : Type 0} → (R → Type 0) → (R → Option (List ℕ)) → (S → Type 0) → Type 0 → (S → Type 0) → (S → Option (List ℕ)) → ℕ → Refusal → Type 0
-RefusesHanded given remaining told unmarked handed rest mutators refusal =
+RefusesHanded given remaining texts unmarked handed rest mutators refusal =
     (heap : Heap) × SomeGiven given remaining (IsImageOf (λ other. other ≡ heap))
-    × ((lines : List Line) × SomeGiven told rest (IsTextOf mutators (length heap.roots) lines) × RefusesMarksAt unmarked handed rest refusal)
+    × ((lines : List Line) × SomeGiven texts rest (IsTextOf mutators (length heap.roots) lines) × RefusesMarksAt unmarked handed rest refusal)
 
 -- why it is refused: there is no image, or no trace for its heap, or no marks; or one of them is refused; or the cycle
 -- is
 abbrev pub RefusesNext : {R S W : Type 0} → Type 0 → (R → Type 0) → (R → Option (List ℕ)) → Type 0 → (S → Type 0) → Type 0 → (S → Type 0) → (S → Option (List ℕ))
     → Type 0 → (W → Type 0) → (W → Option (List ℕ)) → ℕ → ℕ → Option (List ℕ) → Option (List ℕ) → Refusal → Type 0
-RefusesNext absent given remaining missing told unmarked handed rest lacks gives contents mutators fresh before after refusal =
-    RefusesInputs absent given remaining missing told rest mutators refusal
-    ⊎ (RefusesHanded given remaining told unmarked handed rest mutators refusal
-    ⊎ SomeCycle given remaining told handed rest mutators (λ lines marks heap. RefusesCycle lacks gives contents mutators fresh before after lines marks heap refusal))
+RefusesNext absent given remaining missing texts unmarked handed rest lacks gives contents mutators fresh before after refusal =
+    RefusesInputs absent given remaining missing texts rest mutators refusal
+    ⊎ (RefusesHanded given remaining texts unmarked handed rest mutators refusal
+    ⊎ SomeCycle given remaining texts handed rest mutators (λ lines marks heap. RefusesCycle lacks gives contents mutators fresh before after lines marks heap refusal))
 
 -- ---- within the command
 

@@ -18,8 +18,8 @@ use Rattle.commands.specs.declared.replays.Replayed.{Replayed}
 -- why there is no heap with a trace: there is no image, or it is refused; or there is no trace for the heap, or it is
 -- refused
 abbrev pub RefusesInputs : {R S : Type 0} → Type 0 → (R → Type 0) → (R → Option (List ℕ)) → Type 0 → (S → Type 0) → (S → Option (List ℕ)) → ℕ → Refusal → Type 0
-RefusesInputs absent given remaining missing told rest mutators refusal = RefusesAt absent given remaining RefusesImage refusal
-    ⊎ ((heap : Heap) × SomeGiven given remaining (IsImageOf (λ other. other ≡ heap)) × RefusesTextAt missing told rest mutators (length heap.roots) refusal)
+RefusesInputs absent given remaining missing texts rest mutators refusal = RefusesAt absent given remaining RefusesImage refusal
+    ⊎ ((heap : Heap) × SomeGiven given remaining (IsImageOf (λ other. other ≡ heap)) × RefusesTextAt missing texts rest mutators (length heap.roots) refusal)
 
 -- what a run had shown that was halted for this refusal: a refused line may come after lines that showed values, any
 -- other refusal comes with no value

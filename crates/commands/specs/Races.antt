@@ -133,13 +133,13 @@ RefusesRacing lacks gives contents mutators fresh before after _ lines heap = �
 -- refused, and nothing was printed; or the race is refused; or memory ran out
 abbrev pub RefusesRace : {R S W : Type 0} → Type 0 → (R → Type 0) → (R → Option (List ℕ)) → Type 0 → (S → Type 0) → (S → Option (List ℕ)) → Type 0 → (W → Type 0) → (W → Option (List ℕ))
     → ℕ → ℕ → Option (List ℕ) → Option (List ℕ) → Refusal → Type 0
-RefusesRace absent given remaining missing told rest lacks gives contents mutators fresh before after (CannotOpen inputs.Image) = absent
-RefusesRace absent given remaining missing told rest lacks gives contents mutators fresh before after (CannotOpen inputs.Trace) = missing × SomeGiven given remaining (IsImageOf (λ heap. ⊤))
-RefusesRace absent given remaining missing told rest lacks gives contents mutators fresh before after (Layout fault) = SomeGiven given remaining (λ known. IfSome known (Refuses fault))
-RefusesRace absent given remaining missing told rest lacks gives contents mutators fresh before after (ReadFailed input) = RefusesTrace given remaining told rest mutators (ReadFailed input)
-RefusesRace absent given remaining missing told rest lacks gives contents mutators fresh before after (Trace fault) =
-    (RefusesTrace given remaining told rest mutators (Trace fault) × Keeps before after)
-    ⊎ SomeRun given remaining told rest mutators (StopsRace mutators fresh before after fault)
-RefusesRace absent given remaining missing told rest lacks gives contents mutators fresh before after OutOfMemory = Unit {0}
-RefusesRace absent given remaining missing told rest lacks gives contents mutators fresh before after refusal =
-    SomeRun given remaining told rest mutators (RefusesRacing lacks gives contents mutators fresh before after refusal)
+RefusesRace absent given remaining missing texts rest lacks gives contents mutators fresh before after (CannotOpen inputs.Image) = absent
+RefusesRace absent given remaining missing texts rest lacks gives contents mutators fresh before after (CannotOpen inputs.Trace) = missing × SomeGiven given remaining (IsImageOf (λ heap. ⊤))
+RefusesRace absent given remaining missing texts rest lacks gives contents mutators fresh before after (Layout fault) = SomeGiven given remaining (λ known. IfSome known (Refuses fault))
+RefusesRace absent given remaining missing texts rest lacks gives contents mutators fresh before after (ReadFailed input) = RefusesTrace given remaining texts rest mutators (ReadFailed input)
+RefusesRace absent given remaining missing texts rest lacks gives contents mutators fresh before after (Trace fault) =
+    (RefusesTrace given remaining texts rest mutators (Trace fault) × Keeps before after)
+    ⊎ SomeRun given remaining texts rest mutators (StopsRace mutators fresh before after fault)
+RefusesRace absent given remaining missing texts rest lacks gives contents mutators fresh before after OutOfMemory = Unit {0}
+RefusesRace absent given remaining missing texts rest lacks gives contents mutators fresh before after refusal =
+    SomeRun given remaining texts rest mutators (RefusesRacing lacks gives contents mutators fresh before after refusal)

@@ -1,6 +1,6 @@
 //! Joins the runs of a race: their values in the order of the lines, and the least refused line.
 ghost use Rattle.std.specs.Prelude.{◌≡◌, ℕ, ◌+◌, ◌<◌, ◌≤◌, [], All, drop, length, vec_capacity, IfSome};
-ghost use Rattle.commands.specs.ByLine.{earlier_of, told_of, AreByLine, AreOwn, IsFirstStop};
+ghost use Rattle.commands.specs.ByLine.{earlier_of, printed_at, AreByLine, AreOwn, IsFirstStop};
 
 use comp_trace::{Line, Run, Shown, Stop};
 
@@ -16,7 +16,7 @@ pub fn by_line(lines: &[Line], runs: &[Run], mut shown: Vec<Shown>) -> Vec<Shown
     let mut next = [0; 64];
     for (at, line) in lines.iter().enumerate() {
         let m = usize::from(line.mutator);
-        if let Some(value) = told(&runs[m], next[m], at as u64 + 1) {
+        if let Some(value) = shown_at(&runs[m], next[m], at as u64 + 1) {
             shown.push_reserved(value);
             next[m] += 1;
         }
@@ -25,8 +25,8 @@ pub fn by_line(lines: &[Line], runs: &[Run], mut shown: Vec<Shown>) -> Vec<Shown
 }
 
 // The value with index `from` of a run, if it is of this line.
-fn told(run: &Run, from: usize, line: u64) -> Option<Shown>
-    ensures told { result ≡ told_of line (drop from run.now.shown.items) }
+fn shown_at(run: &Run, from: usize, line: u64) -> Option<Shown>
+    ensures value { result ≡ printed_at line (drop from run.now.shown.items) }
     ensures inside { IfSome result (λ _. from < length run.now.shown.items) }
 {
     if let Some(value) = run.shown.get(from) {

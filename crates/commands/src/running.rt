@@ -87,8 +87,8 @@ fn respond<R: Threads + Wait + Sync, I: Images, T: Traces, D: Dumps, O: Write, E
     ensures same_writer { writer_of out.new ≡ writer_of out.old }
 {
     match asked {
-        Ok(task) => told(perform(alloc, rt, images, traces, dumps, task, out), err),
-        Err(error) if error.kind() == ErrorKind::OutOfMemory => told(
+        Ok(task) => reported(perform(alloc, rt, images, traces, dumps, task, out), err),
+        Err(error) if error.kind() == ErrorKind::OutOfMemory => reported(
             Err(Refusal::OutOfMemory),
             err,
         ),
@@ -171,7 +171,7 @@ fn print_task<R: Threads + Wait + Sync, I: Images, T: Traces, D: Dumps, O: Write
 }
 
 // The status of a task. Prints a refusal on `err`; if that fails, nothing more is done.
-pub(crate) fn told<E: Write>(outcome: Result<(), Refusal>, err: &mut E) -> u8
+pub(crate) fn reported<E: Write>(outcome: Result<(), Refusal>, err: &mut E) -> u8
     ensures done { OnOk outcome (result ≡ 0) }
     ensures refused { OnErr outcome (result ≡ 1) }
 {

@@ -2,7 +2,7 @@
 ghost use Rattle.std.specs.Prelude.{◌≡◌, ◌≢◌};
 ghost use Rattle.std.specs.declared.io.ErrorKind.TheVariants as kinds;
 
-use crate::running::{MISUSED, told};
+use crate::running::{MISUSED, reported};
 use command_io::Refusal;
 use std::env;
 use std::io::{ErrorKind, Result as IoResult, Write};
@@ -19,12 +19,12 @@ pub fn fetch_words<R: Env + AllocGlobal>(rt: &R) -> IoResult<Vec<String>> {
 
 /// Prints on `err` why a run could not begin, by the kind of the error, and answers the status. Out of memory is a
 /// refusal; any other kind is that of a word that is not UTF-8.
-pub fn tell_unstarted<E: Write>(kind: ErrorKind, err: &mut E) -> u8
+pub fn report_unstarted<E: Write>(kind: ErrorKind, err: &mut E) -> u8
     ensures refused { kind ≡ kinds.OutOfMemory → result ≡ 1 }
     ensures misused { kind ≢ kinds.OutOfMemory → result ≡ 2 }
 {
     if kind == ErrorKind::OutOfMemory {
-        return told(Err(Refusal::OutOfMemory), err);
+        return reported(Err(Refusal::OutOfMemory), err);
     }
     let _ = err.write_all(NO_TEXT.as_bytes());
     let _ = err.flush();

@@ -36,7 +36,7 @@ use Rattle.comp_dump.specs.declared.fault.AuditFault.{AuditFault}
 use Rattle.comp_dump.specs.declared.fault.AuditFault.TheVariants.{WrongHead, WrongWord, WrongTotal, BuildUnclaimed, BadEntry, LooseReference, StampRepeated, StampMissing}
 use Rattle.audit_checks.specs.Checks.{setup_for, unless, all_stamps, journal_of, journals_in, above, is_edition, head_faults, is_claimed, build_faults, journal_faults, same_words, word_faults, each_built, some_refers, makes, is_start, is_made_before, is_led, reference_faults, late_on, late_with, late_faults, repeat_faults, missing_faults, total_faults}
 use Rattle.comp_audit.specs.Meant.{built_count, page_of, IsLawfulDump, LawfulIsYes}
-use Rattle.audit_checks.proofs.Telling.{both_pass, none_items}
+use Rattle.audit_checks.proofs.Reporting.{both_pass, none_items}
 use Rattle.audit_checks.proofs.Meanings.{true_and, faultless_is_lawful}
 use Rattle.audit_checks.proofs.Noting.{makes_here}
 use Rattle.audit_checks.proofs.Ranges.{none_in_range}

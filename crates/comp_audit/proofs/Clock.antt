@@ -12,7 +12,7 @@ use Rattle.comp_dump.proofs.CompHistoryPages.{total_below}
 use Rattle.comp_dump.specs.declared.fault.AuditFault.{AuditFault}
 use Rattle.comp_dump.specs.declared.fault.AuditFault.TheVariants.{StampRepeated, StampMissing}
 use Rattle.audit_checks.specs.Checks.{unless, above, repeat_faults, missing_faults}
-use Rattle.audit_checks.proofs.Telling.{none_both, unless_holds}
+use Rattle.audit_checks.proofs.Reporting.{none_both, unless_holds}
 use Rattle.audit_checks.proofs.Ranges.{somewhere, all_below}
 
 times_stamps : (s : ℕ) (all : List (ℕ × Entry)) → times s (map stamp_of all) ≡ total (λ (x : ℕ × Entry). only s (stamp_of x)) all

@@ -3,7 +3,7 @@ use Rattle.std.specs.Prelude.{◌≡◌, List, []}
 use Rattle.heap_layout.specs.Heap.{Heap}
 use Rattle.comp_dump.specs.Dumped.{Dumped}
 use Rattle.audit_checks.specs.Checks.{setup_for}
-use Rattle.audit_checks.specs.Told.{faults_for, IsFirst}
+use Rattle.audit_checks.specs.Reported.{faults_for, IsFirst}
 use Rattle.comp_dump.specs.declared.fault.AuditFault.{AuditFault}
 use Rattle.comp_audit.specs.declared.verdict.Verdict.{Verdict}
 use Rattle.comp_audit.specs.declared.verdict.Verdict.TheVariants.{Yes, No}

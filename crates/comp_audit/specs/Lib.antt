@@ -1,3 +1,3 @@
 pub mod Judged
 pub mod Meant
-pub use Rattle.audit_checks.specs.Told
+pub use Rattle.audit_checks.specs.Reported

@@ -23,9 +23,9 @@ use Rattle.comp_history.proofs.Rows.{at_value}
 use Rattle.comp_history.specs.OneThread.{OneThreadHeap, HasStart, IsNullOrStart, header_in, first_heap}
 use Rattle.comp_history.proofs.Heaps.{first_holds, journals_of}
 use Rattle.comp_cycles.specs.Stable.{StableHeap}
-use Rattle.comp_cycles.specs.Told.{Names, number_at, names_in, pointers_of, told_object, told_word, IsToldAs, AreTold}
+use Rattle.comp_cycles.specs.Numbered.{Names, number_at, names_in, pointers_of, numbered_object, numbered_word, IsNumberedAs, AreNumbered}
 use Rattle.comp_cycles.proofs.Naming.{at_name, at_row, row_long}
-use Rattle.comp_cycles.proofs.Living.{told_reference, told_other, Agrees}
+use Rattle.comp_cycles.proofs.Living.{numbered_reference, numbered_other, Agrees}
 use Rattle.comp_cycles.proofs.Lives.{Ordered}
 use Rattle.comp_cycles.proofs.Targets.{object_long, object_word, target_cases, named_mark, named_null, named_none, forward_mark}
 
@@ -126,7 +126,7 @@ module _ (u : Setup) (closed : IsClosed u.heap) (slid : u.compacted ≡ sliding.
   pub start_there : (k : ℕ) → k < length marks → HasStart first (place objects k)
   start_there k lt = (first_holds u).objects (place objects k) (inl (place-is objects k (omega (arith, lt, count))))
 
-  module _ (names : Names) (numbers : List ℕ) (stable : StableHeap) (later : List ℕ) (t : IsToldAs u.heap numbers stable)
+  module _ (names : Names) (numbers : List ℕ) (stable : StableHeap) (later : List ℕ) (t : IsNumberedAs u.heap numbers stable)
       (is : names ≡ zip (first.starts ++ later) (numbers ++ range_with_len (stable.given + 1) (length later))) (null : number_at names 0 ≡ 0)
     where
       abbrev none : Object
@@ -136,7 +136,7 @@ module _ (u : Setup) (closed : IsClosed u.heap) (slid : u.compacted ≡ sliding.
       starts_long = length-map (range_with_len 0 (length objects)) (place objects) ∙ row_long 0 (length objects) ∙ count
 
       pub numbers_long : length numbers ≡ length marks
-      numbers_long = sym (length-map numbers stable.words) ∙ ap length t.words ∙ length-map objects (told_object (names_in u.heap numbers)) ∙ count
+      numbers_long = sym (length-map numbers stable.words) ∙ ap length t.words ∙ length-map objects (numbered_object (names_in u.heap numbers)) ∙ count
 
       key : (k : ℕ) → k < length marks → get_or first.starts k 0 ≡ place objects k
       key k lt = at_row (place objects) 0 (length objects) k (omega (arith, lt, count)) ∙ ap (place objects) (let z : 0 + k ≡ k = omega arith in z)
@@ -159,12 +159,12 @@ module _ (u : Setup) (closed : IsClosed u.heap) (slid : u.compacted ≡ sliding.
           ∙ get_or_append_left numbers (range_with_len (stable.given + 1) (length later)) 0 k (omega (arith, numbers_long, lt))
 
       -- the objects keep their words
-      object_of : (k : ℕ) → k < length marks → stable.words (get_or numbers k 0) ≡ told_object (names_in u.heap numbers) (object_at u.heap.edition words (mark k))
+      object_of : (k : ℕ) → k < length marks → stable.words (get_or numbers k 0) ≡ numbered_object (names_in u.heap numbers) (object_at u.heap.edition words (mark k))
       object_of k lt =
           sym (get_or-map stable.words numbers k 0 [] (omega (arith, numbers_long, lt)))
           ∙ ap (λ l. get_or l k []) t.words
-          ∙ get_or-map (told_object (names_in u.heap numbers)) objects k none [] (omega (arith, count, lt))
-          ∙ ap (told_object (names_in u.heap numbers)) (live-at u.heap.edition words marks k)
+          ∙ get_or-map (numbered_object (names_in u.heap numbers)) objects k none [] (omega (arith, count, lt))
+          ∙ ap (numbered_object (names_in u.heap numbers)) (live-at u.heap.edition words marks k)
 
       placed : (k : ℕ) → k < length marks → IsPlaced u.heap.edition words (mark k)
       placed k lt = closed.placed k 0 lt
@@ -190,29 +190,29 @@ module _ (u : Setup) (closed : IsClosed u.heap) (slid : u.compacted ≡ sliding.
           (cases_Bool (is_target marks w))
 
       -- word j of the k-th object in both heaps
-      same_word : (k j : ℕ) → k < length marks → j < size_of (header k) → get_or (stable.words (get_or numbers k 0)) j 0 ≡ told_word names (pointers_of (header k)) j (first.word (place objects k + j))
+      same_word : (k j : ℕ) → k < length marks → j < size_of (header k) → get_or (stable.words (get_or numbers k 0)) j 0 ≡ numbered_word names (pointers_of (header k)) j (first.word (place objects k + j))
       same_word k j lt inside =
           let w = get_or words (mark k + j) 0 in
           let pointers = pointers_of (header k) in
           let from = names_in u.heap numbers in
           let slid = first.word (place objects k + j) in
-          let read : get_or (stable.words (get_or numbers k 0)) j 0 ≡ told_word from pointers j w =
+          let read : get_or (stable.words (get_or numbers k 0)) j 0 ≡ numbered_word from pointers j w =
           ap (λ l. get_or l j 0) (object_of k lt) ∙ object_word from u.heap.edition words (mark k) j (placed k lt) inside in
-          let stays : (1 ≤ j → pointers < j) → get_or (stable.words (get_or numbers k 0)) j 0 ≡ told_word names pointers j slid =
-          λ behind. read ∙ told_other from pointers j w behind ∙ sym (told_other names pointers j slid behind ∙ other_of k j lt behind inside) in
+          let stays : (1 ≤ j → pointers < j) → get_or (stable.words (get_or numbers k 0)) j 0 ≡ numbered_word names pointers j slid =
+          λ behind. read ∙ numbered_other from pointers j w behind ∙ sym (numbered_other names pointers j slid behind ∙ other_of k j lt behind inside) in
           ⊎_elim
           (λ (no : j < 1). stays (λ low. absurd (omega (arith, no, low))))
           (λ (low : 1 ≤ j). ⊎_elim
           (λ (past : pointers < j). stays (λ _. past))
           (λ (high : j ≤ pointers).
-          read ∙ told_reference from pointers j w low high
-          ∙ sym (told_reference names pointers j slid low high ∙ ap (number_at names) (reference_of k j lt low high) ∙ (leads_of w).0))
+          read ∙ numbered_reference from pointers j w low high
+          ∙ sym (numbered_reference names pointers j slid low high ∙ ap (number_at names) (reference_of k j lt low high) ∙ (leads_of w).0))
           (cases_lt pointers j))
           (cases_lt j 1)
 
       -- the objects are the same in both heaps
-      begun_told : AreTold names first stable
-      begun_told = record {
+      begun_numbered : AreNumbered names first stable
+      begun_numbered = record {
         edition = t.edition;
         there = λ a s.
             let k = start_of a s in
@@ -232,7 +232,7 @@ module _ (u : Setup) (closed : IsClosed u.heap) (slid : u.compacted ≡ sliding.
             let k = start_of a s in
             let head : header_in first a ≡ header k.0 = ap (header_in first) k.2 ∙ head_is k.0 k.1 in
             ap (λ x. get_or (stable.words x) j 0) (ap (number_at names) k.2 ∙ number_of k.0 k.1) ∙ same_word k.0 j k.1 (subst (λ x. j < size_of x) head lt)
-            ∙ ap (λ x. told_word names (pointers_of (header k.0)) j (first.word (x + j))) (sym k.2) ∙ ap (λ x. told_word names (pointers_of x) j (first.word (a + j))) (sym head);
+            ∙ ap (λ x. numbered_word names (pointers_of (header k.0)) j (first.word (x + j))) (sym k.2) ∙ ap (λ x. numbered_word names (pointers_of x) j (first.word (a + j))) (sym head);
       }
         where
           default_is : (l : List ℕ) (i d : ℕ) → i < length l → get_or l i 0 ≡ get_or l i d
@@ -242,7 +242,7 @@ module _ (u : Setup) (closed : IsClosed u.heap) (slid : u.compacted ≡ sliding.
 
       pub begun : Agrees names first stable
       begun = record {
-        told = begun_told;
+        numbered = begun_numbered;
         apart = λ a b s s2 lt.
             let k = start_of a s in
             let l = start_of b s2 in

@@ -23,7 +23,7 @@ use Rattle.comp_history.specs.OneThread.{OneThreadHeap, HasStart, IsNullOrStart,
 use Rattle.comp_history.proofs.Merging as merging
 use Rattle.comp_history.proofs.Legal as legal
 use Rattle.comp_cycles.specs.Stable.{StableHeap, Step, Keeps, IsLife, lived}
-use Rattle.comp_cycles.specs.Told.{Names, number_at, names_in, pointers_of, told_object, told_word, told, made_by, made_at, first_numbers, first_told, IsToldAs}
+use Rattle.comp_cycles.specs.Numbered.{Names, number_at, names_in, pointers_of, numbered_object, numbered_word, numbered, made_by, made_at, first_numbers, first_numbered, IsNumberedAs}
 use Rattle.comp_cycles.specs.NextHeap.{word_in, lowered, next_heap, next_faults}
 use Rattle.comp_cycles.specs.Cycles.{Cycle, heap_after, given_after, numbers_after, story_of, IsCycleOf, IsChapter, IsSeen, IsWriting, IsRising, Follow, story, numbers_left, AreChapters, IsOneLife}
 use Rattle.comp_cycles.proofs.Naming.{no_name, row_long, in_row}
@@ -54,7 +54,7 @@ made_high : (xs : List (ℕ × Entry)) (i : ℕ) → i < length (made_at xs) →
 made_high [] i lt e = omega (arith, lt)
 made_high (x ∷ xs) i lt e = made_high_by x.1.kind (address_of x) (made_at xs) (omega arith) (made_high xs) i lt e
 
-module _ (u : Setup) (journals : Journals) (closed : IsClosed u.heap) (can : CanMerge u journals) (numbers : List ℕ) (stable : StableHeap) (t : IsToldAs u.heap numbers stable) (roots marks : List ℕ) where
+module _ (u : Setup) (journals : Journals) (closed : IsClosed u.heap) (can : CanMerge u journals) (numbers : List ℕ) (stable : StableHeap) (t : IsNumberedAs u.heap numbers stable) (roots marks : List ℕ) where
   abbrev cycle : Cycle
   cycle = record { setup = u; journals = journals; roots = roots; marks = marks }
 
@@ -108,7 +108,7 @@ module _ (u : Setup) (journals : Journals) (closed : IsClosed u.heap) (can : Can
   ended = result_of first all
 
   abbrev steps : List Step
-  steps = told names first all
+  steps = numbered names first all
 
   abbrev left : StableHeap
   left = lived stable steps
@@ -128,19 +128,19 @@ module _ (u : Setup) (journals : Journals) (closed : IsClosed u.heap) (can : Can
   unfolding history
   read_at p seen lt begins =
       let point_is = legal.points u journals closed can p seen lt begins in
-      let h = (point point_is.before point_is.rest point_is.parts).agrees.told in
+      let h = (point point_is.before point_is.rest point_is.parts).agrees.numbered in
       let heap = result_of first point_is.before in
       record {
         before = point_is.before;
         rest = point_is.rest;
         parts = point_is.parts;
         seen_is = point_is.seen_is;
-        words = λ a at offset s few low place. h.words a at s few ∙ ap (told_word names (pointers_of (header_in heap a)) at) (ap heap.word place ∙ point_is.words offset low);
+        words = λ a at offset s few low place. h.words a at s few ∙ ap (numbered_word names (pointers_of (header_in heap a)) at) (ap heap.word place ∙ point_is.words offset low);
       }
 
   pub writing : IsWriting cycle numbers stable
   unfolding history
-  writing = record { life = whole.life; points = λ before rest e. (point before rest e).agrees.told; seen = read_at }
+  writing = record { life = whole.life; points = λ before rest e. (point before rest e).agrees.numbered; seen = read_at }
 
   module _ (forwards : AreForwarded u.heap roots) (none : next_faults u journals (next_heap u journals roots marks) ≡ []) where
     started : (k : ℕ) → k < length marks → HasStart ended (to_address (get_or marks k 0))
@@ -157,9 +157,9 @@ module _ (u : Setup) (journals : Journals) (closed : IsClosed u.heap) (can : Can
     chapter_life : IsLife stable (steps ++ Keeps keep ∷ [])
     chapter_life = life_parts stable steps (Keeps keep ∷ []) whole.life (kept.may_keep u journals closed can names ended left whole.agrees null edition_is word_is object_is roots marks after_closed started, tt)
 
-    chapter_kept : IsToldAs (next_heap u journals roots marks) keep (lived stable (steps ++ Keeps keep ∷ []))
-    chapter_kept = subst (IsToldAs (next_heap u journals roots marks) keep) (sym (lived_parts stable steps (Keeps keep ∷ [])))
-        (kept.told_next u journals closed can names ended left whole.agrees null edition_is word_is object_is roots marks after_closed started)
+    chapter_kept : IsNumberedAs (next_heap u journals roots marks) keep (lived stable (steps ++ Keeps keep ∷ []))
+    chapter_kept = subst (IsNumberedAs (next_heap u journals roots marks) keep) (sym (lived_parts stable steps (Keeps keep ∷ [])))
+        (kept.numbered_next u journals closed can names ended left whole.agrees null edition_is word_is object_is roots marks after_closed started)
 
     chapter_given : (lived stable (steps ++ Keeps keep ∷ [])).given ≡ stable.given + length made
     chapter_given = ap (λ (s : StableHeap). s.given) (lived_parts stable steps (Keeps keep ∷ [])) ∙ given_lived names all first stable
@@ -215,11 +215,11 @@ module _ (u : Setup) (journals : Journals) (closed : IsClosed u.heap) (can : Can
       roots = chapter_roots;
     }
 
-pub one_chapter : (heap : Heap) (c : Cycle) (numbers : List ℕ) (stable : StableHeap) → IsClosed heap → IsCycleOf heap c → IsToldAs heap numbers stable → IsChapter c numbers stable
+pub one_chapter : (heap : Heap) (c : Cycle) (numbers : List ℕ) (stable : StableHeap) → IsClosed heap → IsCycleOf heap c → IsNumberedAs heap numbers stable → IsChapter c numbers stable
 one_chapter heap c numbers stable closed is t =
-    chapter c.setup c.journals (subst IsClosed (sym is.heap_is) closed) is.merges numbers stable (subst (λ h. IsToldAs h numbers stable) (sym is.heap_is) t) c.roots c.marks is.roots is.accepted
+    chapter c.setup c.journals (subst IsClosed (sym is.heap_is) closed) is.merges numbers stable (subst (λ h. IsNumberedAs h numbers stable) (sym is.heap_is) t) c.roots c.marks is.roots is.accepted
 
-pub one_writing : (c : Cycle) (numbers : List ℕ) (stable : StableHeap) → IsClosed c.setup.heap → CanMerge c.setup c.journals → IsToldAs c.setup.heap numbers stable → IsWriting c numbers stable
+pub one_writing : (c : Cycle) (numbers : List ℕ) (stable : StableHeap) → IsClosed c.setup.heap → CanMerge c.setup c.journals → IsNumberedAs c.setup.heap numbers stable → IsWriting c numbers stable
 one_writing c numbers stable closed can t = writing c.setup c.journals closed can numbers stable t c.roots c.marks
 
 -- ---- forwarding keeps the order of addresses
@@ -261,12 +261,12 @@ rising u closed slid a b x y up below at_a at_b =
 
 pub record Told (last : Heap) (cycles : List Cycle) (numbers : List ℕ) (stable : StableHeap) : Type 0 where
   pub life : IsLife stable (story cycles numbers stable.given)
-  pub result : IsToldAs last (numbers_left cycles numbers stable.given) (lived stable (story cycles numbers stable.given))
+  pub result : IsNumberedAs last (numbers_left cycles numbers stable.given) (lived stable (story cycles numbers stable.given))
   pub chapters : AreChapters cycles numbers stable
 
-pub all_told : (cycles : List Cycle) (heap last : Heap) (numbers : List ℕ) (stable : StableHeap) → IsClosed heap → IsToldAs heap numbers stable → Follow heap cycles last → Told last cycles numbers stable
-all_told [] heap last numbers stable closed t follow = record { life = tt; result = subst (λ h. IsToldAs h numbers stable) (sym follow) t; chapters = tt }
-all_told (c ∷ cs) heap last numbers stable closed t follow =
+pub all_numbered : (cycles : List Cycle) (heap last : Heap) (numbers : List ℕ) (stable : StableHeap) → IsClosed heap → IsNumberedAs heap numbers stable → Follow heap cycles last → Told last cycles numbers stable
+all_numbered [] heap last numbers stable closed t follow = record { life = tt; result = subst (λ h. IsNumberedAs h numbers stable) (sym follow) t; chapters = tt }
+all_numbered (c ∷ cs) heap last numbers stable closed t follow =
     let is = follow.0 in
     let here = one_chapter heap c numbers stable closed is t in
     let own = subst IsClosed (sym is.heap_is) closed in
@@ -274,12 +274,12 @@ all_told (c ∷ cs) heap last numbers stable closed t follow =
     let next = lived stable steps in
     let kept = numbers_after c numbers stable.given in
     let after = next_closed c.setup c.journals own is.merges c.roots c.marks is.accepted in
-    let rest = all_told cs (heap_after c) last kept next after here.kept follow.1 in
+    let rest = all_numbered cs (heap_after c) last kept next after here.kept follow.1 in
     let given : next.given ≡ given_after c stable.given = here.given in
     record {
       life = life_parts stable steps (story cs kept (given_after c stable.given)) here.life (subst (λ n. IsLife next (story cs kept n)) given rest.life);
-      result = subst (IsToldAs last (numbers_left cs kept (given_after c stable.given))) (sym (lived_parts stable steps (story cs kept (given_after c stable.given))))
-          (subst (λ n. IsToldAs last (numbers_left cs kept n) (lived next (story cs kept n))) given rest.result);
+      result = subst (IsNumberedAs last (numbers_left cs kept (given_after c stable.given))) (sym (lived_parts stable steps (story cs kept (given_after c stable.given))))
+          (subst (λ n. IsNumberedAs last (numbers_left cs kept n) (lived next (story cs kept n))) given rest.result);
       chapters = (here, rising c.setup own is.merges.slid, rest.chapters);
     }
 
@@ -291,15 +291,15 @@ first_words heap F G (m ∷ marks) low same =
     ap (λ l. F low ∷ l) (first_words heap F G marks (low + 1) (λ k lt. ap F (let z : low + 1 + k ≡ low + suc k = omega arith in z) ∙ same (suc k) (omega (arith, lt))))
     ∙ ap (λ x. x ∷ map G (map (object_at heap.edition heap.words) marks)) (ap F (let z : low ≡ low + 0 = omega arith in z) ∙ same 0 (omega arith))
 
-pub first_is : (heap : Heap) → IsToldAs heap (first_numbers heap) (first_told heap)
+pub first_is : (heap : Heap) → IsNumberedAs heap (first_numbers heap) (first_numbered heap)
 first_is heap =
     let n = length heap.marks in
     record {
       edition = refl;
       there = refl;
-      words = first_words heap (first_told heap).words (told_object (names_in heap (first_numbers heap))) heap.marks 1
+      words = first_words heap (first_numbered heap).words (numbered_object (names_in heap (first_numbers heap))) heap.marks 1
           (λ k lt.
-          let tell = told_object (names_in heap (first_numbers heap)) in
+          let tell = numbered_object (names_in heap (first_numbers heap)) in
           ap (λ i. get_or (map tell (live heap)) i []) (let z : 1 + k - 1 ≡ k = omega arith in z)
           ∙ get_or-map tell (live heap) k (object_at heap.edition heap.words 0) [] (let n = length-map heap.marks (object_at heap.edition heap.words) in omega (arith, lt, n))
           ∙ ap tell (live-at heap.edition heap.words heap.marks k));
@@ -312,5 +312,5 @@ first_is heap =
 
 pub one_life : (heap last : Heap) (cycles : List Cycle) → IsClosed heap → Follow heap cycles last → IsOneLife heap cycles last
 one_life heap last cycles closed follow =
-    let t = all_told cycles heap last (first_numbers heap) (first_told heap) closed (first_is heap) follow in
+    let t = all_numbered cycles heap last (first_numbers heap) (first_numbered heap) closed (first_is heap) follow in
     record { life = t.life; result = t.result; chapters = t.chapters }

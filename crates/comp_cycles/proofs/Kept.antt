@@ -23,9 +23,9 @@ use Rattle.comp_history.proofs.Rows.{at_map_back, at_below, read_at}
 use Rattle.comp_history.specs.Merged.{CanMerge}
 use Rattle.comp_history.specs.OneThread.{OneThreadHeap, HasStart, IsNullOrStart, header_in}
 use Rattle.comp_cycles.specs.Stable.{StableHeap, Keeps, IsAmong, IsNullOrAmong, MayKeep, is_among, left_word, left_words, head_of, stepped}
-use Rattle.comp_cycles.specs.Told.{Names, number_at, names_in, pointers_of, told_object, told_word, IsToldAs}
+use Rattle.comp_cycles.specs.Numbered.{Names, number_at, names_in, pointers_of, numbered_object, numbered_word, IsNumberedAs}
 use Rattle.comp_cycles.specs.NextHeap.{word_in, kind_in, lowered, lowered_as, next_heap}
-use Rattle.comp_cycles.proofs.Living.{told_reference, told_other, header_is, Agrees}
+use Rattle.comp_cycles.proofs.Living.{numbered_reference, numbered_other, header_is, Agrees}
 use Rattle.comp_cycles.proofs.Leaving.{among_is, none_among, left_other, left_weak, left_long, left_at}
 use Rattle.comp_cycles.proofs.Targets.{object_long, object_word, target_cases, target_mark, marks_once, named_mark, named_null, named_none}
 use Rattle.comp_cycles.proofs.Finals.{head_in, stands, StandsAt}
@@ -197,7 +197,7 @@ module _ (u : Setup) (journals : Journals) (closed_before : IsClosed u.heap) (ca
         (none_among kept n
         (λ i e.
         let k = kept_at n (i, e) in
-        let same : at k.0 ≡ w = h.told.one (at k.0) w (started k.0 k.1) s k.2 in
+        let same : at k.0 ≡ w = h.numbered.one (at k.0) w (started k.0 k.1) s k.2 in
         let found = target_mark marks (lowered w) k.0 k.1 (omega (arith, same)) in
         both_ways (is_target marks (lowered w)) no_target (or_right (eqb (lowered w) 0) (list_any (λ m. from_address m == lowered w) marks) found)))
         ∙ sym gone)
@@ -205,7 +205,7 @@ module _ (u : Setup) (journals : Journals) (closed_before : IsClosed u.heap) (ca
         (cases_Bool (is_target marks (lowered w)))
 
     -- the k-th object is the same in both heaps, after weak words that led to dropped objects became null
-    same_object : (k : ℕ) → k < length marks → left_words (head_of stable (number_at names (at k))) kept 0 (stable.words (number_at names (at k))) ≡ told_object name (object_at u.heap.edition next.words (mark k))
+    same_object : (k : ℕ) → k < length marks → left_words (head_of stable (number_at names (at k))) kept 0 (stable.words (number_at names (at k))) ≡ numbered_object name (object_at u.heap.edition next.words (mark k))
     same_object k lt =
         let n = number_at names (at k) in
         let p = pointers_of (header k) in
@@ -213,37 +213,37 @@ module _ (u : Setup) (journals : Journals) (closed_before : IsClosed u.heap) (ca
         let s = started k lt in
         let placed = closed.placed k 0 lt in
         let is = next_head k lt in
-        let long = h.told.long (at k) s in
+        let long = h.numbered.long (at k) s in
         let other_long = object_long name u.heap.edition next.words (mark k) placed in
         let sizes = ap size_of is in
         let words = stable.words n in
         let same_head = header_is names heap stable h (at k) s in
         ap (λ x. left_words x kept 0 words) same_head
-        ∙ same_number_lists (left_words (header k) kept 0 words) (told_object name (object_at u.heap.edition next.words (mark k)))
+        ∙ same_number_lists (left_words (header k) kept 0 words) (numbered_object name (object_at u.heap.edition next.words (mark k)))
         (left_long (header k) kept 0 words ∙ long ∙ sym sizes ∙ sym other_long)
         (λ j few.
         let all = left_long (header k) kept 0 words in
         let small : j < size_of (header k) = omega (arith, few, all, long) in
         let w = heap.word (at k + j) in
         let v = get_or next.words (mark k + j) 0 in
-        let read : get_or (left_words (header k) kept 0 words) j 0 ≡ left_word (header k) kept j (told_word names p j w) =
+        let read : get_or (left_words (header k) kept 0 words) j 0 ≡ left_word (header k) kept j (numbered_word names p j w) =
         left_at (header k) kept 0 words j (omega (arith, small, long))
         ∙ ap (λ i. left_word (header k) kept i (get_or words j 0)) (let z : 0 + j ≡ j = omega arith in z)
-        ∙ ap (left_word (header k) kept j) (h.told.words (at k) j s small) in
-        let to : get_or (told_object name (object_at u.heap.edition next.words (mark k))) j 0 ≡ told_word name p j v =
-        object_word name u.heap.edition next.words (mark k) j placed (omega (arith, small, sizes)) ∙ ap (λ x. told_word name (pointers_of x) j v) is in
-        let stays : (1 ≤ j → p < j) → left_word (header k) kept j (told_word names p j w) ≡ told_word name p j v =
+        ∙ ap (left_word (header k) kept j) (h.numbered.words (at k) j s small) in
+        let to : get_or (numbered_object name (object_at u.heap.edition next.words (mark k))) j 0 ≡ numbered_word name p j v =
+        object_word name u.heap.edition next.words (mark k) j placed (omega (arith, small, sizes)) ∙ ap (λ x. numbered_word name (pointers_of x) j v) is in
+        let stays : (1 ≤ j → p < j) → left_word (header k) kept j (numbered_word names p j w) ≡ numbered_word name p j v =
         λ behind.
-        left_other (header k) kept j (told_word names p j w) (λ low. let past = behind (omega (arith, low)) in omega (arith, past))
-        ∙ told_other names p j w behind ∙ sym (told_other name p j v behind ∙ next_other k j lt behind small) in
+        left_other (header k) kept j (numbered_word names p j w) (λ low. let past = behind (omega (arith, low)) in omega (arith, past))
+        ∙ numbered_other names p j w behind ∙ sym (numbered_other name p j v behind ∙ next_other k j lt behind small) in
         read
         ∙ ⊎_elim
         (λ (first : j < 1). stays (λ low. absurd (omega (arith, first, low))))
         (λ (low : 1 ≤ j). ⊎_elim
         (λ (past : p < j). stays (λ _. past))
         (λ (within : j ≤ p).
-        let from = ap (left_word (header k) kept j) (told_reference names p j w low within) in
-        let pointer = told_reference name p j v low within ∙ ap (number_at name) (next_pointer k j lt low within) in
+        let from = ap (left_word (header k) kept j) (numbered_reference names p j w low within) in
+        let pointer = numbered_reference name p j v low within ∙ ap (number_at name) (next_pointer k j lt low within) in
         ⊎_elim
         (λ (weak : refs < j).
         from ∙ left_weak (header k) kept j (number_at names w) (omega (arith, weak)) (omega (arith, within)) ∙ weak_leads w (h.leads (at k) j s low within) ∙ sym pointer)
@@ -256,7 +256,7 @@ module _ (u : Setup) (journals : Journals) (closed_before : IsClosed u.heap) (ca
 
     pub may_keep : MayKeep stable kept
     may_keep = record {
-      there = λ n among. let k = kept_at n among in subst (IsAmong stable.there) k.2 (h.told.there (at k.0) (started k.0 k.1));
+      there = λ n among. let k = kept_at n among in subst (IsAmong stable.there) k.2 (h.numbered.there (at k.0) (started k.0 k.1));
       closed = λ n field among few.
           let k = kept_at n among in
           let s = started k.0 k.1 in
@@ -264,16 +264,16 @@ module _ (u : Setup) (journals : Journals) (closed_before : IsClosed u.heap) (ca
           let small : field < refs_of (header k.0) = subst (λ x. field < refs_of x) is few in
           let p = pointers_of (header k.0) in
           let read : get_or (stable.words n) (1 + field) 0 ≡ number_at names (heap.word (at k.0 + (1 + field))) =
-          ap (λ x. get_or (stable.words x) (1 + field) 0) (sym k.2) ∙ h.told.words (at k.0) (1 + field) s (omega (arith, small))
-          ∙ told_reference names p (1 + field) (heap.word (at k.0 + (1 + field))) (omega arith) (omega (arith, small)) in
+          ap (λ x. get_or (stable.words x) (1 + field) 0) (sym k.2) ∙ h.numbered.words (at k.0) (1 + field) s (omega (arith, small))
+          ∙ numbered_reference names p (1 + field) (heap.word (at k.0 + (1 + field))) (omega arith) (omega (arith, small)) in
           subst (IsNullOrAmong kept) (sym read) (leads_of k.0 (1 + field) k.1 (omega arith) (omega (arith, small))).1;
     }
 
-    pub told_next : IsToldAs next kept (stepped stable (Keeps kept))
-    told_next = record {
-      edition = h.told.edition ∙ edition_is;
+    pub numbered_next : IsNumberedAs next kept (stepped stable (Keeps kept))
+    numbered_next = record {
+      edition = h.numbered.edition ∙ edition_is;
       there = refl;
-      words = map_same (stepped stable (Keeps kept)).words (λ i. number_at names (to_address i)) (told_object name) (object_at u.heap.edition next.words) marks (λ k lt. same_object k lt);
+      words = map_same (stepped stable (Keeps kept)).words (λ i. number_at names (to_address i)) (numbered_object name) (object_at u.heap.edition next.words) marks (λ k lt. same_object k lt);
       given = λ i lt.
           let inside : i < length marks = omega (arith, lt, kept_long) in
           let g = h.given (at i) (started i inside) in
@@ -282,6 +282,6 @@ module _ (u : Setup) (journals : Journals) (closed_before : IsClosed u.heap) (ca
       once = λ i j lt lt2 e.
           let first : i < length marks = omega (arith, lt, kept_long) in
           let second : j < length marks = omega (arith, lt2, kept_long) in
-          let same = h.told.one (at i) (at j) (started i first) (started j second) (sym (kept_is i first) ∙ e ∙ kept_is j second) in
+          let same = h.numbered.one (at i) (at j) (started i first) (started j second) (sym (kept_is i first) ∙ e ∙ kept_is j second) in
           marks_once next closed i j first second (omega (arith, same));
     }

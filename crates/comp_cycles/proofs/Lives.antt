@@ -12,9 +12,9 @@ use Rattle.comp_history.specs.Lists.{but}
 use Rattle.page_plan.proofs.Shapes.{field-inside}
 use Rattle.comp_history.specs.OneThread.{OneThreadHeap, HasStart, IsFree, IsFieldIn, IsNullOrStart, MayWrite, IsLegal, header_in, address_of, after, result_of}
 use Rattle.comp_cycles.specs.Stable.{StableHeap, Step, Writes, IsNullOrAmong, MayStep, with_word, stepped, IsLife, lived}
-use Rattle.comp_cycles.specs.Told.{Names, number_at, owner, told_value, write_of, step_of, told, made_by, made_at}
+use Rattle.comp_cycles.specs.Numbered.{Names, number_at, owner, numbered_value, write_of, step_of, numbered, made_by, made_at}
 use Rattle.comp_cycles.proofs.Naming.{at_name}
-use Rattle.comp_cycles.proofs.Living.{owner_is, field_above, refers_below, told_field, header_is, may_refer, written, made, wrote, Agrees}
+use Rattle.comp_cycles.proofs.Living.{owner_is, field_above, refers_below, numbered_field, header_is, may_refer, written, made, wrote, Agrees}
 
 -- the words after a new header are 0
 abbrev pub AreZeros : OneThreadHeap → Kind → ℕ → ℕ → Type 0
@@ -114,20 +114,20 @@ field_goes names heap stable k a value h null r may =
     let found : owner (header_in heap) heap.starts a ≡ r.object =
     owner_is (header_in heap) heap.starts r.object a r.there.0 r.there.1 (λ x y j l at_x at_y below. h.apart x y (j, at_x) (l, at_y) below) (omega (arith, r.at)) (omega (arith, r.at, high)) in
     let field : a - (r.object + first_of k header) ≡ r.field = omega (arith, r.at) in
-    let told_as = told_value names k value in
-    let is : Writes k n r.field told_as ≡ write_of names heap k a value =
-    sym (ap (λ x. Writes k (number_at names x) (a - (x + first_of k (header_in heap x))) told_as) found ∙ ap (λ f. Writes k n f told_as) field) in
+    let numbered_as = numbered_value names k value in
+    let is : Writes k n r.field numbered_as ≡ write_of names heap k a value =
+    sym (ap (λ x. Writes k (number_at names x) (a - (x + first_of k (header_in heap x))) numbered_as) found ∙ ap (λ f. Writes k n f numbered_as) field) in
     let here : r.object + place ≡ a = omega (arith, r.at) in
-    let w = told_field names k header r.field value r.inside in
+    let w = numbered_field names k header r.field value r.inside in
     let done = written names heap stable h r.object place value r.there low high (λ le. may (refers_below k header r.field r.inside le)) in
     subst (λ step. Went names (with_field heap a value) stable step stable.given) is (record {
       may = (
-        h.told.there r.object r.there,
+        h.numbered.there r.object r.there,
         subst (λ x. r.field < count_of k x) (sym head) r.inside,
         λ yes. subst (λ b. IsNullOrAmong stable.there (cond b (number_at names value) value)) (sym yes) (may_refer names heap stable h value null (may yes)),
       );
-      agrees = subst (λ x. Agrees names (with_field heap a value) (with_word stable n (first_of k x + r.field) told_as)) (sym head)
-          (subst (λ x. Agrees names (with_field heap x value) (with_word stable n place told_as)) here
+      agrees = subst (λ x. Agrees names (with_field heap a value) (with_word stable n (first_of k x + r.field) numbered_as)) (sym head)
+          (subst (λ x. Agrees names (with_field heap x value) (with_word stable n place numbered_as)) here
           (subst (λ x. Agrees names (with_field heap (r.object + place) value) (with_word stable n place x)) w done));
       given_is = refl;
     })
@@ -160,8 +160,8 @@ made_parts (x ∷ xs) ys later = ap (made_by x.1.kind (address_of x)) (made_part
 
 -- What all the entries do.
 pub record Lives (names : Names) (heap : OneThreadHeap) (stable : StableHeap) (xs : List (ℕ × Entry)) : Type 0 where
-  pub life : IsLife stable (told names heap xs)
-  pub agrees : Agrees names (result_of heap xs) (lived stable (told names heap xs))
+  pub life : IsLife stable (numbered names heap xs)
+  pub agrees : Agrees names (result_of heap xs) (lived stable (numbered names heap xs))
 
 pub lives : (names : Names) → number_at names 0 ≡ 0 → (xs : List (ℕ × Entry)) (heap : OneThreadHeap) (stable : StableHeap) (later : List ℕ) → Agrees names heap stable
     → Ordered names heap stable.given (made_then xs later) → IsLegal heap xs → InZeros heap xs → Lives names heap stable xs
@@ -182,7 +182,7 @@ given_stepped names heap stable Reference a value later = refl
 given_stepped names heap stable Weak a value later = refl
 given_stepped names heap stable Data a value later = refl
 
-pub given_lived : (names : Names) (xs : List (ℕ × Entry)) (heap : OneThreadHeap) (stable : StableHeap) → (lived stable (told names heap xs)).given ≡ stable.given + length (made_at xs)
+pub given_lived : (names : Names) (xs : List (ℕ × Entry)) (heap : OneThreadHeap) (stable : StableHeap) → (lived stable (numbered names heap xs)).given ≡ stable.given + length (made_at xs)
 given_lived names [] heap stable = let z : stable.given ≡ stable.given + 0 = omega arith in z
 given_lived names (x ∷ xs) heap stable =
     let step = step_of names heap x.1.kind (address_of x) x.1.value in

@@ -13,7 +13,7 @@ use Rattle.heap_layout.specs.declared.kind.Kind.TheVariants.{Header, Reference, 
 use Rattle.comp_history.specs.Lists.{but}
 use Rattle.comp_history.specs.OneThread.{OneThreadHeap, HasStart, IsFree, IsNullOrStart, header_in, starts_after}
 use Rattle.comp_cycles.specs.Stable.{StableHeap, Makes, IsNullOrAmong, head_of, with_word, stepped}
-use Rattle.comp_cycles.specs.Told.{Names, number_at, pointers_of, told_value, told_word, owner, AreTold}
+use Rattle.comp_cycles.specs.Numbered.{Names, number_at, pointers_of, numbered_value, numbered_word, owner, AreNumbered}
 
 -- ---- small lemmas
 
@@ -24,12 +24,12 @@ pub but_other : {A : Type 0} (f : ℕ → A) (p q : ℕ) (x : A) → q ≢ p →
 but_other f p q x ne = ap (λ t. cond t x (f q)) (ne_eqb q p ne)
 
 -- references and weak words become numbers
-pub told_reference : (names : Names) (pointers at word : ℕ) → 1 ≤ at → at ≤ pointers → told_word names pointers at word ≡ number_at names word
-told_reference names pointers at word low high = ap (λ t. cond t (number_at names word) word) (and_from (leb 1 at) (leb at pointers) (le-leb 1 at low) (le-leb at pointers high))
+pub numbered_reference : (names : Names) (pointers at word : ℕ) → 1 ≤ at → at ≤ pointers → numbered_word names pointers at word ≡ number_at names word
+numbered_reference names pointers at word low high = ap (λ t. cond t (number_at names word) word) (and_from (leb 1 at) (leb at pointers) (le-leb 1 at low) (le-leb at pointers high))
 
 -- all other words stay
-pub told_other : (names : Names) (pointers at word : ℕ) → (1 ≤ at → pointers < at) → told_word names pointers at word ≡ word
-told_other names pointers at word behind = ⊎_elim
+pub numbered_other : (names : Names) (pointers at word : ℕ) → (1 ≤ at → pointers < at) → numbered_word names pointers at word ≡ word
+numbered_other names pointers at word behind = ⊎_elim
     (λ (is : (leb 1 at && leb at pointers) ≡ true).
     let parts = and_parts (leb 1 at) (leb at pointers) is in
     let low = leb-true 1 at parts.0 in
@@ -39,8 +39,8 @@ told_other names pointers at word behind = ⊎_elim
     (cases_Bool (leb 1 at && leb at pointers))
 
 -- null is 0 in both heaps
-pub told_null : (names : Names) (pointers at : ℕ) → number_at names 0 ≡ 0 → told_word names pointers at 0 ≡ 0
-told_null names pointers at null = ⊎_elim
+pub numbered_null : (names : Names) (pointers at : ℕ) → number_at names 0 ≡ 0 → numbered_word names pointers at 0 ≡ 0
+numbered_null names pointers at null = ⊎_elim
     (λ (is : (leb 1 at && leb at pointers) ≡ true). ap (λ t. cond t (number_at names 0) 0) is ∙ null)
     (λ (is : (leb 1 at && leb at pointers) ≡ false). ap (λ t. cond t (number_at names 0) 0) is)
     (cases_Bool (leb 1 at && leb at pointers))
@@ -67,12 +67,12 @@ refers_below Weak header f lt le = refl
 refers_below Data header f lt le = absurd (omega (arith, le))
 
 -- a field in object numbers depends on its kind only
-pub told_field : (names : Names) (k : Kind) (header : Head) (f value : ℕ) → f < count_of k header
-    → told_word names (pointers_of header) (first_of k header + f) value ≡ told_value names k value
-told_field names Header header f value lt = absurd (omega (arith, lt))
-told_field names Reference header f value lt = told_reference names (pointers_of header) (1 + f) value (omega arith) (omega (arith, lt))
-told_field names Weak header f value lt = told_reference names (pointers_of header) (1 + refs_of header + f) value (omega arith) (omega (arith, lt))
-told_field names Data header f value lt = told_other names (pointers_of header) (1 + refs_of header + weak_of header + f) value (λ _. omega arith)
+pub numbered_field : (names : Names) (k : Kind) (header : Head) (f value : ℕ) → f < count_of k header
+    → numbered_word names (pointers_of header) (first_of k header + f) value ≡ numbered_value names k value
+numbered_field names Header header f value lt = absurd (omega (arith, lt))
+numbered_field names Reference header f value lt = numbered_reference names (pointers_of header) (1 + f) value (omega arith) (omega (arith, lt))
+numbered_field names Weak header f value lt = numbered_reference names (pointers_of header) (1 + refs_of header + f) value (omega arith) (omega (arith, lt))
+numbered_field names Data header f value lt = numbered_other names (pointers_of header) (1 + refs_of header + weak_of header + f) value (λ _. omega arith)
 
 -- the owner of a word is the object that has the word
 pub owner_is : (header : ℕ → Head) (starts : List ℕ) (s a i : ℕ) → get_elem? starts i ≡ some s
@@ -106,7 +106,7 @@ owner_is header (t ∷ starts) s a (suc i) e apart le lt = ⊎_elim
 -- The two heaps have the same objects. The objects of the heap of one thread do not overlap, and each reference is null
 -- or leads to an object.
 pub record Agrees (names : Names) (heap : OneThreadHeap) (stable : StableHeap) : Type 0 where
-  pub told : AreTold names heap stable
+  pub numbered : AreNumbered names heap stable
   pub apart : (a b : ℕ) → HasStart heap a → HasStart heap b → a < b → a + size_of (header_in heap a) ≤ b
   pub given : (a : ℕ) → HasStart heap a → (1 ≤ number_at names a) × (number_at names a ≤ stable.given)
   pub leads : (a at : ℕ) → HasStart heap a → 1 ≤ at → at ≤ pointers_of (header_in heap a) → IsNullOrStart heap (heap.word (a + at))
@@ -118,14 +118,14 @@ wrote heap k a value = record { edition = heap.edition; word = but heap.word a v
 module _ (names : Names) (heap : OneThreadHeap) (stable : StableHeap) (h : Agrees names heap stable) where
   -- the header of an object is the same in both heaps
   pub header_is : (a : ℕ) → HasStart heap a → head_of stable (number_at names a) ≡ header_in heap a
-  header_is a s = ap₂ header_of h.told.edition
-      (h.told.words a 0 s (omega arith) ∙ told_other names (pointers_of (header_in heap a)) 0 (heap.word (a + 0)) (λ (z : 1 ≤ 0). absurd (omega (arith, z))) ∙ ap heap.word (let z : a + 0 ≡ a = omega arith in z))
+  header_is a s = ap₂ header_of h.numbered.edition
+      (h.numbered.words a 0 s (omega arith) ∙ numbered_other names (pointers_of (header_in heap a)) 0 (heap.word (a + 0)) (λ (z : 1 ≤ 0). absurd (omega (arith, z))) ∙ ap heap.word (let z : a + 0 ≡ a = omega arith in z))
 
   -- a value that may be written as a reference is null or has a number in the stable heap
   pub may_refer : (value : ℕ) → number_at names 0 ≡ 0 → IsNullOrStart heap value → IsNullOrAmong stable.there (number_at names value)
   may_refer value null leads = ⊎_elim
       (λ (zero_is : value ≡ 0). inl (ap (number_at names) zero_is ∙ null))
-      (λ (s : HasStart heap value). inr (h.told.there value s))
+      (λ (s : HasStart heap value). inr (h.numbered.there value s))
       leads
 
   module _ (object at value : ℕ) (there : HasStart heap object) (above : 1 ≤ at) (inside : at < size_of (header_in heap object)) where
@@ -133,7 +133,7 @@ module _ (names : Names) (heap : OneThreadHeap) (stable : StableHeap) (h : Agree
     n = number_at names object
 
     abbrev w : ℕ
-    w = told_word names (pointers_of (header_in heap object)) at value
+    w = numbered_word names (pointers_of (header_in heap object)) at value
 
     abbrev heap_then : OneThreadHeap
     heap_then = record { edition = heap.edition; word = but heap.word (object + at) value; starts = heap.starts }
@@ -160,45 +160,45 @@ module _ (names : Names) (heap : OneThreadHeap) (stable : StableHeap) (h : Agree
 
     -- the words of another object do not change
     others : (b : ℕ) → HasStart heap b → b ≢ object → stable_then.words (number_at names b) ≡ stable.words (number_at names b)
-    others b s other = but_other stable.words (number_at names object) (number_at names b) (set (stable.words (number_at names object)) at w) (λ e. other (h.told.one b object s there e))
+    others b s other = but_other stable.words (number_at names object) (number_at names b) (set (stable.words (number_at names object)) at w) (λ e. other (h.numbered.one b object s there e))
 
     own : (b : ℕ) → b ≡ object → stable_then.words (number_at names b) ≡ set (stable.words (number_at names object)) at w
     own b same = but_same stable.words (number_at names object) (number_at names b) (set (stable.words (number_at names object)) at w) (ap (number_at names) same)
 
-    words_then : (b k : ℕ) → HasStart heap b → k < size_of (header_in heap b) → get_or (stable_then.words (number_at names b)) k 0 ≡ told_word names (pointers_of (header_in heap b)) k (heap_then.word (b + k))
+    words_then : (b k : ℕ) → HasStart heap b → k < size_of (header_in heap b) → get_or (stable_then.words (number_at names b)) k 0 ≡ numbered_word names (pointers_of (header_in heap b)) k (heap_then.word (b + k))
     words_then b k s lt = dite (ℕ_discrete b object)
         (λ same. dite (ℕ_discrete k at)
         (λ here.
-        let long = h.told.long object there in
+        let long = h.numbered.long object there in
         ap (λ l. get_or l k 0) (own b same) ∙ ap (λ i. get_or (set (stable.words (number_at names object)) at w) i 0) here
         ∙ get_or-set_same (stable.words (number_at names object)) at w 0 (omega (arith, long, inside))
-        ∙ ap (λ r. told_word names r at value) (ap (λ x. pointers_of (header_in heap x)) (sym same))
-        ∙ ap (λ i. told_word names (pointers_of (header_in heap b)) i value) (sym here)
-        ∙ ap (told_word names (pointers_of (header_in heap b)) k) (sym (but_same heap.word (object + at) (b + k) value (omega (arith, same, here)))))
+        ∙ ap (λ r. numbered_word names r at value) (ap (λ x. pointers_of (header_in heap x)) (sym same))
+        ∙ ap (λ i. numbered_word names (pointers_of (header_in heap b)) i value) (sym here)
+        ∙ ap (numbered_word names (pointers_of (header_in heap b)) k) (sym (but_same heap.word (object + at) (b + k) value (omega (arith, same, here)))))
         (λ other.
         ap (λ l. get_or l k 0) (own b same) ∙ get_or-set_other (stable.words (number_at names object)) at k w 0 other
-        ∙ ap (λ x. get_or (stable.words (number_at names x)) k 0) (sym same) ∙ h.told.words b k s lt
-        ∙ ap (told_word names (pointers_of (header_in heap b)) k) (sym (but_other heap.word (object + at) (b + k) value (λ e. other (omega (arith, e, same)))))))
+        ∙ ap (λ x. get_or (stable.words (number_at names x)) k 0) (sym same) ∙ h.numbered.words b k s lt
+        ∙ ap (numbered_word names (pointers_of (header_in heap b)) k) (sym (but_other heap.word (object + at) (b + k) value (λ e. other (omega (arith, e, same)))))))
         (λ other.
-        ap (λ l. get_or l k 0) (others b s other) ∙ h.told.words b k s lt
-        ∙ ap (told_word names (pointers_of (header_in heap b)) k) (sym (but_other heap.word (object + at) (b + k) value (elsewhere b k s other lt))))
+        ap (λ l. get_or l k 0) (others b s other) ∙ h.numbered.words b k s lt
+        ∙ ap (numbered_word names (pointers_of (header_in heap b)) k) (sym (but_other heap.word (object + at) (b + k) value (elsewhere b k s other lt))))
 
     long_then : (b : ℕ) → HasStart heap b → length (stable_then.words (number_at names b)) ≡ size_of (header_in heap b)
     long_then b s = dite (ℕ_discrete b object)
-        (λ same. ap length (own b same) ∙ length-set (stable.words (number_at names object)) at w ∙ ap (λ x. length (stable.words (number_at names x))) (sym same) ∙ h.told.long b s)
-        (λ other. ap length (others b s other) ∙ h.told.long b s)
+        (λ same. ap length (own b same) ∙ length-set (stable.words (number_at names object)) at w ∙ ap (λ x. length (stable.words (number_at names x))) (sym same) ∙ h.numbered.long b s)
+        (λ other. ap length (others b s other) ∙ h.numbered.long b s)
 
     -- both heaps still agree after the word was written
     pub written : (at ≤ pointers_of (header_in heap object) → IsNullOrStart heap value) → Agrees names heap_then stable_then
     written may = record {
-      told = record {
-        edition = h.told.edition;
-        there = h.told.there;
-        one = h.told.one;
+      numbered = record {
+        edition = h.numbered.edition;
+        there = h.numbered.there;
+        one = h.numbered.one;
         long = λ b s. long_then b s ∙ ap size_of (sym (head_then b s));
         words = λ b k s lt.
             let head = head_then b s in
-            words_then b k s (subst (λ x. k < size_of x) head lt) ∙ ap (λ x. told_word names (pointers_of x) k (heap_then.word (b + k))) (sym head);
+            words_then b k s (subst (λ x. k < size_of x) head lt) ∙ ap (λ x. numbered_word names (pointers_of x) k (heap_then.word (b + k))) (sym head);
       };
       apart = λ a b s t below. subst (λ x. a + size_of x ≤ b) (sym (head_then a s)) (h.apart a b s t below);
       given = h.given;
@@ -231,7 +231,7 @@ module _ (names : Names) (heap : OneThreadHeap) (stable : StableHeap) (h : Agree
 
       -- both heaps read the header in the same way
       same_header : header_of stable.edition value ≡ header
-      same_header = ap (λ e. header_of e value) h.told.edition
+      same_header = ap (λ e. header_of e value) h.numbered.edition
 
       -- an object existed before, or is the new one
       was : (b : ℕ) → HasStart heap_made b → HasStart heap b ⊎ (b ≡ a)
@@ -258,24 +258,24 @@ module _ (names : Names) (heap : OneThreadHeap) (stable : StableHeap) (h : Agree
       fields_long = length-replicate (size_of (header_of stable.edition value) - 1) 0 ∙ ap (λ x. size_of x - 1) same_header
 
       -- the words of the new object
-      new_word : (k : ℕ) → k < size_of header → get_or (value ∷ fields) k 0 ≡ told_word names (pointers_of header) k (but heap.word a value (a + k))
+      new_word : (k : ℕ) → k < size_of header → get_or (value ∷ fields) k 0 ≡ numbered_word names (pointers_of header) k (but heap.word a value (a + k))
       new_word zero lt =
-          sym (told_other names (pointers_of header) 0 (but heap.word a value (a + 0)) (λ (z : 1 ≤ 0). absurd (omega (arith, z))) ∙ but_same heap.word a (a + 0) value (omega arith))
+          sym (numbered_other names (pointers_of header) 0 (but heap.word a value (a + 0)) (λ (z : 1 ≤ 0). absurd (omega (arith, z))) ∙ but_same heap.word a (a + 0) value (omega arith))
       new_word (suc k) lt =
           get_or-replicate (size_of (header_of stable.edition value) - 1) k 0 0 (let s = ap size_of same_header in omega (arith, s, lt))
-          ∙ sym (ap (told_word names (pointers_of header) (suc k)) (but_other heap.word a (a + suc k) value (λ e. omega (arith, e)) ∙ zeros (suc k) (omega arith) lt) ∙ told_null names (pointers_of header) (suc k) null)
+          ∙ sym (ap (numbered_word names (pointers_of header) (suc k)) (but_other heap.word a (a + suc k) value (λ e. omega (arith, e)) ∙ zeros (suc k) (omega arith) lt) ∙ numbered_null names (pointers_of header) (suc k) null)
 
       pub made : Agrees names heap_made stable_made
       made = record {
-        told = record {
-          edition = h.told.edition;
+        numbered = record {
+          edition = h.numbered.edition;
           there = λ b s. ⊎_elim
-              (λ (old : HasStart heap b). let t = h.told.there b old in (suc t.0, t.1))
+              (λ (old : HasStart heap b). let t = h.numbered.there b old in (suc t.0, t.1))
               (λ (new : b ≡ a). (zero, ap some (sym (ap (number_at names) new ∙ number))))
               (was b s);
           one = λ b c s t e. ⊎_elim
               (λ (old : HasStart heap b). ⊎_elim
-              (λ (older : HasStart heap c). h.told.one b c old older e)
+              (λ (older : HasStart heap c). h.numbered.one b c old older e)
               (λ (new : c ≡ a). let g = h.given b old in let m = ap (number_at names) new ∙ number in absurd (omega (arith, g.1, m, e)))
               (was c t))
               (λ (new : b ≡ a). ⊎_elim
@@ -284,7 +284,7 @@ module _ (names : Names) (heap : OneThreadHeap) (stable : StableHeap) (h : Agree
               (was c t))
               (was b s);
           long = λ b s. ⊎_elim
-              (λ (old : HasStart heap b). ap length (old_words b old) ∙ h.told.long b old ∙ ap size_of (sym (old_head b old)))
+              (λ (old : HasStart heap b). ap length (old_words b old) ∙ h.numbered.long b old ∙ ap size_of (sym (old_head b old)))
               (λ (new : b ≡ a). subst (λ x. length (stable_made.words (number_at names x)) ≡ size_of (header_in heap_made x)) (sym new)
               (ap length new_words ∙ (let z : length (value ∷ fields) ≡ size_of header = omega (arith, fields_long) in z) ∙ ap size_of (sym new_head)))
               (was b s);
@@ -292,13 +292,13 @@ module _ (names : Names) (heap : OneThreadHeap) (stable : StableHeap) (h : Agree
               (λ (old : HasStart heap b).
               let head = old_head b old in
               let inside : k < size_of (header_in heap b) = subst (λ x. k < size_of x) head lt in
-              ap (λ l. get_or l k 0) (old_words b old) ∙ h.told.words b k old inside
-              ∙ ap (told_word names (pointers_of (header_in heap b)) k) (sym (but_other heap.word a (b + k) value (old_word b k old inside)))
-              ∙ ap (λ x. told_word names (pointers_of x) k (heap_made.word (b + k))) (sym head))
+              ap (λ l. get_or l k 0) (old_words b old) ∙ h.numbered.words b k old inside
+              ∙ ap (numbered_word names (pointers_of (header_in heap b)) k) (sym (but_other heap.word a (b + k) value (old_word b k old inside)))
+              ∙ ap (λ x. numbered_word names (pointers_of x) k (heap_made.word (b + k))) (sym head))
               (λ (new : b ≡ a).
               let inside : k < size_of header = subst (λ x. k < size_of x) (ap (header_in heap_made) new ∙ new_head) lt in
-              subst (λ x. get_or (stable_made.words (number_at names x)) k 0 ≡ told_word names (pointers_of (header_in heap_made x)) k (heap_made.word (x + k))) (sym new)
-              (ap (λ l. get_or l k 0) new_words ∙ new_word k inside ∙ ap (λ x. told_word names (pointers_of x) k (heap_made.word (a + k))) (sym new_head)))
+              subst (λ x. get_or (stable_made.words (number_at names x)) k 0 ≡ numbered_word names (pointers_of (header_in heap_made x)) k (heap_made.word (x + k))) (sym new)
+              (ap (λ l. get_or l k 0) new_words ∙ new_word k inside ∙ ap (λ x. numbered_word names (pointers_of x) k (heap_made.word (a + k))) (sym new_head)))
               (was b s);
         };
         apart = λ b c s t below. ⊎_elim

@@ -8,28 +8,28 @@ use Rattle.heap_layout.specs.Header.{size_of}
 use Rattle.heap_layout.specs.declared.edition.Edition.{Edition}
 use Rattle.heap_layout.specs.Heap.{Heap, Object, header_at, object_at, live, from_address, is_target, IsPlaced, IsTarget, IsClosed}
 use Rattle.page_plan.specs.Sliding.{place, number_of, forward}
-use Rattle.comp_cycles.specs.Told.{Names, number_at, names_in, pointers_of, told_object, told_word}
+use Rattle.comp_cycles.specs.Numbered.{Names, number_at, names_in, pointers_of, numbered_object, numbered_word}
 use Rattle.comp_cycles.proofs.Naming.{at_name, no_name}
-use Rattle.comp_cycles.proofs.Living.{told_reference, told_other}
+use Rattle.comp_cycles.proofs.Living.{numbered_reference, numbered_other}
 use Rattle.comp_cycles.proofs.ObjectWords.{words-length, word-changed, word-stays}
 
 -- ---- the words of one object
 
-pub object_long : (names : Names) (edition : Edition) (words : List ℕ) (i : ℕ) → IsPlaced edition words i → length (told_object names (object_at edition words i)) ≡ size_of (header_at edition words i)
+pub object_long : (names : Names) (edition : Edition) (words : List ℕ) (i : ℕ) → IsPlaced edition words i → length (numbered_object names (object_at edition words i)) ≡ size_of (header_at edition words i)
 object_long names edition words i placed = words-length edition (number_at names) words i placed
 
 pub object_word : (names : Names) (edition : Edition) (words : List ℕ) (i j : ℕ) → IsPlaced edition words i → j < size_of (header_at edition words i)
-    → get_or (told_object names (object_at edition words i)) j 0 ≡ told_word names (pointers_of (header_at edition words i)) j (get_or words (i + j) 0)
+    → get_or (numbered_object names (object_at edition words i)) j 0 ≡ numbered_word names (pointers_of (header_at edition words i)) j (get_or words (i + j) 0)
 object_word names edition words i j placed lt =
     let pointers = pointers_of (header_at edition words i) in
     let word = get_or words (i + j) 0 in
-    let stays : (1 ≤ j → pointers < j) → get_or (told_object names (object_at edition words i)) j 0 ≡ told_word names pointers j word =
-    λ behind. word-stays edition (number_at names) words i j placed behind lt ∙ sym (told_other names pointers j word behind) in
+    let stays : (1 ≤ j → pointers < j) → get_or (numbered_object names (object_at edition words i)) j 0 ≡ numbered_word names pointers j word =
+    λ behind. word-stays edition (number_at names) words i j placed behind lt ∙ sym (numbered_other names pointers j word behind) in
     ⊎_elim
     (λ (first : j < 1). stays (λ low. absurd (omega (arith, first, low))))
     (λ (low : 1 ≤ j). ⊎_elim
     (λ (past : pointers < j). stays (λ _. past))
-    (λ (within : j ≤ pointers). word-changed edition (number_at names) words i j placed low within ∙ sym (told_reference names pointers j word low within))
+    (λ (within : j ≤ pointers). word-changed edition (number_at names) words i j placed low within ∙ sym (numbered_reference names pointers j word low within))
     (cases_lt pointers j))
     (cases_lt j 1)
 

@@ -13,7 +13,7 @@ use Rattle.comp_history.specs.Merged.{history, CanMerge}
 use Rattle.comp_history.specs.OneThread.{first_heap, header_in, result_of, HasStart}
 use Rattle.comp_cycles.specs.Forwarded.{AreForwarded}
 use Rattle.comp_cycles.specs.Stable.{StableHeap, Step, Keeps, IsLife, lived}
-use Rattle.comp_cycles.specs.Told.{Names, names_in, number_at, pointers_of, told_word, made_at, told, first_numbers, first_told, AreTold, IsToldAs}
+use Rattle.comp_cycles.specs.Numbered.{Names, names_in, number_at, pointers_of, numbered_word, made_at, numbered, first_numbers, first_numbered, AreNumbered, IsNumberedAs}
 use Rattle.comp_cycles.specs.NextHeap.{next_heap, next_faults}
 
 -- A cycle: its setup with the heap that was compacted, the journals at the end, the addresses to which the roots lead,
@@ -49,7 +49,7 @@ numbers_after c numbers given = map (λ i. number_at (names_of c numbers given) 
 
 -- the story of the cycle in object numbers: what was written, and then what is kept
 abbrev pub story_of : Cycle → List ℕ → ℕ → List Step
-story_of c numbers given = told (names_of c numbers given) (first_heap c.setup) (entries_of c) ++ Keeps (numbers_after c numbers given) ∷ []
+story_of c numbers given = numbered (names_of c numbers given) (first_heap c.setup) (entries_of c) ++ Keeps (numbers_after c numbers given) ∷ []
 
 -- This is a cycle of this heap, and it can be followed by another.
 pub record IsCycleOf (heap : Heap) (c : Cycle) : Type 0 where
@@ -71,16 +71,16 @@ pub record IsSeen (c : Cycle) (names : Names) (stable : StableHeap) (p : ℕ) (s
   -- each word that the seen entries make of the page, if it is a word of an object, is that object's word
   pub words : (a at offset : ℕ) → HasStart (result_of (first_heap c.setup) before) a → at < size_of (header_in (result_of (first_heap c.setup) before) a)
       → offset < 64 → a + at ≡ address p offset
-      → slice_index ((lived stable (told names (first_heap c.setup) before)).words (number_at names a)) at
-      ≡ told_word names (pointers_of (header_in (result_of (first_heap c.setup) before) a)) at (slice_index (replayed (base_of c.setup p) seen) offset)
+      → slice_index ((lived stable (numbered names (first_heap c.setup) before)).words (number_at names a)) at
+      ≡ numbered_word names (pointers_of (header_in (result_of (first_heap c.setup) before) a)) at (slice_index (replayed (base_of c.setup p) seen) offset)
 
 -- The writing of a cycle, in the life of a heap whose objects never move. `stable` is that heap when the cycle begins.
 pub record IsWriting (c : Cycle) (numbers : List ℕ) (stable : StableHeap) : Type 0 where
   -- the entries, in one order, are steps that may be made there
-  pub life : IsLife stable (told (names_of c numbers stable.given) (first_heap c.setup) (entries_of c))
+  pub life : IsLife stable (numbered (names_of c numbers stable.given) (first_heap c.setup) (entries_of c))
   -- at each point between two entries the objects are the same in both heaps
   pub points : (before rest : List (ℕ × Entry)) → entries_of c ≡ before ++ rest
-      → AreTold (names_of c numbers stable.given) (result_of (first_heap c.setup) before) (lived stable (told (names_of c numbers stable.given) (first_heap c.setup) before))
+      → AreNumbered (names_of c numbers stable.given) (result_of (first_heap c.setup) before) (lived stable (numbered (names_of c numbers stable.given) (first_heap c.setup) before))
   -- each read of the cycle is a read of the stable heap
   pub seen : (p : ℕ) (seen : List Entry) → p < pages c.setup → StartsWith (c.journals p) seen → IsSeen c (names_of c numbers stable.given) stable p seen
 
@@ -90,7 +90,7 @@ pub record IsChapter (c : Cycle) (numbers : List ℕ) (stable : StableHeap) : Ty
   -- the whole story may be lived there: what was written, and then what is kept
   pub life : IsLife stable (story_of c numbers stable.given)
   -- after the story, the words of the kept objects are those in the next heap
-  pub kept : IsToldAs (heap_after c) (numbers_after c numbers stable.given) (lived stable (story_of c numbers stable.given))
+  pub kept : IsNumberedAs (heap_after c) (numbers_after c numbers stable.given) (lived stable (story_of c numbers stable.given))
   pub given : (lived stable (story_of c numbers stable.given)).given ≡ given_after c stable.given
   -- each root leads to the same object as before
   pub roots : map (number_at (names_in (heap_after c) (numbers_after c numbers stable.given))) (heap_after c).roots ≡ map (number_at (names_in c.setup.heap numbers)) c.setup.heap.roots
@@ -123,6 +123,6 @@ AreChapters (c ∷ cs) numbers stable =
 
 -- The cycles from the one heap to the last are one life of a heap whose objects never move.
 pub record IsOneLife (heap : Heap) (cycles : List Cycle) (last : Heap) : Type 0 where
-  pub life : IsLife (first_told heap) (story cycles (first_numbers heap) (length heap.marks))
-  pub result : IsToldAs last (numbers_left cycles (first_numbers heap) (length heap.marks)) (lived (first_told heap) (story cycles (first_numbers heap) (length heap.marks)))
-  pub chapters : AreChapters cycles (first_numbers heap) (first_told heap)
+  pub life : IsLife (first_numbered heap) (story cycles (first_numbers heap) (length heap.marks))
+  pub result : IsNumberedAs last (numbers_left cycles (first_numbers heap) (length heap.marks)) (lived (first_numbered heap) (story cycles (first_numbers heap) (length heap.marks)))
+  pub chapters : AreChapters cycles (first_numbers heap) (first_numbered heap)

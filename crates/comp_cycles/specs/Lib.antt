@@ -1,7 +1,7 @@
 pub mod Finishes
 pub mod Forwarded
 pub mod Stable
-pub mod Told
+pub mod Numbered
 pub mod NextHeap
 pub mod Cycles
 pub mod Ends

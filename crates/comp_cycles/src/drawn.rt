@@ -7,15 +7,15 @@ ghost use Rattle.comp_cycles.specs.DrawnCycle.{drawn_cycle, drawn_cycles, words_
 ghost use Rattle.comp_cycles.specs.NextHeap.{next_word};
 ghost use Rattle.comp_cycles.specs.Stable.{lived, Keeps, Makes, Writes};
 ghost use Rattle.heap_layout.specs.declared.kind.Kind.TheVariants.{Reference};
-ghost use Rattle.comp_cycles.specs.Told.{first_told};
+ghost use Rattle.comp_cycles.specs.Numbered.{first_numbered};
 ghost use Rattle.comp_history.specs.Drawn.{three_objects};
 
 /// The cycle makes object 3 and stores it in object 2; then these two are kept.
-pub fn cycle_is_told()
+pub fn cycle_is_numbered()
     ensures numbers { numbers_after (drawn_cycle (2 ∷ 64 ∷ [])) (1 ∷ 2 ∷ []) 2 ≡ 2 ∷ 3 ∷ [] }
     ensures story { story_of (drawn_cycle (2 ∷ 64 ∷ [])) (1 ∷ 2 ∷ []) 2 ≡ Makes (header_word 0 0 9) ∷ Writes Reference 2 0 3 ∷ Keeps (2 ∷ 3 ∷ []) ∷ [] }
-    ensures first { words_of_three (first_told three_objects) ≡ (header_word 0 1 1 ∷ 11 ∷ []) ∷ (header_word 1 0 3 ∷ 1 ∷ []) ∷ [] ∷ [] }
-    ensures last { words_of_three (lived (first_told three_objects) (story_of (drawn_cycle (2 ∷ 64 ∷ [])) (1 ∷ 2 ∷ []) 2)) ≡ (header_word 0 1 1 ∷ 11 ∷ []) ∷ (header_word 1 0 3 ∷ 3 ∷ []) ∷ (header_word 0 0 9 ∷ []) ∷ [] }
+    ensures first { words_of_three (first_numbered three_objects) ≡ (header_word 0 1 1 ∷ 11 ∷ []) ∷ (header_word 1 0 3 ∷ 1 ∷ []) ∷ [] ∷ [] }
+    ensures last { words_of_three (lived (first_numbered three_objects) (story_of (drawn_cycle (2 ∷ 64 ∷ [])) (1 ∷ 2 ∷ []) 2)) ≡ (header_word 0 1 1 ∷ 11 ∷ []) ∷ (header_word 1 0 3 ∷ 3 ∷ []) ∷ (header_word 0 0 9 ∷ []) ∷ [] }
 {}
 
 /// The first words of the next heap: references are lowered to from-space addresses.
@@ -28,6 +28,6 @@ pub fn cycles_are_one_story()
     ensures numbers { numbers_left drawn_cycles (1 ∷ 2 ∷ []) 2 ≡ 2 ∷ [] }
     ensures story { story drawn_cycles (1 ∷ 2 ∷ []) 2
         ≡ Makes (header_word 0 0 9) ∷ Writes Reference 2 0 3 ∷ Keeps (2 ∷ 3 ∷ []) ∷ Writes Reference 2 0 0 ∷ Keeps (2 ∷ []) ∷ [] }
-    ensures last { words_of_three (lived (first_told three_objects) (story drawn_cycles (1 ∷ 2 ∷ []) 2))
+    ensures last { words_of_three (lived (first_numbered three_objects) (story drawn_cycles (1 ∷ 2 ∷ []) 2))
         ≡ (header_word 0 1 1 ∷ 11 ∷ []) ∷ (header_word 1 0 3 ∷ 0 ∷ []) ∷ (header_word 0 0 9 ∷ []) ∷ [] }
 {}

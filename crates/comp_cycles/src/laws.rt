@@ -8,22 +8,22 @@ ghost use Rattle.comp_history.specs.Merged.{CanMerge};
 ghost use Rattle.comp_cycles.specs.Cycles.{Cycle, Follow, IsChapter, IsCycleOf, IsOneLife, IsWriting};
 ghost use Rattle.comp_cycles.specs.NextHeap.{next_heap, object_starts};
 ghost use Rattle.comp_cycles.specs.Stable.{StableHeap};
-ghost use Rattle.comp_cycles.specs.Told.{first_numbers, first_told, IsToldAs};
+ghost use Rattle.comp_cycles.specs.Numbered.{first_numbers, first_numbered, IsNumberedAs};
 
 /// The first heap, in object numbers: its marked objects are numbered from 1 by rising address.
-pub fn first_telling()
-    ensures { (heap : Heap) → IsToldAs heap (first_numbers heap) (first_told heap) }
+pub fn first_numbering()
+    ensures { (heap : Heap) → IsNumberedAs heap (first_numbers heap) (first_numbered heap) }
 {}
 
 /// A cycle is a chapter in the life of a heap whose objects never move.
 pub fn one_chapter()
-    ensures { (heap : Heap) (c : Cycle) (numbers : List ℕ) (stable : StableHeap) → IsClosed heap → IsCycleOf heap c → IsToldAs heap numbers stable → IsChapter c numbers stable }
+    ensures { (heap : Heap) (c : Cycle) (numbers : List ℕ) (stable : StableHeap) → IsClosed heap → IsCycleOf heap c → IsNumberedAs heap numbers stable → IsChapter c numbers stable }
 {}
 
 /// What is written in a cycle is written in the life of a heap whose objects never move, even if no other cycle
 /// follows.
 pub fn one_writing()
-    ensures { (c : Cycle) (numbers : List ℕ) (stable : StableHeap) → IsClosed c.setup.heap → CanMerge c.setup c.journals → IsToldAs c.setup.heap numbers stable → IsWriting c numbers stable }
+    ensures { (c : Cycle) (numbers : List ℕ) (stable : StableHeap) → IsClosed c.setup.heap → CanMerge c.setup c.journals → IsNumberedAs c.setup.heap numbers stable → IsWriting c numbers stable }
 {}
 
 /// Cycles that follow one another are one life of a heap whose objects never move.

@@ -7,7 +7,7 @@ mod laws;
 mod moving;
 mod next_cycle;
 
-pub use drawn::{cycle_is_told, cycles_are_one_story, words_are_lowered};
+pub use drawn::{cycle_is_numbered, cycles_are_one_story, words_are_lowered};
 pub use finished::Finished;
-pub use laws::{first_telling, one_chapter, one_life, one_writing, weak_words_lead};
+pub use laws::{first_numbering, one_chapter, one_life, one_writing, weak_words_lead};
 pub use next_cycle::NotCycled;

@@ -1,13 +1,13 @@
 //! The heap with which the next cycle begins.
 ghost use Rattle.std.specs.Prelude.{◌≡◌, ℕ, ◌*◌, ◌^◌, ◌<◌, ◌&&◌, nat_lt, IfErr, IfOk, List, [], length, map};
 ghost use Rattle.heap_layout.specs.Bits.{bit};
-ghost use Rattle.heap_layout.specs.Faults.{mark_faults, Tells};
+ghost use Rattle.heap_layout.specs.Faults.{mark_faults, Reports};
 ghost use Rattle.heap_layout.specs.Heap.{is_start, IsStored};
 ghost use Rattle.comp_cycles.specs.Cycles.{heap_after, IsChapter, IsCycleOf};
 ghost use Rattle.comp_cycles.specs.Ends.{cycle_of, setup_in, IsEndOf, IsRefusedFor};
 ghost use Rattle.comp_cycles.specs.NextHeap.{lowered, next_faults};
 ghost use Rattle.comp_cycles.specs.Stable.{StableHeap};
-ghost use Rattle.comp_cycles.specs.Told.{IsToldAs};
+ghost use Rattle.comp_cycles.specs.Numbered.{IsNumberedAs};
 ghost use Rattle.comp_cycles.specs.Finishes.{journals_of};
 
 use crate::finished::Finished;
@@ -29,7 +29,7 @@ pub struct NotCycled {
 // Checks the marks one by one: each must be greater than the one before it, and its bit must be set.
 fn check_marks(starts: &[u64], marks: &[u32]) -> Result<(), LayoutFault>
     requires { 64 * length starts.now < 2 ^ 64 }
-    ensures { (row : List ℕ) → ((i : ℕ) → is_start row i ≡ (nat_lt i (64 * length starts.now) && bit starts.now i)) → Tells (mark_faults row 0 marks.now) result }
+    ensures { (row : List ℕ) → ((i : ℕ) → is_start row i ≡ (nat_lt i (64 * length starts.now) && bit starts.now i)) → Reports (mark_faults row 0 marks.now) result }
 {
     let mut low = 0;
     for &mark in marks {
@@ -106,7 +106,7 @@ impl Finished {
         ensures next { IfOk result (λ heap. heap ≡ heap_after (cycle_of (B.heap builder.now) self marks.items)) }
         ensures stored { IfOk result IsStored }
         ensures cycle { IfOk result (λ _. IsCycleOf (B.heap builder.now) (cycle_of (B.heap builder.now) self marks.items)) }
-        ensures chapter { IfOk result (λ _. (numbers : List ℕ) (stable : StableHeap) → IsToldAs (B.heap builder.now) numbers stable
+        ensures chapter { IfOk result (λ _. (numbers : List ℕ) (stable : StableHeap) → IsNumberedAs (B.heap builder.now) numbers stable
             → IsChapter (cycle_of (B.heap builder.now) self marks.items) numbers stable) }
         ensures refused { IfErr result (λ left. IsRefusedFor (next_faults (setup_in (B.heap builder.now) self) (journals_of self) (heap_after (cycle_of (B.heap builder.now) self marks.items))) left.fault) }
         ensures back { IfErr result (λ left. left.finished ≡ self) }

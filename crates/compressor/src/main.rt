@@ -3,7 +3,7 @@
 
 ghost use Rattle.std.specs.Prelude.{◌≤◌};
 
-use commands::{fetch_words, run, tell_unstarted};
+use commands::{fetch_words, run, report_unstarted};
 use std::io::{self, BufWriter, ErrorKind, Write};
 use std::process::ExitCode;
 use std::rt::{Env, Files};
@@ -23,10 +23,10 @@ fn start<R: Env + Files + Print + AllocGlobal + Threads + Wait + Sync, E: Write>
 {
     let words = match fetch_words(rt) {
         Ok(words) => words,
-        Err(error) => return tell_unstarted(error.kind(), err),
+        Err(error) => return report_unstarted(error.kind(), err),
     };
     let Ok(mut out) = BufWriter::new(rt.alloc(), io::writer(rt)) else {
-        return tell_unstarted(ErrorKind::OutOfMemory, err);
+        return report_unstarted(ErrorKind::OutOfMemory, err);
     };
     let status = run(rt, words, &mut out, err);
     // A run that could print has flushed its output. What is left after a failed call is not written again, as a drop

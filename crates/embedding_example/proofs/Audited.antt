@@ -7,7 +7,7 @@ use Rattle.comp_mutator.specs.Finishes.{IsFinished, IsOfFlip}
 use Rattle.comp_mutator.specs.Finished.{Finished}
 use Rattle.comp_dump.specs.Dumped.{Dumped, IsStored}
 use Rattle.comp_dump.specs.declared.fault.AuditFault.{AuditFault}
-use Rattle.comp_audit.specs.Told.{IsFirst}
+use Rattle.comp_audit.specs.Reported.{IsFirst}
 use Rattle.comp_audit.specs.Judged.{faults, Judges}
 use Rattle.comp_audit.specs.Meant.{FinishedIsYes, IsDumpOf}
 use Rattle.comp_audit.specs.declared.verdict.Verdict.{Verdict}

@@ -136,9 +136,9 @@ field-targets kind edition words row (mark ∷ marks) none =
     (numbered-targets (misled kind) row first fields parts.0) (field-targets kind edition words row marks parts.1)
 
 -- the first fault of a list is also that of a longer list that begins with it
-pub first-told : (some more whole : List LayoutFault) (fault : LayoutFault) → some ++ more ≡ whole → IsFirst some fault → IsFirst whole fault
-first-told [] more whole fault same first = absurd first
-first-told (x ∷ some) more whole fault same first = subst (λ (list : List LayoutFault). IsFirst list fault) same first
+pub first-reported : (some more whole : List LayoutFault) (fault : LayoutFault) → some ++ more ≡ whole → IsFirst some fault → IsFirst whole fault
+first-reported [] more whole fault same first = absurd first
+first-reported (x ∷ some) more whole fault same first = subst (λ (list : List LayoutFault). IsFirst list fault) same first
 
 -- if the first list is empty, the first fault of both is that of the second
 pub first-behind : (some more : List LayoutFault) (fault : LayoutFault) → some ≡ [] → IsFirst more fault → IsFirst (some ++ more) fault
@@ -149,12 +149,12 @@ pub first-object : (sizes row marks roots targets weak : List LayoutFault) (faul
     → IsFirst (sizes ++ row ++ marks ++ roots ++ targets ++ weak) fault
 first-object sizes row marks roots targets weak fault none first =
     rw none
-    (first-told ((row ++ marks) ++ roots ++ targets) weak _ fault refl
-    (first-told ((row ++ marks) ++ roots) targets _ fault refl (first-told (row ++ marks) roots _ fault refl first)))
+    (first-reported ((row ++ marks) ++ roots ++ targets) weak _ fault refl
+    (first-reported ((row ++ marks) ++ roots) targets _ fault refl (first-reported (row ++ marks) roots _ fault refl first)))
 
 -- if the first list is empty, both joined are the second
-pub rest-told : (some more whole : List LayoutFault) → some ++ more ≡ whole → some ≡ [] → more ≡ whole
-rest-told some more whole same none = sym (ap (λ (list : List LayoutFault). list ++ more) none) ∙ same
+pub rest-reported : (some more whole : List LayoutFault) → some ++ more ≡ whole → some ≡ [] → more ≡ whole
+rest-reported some more whole same none = sym (ap (λ (list : List LayoutFault). list ++ more) none) ∙ same
 
 -- an accepted heap passes each test
 pub record Passed (heap : Heap) : Type 0 where

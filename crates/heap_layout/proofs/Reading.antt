@@ -119,16 +119,16 @@ pub failed_since : (start before after : ℕ) (fault : LayoutFault) → before �
 failed_since start before after fault same = subst (λ (failures : ℕ). CountsFailure {T = Unit {0}} failures after (Err fault)) same
 
 -- what holds for a fault holds for the answer that hands it on
-pub handed_on : {T : Type 0} (r : Result T LayoutFault) (Q : LayoutFault → Type 0) (fault : LayoutFault) → IsErrAnd r (λ told. told ≡ fault) → Q fault → IfErr r Q
-handed_on (Ok x) Q fault told q = absurd told
-handed_on (Err y) Q fault told q = subst Q (sym told) q
+pub handed_on : {T : Type 0} (r : Result T LayoutFault) (Q : LayoutFault → Type 0) (fault : LayoutFault) → IsErrAnd r (λ reported. reported ≡ fault) → Q fault → IfErr r Q
+handed_on (Ok x) Q fault reported q = absurd reported
+handed_on (Err y) Q fault reported q = subst Q (sym reported) q
 
 -- a failure that is handed on counts since the start, if none had failed before
-pub failure_handed_on : {T : Type 0} (r : Result T LayoutFault) (start before after : ℕ) (fault : LayoutFault) → IsErrAnd r (λ told. told ≡ fault)
+pub failure_handed_on : {T : Type 0} (r : Result T LayoutFault) (start before after : ℕ) (fault : LayoutFault) → IsErrAnd r (λ reported. reported ≡ fault)
     → before ≡ start → CountsFailure {T = Unit {0}} before after (Err fault) → CountsFailure start after r
-failure_handed_on (Ok x) start before after fault told same counted = absurd told
-failure_handed_on (Err y) start before after fault told same counted =
-    subst (λ (cause : LayoutFault). CountsFailure {T = Unit {0}} start after (Err cause)) (sym told) (failed_since start before after fault same counted)
+failure_handed_on (Ok x) start before after fault reported same counted = absurd reported
+failure_handed_on (Err y) start before after fault reported same counted =
+    subst (λ (cause : LayoutFault). CountsFailure {T = Unit {0}} start after (Err cause)) (sym reported) (failed_since start before after fault same counted)
 
 -- bytes stay bytes if some are taken or dropped
 nothing_small : (i : ℕ) → get_or [] i 0 < 2 ^ 8

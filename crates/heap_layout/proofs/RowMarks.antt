@@ -59,8 +59,8 @@ pub met-next : (edition : Edition) (words marks old new : List ℕ) (start met n
     → IsPlaced edition words start → marked ≡ (ltb met (length marks) && (get_or marks met 0 == start))
     → bit new start ≡ (bit old start || marked) → ((j : ℕ) → j ≢ start → bit new j ≡ bit old j)
     → next ≡ start + size_of (header_at edition words start) → more ≡ met + from_bool marked → IsMet edition words marks next more new
-met-next edition words marks old new start met next more true of lt placed told here others ends counted =
-    let parts = and_parts (ltb met (length marks)) (get_or marks met 0 == start) (sym told) in
+met-next edition words marks old new start met next more true of lt placed reported here others ends counted =
+    let parts = and_parts (ltb met (length marks)) (get_or marks met 0 == start) (sym reported) in
     let within = ltb-true met (length marks) parts.0 in
     let at = eqb-true (get_or marks met 0) start parts.1 in
     let one : more ≡ met + 1 = counted in
@@ -75,7 +75,7 @@ met-next edition words marks old new start met next more true of lt placed told 
       };
       before = omega arith;
     })
-met-next edition words marks old new start met next more false of lt placed told here others ends counted =
+met-next edition words marks old new start met next more false of lt placed reported here others ends counted =
     let one : more ≡ met = omega (arith, counted) in
     rw (ends, one) (record {
       within = placed.within;

@@ -270,22 +270,22 @@ begins_otherwise bytes (inr version) = inr (inr (version.0, version.1, inr (inl 
 
 -- if the bytes are refused for a fault, it is their verdict
 pub refusal_is_verdict : (fault : LayoutFault) (bytes : List ℕ) → IsOfBytes fault → Refuses fault bytes → IsVerdict (Some fault) bytes
-refusal_is_verdict TooLarge bytes told cause =
+refusal_is_verdict TooLarge bytes reported cause =
     let over = cause.4 in
     behind_head cause.0 cause.1 cause.2 cause.3 (Some TooLarge) bytes cause.5.0 over.words_fit over.marks_fit over.roots_fit cause.5.1 (inl (over, refl))
-refusal_is_verdict (ObjectPastEnd i) bytes told cause = refuses_part (ObjectPastEnd i) bytes tt cause
-refusal_is_verdict (ObjectTooLong i) bytes told cause = refuses_part (ObjectTooLong i) bytes tt cause
-refusal_is_verdict (MarkNotStart i) bytes told cause = refuses_part (MarkNotStart i) bytes tt cause
-refusal_is_verdict (MarksNotRising i) bytes told cause = refuses_part (MarksNotRising i) bytes tt cause
-refusal_is_verdict (BadRoot k) bytes told cause = refuses_part (BadRoot k) bytes tt cause
-refusal_is_verdict (UnmarkedTarget i) bytes told cause = refuses_part (UnmarkedTarget i) bytes tt cause
-refusal_is_verdict (BadWeak i) bytes told cause = refuses_part (BadWeak i) bytes tt cause
-refusal_is_verdict Truncated bytes told cause = ends_early bytes cause
-refusal_is_verdict TrailingBytes bytes told cause =
+refusal_is_verdict (ObjectPastEnd i) bytes reported cause = refuses_part (ObjectPastEnd i) bytes tt cause
+refusal_is_verdict (ObjectTooLong i) bytes reported cause = refuses_part (ObjectTooLong i) bytes tt cause
+refusal_is_verdict (MarkNotStart i) bytes reported cause = refuses_part (MarkNotStart i) bytes tt cause
+refusal_is_verdict (MarksNotRising i) bytes reported cause = refuses_part (MarksNotRising i) bytes tt cause
+refusal_is_verdict (BadRoot k) bytes reported cause = refuses_part (BadRoot k) bytes tt cause
+refusal_is_verdict (UnmarkedTarget i) bytes reported cause = refuses_part (UnmarkedTarget i) bytes tt cause
+refusal_is_verdict (BadWeak i) bytes reported cause = refuses_part (BadWeak i) bytes tt cause
+refusal_is_verdict Truncated bytes reported cause = ends_early bytes cause
+refusal_is_verdict TrailingBytes bytes reported cause =
     behind_image cause.0 (Some TrailingBytes) bytes cause.3.0 cause.1 cause.2 cause.3.1 (inl (cause.3.2, refl))
-refusal_is_verdict BadMagic bytes told cause = begins_otherwise bytes cause
-refusal_is_verdict OutOfMemory bytes told cause = absurd told
-refusal_is_verdict Device bytes told cause = absurd told
+refusal_is_verdict BadMagic bytes reported cause = begins_otherwise bytes cause
+refusal_is_verdict OutOfMemory bytes reported cause = absurd reported
+refusal_is_verdict Device bytes reported cause = absurd reported
 
 -- the image of an accepted heap has no fault as its verdict
 pub accepted_is_verdict : (heap : Heap) → IsStored heap → IsAccepted heap → IsVerdict None (encoding heap)

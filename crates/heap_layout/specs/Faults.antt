@@ -97,6 +97,6 @@ IsFirst [] fault = ⊥
 IsFirst (first ∷ others) fault = fault ≡ first
 
 -- the answer for this list of faults: Ok if it is empty, otherwise its first fault
-abbrev pub Tells : {T : Type 0} → List LayoutFault → Result T LayoutFault → Type 0
-Tells list (Ok _) = list ≡ []
-Tells list (Err fault) = IsFirst list fault
+abbrev pub Reports : {T : Type 0} → List LayoutFault → Result T LayoutFault → Type 0
+Reports list (Ok _) = list ≡ []
+Reports list (Err fault) = IsFirst list fault

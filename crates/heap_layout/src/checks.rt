@@ -4,7 +4,7 @@ ghost use Rattle.std.specs.List.Sorted.{IsStrictlyIncreasing};
 ghost use Rattle.std.specs.List.{flat_map};
 ghost use Rattle.heap_layout.specs.Heap.{starts, is_start, is_target, IsPlaced};
 ghost use Rattle.heap_layout.specs.Bits.{bit, leads};
-ghost use Rattle.heap_layout.specs.Faults.{IsReached, Meets, size_faults, object_faults, mark_faults, root_faults_by, misled, reference_faults_by, field_faults_by, weak_faults, faults, Tells};
+ghost use Rattle.heap_layout.specs.Faults.{IsReached, Meets, size_faults, object_faults, mark_faults, root_faults_by, misled, reference_faults_by, field_faults_by, weak_faults, faults, Reports};
 
 use crate::edition::Edition;
 use crate::fault::LayoutFault;
@@ -34,7 +34,7 @@ pub fn check(
     marks: &[u32],
     roots: &[u64],
 ) -> Result<(), LayoutFault>
-    ensures { Tells (faults (record { edition = edition; words = words.now; marks = marks.now; roots = roots.now })) result }
+    ensures { Reports (faults (record { edition = edition; words = words.now; marks = marks.now; roots = roots.now })) result }
 {
     check_sizes(words.len(), marks.len(), roots.len())?;
     let mut targets = Targets::none();
@@ -46,7 +46,7 @@ pub fn check(
 
 /// Checks the numbers of words, marks and roots against their limits: Err with `TooLarge` if one is exceeded.
 pub fn check_sizes(words: usize, marks: usize, roots: usize) -> Result<(), LayoutFault>
-    ensures { Tells (size_faults words marks roots) result }
+    ensures { Reports (size_faults words marks roots) result }
 {
     if words > MOST_WORDS || marks > MOST_MARKS || roots > MOST_ROOTS {
         Err(LayoutFault::TooLarge)
@@ -65,7 +65,7 @@ fn check_objects(
 ) -> Result<(), LayoutFault>
     requires few { length words.now ≤ 2 ^ 20 }
     requires none { (i : ℕ) → bit targets.old i ≡ false }
-    ensures told { Tells (flat_map (object_faults edition words.now) (starts edition words.now) ++ mark_faults (starts edition words.now) 0 marks.now) result }
+    ensures reported { Reports (flat_map (object_faults edition words.now) (starts edition words.now) ++ mark_faults (starts edition words.now) 0 marks.now) result }
     ensures targets { IfOk result (λ _. leads targets.new ≡ is_target marks.now) }
 {
     let met = check_row(edition, words, marks, targets)?;
@@ -87,7 +87,7 @@ fn check_row(
 ) -> Result<usize, LayoutFault>
     requires few { length words.now ≤ 2 ^ 20 }
     requires none { (i : ℕ) → bit targets.old i ≡ false }
-    ensures told { Tells (flat_map (object_faults edition words.now) (starts edition words.now)) result }
+    ensures reported { Reports (flat_map (object_faults edition words.now) (starts edition words.now)) result }
     ensures met { IfOk result (λ met. Meets (starts edition words.now) marks.now met targets.new) }
 {
     let mut met = 0;
@@ -119,7 +119,7 @@ fn is_mark(marks: &[u32], number: usize, i: usize) -> bool
 fn check_marks(edition: Edition, words: &[u64], marks: &[u32]) -> Result<(), LayoutFault>
     requires few { length words.now ≤ 2 ^ 20 }
     requires row { flat_map (object_faults edition words.now) (starts edition words.now) ≡ [] }
-    ensures { Tells (mark_faults (starts edition words.now) 0 marks.now) result }
+    ensures { Reports (mark_faults (starts edition words.now) 0 marks.now) result }
 {
     let mut low = 0;
     let mut start = 0;
@@ -170,7 +170,7 @@ pub fn is_target(marks: &[u32], reference: u64) -> bool
 
 // Checks that each root is null or the address of a marked object.
 fn check_roots(targets: &Targets, roots: &[u64]) -> Result<(), LayoutFault>
-    ensures { Tells (root_faults_by (leads targets.now) roots.now) result }
+    ensures { Reports (root_faults_by (leads targets.now) roots.now) result }
 {
     for (number, &root) in roots.iter().enumerate() {
         if !targets.has(root) {
@@ -191,7 +191,7 @@ fn check_weak(
     requires few { length words.now ≤ 2 ^ 20 }
     requires row { flat_map (object_faults edition words.now) (starts edition words.now) ≡ [] }
     requires placed { All (IsPlaced edition words.now) marks.now }
-    ensures { Tells (weak_faults edition words.now marks.now) result }
+    ensures { Reports (weak_faults edition words.now marks.now) result }
 {
     match edition {
         Edition::One => Ok(()),
@@ -212,7 +212,7 @@ fn check_fields(
 ) -> Result<(), LayoutFault>
     requires few { length words.now ≤ 2 ^ 20 }
     requires placed { All (IsPlaced edition words.now) marks.now }
-    ensures { Tells (field_faults_by kind edition (leads targets.now) words.now marks.now) result }
+    ensures { Reports (field_faults_by kind edition (leads targets.now) words.now marks.now) result }
 {
     for &mark in marks {
         let header = Header::from_word_of(edition, words[mark as usize]);
@@ -232,7 +232,7 @@ fn check_references(
     references: &[u64],
 ) -> Result<(), LayoutFault>
     requires { first + length references.now ≤ 2 ^ 32 }
-    ensures { Tells (reference_faults_by kind (leads targets.now) first references.now) result }
+    ensures { Reports (reference_faults_by kind (leads targets.now) first references.now) result }
 {
     for (i, &reference) in references.iter().enumerate() {
         if !targets.has(reference) {

@@ -6,7 +6,7 @@ use Rattle.trace_steps.specs.declared.shown.Shown.{Shown}
 use Rattle.trace_text.specs.declared.line.Line.{Line}
 use Rattle.comp_cycles.specs.Cycles.{Cycle, heap_after, numbers_left, story, Follow, IsCycleOf, IsOneLife, IsWriting}
 use Rattle.comp_cycles.specs.Stable.{StableHeap, lived}
-use Rattle.comp_cycles.specs.Told.{first_numbers, first_told, IsToldAs}
+use Rattle.comp_cycles.specs.Numbered.{first_numbers, first_numbered, IsNumberedAs}
 use Rattle.comp_cycles.specs.Merged.{CanMerge}
 use Rattle.comp_cycles.specs.Ends.{cycle_of, setup_in, IsEndOf}
 use Rattle.comp_cycles.proofs.Chapters.{rising}
@@ -53,7 +53,7 @@ module _ (mutators fresh : ℕ) where
   end_of (c ∷ cs) heap lines (r ∷ rest) (s ∷ shown) f h = end_of cs (heap_after c) r.1 rest shown f h.1
 
   abbrev pub have_run : ((heap last : Heap) (cycles : List Cycle) → IsClosed heap → Follow heap cycles last → IsOneLife heap cycles last)
-      → ((c : Cycle) (numbers : List ℕ) (stable : StableHeap) → IsClosed c.setup.heap → CanMerge c.setup c.journals → IsToldAs c.setup.heap numbers stable → IsWriting c numbers stable) → (heap : Heap) → IsClosed heap
+      → ((c : Cycle) (numbers : List ℕ) (stable : StableHeap) → IsClosed c.setup.heap → CanMerge c.setup c.journals → IsNumberedAs c.setup.heap numbers stable → IsWriting c numbers stable) → (heap : Heap) → IsClosed heap
       → (lines : List Line) (rest : List (List ℕ × List Line)) (shown : List (List Shown)) (cs : List Cycle) (f : Finished) → AreRuns mutators fresh heap lines rest shown cs f → HaveRun mutators fresh heap lines rest shown f
   have_run life writes heap closed lines rest shown cs f h =
       let follow = follow_of cs heap lines rest shown f h in
@@ -64,7 +64,7 @@ module _ (mutators fresh : ℕ) where
         runs = h;
         follow = follow;
         life = whole;
-        last = writes (cycle_of (last_heap heap cs) f []) (numbers_left cs (first_numbers heap) (length heap.marks)) (lived (first_told heap) (story cs (first_numbers heap) (length heap.marks)))
+        last = writes (cycle_of (last_heap heap cs) f []) (numbers_left cs (first_numbers heap) (length heap.marks)) (lived (first_numbered heap) (story cs (first_numbers heap) (length heap.marks)))
             end.closed end.finished.history.merges whole.result;
         rising = rising (setup_in (last_heap heap cs) f) end.closed refl;
       }

@@ -4,7 +4,7 @@ use Rattle.heap_layout.specs.Heap.{Heap}
 use Rattle.comp_cycles.specs.Cycles.{Cycle, entries_of, heap_after, numbers_left, story, Follow, IsCycleOf, IsOneLife, IsRising, IsWriting}
 use Rattle.comp_cycles.specs.Ends.{cycle_of, IsEndOf}
 use Rattle.comp_cycles.specs.Stable.{lived}
-use Rattle.comp_cycles.specs.Told.{first_numbers, first_told}
+use Rattle.comp_cycles.specs.Numbered.{first_numbers, first_numbered}
 use Rattle.comp_cycles.specs.declared.finished.Finished.{Finished}
 use Rattle.trace_steps.specs.declared.shown.Shown.{Shown}
 use Rattle.trace_text.specs.Traces.{mutators_of, roots_of}
@@ -72,6 +72,6 @@ pub record HaveRun (mutators fresh : ℕ) (heap : Heap) (lines : List Line) (res
   pub follow : Follow heap cycles (last_heap heap cycles)
   pub life : IsOneLife heap cycles (last_heap heap cycles)
   -- what was written in the last cycle is written in that life too
-  pub last : IsWriting (cycle_of (last_heap heap cycles) f []) (numbers_left cycles (first_numbers heap) (length heap.marks)) (lived (first_told heap) (story cycles (first_numbers heap) (length heap.marks)))
+  pub last : IsWriting (cycle_of (last_heap heap cycles) f []) (numbers_left cycles (first_numbers heap) (length heap.marks)) (lived (first_numbered heap) (story cycles (first_numbers heap) (length heap.marks)))
   -- the forwarding of the last cycle keeps the order of addresses
   pub rising : IsRising (last_heap heap cycles)

@@ -43,11 +43,11 @@ module _ (table : Steps) (n i : ℕ) (inside : i < n) (first met acted last : �
     settled : (p : ℕ) → seen (last i) p ≡ seen (acted i) p
     settled p =
         let one = after.longest p in
-        between (seen (acted i) p) (seen (last i) p) (seen (acted i) p) (after.told i p inside) (subst (λ (l : List Entry). StartsWith (seen (acted i) p) l) (sym one.2) (within one.0 p one.1)) refl
+        between (seen (acted i) p) (seen (last i) p) (seen (acted i) p) (after.other i p inside) (subst (λ (l : List Entry). StartsWith (seen (acted i) p) l) (sym one.2) (within one.0 p one.1)) refl
 
     -- then all have seen the same
     pub all_seen : (k p : ℕ) → k < n → seen (last k) p ≡ seen (acted i) p
-    all_seen k p lt = between (seen (acted i) p) (seen (last k) p) (seen (acted i) p) (after.told k p lt) (subst (λ (l : List Entry). StartsWith l (seen (last k) p)) (settled p) (after.within k p lt)) refl
+    all_seen k p lt = between (seen (acted i) p) (seen (last k) p) (seen (acted i) p) (after.other k p lt) (subst (λ (l : List Entry). StartsWith l (seen (last k) p)) (settled p) (after.within k p lt)) refl
 
     own_last : (k p : ℕ) → k < n → by k (seen (acted i) p) ≡ on p (did (last k))
     own_last k p lt = ap (by k) (sym (all_seen k p lt)) ∙ ap (λ (x : ℕ). by x (seen (last k) p)) (sym (crew_last.numbers k lt)) ∙ ((crew_last.works k lt).remembers p).own

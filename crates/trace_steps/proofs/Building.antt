@@ -111,7 +111,7 @@ module _ (n i : ℕ) (inside : i < n) (first met acted last : ℕ → Pass) (bef
   where
     -- all have then seen built what one had seen built
     kept : (k j p : ℕ) → k < n → j < n → HasSeenBuilt (first j) p → HasSeenBuilt (last k) p
-    kept k j p lt there h = after.told_built k p lt (grows.built p (before.built j p there h))
+    kept k j p lt there h = after.other_built k p lt (grows.built p (before.built j p there h))
 
     builds_others : (k : ℕ) → k < n → k ≢ i → builds_of (last k) ≡ builds_of (first k)
     builds_others k lt not = after.builds k lt ∙ ap builds_of (others k not) ∙ before.builds k lt
@@ -134,7 +134,7 @@ module _ (n i : ℕ) (inside : i < n) (first met acted last : ℕ → Pass) (bef
     -- all have then seen the touched page built
     touch_seen : (p : ℕ) → HasSeenBuilt (acted i) p → (built : List (ℕ × ℕ)) → SeeTheirs n first built → SeeTheirs n last (built ++ (i, p) ∷ [])
     touch_seen p seen built h q k there lt =
-        ⊎_elim (λ was. kept k k q lt lt (h q k was lt)) (λ is. subst (HasSeenBuilt (last k)) is (after.told_built k p lt seen)) (is_built_more built i p q there)
+        ⊎_elim (λ was. kept k k q lt lt (h q k was lt)) (λ is. subst (HasSeenBuilt (last k)) is (after.other_built k p lt seen)) (is_built_more built i p q there)
 
     pub see_built_on : (page : Option ℕ) → BuildsTouched page (met i) (acted i) → (built : List (ℕ × ℕ)) → SeeTheirs n first built → SeeTheirs n last (built_after built i page)
     see_built_on None same built h = λ p k there lt. kept k k p lt lt (h p k there lt)
@@ -157,7 +157,7 @@ module _ (n i : ℕ) (inside : i < n) (first met acted last : ℕ → Pass) (bef
 
       -- nobody had built the page, nor was it built now
       strange : is_built built p ≡ false → BuildsNothing (met i) (acted i) → HaveStrange n last
-      strange none same = (p, λ k lt. (after.told_built k p lt seen, ap (times p) (builds_none same k lt ∙ h.own k lt) ∙ times_none k p built none))
+      strange none same = (p, λ k lt. (after.other_built k p lt seen, ap (times p) (builds_none same k lt ∙ h.own k lt) ∙ times_none k p built none))
 
       touched_page : MayBuild p (met i) (acted i) → BuiltTheirs n last (built_after built i (Some p)) ⊎ HaveStrange n last
       touched_page may = by_test (is_built built p) refl

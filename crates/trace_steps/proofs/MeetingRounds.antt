@@ -17,36 +17,36 @@ same_begins : (whole front : List Entry) → whole ≡ front → StartsWith whol
 same_begins whole front e = ([], e ∙ sym (append-nil front))
 
 -- One meeting: each of the two has then seen, of each page, what one of the two had seen.
-pub record IsMeeting (told_old old told_new new : Pass) : Type 0 where
-  pub grows_told : Grows told_old told_new
+pub record IsMeeting (other_old old other_new new : Pass) : Type 0 where
+  pub grows_other : Grows other_old other_new
   pub grows : Grows old new
-  pub did_told : did told_new ≡ did told_old
+  pub did_other : did other_new ≡ did other_old
   pub did : did new ≡ did old
-  pub builds_told : builds_of told_new ≡ builds_of told_old
+  pub builds_other : builds_of other_new ≡ builds_of other_old
   pub builds : builds_of new ≡ builds_of old
-  pub same : (p : ℕ) → seen told_new p ≡ seen new p
-  pub longer : (p : ℕ) → (seen new p ≡ seen told_old p) ⊎ (seen new p ≡ seen old p)
-  pub starts : (p offset : ℕ) → KnowsFresh told_old p offset → KnowsFresh new p offset
-  pub built : (p : ℕ) → HasSeenBuilt told_old p → HasSeenBuilt new p
-  pub tells_built : (p : ℕ) → HasSeenBuilt old p → HasSeenBuilt told_new p
+  pub same : (p : ℕ) → seen other_new p ≡ seen new p
+  pub longer : (p : ℕ) → (seen new p ≡ seen other_old p) ⊎ (seen new p ≡ seen old p)
+  pub starts : (p offset : ℕ) → KnowsFresh other_old p offset → KnowsFresh new p offset
+  pub built : (p : ℕ) → HasSeenBuilt other_old p → HasSeenBuilt new p
+  pub tells_built : (p : ℕ) → HasSeenBuilt old p → HasSeenBuilt other_new p
 
 one_of : (test : Bool) (j a b : List Entry) → j ≡ cond test b a → (j ≡ b) ⊎ (j ≡ a)
 one_of true j a b e = inl e
 one_of false j a b e = inr e
 
-pub meeting_of : (told_old old told_new new : Pass) → Meets old told_old told_new → Meets told_old old new → ((p : ℕ) → seen told_new p ≡ seen new p) → IsMeeting told_old old told_new new
-meeting_of told_old old told_new new told m same = record {
-  grows_told = told.grows;
+pub meeting_of : (other_old old other_new new : Pass) → Meets old other_old other_new → Meets other_old old new → ((p : ℕ) → seen other_new p ≡ seen new p) → IsMeeting other_old old other_new new
+meeting_of other_old old other_new new other m same = record {
+  grows_other = other.grows;
   grows = m.grows;
-  did_told = told.did;
+  did_other = other.did;
   did = m.did;
-  builds_told = told.builds;
+  builds_other = other.builds;
   builds = m.builds;
   same = same;
-  longer = λ p. one_of (nat_lt (length (seen old p)) (length (seen told_old p))) (seen new p) (seen old p) (seen told_old p) (m.seen p);
+  longer = λ p. one_of (nat_lt (length (seen old p)) (length (seen other_old p))) (seen new p) (seen old p) (seen other_old p) (m.seen p);
   starts = m.knows.starts;
   built = m.knows.built;
-  tells_built = told.knows.built;
+  tells_built = other.knows.built;
 }
 
 -- Mutator i met those others whose numbers are below j.
@@ -55,11 +55,11 @@ pub record MetBelow (n i j : ℕ) (old new : ℕ → Pass) : Type 0 where
   pub builds : (k : ℕ) → k < n → builds_of (new k) ≡ builds_of (old k)
   pub grows : (k : ℕ) → k < n → Grows (old k) (new k)
   pub more : (k p : ℕ) → k < n → k < j → StartsWith (seen (new i) p) (seen (old k) p)
-  pub told : (k p : ℕ) → k < n → k < j → StartsWith (seen (new k) p) (seen (old i) p)
+  pub other : (k p : ℕ) → k < n → k < j → StartsWith (seen (new k) p) (seen (old i) p)
   pub within : (k p : ℕ) → k < n → k < j → StartsWith (seen (new i) p) (seen (new k) p)
   pub starts : (k p offset : ℕ) → k < n → k < j → KnowsFresh (old k) p offset → KnowsFresh (new i) p offset
   pub built : (k p : ℕ) → k < n → k < j → HasSeenBuilt (old k) p → HasSeenBuilt (new i) p
-  pub told_built : (k p : ℕ) → k < n → k < j → HasSeenBuilt (old i) p → HasSeenBuilt (new k) p
+  pub other_built : (k p : ℕ) → k < n → k < j → HasSeenBuilt (old i) p → HasSeenBuilt (new k) p
   pub later : (k : ℕ) → j ≤ k → k ≢ i → new k ≡ old k
   pub longest : (p : ℕ) → (k : ℕ) × (k < n) × (seen (new i) p ≡ seen (old k) p)
 
@@ -69,11 +69,11 @@ met_none n i old inside = record {
   builds = λ k lt. refl;
   grows = λ k lt. grows_none (old k);
   more = λ k p lt no. absurd (omega arith);
-  told = λ k p lt no. absurd (omega arith);
+  other = λ k p lt no. absurd (omega arith);
   within = λ k p lt no. absurd (omega arith);
   starts = λ k p offset lt no. absurd (omega arith);
   built = λ k p lt no. absurd (omega arith);
-  told_built = λ k p lt no. absurd (omega arith);
+  other_built = λ k p lt no. absurd (omega arith);
   later = λ k le not. refl;
   longest = λ p. (i, inside, refl);
 }
@@ -85,31 +85,31 @@ met_all n i old new h = record {
   builds = h.builds;
   grows = h.grows;
   more = λ k p lt. h.more k p lt lt;
-  told = λ k p lt. h.told k p lt lt;
+  other = λ k p lt. h.other k p lt lt;
   within = λ k p lt. h.within k p lt lt;
   starts = λ k p offset lt. h.starts k p offset lt lt;
   built = λ k p lt. h.built k p lt lt;
-  told_built = λ k p lt. h.told_built k p lt lt;
+  other_built = λ k p lt. h.other_built k p lt lt;
   longest = h.longest;
 }
 
 -- one more: mutator j, which is another than i
-module _ (n i j : ℕ) (inside : i < n) (there : j < n) (other : j ≢ i) (old new after : ℕ → Pass) (h : MetBelow n i j old new)
+module _ (n i j : ℕ) (inside : i < n) (there : j < n) (unlike : j ≢ i) (old new after : ℕ → Pass) (h : MetBelow n i j old new)
     (meeting : IsMeeting (new j) (new i) (after j) (after i)) (rest : (k : ℕ) → k ≢ i → k ≢ j → after k ≡ new k)
   where
     grown : (k : ℕ) → Grows (new k) (after k)
     grown k = dite (ℕ_discrete k i) (λ is. subst (λ (x : ℕ). Grows (new x) (after x)) (sym is) meeting.grows)
-        (λ not. dite (ℕ_discrete k j) (λ is. subst (λ (x : ℕ). Grows (new x) (after x)) (sym is) meeting.grows_told)
+        (λ not. dite (ℕ_discrete k j) (λ is. subst (λ (x : ℕ). Grows (new x) (after x)) (sym is) meeting.grows_other)
         (λ no. subst (λ (x : Pass). Grows (new k) x) (sym (rest k not no)) (grows_none (new k))))
 
     kept : (k : ℕ) → did (after k) ≡ did (new k)
     kept k = dite (ℕ_discrete k i) (λ is. subst (λ (x : ℕ). did (after x) ≡ did (new x)) (sym is) meeting.did)
-        (λ not. dite (ℕ_discrete k j) (λ is. subst (λ (x : ℕ). did (after x) ≡ did (new x)) (sym is) meeting.did_told)
+        (λ not. dite (ℕ_discrete k j) (λ is. subst (λ (x : ℕ). did (after x) ≡ did (new x)) (sym is) meeting.did_other)
         (λ no. ap did (rest k not no)))
 
     kept_builds : (k : ℕ) → builds_of (after k) ≡ builds_of (new k)
     kept_builds k = dite (ℕ_discrete k i) (λ is. subst (λ (x : ℕ). builds_of (after x) ≡ builds_of (new x)) (sym is) meeting.builds)
-        (λ not. dite (ℕ_discrete k j) (λ is. subst (λ (x : ℕ). builds_of (after x) ≡ builds_of (new x)) (sym is) meeting.builds_told)
+        (λ not. dite (ℕ_discrete k j) (λ is. subst (λ (x : ℕ). builds_of (after x) ≡ builds_of (new x)) (sym is) meeting.builds_other)
         (λ no. ap builds_of (rest k not no)))
 
     mine : (p : ℕ) → StartsWith (seen (after i) p) (seen (new i) p)
@@ -126,9 +126,9 @@ module _ (n i j : ℕ) (inside : i < n) (there : j < n) (other : j ≢ i) (old n
       grows = λ k lt. grows_then (old k) (new k) (after k) (h.grows k lt) (grown k);
       more = λ k p lt. below (λ (x : ℕ). StartsWith (seen (after i) p) (seen (old x) p))
           (λ x low. begins_then (seen (old x) p) (seen (new i) p) (seen (after i) p) (h.more x p (omega arith) low) (mine p))
-          (subst (λ (x : Pass). StartsWith (seen (after i) p) (seen x p)) (h.later j (omega arith) other) (subst (λ (l : List Entry). StartsWith l (seen (new j) p)) (meeting.same p) (meeting.grows_told.seen p))) k;
-      told = λ k p lt. below (λ (x : ℕ). StartsWith (seen (after x) p) (seen (old i) p))
-          (λ x low. begins_then (seen (old i) p) (seen (new x) p) (seen (after x) p) (h.told x p (omega arith) low) ((grown x).seen p))
+          (subst (λ (x : Pass). StartsWith (seen (after i) p) (seen x p)) (h.later j (omega arith) unlike) (subst (λ (l : List Entry). StartsWith l (seen (new j) p)) (meeting.same p) (meeting.grows_other.seen p))) k;
+      other = λ k p lt. below (λ (x : ℕ). StartsWith (seen (after x) p) (seen (old i) p))
+          (λ x low. begins_then (seen (old i) p) (seen (new x) p) (seen (after x) p) (h.other x p (omega arith) low) ((grown x).seen p))
           (subst (λ (l : List Entry). StartsWith l (seen (old i) p)) (sym (meeting.same p)) (begins_then (seen (old i) p) (seen (new i) p) (seen (after i) p) ((h.grows i inside).seen p) (mine p))) k;
       within = λ k p lt. below (λ (x : ℕ). StartsWith (seen (after i) p) (seen (after x) p))
           (λ x low. dite (ℕ_discrete x i)
@@ -137,16 +137,16 @@ module _ (n i j : ℕ) (inside : i < n) (there : j < n) (other : j ≢ i) (old n
           (same_begins (seen (after i) p) (seen (after j) p) (sym (meeting.same p))) k;
       starts = λ k p offset lt. below (λ (x : ℕ). KnowsFresh (old x) p offset → KnowsFresh (after i) p offset)
           (λ x low knows. meeting.grows.starts p offset (h.starts x p offset (omega arith) low knows))
-          (λ knows. meeting.starts p offset (subst (λ (x : Pass). KnowsFresh x p offset) (sym (h.later j (omega arith) other)) knows)) k;
+          (λ knows. meeting.starts p offset (subst (λ (x : Pass). KnowsFresh x p offset) (sym (h.later j (omega arith) unlike)) knows)) k;
       built = λ k p lt. below (λ (x : ℕ). HasSeenBuilt (old x) p → HasSeenBuilt (after i) p)
           (λ x low saw. meeting.grows.built p (h.built x p (omega arith) low saw))
-          (λ saw. meeting.built p (subst (λ (x : Pass). HasSeenBuilt x p) (sym (h.later j (omega arith) other)) saw)) k;
-      told_built = λ k p lt. below (λ (x : ℕ). HasSeenBuilt (old i) p → HasSeenBuilt (after x) p)
-          (λ x low saw. (grown x).built p (h.told_built x p (omega arith) low saw))
+          (λ saw. meeting.built p (subst (λ (x : Pass). HasSeenBuilt x p) (sym (h.later j (omega arith) unlike)) saw)) k;
+      other_built = λ k p lt. below (λ (x : ℕ). HasSeenBuilt (old i) p → HasSeenBuilt (after x) p)
+          (λ x low saw. (grown x).built p (h.other_built x p (omega arith) low saw))
           (λ saw. meeting.tells_built p ((h.grows i inside).built p saw)) k;
       later = λ k le not. rest k not (λ is. absurd (omega (arith, le, is))) ∙ h.later k (omega arith) not;
       longest = λ p. ⊎_elim
-          (λ told. (j, there, told ∙ ap (λ (x : Pass). seen x p) (h.later j (omega arith) other)))
+          (λ other. (j, there, other ∙ ap (λ (x : Pass). seen x p) (h.later j (omega arith) unlike)))
           (λ kept. let one = h.longest p in (one.0, one.1, kept ∙ one.2))
           (meeting.longer p);
     }
@@ -159,10 +159,10 @@ met_itself n i old new inside h = record {
   grows = h.grows;
   longest = h.longest;
   more = λ k p lt low. dite (ℕ_discrete k i) (λ is. subst (λ (x : ℕ). StartsWith (seen (new i) p) (seen (old x) p)) (sym is) ((h.grows i inside).seen p)) (λ no. h.more k p lt (omega arith));
-  told = λ k p lt low. dite (ℕ_discrete k i) (λ is. subst (λ (x : ℕ). StartsWith (seen (new x) p) (seen (old i) p)) (sym is) ((h.grows i inside).seen p)) (λ no. h.told k p lt (omega arith));
+  other = λ k p lt low. dite (ℕ_discrete k i) (λ is. subst (λ (x : ℕ). StartsWith (seen (new x) p) (seen (old i) p)) (sym is) ((h.grows i inside).seen p)) (λ no. h.other k p lt (omega arith));
   within = λ k p lt low. dite (ℕ_discrete k i) (λ is. same_begins (seen (new i) p) (seen (new k) p) (ap (λ (y : ℕ). seen (new y) p) (sym is))) (λ no. h.within k p lt (omega arith));
   starts = λ k p offset lt low. dite (ℕ_discrete k i) (λ is knows. (h.grows i inside).starts p offset (subst (λ (x : ℕ). KnowsFresh (old x) p offset) is knows)) (λ no. h.starts k p offset lt (omega arith));
   built = λ k p lt low. dite (ℕ_discrete k i) (λ is saw. (h.grows i inside).built p (subst (λ (x : ℕ). HasSeenBuilt (old x) p) is saw)) (λ no. h.built k p lt (omega arith));
-  told_built = λ k p lt low. dite (ℕ_discrete k i) (λ is saw. subst (λ (x : ℕ). HasSeenBuilt (new x) p) (sym is) ((h.grows i inside).built p saw)) (λ no. h.told_built k p lt (omega arith));
+  other_built = λ k p lt low. dite (ℕ_discrete k i) (λ is saw. subst (λ (x : ℕ). HasSeenBuilt (new x) p) (sym is) ((h.grows i inside).built p saw)) (λ no. h.other_built k p lt (omega arith));
   later = λ k le not. h.later k (omega arith) not;
 }

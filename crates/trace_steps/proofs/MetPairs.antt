@@ -43,18 +43,18 @@ in_back whole front back j d e parts long some =
     ap (λ l. get_or l j d) parts ∙ ap (λ i. get_or (front ++ back) i d) at ∙ get_or-append-add front back 0 d ∙ get_or_default back 0 d e some
 
 -- the mutators at indices k and i were a and b
-pub pair_met : {L : Type 0} (old new : List (Mutator L)) (k i : ℕ) (a b told m : Mutator L) → k ≢ i → k < length old → i < length old → ((d : Mutator L) → get_or old k d ≡ a) → ((d : Mutator L) → get_or old i d ≡ b)
-    → new ≡ set (set old k told) i m → Meets (pass_of b) (pass_of a) (pass_of told) → Meets (pass_of a) (pass_of b) (pass_of m) → ((p : ℕ) → seen (pass_of told) p ≡ seen (pass_of m) p) → HaveMet k i old new
-pair_met {L} old new k i a b told m apart low high at_k at_i new_is tells meets same =
+pub pair_met : {L : Type 0} (old new : List (Mutator L)) (k i : ℕ) (a b other m : Mutator L) → k ≢ i → k < length old → i < length old → ((d : Mutator L) → get_or old k d ≡ a) → ((d : Mutator L) → get_or old i d ≡ b)
+    → new ≡ set (set old k other) i m → Meets (pass_of b) (pass_of a) (pass_of other) → Meets (pass_of a) (pass_of b) (pass_of m) → ((p : ℕ) → seen (pass_of other) p ≡ seen (pass_of m) p) → HaveMet k i old new
+pair_met {L} old new k i a b other m apart low high at_k at_i new_is tells meets same =
     let was_k : (d : Mutator L) → row d old k ≡ pass_of a = λ d. ap pass_of (at_k d) in
     let was_i : (d : Mutator L) → row d old i ≡ pass_of b = λ d. ap pass_of (at_i d) in
-    let is_i : (d : Mutator L) → row d new i ≡ pass_of m = λ d. ap (λ l. row d l i) new_is ∙ ap pass_of (get_or-set_same (set old k told) i m d (omega (arith, high, length-set old k told))) in
-    let is_k : (d : Mutator L) → row d new k ≡ pass_of told = λ d. ap (λ l. row d l k) new_is ∙ ap pass_of (get_or-set_other (set old k told) i k m d apart ∙ get_or-set_same old k told d low) in
+    let is_i : (d : Mutator L) → row d new i ≡ pass_of m = λ d. ap (λ l. row d l i) new_is ∙ ap pass_of (get_or-set_same (set old k other) i m d (omega (arith, high, length-set old k other))) in
+    let is_k : (d : Mutator L) → row d new k ≡ pass_of other = λ d. ap (λ l. row d l k) new_is ∙ ap pass_of (get_or-set_other (set old k other) i k m d apart ∙ get_or-set_same old k other d low) in
     record {
-      told = λ d. moved (pass_of b) (pass_of a) (pass_of told) (row d old i) (row d old k) (row d new k) (was_i d) (was_k d) (is_k d) tells;
+      other = λ d. moved (pass_of b) (pass_of a) (pass_of other) (row d old i) (row d old k) (row d new k) (was_i d) (was_k d) (is_k d) tells;
       met = λ d. moved (pass_of a) (pass_of b) (pass_of m) (row d old k) (row d old i) (row d new i) (was_k d) (was_i d) (is_i d) meets;
       same = λ d p. ap (λ (x : Pass). seen x p) (is_k d) ∙ same p ∙ ap (λ (x : Pass). seen x p) (sym (is_i d));
-      others = λ d j not_i not_k. ap (λ l. row d l j) new_is ∙ ap pass_of (get_or-set_other (set old k told) i j m d not_i ∙ get_or-set_other old k j told d not_k);
+      others = λ d j not_i not_k. ap (λ l. row d l j) new_is ∙ ap pass_of (get_or-set_other (set old k other) i j m d not_i ∙ get_or-set_other old k j other d not_k);
     }
   where
     moved : (a b c a' b' c' : Pass) → a' ≡ a → b' ≡ b → c' ≡ c → Meets a b c → Meets a' b' c'
@@ -63,4 +63,4 @@ pair_met {L} old new k i a b told m apart low high at_k at_i new_is tells meets 
 -- one more mutator was met
 pub met_next : {L : Type 0} (n i k : ℕ) (d : Mutator L) (first : ℕ → Pass) (old new : List (Mutator L)) → i < n → k < n → k ≢ i → MetBelow n i k first (row d old) → HaveMet k i old new → MetBelow n i (k + 1) first (row d new)
 met_next n i k d first old new inside there apart below h =
-    met_more n i k inside there apart first (row d old) (row d new) below (meeting_of (row d old k) (row d old i) (row d new k) (row d new i) (h.told d) (h.met d) (h.same d)) (h.others d)
+    met_more n i k inside there apart first (row d old) (row d new) below (meeting_of (row d old k) (row d old i) (row d new k) (row d new i) (h.other d) (h.met d) (h.same d)) (h.others d)

@@ -25,7 +25,7 @@ row d mutators k = pass_of (get_or mutators k d)
 
 -- The mutators at indices k and i met, and no other mutator changed.
 pub record HaveMet {L : Type 0} (k i : ℕ) (old new : List (Mutator L)) : Type 0 where
-  pub told : (d : Mutator L) → Meets (row d old i) (row d old k) (row d new k)
+  pub other : (d : Mutator L) → Meets (row d old i) (row d old k) (row d new k)
   pub met : (d : Mutator L) → Meets (row d old k) (row d old i) (row d new i)
   pub same : (d : Mutator L) (p : ℕ) → seen (row d new k) p ≡ seen (row d new i) p
   pub others : (d : Mutator L) (j : ℕ) → j ≢ i → j ≢ k → row d new j ≡ row d old j
@@ -40,8 +40,8 @@ pub record Met (n i : ℕ) (old new : ℕ → Pass) : Type 0 where
   pub starts : (k p offset : ℕ) → k < n → KnowsFresh (old k) p offset → KnowsFresh (new i) p offset
   pub built : (k p : ℕ) → k < n → HasSeenBuilt (old k) p → HasSeenBuilt (new i) p
   -- each has then seen what pass i had seen, and nothing that pass i has not seen
-  pub told : (k p : ℕ) → k < n → StartsWith (seen (new k) p) (seen (old i) p)
-  pub told_built : (k p : ℕ) → k < n → HasSeenBuilt (old i) p → HasSeenBuilt (new k) p
+  pub other : (k p : ℕ) → k < n → StartsWith (seen (new k) p) (seen (old i) p)
+  pub other_built : (k p : ℕ) → k < n → HasSeenBuilt (old i) p → HasSeenBuilt (new k) p
   pub within : (k p : ℕ) → k < n → StartsWith (seen (new i) p) (seen (new k) p)
   -- of each page, pass i has then seen what one of them had seen
   pub longest : (p : ℕ) → (k : ℕ) × (k < n) × (seen (new i) p ≡ seen (old k) p)

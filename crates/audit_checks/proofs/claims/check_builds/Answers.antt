@@ -5,7 +5,7 @@ use Rattle.comp_history.specs.Builds.{named}
 use Rattle.comp_dump.specs.Dumped.{BuiltPage}
 use Rattle.audit_checks.specs.Checks.{unless, is_claimed}
 use Rattle.comp_dump.specs.declared.fault.AuditFault.TheVariants.{BuildUnclaimed}
-use Rattle.audit_checks.proofs.Telling.{first_here, none_here}
+use Rattle.audit_checks.proofs.Reporting.{first_here, none_here}
 use Rattle.audit_checks.proofs.claims.check_builds.Goals as goal
 
 pub returns-then-not-is_claimed : goal.returns-then-not-is_claimed

@@ -9,18 +9,18 @@ use Rattle.audit_checks.specs.Checks.{is_edition}
 use Rattle.audit_checks.specs.Noted.{setup_at}
 use Rattle.audit_checks.proofs.Meanings.{true_and}
 use Rattle.audit_checks.proofs.Noting.{and_false}
-use Rattle.audit_checks.proofs.Telling.{are_forwarded, second_fails, both_pass}
+use Rattle.audit_checks.proofs.Reporting.{are_forwarded, second_fails, both_pass}
 use Rattle.audit_checks.proofs.head.check_head.Goals as goal
 
-pub returns-then-ne-clause-told : goal.returns-then-ne-clause-told
-returns-then-ne-clause-told c =
+pub returns-then-ne-clause-reported : goal.returns-then-ne-clause-reported
+returns-then-ne-clause-reported c =
     let heap = c.args.setting.plan.now in
     let right : c.in_ok-forwarded.forwarded.items ≡ map (forwarded (live heap)) heap.roots = are_forwarded (forward (live heap)) _ _ c.in_ok-forwarded.ensures in
     let there = ap (bytes_eq c.args.roots.now) (c.as_slice.ensures.value ∙ right) in
     second_fails _ _ _ (and_false _ _ (sym there ∙ not-true _ (sym c.ne.ensures ∙ c.if-ne.true)))
 
-pub returns-clause-told : goal.returns-clause-told
-returns-clause-told c =
+pub returns-clause-reported : goal.returns-clause-reported
+returns-clause-reported c =
     let heap = c.args.setting.plan.now in
     let right : c.in_ok-forwarded.forwarded.items ≡ map (forwarded (live heap)) heap.roots = are_forwarded (forward (live heap)) _ _ c.in_ok-forwarded.ensures in
     let there = ap (bytes_eq c.args.roots.now) (c.as_slice.ensures.value ∙ right) in

@@ -9,7 +9,7 @@ use Rattle.comp_history.specs.Setup.{fresh_page}
 use Rattle.comp_history.specs.Lawful.{kinds_by, kinds_in}
 use Rattle.audit_checks.specs.Checks.{fits, entry_faults}
 use Rattle.audit_checks.specs.Noted.{setup_at}
-use Rattle.audit_checks.specs.Told.{IsFirst}
+use Rattle.audit_checks.specs.Reported.{IsFirst}
 use Rattle.comp_dump.specs.declared.fault.AuditFault.{AuditFault}
 use Rattle.comp_dump.specs.declared.fault.AuditFault.TheVariants.{BadEntry}
 use Rattle.comp_history.proofs.JournalKinds.{kinds_more}

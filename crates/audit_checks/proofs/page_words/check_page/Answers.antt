@@ -2,7 +2,7 @@ use Rattle.std.proofs.Common.{◌≡◌, ◌∙◌, ap, subst, List, ℕ}
 use Rattle.comp_journal.specs.Journal.{replayed}
 use Rattle.comp_history.specs.Setup.{base_of}
 use Rattle.audit_checks.specs.Checks.{same_words}
-use Rattle.audit_checks.specs.Told.{Tells}
+use Rattle.audit_checks.specs.Reported.{Reports}
 use Rattle.audit_checks.specs.Noted.{setup_at}
 use Rattle.audit_checks.proofs.page_words.check_page.Goals as goal
 
@@ -14,5 +14,5 @@ returns c =
     ∙ c.replay.ensures
     ∙ ap (λ (base : List ℕ). replayed base c.journal.result.now) c.in_ok-right.ensures
     ∙ ap (replayed (base_of u c.args.p)) c.journal.ensures in
-    subst (λ (xs : List ℕ). Tells (same_words xs c.args.p c.args.page.now.words) c.check_same.result) right
-    (subst (λ (ys : List ℕ). Tells (same_words c.as_array.result.now c.args.p ys) c.check_same.result) c.words.ensures c.check_same.ensures)
+    subst (λ (xs : List ℕ). Reports (same_words xs c.args.p c.args.page.now.words) c.check_same.result) right
+    (subst (λ (ys : List ℕ). Reports (same_words c.as_array.result.now c.args.p ys) c.check_same.result) c.words.ensures c.check_same.ensures)

@@ -8,9 +8,9 @@ use Rattle.comp_history.proofs.JournalKinds.{room_on}
 use Rattle.comp_dump.specs.declared.fault.AuditFault.{AuditFault}
 use Rattle.comp_dump.specs.declared.fault.AuditFault.TheVariants.{LooseReference}
 use Rattle.audit_checks.specs.Checks.{some_refers, loose_faults, reference_faults, unless}
-use Rattle.audit_checks.specs.Told.{Tells}
+use Rattle.audit_checks.specs.Reported.{Reports}
 use Rattle.audit_checks.specs.Noted.{leads, setup_at}
-use Rattle.audit_checks.proofs.Telling.{same_items}
+use Rattle.audit_checks.proofs.Reporting.{same_items}
 use Rattle.audit_checks.proofs.references.check_page.Goals as goal
 
 pub kinds_on-requires : goal.kinds_on-requires
@@ -28,6 +28,6 @@ returns c =
     let same : loose_faults (λ offset. some_refers (slice_index_or c.in_ok-kinds.kinds offset None)) leading c.args.p page.words ≡ reference_faults leading u c.args.p page =
     same_items (λ (word : ℕ × ℕ). test (slice_index_or c.in_ok-kinds.kinds word.0 None) word) (λ (word : ℕ × ℕ). test (kind_at u c.args.p page.journal word.0) word) 0 page.words
     (λ k x lt. ap (λ (o : Option Kind). test o (k, x)) (c.in_ok-kinds.ensures u refl refl k (omega (arith, lt, c.requires.stored.long)) ∙ ap (λ (j : List _). kind_at u c.args.p j k) c.journal.ensures)) in
-    subst (λ (l : List AuditFault). Tells l c.check_loose.result) same
-    (subst (λ (ys : List ℕ). Tells (loose_faults (λ offset. some_refers (slice_index_or c.in_ok-kinds.kinds offset None)) leading c.args.p ys) c.check_loose.result) words
+    subst (λ (l : List AuditFault). Reports l c.check_loose.result) same
+    (subst (λ (ys : List ℕ). Reports (loose_faults (λ offset. some_refers (slice_index_or c.in_ok-kinds.kinds offset None)) leading c.args.p ys) c.check_loose.result) words
     c.check_loose.ensures)

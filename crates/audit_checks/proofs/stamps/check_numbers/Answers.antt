@@ -2,7 +2,7 @@ use Rattle.std.proofs.Common.{◌++◌, ◌∙◌, ap, subst, List, arith}
 use Rattle.std.proofs.lemmas.Map.Keys.{ge_from_not_lt}
 use Rattle.comp_dump.specs.declared.fault.AuditFault.{AuditFault}
 use Rattle.audit_checks.specs.Checks.{repeat_faults, missing_faults}
-use Rattle.audit_checks.specs.Told.{Tells}
+use Rattle.audit_checks.specs.Reported.{Reports}
 use Rattle.audit_checks.proofs.Ranges.{same_repeats, same_missing, times_permuted, sorted_from}
 use Rattle.audit_checks.proofs.stamps.check_numbers.Goals as goal
 
@@ -16,4 +16,4 @@ returns c =
     let same = times_permuted _ _ c.sort_unstable.ensures.permutation in
     let faults = ap (λ (front : List AuditFault). front ++ missing_faults c.sort_unstable.new.self) (same_repeats _ _ same)
     ∙ ap (λ (rest : List AuditFault). repeat_faults c.args.stamps.now ++ rest) (same_missing _ _ c.sort_unstable.ensures.len same) in
-    subst (λ (list : List AuditFault). Tells list c.check_sorted.result) faults c.check_sorted.ensures
+    subst (λ (list : List AuditFault). Reports list c.check_sorted.result) faults c.check_sorted.ensures

@@ -5,7 +5,7 @@ use Rattle.comp_trace.specs.Line.{Line}
 use Rattle.comp_trace.specs.Action.TheVariants.{Root}
 use Rattle.comp_trace.specs.Shown.{Shown}
 use Rattle.commands.specs.ByLine.{AreByLine}
-use Rattle.commands.proofs.Walking.{left_all, left_of, listed, none_there, shown_by, told_behind, told_by_line, walk_on, walked}
+use Rattle.commands.proofs.Walking.{left_all, left_of, listed, none_there, shown_by, printed_after, printed_by_line, walk_on, walked}
 use Rattle.commands.proofs.by_line.by_line.Goals as goal
 use Rattle.commands.proofs.by_line.by_line.Goals.{in-Some, in_default}
 
@@ -36,27 +36,27 @@ loop-at-preserved c =
     let within : (let line : Line = get_or lines at no_line in line.mutator < length runs) = All-get_or (λ (line : Line). line.mutator < length runs) lines at no_line lt c.requires.inside in
     let inside : m < length runs = subst (λ (k : ℕ). k < length runs) (sym by) within in
     let few : m < length next = omega (arith, inside, i.places, c.requires.few) in
-    let step = walk_on lines runs next at m no_line c.index-runs-m.result c.told.result out (walked 1 lines (shown_by runs)) lt by few inside c.index-runs-m.is c.told.ensures.told i.walk in
+    let step = walk_on lines runs next at m no_line c.index-runs-m.result c.shown_at.result out (walked 1 lines (shown_by runs)) lt by few inside c.index-runs-m.is c.shown_at.ensures.value i.walk in
     let behind = λ (after : List ℕ). walked (at + 1 + 1) (drop (at + 1) lines) (left_of runs after) in
-    elim c.match-told.branch [
+    elim c.match-shown_at.branch [
       | in-Some w ↦
-          let is : c.told.result ≡ Some w.in-Some.value = w.in-Some.is in
-          let items : c.match-told.shown.items ≡ out ++ w.in-Some.value ∷ [] = ap (λ (v : Vec Shown Global). v.items) w.shown-is ∙ w.push_reserved.ensures.items in
-          let told : c.match-told.shown.items ≡ out ++ listed c.told.result = items ∙ ap (λ (o : Option Shown). out ++ listed o) (sym is) in
-          let after : c.match-told.next ≡ told_behind c.told.result next m = w.next-is ∙ ap (λ (o : Option Shown). told_behind o next m) (sym is) in
+          let is : c.shown_at.result ≡ Some w.in-Some.value = w.in-Some.is in
+          let items : c.match-shown_at.shown.items ≡ out ++ w.in-Some.value ∷ [] = ap (λ (v : Vec Shown Global). v.items) w.shown-is ∙ w.push_reserved.ensures.items in
+          let shown_at : c.match-shown_at.shown.items ≡ out ++ listed c.shown_at.result = items ∙ ap (λ (o : Option Shown). out ++ listed o) (sym is) in
+          let after : c.match-shown_at.next ≡ printed_after c.shown_at.result next m = w.next-is ∙ ap (λ (o : Option Shown). printed_after o next m) (sym is) in
           record {
-            walk = ap (λ (l : List Shown). l ++ behind c.match-told.next) told ∙ ap (λ (n : List ℕ). (out ++ listed c.told.result) ++ behind n) after ∙ step;
+            walk = ap (λ (l : List Shown). l ++ behind c.match-shown_at.next) shown_at ∙ ap (λ (n : List ℕ). (out ++ listed c.shown_at.result) ++ behind n) after ∙ step;
             few = omega (arith, ap length items, length-append out (w.in-Some.value ∷ []), i.few);
             room = ap vec_capacity w.shown-is ∙ w.push_reserved.ensures.capacity ∙ i.room;
             places = ap length w.next-is ∙ length-set next m (get_or next m 0 + 1) ∙ i.places;
           }
       | in_default w ↦
-          let is : c.told.result ≡ None = none_there c.told.result (λ one e. w.in_default.not-Some one e) in
-          let told : c.match-told.shown.items ≡ out ++ listed c.told.result =
+          let is : c.shown_at.result ≡ None = none_there c.shown_at.result (λ one e. w.in_default.not-Some one e) in
+          let shown_at : c.match-shown_at.shown.items ≡ out ++ listed c.shown_at.result =
           ap (λ (v : Vec Shown Global). v.items) w.shown-is ∙ sym (append-nil out) ∙ ap (λ (o : Option Shown). out ++ listed o) (sym is) in
-          let after : c.match-told.next ≡ told_behind c.told.result next m = w.next-is ∙ ap (λ (o : Option Shown). told_behind o next m) (sym is) in
+          let after : c.match-shown_at.next ≡ printed_after c.shown_at.result next m = w.next-is ∙ ap (λ (o : Option Shown). printed_after o next m) (sym is) in
           record {
-            walk = ap (λ (l : List Shown). l ++ behind c.match-told.next) told ∙ ap (λ (n : List ℕ). (out ++ listed c.told.result) ++ behind n) after ∙ step;
+            walk = ap (λ (l : List Shown). l ++ behind c.match-shown_at.next) shown_at ∙ ap (λ (n : List ℕ). (out ++ listed c.shown_at.result) ++ behind n) after ∙ step;
             few = omega (arith, ap (λ (v : Vec Shown Global). length v.items) w.shown-is, i.few);
             room = ap vec_capacity w.shown-is ∙ i.room;
             places = ap length w.next-is ∙ i.places;
@@ -72,4 +72,4 @@ returns c =
     let all : length lines ≤ at = omega arith in
     let end : out ≡ walked 1 lines (shown_by runs) =
     sym (append-nil out) ∙ ap (λ (ls : List Line). out ++ walked (at + 1) ls (left_of runs c.loop-at.next)) (sym (drop_all at lines all)) ∙ c.loop-at.invariant.walk in
-    subst (AreByLine runs) (sym end) (told_by_line lines runs c.requires.own)
+    subst (AreByLine runs) (sym end) (printed_by_line lines runs c.requires.own)

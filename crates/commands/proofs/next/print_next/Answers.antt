@@ -71,7 +71,7 @@ returns-clause-made g c =
     let read = c.in_ok-inputs.ensures in
     let marks = c.in_ok-marks.marks.items in
     let given = g.I.Images.gives c.args.images.now asked.image.now in
-    let told = g.T.Traces.gives c.args.traces.now asked.trace.now in
+    let texts = g.T.Traces.gives c.args.traces.now asked.trace.now in
     let handed = g.T.Traces.gives c.args.traces.now asked.marks.now in
     let lacks = g.D.Dumps.lacks c.args.dumps.now asked.new.now in
     let gives = g.D.Dumps.gives c.args.dumps.now asked.new.now in
@@ -79,7 +79,7 @@ returns-clause-made g c =
     let before = g.O.Write.contents (inner_of c.args.out.now).now in
     let after = g.O.Write.contents (inner_of c.write_made.new.out).now in
     ok_then (Nexts gives contents asked.mutators asked.fresh before after (lines_of inputs.trace) marks inputs.heap)
-    (MakesNext given g.I.Reader.Read.remaining told handed g.T.Reader.Read.remaining gives contents asked.mutators asked.fresh before after)
+    (MakesNext given g.I.Reader.Read.remaining texts handed g.T.Reader.Read.remaining gives contents asked.mutators asked.fresh before after)
     (λ h. (inputs.heap, read.heap, (lines_of inputs.trace, read.lines, (marks, c.in_ok-marks.ensures.marks, h))))
     c.write_made.result
     (made_ok lacks gives contents asked.mutators asked.fresh before after (lines_of inputs.trace) marks inputs.heap c.cycle_heap-made.result c.cycle_heap-made.ensures.cycled

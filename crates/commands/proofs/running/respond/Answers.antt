@@ -4,22 +4,22 @@ use Rattle.clap.specs.declared.error.Error.{Error}
 use Rattle.heap_layout.specs.Counted.{inner_of, failures_of}
 use Rattle.command_line.specs.declared.words.Task.{Task}
 use Rattle.commands.specs.Tasks.{Answers, IsRefused, RefusesTask}
-use Rattle.commands.proofs.Performed.{told_done, told_never, told_refused, told_within}
+use Rattle.commands.proofs.Performed.{reported_done, reported_never, reported_refused, reported_within}
 use Rattle.commands.proofs.running.respond.Goals as goal
 
 -- A task was done or refused.
 pub returns-in-Ok-clause-status : goal.returns-in-Ok-clause-status
-returns-in-Ok-clause-status g c = told_within c.perform.result c.told.result c.told.ensures.done c.told.ensures.refused
+returns-in-Ok-clause-status g c = reported_within c.perform.result c.reported.result c.reported.ensures.done c.reported.ensures.refused
 
 pub returns-in-Ok-clause-done : goal.returns-in-Ok-clause-done
 returns-in-Ok-clause-done g c = λ zero.
     subst (λ (asked : Result Task Error). Answers (g.I.Images.gives c.args.images.now) g.I.Reader.Read.remaining (g.T.Traces.gives c.args.traces.now) g.T.Reader.Read.remaining
     (g.D.Dumps.gives c.args.dumps.now) g.D.Writer.Write.contents
     (g.O.Write.contents (inner_of c.args.out.now).now) (g.O.Write.contents (inner_of c.perform.new.out).now) asked) (sym c.in-Ok.is)
-    (told_done c.perform.result c.told.result _ c.told.ensures.refused c.perform.ensures.done zero)
+    (reported_done c.perform.result c.reported.result _ c.reported.ensures.refused c.perform.ensures.done zero)
 
 pub returns-in-Ok-clause-flushed : goal.returns-in-Ok-clause-flushed
-returns-in-Ok-clause-flushed g c = told_done c.perform.result c.told.result _ c.told.ensures.refused c.perform.ensures.flushed
+returns-in-Ok-clause-flushed g c = reported_done c.perform.result c.reported.result _ c.reported.ensures.refused c.perform.ensures.flushed
 
 pub returns-in-Ok-clause-refused : goal.returns-in-Ok-clause-refused
 returns-in-Ok-clause-refused g c = λ one.
@@ -27,34 +27,34 @@ returns-in-Ok-clause-refused g c = λ one.
     (g.T.Traces.lacks c.args.traces.now) (g.T.Traces.gives c.args.traces.now) g.T.Reader.Read.remaining
     (g.D.Dumps.lacks c.args.dumps.now) (g.D.Dumps.gives c.args.dumps.now) g.D.Writer.Write.contents
     (failures_of c.args.out.now) (failures_of c.perform.new.out) (g.O.Write.contents (inner_of c.args.out.now).now) (g.O.Write.contents (inner_of c.perform.new.out).now) asked) (sym c.in-Ok.is)
-    (told_refused c.perform.result c.told.result (failures_of c.args.out.now) (failures_of c.perform.new.out) (g.O.Write.contents (inner_of c.args.out.now).now) (g.O.Write.contents (inner_of c.perform.new.out).now)
+    (reported_refused c.perform.result c.reported.result (failures_of c.args.out.now) (failures_of c.perform.new.out) (g.O.Write.contents (inner_of c.args.out.now).now) (g.O.Write.contents (inner_of c.perform.new.out).now)
     (RefusesTask (g.I.Images.lacks c.args.images.now) (g.I.Images.gives c.args.images.now) g.I.Reader.Read.remaining
     (g.T.Traces.lacks c.args.traces.now) (g.T.Traces.gives c.args.traces.now) g.T.Reader.Read.remaining
     (g.D.Dumps.lacks c.args.dumps.now) (g.D.Dumps.gives c.args.dumps.now) g.D.Writer.Write.contents
     (g.O.Write.contents (inner_of c.args.out.now).now) (g.O.Write.contents (inner_of c.perform.new.out).now) c.in-Ok.task)
-    c.told.ensures.done c.perform.ensures.cause c.perform.ensures.counts c.perform.ensures.unprinted one)
+    c.reported.ensures.done c.perform.ensures.cause c.perform.ensures.counts c.perform.ensures.unprinted one)
 
 pub returns-in-Ok-clause-wrong : goal.returns-in-Ok-clause-wrong
-returns-in-Ok-clause-wrong g c = λ two. absurd (told_never c.perform.result c.told.result c.told.ensures.done c.told.ensures.refused two)
+returns-in-Ok-clause-wrong g c = λ two. absurd (reported_never c.perform.result c.reported.result c.reported.ensures.done c.reported.ensures.refused two)
 
 pub returns-in-Ok-clause-misused : goal.returns-in-Ok-clause-misused
-returns-in-Ok-clause-misused g c = λ two. absurd (told_never c.perform.result c.told.result c.told.ensures.done c.told.ensures.refused two)
+returns-in-Ok-clause-misused g c = λ two. absurd (reported_never c.perform.result c.reported.result c.reported.ensures.done c.reported.ensures.refused two)
 
 pub returns-in-Ok-clause-same_writer : goal.returns-in-Ok-clause-same_writer
 returns-in-Ok-clause-same_writer g c = c.perform.ensures.same_writer
 
 -- There was no memory for the words.
 pub returns-in-Err-clause-status : goal.returns-in-Err-clause-status
-returns-in-Err-clause-status g c = omega (arith, c.told-in-Err.ensures.refused)
+returns-in-Err-clause-status g c = omega (arith, c.reported-in-Err.ensures.refused)
 
 pub returns-in-Err-clause-done : goal.returns-in-Err-clause-done
-returns-in-Err-clause-done g c = λ zero. absurd (omega (arith, zero, c.told-in-Err.ensures.refused))
+returns-in-Err-clause-done g c = λ zero. absurd (omega (arith, zero, c.reported-in-Err.ensures.refused))
 
 pub returns-in-Err-clause-flushed : goal.returns-in-Err-clause-flushed
-returns-in-Err-clause-flushed g c = λ zero. absurd (omega (arith, zero, c.told-in-Err.ensures.refused))
+returns-in-Err-clause-flushed g c = λ zero. absurd (omega (arith, zero, c.reported-in-Err.ensures.refused))
 
 pub returns-in-Err-clause-wrong : goal.returns-in-Err-clause-wrong
-returns-in-Err-clause-wrong g c = λ two. absurd (omega (arith, two, c.told-in-Err.ensures.refused))
+returns-in-Err-clause-wrong g c = λ two. absurd (omega (arith, two, c.reported-in-Err.ensures.refused))
 
 pub returns-in-Err-clause-misused : goal.returns-in-Err-clause-misused
 returns-in-Err-clause-misused g c = λ two. Keeps-refl _

@@ -4,7 +4,7 @@ use Rattle.heap_layout.specs.declared.edition.Edition.{Edition}
 use Rattle.comp_dump.specs.Ends.{lists as items_of}
 use Rattle.audit_checks.specs.Checks.{setup_for}
 use Rattle.comp_dump.specs.Dumped.{BuiltPage, Dumped}
-use Rattle.audit_checks.specs.Told.{faults_for, IsFirst, Tells}
+use Rattle.audit_checks.specs.Reported.{faults_for, IsFirst, Reports}
 use Rattle.comp_audit.specs.Judged.{faults}
 use Rattle.comp_dump.specs.declared.fault.AuditFault.{AuditFault}
 use Rattle.audit_checks.specs.declared.fault.Stop.{Stop}
@@ -25,11 +25,11 @@ parts_faults heap dump edition fresh mutators roots builds pages total e f m r b
     ∙ ap (λ (n : ℕ). faults_for (setup_for heap dump.fresh dump.mutators) dump.edition dump.roots dump.builds dump.pages n) t
 
 -- the fault that is answered is the first
-told_first : (list all : List AuditFault) (result : Result (Unit {0}) Stop) (why : Stop) (fault : AuditFault) → result ≡ Err why → why ≡ stop.Fault fault → list ≡ all
-    → Tells list result → IsFirst all fault
-told_first list all result why fault is was same told =
-    let early : Tells list (Err why) = subst (λ (r : Result (Unit {0}) Stop). Tells list r) is told in
-    let first : IsFirst list fault = subst (λ (w : Stop). Tells list (Err w)) was early in
+reported_first : (list all : List AuditFault) (result : Result (Unit {0}) Stop) (why : Stop) (fault : AuditFault) → result ≡ Err why → why ≡ stop.Fault fault → list ≡ all
+    → Reports list result → IsFirst all fault
+reported_first list all result why fault is was same reported =
+    let early : Reports list (Err why) = subst (λ (r : Result (Unit {0}) Stop). Reports list r) is reported in
+    let first : IsFirst list fault = subst (λ (w : Stop). Reports list (Err w)) was early in
     subst (λ (l : List AuditFault). IsFirst l fault) same first
 
 pub returns-in-Ok : goal.returns-in-Ok
@@ -41,7 +41,7 @@ returns-in-Ok c =
 pub returns-in-Err-Fault : goal.returns-in-Err-Fault
 returns-in-Err-Fault c =
     let was = rw c.in-Err-Fault.is at c.in-Err-Fault.field-0-is in
-    told_first _ _ c.check-found.result c.in-Err-Fault.field-0 c.in-Err-Fault.fault c.in-Err-Fault.is was
+    reported_first _ _ c.check-found.result c.in-Err-Fault.field-0 c.in-Err-Fault.fault c.in-Err-Fault.is was
     (parts_faults c.args.plan.now c.args.dump.now c.edition.result c.fresh_pages.result c.mutators.result c.roots.result.now (items_of c.builds.result.now) c.pages.result.now
     c.live_words.result c.edition.ensures c.fresh_pages.ensures c.mutators.ensures c.roots.ensures c.builds.ensures c.pages.ensures c.live_words.ensures.total)
     c.check-found.ensures

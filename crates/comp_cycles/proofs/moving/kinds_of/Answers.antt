@@ -21,7 +21,7 @@ pub returns : goal.returns
 returns g c =
     let u = setup_in (g.B.Builder.heap c.args.builder.now) c.args.finished.now in
     IfOk-weaker c.kinds_on.result _ _
-    (λ kinds told offset inside.
-    told u (sym c.plan.ensures) (ap (λ (heap : Heap). pages (live heap)) (sym c.plan.ensures)) offset inside
+    (λ kinds numbered offset inside.
+    numbered u (sym c.plan.ensures) (ap (λ (heap : Heap). pages (live heap)) (sym c.plan.ensures)) offset inside
     ∙ ap (λ (entries : List Entry). kind_at u c.args.p entries offset) c.journal_on.ensures)
     c.kinds_on.ensures

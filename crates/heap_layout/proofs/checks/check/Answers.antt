@@ -18,16 +18,16 @@ row edition words = flat_map (object_faults edition words) (starts edition words
 pub returns-in_err-check_objects : goal.returns-in_err-check_objects
 returns-in_err-check_objects c =
     let p = err_from_is_err_and c.from_residual-in_err-check_objects.result c.from_residual-in_err-check_objects.ensures.1 in
-    rw (p.1, p.2) (first-object _ _ _ _ _ _ _ c.in_ok-check_sizes.ensures c.in_err-check_objects.ensures.told)
+    rw (p.1, p.2) (first-object _ _ _ _ _ _ _ c.in_ok-check_sizes.ensures c.in_err-check_objects.ensures.reported)
 
 pub check_fields-requires-clause-placed : goal.check_fields-requires-clause-placed
-check_fields-requires-clause-placed c = (let parts = append-none (row c.args.edition c.args.words.now) (mark_faults (starts c.args.edition c.args.words.now) 0 c.args.marks.now) c.in_ok-check_objects.ensures.told in marks-placed c.args.edition c.args.words.now c.args.marks.now parts.0 parts.1)
+check_fields-requires-clause-placed c = (let parts = append-none (row c.args.edition c.args.words.now) (mark_faults (starts c.args.edition c.args.words.now) 0 c.args.marks.now) c.in_ok-check_objects.ensures.reported in marks-placed c.args.edition c.args.words.now c.args.marks.now parts.0 parts.1)
 
 pub returns-in_err-check_roots : goal.returns-in_err-check_roots
 returns-in_err-check_roots c =
     let roots : IsFirst (root_faults c.args.marks.now c.args.roots.now) c.in_err-check_roots.field-0.0 =
     subst (λ (test : ℕ → Bool). IsFirst (root_faults_by test c.args.roots.now) c.in_err-check_roots.field-0.0) c.in_ok-check_objects.ensures.targets c.in_err-check_roots.ensures in
-    let (row_none, marks_none) = append-none (row c.args.edition c.args.words.now) (mark_faults (starts c.args.edition c.args.words.now) 0 c.args.marks.now) c.in_ok-check_objects.ensures.told in
+    let (row_none, marks_none) = append-none (row c.args.edition c.args.words.now) (mark_faults (starts c.args.edition c.args.words.now) 0 c.args.marks.now) c.in_ok-check_objects.ensures.reported in
     grind (arith, common_steps)
 
 pub returns-in_err-check_fields : goal.returns-in_err-check_fields
@@ -39,11 +39,11 @@ returns-in_err-check_fields c =
     subst (λ (test : ℕ → Bool). root_faults_by test c.args.roots.now ≡ []) c.in_ok-check_objects.ensures.targets c.in_ok-check_roots.ensures in
     let targets : IsFirst (target_faults e words marks marks) c.in_err-check_fields.field-0.0 =
     subst (λ (test : ℕ → Bool). IsFirst (field_faults_by Reference e test words marks) c.in_err-check_fields.field-0.0) c.in_ok-check_objects.ensures.targets c.in_err-check_fields.ensures in
-    let (row_none, marks_none) = append-none (row c.args.edition c.args.words.now) (mark_faults (starts c.args.edition c.args.words.now) 0 c.args.marks.now) c.in_ok-check_objects.ensures.told in
+    let (row_none, marks_none) = append-none (row c.args.edition c.args.words.now) (mark_faults (starts c.args.edition c.args.words.now) 0 c.args.marks.now) c.in_ok-check_objects.ensures.reported in
     grind (arith, common_steps)
 
 pub check_weak-requires-clause-placed : goal.check_weak-requires-clause-placed
-check_weak-requires-clause-placed c = (let parts = append-none (row c.args.edition c.args.words.now) (mark_faults (starts c.args.edition c.args.words.now) 0 c.args.marks.now) c.in_ok-check_objects.ensures.told in marks-placed c.args.edition c.args.words.now c.args.marks.now parts.0 parts.1)
+check_weak-requires-clause-placed c = (let parts = append-none (row c.args.edition c.args.words.now) (mark_faults (starts c.args.edition c.args.words.now) 0 c.args.marks.now) c.in_ok-check_objects.ensures.reported in marks-placed c.args.edition c.args.words.now c.args.marks.now parts.0 parts.1)
 
 pub returns : goal.returns
 returns c =
@@ -54,9 +54,9 @@ returns c =
     subst (λ (test : ℕ → Bool). root_faults_by test c.args.roots.now ≡ []) c.in_ok-check_objects.ensures.targets c.in_ok-check_roots.ensures in
     let targets : target_faults e words marks marks ≡ [] =
     subst (λ (test : ℕ → Bool). field_faults_by Reference e test words marks ≡ []) c.in_ok-check_objects.ensures.targets c.in_ok-check_fields.ensures in
-    let (row_none, marks_none) = append-none (row c.args.edition c.args.words.now) (mark_faults (starts c.args.edition c.args.words.now) 0 c.args.marks.now) c.in_ok-check_objects.ensures.told in
+    let (row_none, marks_none) = append-none (row c.args.edition c.args.words.now) (mark_faults (starts c.args.edition c.args.words.now) 0 c.args.marks.now) c.in_ok-check_objects.ensures.reported in
     grind (arith, common_steps)
 
 pub check_weak-requires-clause-row : goal.check_weak-requires-clause-row
 check_weak-requires-clause-row c =
-    (append-none (row c.args.edition c.args.words.now) (mark_faults (starts c.args.edition c.args.words.now) 0 c.args.marks.now) c.in_ok-check_objects.ensures.told).0
+    (append-none (row c.args.edition c.args.words.now) (mark_faults (starts c.args.edition c.args.words.now) 0 c.args.marks.now) c.in_ok-check_objects.ensures.reported).0

@@ -51,8 +51,8 @@ pub returns-in-Some-clause-read : goal.returns-in-Some-clause-read
 returns-in-Some-clause-read g c =
     let same : c.read_part.new.buf ≡ magic = (bytes_eq-Decides c.read_part.new.buf magic).0 (not-false _ (sym c.ne.ensures ∙ c.if-ne.false)) in
     let bytes = version_bytes c.read_part-2.new.buf c.read_u32.result (omega arith) c.read_part-2.ensures.small c.read_u32.ensures in
-    let told : c.read_part-2.new.buf ≡ version c.in-Some.edition = bytes ∙ ap four_bytes (sym c.in-Some.ensures.found) in
-    Consumes-trans _ _ _ magic (version c.in-Some.edition) (subst (Consumes _ _) same c.in_ok-read_part.ensures.read) (subst (Consumes _ _) told c.in_ok-read_part-2.ensures.read)
+    let reported : c.read_part-2.new.buf ≡ version c.in-Some.edition = bytes ∙ ap four_bytes (sym c.in-Some.ensures.found) in
+    Consumes-trans _ _ _ magic (version c.in-Some.edition) (subst (Consumes _ _) same c.in_ok-read_part.ensures.read) (subst (Consumes _ _) reported c.in_ok-read_part-2.ensures.read)
 
 pub returns-in-None-clause-cause : goal.returns-in-None-clause-cause
 returns-in-None-clause-cause g c =

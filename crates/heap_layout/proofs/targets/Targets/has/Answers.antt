@@ -12,9 +12,9 @@ bit-past bits j past =
     ap (λ (n : ℕ). bit_at n (j % 64) == 1) (get_or_past bits (j / 64) 0 (omega (arith, past))) ∙ ap (λ (n : ℕ). n == 1) (bit_at-zero (j % 64))
 
 -- the bit of the index of a word; a word below from-space has an index far after the blocks
-has-told : (bits : List ℕ) (reference i : ℕ) (there : Bool) → length bits ≡ 16384 → reference < 2 ^ 64 → i ≡ (reference + (2 ^ 64 - 2 ^ 32)) % 2 ^ 64
+has-reported : (bits : List ℕ) (reference i : ℕ) (there : Bool) → length bits ≡ 16384 → reference < 2 ^ 64 → i ≡ (reference + (2 ^ 64 - 2 ^ 32)) % 2 ^ 64
     → there ≡ bit bits (i % 2 ^ 20) → ((reference == 0) || (ltb i (2 ^ 20) && there)) ≡ leads bits reference
-has-told bits reference i there long small is told = ap (λ (b : Bool). (reference == 0) || b) (
+has-reported bits reference i there long small is reported = ap (λ (b : Bool). (reference == 0) || b) (
     elim (cases_lt reference (2 ^ 32)) [
       | inl below ↦
           ap (λ (b : Bool). b && there) (le-ltb i (2 ^ 20) (omega (arith, is, below)))
@@ -25,7 +25,7 @@ has-told bits reference i there long small is told = ap (λ (b : Bool). (referen
           elim (cases_lt i (2 ^ 20)) [
             | inl within ↦
                 let same : i % 2 ^ 20 ≡ reference - 2 ^ 32 = omega (arith, at, within) in
-                ap (λ (b : Bool). b && there) (lt-ltb i (2 ^ 20) within) ∙ told ∙ ap (bit bits) same ∙ sym whole
+                ap (λ (b : Bool). b && there) (lt-ltb i (2 ^ 20) within) ∙ reported ∙ ap (bit bits) same ∙ sym whole
             | inr past ↦
                 ap (λ (b : Bool). b && there) (le-ltb i (2 ^ 20) past)
                 ∙ sym (whole ∙ bit-past bits (reference - 2 ^ 32) (omega (arith, long, at, past)))
@@ -34,4 +34,4 @@ has-told bits reference i there long small is told = ap (λ (b : Bool). (referen
 
 pub returns : goal.returns
 returns c =
-    has-told c.self.inside.starts c.args.reference _ c.is_set-there.result c.self.told (omega arith) refl c.is_set-there.ensures ∙ ap (λ (xs : List ℕ). leads xs c.args.reference) c.self.view_is
+    has-reported c.self.inside.starts c.args.reference _ c.is_set-there.result c.self.told (omega arith) refl c.is_set-there.ensures ∙ ap (λ (xs : List ℕ). leads xs c.args.reference) c.self.view_is

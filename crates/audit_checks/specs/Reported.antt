@@ -37,7 +37,7 @@ IsFirst [] fault = ⊥
 IsFirst (first ∷ others) fault = fault ≡ first
 
 -- a check passes if there is no fault, and else answers the first; it may end early if memory runs out
-abbrev pub Tells : List AuditFault → Result (Unit {0}) Stop → Type 0
-Tells list (Ok _) = list ≡ []
-Tells list (Err stop.Memory) = Unit {0}
-Tells list (Err (stop.Fault fault)) = IsFirst list fault
+abbrev pub Reports : List AuditFault → Result (Unit {0}) Stop → Type 0
+Reports list (Ok _) = list ≡ []
+Reports list (Err stop.Memory) = Unit {0}
+Reports list (Err (stop.Fault fault)) = IsFirst list fault

@@ -31,14 +31,14 @@ names_in heap numbers = zip (map from_address heap.marks) numbers
 
 -- The words of an object in object numbers: each reference and weak word is a number. A weak word that leads to an
 -- object without a number is 0.
-abbrev pub told_object : Names → Object → List ℕ
-told_object names object = object.header.word ∷ (map (number_at names) object.references ++ map (number_at names) object.weak ++ object.data_words)
+abbrev pub numbered_object : Names → Object → List ℕ
+numbered_object names object = object.header.word ∷ (map (number_at names) object.references ++ map (number_at names) object.weak ++ object.data_words)
 
 -- The stable heap has exactly the live objects of the heap; these are their numbers, by rising address.
-pub record IsToldAs (heap : Heap) (numbers : List ℕ) (stable : StableHeap) : Type 0 where
+pub record IsNumberedAs (heap : Heap) (numbers : List ℕ) (stable : StableHeap) : Type 0 where
   pub edition : stable.edition ≡ heap.edition
   pub there : stable.there ≡ numbers
-  pub words : map stable.words numbers ≡ map (told_object (names_in heap numbers)) (live heap)
+  pub words : map stable.words numbers ≡ map (numbered_object (names_in heap numbers)) (live heap)
   -- the numbers have been given out, each once
   pub given : (i : ℕ) → i < length numbers → (1 ≤ slice_index numbers i) × (slice_index numbers i ≤ stable.given)
   pub once : (i j : ℕ) → i < length numbers → j < length numbers → slice_index numbers i ≡ slice_index numbers j → i ≡ j
@@ -48,23 +48,23 @@ abbrev pub first_numbers : Heap → List ℕ
 first_numbers heap = range_with_len 1 (length heap.marks)
 
 -- the stable heap with the objects of the first heap
-abbrev pub first_told : Heap → StableHeap
-first_told heap = record {
+abbrev pub first_numbered : Heap → StableHeap
+first_numbered heap = record {
   edition = heap.edition;
   given = length heap.marks;
   there = first_numbers heap;
-  words = λ n. slice_index_or (map (told_object (names_in heap (first_numbers heap))) (live heap)) (n - 1) [];
+  words = λ n. slice_index_or (map (numbered_object (names_in heap (first_numbers heap))) (live heap)) (n - 1) [];
 }
 
 -- ---- the objects of the heap of one thread
 
 -- a word of an object in object numbers, by its index in the object: the words that lead to objects become numbers, all
 -- others stay
-abbrev pub told_word : Names → ℕ → ℕ → ℕ → ℕ
-told_word names pointers at word = cond (nat_le 1 at && nat_le at pointers) (number_at names word) word
+abbrev pub numbered_word : Names → ℕ → ℕ → ℕ → ℕ
+numbered_word names pointers at word = cond (nat_le 1 at && nat_le at pointers) (number_at names word) word
 
 -- The objects of the heap of one thread, with these names, are in the stable heap.
-pub record AreTold (names : Names) (heap : OneThreadHeap) (stable : StableHeap) : Type 0 where
+pub record AreNumbered (names : Names) (heap : OneThreadHeap) (stable : StableHeap) : Type 0 where
   pub edition : stable.edition ≡ heap.edition
   -- each object exists there, with a number of its own
   pub there : (a : ℕ) → HasStart heap a → IsAmong stable.there (number_at names a)
@@ -72,7 +72,7 @@ pub record AreTold (names : Names) (heap : OneThreadHeap) (stable : StableHeap) 
   -- each object has the same words there
   pub long : (a : ℕ) → HasStart heap a → length (stable.words (number_at names a)) ≡ size_of (header_in heap a)
   pub words : (a at : ℕ) → HasStart heap a → at < size_of (header_in heap a)
-      → slice_index (stable.words (number_at names a)) at ≡ told_word names (pointers_of (header_in heap a)) at (heap.word (a + at))
+      → slice_index (stable.words (number_at names a)) at ≡ numbered_word names (pointers_of (header_in heap a)) at (heap.word (a + at))
 
 -- ---- what is written into the heap of one thread
 
@@ -82,14 +82,14 @@ owner header [] a = 0
 owner header (start ∷ starts) a = cond (nat_le start a && nat_lt a (start + size_of (header start))) start (owner header starts a)
 
 -- a value written into a field of this kind: the number of its object if the kind refers
-abbrev pub told_value : Names → Kind → ℕ → ℕ
-told_value names kind value = cond (refers kind) (number_at names value) value
+abbrev pub numbered_value : Names → Kind → ℕ → ℕ
+numbered_value names kind value = cond (refers kind) (number_at names value) value
 
 -- the step that writes a field of this kind
 abbrev pub write_of : Names → OneThreadHeap → Kind → ℕ → ℕ → Step
 write_of names heap kind a value =
     let object = owner (header_in heap) heap.starts a in
-    Writes kind (number_at names object) (a - (object + first_of kind (header_in heap object))) (told_value names kind value)
+    Writes kind (number_at names object) (a - (object + first_of kind (header_in heap object))) (numbered_value names kind value)
 
 -- the step that writes a word of this kind
 abbrev pub step_of : Names → OneThreadHeap → Kind → ℕ → ℕ → Step
@@ -99,9 +99,9 @@ step_of names heap Weak a value = write_of names heap Weak a value
 step_of names heap Data a value = write_of names heap Data a value
 
 -- the steps that write these entries into the heap, one after the other
-abbrev pub told : Names → OneThreadHeap → List (ℕ × Entry) → List Step
-told names heap [] = []
-told names heap (x ∷ xs) = step_of names heap x.1.kind (address_of x) x.1.value ∷ told names (after heap x) xs
+abbrev pub numbered : Names → OneThreadHeap → List (ℕ × Entry) → List Step
+numbered names heap [] = []
+numbered names heap (x ∷ xs) = step_of names heap x.1.kind (address_of x) x.1.value ∷ numbered names (after heap x) xs
 
 -- the address, if a word of this kind makes an object, and then the later ones
 abbrev pub made_by : Kind → ℕ → List ℕ → List ℕ

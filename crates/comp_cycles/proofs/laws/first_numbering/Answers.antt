@@ -1,5 +1,5 @@
 use Rattle.comp_cycles.proofs.Chapters.{first_is}
-use Rattle.comp_cycles.proofs.laws.first_telling.Goals as goal
+use Rattle.comp_cycles.proofs.laws.first_numbering.Goals as goal
 
 pub returns : goal.returns
 returns c = first_is

@@ -9,7 +9,7 @@ use Rattle.comp_dump.specs.declared.fault.AuditFault.{AuditFault}
 use Rattle.audit_checks.specs.declared.fault.Stop.{Stop}
 use Rattle.audit_checks.specs.declared.fault.Stop.TheVariants as stop
 use Rattle.audit_checks.specs.Checks.{unless}
-use Rattle.audit_checks.specs.Told.{IsFirst, Tells}
+use Rattle.audit_checks.specs.Reported.{IsFirst, Reports}
 
 -- a test of two parts, of which the second fails
 pub second_fails : (a b : Bool) (fault : AuditFault) → b ≡ false → IsFirst (unless (a && b) fault) fault
@@ -29,13 +29,13 @@ first_part [] others fault h = absurd h
 first_part (first ∷ rest) others fault h = h
 
 -- a check that ends early ends all that follow it
-pub tells_first : (one others : List AuditFault) (why : Stop) → Tells one (Err why) → Tells (one ++ others) (Err why)
-tells_first one others stop.Memory h = tt
-tells_first one others (stop.Fault fault) h = first_part one others fault h
+pub reports_first : (one others : List AuditFault) (why : Stop) → Reports one (Err why) → Reports (one ++ others) (Err why)
+reports_first one others stop.Memory h = tt
+reports_first one others (stop.Fault fault) h = first_part one others fault h
 
 -- after a check that passes, the next one answers
-pub tells_then : (one others : List AuditFault) (result : Result (Unit {0}) Stop) → one ≡ [] → Tells others result → Tells (one ++ others) result
-tells_then one others result none h = subst (λ (front : List AuditFault). Tells (front ++ others) result) (sym none) h
+pub reports_then : (one others : List AuditFault) (result : Result (Unit {0}) Stop) → one ≡ [] → Reports others result → Reports (one ++ others) result
+reports_then one others result none h = subst (λ (front : List AuditFault). Reports (front ++ others) result) (sym none) h
 
 -- two parts have no fault if both together have none
 pub none_both : (one others : List AuditFault) → one ++ others ≡ [] → (one ≡ []) × (others ≡ [])
