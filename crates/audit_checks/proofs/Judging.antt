@@ -5,7 +5,7 @@ use Rattle.comp_history.specs.Setup.{Setup}
 use Rattle.comp_dump.specs.Dumped.{BuiltPage}
 use Rattle.comp_dump.specs.declared.fault.AuditFault.{AuditFault}
 use Rattle.audit_checks.specs.declared.fault.Stop.{Stop}
-use Rattle.audit_checks.specs.Checks.{all_entries, all_stamps, each_built, is_led, is_made_before, is_place, is_start, late_faults, missing_faults, reference_faults, repeat_faults}
+use Rattle.audit_checks.specs.Checks.{all_entries, all_stamps, each_built, is_led, is_made_before, is_forwarding_address, is_start, late_faults, missing_faults, reference_faults, repeat_faults}
 use Rattle.audit_checks.specs.Reported.{history_faults, Reports}
 use Rattle.audit_checks.specs.Noted.{is_noted_before, leads, Notes, Stamped}
 use Rattle.audit_checks.proofs.Reporting.{reports_first, reports_then, none_both}
@@ -22,7 +22,7 @@ module _ (u : Setup) (records : List (Option BuiltPage)) (starts : Stamped) (not
 
   -- the starts that were noted are those of the entries
   leads_are : leads u.heap starts ≡ is_start u.heap (all_entries records)
-  leads_are = fun_ext (λ (a : ℕ). ap (λ (b : Bool). is_place u.heap a || b) (notes.some a))
+  leads_are = fun_ext (λ (a : ℕ). ap (λ (b : Bool). is_forwarding_address u.heap a || b) (notes.some a))
 
   before_are : is_noted_before starts ≡ is_made_before (all_entries records)
   before_are = fun_ext (λ (a : ℕ). fun_ext (λ (n : ℕ). notes.older a n))

@@ -57,7 +57,7 @@ fits_means u p before Header writer offset value h =
     let below = ltb-true _ _ d.1 in
     record {
       page = (p - u.compacted, omega arith, omega arith, eqb-true _ _ c.1);
-      place = eqb-true _ _ b.1;
+      offset_is = eqb-true _ _ b.1;
       ends = leb-true _ _ a.1;
     }
 fits_means u p before Reference writer offset value h = field_means u p before Reference offset h
@@ -73,7 +73,7 @@ fits_tested u p before Header writer offset value is =
     let its : writer ≡ (p - u.compacted) % u.mutators = is.page.3 ∙ ap (λ (k : ℕ). k % u.mutators) (sym number) in
     let inside = true_and (leb u.compacted p) (ltb p (pages u)) (le-leb _ _ (omega (arith, is.page.2))) (lt-ltb _ _ (omega (arith, is.page.1, is.page.2))) in
     let own = true_and (leb u.compacted p && ltb p (pages u)) (eqb writer ((p - u.compacted) % u.mutators)) inside (eq-eqb _ _ its) in
-    let there = true_and (is_fresh_of u writer p) (eqb offset (filled u.heap.edition before)) own (eq-eqb _ _ is.place) in
+    let there = true_and (is_fresh_of u writer p) (eqb offset (filled u.heap.edition before)) own (eq-eqb _ _ is.offset_is) in
     true_and (is_fresh_of u writer p && eqb offset (filled u.heap.edition before)) (leb (offset + size_of (header_of u.heap.edition value)) 64) there (le-leb _ _ is.ends)
 fits_tested u p before Reference writer offset value is = field_tested u p before Reference offset is
 fits_tested u p before Weak writer offset value is = field_tested u p before Weak offset is

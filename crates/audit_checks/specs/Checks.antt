@@ -76,7 +76,7 @@ is_claimed builds (p, None) = named p builds == 0
 is_claimed builds (p, Some page) = named p builds == 1
 
 abbrev pub build_faults : List (List ℕ) → List (Option BuiltPage) → List AuditFault
-build_faults builds records = flat_map (λ place. unless (is_claimed builds place) (BuildUnclaimed place.0)) (enumerate_from 0 records)
+build_faults builds records = flat_map (λ slot. unless (is_claimed builds slot) (BuildUnclaimed slot.0)) (enumerate_from 0 records)
 
 -- 3. Each entry of a page fits the entries before it, and its stamp is above theirs.
 abbrev pub is_kind : Kind → Option Kind → Bool
@@ -120,15 +120,15 @@ some_refers None = false
 some_refers (Some k) = refers k
 
 -- 5. Each reference and weak word is null, or the address of a slid object, or one at which a header was written.
-abbrev pub is_place : Heap → ℕ → Bool
-is_place heap a = is_some (shape_at (live heap) a)
+abbrev pub is_forwarding_address : Heap → ℕ → Bool
+is_forwarding_address heap a = is_some (shape_at (live heap) a)
 
 -- the entry writes a header at the address
 abbrev pub makes : ℕ → ℕ × Entry → Bool
 makes a x = is_kind Header (Some x.1.kind) && (address_of x == a)
 
 abbrev pub is_start : Heap → List (ℕ × Entry) → ℕ → Bool
-is_start heap all a = is_place heap a || list_any (makes a) all
+is_start heap all a = is_forwarding_address heap a || list_any (makes a) all
 
 -- the words of page p that refer, are not null, and lead to no object
 abbrev pub loose_faults : (ℕ → Bool) → (ℕ → Bool) → ℕ → List ℕ → List AuditFault
@@ -157,7 +157,7 @@ abbrev pub is_made_before : List (ℕ × Entry) → ℕ → ℕ → Bool
 is_made_before all a n = list_any (λ (x : ℕ × Entry). makes a x && nat_lt (stamp_of x) n) all
 
 abbrev pub is_led : Heap → (ℕ → ℕ → Bool) → Entry → Bool
-is_led heap is_before e = not (refers e.kind) || (e.value == 0) || is_place heap e.value || is_before e.value e.stamp
+is_led heap is_before e = not (refers e.kind) || (e.value == 0) || is_forwarding_address heap e.value || is_before e.value e.stamp
 
 -- the entries of a page that have stamp s and fail the test
 abbrev pub late_on : (Entry → Bool) → ℕ → ℕ → List Entry → List AuditFault

@@ -5,7 +5,7 @@ use Rattle.std.specs.List.{list_any}
 use Rattle.heap_layout.specs.Heap.{Heap}
 use Rattle.comp_journal.specs.declared.entry.Entry.{Entry}
 use Rattle.comp_history.specs.Setup.{Setup}
-use Rattle.audit_checks.specs.Checks.{setup_for, is_place, makes, is_made_before}
+use Rattle.audit_checks.specs.Checks.{setup_for, is_forwarding_address, makes, is_made_before}
 use Rattle.audit_checks.specs.Reported.{IsFirst}
 use Rattle.comp_dump.specs.declared.fault.AuditFault.{AuditFault}
 use Rattle.comp_dump.specs.declared.fault.AuditFault.TheVariants.{BadEntry}
@@ -35,7 +35,7 @@ is_below (Some stamp) n = nat_lt stamp n
 
 -- an object starts at the address
 abbrev pub leads : Heap → Stamped → ℕ → Bool
-leads heap starts a = is_place heap a || is_some (stamp_at starts a)
+leads heap starts a = is_forwarding_address heap a || is_some (stamp_at starts a)
 
 -- a header with a smaller stamp was written at the address
 abbrev pub is_noted_before : Stamped → ℕ → ℕ → Bool

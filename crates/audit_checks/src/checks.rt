@@ -53,7 +53,7 @@ fn check_pages(
 ) -> Result<(), Stop>
     requires some { 0 < setting.mutators }
     requires few { length records.now ≤ 20480 }
-    requires places { length records.now ≡ pages (setup_at setting) }
+    requires slots { length records.now ≡ pages (setup_at setting) }
     requires pages { All (IsStoredRecord setting.edition setting.mutators) records.now }
     requires builds { All (IsStoredList (length records.now)) (items_of builds.now) }
     ensures { Reports (page_faults (setup_at setting.entry) (items_of builds.now) records.now) result }
@@ -70,7 +70,7 @@ fn check_history(
     records: &[Option<DumpedPage<'_>>],
 ) -> Result<(), Stop>
     requires few { length records.now ≤ 20480 }
-    requires places { length records.now ≡ pages (setup_at setting) }
+    requires slots { length records.now ≡ pages (setup_at setting) }
     requires pages { All (IsStoredRecord setting.edition setting.mutators) records.now }
     requires lawful { AreLawful (setup_at setting) (journals_in records.now) }
     ensures { Reports (history_faults (setup_at setting.entry) records.now) result }

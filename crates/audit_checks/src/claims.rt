@@ -22,8 +22,8 @@ pub fn check_builds(
     ensures { Reports (build_faults (items_of builds.now) records.now) result }
 {
     let counts = count_builds(alloc, records.len(), builds)?;
-    for (p, place) in records.iter().enumerate() {
-        if !is_claimed(counts[p], place) {
+    for (p, slot) in records.iter().enumerate() {
+        if !is_claimed(counts[p], slot) {
             return Err(Stop::Fault(AuditFault::BuildUnclaimed(p as u64)));
         }
     }
@@ -32,22 +32,22 @@ pub fn check_builds(
 
 // Whether the lists of builds fit this page, if they name it `count` times, where 2 stands for two or more: once if it
 // was built, else never.
-fn is_claimed(count: u8, place: &Option<DumpedPage<'_>>) -> bool
-    ensures { (builds : List (List ℕ)) (p : ℕ) → count ≡ min (named p builds) 2 → result ≡ is_claimed builds (p, place.now) }
+fn is_claimed(count: u8, slot: &Option<DumpedPage<'_>>) -> bool
+    ensures { (builds : List (List ℕ)) (p : ℕ) → count ≡ min (named p builds) 2 → result ≡ is_claimed builds (p, slot.now) }
 {
-    match place {
+    match slot {
         None => count == 0,
         Some(_) => count == 1,
     }
 }
 
 // How often the lists of builds name each page, counted up to 2.
-fn count_builds(alloc: Global, places: usize, builds: &[Vec<u32>]) -> Result<Vec<u8>, AllocError>
-    requires { All (IsStoredList places) (items_of builds.now) }
-    ensures length { IfOk result (λ counts. length counts.items ≡ places) }
+fn count_builds(alloc: Global, slots: usize, builds: &[Vec<u32>]) -> Result<Vec<u8>, AllocError>
+    requires { All (IsStoredList slots) (items_of builds.now) }
+    ensures length { IfOk result (λ counts. length counts.items ≡ slots) }
     ensures counts { IfOk result (λ counts. (p : ℕ) → slice_index counts.items p ≡ min (named p (items_of builds.now)) 2) }
 {
-    let mut counts = vec![in alloc; 0u8; places]?;
+    let mut counts = vec![in alloc; 0u8; slots]?;
     count_lists(&mut counts, builds);
     Ok(counts)
 }

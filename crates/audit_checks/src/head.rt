@@ -21,7 +21,7 @@ pub fn check_head(
 ) -> Result<(), Stop>
     requires { length records.now ≤ 20480 }
     ensures reported { Reports (head_faults (setup_at setting.entry) setting.entry.edition roots.now records.now) result }
-    ensures places { OnOk result (length records.now ≡ pages (setup_at setting.entry)) }
+    ensures slots { OnOk result (length records.now ≡ pages (setup_at setting.entry)) }
 {
     let plan = setting.plan;
     if !is_edition(setting.edition, plan.heap().edition()) {

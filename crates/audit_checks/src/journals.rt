@@ -27,12 +27,12 @@ pub fn check_journals(
 ) -> Result<(), Stop>
     requires some { 0 < setting.mutators }
     requires few { length records.now ≤ 20480 }
-    requires places { length records.now ≡ pages (setup_at setting) }
+    requires slots { length records.now ≡ pages (setup_at setting) }
     requires pages { All (IsStoredRecord setting.edition setting.mutators) records.now }
     ensures { Reports (each_built (journal_faults (setup_at setting.entry)) records.now) result }
 {
-    for (p, place) in records.iter().enumerate() {
-        if let Some(page) = place {
+    for (p, slot) in records.iter().enumerate() {
+        if let Some(page) = slot {
             check_journal(alloc, setting, p as u64, page.journal())?;
         }
     }

@@ -41,8 +41,8 @@ fn earliest(plan: &Plan, starts: &Starts, records: &[Option<DumpedPage<'_>>]) ->
     ensures { IsEarliest (late_with (is_led plan.now (is_noted_before starts.now)) records.now) result }
 {
     let mut found = None;
-    for (p, place) in records.iter().enumerate() {
-        found = earliest_on(plan, starts, p as u64, journal_of(place), found);
+    for (p, slot) in records.iter().enumerate() {
+        found = earliest_on(plan, starts, p as u64, journal_of(slot), found);
     }
     found
 }

@@ -25,8 +25,8 @@ pub fn check_words(
     requires pages { All (IsStoredRecord setting.edition setting.mutators) records.now }
     ensures { Reports (each_built (word_faults (setup_at setting.entry)) records.now) result }
 {
-    for (p, place) in records.iter().enumerate() {
-        if let Some(page) = place {
+    for (p, slot) in records.iter().enumerate() {
+        if let Some(page) = slot {
             check_page(alloc, setting, p as u64, page)?;
         }
     }

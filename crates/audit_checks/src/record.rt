@@ -5,10 +5,10 @@ use comp_dump::DumpedPage;
 use comp_journal::Entry;
 
 /// The entries of a page; an empty list if it was never built.
-pub(crate) fn journal_of<'a>(place: &'a Option<DumpedPage<'_>>) -> &'a [Entry]
-    ensures { result.now ≡ journal_of place.now }
+pub(crate) fn journal_of<'a>(slot: &'a Option<DumpedPage<'_>>) -> &'a [Entry]
+    ensures { result.now ≡ journal_of slot.now }
 {
-    match place {
+    match slot {
         None => &[],
         Some(page) => page.journal(),
     }

@@ -26,13 +26,13 @@ pub fn check_references(
     records: &[Option<DumpedPage<'_>>],
 ) -> Result<(), Stop>
     requires few { length records.now ≤ 20480 }
-    requires places { length records.now ≡ pages (setup_at setting) }
+    requires slots { length records.now ≡ pages (setup_at setting) }
     requires pages { All (IsStoredRecord setting.edition setting.mutators) records.now }
     requires lawful { AreLawful (setup_at setting) (journals_in records.now) }
     ensures { Reports (each_built (reference_faults (leads setting.entry.plan.now starts.now) (setup_at setting.entry)) records.now) result }
 {
-    for (p, place) in records.iter().enumerate() {
-        if let Some(page) = place {
+    for (p, slot) in records.iter().enumerate() {
+        if let Some(page) = slot {
             check_page(alloc, setting, starts, p as u64, page)?;
         }
     }

@@ -23,8 +23,8 @@ fn gather_stamps(alloc: Global, records: &[Option<DumpedPage<'_>>]) -> Result<Ve
     ensures { IfOk result (λ stamps. stamps.items ≡ all_stamps records.now) }
 {
     let mut stamps = Vec::new(alloc);
-    for place in records {
-        add_stamps(&mut stamps, journal_of(place))?;
+    for slot in records {
+        add_stamps(&mut stamps, journal_of(slot))?;
     }
     Ok(stamps)
 }

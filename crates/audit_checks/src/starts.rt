@@ -104,15 +104,15 @@ pub fn starts_of(
     records: &[Option<DumpedPage<'_>>],
 ) -> Result<Starts, AllocError>
     requires few { length records.now ≤ 20480 }
-    requires places { length records.now ≡ pages (setup_at setting) }
+    requires slots { length records.now ≡ pages (setup_at setting) }
     requires pages { All (IsStoredRecord setting.edition setting.mutators) records.now }
     requires lawful { AreLawful (setup_at setting) (journals_in records.now) }
     ensures { IfOk result (λ starts. Notes starts (all_entries records.now)) }
 {
     let first = TO_SPACE + 64 * setting.plan.pages();
     let mut starts = Starts::new(alloc, first, 64 * setting.fresh as usize)?;
-    for (p, place) in records.iter().enumerate() {
-        note_page(&mut starts, p as u64, journal_of(place));
+    for (p, slot) in records.iter().enumerate() {
+        note_page(&mut starts, p as u64, journal_of(slot));
     }
     Ok(starts)
 }

@@ -34,8 +34,8 @@ fn all_words(edition: Edition, records: &[Option<DumpedPage<'_>>]) -> u64
     ensures few { result ≤ 2 ^ 43 }
 {
     let mut words = 0;
-    for place in records {
-        words += words_on(edition, journal_of(place));
+    for slot in records {
+        words += words_on(edition, journal_of(slot));
     }
     words
 }

@@ -40,7 +40,7 @@ module _ (u : Setup) (row : List Pass) (f : Finished) (end : IsFinished u row f)
       (journal, ap (λ (b : List ℕ). replayed b page.page.journal) base ∙ ap (replayed (base_of u p)) journal)
 
   read_page : (p : ℕ) → p < pages u → page_in (dumped_of u.mutators u.fresh f) p ≡ record_of (page_at (pages_of f) p)
-  read_page p lt = let places = end.pages.places in get_or-map record_of (pages_of f) p None None (omega (arith, places, lt))
+  read_page p lt = let slots = end.pages.count in get_or-map record_of (pages_of f) p None None (omega (arith, slots, lt))
 
   pub dump_after : IsDumpAfter u added (dumped_of u.mutators u.fresh f)
   dump_after = record {
@@ -48,12 +48,12 @@ module _ (u : Setup) (row : List Pass) (f : Finished) (end : IsFinished u row f)
     mutators = refl;
     fresh = refl;
     roots = each-given (forward (live u.heap)) u.heap.roots (roots_of f) end.roots;
-    places = length-map (pages_of f) record_of ∙ end.pages.places;
+    slots = length-map (pages_of f) record_of ∙ end.pages.count;
     page_by_page = λ p lt. subst (IsPageAfter u added p) (sym (read_page p lt)) (slot_after p (page_at (pages_of f) p) refl);
     stamps = subst (λ (l : List (ℕ × Entry)). map stamp_of l ≡ range_with_len 0 (length l)) same end.history.one.stamps;
     lists = ap length end.pages.builds ∙ length-map row builds_of ∙ crew;
     once = λ p lt. end.pages.once p ∙ sym (built_there (page_at (pages_of f) p)) ∙ ap times_built (sym (read_page p lt));
-    no_other = λ p le. let places = end.pages.places in end.pages.once p ∙ ap there (get_or_past (pages_of f) p None (omega (arith, places, le)));
+    no_other = λ p le. let slots = end.pages.count in end.pages.once p ∙ ap there (get_or_past (pages_of f) p None (omega (arith, slots, le)));
     total = end.balances.made ∙ ap (λ (l : List (ℕ × Entry)). live_words (live u.heap) + allocated u.heap.edition l) same;
   }
 

@@ -86,11 +86,11 @@ same_dump u end dump second left right =
     let x = left.after in
     let y = right.after in
     let builds : dump.builds ≡ second.builds = left.builds ∙ sym right.builds in
-    let many : length dump.pages ≡ length second.pages = x.places ∙ sym y.places in
+    let many : length dump.pages ≡ length second.pages = x.slots ∙ sym y.slots in
     let page : (p : ℕ) → p < pages u → page_in dump p ≡ page_in second p =
     (λ p lt. same_slot u end.added p (page_in dump p) (page_in second p) (sym (x.once p lt) ∙ ap (named p) builds ∙ y.once p lt) (x.page_by_page p lt) (y.page_by_page p lt)) in
     let slots : dump.pages ≡ second.pages = same_lists dump.pages second.pages many
-    (λ p d lt. get_or_default dump.pages p d None lt ∙ page p (omega (arith, lt, x.places)) ∙ get_or_default second.pages p None d (omega (arith, lt, many))) in
+    (λ p d lt. get_or_default dump.pages p d None lt ∙ page p (omega (arith, lt, x.slots)) ∙ get_or_default second.pages p None d (omega (arith, lt, many))) in
     same_parts dump.edition second.edition dump.mutators second.mutators dump.fresh second.fresh dump.total second.total dump.roots second.roots dump.pages second.pages dump.builds second.builds
     (x.edition ∙ sym y.edition) (x.mutators ∙ sym y.mutators) (x.fresh ∙ sym y.fresh) (x.roots ∙ sym y.roots) slots builds (x.total ∙ sym y.total)
 

@@ -82,7 +82,7 @@ module _ (u : Setup) (row : List Pass) (f : Finished) (end : IsFinished u row f)
 
   module _ (compacted : u.compacted ≡ sliding.pages (live u.heap)) (fresh : u.fresh ≡ 0) (all : (p : ℕ) → p < u.compacted → IsSome (page_at (pages_of f) p)) where
     long : length (pages_of f) ≡ sliding.pages (live u.heap)
-    long = let places = end.pages.places in omega (arith, places, compacted, fresh)
+    long = let slots = end.pages.count in omega (arith, slots, compacted, fresh)
 
     pages_are : map record_of (pages_of f) ≡ slid_records (live u.heap)
     pages_are = fill_by_all (slid_record (live u.heap)) (map record_of (pages_of f)) (sliding.pages (live u.heap)) None (length-map (pages_of f) record_of ∙ long)

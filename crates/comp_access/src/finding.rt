@@ -2,16 +2,17 @@
 ghost use Rattle.std.specs.Prelude.{◌≡◌, ℕ, ◌+◌, ◌<◌, ◌≤◌, ◌^◌, IfOk, IfErr, IfSome, IfNone, IsErrOf, OnOk, true};
 ghost use Rattle.heap_layout.specs.Header.{size_of};
 ghost use Rattle.heap_layout.specs.Kinds.{count_of, refers};
-ghost use Rattle.cell_steps.specs.Starts.{IsPlace};
+ghost use Rattle.cell_steps.specs.Starts.{IsForwardingAddress};
 ghost use Rattle.cell_steps.specs.Passes.{builds_of, did, seen, HasSeenBuilt, MayRefer, Rests};
 ghost use Rattle.page_cells.specs.Cells.{mutators_of, page_number, setup_of, Has, IsPassOf};
 ghost use Rattle.page_cells.specs.Calls.{Grows, WroteNothing};
-ghost use Rattle.comp_access.specs.Fields.{place_of, IsFreshObject};
+ghost use Rattle.comp_access.specs.Fields.{field_address, IsFreshObject};
 ghost use Rattle.comp_access.specs.Finds.{HoldsField, IsEarly, IsFound, IsFreshField};
 ghost use Rattle.comp_access.specs.Reads.{FieldRefused, KnowsBuilt, MayBuildTouched, Reads};
 ghost use Rattle.call_refusals.specs.declared.refusal.Refusal.TheVariants.{Busy};
 
-use crate::places::{offset_at, page_at};
+use crate::addresses::offset_at;
+use crate::addresses::page_at;
 use crate::taking::{load, take};
 use call_refusals::Refusal;
 use cell_steps::Pass;
@@ -44,9 +45,9 @@ pub(crate) struct Held {
 }
 
 // The address of a field's word; None if the object has no field like this.
-fn field_place(header: Header, name: FieldName) -> Option<u64>
+fn address_of_field(header: Header, name: FieldName) -> Option<u64>
     requires { name.object + size_of header < 2 ^ 64 }
-    ensures some { IfSome result (λ place. (name.field < count_of name.kind header) × (place ≡ place_of name.kind name.object header name.field)) }
+    ensures some { IfSome result (λ address. (name.field < count_of name.kind header) × (address ≡ field_address name.kind name.object header name.field)) }
     ensures none { IfNone result (count_of name.kind header ≤ name.field) }
 {
     let FieldName {
@@ -81,8 +82,8 @@ pub(crate) fn find<B: Builder>(
         return Err(Refusal::Null);
     }
     if let Some(header) = cells.compacted_header(object) {
-        return match field_place(header, name) {
-            Some(place) => Ok(Found::Slid(place)),
+        return match address_of_field(header, name) {
+            Some(address) => Ok(Found::Slid(address)),
             None => Err(Refusal::NoSuchField),
         };
     }
@@ -120,8 +121,8 @@ pub(crate) fn fresh_field<B: Builder>(
         Ok(word) => word,
         Err(_) => unreachable!(),
     };
-    match field_place(Header::from_word_of(cells.edition(), word), name) {
-        Some(place) => Ok(place),
+    match address_of_field(Header::from_word_of(cells.edition(), word), name) {
+        Some(address) => Ok(address),
         None => Err(Refusal::NoSuchField),
     }
 }
@@ -143,11 +144,11 @@ pub(crate) fn take_fresh<B: Builder>(
     ensures field { IfOk result (λ held. HoldsField (setup_of cells.now) pass.old pass.new name.kind name.object name.field (page_number held.taken) held.offset) }
     ensures refused { IfErr result (λ refusal. Rests pass.new × FieldRefused (setup_of cells.now) pass.old pass.new name.kind name.object name.field refusal) }
 {
-    let place = fresh_field(alloc, cells, pass, name)?;
-    let taken = take(alloc, cells, pass, page_at(place))?;
+    let address = fresh_field(alloc, cells, pass, name)?;
+    let taken = take(alloc, cells, pass, page_at(address))?;
     Ok(Held {
         taken,
-        offset: offset_at(place),
+        offset: offset_at(address),
     })
 }
 
@@ -169,11 +170,11 @@ pub(crate) fn take_found<B: Builder>(
     ensures refused { IfErr result (λ refusal. Rests pass.new × FieldRefused (setup_of cells.now) pass.old pass.new name.kind name.object name.field refusal) }
 {
     match found {
-        Found::Slid(place) => {
-            let taken = take(alloc, cells, pass, page_at(place))?;
+        Found::Slid(address) => {
+            let taken = take(alloc, cells, pass, page_at(address))?;
             Ok(Held {
                 taken,
-                offset: offset_at(place),
+                offset: offset_at(address),
             })
         }
         Found::Fresh => take_fresh(alloc, cells, pass, name),
@@ -197,15 +198,15 @@ pub(crate) fn load_found<B: Builder>(
     ensures leads { refers name.kind ≡ true → IfOk result (MayRefer pass.new) }
     ensures builds { OnOk result (MayBuildTouched (setup_of cells.now) pass.old pass.new name.kind name.object name.field) }
     ensures free { (q : ℕ) → IsErrOf result (Busy q) → KnowsBuilt pass.old q → ⊥ }
-    ensures slid { (q : ℕ) → IsErrOf result (Busy q) → IsPlace (setup_of cells.now).heap name.object }
+    ensures slid { (q : ℕ) → IsErrOf result (Busy q) → IsForwardingAddress (setup_of cells.now).heap name.object }
     ensures unseen { (q : ℕ) → IsErrOf result (Busy q) → HasSeenBuilt pass.new q → ⊥ }
     ensures refused { IfErr result (FieldRefused (setup_of cells.now) pass.old pass.new name.kind name.object name.field) }
 {
     match found {
-        Found::Slid(place) => load(alloc, cells, pass, page_at(place), offset_at(place)),
+        Found::Slid(address) => load(alloc, cells, pass, page_at(address), offset_at(address)),
         Found::Fresh => {
-            let place = fresh_field(alloc, cells, pass, name)?;
-            match load(alloc, cells, pass, page_at(place), offset_at(place)) {
+            let address = fresh_field(alloc, cells, pass, name)?;
+            match load(alloc, cells, pass, page_at(address), offset_at(address)) {
                 Ok(word) => Ok(word),
                 Err(_) => unreachable!(),
             }

@@ -20,7 +20,7 @@ use Rattle.comp_dump.specs.Lists.{times}
 use Rattle.comp_dump.specs.Locks.{Journals}
 use Rattle.comp_dump.specs.History.{entries, stamped_with}
 use Rattle.comp_dump.specs.Lawful.{kind_at}
-use Rattle.comp_dump.specs.Starts.{IsPlace}
+use Rattle.comp_dump.specs.Starts.{IsForwardingAddress}
 use Rattle.comp_dump.specs.Closing.{IsMadeBefore, LeadsToOlder}
 use Rattle.comp_dump.proofs.Sums.{there_at, read_at}
 use Rattle.comp_dump.specs.Objects.{IsMadeAt, LeadsToObject, ReferencesAreStarts}
@@ -118,8 +118,8 @@ module _ (u : Setup) (journals : Journals) where
       any_in (λ (x : ℕ × Entry). makes a x && ltb (stamp_of x) n) all (p, e) there
       (true_and (makes a (p, e)) (ltb (stamp_of (p, e)) n) (subst (λ (b : ℕ). makes b (p, e) ≡ true) same (makes_here (p, e) made.made.3)) (lt-ltb _ _ made.made.5))
 
-  place_found : (a : ℕ) → IsPlace u.heap a → is_start u.heap all a ≡ true
-  place_found a place = left_holds _ (list_any (makes a) all) (ap is_some place.1)
+  address_found : (a : ℕ) → IsForwardingAddress u.heap a → is_start u.heap all a ≡ true
+  address_found a place = left_holds _ (list_any (makes a) all) (ap is_some place.1)
 
   -- a reference to what is older passes its test
   led_tested : (e : Entry) → (refers e.kind ≡ true → LeadsToOlder u journals e.stamp e.value) → is_led u.heap (is_made_before all) e ≡ true
@@ -129,7 +129,7 @@ module _ (u : Setup) (journals : Journals) where
       (λ (reference : refers e.kind ≡ true). ⊎_elim
       (λ (null : e.value ≡ 0). left_holds _ before (left_holds _ _ (right_holds (not (refers e.kind)) (eqb e.value 0) (eq-eqb _ _ null))))
       (λ start. ⊎_elim
-      (λ (place : IsPlace u.heap e.value). left_holds _ before (right_holds (not (refers e.kind) || eqb e.value 0) _ (ap is_some place.1)))
+      (λ (place : IsForwardingAddress u.heap e.value). left_holds _ before (right_holds (not (refers e.kind) || eqb e.value 0) _ (ap is_some place.1)))
       (λ (made : IsMadeBefore u journals e.stamp e.value). right_holds _ before (older_found e.value e.stamp made))
       start)
       (leads reference))
@@ -143,7 +143,7 @@ module _ (u : Setup) (journals : Journals) where
       (λ (reference : some_refers o ≡ true). ⊎_elim
       (λ (null : a ≡ 0). left_holds _ (is_start u.heap all a) (right_holds (not (some_refers o)) (eqb a 0) (eq-eqb _ _ null)))
       (λ start. right_holds (not (some_refers o) || eqb a 0) (is_start u.heap all a) (⊎_elim
-      (λ place. place_found a place)
+      (λ place. address_found a place)
       (λ made. right_holds _ (list_any (makes a) all) (start_found a made))
       start))
       (let r = refers_means o reference in leads r.0 r.1 r.2))
@@ -237,13 +237,13 @@ lawful_is_yes heap dump stored lawful =
     let records = dump.pages in
     let right = map (forwarded (live heap)) heap.roots in
     let long : (p : ℕ) (page : BuiltPage) → page_of dump p ≡ Some page → length page.words ≡ 64 = λ p page at. page_long dump.edition dump.mutators records p page stored.pages at in
-    let here : pages u ≡ length records = sym lawful.places in
+    let here : pages u ≡ length records = sym lawful.slots in
     let all = entries_below (journals_in records) in
     let head : head_faults u dump.edition dump.roots records ≡ [] =
     both_pass (is_edition dump.edition heap.edition) (eqb (length records) (pages u) && bytes_eq dump.roots right) WrongHead
     (ap (λ (e : Edition). is_edition dump.edition e) (sym lawful.edition) ∙ edition_same dump.edition)
-    (true_and (eqb (length records) (pages u)) (bytes_eq dump.roots right) (eq-eqb _ _ lawful.places) ((bytes_eq-Decides dump.roots right).1 lawful.roots)) in
-    let builds : build_faults dump.builds records ≡ [] = no_claims dump.builds records (λ p lt. lawful.claims p (omega (arith, lt, lawful.places))) in
+    (true_and (eqb (length records) (pages u)) (bytes_eq dump.roots right) (eq-eqb _ _ lawful.slots) ((bytes_eq-Decides dump.roots right).1 lawful.roots)) in
+    let builds : build_faults dump.builds records ≡ [] = no_claims dump.builds records (λ p lt. lawful.claims p (omega (arith, lt, lawful.slots))) in
     let loose = ap (λ (n : ℕ). each_built (reference_faults (is_start heap (all n)) u) records) (sym here) ∙ no_loose u dump lawful long in
     let repeats = ap (λ (n : ℕ). repeat_faults (map stamp_of (all n))) (sym here) ∙ no_repeats u dump lawful long in
     let missing = ap (λ (n : ℕ). missing_faults (map stamp_of (all n))) (sym here) ∙ no_missing u dump lawful long in

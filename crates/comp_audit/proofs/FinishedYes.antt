@@ -59,7 +59,7 @@ module _ (mutators fresh : ℕ) (f : Finished) (of : IsOfFlip mutators fresh f) 
   lawful : IsLawfulDump u dump
   lawful = record {
     edition = is.edition_is ∙ of.finished.edition;
-    places = ap length is.pages ∙ length-map (pages_of f) record_of ∙ of.finished.pages.places;
+    slots = ap length is.pages ∙ length-map (pages_of f) record_of ∙ of.finished.pages.count;
     roots = is.roots ∙ are_forwarded (forward (live u.heap)) (finished.roots_of f) u.heap.roots of.finished.roots;
     claims = λ p lt. ap (named p) is.builds ∙ of.finished.pages.once p ∙ sym (ap built_count (page_is p) ∙ record_built (page_at (pages_of f) p));
     words = λ p page at. record_words u p page (page_at (pages_of f) p) (of.finished.pages.bases p) (sym (page_is p) ∙ at);

@@ -39,7 +39,7 @@ use Rattle.comp_dump.proofs.Legal.{one_history}
 use Rattle.comp_dump.specs.Builds.{named}
 use Rattle.comp_dump.specs.Dumped.{BuiltPage, IsStoredRecord}
 use Rattle.comp_dump.specs.declared.fault.AuditFault.TheVariants.{WrongHead, WrongWord, WrongTotal, BuildUnclaimed, BadEntry}
-use Rattle.audit_checks.specs.Checks.{setup_for, unless, all_entries, all_stamps, journal_of, journals_in, above, is_edition, head_faults, is_claimed, build_faults, journal_faults, same_words, word_faults, each_built, is_kind, makes, is_place, is_made_before, is_led, late_on, late_with, late_faults, repeat_faults, missing_faults}
+use Rattle.audit_checks.specs.Checks.{setup_for, unless, all_entries, all_stamps, journal_of, journals_in, above, is_edition, head_faults, is_claimed, build_faults, journal_faults, same_words, word_faults, each_built, is_kind, makes, is_forwarding_address, is_made_before, is_led, late_on, late_with, late_faults, repeat_faults, missing_faults}
 use Rattle.comp_audit.specs.Meant.{built_count, journals_of, IsLawfulDump, YesIsSound}
 use Rattle.audit_checks.proofs.Reporting.{none_both, unless_holds, item_none}
 use Rattle.audit_checks.proofs.Meanings.{and_true, kind_means}
@@ -137,7 +137,7 @@ module _ (u : Setup) (journals : Journals) (lawful : AreLawful u journals) where
   led_means e reference h =
       let is_reference = not (refers e.kind) in
       let null = eqb e.value 0 in
-      let place = is_place u.heap e.value in
+      let place = is_forwarding_address u.heap e.value in
       let before = is_made_before all e.value e.stamp in
       let not_other : is_reference ≡ false = ap not reference in
       ⊎_elim
@@ -167,12 +167,12 @@ passes_late : (test : Entry → Bool) (records : List (Option BuiltPage)) → la
 passes_late test records none p i e there = passes_by test records p i e (get_or records p None) none refl there
 
 -- the journals can be merged
-module _ (u : Setup) (records : List (Option BuiltPage)) (places : length records ≡ pages u) where
+module _ (u : Setup) (records : List (Option BuiltPage)) (slots : length records ≡ pages u) where
   abbrev journals : Journals
   journals = journals_in records
 
   stamps_are : all_stamps records ≡ map stamp_of (entries_below journals (pages u))
-  stamps_are = ap (λ (n : ℕ). map stamp_of (entries_below journals n)) places
+  stamps_are = ap (λ (n : ℕ). map stamp_of (entries_below journals n)) slots
 
   merges : (slid : u.compacted ≡ (live_words (live u.heap) + 63) / 64) → each_built (journal_faults u) records ≡ [] → repeat_faults (all_stamps records) ≡ []
       → missing_faults (all_stamps records) ≡ [] → late_faults (is_led u.heap (is_made_before (all_entries records))) records ≡ [] → CanMerge u journals
@@ -182,11 +182,11 @@ module _ (u : Setup) (records : List (Option BuiltPage)) (places : length record
       let counted = λ (s : ℕ). let e : times s (all_stamps records) ≡ stamped_with u journals s = ap (times s) stamps_are ∙ stamps_counted journals (pages u) s in e in
       record {
         slid = slid;
-        outside = λ p le. let none : get_or records p None ≡ None = get_or-eq_default records None (omega (arith, places, le)) in ap journal_of none;
+        outside = λ p le. let none : get_or records p None ≡ None = get_or-eq_default records None (omega (arith, slots, le)) in ap journal_of none;
         lawful = are_lawful;
         rises = rising_records u records lawful;
         references = λ p i e at reference. led_means u journals are_lawful e reference
-            (ap (λ (n : ℕ). is_led u.heap (is_made_before (entries_below journals n)) e) (sym places) ∙ passes_late (is_led u.heap (is_made_before (all_entries records))) records late p i e at);
+            (ap (λ (n : ℕ). is_led u.heap (is_made_before (entries_below journals n)) e) (sym slots) ∙ passes_late (is_led u.heap (is_made_before (all_entries records))) records late p i e at);
         stamps = λ s lt. omega (arith, counted s, stamps_once (all_stamps records) once s, stamps_there (all_stamps records) there s (omega (arith, long, lt)));
         no_more = λ s le. sym (counted s) ∙ stamps_no_more (all_stamps records) there s (omega (arith, long, le));
       }
@@ -212,7 +212,7 @@ yes_is_sound heap dump closed stored none =
     let can = merges u records front.1 refl entries_words.0 repeats.0 missing_late.0 missing_late.1 in
     let lawful : IsLawfulDump u dump = record {
       edition = front.0;
-      places = front.1;
+      slots = front.1;
       roots = front.2;
       claims = λ p lt. claims_mean dump.builds records builds.0 p (omega (arith, lt, front.1));
       words = λ p page at. words_mean (replayed (base_of u p) page.journal) page.words p (replayed_long (base_of u p) page.journal ∙ base_long u p)

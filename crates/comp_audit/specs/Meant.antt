@@ -34,7 +34,7 @@ pub record IsLawfulDump (u : Setup) (dump : Dumped) : Type 0 where
   -- it is of the heap's edition
   pub edition : dump.edition ≡ u.heap.edition
   -- there is a place for each page
-  pub places : length dump.pages ≡ pages u
+  pub slots : length dump.pages ≡ pages u
   -- the roots lead to where the objects slid
   pub roots : dump.roots ≡ map (forwarded (live u.heap)) u.heap.roots
   -- the lists of builds name each page that was built exactly once, and no other page

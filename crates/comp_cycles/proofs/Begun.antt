@@ -10,13 +10,13 @@ use lib.ListN.{get_elem?}
 use Rattle.heap_layout.specs.Header.{Head, header_of, size_of}
 use Rattle.heap_layout.specs.Heap.{Object, header_at, object_at, live, from_address, is_target, IsPlaced, IsClosed}
 use Rattle.page_plan.specs.Sliding as sliding
-use Rattle.page_plan.specs.Sliding.{size, live_words, place, forwarded, slid_words, to_address}
+use Rattle.page_plan.specs.Sliding.{size, live_words, new_address, forwarded, slid_words, to_address}
 use Rattle.page_plan.proofs.Objects.{live-at, live_words-next, live_words-all, slid-reference, slid-other}
-use Rattle.page_plan.proofs.Forwarding.{forward-none}
-use Rattle.page_plan.proofs.References.{place-is, place-only}
+use Rattle.page_plan.proofs.NewAddresses.{forward-none}
+use Rattle.page_plan.proofs.References.{address-is, address-only}
 use Rattle.page_plan.proofs.Pages.{page-at}
 use Rattle.comp_history.specs.Setup.{Setup, base_of}
-use Rattle.comp_history.specs.Starts.{IsPlace}
+use Rattle.comp_history.specs.Starts.{IsForwardingAddress}
 use Rattle.comp_history.specs.Objects.{page_at, offset_at, IsMadeAt}
 use Rattle.comp_history.proofs.Leading.{slid_base}
 use Rattle.comp_history.proofs.Rows.{at_value}
@@ -88,43 +88,43 @@ module _ (u : Setup) (closed : IsClosed u.heap) (slid : u.compacted ≡ sliding.
   below_le k l le = let m = below_more k (l - k) in let e = ap below (let z : k + (l - k) ≡ l = omega (arith, le) in z) in omega (arith, m, e)
 
   -- a later object comes after an earlier one
-  pub places_apart : (k l : ℕ) → k < l → k < length marks → place objects k + size_of (header k) ≤ place objects l
-  places_apart k l lt inside = let s = below_next k inside in let m = below_le (k + 1) l (omega (arith, lt)) in omega (arith, s, m)
+  pub addresses_apart : (k l : ℕ) → k < l → k < length marks → new_address objects k + size_of (header k) ≤ new_address objects l
+  addresses_apart k l lt inside = let s = below_next k inside in let m = below_le (k + 1) l (omega (arith, lt)) in omega (arith, s, m)
 
   -- word j of the k-th object
-  word_of : (k j : ℕ) → k < length marks → j < size_of (header k) → first.word (place objects k + j) ≡ get_or (slid_words objects) (below k + j) 0
+  word_of : (k j : ℕ) → k < length marks → j < size_of (header k) → first.word (new_address objects k + j) ≡ get_or (slid_words objects) (below k + j) 0
   word_of k j lt inside =
-      let at : place objects k + j ≡ to_address (below k + j) = omega arith in
+      let at : new_address objects k + j ≡ to_address (below k + j) = omega arith in
       let s = below_next k lt in
       let all = below_all (k + 1) in
       ap first.word at ∙ slid_word (below k + j) (omega (arith, s, all, inside))
 
   -- the header of the k-th object
-  head_word : (k : ℕ) → k < length marks → first.word (place objects k) ≡ get_or words (mark k) 0
+  head_word : (k : ℕ) → k < length marks → first.word (new_address objects k) ≡ get_or words (mark k) 0
   head_word k lt =
-      ap first.word (let z : place objects k ≡ place objects k + 0 = omega arith in z) ∙ word_of k 0 lt (omega arith)
+      ap first.word (let z : new_address objects k ≡ new_address objects k + 0 = omega arith in z) ∙ word_of k 0 lt (omega arith)
       ∙ slid-other u.heap closed k 0 lt (λ (z : 1 ≤ 0). absurd (omega (arith, z))) (omega arith) ∙ ap (λ n. get_or words n 0) (let z : mark k + 0 ≡ mark k = omega arith in z)
 
-  pub head_is : (k : ℕ) → k < length marks → header_in first (place objects k) ≡ header k
+  pub head_is : (k : ℕ) → k < length marks → header_in first (new_address objects k) ≡ header k
   head_is k lt = ap (header_of u.heap.edition) (head_word k lt)
 
   -- the references and weak words of the k-th object
-  reference_of : (k j : ℕ) → k < length marks → 1 ≤ j → j ≤ pointers_of (header k) → first.word (place objects k + j) ≡ forwarded objects (get_or words (mark k + j) 0)
+  reference_of : (k j : ℕ) → k < length marks → 1 ≤ j → j ≤ pointers_of (header k) → first.word (new_address objects k + j) ≡ forwarded objects (get_or words (mark k + j) 0)
   reference_of k j lt low high = word_of k j lt (omega (arith, high)) ∙ slid-reference u.heap closed k j lt low high
 
   -- the other words of the k-th object
-  other_of : (k j : ℕ) → k < length marks → (1 ≤ j → pointers_of (header k) < j) → j < size_of (header k) → first.word (place objects k + j) ≡ get_or words (mark k + j) 0
+  other_of : (k j : ℕ) → k < length marks → (1 ≤ j → pointers_of (header k) < j) → j < size_of (header k) → first.word (new_address objects k + j) ≡ get_or words (mark k + j) 0
   other_of k j lt behind inside = word_of k j lt inside ∙ slid-other u.heap closed k j lt behind inside
 
   -- objects start only at places
-  pub start_of : (a : ℕ) → HasStart first a → (k : ℕ) × (k < length marks) × (a ≡ place objects k)
+  pub start_of : (a : ℕ) → HasStart first a → (k : ℕ) × (k < length marks) × (a ≡ new_address objects k)
   start_of a s = ⊎_elim
-      (λ (is : IsPlace u.heap a). let k = place-only objects a is in (k.0, omega (arith, k.1, count), k.2))
+      (λ (is : IsForwardingAddress u.heap a). let k = address-only objects a is in (k.0, omega (arith, k.1, count), k.2))
       (λ (made : IsMadeAt u (journals_of []) a). let head = made.made in absurd (some-ne-none head.1 (sym head.2)))
       ((first_holds u).starts a s)
 
-  pub start_there : (k : ℕ) → k < length marks → HasStart first (place objects k)
-  start_there k lt = (first_holds u).objects (place objects k) (inl (place-is objects k (omega (arith, lt, count))))
+  pub start_there : (k : ℕ) → k < length marks → HasStart first (new_address objects k)
+  start_there k lt = (first_holds u).objects (new_address objects k) (inl (address-is objects k (omega (arith, lt, count))))
 
   module _ (names : Names) (numbers : List ℕ) (stable : StableHeap) (later : List ℕ) (t : IsNumberedAs u.heap numbers stable)
       (is : names ≡ zip (first.starts ++ later) (numbers ++ range_with_len (stable.given + 1) (length later))) (null : number_at names 0 ≡ 0)
@@ -133,28 +133,28 @@ module _ (u : Setup) (closed : IsClosed u.heap) (slid : u.compacted ≡ sliding.
       none = object_at u.heap.edition words 0
 
       starts_long : length first.starts ≡ length marks
-      starts_long = length-map (range_with_len 0 (length objects)) (place objects) ∙ row_long 0 (length objects) ∙ count
+      starts_long = length-map (range_with_len 0 (length objects)) (new_address objects) ∙ row_long 0 (length objects) ∙ count
 
       pub numbers_long : length numbers ≡ length marks
       numbers_long = sym (length-map numbers stable.words) ∙ ap length t.words ∙ length-map objects (numbered_object (names_in u.heap numbers)) ∙ count
 
-      key : (k : ℕ) → k < length marks → get_or first.starts k 0 ≡ place objects k
-      key k lt = at_row (place objects) 0 (length objects) k (omega (arith, lt, count)) ∙ ap (place objects) (let z : 0 + k ≡ k = omega arith in z)
+      key : (k : ℕ) → k < length marks → get_or first.starts k 0 ≡ new_address objects k
+      key k lt = at_row (new_address objects) 0 (length objects) k (omega (arith, lt, count)) ∙ ap (new_address objects) (let z : 0 + k ≡ k = omega arith in z)
 
       all_long : length (first.starts ++ later) ≡ length (numbers ++ range_with_len (stable.given + 1) (length later))
       all_long =
           length-append first.starts later ∙ ap₂ (λ x y. x + y) (starts_long ∙ sym numbers_long) (sym (row_long (stable.given + 1) (length later))) ∙ sym (length-append numbers (range_with_len (stable.given + 1) (length later)))
 
       -- the objects keep their numbers
-      pub number_of : (k : ℕ) → k < length marks → number_at names (place objects k) ≡ get_or numbers k 0
+      pub number_of : (k : ℕ) → k < length marks → number_at names (new_address objects k) ≡ get_or numbers k 0
       number_of k lt =
-          ap (λ l. number_at l (place objects k)) is
-          ∙ at_name (first.starts ++ later) (numbers ++ range_with_len (stable.given + 1) (length later)) k (place objects k) (omega (arith, length-append first.starts later, starts_long, lt)) all_long
+          ap (λ l. number_at l (new_address objects k)) is
+          ∙ at_name (first.starts ++ later) (numbers ++ range_with_len (stable.given + 1) (length later)) k (new_address objects k) (omega (arith, length-append first.starts later, starts_long, lt)) all_long
           (get_or_append_left first.starts later 0 k (omega (arith, starts_long, lt)) ∙ key k lt)
           (λ i under e.
           let inside : i < length marks = omega (arith, under, lt) in
-          let read : place objects i ≡ place objects k = sym (get_or_append_left first.starts later 0 i (omega (arith, starts_long, inside)) ∙ key i inside) ∙ e in
-          let a = places_apart i k under inside in
+          let read : new_address objects i ≡ new_address objects k = sym (get_or_append_left first.starts later 0 i (omega (arith, starts_long, inside)) ∙ key i inside) ∙ e in
+          let a = addresses_apart i k under inside in
           omega (arith, a, read))
           ∙ get_or_append_left numbers (range_with_len (stable.given + 1) (length later)) 0 k (omega (arith, numbers_long, lt))
 
@@ -179,7 +179,7 @@ module _ (u : Setup) (closed : IsClosed u.heap) (slid : u.compacted ≡ sliding.
           (ap (number_at names) f ∙ null ∙ sym (ap (number_at (names_in u.heap numbers)) zero_is ∙ named_null u.heap closed numbers), inl f))
           (λ (some : (l : ℕ) × (l < length marks) × (from_address (get_or marks l 0) ≡ w)).
           let l = some.0 in
-          let f : forwarded objects w ≡ place objects l = ap (forwarded objects) (sym some.2) ∙ ap (λ x. unwrap_or x 0) (forward_mark u.heap closed l some.1) in (
+          let f : forwarded objects w ≡ new_address objects l = ap (forwarded objects) (sym some.2) ∙ ap (λ x. unwrap_or x 0) (forward_mark u.heap closed l some.1) in (
             ap (number_at names) f ∙ number_of l some.1 ∙ sym (ap (number_at (names_in u.heap numbers)) (sym some.2) ∙ named_mark u.heap closed numbers l numbers_long some.1),
             inr (subst (HasStart first) (sym f) (start_there l some.1)),
           ))
@@ -190,12 +190,12 @@ module _ (u : Setup) (closed : IsClosed u.heap) (slid : u.compacted ≡ sliding.
           (cases_Bool (is_target marks w))
 
       -- word j of the k-th object in both heaps
-      same_word : (k j : ℕ) → k < length marks → j < size_of (header k) → get_or (stable.words (get_or numbers k 0)) j 0 ≡ numbered_word names (pointers_of (header k)) j (first.word (place objects k + j))
+      same_word : (k j : ℕ) → k < length marks → j < size_of (header k) → get_or (stable.words (get_or numbers k 0)) j 0 ≡ numbered_word names (pointers_of (header k)) j (first.word (new_address objects k + j))
       same_word k j lt inside =
           let w = get_or words (mark k + j) 0 in
           let pointers = pointers_of (header k) in
           let from = names_in u.heap numbers in
-          let slid = first.word (place objects k + j) in
+          let slid = first.word (new_address objects k + j) in
           let read : get_or (stable.words (get_or numbers k 0)) j 0 ≡ numbered_word from pointers j w =
           ap (λ l. get_or l j 0) (object_of k lt) ∙ object_word from u.heap.edition words (mark k) j (placed k lt) inside in
           let stays : (1 ≤ j → pointers < j) → get_or (stable.words (get_or numbers k 0)) j 0 ≡ numbered_word names pointers j slid =
@@ -223,7 +223,7 @@ module _ (u : Setup) (closed : IsClosed u.heap) (slid : u.compacted ≡ sliding.
             let l = start_of b s2 in
             let n : get_or numbers k.0 0 ≡ get_or numbers l.0 0 = sym (ap (number_at names) k.2 ∙ number_of k.0 k.1) ∙ e ∙ (ap (number_at names) l.2 ∙ number_of l.0 l.1) in
             let same = t.once k.0 l.0 (omega (arith, numbers_long, k.1)) (omega (arith, numbers_long, l.1)) n in
-            k.2 ∙ ap (place objects) same ∙ sym l.2;
+            k.2 ∙ ap (new_address objects) same ∙ sym l.2;
         long = λ a s.
             let k = start_of a s in
             ap (λ x. length (stable.words x)) (ap (number_at names) k.2 ∙ number_of k.0 k.1) ∙ ap length (object_of k.0 k.1) ∙ object_long (names_in u.heap numbers) u.heap.edition words (mark k.0) (placed k.0 k.1)
@@ -248,7 +248,7 @@ module _ (u : Setup) (closed : IsClosed u.heap) (slid : u.compacted ≡ sliding.
             let l = start_of b s2 in
             let head = ap size_of (ap (header_in first) k.2 ∙ head_is k.0 k.1) in
             ⊎_elim
-            (λ (order : k.0 < l.0). let p = places_apart k.0 l.0 order k.1 in omega (arith, p, head, k.2, l.2))
+            (λ (order : k.0 < l.0). let p = addresses_apart k.0 l.0 order k.1 in omega (arith, p, head, k.2, l.2))
             (λ (le : l.0 ≤ k.0). let m = below_le l.0 k.0 le in absurd (omega (arith, m, k.2, l.2, lt)))
             (cases_lt k.0 l.0);
         given = λ a s.

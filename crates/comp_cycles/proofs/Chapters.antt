@@ -8,9 +8,9 @@ use Rattle.heap_layout.specs.Heap.{Heap, Object, object_at, live, from_address, 
 use Rattle.heap_layout.specs.declared.kind.Kind.{Kind}
 use Rattle.heap_layout.specs.declared.kind.Kind.TheVariants.{Header, Reference, Weak, Data}
 use Rattle.page_plan.specs.Sliding as sliding
-use Rattle.page_plan.specs.Sliding.{place, forward, forwarded, to_address}
-use Rattle.page_plan.proofs.References.{place-is}
-use Rattle.page_plan.proofs.Forwarding.{forward-none}
+use Rattle.page_plan.specs.Sliding.{new_address, forward, forwarded, to_address}
+use Rattle.page_plan.proofs.References.{address-is}
+use Rattle.page_plan.proofs.NewAddresses.{forward-none}
 use Rattle.page_plan.proofs.Objects.{live-at}
 use Rattle.comp_journal.specs.declared.entry.Entry.{Entry}
 use Rattle.comp_history.specs.Setup.{Setup, pages, address}
@@ -173,7 +173,7 @@ module _ (u : Setup) (journals : Journals) (closed : IsClosed u.heap) (can : Can
         (λ zero_is. inl zero_is)
         (λ (s : HasStart first a).
         let k = begun.start_of u closed can.slid a s in
-        inr (subst (HasStart ended) (sym k.2) ((one.objects (place (live u.heap) k.0)).1 (inl (place-is (live u.heap) k.0 (let n = begun.count u closed can.slid in omega (arith, k.1, n)))))))
+        inr (subst (HasStart ended) (sym k.2) ((one.objects (new_address (live u.heap) k.0)).1 (inl (address-is (live u.heap) k.0 (let n = begun.count u closed can.slid in omega (arith, k.1, n)))))))
         leads
 
     -- a root leads to the same object as before
@@ -225,13 +225,13 @@ one_writing c numbers stable closed can t = writing c.setup c.journals closed ca
 -- ---- forwarding keeps the order of addresses
 
 -- an address that is forwarded is that of a marked object
-forwarded_mark : (heap : Heap) → IsClosed heap → (a x : ℕ) → 0 < a → forward (live heap) a ≡ Some x → (l : ℕ) × (l < length heap.marks) × (from_address (get_or heap.marks l 0) ≡ a) × (place (live heap) l ≡ x)
+forwarded_mark : (heap : Heap) → IsClosed heap → (a x : ℕ) → 0 < a → forward (live heap) a ≡ Some x → (l : ℕ) × (l < length heap.marks) × (from_address (get_or heap.marks l 0) ≡ a) × (new_address (live heap) l ≡ x)
 forwarded_mark heap closed a x up e = ⊎_elim
     (λ (yes : is_target heap.marks a ≡ true). ⊎_elim
     (λ (zero_is : a ≡ 0). absurd (omega (arith, zero_is, up)))
     (λ (m : (l : ℕ) × (l < length heap.marks) × (from_address (get_or heap.marks l 0) ≡ a)).
-    let f : forward (live heap) a ≡ Some (place (live heap) m.0) = ap (forward (live heap)) (sym m.2) ∙ forward_mark heap closed m.0 m.1 in
-    (m.0, m.1, m.2, some_same (place (live heap) m.0) x (sym f ∙ e)))
+    let f : forward (live heap) a ≡ Some (new_address (live heap) m.0) = ap (forward (live heap)) (sym m.2) ∙ forward_mark heap closed m.0 m.1 in
+    (m.0, m.1, m.2, some_same (new_address (live heap) m.0) x (sym f ∙ e)))
     (target_cases heap.marks a yes))
     (λ (no : is_target heap.marks a ≡ false). absurd (none_some x (sym (forward-none heap.edition heap.words heap.marks a no) ∙ e)))
     (cases_Bool (is_target heap.marks a))
@@ -248,7 +248,7 @@ rising u closed slid a b x y up below at_a at_b =
     let k = forwarded_mark heap closed a x up at_a in
     let l = forwarded_mark heap closed b y (omega (arith, up, below)) at_b in
     ⊎_elim
-    (λ (order : k.0 < l.0). let p = begun.places_apart u closed slid k.0 l.0 order k.1 in let ex = k.3 in let ey = l.3 in omega (arith, p, ex, ey))
+    (λ (order : k.0 < l.0). let p = begun.addresses_apart u closed slid k.0 l.0 order k.1 in let ex = k.3 in let ey = l.3 in omega (arith, p, ex, ey))
     (λ (le : l.0 ≤ k.0). absurd (⊎_elim
     (λ (over : l.0 < k.0). let r = marks_rise heap closed l.0 k.0 over k.1 in let ea = k.2 in let eb = l.2 in omega (arith, r, ea, eb, below))
     (λ (ge : k.0 ≤ l.0).

@@ -14,14 +14,14 @@ use Rattle.page_plan.specs.Sliding.{live_words, moved, slid_words, kinds_of, kin
 use Rattle.page_plan.proofs.Objects.{slid-length, slid-past}
 use Rattle.page_plan.proofs.Owners.{objects_stand}
 use Rattle.page_plan.proofs.Pages.{page-at}
-use Rattle.page_plan.proofs.References.{place-only}
+use Rattle.page_plan.proofs.References.{address-only}
 use Rattle.page_plan.proofs.Shapes.{field-inside, shape-found}
 use Rattle.comp_journal.specs.Journal.{written, replayed}
 use Rattle.comp_journal.specs.declared.entry.Entry.{Entry}
 use Rattle.comp_history.specs.Setup.{Setup, pages, fresh_page, base_of}
 use Rattle.comp_history.specs.Lawful.{kind_at, kinds_in, filled, Fits, HasHead, LawfulAfter}
 use Rattle.comp_history.specs.Locks.{Journals}
-use Rattle.comp_history.specs.Starts.{IsPlace}
+use Rattle.comp_history.specs.Starts.{IsForwardingAddress}
 use Rattle.comp_history.specs.Objects.{IsObjectAt, IsMadeAt}
 use Rattle.comp_history.proofs.Heads.{all_made, field_kind, head_word, header_stays, none_behind, fresh_kind, IsMade}
 use Rattle.comp_history.proofs.Fields.{compacted_kind, fresh_base}
@@ -46,11 +46,11 @@ head_of_kind u p journal n lawful e =
     (w.index, w.entry, w.there, w.head, sym (head_at u.heap.edition journal n w))
 
 -- on a compacted page, entries write words of objects only
-compacted_place : (u : Setup) (p : ℕ) (before : List Entry) (k : Kind) (writer offset value : ℕ) → p < u.compacted → Fits u p before k writer offset value → (l : Kind) × (kind (live u.heap) (64 * p + offset) ≡ Some l)
-compacted_place u p before Header writer offset value lt fits = let page = fits.page in absurd (omega (arith, page.2, lt))
-compacted_place u p before Reference writer offset value lt fits = (Reference, sym (compacted_kind u p before offset lt) ∙ fits.kind_is)
-compacted_place u p before Weak writer offset value lt fits = (Weak, sym (compacted_kind u p before offset lt) ∙ fits.kind_is)
-compacted_place u p before Data writer offset value lt fits = (Data, sym (compacted_kind u p before offset lt) ∙ fits.kind_is)
+compacted_address : (u : Setup) (p : ℕ) (before : List Entry) (k : Kind) (writer offset value : ℕ) → p < u.compacted → Fits u p before k writer offset value → (l : Kind) × (kind (live u.heap) (64 * p + offset) ≡ Some l)
+compacted_address u p before Header writer offset value lt fits = let page = fits.page in absurd (omega (arith, page.2, lt))
+compacted_address u p before Reference writer offset value lt fits = (Reference, sym (compacted_kind u p before offset lt) ∙ fits.kind_is)
+compacted_address u p before Weak writer offset value lt fits = (Weak, sym (compacted_kind u p before offset lt) ∙ fits.kind_is)
+compacted_address u p before Data writer offset value lt fits = (Data, sym (compacted_kind u p before offset lt) ∙ fits.kind_is)
 
 some_is_none : (o : Option Kind) (k : Kind) → o ≡ None → o ≡ Some k → ⊥
 some_is_none o k a b = cc
@@ -60,7 +60,7 @@ none_written : (u : Setup) (p o : ℕ) (after before : List Entry) (words : List
     → get_or (replayed words after) o 0 ≡ get_or words o 0
 none_written u p o [] before words lt h none = refl
 none_written u p o (e ∷ es) before words lt h none =
-    let at = compacted_place u p before e.kind e.writer e.offset e.value lt h.0 in
+    let at = compacted_address u p before e.kind e.writer e.offset e.value lt h.0 in
     let other : o ≢ e.offset = λ same. some_is_none (kind (live u.heap) (64 * p + o)) at.0 none (ap (λ x. kind (live u.heap) (64 * p + x)) same ∙ at.1) in
     none_written u p o es (before ++ e ∷ []) (written words e) lt h.1 none ∙ get_or-set_other words e.offset o e.value 0 other
 
@@ -131,7 +131,7 @@ module _ (u : Setup) (journals : Journals) (closed : IsClosed u.heap) (can : Can
       ∙ ap (λ l. get_or l o 0) (slid_base u p few) ∙ page-at objects p o (omega arith) ∙ ap (λ n. get_or (slid_words objects) n 0) (sym (cut i) ∙ sym same))
       ∙ s.word
 
-  slid_stands : (i : ℕ) → IsPlace u.heap (to_address i) → StandsAt u journals i
+  slid_stands : (i : ℕ) → IsForwardingAddress u.heap (to_address i) → StandsAt u journals i
   slid_stands i is =
       let header = is.0 in
       let s = (objects_stand u.heap closed).stands (to_address i) header is.1 in
@@ -139,7 +139,7 @@ module _ (u : Setup) (journals : Journals) (closed : IsClosed u.heap) (can : Can
       let o : HasObject objects i header = subst (λ n. HasObject objects n header) same s.object in
       let word : head_in u journals i ≡ header = slid_head i header is.1 in
       let slid = can.slid in
-      let k = place-only objects (to_address i) is in
+      let k = address-only objects (to_address i) is in
       let known : k.0 < length u.heap.marks = let n = length-map u.heap.marks (object_at u.heap.edition u.heap.words) in omega (arith, k.1, n) in
       let mark_head : header_at u.heap.edition u.heap.words (get_or u.heap.marks k.0 0) ≡ header = let found = shape-found u.heap k.0 (to_address i) known k.2 in let both = sym found ∙ is.1 in cc in
       let placed = closed.placed k.0 0 known in
@@ -178,7 +178,7 @@ module _ (u : Setup) (journals : Journals) (closed : IsClosed u.heap) (can : Can
   -- an object stands where one starts
   pub stands : (i : ℕ) → IsObjectAt u journals (to_address i) → StandsAt u journals i
   stands i is = ⊎_elim
-      (λ (slid : IsPlace u.heap (to_address i)). slid_stands i slid)
+      (λ (slid : IsForwardingAddress u.heap (to_address i)). slid_stands i slid)
       (λ (m : IsMadeAt u journals (to_address i)).
       let head = m.made in
       (head_stands (fresh_page u m.page) head.0 head.1 i (omega (arith, m.fresh)) head.2 head.3 (omega (arith, m.at, head.4))).0)

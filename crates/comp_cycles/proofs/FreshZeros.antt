@@ -29,7 +29,7 @@ zeros_here u done x heap lawful h fits head i low lt =
     let few = ap (λ e. size_of (header_of e x.1.value)) h.edition in
     let low_enough : o < 64 = omega (arith, next.ends, few, lt) in
     let at : address_of x + i ≡ address p o = omega arith in
-    ap heap.word at ∙ h.word p o inside low_enough ∙ none_behind u p o (on p done) [] (base_of u p) fresh lawful (omega (arith, next.place))
+    ap heap.word at ∙ h.word p o inside low_enough ∙ none_behind u p o (on p done) [] (base_of u p) fresh lawful (omega (arith, next.offset_is))
     ∙ ap (λ l. get_or l o 0) (fresh_base u p fresh) ∙ get_or-replicate 64 o 0 0 low_enough
 
 module _ (u : Setup) (journals : Journals) (can : CanMerge u journals) where

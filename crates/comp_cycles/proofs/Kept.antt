@@ -17,7 +17,7 @@ use Rattle.page_plan.proofs.Owners.{objects_stand}
 use Rattle.page_plan.proofs.Shapes.{field-inside}
 use Rattle.comp_history.specs.Setup.{Setup, pages}
 use Rattle.comp_history.specs.Locks.{Journals}
-use Rattle.comp_history.specs.Starts.{IsPlace}
+use Rattle.comp_history.specs.Starts.{IsForwardingAddress}
 use Rattle.comp_history.specs.Objects.{IsObjectAt, IsMadeAt}
 use Rattle.comp_history.proofs.Rows.{at_map_back, at_below, read_at}
 use Rattle.comp_history.specs.Merged.{CanMerge}
@@ -81,7 +81,7 @@ module _ (u : Setup) (journals : Journals) (closed_before : IsClosed u.heap) (ca
     -- objects are in to-space
     high : (a : ℕ) → HasStart heap a → to_address 0 ≤ a
     high a s = ⊎_elim
-        (λ (slid : IsPlace u.heap a). ((objects_stand u.heap closed_before).stands a slid.0 slid.1).above)
+        (λ (slid : IsForwardingAddress u.heap a). ((objects_stand u.heap closed_before).stands a slid.0 slid.1).above)
         (λ (m : IsMadeAt u journals a). omega (arith, m.at))
         (object_is a s)
 

@@ -59,7 +59,7 @@ module _ (heap : Heap) (f : Finished) (marks : List ℕ) (e : IsEndOf heap f) wh
   can = e.finished.history.merges
 
   pages_are : length (pages_of f) ≡ pages u
-  pages_are = e.finished.pages.places
+  pages_are = e.finished.pages.count
 
   -- the next heap has fewer than 2^32 words
   pub few_pages : 64 * length (pages_of f) < 4294967296

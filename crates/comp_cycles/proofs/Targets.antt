@@ -7,7 +7,7 @@ use Rattle.std.proofs.lemmas.List.{length-map, get_or-map}
 use Rattle.heap_layout.specs.Header.{size_of}
 use Rattle.heap_layout.specs.declared.edition.Edition.{Edition}
 use Rattle.heap_layout.specs.Heap.{Heap, Object, header_at, object_at, live, from_address, is_target, IsPlaced, IsTarget, IsClosed}
-use Rattle.page_plan.specs.Sliding.{place, number_of, forward}
+use Rattle.page_plan.specs.Sliding.{new_address, number_of, forward}
 use Rattle.comp_cycles.specs.Numbered.{Names, number_at, names_in, pointers_of, numbered_object, numbered_word}
 use Rattle.comp_cycles.proofs.Naming.{at_name, no_name}
 use Rattle.comp_cycles.proofs.Living.{numbered_reference, numbered_other}
@@ -114,11 +114,11 @@ module _ (heap : Heap) (closed : IsClosed heap) where
       both_ways (is_target heap.marks w) none (or_right (eqb w 0) (list_any (λ mark. from_address mark == w) heap.marks) found))
 
   -- a marked object's address is forwarded to its place
-  pub forward_mark : (l : ℕ) → l < length heap.marks → forward (live heap) (from_address (get_or heap.marks l 0)) ≡ Some (place (live heap) l)
+  pub forward_mark : (l : ℕ) → l < length heap.marks → forward (live heap) (from_address (get_or heap.marks l 0)) ≡ Some (new_address (live heap) l)
   forward_mark l lt =
       let w = from_address (get_or heap.marks l 0) in
-      ap (λ (b : Bool). cond b (Some 0) (option_map (place (live heap)) (number_of (live heap) w))) (ne_eqb w 0 (λ e. omega (arith, e)))
-      ∙ ap (option_map (place (live heap))) (position_at heap.edition heap.words heap.marks l 0 w lt refl (λ i below e. let r = marks_rise i l below lt in omega (arith, r, e)) ∙ ap (λ n. Some n) (let z : 0 + l ≡ l = omega arith in z))
+      ap (λ (b : Bool). cond b (Some 0) (option_map (new_address (live heap)) (number_of (live heap) w))) (ne_eqb w 0 (λ e. omega (arith, e)))
+      ∙ ap (option_map (new_address (live heap))) (position_at heap.edition heap.words heap.marks l 0 w lt refl (λ i below e. let r = marks_rise i l below lt in omega (arith, r, e)) ∙ ap (λ n. Some n) (let z : 0 + l ≡ l = omega arith in z))
     where
       position_at : (edition : Edition) (words marks : List ℕ) (l first w : ℕ) → l < length marks → from_address (get_or marks l 0) ≡ w → ((i : ℕ) → i < l → from_address (get_or marks i 0) ≡ w → ⊥)
           → position_from (λ object. from_address object.index == w) first (map (object_at edition words) marks) ≡ Some (first + l)

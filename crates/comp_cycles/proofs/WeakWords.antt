@@ -15,7 +15,7 @@ use Rattle.page_plan.specs.Sliding.{to_address}
 use Rattle.page_plan.proofs.Owners.{objects_stand}
 use Rattle.comp_history.specs.Setup.{Setup, pages}
 use Rattle.comp_history.specs.Locks.{Journals}
-use Rattle.comp_history.specs.Starts.{IsPlace}
+use Rattle.comp_history.specs.Starts.{IsForwardingAddress}
 use Rattle.comp_history.specs.Objects.{IsMadeAt, IsObjectAt, LeadsToObject}
 use Rattle.comp_history.proofs.Leading.{each_leads, older_closed}
 use Rattle.comp_history.specs.Merged.{CanMerge}
@@ -60,7 +60,7 @@ module _ (u : Setup) (journals : Journals) (closed_before : IsClosed u.heap) (ca
   object_there : (w : ℕ) → IsObjectAt u journals w → is_target row (lowered w) ≡ true
   object_there w is =
       let up : to_address 0 ≤ w = ⊎_elim
-      (λ (slid : IsPlace u.heap w). ((objects_stand u.heap closed_before).stands w slid.0 slid.1).above)
+      (λ (slid : IsForwardingAddress u.heap w). ((objects_stand u.heap closed_before).stands w slid.0 slid.1).above)
       (λ (m : IsMadeAt u journals w). omega (arith, m.at))
       is in
       let i = w - to_address 0 in

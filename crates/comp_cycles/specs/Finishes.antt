@@ -61,7 +61,7 @@ allocated_by row = total (λ (pass : Pass). allocated (edition_of pass) (did pas
 -- The pages at the end, given the passes of the mutators in the order of their numbers.
 pub record HasPages (u : Setup) (row : List Pass) (f : Finished) : Type 0 where
   -- there is one slot for each page
-  pub places : length (pages_of f) ≡ pages u
+  pub count : length (pages_of f) ≡ pages u
   -- the lists of builds are those of the mutators
   pub builds : builds_in f ≡ map builds_of row
   -- a page that was built occurs once in all these lists, and no other page does

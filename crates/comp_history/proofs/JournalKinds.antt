@@ -37,7 +37,7 @@ filled_front edition j i d inside =
 -- an entry that may follow others has room on its page
 room_kept : (u : Setup) (p : ℕ) (before : List Entry) (k : Kind) (writer offset value : ℕ) → filled u.heap.edition before ≤ 64 → Fits u p before k writer offset value
     → filled u.heap.edition before + length (kinds_by u.heap.edition k value) ≤ 64
-room_kept u p before Header writer offset value le h = omega (arith, h.place, h.ends, kinds_long (header_of u.heap.edition value))
+room_kept u p before Header writer offset value le h = omega (arith, h.offset_is, h.ends, kinds_long (header_of u.heap.edition value))
 room_kept u p before Reference writer offset value le h = omega (arith, le)
 room_kept u p before Weak writer offset value le h = omega (arith, le)
 room_kept u p before Data writer offset value le h = omega (arith, le)

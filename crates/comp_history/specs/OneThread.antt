@@ -10,7 +10,7 @@ use Rattle.heap_layout.specs.declared.kind.Kind.{Kind}
 use Rattle.heap_layout.specs.declared.kind.Kind.TheVariants.{Header, Reference, Weak, Data}
 use Rattle.heap_layout.specs.Kinds.{count_of, first_of}
 use Rattle.heap_layout.specs.declared.edition.Edition.{Edition}
-use Rattle.page_plan.specs.Sliding.{place}
+use Rattle.page_plan.specs.Sliding.{new_address}
 use Rattle.comp_journal.specs.declared.entry.Entry.{Entry}
 use Rattle.cell_steps.specs.Setup.{Setup, address, base_of}
 use Rattle.cell_steps.specs.Lists.{but}
@@ -31,7 +31,7 @@ abbrev pub first_heap : Setup → OneThreadHeap
 first_heap u = record {
   edition = u.heap.edition;
   word = λ a. slice_index (base_of u (page_at a)) (offset_at a);
-  starts = map (place (live u.heap)) (range_with_len 0 (length (live u.heap)));
+  starts = map (new_address (live u.heap)) (range_with_len 0 (length (live u.heap)));
 }
 
 -- the header of the object that starts at this address

@@ -2,7 +2,7 @@
 //! those return.
 ghost use Rattle.std.specs.Prelude.{◌≡◌, ℕ, ◌<◌, true, IfErr, IfOk, IsErrOf, OnErr, OnOk};
 ghost use Rattle.heap_layout.specs.Kinds.{refers};
-ghost use Rattle.cell_steps.specs.Starts.{IsPlace};
+ghost use Rattle.cell_steps.specs.Starts.{IsForwardingAddress};
 ghost use Rattle.cell_steps.specs.Passes.{did, seen, HasSeenBuilt, MayRefer};
 ghost use Rattle.page_cells.specs.Calls.{Grows};
 ghost use Rattle.comp_mutator.specs.Mutators.{pass_of, setup_of, unposted_of, IsMutatorOf};
@@ -41,7 +41,7 @@ impl<L: Named, B: Builder> Space<L, B> {
         ensures known { IfOk result (MayRefer (pass_of m.new)) }
         ensures builds { OnOk result (MayBuildTouched (setup_of self.now) (pass_of m.old) (pass_of m.new) kind object field) }
         ensures free { (q : ℕ) → IsErrOf result (Busy q) → KnowsBuilt (pass_of m.old) q → ⊥ }
-        ensures slid { (q : ℕ) → IsErrOf result (Busy q) → IsPlace (setup_of self.now).heap object }
+        ensures slid { (q : ℕ) → IsErrOf result (Busy q) → IsForwardingAddress (setup_of self.now).heap object }
         ensures unseen { (q : ℕ) → IsErrOf result (Busy q) → HasSeenBuilt (pass_of m.new) q → ⊥ }
         ensures refused { IfErr result (FieldRefused (setup_of self.now) (pass_of m.old) (pass_of m.new) kind object field) }
     {

@@ -15,7 +15,7 @@ use Rattle.mark_tables.proofs.Runs.{zeros-bit}
 use Rattle.page_plan.specs.Planned.{AreFirst, AreStarts, Covers}
 use Rattle.page_plan.specs.Sliding.{live_words, size, pages, shape_at}
 use Rattle.page_plan.proofs.Covering.{live_words-cons}
-use Rattle.page_plan.proofs.References.{place-is, place-only}
+use Rattle.page_plan.proofs.References.{address-is, address-only}
 
 -- more objects have no fewer words
 words-rise : (objects : List Object) (j k : ℕ) → j ≤ k → live_words (take j objects) ≤ live_words (take k objects)
@@ -126,11 +126,11 @@ module _ (objects : List Object) (bits : List ℕ) (are : AreStarts objects bits
       let begin : 64 * p + 1 ≡ suc (64 * p) = omega arith in
       let there : 64 * p + suc o ≡ suc n = omega arith in
       let of_first : length (passing (bit bits) (64 * p + 1)) ≡ suc f = rw begin (started (64 * p) f first) in
-      let of_place : length (passing (bit bits) (64 * p + suc o)) ≡ suc k = rw there (started n k covers) in
+      let of_new_index : length (passing (bit bits) (64 * p + suc o)) ≡ suc k = rw there (started n k covers) in
       omega (
         arith,
         of_first,
-        of_place,
+        of_new_index,
         until-first bits p,
         passing-block bits p (suc o) (omega arith),
         ones-halves block o,
@@ -151,14 +151,14 @@ starts-none objects n long = record {
 }
 
 -- one object more
-pub starts-next : (objects : List Object) (k : ℕ) (old new : List ℕ) (place : ℕ) → AreStartsOf objects k old → place ≡ live_words (take k objects)
-    → length new ≡ length old → bit new place ≡ true → ((i : ℕ) → i ≢ place → bit new i ≡ bit old i) → AreStartsOf objects (k + 1) new
-starts-next objects k old new place are at long here others = record {
+pub starts-next : (objects : List Object) (k : ℕ) (old new : List ℕ) (new_index : ℕ) → AreStartsOf objects k old → new_index ≡ live_words (take k objects)
+    → length new ≡ length old → bit new new_index ≡ true → ((i : ℕ) → i ≢ new_index → bit new i ≡ bit old i) → AreStartsOf objects (k + 1) new
+starts-next objects k old new new_index are at long here others = record {
   long = long ∙ are.long;
   there = λ j lt. elim (cases_lt j k) [
     | inl before ↦
         let start = live_words (take j objects) in
-        elim (cases_eq start place) [
+        elim (cases_eq start new_index) [
           | inl same ↦ ap (bit new) same ∙ here
           | inr other ↦ others start other ∙ are.there j before
         ]
@@ -166,7 +166,7 @@ starts-next objects k old new place are at long here others = record {
         let same : j ≡ k = omega (arith, lt, last) in
         ap (λ (n : ℕ). bit new (live_words (take n objects))) same ∙ ap (bit new) (sym at) ∙ here
   ];
-  only = λ i holds. elim (cases_eq i place) [
+  only = λ i holds. elim (cases_eq i new_index) [
     | inl same ↦ (k, omega arith, same ∙ at)
     | inr other ↦ let s = are.only i (sym (others i other) ∙ holds) in (s.0, omega (arith, s.1), s.2)
   ];
@@ -234,21 +234,21 @@ value_of None some = absurd (false≢true some)
 value_of (Some header) some = (header, refl)
 
 -- the start bit of a word says whether an object starts there
-pub start-told : (objects : List Object) (bits : List ℕ) → AreStarts objects bits → (place address : ℕ) → address ≡ 2 ^ 33 + place → bit bits place ≡ is_some (shape_at objects address)
-start-told objects bits are place address at =
-    elim (shape_at objects address) as (λ found. shape_at objects address ≡ found → bit bits place ≡ is_some found) [
-      | None ↦ λ none. elim (cases_Bool (bit bits place)) [
+pub start-told : (objects : List Object) (bits : List ℕ) → AreStarts objects bits → (new_index address : ℕ) → address ≡ 2 ^ 33 + new_index → bit bits new_index ≡ is_some (shape_at objects address)
+start-told objects bits are new_index address at =
+    elim (shape_at objects address) as (λ found. shape_at objects address ≡ found → bit bits new_index ≡ is_some found) [
+      | None ↦ λ none. elim (cases_Bool (bit bits new_index)) [
         | inl holds ↦
-            let s = are.only place holds in
-            let there = place-is objects s.0 s.1 in
+            let s = are.only new_index holds in
+            let there = address-is objects s.0 s.1 in
             let e : address ≡ 2 ^ 33 + live_words (take s.0 objects) = omega (arith, at, s.2) in
             let told : None ≡ Some there.0 = sym none ∙ ap (shape_at objects) e ∙ there.1 in
             absurd (cc)
         | inr fails ↦ fails
       ]
       | Some header ↦ λ is.
-          let only = place-only objects address (header, is) in
-          let e : place ≡ live_words (take only.0 objects) = omega (arith, at, only.2) in
+          let only = address-only objects address (header, is) in
+          let e : new_index ≡ live_words (take only.0 objects) = omega (arith, at, only.2) in
           ap (bit bits) e ∙ are.there only.0 only.1
     ] refl
 
@@ -256,14 +256,14 @@ start-told objects bits are place address at =
 pub start-live : (objects : List Object) (address : ℕ) → is_some (shape_at objects address) ≡ true → (2 ^ 33 ≤ address) × (address - 2 ^ 33 < live_words objects)
 start-live objects address some =
     let is = value_of (shape_at objects address) some in
-    let only = place-only objects address is in
+    let only = address-only objects address is in
     (omega (arith, only.2), omega (arith, only.2, start-within objects only.0 only.1))
 
 -- if an object starts at an address, it is the object that has the word there
 pub start-at : (objects : List Object) (address number : ℕ) → is_some (shape_at objects address) ≡ true → Covers objects (address - 2 ^ 33) number
     → address ≡ 2 ^ 33 + live_words (take number objects)
 start-at objects address number some covers =
-    let only = place-only objects address (value_of (shape_at objects address) some) in
+    let only = address-only objects address (value_of (shape_at objects address) some) in
     let first : live_words (take only.0 objects) ≡ address - 2 ^ 33 = omega (arith, only.2) in
     let own : Covers objects (address - 2 ^ 33) only.0 = subst (λ (n : ℕ). Covers objects n only.0) first (start-covers objects only.0 only.1) in
     let same = one-covers objects (address - 2 ^ 33) only.0 number own covers in

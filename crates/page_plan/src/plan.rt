@@ -4,8 +4,11 @@ ghost use Rattle.mark_tables.specs.LiveWords.{live_indices};
 ghost use Rattle.page_plan.specs.Planned.{AreFirst, AreStarts};
 ghost use Rattle.page_plan.specs.Sliding.{first_object, forward, kind, live_words, page, pages, shape_at, to_address, HasObject, slid_words, IsPartFrom};
 
-use crate::places::TO_SPACE;
-use crate::{first_objects, page_builder, places, starts};
+use crate::forwarding::TO_SPACE;
+use crate::first_objects;
+use crate::page_builder;
+use crate::forwarding;
+use crate::starts;
 use heap_layout::{FROM_SPACE, Header, Kind, MarkedHeap, OutOfMemory, PageWords, is_set};
 use mark_tables::Tables;
 use std::alloc::Global;
@@ -120,11 +123,11 @@ impl Plan {
         if address < TO_SPACE {
             return false;
         }
-        let place = address - TO_SPACE;
-        if place / 64 >= self.starts().len() as u64 {
+        let new_index = address - TO_SPACE;
+        if new_index / 64 >= self.starts().len() as u64 {
             return false;
         }
-        is_set(self.starts(), place as usize)
+        is_set(self.starts(), new_index as usize)
     }
 
     /// The header of the slid object that starts at this address. None if no object starts there. Takes constant time.
@@ -153,9 +156,9 @@ impl Plan {
             return None;
         }
         // A live word is the first word of its object if the start bit at its to-space index is set.
-        let place = self.tables().new_place(reference - FROM_SPACE)?;
-        if is_set(self.starts(), place as usize) {
-            Some(TO_SPACE + place)
+        let new_index = self.tables().new_place(reference - FROM_SPACE)?;
+        if is_set(self.starts(), new_index as usize) {
+            Some(TO_SPACE + new_index)
         } else {
             None
         }
@@ -163,9 +166,9 @@ impl Plan {
 
     /// The forwarded roots, in their order. Err if they can not be allocated.
     pub fn forward_roots(&self, alloc: Global) -> Result<Vec<u64>, OutOfMemory>
-        ensures { IfOk result (λ roots. map (λ place. Some place) roots.items ≡ map (forward (live self.now)) self.now.roots) }
+        ensures { IfOk result (λ roots. map (λ address. Some address) roots.items ≡ map (forward (live self.now)) self.now.roots) }
     {
-        Ok(places::places_of(alloc, self, self.heap.roots())?)
+        Ok(forwarding::forward_all(alloc, self, self.heap.roots())?)
     }
 
     /// Builds page `p`: its 64 words, with zeros after the last slid word. `p` must be below `pages()`. Err if out of
@@ -177,9 +180,9 @@ impl Plan {
     {
         let mut page = PageWords::zeros(alloc)?;
         let mut cursor = page_builder::cursor_at(self, p);
-        let begin = cursor.place;
+        let begin = cursor.new_index;
         let end = self.live_words().min(begin + 64);
-        while cursor.place < end {
+        while cursor.new_index < end {
             cursor = page_builder::write_object(self, &mut page, begin, cursor, end);
         }
         Ok(page)

@@ -19,20 +19,20 @@ pub fn start_bits(alloc: Global, heap: &MarkedHeap, tables: &Tables) -> Result<V
 {
     let mut bits = vec![in alloc; 0; tables.live_words().div_ceil(64) as usize]?;
     for &mark in heap.marks() {
-        let place = tables.live_below(u64::from(mark));
-        set(&mut bits, place as usize);
+        let new_index = tables.live_below(u64::from(mark));
+        set(&mut bits, new_index as usize);
     }
     Ok(bits)
 }
 
-/// The number of the live object that has the slid word with the to-space index `place`: that of the first object of
+/// The number of the live object that has the slid word with the to-space index `new_index`: that of the first object of
 /// its page, and one more for each start from the second word of the page up to this word.
-pub fn number_at(plan: &Plan, place: u64) -> usize
-    requires { place < live_words (live plan.now) }
-    ensures { Covers (live plan.now) place result }
+pub fn number_at(plan: &Plan, new_index: u64) -> usize
+    requires { new_index < live_words (live plan.now) }
+    ensures { Covers (live plan.now) new_index result }
 {
-    let page = (place / 64) as usize;
-    let behind = starts_behind(plan.starts()[page], place % 64);
+    let page = (new_index / 64) as usize;
+    let behind = starts_behind(plan.starts()[page], new_index % 64);
     plan.first_objects()[page] as usize + behind as usize
 }
 

@@ -27,21 +27,21 @@ both_ok (Ok a) (Err e) P Q R h k f = tt
 both_ok (Err e) w P Q R h k f = tt
 
 -- a field has the same place in what one pass has seen and in what another has
-abbrev pub HaveOnePlace : Setup → Pass → Pass → Kind → ℕ → ℕ → Type 0
-HaveOnePlace u a b kind object field = (place other : ℕ) → IsFieldOf u (seen a) kind object field place → IsFieldOf u (seen b) kind object field other → other ≡ place
+abbrev pub HaveOneAddress : Setup → Pass → Pass → Kind → ℕ → ℕ → Type 0
+HaveOneAddress u a b kind object field = (word_address other : ℕ) → IsFieldOf u (seen a) kind object field word_address → IsFieldOf u (seen b) kind object field other → other ≡ word_address
 
 -- a word is what was last written there
 abbrev pub IsLastWritten : Setup → Type 0
 IsLastWritten u = (p : ℕ) (journal : List Entry) (e : Entry) → e.offset < 64 → get_or (replayed (base_of u p) (journal ++ e ∷ [])) e.offset 0 ≡ e.value
 
 -- a read answers what was written before it, if nothing more was seen in between
-pub reads_back : (u : Setup) (old wrote read : Pass) (kind : Kind) (object field value stamp word : ℕ) → ((p : ℕ) → seen read p ≡ seen wrote p) → HaveOnePlace u wrote read kind object field
+pub reads_back : (u : Setup) (old wrote read : Pass) (kind : Kind) (object field value stamp word : ℕ) → ((p : ℕ) → seen read p ≡ seen wrote p) → HaveOneAddress u wrote read kind object field
     → IsLastWritten u → Writes u old wrote kind object field value stamp → Reads u (seen read) kind object field word → word ≡ value
 reads_back u old wrote read kind object field value stamp word same one last w r =
-    let p = page_at w.place in
-    let e = entry_by old stamp kind (offset_at w.place) value in
-    r.word_is ∙ ap (word_at u (seen read)) (one w.place r.place w.field_of r.field_of)
-    ∙ ap (λ journal. get_or (replayed (base_of u p) journal) (offset_at w.place) 0) (same p ∙ w.adds.seen) ∙ last p w.adds.journal e (omega arith)
+    let p = page_at w.word_address in
+    let e = entry_by old stamp kind (offset_at w.word_address) value in
+    r.word_is ∙ ap (word_at u (seen read)) (one w.word_address r.word_address w.field_of r.field_of)
+    ∙ ap (λ journal. get_or (replayed (base_of u p) journal) (offset_at w.word_address) 0) (same p ∙ w.adds.seen) ∙ last p w.adds.journal e (omega arith)
 
 -- An object was made with these numbers of words of each kind.
 pub record IsMade (u : Setup) (old made : Pass) (refs weak data_words object : ℕ) : Type 0 where
@@ -81,21 +81,21 @@ behind Data header field inside = omega arith
 
 module _ (u : Setup) (old made read : Pass) (refs weak data_words object : ℕ) (same : (p : ℕ) → seen read p ≡ seen made p) (is : IsMade u old made refs weak data_words object) where
   -- each word after the header of a new object is 0
-  word_behind : (distance place word : ℕ) → 0 < distance → distance < size_of is.header → place ≡ object + distance → word ≡ word_at u (seen read) place → word ≡ 0
-  word_behind distance place word more less at word_is =
+  word_behind : (distance word_address word : ℕ) → 0 < distance → distance < size_of is.header → word_address ≡ object + distance → word ≡ word_at u (seen read) word_address → word ≡ 0
+  word_behind distance word_address word more less at word_is =
       let a = is.allocates in
       let p = own_page u (number_of old) a.index in
       let offset = used u old a.index in
       let room = a.lowest.room in
-      let page : page_at place ≡ p = omega (arith, a.place_is, at, room, less) in
-      let there : offset_at place ≡ offset + distance = omega (arith, a.place_is, at, room, less) in
-      word_is ∙ ap (λ q. get_or (replayed (base_of u q) (seen read q)) (offset_at place) 0) page ∙ ap (λ o. get_or (replayed (base_of u p) (seen read p)) o 0) there
+      let page : page_at word_address ≡ p = omega (arith, a.address_is, at, room, less) in
+      let there : offset_at word_address ≡ offset + distance = omega (arith, a.address_is, at, room, less) in
+      word_is ∙ ap (λ q. get_or (replayed (base_of u q) (seen read q)) (offset_at word_address) 0) page ∙ ap (λ o. get_or (replayed (base_of u p) (seen read p)) o 0) there
       ∙ ap (λ journal. get_or (replayed (base_of u p) journal) (offset + distance) 0) (same p) ∙ a.zero (offset + distance) (omega (arith, more)) (omega (arith, less))
 
   -- each field of a new object is null or 0
-  pub new_field : HasShape u (seen made) object is.header → (kind : Kind) (field word : ℕ) → field < count_of kind is.header → HaveOnePlace u made read kind object field
+  pub new_field : HasShape u (seen made) object is.header → (kind : Kind) (field word : ℕ) → field < count_of kind is.header → HaveOneAddress u made read kind object field
       → Reads u (seen read) kind object field word → word ≡ 0
   new_field shape kind field word inside one r =
       let header = is.header in
-      let place = one (object + first_of kind header + field) r.place record { header = header; shape = shape; inside = inside; place_is = refl } r.field_of in
-      word_behind (first_of kind header + field) r.place word (behind kind header field inside) (field-inside kind header field inside) (omega (arith, place)) r.word_is
+      let word_address = one (object + first_of kind header + field) r.word_address record { header = header; shape = shape; inside = inside; address_is = refl } r.field_of in
+      word_behind (first_of kind header + field) r.word_address word (behind kind header field inside) (field-inside kind header field inside) (omega (arith, word_address)) r.word_is

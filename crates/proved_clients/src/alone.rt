@@ -22,7 +22,7 @@ fn write_and_read<L: Named, B: Builder>(
     let stamp = space.try_write_data(alloc, m, object, field, value);
     let word = space.try_read_data(alloc, m, object, field);
     comp_mutator::alone_sees_its_own(space);
-    comp_mutator::places_are_one(space);
+    comp_mutator::fields_keep_their_addresses(space);
     page_cells::last_written();
     (stamp, word)
 }
@@ -43,7 +43,7 @@ pub fn write_weak_and_read<L: Named, B: Builder>(
     let stamp = space.try_write_weak(alloc, m, object, field, value);
     let word = space.try_read_weak(alloc, m, object, field);
     comp_mutator::alone_sees_its_own(space);
-    comp_mutator::places_are_one(space);
+    comp_mutator::fields_keep_their_addresses(space);
     page_cells::last_written();
     (stamp, word)
 }
@@ -81,7 +81,7 @@ pub fn make_and_read<L: Named, B: Builder>(
     let reference = space.try_read_ref(alloc, m, object, 0);
     let data = space.try_read_data(alloc, m, object, 0);
     comp_mutator::alone_sees_its_own(space);
-    comp_mutator::places_are_one(space);
+    comp_mutator::fields_keep_their_addresses(space);
     comp_mutator::made_objects_start(space);
     Ok((reference, data))
 }
@@ -100,7 +100,7 @@ pub fn make_weak_and_read<L: Named, B: Builder>(
     let object = space.try_alloc_weak(alloc, m, 0, 1, 0, tag)?;
     let weak = space.try_read_weak(alloc, m, object, 0);
     comp_mutator::alone_sees_its_own(space);
-    comp_mutator::places_are_one(space);
+    comp_mutator::fields_keep_their_addresses(space);
     comp_mutator::made_objects_start(space);
     Ok(weak)
 }

@@ -30,7 +30,7 @@ pub fn read_after_meeting<L: Named, B: Builder>(
     space.meet(m0, m1);
     let word = space.try_read_data(alloc, m1, object, field);
     space.meet(m0, m1);
-    comp_mutator::places_are_one(space);
+    comp_mutator::fields_keep_their_addresses(space);
     page_cells::last_written();
     (stamp, word)
 }

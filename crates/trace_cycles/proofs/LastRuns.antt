@@ -21,8 +21,8 @@ setup_with heap fresh mutators = record { heap = heap; compacted = sliding.pages
 pub last_run : (mutators fresh : ℕ) (lines : List Line) (shown : List Shown) (heap : Heap) (f : Finished) → fresh ≤ 4096 → HasRunOver mutators fresh lines shown heap f
     → IsLastRun mutators fresh lines shown heap f
 last_run mutators fresh lines shown heap f few h =
-    let places = h.finished.pages.places in
-    let fresh_is : length (pages_of f) - sliding.pages (live heap) ≡ fresh = omega (arith, places) in
+    let slots = h.finished.pages.count in
+    let fresh_is : length (pages_of f) - sliding.pages (live heap) ≡ fresh = omega (arith, slots) in
     let many : length (builds_in f) ≡ mutators = ap length h.finished.pages.builds ∙ length-map h.row builds_of ∙ h.crew in
     let same : setup_in heap f ≡ flipped heap mutators fresh = ap (λ (n : ℕ). setup_with heap n (length (builds_in f))) fresh_is ∙ ap (setup_with heap fresh) many in
     record {
@@ -37,6 +37,6 @@ last_run mutators fresh lines shown heap f few h =
         row = h.row;
         finished = subst (λ (u : Setup). IsFinished u h.row f) (sym same) h.finished;
         closed = h.closed;
-        few_fresh = omega (arith, places, few);
+        few_fresh = omega (arith, slots, few);
       };
     }

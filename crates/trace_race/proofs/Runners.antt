@@ -30,9 +30,9 @@ pub record Running {L : Type 0} {B : Type 0} {g : Ghosts B} (space : Space L B g
   pub run : HasRunFirst (setup_of space) (numbered 1 lines) k (pass_of before.mutator) runner.registers runner.shown.items (pass_of runner.mutator)
 
 -- The line at an index, if there is one, is the runner's.
-pub record IsNextLine {L : Type 0} (lines : List Line) (place : ℕ) (runner : Runner L) : Type 0 where
-  pub inside : place ≤ length lines
-  pub own : (line : Line) → get_elem? lines place ≡ some line → line.mutator ≡ number_of_mutator runner.mutator
+pub record IsNextLine {L : Type 0} (lines : List Line) (position : ℕ) (runner : Runner L) : Type 0 where
+  pub inside : position ≤ length lines
+  pub own : (line : Line) → get_elem? lines position ≡ some line → line.mutator ≡ number_of_mutator runner.mutator
 
 -- what holds of all, by indices
 pub all_at : {A : Type 0} (P : A → Type 0) (l : List A) → All P l → (k : ℕ) (a : A) → get_elem? l k ≡ some a → P a

@@ -6,12 +6,12 @@ use Rattle.trace_race.specs.Races.{numbered, own_lines}
 use Rattle.trace_text.specs.declared.line.Line.{Line}
 use Rattle.trace_race.specs.declared.chains.Chains.{Chains}
 
--- The first line of the mutator from index `start` on is at `place`; if there is none, `place` is the number of lines.
-pub record IsNextOwn (lines : List Line) (number start place : ℕ) : Type 0 where
-  pub above : start ≤ place
-  pub inside : place ≤ length lines
-  pub others : (i : ℕ) (line : Line) → start ≤ i → i < place → get_elem? lines i ≡ some line → line.mutator ≢ number
-  pub own : (line : Line) → get_elem? lines place ≡ some line → line.mutator ≡ number
+-- The first line of the mutator from index `start` on is at `position`; if there is none, `position` is the number of lines.
+pub record IsNextOwn (lines : List Line) (number start position : ℕ) : Type 0 where
+  pub above : start ≤ position
+  pub inside : position ≤ length lines
+  pub others : (i : ℕ) (line : Line) → start ≤ i → i < position → get_elem? lines i ≡ some line → line.mutator ≢ number
+  pub own : (line : Line) → get_elem? lines position ≡ some line → line.mutator ≡ number
 
 -- The chains are those of the lines.
 pub record AreChained (lines : List Line) (chains : Chains) : Type 0 where

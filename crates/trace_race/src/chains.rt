@@ -25,12 +25,12 @@ pub(crate) fn chained(alloc: Global, lines: &[Line]) -> Result<Chains, OutOfMemo
     let mut nexts = vec![in alloc; 0usize; lines.len()]?;
     let mut firsts = [lines.len(); NUMBERS];
     let mut counts = [0; NUMBERS];
-    let mut place = lines.len();
-    while place > 0 {
-        place -= 1;
-        let number = lines[place].mutator as usize;
-        nexts[place] = firsts[number];
-        firsts[number] = place;
+    let mut position = lines.len();
+    while position > 0 {
+        position -= 1;
+        let number = lines[position].mutator as usize;
+        nexts[position] = firsts[number];
+        firsts[number] = position;
         counts[number] += 1;
     }
     Ok(Chains {

@@ -43,10 +43,10 @@ pub(crate) fn run_own<L: Ledger, B: Builder>(
     ensures of { IsMutatorOf space.now runner.new.mutator }
     ensures ran { Ran (setup_of space.now) (own_lines (number_of_mutator runner.old.mutator) (numbered 1 lines.now)) (pass_of runner.old.mutator) (pass_of runner.new.mutator) runner.new.shown.items runner.new.fault }
 {
-    let mut place = chains.firsts[runner.mutator.number() as usize];
-    while place < lines.len() {
-        let action = lines[place].action;
-        let number = place as u64 + 1;
+    let mut position = chains.firsts[runner.mutator.number() as usize];
+    while position < lines.len() {
+        let action = lines[position].action;
+        let number = position as u64 + 1;
         let answer = act_waiting(
             alloc,
             rt,
@@ -65,6 +65,6 @@ pub(crate) fn run_own<L: Ledger, B: Builder>(
                 return;
             }
         }
-        place = chains.nexts[place];
+        position = chains.nexts[position];
     }
 }

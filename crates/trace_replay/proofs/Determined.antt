@@ -25,7 +25,7 @@ use Rattle.comp_mutator.specs.Locks.{Journals}
 use Rattle.comp_mutator.specs.Objects.{page_at, offset_at, word_at, HasHeader, HasShape, HasSlid}
 use Rattle.comp_mutator.proofs.Rows.{at_map, at_map_back}
 use Rattle.comp_mutator.specs.Allocations.{own_page}
-use Rattle.comp_mutator.specs.Fields.{place_of, IsFieldOf}
+use Rattle.comp_mutator.specs.Fields.{field_address, IsFieldOf}
 use Rattle.comp_mutator.specs.Reads.{Reads}
 use Rattle.comp_mutator.proofs.OwnPages.{filled_append, on_append, own_fresh, read_back}
 use Rattle.trace_steps.specs.Acting.{registers_after, shown_at}
@@ -133,7 +133,7 @@ head_behind : (u : Setup) (p : ℕ) (before j : List Entry) → HeadsAfter u p b
 head_behind u p before [] h i e at is = absurd (maybe.some-ne-none e (sym at))
 head_behind u p before (x ∷ xs) h zero e at is =
     let same = maybe.some-injective x e at in
-    omega (arith, (h.0 (ap (λ (y : Entry). y.kind) same ∙ is)).place, ap (λ (y : Entry). y.offset) same)
+    omega (arith, (h.0 (ap (λ (y : Entry). y.kind) same ∙ is)).offset_is, ap (λ (y : Entry). y.offset) same)
 head_behind u p before (x ∷ xs) h (suc i) e at is = omega (arith, filled_grows u.heap.edition before x, head_behind u p (before ++ x ∷ []) xs h.1 i e at is)
 
 module _ (u : Setup) (p : ℕ) where
@@ -141,7 +141,7 @@ module _ (u : Setup) (p : ℕ) where
       → e.offset ≡ f.offset → ⊥
   apart before x xs h i e f same at is is' equal =
       let first : x.kind ≡ Header = ap (λ (y : Entry). y.kind) same ∙ is in
-      omega (arith, (h.0 first).place, ap (λ (y : Entry). y.offset) same, equal, filled_head u.heap.edition before x first, head_behind u p (before ++ x ∷ []) xs h.1 i f at is')
+      omega (arith, (h.0 first).offset_is, ap (λ (y : Entry). y.offset) same, equal, filled_head u.heap.edition before x first, head_behind u p (before ++ x ∷ []) xs h.1 i f at is')
 
   one_entry : (before j : List Entry) → HeadsAfter u p before j → (i k : ℕ) (e f : Entry) → get_elem? j i ≡ maybe.some e → get_elem? j k ≡ maybe.some f → e.kind ≡ Header → f.kind ≡ Header
       → e.offset ≡ f.offset → e ≡ f
@@ -175,11 +175,11 @@ module _ (u : Setup) (js ls : Journals) (slid : u.compacted ≡ sliding.pages (l
   fields_once : (kind : Kind) (object field a b : ℕ) → IsFieldOf u js kind object field a → IsFieldOf u ls kind object field b → a ≡ b
   fields_once kind object field a b x y =
       let header = one_shape u js slid heads object x.header y.header x.shape (shape_same u js ls object y.header same y.shape) in
-      x.place_is ∙ ap (λ (h : Head). place_of kind object h field) header ∙ sym y.place_is
+      x.address_is ∙ ap (λ (h : Head). field_address kind object h field) header ∙ sym y.address_is
 
   reads_once : (kind : Kind) (object field a b : ℕ) → Reads u js kind object field a → Reads u ls kind object field b → a ≡ b
   reads_once kind object field a b x y =
-      x.word_is ∙ ap (word_at u js) (fields_once kind object field x.place y.place x.field_of y.field_of) ∙ words_same u js ls same y.place ∙ sym y.word_is
+      x.word_is ∙ ap (word_at u js) (fields_once kind object field x.word_address y.word_address x.field_of y.field_of) ∙ words_same u js ls same y.word_address ∙ sym y.word_is
 
   entries_once : (m p q : ℕ) (kind : Kind) (o r value s t : ℕ) (xs ys : List (ℕ × Entry)) → p ≡ q → o ≡ r → IsOneEntry js m p kind o value s xs → IsOneEntry ls m q kind r value t ys
       → map unstamped_on xs ≡ map unstamped_on ys
@@ -190,8 +190,8 @@ module _ (u : Setup) (js ls : Journals) (slid : u.compacted ≡ sliding.pages (l
   writes_once : (m : ℕ) (kind : Kind) (object field value : ℕ) (xs ys : List (ℕ × Entry)) (s t : ℕ) → WritesField u js m kind object field value xs s → WritesField u ls m kind object field value ys t
       → map unstamped_on xs ≡ map unstamped_on ys
   writes_once m kind object field value xs ys s t x y =
-      let place = fields_once kind object field x.place y.place x.field_of y.field_of in
-      entries_once m (page_at x.place) (page_at y.place) kind (offset_at x.place) (offset_at y.place) value s t xs ys (ap page_at place) (ap offset_at place) x.entry y.entry
+      let word_address = fields_once kind object field x.word_address y.word_address x.field_of y.field_of in
+      entries_once m (page_at x.word_address) (page_at y.word_address) kind (offset_at x.word_address) (offset_at y.word_address) value s t xs ys (ap page_at word_address) (ap offset_at word_address) x.entry y.entry
 
   lowest_once : (m : ℕ) (header : Head) (xs ys : List (ℕ × Entry)) (a b : ℕ) (x : MakesObject u js m header xs a) (y : MakesObject u ls m header ys b) → x.index ≡ y.index
   lowest_once m header xs ys a b x y = elim (cases_lt x.index y.index) [
@@ -206,7 +206,7 @@ module _ (u : Setup) (js ls : Journals) (slid : u.compacted ≡ sliding.pages (l
   makes_once m header xs ys a b x y =
       let index = lowest_once m header xs ys a b x y in
       let used : used_by u js m x.index ≡ used_by u ls m y.index = ap (used_by u js m) index ∙ used_same u js ls m y.index same in (
-        x.place_is ∙ ap (λ i. address (own_page u m i) (used_by u js m x.index)) index ∙ ap (λ n. address (own_page u m y.index) n) used ∙ sym y.place_is,
+        x.address_is ∙ ap (λ i. address (own_page u m i) (used_by u js m x.index)) index ∙ ap (λ n. address (own_page u m y.index) n) used ∙ sym y.address_is,
         entries_once m (own_page u m x.index) (own_page u m y.index) Header (used_by u js m x.index) (used_by u ls m y.index) header.word x.stamp y.stamp xs ys (ap (own_page u m) index) used x.entry y.entry,
       )
 
@@ -288,7 +288,7 @@ asked_heads u js m lt heads (Some header) xs a x =
     let p = own_page u m x.index in
     let own = own_fresh u m x.index lt x.there in
     one_more u js m p Header (used_by u js m x.index) header.word x.stamp xs heads x.entry
-    (λ is. record { page = own; place = by_owner u m p own [] (js p) (heads p); ends = subst (λ (h : Head). used_by u js m x.index + size_of h ≤ 64) (sym (read_back u.heap.edition header x.edition)) x.room })
+    (λ is. record { page = own; offset_is = by_owner u m p own [] (js p) (heads p); ends = subst (λ (h : Head). used_by u js m x.index + size_of h ≤ 64) (sym (read_back u.heap.edition header x.edition)) x.room })
 
 acts_heads : (u : Setup) (js : Journals) (m : ℕ) → m < u.mutators → Headed u js → (action : Action) (registers : List ℕ) (xs : List (ℕ × Entry)) (a : ℕ) → Acts u js m action registers xs a
     → Headed u (with_entries js xs)
@@ -296,8 +296,8 @@ acts_heads u js m lt heads (Root to root) registers xs a x = none_more u js xs h
 acts_heads u js m lt heads (Load weak to object field) registers xs a x = none_more u js xs heads x.0
 acts_heads u js m lt heads (Get object field) registers xs a x = none_more u js xs heads x.0
 acts_heads u js m lt heads (Store weak object field value) registers xs a x =
-    one_more u js m (page_at x.place) (kind_if weak) (offset_at x.place) (slice_index registers value) a xs heads x.entry (λ is. absurd (no_header weak is))
-acts_heads u js m lt heads (Put object field value) registers xs a x = one_more u js m (page_at x.place) Data (offset_at x.place) value a xs heads x.entry (λ is. absurd cc)
+    one_more u js m (page_at x.word_address) (kind_if weak) (offset_at x.word_address) (slice_index registers value) a xs heads x.entry (λ is. absurd (no_header weak is))
+acts_heads u js m lt heads (Put object field value) registers xs a x = one_more u js m (page_at x.word_address) Data (offset_at x.word_address) value a xs heads x.entry (λ is. absurd cc)
 acts_heads u js m lt heads (New to refs weak data_words tag) registers xs a x =
     asked_heads u js m lt heads (header_with u.heap.edition refs weak data_words tag) xs a x
 acts_heads u js m lt heads (Nil to) registers xs a x = none_more u js xs heads x.0

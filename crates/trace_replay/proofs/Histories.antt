@@ -49,9 +49,9 @@ entry_adds journals m p kind offset value stamp new h = record {
 }
 
 -- making the object that was asked for adds one entry
-asked_adds : (u : Setup) (journals : Journals) (m : ℕ) (asked : Option Head) (new : List (ℕ × Entry)) (place : ℕ) → MakesAsked u journals m asked new place → AddsOne journals m new
-asked_adds u journals m None new place h = absurd h
-asked_adds u journals m (Some header) new place h = entry_adds journals m _ _ _ _ _ new h.entry
+asked_adds : (u : Setup) (journals : Journals) (m : ℕ) (asked : Option Head) (new : List (ℕ × Entry)) (word_address : ℕ) → MakesAsked u journals m asked new word_address → AddsOne journals m new
+asked_adds u journals m None new word_address h = absurd h
+asked_adds u journals m (Some header) new word_address h = entry_adds journals m _ _ _ _ _ new h.entry
 
 -- a line adds nothing, or one entry
 line_adds : (u : Setup) (journals : Journals) (m : ℕ) (action : Action) (registers : List ℕ) (new : List (ℕ × Entry)) (answer : ℕ) → Acts u journals m action registers new answer

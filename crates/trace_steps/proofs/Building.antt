@@ -18,7 +18,7 @@ use Rattle.comp_mutator.proofs.Sums.{times-other, total-append}
 use Rattle.comp_mutator.specs.Calls.{Grows}
 use Rattle.comp_mutator.specs.Objects.{page_at}
 use Rattle.comp_mutator.specs.Allocations.{own_page, used, Allocates}
-use Rattle.comp_mutator.specs.Fields.{place_of}
+use Rattle.comp_mutator.specs.Fields.{field_address}
 use Rattle.comp_mutator.specs.Reads.{BuildsNothing, BuildsPage, MayBuild, MayBuildTouched}
 use Rattle.trace_steps.specs.Builds.{built_after, built_by, is_built, slid_page, BuildsTouched}
 use Rattle.trace_steps.specs.Rounds.{Met}
@@ -31,20 +31,20 @@ none_there (Some header) h = absurd (h header refl)
 
 pub field_touched : (u : Setup) (old new : Pass) (kind : Kind) (object field : ℕ) → MayBuildTouched u old new kind object field → BuildsTouched (slid_page u kind object field) old new
 field_touched u old new kind object field (p, inl slid, seen) =
-    let page : Head → ℕ = λ header. page_at (place_of kind object header field) in
+    let page : Head → ℕ = λ header. page_at (field_address kind object header field) in
     subst (λ (t : Option ℕ). BuildsTouched t old new) (sym (ap (option_map page) slid.0.slid)) (subst (λ (q : ℕ). MayBuild q old new × HasSeenBuilt new q) slid.0.page_is (slid.1, seen))
 field_touched u old new kind object field (p, inr fresh, seen) =
-    let page : Head → ℕ = λ header. page_at (place_of kind object header field) in
+    let page : Head → ℕ = λ header. page_at (field_address kind object header field) in
     let none = none_there (shape_at (live u.heap) object) (λ header is. fresh.0.0.apart (header, is)) in
     subst (λ (t : Option ℕ). BuildsTouched t old new) (sym (ap (option_map page) none)) fresh.1
 
 on_page : (p o : ℕ) → o < 64 → page_at (address p o) ≡ p
 on_page p o lt = omega (arith, lt)
 
-pub made_touched : (u : Setup) (old new : Pass) (header : Head) (place : ℕ) → Allocates u old new header place → BuildsTouched (Some (page_at place)) old new
-made_touched u old new header place h =
+pub made_touched : (u : Setup) (old new : Pass) (header : Head) (word_address : ℕ) → Allocates u old new header word_address → BuildsTouched (Some (page_at word_address)) old new
+made_touched u old new header word_address h =
     let p = own_page u (number_of old) h.index in
-    let is : page_at place ≡ p = ap page_at h.place_is ∙ on_page p (used u old h.index) (let room = h.lowest.room in omega (arith, room)) in
+    let is : page_at word_address ≡ p = ap page_at h.address_is ∙ on_page p (used u old h.index) (let room = h.lowest.room in omega (arith, room)) in
     subst (λ (q : ℕ). MayBuild q old new × HasSeenBuilt new q) (sym is) (h.builds, h.built)
 
 -- ---- what was built, and one more

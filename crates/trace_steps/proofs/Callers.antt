@@ -17,7 +17,7 @@ use Rattle.trace_steps.specs.Deeds.{DidNothingYet}
 use Rattle.trace_steps.specs.AllMutators.{AreAll}
 
 pub roots_count : (heap : Heap) (roots : List ℕ) → AreForwarded heap roots → length roots ≡ length heap.roots
-roots_count heap roots h = sym (length-map roots (λ (place : ℕ). Some place)) ∙ ap length h ∙ length-map heap.roots (forward (live heap))
+roots_count heap roots h = sym (length-map roots (λ (address : ℕ). Some address)) ∙ ap length h ∙ length-map heap.roots (forward (live heap))
 
 pub all_of : {L : Type 0} {B : Type 0} {g : Ghosts B} (space : Space L B g) (n : ℕ) (mutators : List (Mutator L)) → AreMutatorsOf space mutators
     → AreNew (steps_of (cells_of space)) n (map pass_of mutators) → (setup_of space).mutators ≡ n → AreAll space mutators

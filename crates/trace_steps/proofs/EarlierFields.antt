@@ -32,6 +32,6 @@ shape_before : (u : Setup) (journals : Journals) (p : ℕ) (x : Entry) (a : ℕ)
 shape_before u journals p x a header not (inl slid) = inl slid
 shape_before u journals p x a header not (inr h) = inr (h.0, h.1, header_before u.heap.edition (journals (page_at a)) p (page_at a) x (offset_at a) header not h.2)
 
-pub field_before : (u : Setup) (journals : Journals) (p : ℕ) (x : Entry) (kind : Kind) (object field place : ℕ) → (x.kind ≡ Header → ⊥) → IsFieldOf u (with_entries journals ((p, x) ∷ [])) kind object field place
-    → IsFieldOf u journals kind object field place
-field_before u journals p x kind object field place not h = record { header = h.header; shape = shape_before u journals p x object h.header not h.shape; inside = h.inside; place_is = h.place_is }
+pub field_before : (u : Setup) (journals : Journals) (p : ℕ) (x : Entry) (kind : Kind) (object field word_address : ℕ) → (x.kind ≡ Header → ⊥) → IsFieldOf u (with_entries journals ((p, x) ∷ [])) kind object field word_address
+    → IsFieldOf u journals kind object field word_address
+field_before u journals p x kind object field word_address not h = record { header = h.header; shape = shape_before u journals p x object h.header not h.shape; inside = h.inside; address_is = h.address_is }

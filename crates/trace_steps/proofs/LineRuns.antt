@@ -130,15 +130,15 @@ module _ (table : Steps) (n i : ℕ) (first met acted last : ℕ → Pass) (line
       }
 
     wrote : (kind : Kind) (object field value stamp : ℕ) → (kind ≡ Header → ⊥) → (h : Writes u (met i) (acted i) kind object field value stamp)
-        → WritesField u journals i kind object field value ((page_at h.place, entry_of i stamp kind (offset_at h.place) value) ∷ []) stamp
+        → WritesField u journals i kind object field value ((page_at h.word_address, entry_of i stamp kind (offset_at h.word_address) value) ∷ []) stamp
     wrote kind object field value stamp apart h =
-        let p = page_at h.place in
-        let x = e p kind (offset_at h.place) value stamp h.adds in
+        let p = page_at h.word_address in
+        let x = e p kind (offset_at h.word_address) value stamp h.adds in
         record {
-          place = h.place;
-          field_of = field_before u journals p x kind object field h.place apart
-              (subst (λ (js : Journals). IsFieldOf u js kind object field h.place) (same_journals (seen (acted i)) (with_entries journals ((p, x) ∷ [])) (all p kind (offset_at h.place) value stamp h.adds).1) h.field_of);
-          entry = one_entry p kind (offset_at h.place) value stamp h.adds;
+          word_address = h.word_address;
+          field_of = field_before u journals p x kind object field h.word_address apart
+              (subst (λ (js : Journals). IsFieldOf u js kind object field h.word_address) (same_journals (seen (acted i)) (with_entries journals ((p, x) ∷ [])) (all p kind (offset_at h.word_address) value stamp h.adds).1) h.field_of);
+          entry = one_entry p kind (offset_at h.word_address) value stamp h.adds;
         }
 
     -- the used words of its own pages
@@ -148,9 +148,9 @@ module _ (table : Steps) (n i : ℕ) (first met acted last : ℕ → Pass) (line
         ap (λ (k : ℕ). filled u.heap.edition (on (own_page u k index) (did (met i)))) (line.crew_met.numbers i line.inside)
         ∙ ap (λ (l : List (ℕ × Entry)). filled u.heap.edition (on p l)) (line.before.did i line.inside) ∙ ap (filled u.heap.edition) (sym ((merged p).own i line.inside))
 
-    made : (header : Head) (place : ℕ) (h : Allocates u (met i) (acted i) header place)
-        → MakesObject u journals i header ((own_page u (number_of (met i)) h.index, entry_of i h.stamp Header (used u (met i) h.index) header.word) ∷ []) place
-    made header place h =
+    made : (header : Head) (word_address : ℕ) (h : Allocates u (met i) (acted i) header word_address)
+        → MakesObject u journals i header ((own_page u (number_of (met i)) h.index, entry_of i h.stamp Header (used u (met i) h.index) header.word) ∷ []) word_address
+    made header word_address h =
         let k = number_of (met i) in
         let number : k ≡ i = line.crew_met.numbers i line.inside in
         let there = h.lowest.there in
@@ -162,7 +162,7 @@ module _ (table : Steps) (n i : ℕ) (first met acted last : ℕ → Pass) (line
           there = subst (λ (y : ℕ). y + h.index * u.mutators < u.fresh) number there;
           room = subst (λ (y : ℕ). y + size ≤ 64) (used_is h.index) h.lowest.room;
           lower = λ j lt. subst (λ (y : ℕ). 64 < y + size) (used_is j) (h.lowest.lower j lt);
-          place_is = h.place_is ∙ ap (λ (y : ℕ). address (own_page u y h.index) (used u (met i) h.index)) number ∙ ap (λ (y : ℕ). address (own_page u i h.index) y) (used_is h.index);
+          address_is = h.address_is ∙ ap (λ (y : ℕ). address (own_page u y h.index) (used u (met i) h.index)) number ∙ ap (λ (y : ℕ). address (own_page u i h.index) y) (used_is h.index);
           stamp = h.stamp;
           entry = record {
             above = entry.above;
@@ -185,10 +185,10 @@ module _ (table : Steps) (n i : ℕ) (first met acted last : ℕ → Pass) (line
     advances (Load weak to object field) registers answer h = none (Load weak to object field) registers answer h.0 (refl, read (kind_if weak) (slice_index registers object) field answer h.0 h.1)
     advances (Get object field) registers answer h = none (Get object field) registers answer h.0 (refl, read Data (slice_index registers object) field answer h.0 h.1)
     advances (Store weak object field value) registers answer h =
-        let w = h.0 in some (page_at w.place) (kind_if weak) (offset_at w.place) (slice_index registers value) answer w.adds (Store weak object field value) registers answer
+        let w = h.0 in some (page_at w.word_address) (kind_if weak) (offset_at w.word_address) (slice_index registers value) answer w.adds (Store weak object field value) registers answer
         (wrote (kind_if weak) (slice_index registers object) field (slice_index registers value) answer (no_header weak) w)
     advances (Put object field value) registers answer h =
-        some (page_at h.place) Data (offset_at h.place) value answer h.adds (Put object field value) registers answer (wrote Data (slice_index registers object) field value answer (λ is. absurd cc) h)
+        some (page_at h.word_address) Data (offset_at h.word_address) value answer h.adds (Put object field value) registers answer (wrote Data (slice_index registers object) field value answer (λ is. absurd cc) h)
     advances (New to refs weak data_words tag) registers answer h =
         makes (header_with u.heap.edition refs weak data_words tag) (New to refs weak data_words tag) registers answer h (λ added acts. acts)
     advances (Nil to) registers answer h = none (Nil to) registers answer (ap did h.0) (refl, h.1)

@@ -93,9 +93,9 @@ unloaded u weak object field registers old new kind o r ek eo h =
     subst (λ (x : ℕ). IfErr r (FieldRefused u old new (kind_if weak) x field)) eo (subst (λ (k : Kind). IfErr r (FieldRefused u old new k o field)) ek h)
 
 -- the page on which an object was made
-asked_touched : (u : Setup) (old new : Pass) (asked : Option Head) (place : ℕ) → AllocatesAsked u old new asked place → BuildsTouched (Some (page_at place)) old new
-asked_touched u old new None place h = absurd h
-asked_touched u old new (Some header) place h = made_touched u old new header place h
+asked_touched : (u : Setup) (old new : Pass) (asked : Option Head) (word_address : ℕ) → AllocatesAsked u old new asked word_address → BuildsTouched (Some (page_at word_address)) old new
+asked_touched u old new None word_address h = absurd h
+asked_touched u old new (Some header) word_address h = made_touched u old new header word_address h
 
 -- an object was made
 pub made : (u : Setup) (to refs weak data_words tag : ℕ) (registers : List ℕ) (old new : Pass) (r : Result ℕ Refusal) → Grows old new
@@ -105,9 +105,9 @@ made u to refs weak data_words tag registers old new (Ok a) grows allocated =
 made u to refs weak data_words tag registers old new (Err refusal) grows allocated = tt
 
 -- a root was taken
-pub rooted : (u : Setup) (to root : ℕ) (registers : List ℕ) (pass : Pass) (place : ℕ) → forward (live u.heap) (get_or u.heap.roots root 0) ≡ Some place
-    → Steps u (Root to root) registers pass pass place
-rooted u to root registers pass place leads = record { grows = grows_none pass; answers = (refl, leads); builds = refl }
+pub rooted : (u : Setup) (to root : ℕ) (registers : List ℕ) (pass : Pass) (word_address : ℕ) → forward (live u.heap) (get_or u.heap.roots root 0) ≡ Some word_address
+    → Steps u (Root to root) registers pass pass word_address
+rooted u to root registers pass word_address leads = record { grows = grows_none pass; answers = (refl, leads); builds = refl }
 
 -- a register became null
 pub nulled : (u : Setup) (to : ℕ) (registers : List ℕ) (pass : Pass) → Steps u (Nil to) registers pass pass 0
@@ -134,8 +134,8 @@ shows_one number (New to refs weak data_words tag) answer = omega arith
 shows_one number (Nil to) answer = omega arith
 
 -- the forwarding address of a root
-pub leads_at : (f : ℕ → Option ℕ) (xs ys : List ℕ) → map (λ (place : ℕ). Some place) xs ≡ map f ys → (i : ℕ) → i < length ys → (i < length xs) × (f (get_or ys i 0) ≡ Some (get_or xs i 0))
+pub leads_at : (f : ℕ → Option ℕ) (xs ys : List ℕ) → map (λ (address : ℕ). Some address) xs ≡ map f ys → (i : ℕ) → i < length ys → (i < length xs) × (f (get_or ys i 0) ≡ Some (get_or xs i 0))
 leads_at f xs ys e i lt =
-    let there : get_elem? (map (λ (place : ℕ). Some place) xs) i ≡ some (f (get_or ys i 0)) = ap (λ l. get_elem? l i) e ∙ at_map f ys i (get_or ys i 0) (at_or ys i 0 lt) in
-    let x = at_map_back (λ (place : ℕ). Some place) xs i (f (get_or ys i 0)) there in
+    let there : get_elem? (map (λ (address : ℕ). Some address) xs) i ≡ some (f (get_or ys i 0)) = ap (λ l. get_elem? l i) e ∙ at_map f ys i (get_or ys i 0) (at_or ys i 0 lt) in
+    let x = at_map_back (λ (address : ℕ). Some address) xs i (f (get_or ys i 0)) there in
     (is_inside xs i x.0 x.1, sym x.2 ∙ ap (λ (n : ℕ). Some n) (sym (read_at xs i x.0 0 x.1)))

@@ -13,7 +13,7 @@ use Rattle.comp_mutator.specs.Passes.{builds_of, HasSeenBuilt}
 use Rattle.comp_mutator.specs.Setup.{Setup}
 use Rattle.comp_mutator.specs.Pass.{Pass}
 use Rattle.comp_mutator.specs.Objects.{page_at}
-use Rattle.comp_mutator.specs.Fields.{place_of}
+use Rattle.comp_mutator.specs.Fields.{field_address}
 use Rattle.comp_mutator.specs.Mutators.{pass_of}
 use Rattle.comp_mutator.specs.Reads.{BuildsNothing, MayBuild}
 use Rattle.comp_mutator.specs.declared.mutator.Mutator.{Mutator}
@@ -27,7 +27,7 @@ kind_if weak = cond weak Weak Reference
 -- the page of a field of a slid object. None for other objects: an object that a line made is on a page that is built
 -- already
 abbrev pub slid_page : Setup → Kind → ℕ → ℕ → Option ℕ
-slid_page u kind object field = option_map (λ (header : Head). page_at (place_of kind object header field)) (shape_at (live u.heap) object)
+slid_page u kind object field = option_map (λ (header : Head). page_at (field_address kind object header field)) (shape_at (live u.heap) object)
 
 -- the page that a line may have to build, if its call gave this answer: the page of a slid object's field, or of the
 -- object that the line makes

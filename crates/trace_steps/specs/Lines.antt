@@ -33,30 +33,30 @@ pub record IsOneEntry (journals : Journals) (m p : ℕ) (kind : Kind) (offset va
 
 -- A value was written into a field of an object.
 pub record WritesField (u : Setup) (journals : Journals) (m : ℕ) (kind : Kind) (object field value : ℕ) (added : List (ℕ × Entry)) (stamp : ℕ) : Type 0 where
-  pub place : ℕ
-  pub field_of : IsFieldOf u journals kind object field place
-  pub entry : IsOneEntry journals m (page_at place) kind (offset_at place) value stamp added
+  pub word_address : ℕ
+  pub field_of : IsFieldOf u journals kind object field word_address
+  pub entry : IsOneEntry journals m (page_at word_address) kind (offset_at word_address) value stamp added
 
 -- the number of words of the objects that the mutator made on its own page of this index
 abbrev pub used_by : Setup → Journals → ℕ → ℕ → ℕ
 used_by u journals m index = filled u.heap.edition (by m (journals (own_page u m index)))
 
 -- An object was made after the others on the lowest page of the mutator that has room.
-pub record MakesObject (u : Setup) (journals : Journals) (m : ℕ) (header : Head) (added : List (ℕ × Entry)) (place : ℕ) : Type 0 where
+pub record MakesObject (u : Setup) (journals : Journals) (m : ℕ) (header : Head) (added : List (ℕ × Entry)) (word_address : ℕ) : Type 0 where
   -- the header is one of the heap's edition
   pub edition : header.edition ≡ u.heap.edition
   pub index : ℕ
   pub there : m + index * u.mutators < u.fresh
   pub room : used_by u journals m index + size_of header ≤ 64
   pub lower : (i : ℕ) → i < index → 64 < used_by u journals m i + size_of header
-  pub place_is : place ≡ address (own_page u m index) (used_by u journals m index)
+  pub address_is : word_address ≡ address (own_page u m index) (used_by u journals m index)
   pub stamp : ℕ
   pub entry : IsOneEntry journals m (own_page u m index) Header (used_by u journals m index) header.word stamp added
 
 -- the edition has the header that was asked for, and an object with it was made
 abbrev pub MakesAsked : Setup → Journals → ℕ → Option Head → List (ℕ × Entry) → ℕ → Type 0
-MakesAsked u journals m None added place = ⊥
-MakesAsked u journals m (Some header) added place = MakesObject u journals m header added place
+MakesAsked u journals m None added word_address = ⊥
+MakesAsked u journals m (Some header) added word_address = MakesObject u journals m header added word_address
 
 -- What a line of mutator m answers, and the entries that it adds, if its registers hold these words and the pages have
 -- these journals.

@@ -31,9 +31,9 @@ pub(crate) fn act<L: Ledger, B: Builder>(
 {
     match action {
         Action::Root { to, root } => {
-            let place = root_at(space, root);
-            registers[usize::from(to)] = place;
-            Ok(place)
+            let reference = root_at(space, root);
+            registers[usize::from(to)] = reference;
+            Ok(reference)
         }
         Action::Load {
             weak,
@@ -73,9 +73,9 @@ pub(crate) fn act<L: Ledger, B: Builder>(
             data_words,
             tag,
         } => {
-            let place = space.try_alloc_weak(alloc, m, refs, weak, data_words, tag)?;
-            registers[usize::from(to)] = place;
-            Ok(place)
+            let reference = space.try_alloc_weak(alloc, m, refs, weak, data_words, tag)?;
+            registers[usize::from(to)] = reference;
+            Ok(reference)
         }
         Action::Nil { to } => {
             registers[usize::from(to)] = 0;

@@ -16,7 +16,7 @@ returns-then-not-is_claimed c =
     let count : c.index.result.now ≡ min (named p builds) 2 =
     c.index.ensures ∙ get_or_default counts p c.index.result.now 0 (omega (arith, c.in_ok-counts.ensures.length)) ∙ c.in_ok-counts.ensures.counts p in
     let test : is_claimed builds (p, c.index-records-p.result) ≡ false = sym (c.is_claimed.ensures builds p count) ∙ c.if-not-is_claimed.true in
-    first_here (λ (place : ℕ × Option BuiltPage). unless (is_claimed builds place) (BuildUnclaimed place.0)) p c.args.records.now c.index-records-p.result _ (omega arith)
+    first_here (λ (slot : ℕ × Option BuiltPage). unless (is_claimed builds slot) (BuildUnclaimed slot.0)) p c.args.records.now c.index-records-p.result _ (omega arith)
     c.index-records-p.is c.loop-p.invariant (BuildUnclaimed p) (ap (λ (b : Bool). unless b (BuildUnclaimed p)) test)
 
 pub loop-p-preserved : goal.loop-p-preserved
@@ -27,5 +27,5 @@ loop-p-preserved c =
     let count : c.index.result.now ≡ min (named p builds) 2 =
     c.index.ensures ∙ get_or_default counts p c.index.result.now 0 (omega (arith, c.in_ok-counts.ensures.length)) ∙ c.in_ok-counts.ensures.counts p in
     let test : is_claimed builds (p, c.index-records-p.result) ≡ true = sym (c.is_claimed.ensures builds p count) ∙ c.if-not-is_claimed.false in
-    none_here (λ (place : ℕ × Option BuiltPage). unless (is_claimed builds place) (BuildUnclaimed place.0)) p c.args.records.now c.index-records-p.result _ (omega arith)
+    none_here (λ (slot : ℕ × Option BuiltPage). unless (is_claimed builds slot) (BuildUnclaimed slot.0)) p c.args.records.now c.index-records-p.result _ (omega arith)
     c.index-records-p.is c.loop-p.invariant (ap (λ (b : Bool). unless b (BuildUnclaimed p)) test)

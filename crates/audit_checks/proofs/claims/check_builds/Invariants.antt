@@ -8,4 +8,4 @@ use Rattle.audit_checks.proofs.claims.check_builds.Given as goal
 -- the pages that are left have the faults of all
 abbrev pub invariant-loop-p : goal.invariant-loop-p
 invariant-loop-p l =
-    flat_map (λ place. unless (is_claimed (items_of l.builds) place) (BuildUnclaimed place.0)) (enumerate_from l.p (drop l.p l.records)) ≡ build_faults (items_of l.builds) l.records
+    flat_map (λ slot. unless (is_claimed (items_of l.builds) slot) (BuildUnclaimed slot.0)) (enumerate_from l.p (drop l.p l.records)) ≡ build_faults (items_of l.builds) l.records

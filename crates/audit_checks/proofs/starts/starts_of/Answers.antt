@@ -17,7 +17,7 @@ note_page-requires-clause-covered c =
     let p = c.loop-p.p in
     let lawful : IsLawful u p c.journal_of.result.now =
     subst (IsLawful u p) (journal_here c.args.records.now p c.index-records-p.result c.loop-p-test.true c.index-records-p.is ∙ sym c.journal_of.ensures) (c.requires.lawful p) in
-    headers_covered u p c.journal_of.result.now _ _ lawful (omega (arith, c.requires.places)) c.loop-p.invariant.covers.0 c.loop-p.invariant.covers.1
+    headers_covered u p c.journal_of.result.now _ _ lawful (omega (arith, c.requires.slots)) c.loop-p.invariant.covers.0 c.loop-p.invariant.covers.1
 
 pub loop-p-preserved : goal.loop-p-preserved
 loop-p-preserved c =

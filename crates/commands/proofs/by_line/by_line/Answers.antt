@@ -19,7 +19,7 @@ loop-at-init c = record {
       ∙ ap (walked 1 c.args.lines.now) (left_all c.args.runs.now);
   few = omega (arith, ap length c.requires.room.0);
   room = refl;
-  places = let none : ℕ = 0 in length-replicate 64 none;
+  slots = let none : ℕ = 0 in length-replicate 64 none;
 }
 
 pub loop-at-preserved : goal.loop-at-preserved
@@ -35,7 +35,7 @@ loop-at-preserved c =
     let by : m ≡ (let line : Line = get_or lines at no_line in line.mutator) = c.from-m.ensures in
     let within : (let line : Line = get_or lines at no_line in line.mutator < length runs) = All-get_or (λ (line : Line). line.mutator < length runs) lines at no_line lt c.requires.inside in
     let inside : m < length runs = subst (λ (k : ℕ). k < length runs) (sym by) within in
-    let few : m < length next = omega (arith, inside, i.places, c.requires.few) in
+    let few : m < length next = omega (arith, inside, i.slots, c.requires.few) in
     let step = walk_on lines runs next at m no_line c.index-runs-m.result c.shown_at.result out (walked 1 lines (shown_by runs)) lt by few inside c.index-runs-m.is c.shown_at.ensures.value i.walk in
     let behind = λ (after : List ℕ). walked (at + 1 + 1) (drop (at + 1) lines) (left_of runs after) in
     elim c.match-shown_at.branch [
@@ -48,7 +48,7 @@ loop-at-preserved c =
             walk = ap (λ (l : List Shown). l ++ behind c.match-shown_at.next) shown_at ∙ ap (λ (n : List ℕ). (out ++ listed c.shown_at.result) ++ behind n) after ∙ step;
             few = omega (arith, ap length items, length-append out (w.in-Some.value ∷ []), i.few);
             room = ap vec_capacity w.shown-is ∙ w.push_reserved.ensures.capacity ∙ i.room;
-            places = ap length w.next-is ∙ length-set next m (get_or next m 0 + 1) ∙ i.places;
+            slots = ap length w.next-is ∙ length-set next m (get_or next m 0 + 1) ∙ i.slots;
           }
       | in_default w ↦
           let is : c.shown_at.result ≡ None = none_there c.shown_at.result (λ one e. w.in_default.not-Some one e) in
@@ -59,7 +59,7 @@ loop-at-preserved c =
             walk = ap (λ (l : List Shown). l ++ behind c.match-shown_at.next) shown_at ∙ ap (λ (n : List ℕ). (out ++ listed c.shown_at.result) ++ behind n) after ∙ step;
             few = omega (arith, ap (λ (v : Vec Shown Global). length v.items) w.shown-is, i.few);
             room = ap vec_capacity w.shown-is ∙ i.room;
-            places = ap length w.next-is ∙ i.places;
+            slots = ap length w.next-is ∙ i.slots;
           }
     ]
 

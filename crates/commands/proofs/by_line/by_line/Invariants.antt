@@ -8,5 +8,5 @@ invariant-loop-at l = record {
   walk : l.shown.items ++ walked (l.at + 1) (drop l.at l.lines) (left_of l.runs l.next) ≡ walked 1 l.lines (shown_by l.runs);
   few : length l.shown.items ≤ l.at;
   room : vec_capacity l.shown ≡ vec_capacity l.fn.shown;
-  places : length l.next ≡ 64;
+  slots : length l.next ≡ 64;
 }

@@ -6,7 +6,7 @@ use Rattle.cell_steps.specs.Passes.{KnowsFresh, seen}
 use Rattle.page_cells.specs.Cells.{setup_of}
 use Rattle.page_cells.specs.Objects.{page_at, HasShape, HasFields}
 use Rattle.comp_access.specs.Reads.{BuildsNothing}
-use Rattle.comp_access.proofs.FieldPlaces as places
+use Rattle.comp_access.proofs.FieldAddresses as places
 use Rattle.comp_access.proofs.Growing.{fresh_more}
 use Rattle.comp_access.proofs.KnownStarts.{knows_fresh}
 use Rattle.comp_access.proofs.finding.fresh_field.Goals as goal
@@ -24,7 +24,7 @@ returns-in-Some-clause-found g c =
     let word = header_read c.edition.ensures c.from_word_of.ensures in
     let fresh = fresh_more u c.args.pass.now c.load.new.pass c.load.ensures.grows.0 c.args.name.object c.requires.fresh in
     let found = c.in-Some.ensures.some in
-    places.fresh_field u c.load.new.pass c.args.name.kind c.args.name.object c.args.name.field c.from_word_of.result c.in-Some.place (address c.page_at.result c.offset_at.result) fresh here
+    places.fresh_field u c.load.new.pass c.args.name.kind c.args.name.object c.args.name.field c.from_word_of.result c.in-Some.address (address c.page_at.result c.offset_at.result) fresh here
     (subst (λ w. HasShape u (seen c.load.new.pass) (address c.page_at.result c.offset_at.result) w) (sym word) s.0) (subst (λ w. HasFields u (seen c.load.new.pass) (address c.page_at.result c.offset_at.result) w) (sym word) s.1)
     (omega (arith, s.2, c.offset_at.ensures.offset, ap size_of word)) found.0 found.1
 
@@ -39,5 +39,5 @@ returns-in-None-clause-refused g c =
     let unbuilt : BuildsNothing c.args.pass.now c.load.new.pass = ⊎_elim (λ none. none) (λ built. absurd (built.1 (inr (c.offset_at.result, known)))) c.in-Ok.ensures.builds in (
       knows_fresh _ _ c.load.new.pass c.load.ensures.of.0 c.args.name.object fresh,
       record { header = c.from_word_of.result; shape = at; outside = c.in-None.ensures.none; slid = λ other own. absurd (fresh.apart (other, own)) },
-      (unbuilt, λ place. absurd (fresh.apart place)),
+      (unbuilt, λ word_address. absurd (fresh.apart word_address)),
     )

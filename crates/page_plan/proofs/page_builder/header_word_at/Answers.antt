@@ -11,6 +11,6 @@ returns c =
     let words : c.words.result.now ≡ heap.words = cc in
     let closed : IsClosed heap = rw c.heap.ensures at c.words.ensures.closed in
     let same : c.args.start ≡ c.args.start + cursor.within = omega (arith, c.requires.first) in
-    let kept = word-kept heap closed cursor.number cursor.within c.args.start cursor.place Header c.requires.known c.requires.start
+    let kept = word-kept heap closed cursor.number cursor.within c.args.start cursor.new_index Header c.requires.known c.requires.start
     (c.requires.at.at c.requires.known) c.requires.first refl (c.requires.at.inside c.requires.known) in
     ap (λ (ws : List ℕ). slice_index ws c.args.start) words ∙ ap (slice_index heap.words) same ∙ sym kept

@@ -5,8 +5,8 @@ use Rattle.page_plan.specs.Sliding.{forwarded}
 use Rattle.page_plan.proofs.Objects.{reference-target, word-led}
 use Rattle.page_plan.proofs.page_builder.reference_at.Goals as goal
 
-pub place_of-requires : goal.place_of-requires
-place_of-requires c =
+pub forward_word-requires : goal.forward_word-requires
+forward_word-requires c =
     let heap = c.args.plan.now in
     let cursor = c.args.cursor in
     let words : c.words.result.now ≡ heap.words = cc in
@@ -22,7 +22,7 @@ returns c =
     let words : c.words.result.now ≡ heap.words = cc in
     let closed : IsClosed heap = rw c.heap.ensures at c.words.ensures.closed in
     let ends = rw c.requires.start at c.requires.ends in
-    let led = word-led heap closed cursor.number cursor.within c.args.start cursor.place Reference c.requires.known c.requires.start
+    let led = word-led heap closed cursor.number cursor.within c.args.start cursor.new_index Reference c.requires.known c.requires.start
     (c.requires.at.at c.requires.known) (cursor.within - 1, omega (arith, c.requires.behind), omega (arith, c.requires.behind, ends, c.requires.before)) refl in
-    sym (ap (λ (place : Option ℕ). unwrap_or place 0) c.place_of.ensures)
+    sym (ap (λ (new_index : Option ℕ). unwrap_or new_index 0) c.forward_word.ensures)
     ∙ ap (λ (ws : List ℕ). forwarded (live heap) (slice_index ws (c.args.start + cursor.within))) words ∙ sym led

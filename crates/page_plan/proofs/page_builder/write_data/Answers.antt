@@ -11,7 +11,7 @@ returns c =
     let cursor = c.args.cursor in
     let words : c.words-words.result.now ≡ heap.words = cc in
     let closed : IsClosed heap = rw c.heap.ensures at c.words-words.ensures.closed in
-    let more = c.args.end - cursor.place in
-    written-copied (slid_words (live heap)) c.args.begin cursor.place c.args.end c.args.page.now c.copy_in.new.self _ c.requires.written c.requires.begun c.requires.before
+    let more = c.args.end - cursor.new_index in
+    written-copied (slid_words (live heap)) c.args.begin cursor.new_index c.args.end c.args.page.now c.copy_in.new.self _ c.requires.written c.requires.begun c.requires.before
     (omega arith) c.copy_in.ensures.long c.copy_in.ensures.written c.copy_in.ensures.before c.copy_in.ensures.behind
-    (rw words (slid-data heap closed cursor.number cursor.within c.args.start cursor.place more c.requires.known c.requires.start ((c.requires.at (omega arith)).at c.requires.known) c.requires.inside (c.requires.others (omega arith))))
+    (rw words (slid-data heap closed cursor.number cursor.within c.args.start cursor.new_index more c.requires.known c.requires.start ((c.requires.at (omega arith)).at c.requires.known) c.requires.inside (c.requires.others (omega arith))))

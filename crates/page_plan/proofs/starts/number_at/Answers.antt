@@ -7,7 +7,7 @@ use Rattle.page_plan.proofs.starts.number_at.Goals as goal
 pub returns : goal.returns
 returns c =
     let objects = live c.args.plan.now in
-    let n = c.args.place in
+    let n = c.args.new_index in
     let bits = c.starts.result.now in
     let firsts = c.first_objects.result.now in
     let (k, covers) = covered objects n c.requires in

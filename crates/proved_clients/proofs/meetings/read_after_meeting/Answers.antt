@@ -41,7 +41,7 @@ returns g c =
       last_remembers_b = c.meet-2.ensures.of.1.remembers;
     } all in
     let grows : (p : ℕ) → StartsWith (seen read p) (seen wrote p) = λ p. subst (λ l. StartsWith l (seen wrote p)) (sym (same p)) (starts-refl (seen wrote p)) in
-    let one = c.places_are_one.ensures (seen wrote) (seen read) grows (λ p. (r.ensures.of.remembers p).lawful) Data object field in
+    let one = c.fields_keep_their_addresses.ensures (seen wrote) (seen read) grows (λ p. (r.ensures.of.remembers p).lawful) Data object field in
     record {
       read = both_ok w.result r.result (Writes u old wrote Data object field c.args.value) (Reads u (seen read) Data object field) (λ word. word ≡ c.args.value) w.ensures.wrote r.ensures.read
           (λ stamp word. reads_back u old wrote read Data object field c.args.value stamp word same one (c.last_written.ensures u));

@@ -10,28 +10,28 @@ use Rattle.trace_race.proofs.chains.chained.Goals as goal
 abbrev no_line : Line
 no_line = record { mutator = 0; action = Root 0 0 }
 
-pub loop-place-init : goal.loop-place-init
-loop-place-init c =
+pub loop-position-init : goal.loop-position-init
+loop-position-init c =
     let n = length c.args.lines.now in
     let long = ap length (c.in_ok-nexts.ensures.items_if_clones_equal (λ y same. same)) ∙ length-replicate {A = ℕ} n 0 in
     chained_none c.args.lines.now _ _ _ (length-replicate {A = ℕ} 256 n, length-replicate {A = ℕ} 256 0) long (λ i lt. get_or-replicate {A = ℕ} 256 i n 0 lt) (λ i lt. get_or-replicate {A = ℕ} 256 i 0 0 lt)
 
-pub loop-place-preserved : goal.loop-place-preserved
-loop-place-preserved c =
-    let l = c.loop-place in
+pub loop-position-preserved : goal.loop-position-preserved
+loop-position-preserved c =
+    let l = c.loop-position in
     let lines = c.args.lines.now in
-    let k = l.place - 1 in
+    let k = l.position - 1 in
     let line = get_or lines k no_line in
-    let one : l.place ≡ k + 1 = omega (arith, c.loop-place-test.true) in
+    let one : l.position ≡ k + 1 = omega (arith, c.loop-position-test.true) in
     let at = at_or lines k no_line (omega (arith, one, l.invariant.within)) in
-    chained_more lines k line at l.firsts l.counts l.nexts.items (omega (arith, c.loop-place-test.element_fits.fits)) (subst (λ (p : ℕ). ChainedFrom lines p l.firsts l.counts l.nexts.items) one l.invariant)
+    chained_more lines k line at l.firsts l.counts l.nexts.items (omega (arith, c.loop-position-test.element_fits.fits)) (subst (λ (p : ℕ). ChainedFrom lines p l.firsts l.counts l.nexts.items) one l.invariant)
 
 -- a mutator has no more lines than there are
 pub overflow_add-counts : goal.overflow_add-counts
 overflow_add-counts c =
-    let l = c.loop-place in
+    let l = c.loop-position in
     let lines = c.args.lines.now in
-    let k = l.place - 1 in
+    let k = l.position - 1 in
     let number = (get_or lines k no_line).mutator in
-    let counted = l.invariant.count number (omega (arith, c.loop-place-test.element_fits.fits)) in
-    omega (arith, counted, few_own number (l.place + 1) (drop l.place lines), length-drop l.place lines)
+    let counted = l.invariant.count number (omega (arith, c.loop-position-test.element_fits.fits)) in
+    omega (arith, counted, few_own number (l.position + 1) (drop l.position lines), length-drop l.position lines)

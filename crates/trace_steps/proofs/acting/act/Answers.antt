@@ -27,12 +27,12 @@ returns-in-Root g c =
     let u = setup_of c.args.space.now in
     let old = pass_of c.args.m.now in
     let registers = c.args.registers.now in
-    let place = c.root_at-place.result in
+    let reference = c.root_at-reference.result in
     let is = sym c.in-Root.is in
     record {
       of = c.requires.of;
-      went = subst (λ (a : Action). Steps u a registers old old place) is (rooted u c.in-Root.to c.in-Root.root registers old place c.root_at-place.ensures);
-      registers = ap (λ to. set registers to place) c.from.ensures ∙ ap (λ (a : Action). registers_after a registers place) is;
+      went = subst (λ (a : Action). Steps u a registers old old reference) is (rooted u c.in-Root.to c.in-Root.root registers old reference c.root_at-reference.ensures);
+      registers = ap (λ to. set registers to reference) c.from.ensures ∙ ap (λ (a : Action). registers_after a registers reference) is;
       grows = tt;
       did = tt;
       refused = tt;
@@ -73,19 +73,19 @@ returns-in-Ok g c =
       refused = tt;
     }
 
-pub returns-in_ok-place-in-New : goal.returns-in_ok-place-in-New
-returns-in_ok-place-in-New g c =
+pub returns-in_ok-reference-in-New : goal.returns-in_ok-reference-in-New
+returns-in_ok-reference-in-New g c =
     let u = setup_of c.args.space.now in
     let old = pass_of c.args.m.now in
     let registers = c.args.registers.now in
     let new = pass_of c.try_alloc_weak.new.m in
-    let place = c.in_ok-place-in-New.place in
-    let allocated = c.in_ok-place-in-New.ensures.allocated in
+    let reference = c.in_ok-reference-in-New.reference in
+    let allocated = c.in_ok-reference-in-New.ensures.allocated in
     let is = sym c.in-New.is in
     record {
       of = c.try_alloc_weak.ensures.of;
-      went = subst (λ (a : Action). Steps u a registers old new place) is (made u c.in-New.to c.in-New.refs c.in-New.weak c.in-New.data_words c.in-New.tag registers old new (Ok place) c.try_alloc_weak.ensures.grows allocated);
-      registers = ap (λ to. set registers to place) c.from-in-New.ensures ∙ ap (λ (a : Action). registers_after a registers place) is;
+      went = subst (λ (a : Action). Steps u a registers old new reference) is (made u c.in-New.to c.in-New.refs c.in-New.weak c.in-New.data_words c.in-New.tag registers old new (Ok reference) c.try_alloc_weak.ensures.grows allocated);
+      registers = ap (λ to. set registers to reference) c.from-in-New.ensures ∙ ap (λ (a : Action). registers_after a registers reference) is;
       grows = tt;
       did = tt;
       refused = tt;
@@ -157,8 +157,8 @@ returns-in-Put g c =
           (subst (λ (o : ℕ). IfErr r (DataRefused u old new Data o field)) object.ensures told.refused);
     }
 
-pub returns-in_err-place-in-New : goal.returns-in_err-place-in-New
-returns-in_err-place-in-New g c =
+pub returns-in_err-reference-in-New : goal.returns-in_err-reference-in-New
+returns-in_err-reference-in-New g c =
     let u = setup_of c.args.space.now in
     let old = pass_of c.args.m.now in
     let new = pass_of c.try_alloc_weak.new.m in
@@ -166,14 +166,14 @@ returns-in_err-place-in-New g c =
     let back = c.from_residual.result in
     let none = c.from_residual.ensures.0 in
     let same = c.from_residual.ensures.1 in
-    let why = c.in_err-place-in-New.ensures in
+    let why = c.in_err-reference-in-New.ensures in
     record {
       of = c.try_alloc_weak.ensures.of;
       went = IfOk-from_err back _ none;
       registers = IfOk-from_err back _ none;
       grows = on_err back (Grows old new) c.try_alloc_weak.ensures.grows;
       did = on_err back ((did new ≡ did old) × (registers ≡ registers)) (why.did.0, refl);
-      refused = subst (λ (a : Action). IfErr back (Refuses u a registers old new)) (sym c.in-New.is) (err_anyway back _ c.in_err-place-in-New.field-0.0 same why.refused);
+      refused = subst (λ (a : Action). IfErr back (Refuses u a registers old new)) (sym c.in-New.is) (err_anyway back _ c.in_err-reference-in-New.field-0.0 same why.refused);
     }
 
 pub held-requires : goal.held-requires
@@ -191,8 +191,8 @@ held-requires-in-Store g c = (subst (Fits (setup_of c.args.space.now)) c.in-Stor
 pub held-requires-in-Put : goal.held-requires-in-Put
 held-requires-in-Put g c = subst (Fits (setup_of c.args.space.now)) c.in-Put.is c.requires.fits
 
-pub root_at-place-requires-after_bounds : goal.root_at-place-requires-after_bounds
-root_at-place-requires-after_bounds g c κs within = (subst (Fits (setup_of c.args.space.now)) c.in-Root.is c.requires.fits).1
+pub root_at-reference-requires-after_bounds : goal.root_at-reference-requires-after_bounds
+root_at-reference-requires-after_bounds g c κs within = (subst (Fits (setup_of c.args.space.now)) c.in-Root.is c.requires.fits).1
 
 pub bounds-registers-from : goal.bounds-registers-from
 bounds-registers-from g c = subst (λ n. n < 16) (sym c.from.ensures) (subst (Fits (setup_of c.args.space.now)) c.in-Root.is c.requires.fits).0

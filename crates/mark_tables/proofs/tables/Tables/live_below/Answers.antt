@@ -1,6 +1,6 @@
 use Rattle.std.proofs.Common.{ℕ, ◌<◌, ◌≤◌, ◌*◌, ◌∙◌, List, length, ap, sym, arith}
 use Rattle.mark_tables.specs.LiveWords.{live_below}
-use Rattle.mark_tables.proofs.Places.{below-few, below-all, counted-below}
+use Rattle.mark_tables.proofs.NewPlaces.{below-few, below-all, counted-below}
 use Rattle.mark_tables.proofs.tables.Tables.live_below.Goals as goal
 
 pub overflow_add-index : goal.overflow_add-index

@@ -8,8 +8,8 @@ use Rattle.page_plan.proofs.plan.Plan.is_start.Goals as goal
 pub returns-then-address-lt-TO_SPACE : goal.returns-then-address-lt-TO_SPACE
 returns-then-address-lt-TO_SPACE c = sym (ap is_some (shape-below c.args.self.now c.args.address (omega arith)))
 
-pub returns-then-place-starts : goal.returns-then-place-starts
-returns-then-place-starts c = sym (ap is_some (shape-behind c.args.self.now c.args.address (omega (arith, c.starts.ensures.starts.long))))
+pub returns-then-new_index-starts : goal.returns-then-new_index-starts
+returns-then-new_index-starts c = sym (ap is_some (shape-behind c.args.self.now c.args.address (omega (arith, c.starts.ensures.starts.long))))
 
 pub returns : goal.returns
 returns c =
