@@ -4,7 +4,7 @@ use Rattle.std.proofs.Math.Path.{fun_ext}
 use Rattle.comp_history.specs.Setup.{Setup}
 use Rattle.comp_dump.specs.Dumped.{BuiltPage}
 use Rattle.comp_dump.specs.declared.fault.AuditFault.{AuditFault}
-use Rattle.audit_checks.specs.declared.fault.Stop.{Stop}
+use Rattle.audit_checks.specs.declared.fault.CheckEnd.{CheckEnd}
 use Rattle.audit_checks.specs.Checks.{all_entries, all_stamps, each_built, is_led, is_made_before, is_forwarding_address, is_start, late_faults, missing_faults, reference_faults, repeat_faults}
 use Rattle.audit_checks.specs.Reported.{history_faults, Reports}
 use Rattle.audit_checks.specs.Noted.{is_noted_before, leads, Notes, Stamped}
@@ -31,18 +31,18 @@ module _ (u : Setup) (records : List (Option BuiltPage)) (starts : Stamped) (not
   none_loose none = ap loose (sym leads_are) ∙ none
 
   -- the check of references ends early, or that of stamps does, or all are passed up to the last
-  pub references_end : (why : Stop) → Reports (loose (leads u.heap starts)) (Err why) → Reports (history_faults u records) (Err why)
+  pub references_end : (why : CheckEnd) → Reports (loose (leads u.heap starts)) (Err why) → Reports (history_faults u records) (Err why)
   references_end why reported =
       reports_first (loose (is_start u.heap (all_entries records))) _ why (subst (λ (f : ℕ → Bool). Reports (loose f) (Err why)) leads_are reported)
 
-  pub stamps_end : (why : Stop) → loose (leads u.heap starts) ≡ [] → Reports stamp_faults (Err why) → Reports (history_faults u records) (Err why)
+  pub stamps_end : (why : CheckEnd) → loose (leads u.heap starts) ≡ [] → Reports stamp_faults (Err why) → Reports (history_faults u records) (Err why)
   stamps_end why none reported =
       reports_then (loose (is_start u.heap (all_entries records))) _ (Err why) (none_loose none)
       (subst (λ (l : List AuditFault). Reports l (Err why))
       (append_assoc (repeat_faults (all_stamps records)) (missing_faults (all_stamps records)) (late (is_made_before (all_entries records))))
       (reports_first stamp_faults (late (is_made_before (all_entries records))) why reported))
 
-  pub late_end : (result : Result (Unit {0}) Stop) → loose (leads u.heap starts) ≡ [] → stamp_faults ≡ [] → Reports (late (is_noted_before starts)) result
+  pub late_end : (result : Result (Unit {0}) CheckEnd) → loose (leads u.heap starts) ≡ [] → stamp_faults ≡ [] → Reports (late (is_noted_before starts)) result
       → Reports (history_faults u records) result
   late_end result none stamps reported =
       let both = none_both (repeat_faults (all_stamps records)) (missing_faults (all_stamps records)) stamps in

@@ -6,8 +6,8 @@ use Rattle.std.proofs.Math.Seq.{drop-cons}
 use Rattle.std.proofs.lemmas.List.{take_more}
 use Rattle.std.proofs.lemmas.List.Concat.{flat_map-append}
 use Rattle.comp_dump.specs.declared.fault.AuditFault.{AuditFault}
-use Rattle.audit_checks.specs.declared.fault.Stop.{Stop}
-use Rattle.audit_checks.specs.declared.fault.Stop.TheVariants as stop
+use Rattle.audit_checks.specs.declared.fault.CheckEnd.{CheckEnd}
+use Rattle.audit_checks.specs.declared.fault.CheckEnd.TheVariants as stop
 use Rattle.audit_checks.specs.Checks.{unless}
 use Rattle.audit_checks.specs.Reported.{IsFirst, Reports}
 
@@ -29,12 +29,12 @@ first_part [] others fault h = absurd h
 first_part (first ∷ rest) others fault h = h
 
 -- a check that ends early ends all that follow it
-pub reports_first : (one others : List AuditFault) (why : Stop) → Reports one (Err why) → Reports (one ++ others) (Err why)
-reports_first one others stop.Memory h = tt
+pub reports_first : (one others : List AuditFault) (why : CheckEnd) → Reports one (Err why) → Reports (one ++ others) (Err why)
+reports_first one others stop.OutOfMemory h = tt
 reports_first one others (stop.Fault fault) h = first_part one others fault h
 
 -- after a check that passes, the next one answers
-pub reports_then : (one others : List AuditFault) (result : Result (Unit {0}) Stop) → one ≡ [] → Reports others result → Reports (one ++ others) result
+pub reports_then : (one others : List AuditFault) (result : Result (Unit {0}) CheckEnd) → one ≡ [] → Reports others result → Reports (one ++ others) result
 reports_then one others result none h = subst (λ (front : List AuditFault). Reports (front ++ others) result) (sym none) h
 
 -- two parts have no fault if both together have none

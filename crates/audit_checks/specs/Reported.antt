@@ -5,8 +5,8 @@ use Rattle.comp_history.specs.Setup.{Setup}
 use Rattle.comp_dump.specs.Dumped.{BuiltPage}
 use Rattle.audit_checks.specs.Checks.{all_entries, all_stamps, each_built, head_faults, build_faults, journal_faults, word_faults, is_start, reference_faults, repeat_faults, missing_faults, is_made_before, is_led, late_faults, total_faults}
 use Rattle.comp_dump.specs.declared.fault.AuditFault.{AuditFault}
-use Rattle.audit_checks.specs.declared.fault.Stop.{Stop}
-use Rattle.audit_checks.specs.declared.fault.Stop.TheVariants as stop
+use Rattle.audit_checks.specs.declared.fault.CheckEnd.{CheckEnd}
+use Rattle.audit_checks.specs.declared.fault.CheckEnd.TheVariants as stop
 
 -- checks 2, 3 and 4: the faults of single pages
 abbrev pub page_faults : Setup → List (List ℕ) → List (Option BuiltPage) → List AuditFault
@@ -37,7 +37,7 @@ IsFirst [] fault = ⊥
 IsFirst (first ∷ others) fault = fault ≡ first
 
 -- a check passes if there is no fault, and else answers the first; it may end early if memory runs out
-abbrev pub Reports : List AuditFault → Result (Unit {0}) Stop → Type 0
+abbrev pub Reports : List AuditFault → Result (Unit {0}) CheckEnd → Type 0
 Reports list (Ok _) = list ≡ []
-Reports list (Err stop.Memory) = Unit {0}
+Reports list (Err stop.OutOfMemory) = Unit {0}
 Reports list (Err (stop.Fault fault)) = IsFirst list fault

@@ -9,7 +9,7 @@ ghost use Rattle.audit_checks.specs.Noted.{setup_at};
 ghost use Rattle.audit_checks.specs.Reported.{faults_for, history_faults, page_faults, Reports};
 
 use crate::claims::check_builds;
-use crate::fault::Stop;
+use crate::fault::CheckEnd;
 use crate::head::check_head;
 use crate::journals::check_journals;
 use crate::late::check_late;
@@ -31,7 +31,7 @@ pub fn check(
     builds: &[Vec<u32>],
     records: &[Option<DumpedPage<'_>>],
     total: u64,
-) -> Result<(), Stop>
+) -> Result<(), CheckEnd>
     requires some { 0 < setting.mutators }
     requires few { length records.now ≤ 20480 }
     requires pages { All (IsStoredRecord setting.edition setting.mutators) records.now }
@@ -50,7 +50,7 @@ fn check_pages(
     setting: Setting<'_>,
     builds: &[Vec<u32>],
     records: &[Option<DumpedPage<'_>>],
-) -> Result<(), Stop>
+) -> Result<(), CheckEnd>
     requires some { 0 < setting.mutators }
     requires few { length records.now ≤ 20480 }
     requires slots { length records.now ≡ pages (setup_at setting) }
@@ -68,7 +68,7 @@ fn check_history(
     alloc: Global,
     setting: Setting<'_>,
     records: &[Option<DumpedPage<'_>>],
-) -> Result<(), Stop>
+) -> Result<(), CheckEnd>
     requires few { length records.now ≤ 20480 }
     requires slots { length records.now ≡ pages (setup_at setting) }
     requires pages { All (IsStoredRecord setting.edition setting.mutators) records.now }

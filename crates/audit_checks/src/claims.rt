@@ -7,7 +7,7 @@ ghost use Rattle.audit_checks.specs.Checks.{build_faults, is_claimed};
 ghost use Rattle.comp_dump.specs.Dumped.{IsStoredList};
 ghost use Rattle.audit_checks.specs.Reported.{Reports};
 
-use crate::fault::Stop;
+use crate::fault::CheckEnd;
 use comp_dump::{AuditFault, DumpedPage};
 use std::alloc::{AllocError, Global};
 
@@ -16,7 +16,7 @@ pub fn check_builds(
     alloc: Global,
     builds: &[Vec<u32>],
     records: &[Option<DumpedPage<'_>>],
-) -> Result<(), Stop>
+) -> Result<(), CheckEnd>
     requires few { length records.now ≤ 20480 }
     requires builds { All (IsStoredList (length records.now)) (items_of builds.now) }
     ensures { Reports (build_faults (items_of builds.now) records.now) result }
@@ -24,7 +24,7 @@ pub fn check_builds(
     let counts = count_builds(alloc, records.len(), builds)?;
     for (p, slot) in records.iter().enumerate() {
         if !is_claimed(counts[p], slot) {
-            return Err(Stop::Fault(AuditFault::BuildUnclaimed(p as u64)));
+            return Err(CheckEnd::Fault(AuditFault::BuildUnclaimed(p as u64)));
         }
     }
     Ok(())

@@ -1,6 +1,6 @@
 //! Why a check of a dump ends early.
 ghost use Rattle.std.specs.Prelude.{◌≡◌};
-ghost use Rattle.audit_checks.specs.declared.fault.Stop.TheVariants as stop;
+ghost use Rattle.audit_checks.specs.declared.fault.CheckEnd.TheVariants as stop;
 
 use comp_dump::AuditFault;
 use heap_layout::OutOfMemory;
@@ -8,33 +8,33 @@ use std::alloc::{AllocError, AllocFailed};
 
 /// Why a check ends early: an allocation failed, or there is a fault.
 #[derive(Clone, Copy)]
-pub enum Stop {
+pub enum CheckEnd {
     /// An allocation failed.
-    Memory,
+    OutOfMemory,
     /// The first fault of the check.
     Fault(AuditFault),
 }
 
-impl From<AllocError> for Stop {
-    ghost from_gives = { λ _ given. given ≡ stop.Memory };
+impl From<AllocError> for CheckEnd {
+    ghost from_gives = { λ _ given. given ≡ stop.OutOfMemory };
 
-    fn from(_error: AllocError) -> Stop {
-        Stop::Memory
+    fn from(_error: AllocError) -> CheckEnd {
+        CheckEnd::OutOfMemory
     }
 }
 
-impl From<OutOfMemory> for Stop {
-    ghost from_gives = { λ _ given. given ≡ stop.Memory };
+impl From<OutOfMemory> for CheckEnd {
+    ghost from_gives = { λ _ given. given ≡ stop.OutOfMemory };
 
-    fn from(_error: OutOfMemory) -> Stop {
-        Stop::Memory
+    fn from(_error: OutOfMemory) -> CheckEnd {
+        CheckEnd::OutOfMemory
     }
 }
 
-impl<T: Drop> From<AllocFailed<T>> for Stop {
-    ghost from_gives = { λ _ given. given ≡ stop.Memory };
+impl<T: Drop> From<AllocFailed<T>> for CheckEnd {
+    ghost from_gives = { λ _ given. given ≡ stop.OutOfMemory };
 
-    fn from(_failed: AllocFailed<T>) -> Stop {
-        Stop::Memory
+    fn from(_failed: AllocFailed<T>) -> CheckEnd {
+        CheckEnd::OutOfMemory
     }
 }

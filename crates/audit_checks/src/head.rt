@@ -5,7 +5,7 @@ ghost use Rattle.audit_checks.specs.Checks.{head_faults, is_edition};
 ghost use Rattle.audit_checks.specs.Reported.{Reports};
 ghost use Rattle.audit_checks.specs.Noted.{setup_at};
 
-use crate::fault::Stop;
+use crate::fault::CheckEnd;
 use crate::setting::Setting;
 use comp_dump::{AuditFault, DumpedPage};
 use heap_layout::Edition;
@@ -18,21 +18,21 @@ pub fn check_head(
     setting: Setting<'_>,
     roots: &[u64],
     records: &[Option<DumpedPage<'_>>],
-) -> Result<(), Stop>
+) -> Result<(), CheckEnd>
     requires { length records.now ≤ 20480 }
     ensures reported { Reports (head_faults (setup_at setting.entry) setting.entry.edition roots.now records.now) result }
     ensures slots { OnOk result (length records.now ≡ pages (setup_at setting.entry)) }
 {
     let plan = setting.plan;
     if !is_edition(setting.edition, plan.heap().edition()) {
-        return Err(Stop::Fault(AuditFault::WrongHead));
+        return Err(CheckEnd::Fault(AuditFault::WrongHead));
     }
     if records.len() as u64 != plan.pages() + u64::from(setting.fresh) {
-        return Err(Stop::Fault(AuditFault::WrongHead));
+        return Err(CheckEnd::Fault(AuditFault::WrongHead));
     }
     let forwarded = plan.forward_roots(alloc)?;
     if roots != forwarded.as_slice() {
-        return Err(Stop::Fault(AuditFault::WrongHead));
+        return Err(CheckEnd::Fault(AuditFault::WrongHead));
     }
     Ok(())
 }

@@ -10,7 +10,7 @@ ghost use Rattle.comp_dump.specs.Dumped.{IsStoredEntry, IsStoredRecord};
 ghost use Rattle.audit_checks.specs.Reported.{Reports};
 ghost use Rattle.audit_checks.specs.Noted.{setup_at};
 
-use crate::fault::Stop;
+use crate::fault::CheckEnd;
 use crate::kinds::{is_of, is_word_of};
 use crate::setting::Setting;
 use comp_dump::{AuditFault, DumpedPage};
@@ -24,7 +24,7 @@ pub fn check_journals(
     alloc: Global,
     setting: Setting<'_>,
     records: &[Option<DumpedPage<'_>>],
-) -> Result<(), Stop>
+) -> Result<(), CheckEnd>
     requires some { 0 < setting.mutators }
     requires few { length records.now ≤ 20480 }
     requires slots { length records.now ≡ pages (setup_at setting) }
@@ -40,7 +40,7 @@ pub fn check_journals(
 }
 
 // Checks that the journal of page `p` is lawful, and that its stamps rise.
-fn check_journal(alloc: Global, setting: Setting<'_>, p: u64, journal: &[Entry]) -> Result<(), Stop>
+fn check_journal(alloc: Global, setting: Setting<'_>, p: u64, journal: &[Entry]) -> Result<(), CheckEnd>
     requires some { 0 < setting.mutators }
     requires inside { p < pages (setup_at setting) }
     requires stored { All (IsStoredEntry setting.edition setting.mutators) journal.now }
@@ -55,7 +55,7 @@ fn check_journal(alloc: Global, setting: Setting<'_>, p: u64, journal: &[Entry])
 }
 
 // The same for a compacted page.
-fn check_compacted(setting: Setting<'_>, p: u64, journal: &[Entry]) -> Result<(), Stop>
+fn check_compacted(setting: Setting<'_>, p: u64, journal: &[Entry]) -> Result<(), CheckEnd>
     requires compacted { p < (setup_at setting).compacted }
     requires stored { All (IsStoredEntry setting.edition setting.mutators) journal.now }
     ensures { Reports (entry_faults (setup_at setting.entry) p 0 0 [] journal.now) result }
@@ -67,7 +67,7 @@ fn check_compacted(setting: Setting<'_>, p: u64, journal: &[Entry]) -> Result<()
     let mut low = 0;
     for (k, &entry) in journal.iter().enumerate() {
         if u128::from(entry.stamp) < low || !may_change(&kinds, entry) {
-            return Err(Stop::Fault(AuditFault::BadEntry(p, k as u64)));
+            return Err(CheckEnd::Fault(AuditFault::BadEntry(p, k as u64)));
         }
         low = u128::from(entry.stamp) + 1;
     }
@@ -98,7 +98,7 @@ fn check_fresh(
     number: u32,
     p: u64,
     journal: &[Entry],
-) -> Result<(), Stop>
+) -> Result<(), CheckEnd>
     requires some { 0 < setting.mutators }
     requires number { p ≡ fresh_page (setup_at setting) number }
     requires fresh { number < setting.fresh }
@@ -112,7 +112,7 @@ fn check_fresh(
         if u128::from(entry.stamp) < low
             || !may_follow(&kinds, edition, number, entry, setting.mutators)
         {
-            return Err(Stop::Fault(AuditFault::BadEntry(p, k as u64)));
+            return Err(CheckEnd::Fault(AuditFault::BadEntry(p, k as u64)));
         }
         add_kinds(&mut kinds, edition, entry);
         low = u128::from(entry.stamp) + 1;

@@ -6,7 +6,7 @@ ghost use Rattle.audit_checks.specs.Noted.{is_noted_before, IsEarliest};
 ghost use Rattle.comp_dump.specs.declared.fault.AuditFault.{AuditFault};
 ghost use Rattle.comp_dump.specs.declared.fault.AuditFault.TheVariants.{BadEntry};
 
-use crate::fault::Stop;
+use crate::fault::CheckEnd;
 use crate::record::journal_of;
 use crate::starts::Starts;
 use comp_dump::{AuditFault, DumpedPage};
@@ -27,12 +27,12 @@ pub fn check_late(
     plan: &Plan,
     starts: &Starts,
     records: &[Option<DumpedPage<'_>>],
-) -> Result<(), Stop>
+) -> Result<(), CheckEnd>
     ensures { Reports (late_faults (is_led plan.now (is_noted_before starts.now)) records.now) result }
 {
     match earliest(plan, starts, records) {
         None => Ok(()),
-        Some(late) => Err(Stop::Fault(AuditFault::BadEntry(late.page, late.number))),
+        Some(late) => Err(CheckEnd::Fault(AuditFault::BadEntry(late.page, late.number))),
     }
 }
 

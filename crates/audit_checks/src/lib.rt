@@ -17,5 +17,5 @@ mod starts;
 mod totals;
 
 pub use checks::check;
-pub use fault::Stop;
+pub use fault::CheckEnd;
 pub use setting::Setting;

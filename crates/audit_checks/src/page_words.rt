@@ -7,7 +7,7 @@ ghost use Rattle.comp_dump.specs.Dumped.{IsStoredPage, IsStoredRecord};
 ghost use Rattle.audit_checks.specs.Reported.{Reports};
 ghost use Rattle.audit_checks.specs.Noted.{setup_at};
 
-use crate::fault::Stop;
+use crate::fault::CheckEnd;
 use crate::setting::Setting;
 use comp_dump::{AuditFault, DumpedPage};
 use comp_journal::Entry;
@@ -20,7 +20,7 @@ pub fn check_words(
     alloc: Global,
     setting: Setting<'_>,
     records: &[Option<DumpedPage<'_>>],
-) -> Result<(), Stop>
+) -> Result<(), CheckEnd>
     requires few { length records.now ≤ 20480 }
     requires pages { All (IsStoredRecord setting.edition setting.mutators) records.now }
     ensures { Reports (each_built (word_faults (setup_at setting.entry)) records.now) result }
@@ -39,7 +39,7 @@ fn check_page(
     setting: Setting<'_>,
     p: u64,
     page: &DumpedPage<'_>,
-) -> Result<(), Stop>
+) -> Result<(), CheckEnd>
     requires inside { p < 20480 }
     requires stored { IsStoredPage setting.edition setting.mutators page.now }
     ensures { Reports (word_faults (setup_at setting.entry) p page.now) result }
@@ -71,7 +71,7 @@ fn replay(words: &mut PageWords, journal: &[Entry])
 }
 
 // Checks that the words of page `p` are equal to `right`.
-fn check_same(right: &[u64], p: u64, words: &[u64]) -> Result<(), Stop>
+fn check_same(right: &[u64], p: u64, words: &[u64]) -> Result<(), CheckEnd>
     requires inside { p < 20480 }
     requires long { length right.now ≡ 64 }
     requires as_long { length words.now ≡ 64 }
@@ -80,7 +80,7 @@ fn check_same(right: &[u64], p: u64, words: &[u64]) -> Result<(), Stop>
     for (offset, &word) in words.iter().enumerate() {
         if word != right[offset] {
             let address = TO_SPACE + 64 * p + offset as u64;
-            return Err(Stop::Fault(AuditFault::WrongWord(address)));
+            return Err(CheckEnd::Fault(AuditFault::WrongWord(address)));
         }
     }
     Ok(())

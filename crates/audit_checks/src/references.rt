@@ -8,7 +8,7 @@ ghost use Rattle.comp_dump.specs.Dumped.{IsStoredPage, IsStoredRecord};
 ghost use Rattle.audit_checks.specs.Reported.{Reports};
 ghost use Rattle.audit_checks.specs.Noted.{leads, setup_at};
 
-use crate::fault::Stop;
+use crate::fault::CheckEnd;
 use crate::kinds::refers;
 use crate::setting::Setting;
 use crate::starts::Starts;
@@ -24,7 +24,7 @@ pub fn check_references(
     setting: Setting<'_>,
     starts: &Starts,
     records: &[Option<DumpedPage<'_>>],
-) -> Result<(), Stop>
+) -> Result<(), CheckEnd>
     requires few { length records.now ≤ 20480 }
     requires slots { length records.now ≡ pages (setup_at setting) }
     requires pages { All (IsStoredRecord setting.edition setting.mutators) records.now }
@@ -46,7 +46,7 @@ fn check_page(
     starts: &Starts,
     p: u64,
     page: &DumpedPage<'_>,
-) -> Result<(), Stop>
+) -> Result<(), CheckEnd>
     requires few { p < 20480 }
     requires inside { p < pages (setup_at setting) }
     requires stored { IsStoredPage setting.edition setting.mutators page.now }
@@ -65,7 +65,7 @@ fn check_loose(
     kinds: &[Option<Kind>; 64],
     p: u64,
     words: &[u64],
-) -> Result<(), Stop>
+) -> Result<(), CheckEnd>
     requires inside { p < 20480 }
     requires long { length words.now ≡ 64 }
     ensures { Reports (loose_faults (λ offset. some_refers (slice_index_or kinds.now offset None)) (leads plan.now starts.now) p words.now) result }
@@ -73,7 +73,7 @@ fn check_loose(
     for (offset, &word) in words.iter().enumerate() {
         if refers(kinds[offset]) && word != 0 && !starts.leads(plan, word) {
             let address = TO_SPACE + 64 * p + offset as u64;
-            return Err(Stop::Fault(AuditFault::LooseReference(address)));
+            return Err(CheckEnd::Fault(AuditFault::LooseReference(address)));
         }
     }
     Ok(())

@@ -4,14 +4,14 @@ ghost use Rattle.comp_journal.specs.declared.entry.Entry.{Entry};
 ghost use Rattle.audit_checks.specs.Checks.{all_stamps, missing_faults, repeat_faults};
 ghost use Rattle.audit_checks.specs.Reported.{Reports};
 
-use crate::fault::Stop;
+use crate::fault::CheckEnd;
 use crate::record::journal_of;
 use comp_dump::{AuditFault, DumpedPage};
 use comp_journal::Entry;
 use std::alloc::{AllocError, Global};
 
 /// Checks that the stamps of all n entries are the numbers below n, each once.
-pub fn check_stamps(alloc: Global, records: &[Option<DumpedPage<'_>>]) -> Result<(), Stop>
+pub fn check_stamps(alloc: Global, records: &[Option<DumpedPage<'_>>]) -> Result<(), CheckEnd>
     ensures { Reports (repeat_faults (all_stamps records.now) ++ missing_faults (all_stamps records.now)) result }
 {
     let mut stamps = gather_stamps(alloc, records)?;
@@ -40,7 +40,7 @@ fn add_stamps(stamps: &mut Vec<u64>, journal: &[Entry]) -> Result<(), AllocError
 }
 
 // Sorts n numbers, and checks that they are the numbers below n, each once.
-fn check_numbers(stamps: &mut [u64]) -> Result<(), Stop>
+fn check_numbers(stamps: &mut [u64]) -> Result<(), CheckEnd>
     ensures { Reports (repeat_faults stamps.old ++ missing_faults stamps.old) result }
 {
     stamps.sort_unstable();
@@ -48,7 +48,7 @@ fn check_numbers(stamps: &mut [u64]) -> Result<(), Stop>
 }
 
 // Checks that n sorted numbers are the numbers below n, each once.
-fn check_sorted(stamps: &[u64]) -> Result<(), Stop>
+fn check_sorted(stamps: &[u64]) -> Result<(), CheckEnd>
     requires sorted { (i j : ℕ) → i ≤ j → j < length stamps.now → slice_index stamps.now i ≤ slice_index stamps.now j }
     ensures { Reports (repeat_faults stamps.now ++ missing_faults stamps.now) result }
 {
@@ -57,28 +57,28 @@ fn check_sorted(stamps: &[u64]) -> Result<(), Stop>
 }
 
 // Checks that none of these sorted numbers stands twice.
-fn check_repeats(stamps: &[u64]) -> Result<(), Stop>
+fn check_repeats(stamps: &[u64]) -> Result<(), CheckEnd>
     requires sorted { (i j : ℕ) → i ≤ j → j < length stamps.now → slice_index stamps.now i ≤ slice_index stamps.now j }
     ensures reported { Reports (repeat_faults stamps.now) result }
     ensures rises { OnOk result ((k : ℕ) → k + 1 < length stamps.now → slice_index stamps.now k < slice_index stamps.now (k + 1)) }
 {
     for i in 1..stamps.len() {
         if stamps[i] == stamps[i - 1] {
-            return Err(Stop::Fault(AuditFault::StampRepeated(stamps[i])));
+            return Err(CheckEnd::Fault(AuditFault::StampRepeated(stamps[i])));
         }
     }
     Ok(())
 }
 
 // Checks that n rising numbers lack none below n.
-fn check_missing(stamps: &[u64]) -> Result<(), Stop>
+fn check_missing(stamps: &[u64]) -> Result<(), CheckEnd>
     requires sorted { (i j : ℕ) → i ≤ j → j < length stamps.now → slice_index stamps.now i ≤ slice_index stamps.now j }
     requires rises { (k : ℕ) → k + 1 < length stamps.now → slice_index stamps.now k < slice_index stamps.now (k + 1) }
     ensures { Reports (missing_faults stamps.now) result }
 {
     for (i, &stamp) in stamps.iter().enumerate() {
         if stamp != i as u64 {
-            return Err(Stop::Fault(AuditFault::StampMissing(i as u64)));
+            return Err(CheckEnd::Fault(AuditFault::StampMissing(i as u64)));
         }
     }
     Ok(())

@@ -7,7 +7,7 @@ ghost use Rattle.audit_checks.specs.Checks.{all_entries, total_faults};
 ghost use Rattle.comp_dump.specs.Dumped.{HasFewEntries};
 ghost use Rattle.audit_checks.specs.Reported.{Reports};
 
-use crate::fault::Stop;
+use crate::fault::CheckEnd;
 use crate::record::journal_of;
 use comp_dump::{AuditFault, DumpedPage};
 use comp_journal::Entry;
@@ -15,13 +15,13 @@ use heap_layout::{Edition, Header, Kind};
 use page_plan::Plan;
 
 /// Checks that the total is the number of words that slid and of words of new objects.
-pub fn check_total(plan: &Plan, total: u64, records: &[Option<DumpedPage<'_>>]) -> Result<(), Stop>
+pub fn check_total(plan: &Plan, total: u64, records: &[Option<DumpedPage<'_>>]) -> Result<(), CheckEnd>
     requires few { length records.now ≤ 20480 }
     requires pages { All HasFewEntries records.now }
     ensures { Reports (total_faults plan.now total records.now) result }
 {
     if total != plan.live_words() + all_words(plan.heap().edition(), records) {
-        return Err(Stop::Fault(AuditFault::WrongTotal));
+        return Err(CheckEnd::Fault(AuditFault::WrongTotal));
     }
     Ok(())
 }

@@ -2,9 +2,9 @@
 ghost use Rattle.std.specs.Prelude.{◌≡◌, ◌≤◌, replicate};
 
 // The words of the largest table: 16,384 compacted pages and 4,096 fresh ones, each with a state word and 64 words; the start bits of the fresh ones; the clock.
-const MOST_TABLE_WORDS: usize = 1_335_297;
+const MAX_TABLE_WORDS: usize = 1_335_297;
 
-static ZEROS: [u64; MOST_TABLE_WORDS] = [0; MOST_TABLE_WORDS];
+static ZEROS: [u64; MAX_TABLE_WORDS] = [0; MAX_TABLE_WORDS];
 
 /// `n` zeros, without room of their own. It asks for no more than the largest table has.
 pub fn zeros(n: usize) -> &'static [u64]

@@ -6,11 +6,11 @@ use Rattle.comp_dump.specs.Dumped.{BuiltPage, Dumped}
 use Rattle.command_io.specs.Dumps.{IsOfDumping, RefusedUncreated}
 use Rattle.command_io.specs.NewImages.{IsOfWritingImage, RefusedUnmade}
 use Rattle.command_io.specs.Printing.{CountsPrint, RefusedUnprinted}
-use Rattle.command_io.specs.declared.refusal.Refusal.{Refusal}
-use Rattle.command_io.specs.declared.refusal.Refusal.TheVariants.{Layout, Mutator, Sweep, Trace, Dump, Audit, CannotOpen, CannotCreate, ReadFailed, CannotPrint, NoSuchWord, BadMarks, OutOfMemory}
+use Rattle.command_io.specs.declared.refusal.CommandRefusal.{CommandRefusal}
+use Rattle.command_io.specs.declared.refusal.CommandRefusal.TheVariants.{Layout, Mutator, Sweep, Trace, Dump, Audit, CannotOpen, CannotCreate, ReadFailed, CannotPrint, NoSuchWord, BadMarks, OutOfMemory}
 
 -- a refusal for another cause than the output counts no failed call of the output
-pub uncounted_by : (old new : ℕ) (refusal : Refusal) → new ≡ old → (refusal ≡ CannotPrint → ⊥) → CountsPrint {T = Unit {0}} old new (Err refusal)
+pub uncounted_by : (old new : ℕ) (refusal : CommandRefusal) → new ≡ old → (refusal ≡ CannotPrint → ⊥) → CountsPrint {T = Unit {0}} old new (Err refusal)
 uncounted_by old new (Layout fault) same other = same
 uncounted_by old new (Mutator refused) same other = same
 uncounted_by old new (Sweep fault) same other = same
@@ -26,11 +26,11 @@ uncounted_by old new (BadMarks line) same other = same
 uncounted_by old new OutOfMemory same other = same
 
 -- a refusal for the dump is not one for the output
-pub uncounted_dump : {W : Type 0} (closed : Type 0) (gives : W → Type 0) (contents : W → Option (List ℕ)) (bytes : List ℕ) (n : ℕ) (refusal : Refusal) → IsOfDumping closed gives contents bytes refusal → CountsPrint {T = Unit {0}} n n (Err refusal)
+pub uncounted_dump : {W : Type 0} (closed : Type 0) (gives : W → Type 0) (contents : W → Option (List ℕ)) (bytes : List ℕ) (n : ℕ) (refusal : CommandRefusal) → IsOfDumping closed gives contents bytes refusal → CountsPrint {T = Unit {0}} n n (Err refusal)
 uncounted_dump closed gives contents bytes n refusal h = uncounted_by n n refusal refl (λ e. subst (IsOfDumping closed gives contents bytes) e h)
 
 -- what was not printed leaves the output as it was
-pub unprinted : (before : Option (List ℕ)) (refusal : Refusal) → RefusedUnprinted {T = Unit {0}} before before (Err refusal)
+pub unprinted : (before : Option (List ℕ)) (refusal : CommandRefusal) → RefusedUnprinted {T = Unit {0}} before before (Err refusal)
 unprinted before (Layout fault) = Keeps-refl before
 unprinted before (Mutator refused) = Keeps-refl before
 unprinted before (Sweep fault) = Keeps-refl before
@@ -46,7 +46,7 @@ unprinted before (BadMarks line) = Keeps-refl before
 unprinted before OutOfMemory = Keeps-refl before
 
 -- what was refused before the dump created none
-pub uncreated : {D : Type 0} (dumps : D) (refusal : Refusal) → RefusedUncreated {T = Unit {0}} dumps dumps (Err refusal)
+pub uncreated : {D : Type 0} (dumps : D) (refusal : CommandRefusal) → RefusedUncreated {T = Unit {0}} dumps dumps (Err refusal)
 uncreated dumps (Layout fault) = refl
 uncreated dumps (Mutator refused) = refl
 uncreated dumps (Sweep fault) = refl
@@ -62,7 +62,7 @@ uncreated dumps (BadMarks line) = refl
 uncreated dumps OutOfMemory = tt
 
 -- a refusal for the dump is one that may leave one
-pub created : {W D : Type 0} (closed : Type 0) (gives : W → Type 0) (contents : W → Option (List ℕ)) (bytes : List ℕ) (before after : D) (refusal : Refusal) → IsOfDumping closed gives contents bytes refusal → RefusedUncreated {T = Unit {0}} before after (Err refusal)
+pub created : {W D : Type 0} (closed : Type 0) (gives : W → Type 0) (contents : W → Option (List ℕ)) (bytes : List ℕ) (before after : D) (refusal : CommandRefusal) → IsOfDumping closed gives contents bytes refusal → RefusedUncreated {T = Unit {0}} before after (Err refusal)
 created closed gives contents bytes before after (Layout fault) h = absurd h
 created closed gives contents bytes before after (Mutator refused) h = absurd h
 created closed gives contents bytes before after (Sweep fault) h = absurd h
@@ -77,14 +77,14 @@ created closed gives contents bytes before after (NoSuchWord index) h = absurd h
 created closed gives contents bytes before after (BadMarks line) h = absurd h
 created closed gives contents bytes before after OutOfMemory h = tt
 
-pub created_line : {D : Type 0} (before after : D) (result : Result (Unit {0}) Refusal) → OnErr result (result ≡ Err CannotPrint) → RefusedUncreated before after result
+pub created_line : {D : Type 0} (before after : D) (result : Result (Unit {0}) CommandRefusal) → OnErr result (result ≡ Err CannotPrint) → RefusedUncreated before after result
 created_line before after (Ok _) h = tt
 created_line before after (Err refusal) h =
     let is : refusal ≡ CannotPrint = cc in
-    subst (λ (r : Refusal). RefusedUncreated {T = Unit {0}} before after (Err r)) (sym is) tt
+    subst (λ (r : CommandRefusal). RefusedUncreated {T = Unit {0}} before after (Err r)) (sym is) tt
 
 -- what was refused before the new image created none
-pub unmade : {D : Type 0} (dumps : D) (refusal : Refusal) → RefusedUnmade {T = Unit {0}} dumps dumps (Err refusal)
+pub unmade : {D : Type 0} (dumps : D) (refusal : CommandRefusal) → RefusedUnmade {T = Unit {0}} dumps dumps (Err refusal)
 unmade dumps (Layout fault) = inr refl
 unmade dumps (Mutator refused) = refl
 unmade dumps (Sweep fault) = refl
@@ -100,7 +100,7 @@ unmade dumps (BadMarks line) = refl
 unmade dumps OutOfMemory = tt
 
 -- a refusal for the new image is one that may leave one
-pub image_created : {W D : Type 0} (closed : Type 0) (gives : W → Type 0) (contents : W → Option (List ℕ)) (bytes : List ℕ) (before after : D) (refusal : Refusal) → IsOfWritingImage closed gives contents bytes refusal → RefusedUnmade {T = Unit {0}} before after (Err refusal)
+pub image_created : {W D : Type 0} (closed : Type 0) (gives : W → Type 0) (contents : W → Option (List ℕ)) (bytes : List ℕ) (before after : D) (refusal : CommandRefusal) → IsOfWritingImage closed gives contents bytes refusal → RefusedUnmade {T = Unit {0}} before after (Err refusal)
 image_created closed gives contents bytes before after (Layout fault) h = inl h.0
 image_created closed gives contents bytes before after (Mutator refused) h = absurd h
 image_created closed gives contents bytes before after (Sweep fault) h = absurd h
@@ -115,14 +115,14 @@ image_created closed gives contents bytes before after (NoSuchWord index) h = ab
 image_created closed gives contents bytes before after (BadMarks line) h = absurd h
 image_created closed gives contents bytes before after OutOfMemory h = tt
 
-pub image_created_line : {D : Type 0} (before after : D) (result : Result (Unit {0}) Refusal) → OnErr result (result ≡ Err CannotPrint) → RefusedUnmade before after result
+pub image_created_line : {D : Type 0} (before after : D) (result : Result (Unit {0}) CommandRefusal) → OnErr result (result ≡ Err CannotPrint) → RefusedUnmade before after result
 image_created_line before after (Ok _) h = tt
 image_created_line before after (Err refusal) h =
     let is : refusal ≡ CannotPrint = cc in
-    subst (λ (r : Refusal). RefusedUnmade {T = Unit {0}} before after (Err r)) (sym is) tt
+    subst (λ (r : CommandRefusal). RefusedUnmade {T = Unit {0}} before after (Err r)) (sym is) tt
 
 -- and counts no failed call of the output
-pub uncounted_image : {W : Type 0} (closed : Type 0) (gives : W → Type 0) (contents : W → Option (List ℕ)) (bytes : List ℕ) (n : ℕ) (refusal : Refusal) → IsOfWritingImage closed gives contents bytes refusal → CountsPrint {T = Unit {0}} n n (Err refusal)
+pub uncounted_image : {W : Type 0} (closed : Type 0) (gives : W → Type 0) (contents : W → Option (List ℕ)) (bytes : List ℕ) (n : ℕ) (refusal : CommandRefusal) → IsOfWritingImage closed gives contents bytes refusal → CountsPrint {T = Unit {0}} n n (Err refusal)
 uncounted_image closed gives contents bytes n refusal h = uncounted_by n n refusal refl (λ e. subst (IsOfWritingImage closed gives contents bytes) e h)
 
 -- dumps that have the same parts are the same

@@ -2,7 +2,7 @@
 use Rattle.std.proofs.Common.{ℕ, [], List, Option, None, Some, refl}
 use Rattle.comp_trace.specs.TraceFault.TheVariants as traces
 use Rattle.command_io.specs.Texts.{RefusesText}
-use Rattle.command_io.specs.declared.refusal.Refusal.TheVariants.{Trace}
+use Rattle.command_io.specs.declared.refusal.CommandRefusal.TheVariants.{Trace}
 
 -- if memory runs out a text is no trace, whatever it says
 pub unread : (mutators roots : ℕ) (known : Option (List ℕ)) → RefusesText mutators roots (Trace traces.OutOfMemory) known

@@ -13,7 +13,7 @@ use Rattle.heap_layout.specs.declared.fault.LayoutFault.{LayoutFault}
 use Rattle.heap_layout.specs.declared.fault.LayoutFault.TheVariants as layout
 use Rattle.command_io.specs.Dumps.{IsOfDumping, WritesBeginning, WritesWhole}
 use Rattle.command_io.specs.NewImages.{IsOfWritingImage}
-use Rattle.command_io.specs.declared.refusal.Refusal.TheVariants.{Dump, Layout}
+use Rattle.command_io.specs.declared.refusal.CommandRefusal.TheVariants.{Dump, Layout}
 
 -- if only the flush failed, all bytes were taken
 pub unflushed : (a b c : Option (List ℕ)) (bytes : List ℕ) → Appends a b bytes → Keeps b c → AppendsSome a c bytes

@@ -7,8 +7,8 @@ use Rattle.heap_layout.specs.Writing.{AppendsSome}
 use Rattle.comp_dump.specs.declared.fault.DumpFault.TheVariants.{Device}
 use Rattle.command_io.specs.declared.refusal.Output.{Output}
 use Rattle.command_io.specs.declared.refusal.Output.TheVariants as outputs
-use Rattle.command_io.specs.declared.refusal.Refusal.{Refusal}
-use Rattle.command_io.specs.declared.refusal.Refusal.TheVariants.{CannotCreate, CannotPrint, Dump, OutOfMemory}
+use Rattle.command_io.specs.declared.refusal.CommandRefusal.{CommandRefusal}
+use Rattle.command_io.specs.declared.refusal.CommandRefusal.TheVariants.{CannotCreate, CannotPrint, Dump, OutOfMemory}
 
 -- some writer that a path gives took all these bytes, no call of it failed, and it was flushed at the end
 pub record WritesWhole {W : Type 0} (gives : W → Type 0) (contents : W → Option (List ℕ)) (bytes : List ℕ) : Type 0 where
@@ -28,21 +28,21 @@ pub record WritesBeginning {W : Type 0} (gives : W → Type 0) (contents : W →
   pub failed : failures_of written ≡ 1
 
 -- why this file could not be created: there is no place for it, as `lacks` says, or memory ran out
-abbrev pub IsOfCreating : Output → Type 0 → Refusal → Type 0
+abbrev pub IsOfCreating : Output → Type 0 → CommandRefusal → Type 0
 IsOfCreating output lacks (CannotCreate named) = (named ≡ output) × lacks
 IsOfCreating output lacks OutOfMemory = Unit {0}
 IsOfCreating output lacks _ = ⊥
 
 -- why these bytes of a dump were not written: there is no place for them, or a call of the writer failed, or memory ran
 -- out
-abbrev pub IsOfDumping : {W : Type 0} → Type 0 → (W → Type 0) → (W → Option (List ℕ)) → List ℕ → Refusal → Type 0
+abbrev pub IsOfDumping : {W : Type 0} → Type 0 → (W → Type 0) → (W → Option (List ℕ)) → List ℕ → CommandRefusal → Type 0
 IsOfDumping lacks gives contents bytes (CannotCreate output) = (output ≡ outputs.Dump) × lacks
 IsOfDumping lacks gives contents bytes (Dump Device) = WritesBeginning gives contents bytes
 IsOfDumping lacks gives contents bytes OutOfMemory = Unit {0}
 IsOfDumping lacks gives contents bytes _ = ⊥
 
 -- a refused call created no dump, unless the refusal is one of those that may come once a dump is created
-abbrev pub RefusedUncreated : {T D : Type 0} → D → D → Result T Refusal → Type 0
+abbrev pub RefusedUncreated : {T D : Type 0} → D → D → Result T CommandRefusal → Type 0
 RefusedUncreated before after (Ok _) = Unit {0}
 RefusedUncreated before after (Err (CannotCreate output)) = Unit {0}
 RefusedUncreated before after (Err (Dump fault)) = Unit {0}

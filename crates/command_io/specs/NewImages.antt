@@ -3,19 +3,19 @@ use Rattle.std.specs.Prelude.{◌≡◌, ◌⊎◌, ℕ, List, Option, Result, O
 use Rattle.heap_layout.specs.declared.fault.LayoutFault.TheVariants.{Device}
 use Rattle.command_io.specs.Dumps.{WritesBeginning}
 use Rattle.command_io.specs.declared.refusal.Output.TheVariants.{New}
-use Rattle.command_io.specs.declared.refusal.Refusal.{Refusal}
-use Rattle.command_io.specs.declared.refusal.Refusal.TheVariants.{CannotCreate, CannotPrint, Layout, OutOfMemory}
+use Rattle.command_io.specs.declared.refusal.CommandRefusal.{CommandRefusal}
+use Rattle.command_io.specs.declared.refusal.CommandRefusal.TheVariants.{CannotCreate, CannotPrint, Layout, OutOfMemory}
 
 -- why these bytes of an image were not written: there is no place for them, or a call of the writer failed, or memory
 -- ran out
-abbrev pub IsOfWritingImage : {W : Type 0} → Type 0 → (W → Type 0) → (W → Option (List ℕ)) → List ℕ → Refusal → Type 0
+abbrev pub IsOfWritingImage : {W : Type 0} → Type 0 → (W → Type 0) → (W → Option (List ℕ)) → List ℕ → CommandRefusal → Type 0
 IsOfWritingImage lacks gives contents bytes (CannotCreate output) = (output ≡ New) × lacks
 IsOfWritingImage lacks gives contents bytes (Layout fault) = (fault ≡ Device) × WritesBeginning gives contents bytes
 IsOfWritingImage lacks gives contents bytes OutOfMemory = Unit {0}
 IsOfWritingImage lacks gives contents bytes _ = ⊥
 
 -- a refused call created no image, unless the refusal is one of those that may come once a new image is created
-abbrev pub RefusedUnmade : {T D : Type 0} → D → D → Result T Refusal → Type 0
+abbrev pub RefusedUnmade : {T D : Type 0} → D → D → Result T CommandRefusal → Type 0
 RefusedUnmade before after (Ok _) = Unit {0}
 RefusedUnmade before after (Err (CannotCreate output)) = Unit {0}
 RefusedUnmade before after (Err (Layout fault)) = (fault ≡ Device) ⊎ (after ≡ before)

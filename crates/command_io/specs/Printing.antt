@@ -9,8 +9,8 @@ use Rattle.command_io.specs.declared.refusal.Input.{Input}
 use Rattle.command_io.specs.declared.refusal.Input.TheVariants.{Image, Trace, Dump, Marks}
 use Rattle.command_io.specs.declared.refusal.Output.{Output}
 use Rattle.command_io.specs.declared.refusal.Output.TheVariants as outputs
-use Rattle.command_io.specs.declared.refusal.Refusal.{Refusal}
-use Rattle.command_io.specs.declared.refusal.Refusal.TheVariants.{Layout, CannotOpen, CannotPrint, OutOfMemory}
+use Rattle.command_io.specs.declared.refusal.CommandRefusal.{CommandRefusal}
+use Rattle.command_io.specs.declared.refusal.CommandRefusal.TheVariants.{Layout, CannotOpen, CannotPrint, OutOfMemory}
 
 -- the name of a file that is read, in refusals
 abbrev pub input_name : Input → List ℕ
@@ -45,25 +45,25 @@ abbrev pub version_line : List ℕ
 version_line = codes "compressor 0.1.0" ++ 10 ∷ []
 
 -- a call answers `CannotPrint` if and only if one more call of the output failed
-abbrev pub CountsPrint : {T : Type 0} → ℕ → ℕ → Result T Refusal → Type 0
+abbrev pub CountsPrint : {T : Type 0} → ℕ → ℕ → Result T CommandRefusal → Type 0
 CountsPrint before after (Ok _) = after ≡ before
 CountsPrint before after (Err CannotPrint) = after ≡ before + 1
 CountsPrint before after (Err _) = after ≡ before
 
 -- a refused call left the output as it was, unless a call of the output failed
-abbrev pub RefusedUnprinted : {T : Type 0} → Option (List ℕ) → Option (List ℕ) → Result T Refusal → Type 0
+abbrev pub RefusedUnprinted : {T : Type 0} → Option (List ℕ) → Option (List ℕ) → Result T CommandRefusal → Type 0
 RefusedUnprinted before after (Ok _) = Unit {0}
 RefusedUnprinted before after (Err CannotPrint) = Unit {0}
 RefusedUnprinted before after (Err _) = Keeps before after
 
 -- a call answers `Device` if and only if one more call of the reader failed
-abbrev pub CountsRead : {T : Type 0} → ℕ → ℕ → Result T Refusal → Type 0
+abbrev pub CountsRead : {T : Type 0} → ℕ → ℕ → Result T CommandRefusal → Type 0
 CountsRead before after (Ok _) = after ≡ before
 CountsRead {T = T} before after (Err (Layout fault)) = CountsFailure {T = T} before after (Err fault)
 CountsRead before after (Err _) = after ≡ before
 
 -- why an image could not be opened: there is none, as `lacks` says, or memory ran out
-abbrev pub IsOfOpening : Type 0 → Refusal → Type 0
+abbrev pub IsOfOpening : Type 0 → CommandRefusal → Type 0
 IsOfOpening lacks (CannotOpen Image) = lacks
 IsOfOpening lacks OutOfMemory = Unit {0}
 IsOfOpening lacks _ = ⊥

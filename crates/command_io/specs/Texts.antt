@@ -4,8 +4,8 @@ use Rattle.comp_trace.specs.Grammar.{trace_of, IsReadAs}
 use Rattle.comp_trace.specs.Line.{Line}
 use Rattle.command_io.specs.Images.{SomeGiven}
 use Rattle.command_io.specs.declared.refusal.Input.TheVariants as inputs
-use Rattle.command_io.specs.declared.refusal.Refusal.{Refusal}
-use Rattle.command_io.specs.declared.refusal.Refusal.TheVariants.{CannotOpen, OutOfMemory, ReadFailed, Trace}
+use Rattle.command_io.specs.declared.refusal.CommandRefusal.{CommandRefusal}
+use Rattle.command_io.specs.declared.refusal.CommandRefusal.TheVariants.{CannotOpen, OutOfMemory, ReadFailed, Trace}
 use Rattle.command_io.specs.declared.texts.Unread.{Unread}
 use Rattle.command_io.specs.declared.texts.Unread.TheVariants as unread
 
@@ -22,25 +22,25 @@ abbrev pub IsTextOf : ℕ → ℕ → List Line → Option (List ℕ) → Type 0
 IsTextOf mutators roots lines known = SomeText (HasLines mutators roots lines) known
 
 -- why a trace could not be opened: there is none, as `lacks` says, or memory ran out
-abbrev pub IsOfOpeningText : Type 0 → Refusal → Type 0
+abbrev pub IsOfOpeningText : Type 0 → CommandRefusal → Type 0
 IsOfOpeningText lacks (CannotOpen inputs.Trace) = lacks
 IsOfOpeningText lacks OutOfMemory = Unit {0}
 IsOfOpeningText lacks _ = ⊥
 
 -- the text is no trace, for its first fault; or a call of the reader failed, or memory ran out
-abbrev pub RefusesText : ℕ → ℕ → Refusal → Option (List ℕ) → Type 0
+abbrev pub RefusesText : ℕ → ℕ → CommandRefusal → Option (List ℕ) → Type 0
 RefusesText mutators roots (ReadFailed inputs.Trace) known = Unit {0}
 RefusesText mutators roots (Trace fault) known = SomeText (λ text. IsReadAs {A = List Line} (λ lines. lines) (Err fault) (trace_of mutators roots text)) known
 RefusesText mutators roots _ known = ⊥
 
 -- the same for a path: there is no trace at it, or memory ran out, or the text of some reader that is given is refused
-abbrev pub RefusesTextAt : {R : Type 0} → Type 0 → (R → Type 0) → (R → Option (List ℕ)) → ℕ → ℕ → Refusal → Type 0
+abbrev pub RefusesTextAt : {R : Type 0} → Type 0 → (R → Type 0) → (R → Option (List ℕ)) → ℕ → ℕ → CommandRefusal → Type 0
 RefusesTextAt lacks gives remaining mutators roots (CannotOpen inputs.Trace) = lacks
 RefusesTextAt lacks gives remaining mutators roots OutOfMemory = Unit {0}
 RefusesTextAt lacks gives remaining mutators roots refusal = SomeGiven gives remaining (RefusesText mutators roots refusal)
 
 -- a call answers `ReadFailed` if and only if one more call of the reader failed
-abbrev pub CountsText : {T : Type 0} → ℕ → ℕ → Result T Refusal → Type 0
+abbrev pub CountsText : {T : Type 0} → ℕ → ℕ → Result T CommandRefusal → Type 0
 CountsText before after (Ok _) = after ≡ before
 CountsText before after (Err (ReadFailed input)) = after ≡ before + 1
 CountsText before after (Err _) = after ≡ before

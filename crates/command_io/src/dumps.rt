@@ -9,7 +9,7 @@ ghost use Rattle.command_io.specs.Dumps.{IsOfCreating, IsOfDumping, WritesWhole}
 ghost use Rattle.command_io.specs.declared.refusal.Output.TheVariants as outputs;
 
 use crate::output_files::{OutputFile, create_file};
-use crate::refusal::{Output, Refusal};
+use crate::refusal::{Output, CommandRefusal};
 use comp_dump::{Dump, DumpFault, write_dump};
 use heap_layout::Counted;
 use std::io::Write;
@@ -26,12 +26,12 @@ pub trait Dumps {
     ghost lacks: { Self → List ℕ → Type 0 };
 
     /// Creates the dump for a path, to be written from its first byte. Once it is flushed it replaces what was there.
-    fn create(&mut self, path: &str) -> Result<Self::Writer, Refusal>
+    fn create(&mut self, path: &str) -> Result<Self::Writer, CommandRefusal>
         ensures given { IfOk result (gives self.old path.now) }
         ensures cause { IfErr result (IsOfCreating outputs.Dump (lacks self.old path.now)) };
 
     /// Creates the new image for a path, as `create` does a dump.
-    fn create_image(&mut self, path: &str) -> Result<Self::Writer, Refusal>
+    fn create_image(&mut self, path: &str) -> Result<Self::Writer, CommandRefusal>
         ensures given { IfOk result (gives self.old path.now) }
         ensures cause { IfErr result (IsOfCreating outputs.New (lacks self.old path.now)) };
 }
@@ -52,17 +52,17 @@ impl<'a, R: Files + AllocGlobal> Dumps for FileDumps<'a, R> {
 
     ghost lacks = { λ _ _. Unit {0} };
 
-    fn create(&mut self, path: &str) -> Result<OutputFile<'a, R>, Refusal> {
+    fn create(&mut self, path: &str) -> Result<OutputFile<'a, R>, CommandRefusal> {
         create_file(self.rt, path, Output::Dump)
     }
 
-    fn create_image(&mut self, path: &str) -> Result<OutputFile<'a, R>, Refusal> {
+    fn create_image(&mut self, path: &str) -> Result<OutputFile<'a, R>, CommandRefusal> {
         create_file(self.rt, path, Output::New)
     }
 }
 
 /// Writes a dump to a path. If a call of its writer fails, the writer has taken a beginning of the dump.
-pub fn write_to<D: Dumps>(dumps: &mut D, path: &str, dump: &Dump<'_>) -> Result<(), Refusal>
+pub fn write_to<D: Dumps>(dumps: &mut D, path: &str, dump: &Dump<'_>) -> Result<(), CommandRefusal>
     ensures written { OnOk result (WritesWhole (D.gives dumps.old path.now) D.Writer.contents (dump_bytes dump.now)) }
     ensures cause { IfErr result (IsOfDumping (D.lacks dumps.old path.now) (D.gives dumps.old path.now) D.Writer.contents (dump_bytes dump.now)) }
 {

@@ -3,7 +3,7 @@ ghost use Rattle.std.specs.Prelude.{◌≡◌, ℕ, List, IfOk, IfErr};
 ghost use Rattle.command_io.specs.Images.{IsImageOf, RefusesAt, RefusesImage, SomeGiven};
 ghost use Rattle.command_io.specs.Printing.{IsOfOpening};
 
-use crate::refusal::{Input, Refusal};
+use crate::refusal::{Input, CommandRefusal};
 use heap_layout::{Counted, MarkedHeap, read_image};
 use std::alloc::Global;
 use std::fs;
@@ -21,7 +21,7 @@ pub trait Images {
     ghost lacks: { Self → List ℕ → Type 0 };
 
     /// Opens the image at a path, to be read from its first byte.
-    fn open(&self, path: &str) -> Result<Self::Reader, Refusal>
+    fn open(&self, path: &str) -> Result<Self::Reader, CommandRefusal>
         ensures given { IfOk result (gives self.now path.now) }
         ensures cause { IfErr result (IsOfOpening (lacks self.now path.now)) };
 }
@@ -41,19 +41,19 @@ impl<R: Files + AllocGlobal> Images for FileImages<'_, R> {
 
     ghost lacks = { λ _ _. Unit {0} };
 
-    fn open(&self, path: &str) -> Result<BufReader<R::File, Global>, Refusal> {
+    fn open(&self, path: &str) -> Result<BufReader<R::File, Global>, CommandRefusal> {
         let Ok(file) = fs::open(self.rt, path) else {
-            return Err(Refusal::CannotOpen(Input::Image));
+            return Err(CommandRefusal::CannotOpen(Input::Image));
         };
         match BufReader::new(self.rt.alloc(), file) {
             Ok(reader) => Ok(reader),
-            Err(_) => Err(Refusal::OutOfMemory),
+            Err(_) => Err(CommandRefusal::OutOfMemory),
         }
     }
 }
 
 /// Reads the heap whose image is at a path.
-pub fn heap_at<I: Images>(alloc: Global, images: &I, path: &str) -> Result<MarkedHeap, Refusal>
+pub fn heap_at<I: Images>(alloc: Global, images: &I, path: &str) -> Result<MarkedHeap, CommandRefusal>
     ensures heap { IfOk result (λ heap. SomeGiven (I.gives images.now path.now) I.Reader.remaining (IsImageOf (λ other. other ≡ heap))) }
     ensures cause { IfErr result (RefusesAt (I.lacks images.now path.now) (I.gives images.now path.now) I.Reader.remaining RefusesImage) }
 {

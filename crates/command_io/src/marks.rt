@@ -5,7 +5,7 @@ ghost use Rattle.command_io.specs.Images.{SomeGiven};
 ghost use Rattle.command_io.specs.Marks.{AreMarksOf, RefusesMarksAt, RefusesMarksText};
 ghost use Rattle.command_io.specs.Texts.{CountsText};
 
-use crate::refusal::{Input, Refusal};
+use crate::refusal::{Input, CommandRefusal};
 use crate::texts::{Unread, text_in};
 use crate::traces::Traces;
 use comp_trace::{MarksFault, read_marks};
@@ -15,7 +15,7 @@ use std::io::Read;
 
 /// Reads the marks whose text is at a path. Refuses if the file cannot be opened or read, if a line of it is no mark,
 /// with the number of the first such line, and if memory runs out.
-pub fn marks_at<T: Traces>(alloc: Global, traces: &T, path: &str) -> Result<Vec<u32>, Refusal>
+pub fn marks_at<T: Traces>(alloc: Global, traces: &T, path: &str) -> Result<Vec<u32>, CommandRefusal>
     ensures marks { IfOk result (λ marks. SomeGiven (T.gives traces.now path.now) T.Reader.remaining (AreMarksOf marks.items)) }
     ensures cause { IfErr result (RefusesMarksAt (T.lacks traces.now path.now) (T.gives traces.now path.now) T.Reader.remaining) }
 {
@@ -25,7 +25,7 @@ pub fn marks_at<T: Traces>(alloc: Global, traces: &T, path: &str) -> Result<Vec<
 
 /// Reads marks to the end of the reader. Refuses if a call of the reader fails, if a line is no mark, with the number
 /// of the first such line, and if memory runs out.
-pub fn marks_in<S: Read>(alloc: Global, r: &mut Counted<S>) -> Result<Vec<u32>, Refusal>
+pub fn marks_in<S: Read>(alloc: Global, r: &mut Counted<S>) -> Result<Vec<u32>, CommandRefusal>
     requires read { failures_of r.old < 2 ^ 64 - 1 }
     ensures marks { IfOk result (λ marks. AreMarksOf marks.items (S.remaining (inner_of r.old))) }
     ensures cause { IfErr result (λ refusal. RefusesMarksText refusal (S.remaining (inner_of r.old))) }
@@ -33,12 +33,12 @@ pub fn marks_in<S: Read>(alloc: Global, r: &mut Counted<S>) -> Result<Vec<u32>, 
 {
     let text = match text_in(alloc, r) {
         Ok(text) => text,
-        Err(Unread::Failed) => return Err(Refusal::ReadFailed(Input::Marks)),
-        Err(Unread::OutOfMemory) => return Err(Refusal::OutOfMemory),
+        Err(Unread::Failed) => return Err(CommandRefusal::ReadFailed(Input::Marks)),
+        Err(Unread::OutOfMemory) => return Err(CommandRefusal::OutOfMemory),
     };
     match read_marks(alloc, &text) {
         Ok(marks) => Ok(marks),
-        Err(MarksFault::BadMarks(n)) => Err(Refusal::BadMarks(n)),
-        Err(MarksFault::OutOfMemory) => Err(Refusal::OutOfMemory),
+        Err(MarksFault::BadMarks(n)) => Err(CommandRefusal::BadMarks(n)),
+        Err(MarksFault::OutOfMemory) => Err(CommandRefusal::OutOfMemory),
     }
 }

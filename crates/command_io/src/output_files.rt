@@ -1,9 +1,9 @@
 //! The files of dumps and of new images. Once such a file is whole, it replaces what was at its path.
 ghost use Rattle.std.specs.Prelude.{◌≡◌, IfErr};
 ghost use Rattle.command_io.specs.Dumps.{IsOfCreating};
-ghost use Rattle.command_io.specs.declared.refusal.Refusal.TheVariants as refusal;
+ghost use Rattle.command_io.specs.declared.refusal.CommandRefusal.TheVariants as refusal;
 
-use crate::refusal::{Output, Refusal};
+use crate::refusal::{Output, CommandRefusal};
 use std::alloc::Global;
 use std::fs::{self, Metadata, OpenFile, OpenOptions};
 use std::io::{BufWriter, Error, ErrorKind, Result as IoResult, Write};
@@ -14,7 +14,7 @@ use std::rt::Files;
 const WRITTEN_AT_ONCE: usize = 65_536;
 
 // How many names are tried for the file beside a path. A run that was killed leaves one of them in use.
-const MOST_NAMES: u32 = 1_000;
+const MAX_NAMES: u32 = 1_000;
 
 // The bits of a mode that say who may read, write and run a file.
 const MODE_BITS: u32 = 0o777;
@@ -104,7 +104,7 @@ pub fn create_file<'a, R: Files + AllocGlobal>(
     rt: &'a R,
     path: &str,
     output: Output,
-) -> Result<OutputFile<'a, R>, Refusal>
+) -> Result<OutputFile<'a, R>, CommandRefusal>
     ensures { IfErr result (IsOfCreating output (Unit {0})) }
 {
     match fs::symlink_metadata(rt, path) {
@@ -121,11 +121,11 @@ fn create_there<'a, R: Files + AllocGlobal>(
     rt: &'a R,
     path: &str,
     output: Output,
-) -> Result<OutputFile<'a, R>, Refusal>
+) -> Result<OutputFile<'a, R>, CommandRefusal>
     ensures { IfErr result (IsOfCreating output (Unit {0})) }
 {
     let Ok(file) = fs::create(rt, path) else {
-        return Err(Refusal::CannotCreate(output));
+        return Err(CommandRefusal::CannotCreate(output));
     };
     buffered(rt, file, None)
 }
@@ -137,11 +137,11 @@ fn create_for<'a, R: Files + AllocGlobal>(
     path: &str,
     output: Output,
     found: &Metadata,
-) -> Result<OutputFile<'a, R>, Refusal>
+) -> Result<OutputFile<'a, R>, CommandRefusal>
     ensures { IfErr result (IsOfCreating output (Unit {0})) }
 {
     if OpenOptions::new().write(true).open(rt, path).is_err() {
-        return Err(Refusal::CannotCreate(output));
+        return Err(CommandRefusal::CannotCreate(output));
     }
     let permissions = found.permissions();
     let mut how = new_file();
@@ -152,7 +152,7 @@ fn create_for<'a, R: Files + AllocGlobal>(
         Ok(()) => Ok(made),
         Err(_) => {
             made.give_up();
-            Err(Refusal::CannotCreate(output))
+            Err(CommandRefusal::CannotCreate(output))
         }
     }
 }
@@ -163,19 +163,19 @@ fn create_beside<'a, R: Files + AllocGlobal>(
     path: &str,
     output: Output,
     how: &OpenOptions,
-) -> Result<OutputFile<'a, R>, Refusal>
+) -> Result<OutputFile<'a, R>, CommandRefusal>
     ensures { IfErr result (IsOfCreating output (Unit {0})) }
 {
     let whole = String::from_str(rt.alloc(), path)?;
-    for number in 0..MOST_NAMES {
+    for number in 0..MAX_NAMES {
         let part = part_of(rt, path, number)?;
         match create_new(rt, &part, how) {
             Ok(file) => return buffered(rt, file, Some(Beside { part, path: whole })),
             Err(ErrorKind::AlreadyExists) => {}
-            Err(_) => return Err(Refusal::CannotCreate(output)),
+            Err(_) => return Err(CommandRefusal::CannotCreate(output)),
         }
     }
-    Err(Refusal::CannotCreate(output))
+    Err(CommandRefusal::CannotCreate(output))
 }
 
 // The options for a file that must not exist yet.
@@ -194,7 +194,7 @@ fn create_new<R: Files>(rt: &R, path: &str, how: &OpenOptions) -> Result<R::File
 }
 
 // The name with this number in the folder of a path. Its length does not depend on the last name of the path.
-fn part_of<R: AllocGlobal>(rt: &R, path: &str, number: u32) -> Result<String, Refusal>
+fn part_of<R: AllocGlobal>(rt: &R, path: &str, number: u32) -> Result<String, CommandRefusal>
     ensures { IfErr result (λ given. given ≡ refusal.OutOfMemory) }
 {
     let folder = match path.rfind('/') {
@@ -209,7 +209,7 @@ fn buffered<'a, R: Files + AllocGlobal>(
     rt: &'a R,
     file: R::File,
     beside: Option<Beside>,
-) -> Result<OutputFile<'a, R>, Refusal>
+) -> Result<OutputFile<'a, R>, CommandRefusal>
     ensures { IfErr result (λ given. given ≡ refusal.OutOfMemory) }
 {
     match BufWriter::with_capacity(rt.alloc(), WRITTEN_AT_ONCE, file) {
@@ -223,7 +223,7 @@ fn buffered<'a, R: Files + AllocGlobal>(
             if let Some(beside) = beside {
                 remove(rt, &beside.part);
             }
-            Err(Refusal::OutOfMemory)
+            Err(CommandRefusal::OutOfMemory)
         }
     }
 }

@@ -6,27 +6,27 @@ ghost use Rattle.std.specs.Io.KnownBytes.{Appends, Keeps};
 ghost use Rattle.heap_layout.specs.Counted.{inner_of, failures_of, is_flushed_of, writer_of};
 ghost use Rattle.command_io.specs.Printing.{help_lines, named, numbered, CountsPrint};
 
-use crate::refusal::Refusal;
+use crate::refusal::CommandRefusal;
 use heap_layout::Counted;
 use itoa::Buffer;
 use std::io::Write;
 
 /// Prints bytes.
-pub fn print_bytes<O: Write>(bytes: &[u8], out: &mut Counted<&mut O>) -> Result<(), Refusal>
+pub fn print_bytes<O: Write>(bytes: &[u8], out: &mut Counted<&mut O>) -> Result<(), CommandRefusal>
     requires { failures_of out.old < 2 ^ 64 - 1 }
     ensures printed { OnOk result (Appends (O.contents (inner_of out.old).now) (O.contents (inner_of out.new).now) bytes.now) }
-    ensures cause { OnErr result (result ≡ Err Refusal.CannotPrint) }
+    ensures cause { OnErr result (result ≡ Err CommandRefusal.CannotPrint) }
     ensures counts { CountsPrint (failures_of out.old) (failures_of out.new) result }
     ensures same_writer { writer_of out.new ≡ writer_of out.old }
 {
-    out.write_part(bytes).map_err(|_| Refusal::CannotPrint)
+    out.write_part(bytes).map_err(|_| CommandRefusal::CannotPrint)
 }
 
 /// Prints a text.
-pub fn print_text<O: Write>(text: &str, out: &mut Counted<&mut O>) -> Result<(), Refusal>
+pub fn print_text<O: Write>(text: &str, out: &mut Counted<&mut O>) -> Result<(), CommandRefusal>
     requires { failures_of out.old < 2 ^ 64 - 1 }
     ensures printed { OnOk result (Appends (O.contents (inner_of out.old).now) (O.contents (inner_of out.new).now) text.now) }
-    ensures cause { OnErr result (result ≡ Err Refusal.CannotPrint) }
+    ensures cause { OnErr result (result ≡ Err CommandRefusal.CannotPrint) }
     ensures counts { CountsPrint (failures_of out.old) (failures_of out.new) result }
     ensures same_writer { writer_of out.new ≡ writer_of out.old }
 {
@@ -34,10 +34,10 @@ pub fn print_text<O: Write>(text: &str, out: &mut Counted<&mut O>) -> Result<(),
 }
 
 /// Prints the decimal digits of a number.
-pub fn print_digits<O: Write>(number: u64, out: &mut Counted<&mut O>) -> Result<(), Refusal>
+pub fn print_digits<O: Write>(number: u64, out: &mut Counted<&mut O>) -> Result<(), CommandRefusal>
     requires { failures_of out.old < 2 ^ 64 - 1 }
     ensures printed { OnOk result (Appends (O.contents (inner_of out.old).now) (O.contents (inner_of out.new).now) (decimal number)) }
-    ensures cause { OnErr result (result ≡ Err Refusal.CannotPrint) }
+    ensures cause { OnErr result (result ≡ Err CommandRefusal.CannotPrint) }
     ensures counts { CountsPrint (failures_of out.old) (failures_of out.new) result }
     ensures same_writer { writer_of out.new ≡ writer_of out.old }
 {
@@ -50,10 +50,10 @@ pub fn print_line<O: Write>(
     name: &str,
     number: u64,
     out: &mut Counted<&mut O>,
-) -> Result<(), Refusal>
+) -> Result<(), CommandRefusal>
     requires { failures_of out.old < 2 ^ 64 - 1 }
     ensures printed { OnOk result (Appends (O.contents (inner_of out.old).now) (O.contents (inner_of out.new).now) (named name.now number)) }
-    ensures cause { OnErr result (result ≡ Err Refusal.CannotPrint) }
+    ensures cause { OnErr result (result ≡ Err CommandRefusal.CannotPrint) }
     ensures counts { CountsPrint (failures_of out.old) (failures_of out.new) result }
     ensures same_writer { writer_of out.new ≡ writer_of out.old }
 {
@@ -69,11 +69,11 @@ pub fn print_numbered<O: Write>(
     second: &str,
     value: u64,
     out: &mut Counted<&mut O>,
-) -> Result<(), Refusal>
+) -> Result<(), CommandRefusal>
     requires { failures_of out.old < 2 ^ 64 - 1 }
     ensures printed { OnOk result (Appends (O.contents (inner_of out.old).now) (O.contents (inner_of out.new).now)
         (numbered name.now number second.now value)) }
-    ensures cause { OnErr result (result ≡ Err Refusal.CannotPrint) }
+    ensures cause { OnErr result (result ≡ Err CommandRefusal.CannotPrint) }
     ensures counts { CountsPrint (failures_of out.old) (failures_of out.new) result }
     ensures same_writer { writer_of out.new ≡ writer_of out.old }
 {
@@ -83,10 +83,10 @@ pub fn print_numbered<O: Write>(
 }
 
 /// Prints a text of help: the text without white space at its end, and a line feed.
-pub fn print_help<O: Write>(text: &str, out: &mut Counted<&mut O>) -> Result<(), Refusal>
+pub fn print_help<O: Write>(text: &str, out: &mut Counted<&mut O>) -> Result<(), CommandRefusal>
     requires { failures_of out.old < 2 ^ 64 - 1 }
     ensures printed { OnOk result (Appends (O.contents (inner_of out.old).now) (O.contents (inner_of out.new).now) (help_lines text.now)) }
-    ensures cause { OnErr result (result ≡ Err Refusal.CannotPrint) }
+    ensures cause { OnErr result (result ≡ Err CommandRefusal.CannotPrint) }
     ensures counts { CountsPrint (failures_of out.old) (failures_of out.new) result }
     ensures same_writer { writer_of out.new ≡ writer_of out.old }
 {
@@ -95,13 +95,13 @@ pub fn print_help<O: Write>(text: &str, out: &mut Counted<&mut O>) -> Result<(),
 }
 
 /// Flushes the output.
-pub fn flush<O: Write>(out: &mut Counted<&mut O>) -> Result<(), Refusal>
+pub fn flush<O: Write>(out: &mut Counted<&mut O>) -> Result<(), CommandRefusal>
     requires { failures_of out.old < 2 ^ 64 - 1 }
     ensures kept { Keeps (O.contents (inner_of out.old).now) (O.contents (inner_of out.new).now) }
     ensures flushed { OnOk result (is_flushed_of out.new ≡ true) }
-    ensures cause { OnErr result (result ≡ Err Refusal.CannotPrint) }
+    ensures cause { OnErr result (result ≡ Err CommandRefusal.CannotPrint) }
     ensures counts { CountsPrint (failures_of out.old) (failures_of out.new) result }
     ensures same_writer { writer_of out.new ≡ writer_of out.old }
 {
-    out.flush_all().map_err(|_| Refusal::CannotPrint)
+    out.flush_all().map_err(|_| CommandRefusal::CannotPrint)
 }

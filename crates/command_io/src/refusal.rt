@@ -1,5 +1,5 @@
 ghost use Rattle.std.specs.Prelude.{◌≡◌, Some};
-ghost use Rattle.command_io.specs.declared.refusal.Refusal.TheVariants as refusal;
+ghost use Rattle.command_io.specs.declared.refusal.CommandRefusal.TheVariants as refusal;
 
 use comp_dump::{AuditFault, DumpFault};
 use comp_sweep::SweepFault;
@@ -55,7 +55,7 @@ impl fmt::Display for Output {
 
 /// Why the program did not do what it was asked.
 #[derive(Clone, Copy, Debug, PartialEq, Eq, Error)]
-pub enum Refusal {
+pub enum CommandRefusal {
     /// The image is refused, or the new one was not written whole.
     #[error(transparent)]
     Layout(LayoutFault),
@@ -97,50 +97,50 @@ pub enum Refusal {
     OutOfMemory,
 }
 
-impl From<LayoutFault> for Refusal {
+impl From<LayoutFault> for CommandRefusal {
     ghost from_gives = { λ fault given. given ≡ refusal.Layout fault };
 
-    fn from(fault: LayoutFault) -> Refusal {
-        Refusal::Layout(fault)
+    fn from(fault: LayoutFault) -> CommandRefusal {
+        CommandRefusal::Layout(fault)
     }
 }
 
-impl From<call_refusals::Refusal> for Refusal {
+impl From<call_refusals::Refusal> for CommandRefusal {
     ghost from_gives = { λ refused given. given ≡ refusal.Mutator refused };
 
-    fn from(refused: call_refusals::Refusal) -> Refusal {
-        Refusal::Mutator(refused)
+    fn from(refused: call_refusals::Refusal) -> CommandRefusal {
+        CommandRefusal::Mutator(refused)
     }
 }
 
-impl From<TraceFault> for Refusal {
+impl From<TraceFault> for CommandRefusal {
     ghost from_gives = { λ fault given. given ≡ refusal.Trace fault };
 
-    fn from(fault: TraceFault) -> Refusal {
-        Refusal::Trace(fault)
+    fn from(fault: TraceFault) -> CommandRefusal {
+        CommandRefusal::Trace(fault)
     }
 }
 
-impl From<DumpFault> for Refusal {
+impl From<DumpFault> for CommandRefusal {
     ghost from_gives = { λ fault given. given ≡ refusal.Dump fault };
 
-    fn from(fault: DumpFault) -> Refusal {
-        Refusal::Dump(fault)
+    fn from(fault: DumpFault) -> CommandRefusal {
+        CommandRefusal::Dump(fault)
     }
 }
 
-impl From<heap_layout::OutOfMemory> for Refusal {
+impl From<heap_layout::OutOfMemory> for CommandRefusal {
     ghost from_gives = { λ _ given. given ≡ refusal.OutOfMemory };
 
-    fn from(_fault: heap_layout::OutOfMemory) -> Refusal {
-        Refusal::OutOfMemory
+    fn from(_fault: heap_layout::OutOfMemory) -> CommandRefusal {
+        CommandRefusal::OutOfMemory
     }
 }
 
-impl From<AllocError> for Refusal {
+impl From<AllocError> for CommandRefusal {
     ghost from_gives = { λ _ given. given ≡ refusal.OutOfMemory };
 
-    fn from(_error: AllocError) -> Refusal {
-        Refusal::OutOfMemory
+    fn from(_error: AllocError) -> CommandRefusal {
+        CommandRefusal::OutOfMemory
     }
 }

@@ -6,7 +6,7 @@ ghost use Rattle.command_io.specs.Images.{SomeGiven};
 ghost use Rattle.command_io.specs.Marks.{IsOfOpeningMarks};
 ghost use Rattle.command_io.specs.Texts.{CountsText, IsOfOpeningText, IsTextOf, RefusesText, RefusesTextAt};
 
-use crate::refusal::{Input, Refusal};
+use crate::refusal::{Input, CommandRefusal};
 use crate::texts::{Unread, text_in};
 use comp_trace::{Trace, TraceFault, parse};
 use heap_layout::Counted;
@@ -26,12 +26,12 @@ pub trait Traces {
     ghost lacks: { Self → List ℕ → Type 0 };
 
     /// Opens the trace at a path, to be read from its first byte.
-    fn open(&self, path: &str) -> Result<Self::Reader, Refusal>
+    fn open(&self, path: &str) -> Result<Self::Reader, CommandRefusal>
         ensures given { IfOk result (gives self.now path.now) }
         ensures cause { IfErr result (IsOfOpeningText (lacks self.now path.now)) };
 
     /// Opens the marks at a path, to be read from their first byte.
-    fn open_marks(&self, path: &str) -> Result<Self::Reader, Refusal>
+    fn open_marks(&self, path: &str) -> Result<Self::Reader, CommandRefusal>
         ensures given { IfOk result (gives self.now path.now) }
         ensures cause { IfErr result (IsOfOpeningMarks (lacks self.now path.now)) };
 }
@@ -51,23 +51,23 @@ impl<R: Files + AllocGlobal> Traces for FileTraces<'_, R> {
 
     ghost lacks = { λ _ _. Unit {0} };
 
-    fn open(&self, path: &str) -> Result<BufReader<R::File, Global>, Refusal> {
+    fn open(&self, path: &str) -> Result<BufReader<R::File, Global>, CommandRefusal> {
         let Ok(file) = fs::open(self.rt, path) else {
-            return Err(Refusal::CannotOpen(Input::Trace));
+            return Err(CommandRefusal::CannotOpen(Input::Trace));
         };
         match BufReader::new(self.rt.alloc(), file) {
             Ok(reader) => Ok(reader),
-            Err(_) => Err(Refusal::OutOfMemory),
+            Err(_) => Err(CommandRefusal::OutOfMemory),
         }
     }
 
-    fn open_marks(&self, path: &str) -> Result<BufReader<R::File, Global>, Refusal> {
+    fn open_marks(&self, path: &str) -> Result<BufReader<R::File, Global>, CommandRefusal> {
         let Ok(file) = fs::open(self.rt, path) else {
-            return Err(Refusal::CannotOpen(Input::Marks));
+            return Err(CommandRefusal::CannotOpen(Input::Marks));
         };
         match BufReader::new(self.rt.alloc(), file) {
             Ok(reader) => Ok(reader),
-            Err(_) => Err(Refusal::OutOfMemory),
+            Err(_) => Err(CommandRefusal::OutOfMemory),
         }
     }
 }
@@ -79,7 +79,7 @@ pub fn trace_at<T: Traces>(
     path: &str,
     mutators: u8,
     roots: u16,
-) -> Result<Trace, Refusal>
+) -> Result<Trace, CommandRefusal>
     ensures lines { IfOk result (λ trace. SomeGiven (T.gives traces.now path.now) T.Reader.remaining (IsTextOf mutators roots (lines_of trace))) }
     ensures counts { IfOk result (λ trace. (mutators_of trace ≡ mutators) × (roots_of trace ≡ roots)) }
     ensures cause { IfErr result (RefusesTextAt (T.lacks traces.now path.now) (T.gives traces.now path.now) T.Reader.remaining mutators roots) }
@@ -94,7 +94,7 @@ pub fn trace_in<S: Read>(
     r: &mut Counted<S>,
     mutators: u8,
     roots: u16,
-) -> Result<Trace, Refusal>
+) -> Result<Trace, CommandRefusal>
     requires read { failures_of r.old < 2 ^ 64 - 1 }
     ensures lines { IfOk result (λ trace. IsTextOf mutators roots (lines_of trace) (S.remaining (inner_of r.old))) }
     ensures counts { IfOk result (λ trace. (mutators_of trace ≡ mutators) × (roots_of trace ≡ roots)) }
@@ -103,8 +103,8 @@ pub fn trace_in<S: Read>(
 {
     let text = match text_in(alloc, r) {
         Ok(text) => text,
-        Err(Unread::Failed) => return Err(Refusal::ReadFailed(Input::Trace)),
-        Err(Unread::OutOfMemory) => return Err(Refusal::Trace(TraceFault::OutOfMemory)),
+        Err(Unread::Failed) => return Err(CommandRefusal::ReadFailed(Input::Trace)),
+        Err(Unread::OutOfMemory) => return Err(CommandRefusal::Trace(TraceFault::OutOfMemory)),
     };
     Ok(parse(alloc, &text, mutators, roots)?)
 }

@@ -21,7 +21,7 @@ use Rattle.command_line.specs.Asked.{given as given_values}
 use Rattle.command_line.specs.Asked.{Asks, AsksAudit, AsksCompact, AsksHelp, AsksNoCommand, AsksPlan, AsksVersion, AsksWord, HasLawfulCounts, IsAnswerOf}
 use Rattle.command_line.specs.Forms.{Choice, Form, Parameter, audit_form, compact_form, fresh, mutators, next_form, number, plan_form, race_form, replay_form, run_form, standing, text, word_form, workers}
 use Rattle.command_line.specs.Given.{HasOption, IsCommandWith, IsNumber, IsNumberOr, Takes, text_given}
-use Rattle.command_line.specs.Finds.{HasRun, IsRunFound}
+use Rattle.command_line.specs.Finds.{IsRunRequest, IsRunFound}
 use Rattle.command_line.specs.Parser.{program}
 use Rattle.command_line.specs.Runs.{AsksRun, Run}
 use Rattle.command_line.specs.declared.words.Task.{Task}
@@ -190,7 +190,7 @@ bounded_number low high o h = IfSome_then o h (λ text takes. (takes.0, takes.1)
 
 module _ (words : List (List ℕ)) (f : Found) (name : List ℕ) (asked : CommandAsked words f (run_form name)) where
   -- a run is found if this command is asked for
-  pub run_found : HasRun f
+  pub run_found : IsRunRequest f
   run_found =
       let paths = three_paths words f (run_form name) asked (text (codes "IMAGE")) (text (codes "TRACE")) (text (codes "DUMP")) refl in
       record {

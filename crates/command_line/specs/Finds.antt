@@ -7,7 +7,7 @@ use Rattle.command_line.specs.Given.{IsNumberOr, Takes}
 use Rattle.command_line.specs.Runs.{Run}
 
 -- a run was found: each of its paths, and for each option that was given a text that it takes
-pub record HasRun (found : Found) : Type 0 where
+pub record IsRunRequest (found : Found) : Type 0 where
   pub has_image : is_some (first_value found (codes "IMAGE")) ≡ true
   pub has_trace : is_some (first_value found (codes "TRACE")) ≡ true
   pub has_dump : is_some (first_value found (codes "DUMP")) ≡ true

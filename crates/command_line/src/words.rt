@@ -5,7 +5,7 @@ ghost use Rattle.clap.specs.Words.{app_of, fault_of, found_of, kind_of, subcomma
 ghost use Rattle.clap.specs.declared.error.kind.ErrorKind.TheVariants.{DisplayHelp, DisplayVersion, OutOfMemory};
 ghost use Rattle.command_line.specs.Asked.{Asks, AsksNoCommand, HasLawfulCounts, IsAnswerOf};
 ghost use Rattle.command_line.specs.Forms.{audit_form, compact_form, plan_form, race_form, replay_form, run_form, standing, word_form};
-ghost use Rattle.command_line.specs.Finds.{HasRun, IsRunFound};
+ghost use Rattle.command_line.specs.Finds.{IsRunRequest, IsRunFound};
 ghost use Rattle.command_line.specs.Parser.{bare_program, command as command_of, program};
 ghost use Rattle.command_line.specs.Runs.{IsLawfulRun, run_of};
 
@@ -130,7 +130,7 @@ fn task_of<'a>(words: &'a [String], matches: &ArgMatches<'a>) -> Task<'a>
 
 // The arguments of `replay` or `race` in what the parser found.
 fn trace_run<'a>(found: &ArgMatches<'a>) -> TraceRun<'a>
-    requires { HasRun (found_of found.now) }
+    requires { IsRunRequest (found_of found.now) }
     ensures run { IsRunFound (found_of found.now) (run_of result) }
     ensures counts { IsLawfulRun (run_of result) }
 {

@@ -9,8 +9,8 @@ use Rattle.comp_audit.specs.declared.verdict.Verdict.TheVariants.{Yes}
 use Rattle.commands.specs.Audits.{HasPassed, IsDumpIn, Passes, RefusesAudit, SomeAudit}
 use Rattle.command_io.specs.Images.{IsImageOf, SomeGiven}
 use Rattle.command_io.specs.Printing.{named, RefusedUnprinted}
-use Rattle.command_io.specs.declared.refusal.Refusal.{Refusal}
-use Rattle.command_io.specs.declared.refusal.Refusal.TheVariants.{CannotPrint}
+use Rattle.command_io.specs.declared.refusal.CommandRefusal.{CommandRefusal}
+use Rattle.command_io.specs.declared.refusal.CommandRefusal.TheVariants.{CannotPrint}
 use Rattle.command_io.proofs.Imaged.{of_image}
 
 module _ {R : Type 0} (given dumps : R → Type 0) (remaining : R → Option (List ℕ)) where
@@ -44,13 +44,13 @@ module _ {R : Type 0} (given dumps : R → Type 0) (remaining : R → Option (Li
   unflushed_audit before between passed = weaker (Passes before between) (λ heap dump. Judges (faults heap dump) Yes) (λ heap dump h. h.judged) passed
 
   -- its line was printed, or a call of the output failed
-  pub printed_audit : (words : ℕ) (before after : Option (List ℕ)) (result : Result (Unit {0}) Refusal) → SomeAudit given dumps remaining (HasPassed words)
+  pub printed_audit : (words : ℕ) (before after : Option (List ℕ)) (result : Result (Unit {0}) CommandRefusal) → SomeAudit given dumps remaining (HasPassed words)
       → OnOk result (Appends before after (named (codes "ok ") words)) → OnOk result (SomeAudit given dumps remaining (Passes before after))
   printed_audit words before after (Ok _) passed printed = weaker (HasPassed words) (Passes before after)
       (λ heap dump h. record { judged = h.judged; printed = subst (λ (n : ℕ). Appends before after (named (codes "ok ") n)) h.total printed }) passed
   printed_audit words before after (Err refusal) passed printed = tt
 
-  pub unprinted_audit : (absent missing : Type 0) (words : ℕ) (result : Result (Unit {0}) Refusal) → SomeAudit given dumps remaining (HasPassed words) → OnErr result (result ≡ Err CannotPrint)
+  pub unprinted_audit : (absent missing : Type 0) (words : ℕ) (result : Result (Unit {0}) CommandRefusal) → SomeAudit given dumps remaining (HasPassed words) → OnErr result (result ≡ Err CannotPrint)
       → IfErr result (RefusesAudit absent given missing dumps remaining)
   unprinted_audit absent missing words (Ok _) passed cause = tt
   unprinted_audit absent missing words (Err refusal) passed cause =
@@ -58,8 +58,8 @@ module _ {R : Type 0} (given dumps : R → Type 0) (remaining : R → Option (Li
       subst (RefusesAudit absent given missing dumps remaining) (sym is) (weaker (HasPassed words) (λ heap dump. Judges (faults heap dump) Yes) (λ heap dump h. h.judged) passed)
 
 -- a line that was not printed
-pub unprinted_line : (before after : Option (List ℕ)) (result : Result (Unit {0}) Refusal) → OnErr result (result ≡ Err CannotPrint) → RefusedUnprinted before after result
+pub unprinted_line : (before after : Option (List ℕ)) (result : Result (Unit {0}) CommandRefusal) → OnErr result (result ≡ Err CannotPrint) → RefusedUnprinted before after result
 unprinted_line before after (Ok _) cause = tt
 unprinted_line before after (Err refusal) cause =
     let is : refusal ≡ CannotPrint = cc in
-    subst (λ (r : Refusal). RefusedUnprinted {T = Unit {0}} before after (Err r)) (sym is) tt
+    subst (λ (r : CommandRefusal). RefusedUnprinted {T = Unit {0}} before after (Err r)) (sym is) tt

@@ -16,8 +16,8 @@ use Rattle.command_io.specs.Images.{IsImageOf, RefusesAt, SomeGiven}
 use Rattle.command_io.specs.Printing.{named, CountsPrint}
 use Rattle.command_io.specs.declared.refusal.Input.TheVariants.{Image}
 use Rattle.command_io.specs.declared.refusal.Input.TheVariants as inputs
-use Rattle.command_io.specs.declared.refusal.Refusal.{Refusal}
-use Rattle.command_io.specs.declared.refusal.Refusal.TheVariants.{Layout, Mutator, Sweep, Trace, Dump, Audit, CannotOpen, CannotCreate, ReadFailed, CannotPrint, NoSuchWord, BadMarks, OutOfMemory}
+use Rattle.command_io.specs.declared.refusal.CommandRefusal.{CommandRefusal}
+use Rattle.command_io.specs.declared.refusal.CommandRefusal.TheVariants.{Layout, Mutator, Sweep, Trace, Dump, Audit, CannotOpen, CannotCreate, ReadFailed, CannotPrint, NoSuchWord, BadMarks, OutOfMemory}
 use Rattle.command_io.proofs.Imaged.{of_image}
 use Rattle.command_io.proofs.Outcomes.{same_parts, uncounted_by}
 
@@ -49,11 +49,11 @@ module _ (workers : ℕ) (f : Finished) (dump : Dumped) (parts : IsDumpOf worker
 
 -- The refusals of a compaction, from those of its parts.
 module _ {R W : Type 0} (absent closed : Type 0) (given : R → Type 0) (remaining : R → Option (List ℕ)) (gives : W → Type 0) (contents : W → Option (List ℕ)) (workers : ℕ) where
-  abbrev pub Refuses : Refusal → Type 0
+  abbrev pub Refuses : CommandRefusal → Type 0
   Refuses refusal = RefusesAt absent given remaining (RefusesCompact closed gives contents workers) refusal
 
   -- the heap was not swept
-  pub of_sweep : (refusal : Refusal) → RefusesAt absent given remaining RefusesSweep refusal → Refuses refusal
+  pub of_sweep : (refusal : CommandRefusal) → RefusesAt absent given remaining RefusesSweep refusal → Refuses refusal
   of_sweep (Layout fault) h = h
   of_sweep (Mutator refused) h = h
   of_sweep (Sweep fault) h = h
@@ -73,7 +73,7 @@ module _ {R W : Type 0} (absent closed : Type 0) (given : R → Type 0) (remaini
 
   module _ (f : Finished) (dump : Dumped) (parts : IsDumpOf workers f dump) (swept : SomeGiven given remaining (IsImageOf (IsSweptHeap workers f))) where
     -- its dump was not written
-    pub of_dumping : (refusal : Refusal) → IsOfDumping closed gives contents (dump_bytes dump) refusal → Refuses refusal
+    pub of_dumping : (refusal : CommandRefusal) → IsOfDumping closed gives contents (dump_bytes dump) refusal → Refuses refusal
     of_dumping (Layout fault) h = absurd h
     of_dumping (Mutator refused) h = absurd h
     of_dumping (Sweep fault) h = absurd h
@@ -98,7 +98,7 @@ module _ {R W : Type 0} (absent closed : Type 0) (given : R → Type 0) (remaini
       of_printing : Refuses CannotPrint
       of_printing = (swept.0, swept.1, of_image (IsSweptHeap workers f) (DumpsHeap gives contents workers) (remaining swept.0) (λ heap s. dumps workers f dump parts heap s gives contents whole) swept.2)
 
-      pub of_line : (result : Result (Unit {0}) Refusal) → OnErr result (result ≡ Err CannotPrint) → IfErr result Refuses
+      pub of_line : (result : Result (Unit {0}) CommandRefusal) → OnErr result (result ≡ Err CannotPrint) → IfErr result Refuses
       of_line (Ok _) h = tt
       of_line (Err refusal) h = let is : refusal ≡ CannotPrint = cc in subst Refuses (sym is) of_printing
 
@@ -115,5 +115,5 @@ module _ {R W : Type 0} (absent closed : Type 0) (given : R → Type 0) (remaini
       )
 
 -- a refusal to sweep is none of the output
-pub uncounted : {R : Type 0} (absent : Type 0) (given : R → Type 0) (remaining : R → Option (List ℕ)) (n : ℕ) (refusal : Refusal) → RefusesAt absent given remaining RefusesSweep refusal → CountsPrint {T = Unit {0}} n n (Err refusal)
+pub uncounted : {R : Type 0} (absent : Type 0) (given : R → Type 0) (remaining : R → Option (List ℕ)) (n : ℕ) (refusal : CommandRefusal) → RefusesAt absent given remaining RefusesSweep refusal → CountsPrint {T = Unit {0}} n n (Err refusal)
 uncounted absent given remaining n refusal h = uncounted_by n n refusal refl (λ e. (subst (RefusesAt absent given remaining RefusesSweep) e h).2)

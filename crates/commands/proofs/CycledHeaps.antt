@@ -8,8 +8,8 @@ use Rattle.comp_trace.specs.CycleRuns.{IsLastRun}
 use Rattle.comp_trace.proofs.Runs.{marked}
 use Rattle.comp_trace.specs.Shown.{Shown}
 use Rattle.comp_trace.specs.Line.{Line}
-use Rattle.command_io.specs.declared.refusal.Refusal.{Refusal}
-use Rattle.command_io.specs.declared.refusal.Refusal.TheVariants.{Layout, Mutator, Sweep, Trace, Dump, Audit, CannotOpen, CannotCreate, ReadFailed, CannotPrint, NoSuchWord, BadMarks, OutOfMemory}
+use Rattle.command_io.specs.declared.refusal.CommandRefusal.{CommandRefusal}
+use Rattle.command_io.specs.declared.refusal.CommandRefusal.TheVariants.{Layout, Mutator, Sweep, Trace, Dump, Audit, CannotOpen, CannotCreate, ReadFailed, CannotPrint, NoSuchWord, BadMarks, OutOfMemory}
 use Rattle.commands.specs.Outcomes.{IsHaltedBy}
 use Rattle.commands.proofs.ReplayRuns.{halted_by}
 use Rattle.commands.specs.Cycled.{IsChapterOf, IsCycledHeap, IsNextHeap, IsUncycled, IsUnmarked}
@@ -31,7 +31,7 @@ module _ (mutators fresh : ℕ) (lines : List Line) (marks : List ℕ) (heap : H
   }
 
   -- the lines ran, and the marks were refused
-  pub uncycled : (values : List Shown) (f : Finished) → IsLastRun mutators fresh lines values heap f → (shown : List Shown) → shown ≡ [] → (refusal : Refusal) → IsUnmarked heap f marks refusal
+  pub uncycled : (values : List Shown) (f : Finished) → IsLastRun mutators fresh lines values heap f → (shown : List Shown) → shown ≡ [] → (refusal : CommandRefusal) → IsUnmarked heap f marks refusal
       → IsUncycled mutators fresh lines shown marks heap refusal
   uncycled values f run shown none (Layout fault) h = (none, record { shown = values; left = f; run = run; refused = h })
   uncycled values f run shown none (Mutator refused) h = absurd h
@@ -48,7 +48,7 @@ module _ (mutators fresh : ℕ) (lines : List Line) (marks : List ℕ) (heap : H
   uncycled values f run shown none OutOfMemory h = none
 
   -- what was shown of a cycle that does not come to its end
-  pub halted_cycle : (shown : List Shown) (refusal : Refusal) → IsUncycled mutators fresh lines shown marks heap refusal → IsHaltedBy shown refusal
+  pub halted_cycle : (shown : List Shown) (refusal : CommandRefusal) → IsUncycled mutators fresh lines shown marks heap refusal → IsHaltedBy shown refusal
   halted_cycle shown (Layout fault) h = h.0
   halted_cycle shown (Mutator refused) h = h.1
   halted_cycle shown (Sweep fault) h = absurd h

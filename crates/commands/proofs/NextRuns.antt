@@ -9,25 +9,25 @@ use Rattle.command_io.specs.Images.{SomeHeap}
 use Rattle.command_io.specs.Marks.{RefusesMarksAt}
 use Rattle.command_io.specs.NewImages.{IsOfWritingImage, RefusedUnmade}
 use Rattle.command_io.specs.Printing.{CountsPrint}
-use Rattle.command_io.specs.declared.refusal.Refusal.{Refusal}
-use Rattle.command_io.specs.declared.refusal.Refusal.TheVariants.{Layout, Mutator, Sweep, Trace, Dump, Audit, CannotOpen, CannotCreate, ReadFailed, CannotPrint, NoSuchWord, BadMarks, OutOfMemory}
+use Rattle.command_io.specs.declared.refusal.CommandRefusal.{CommandRefusal}
+use Rattle.command_io.specs.declared.refusal.CommandRefusal.TheVariants.{Layout, Mutator, Sweep, Trace, Dump, Audit, CannotOpen, CannotCreate, ReadFailed, CannotPrint, NoSuchWord, BadMarks, OutOfMemory}
 use Rattle.command_io.proofs.Outcomes.{uncounted_by, unmade}
-use Rattle.commands.specs.declared.replays.Halted.{Halted}
+use Rattle.commands.specs.declared.replays.PrintedHalt.{PrintedHalt}
 use Rattle.commands.specs.Cycled.{IsCycledHeap, IsUncycled}
 use Rattle.commands.specs.Nexts.{IsOfWritingNext, IsWrittenNext, MakesNext, Nexts, PrintsNext, RefusesCycle, RefusesNext, RefusesWriting}
 use Rattle.commands.specs.declared.cycling.Cycled.{Cycled}
 
 -- no refusal of marks counts a failed call of the output
-pub marks_uncounted : {S : Type 0} (unmarked : Type 0) (handed : S → Type 0) (rest : S → Option (List ℕ)) (n : ℕ) (refusal : Refusal) → RefusesMarksAt unmarked handed rest refusal → CountsPrint {T = Unit {0}} n n (Err refusal)
+pub marks_uncounted : {S : Type 0} (unmarked : Type 0) (handed : S → Type 0) (rest : S → Option (List ℕ)) (n : ℕ) (refusal : CommandRefusal) → RefusesMarksAt unmarked handed rest refusal → CountsPrint {T = Unit {0}} n n (Err refusal)
 marks_uncounted unmarked handed rest n refusal h = uncounted_by n n refusal refl (λ e. (subst (RefusesMarksAt unmarked handed rest) e h).2)
 
 -- no image was created, since none was begun
-pub unmade_anyway : {D : Type 0} (dumps : D) (result : Result (Unit {0}) Refusal) → RefusedUnmade dumps dumps result
+pub unmade_anyway : {D : Type 0} (dumps : D) (result : Result (Unit {0}) CommandRefusal) → RefusedUnmade dumps dumps result
 unmade_anyway dumps (Ok _) = tt
 unmade_anyway dumps (Err refusal) = unmade dumps refusal
 
 -- a refusal of the image is one of the writing
-pub writing_image : {W : Type 0} (lacks : Type 0) (gives : W → Type 0) (contents : W → Option (List ℕ)) (bytes : List ℕ) (refusal : Refusal) → IsOfWritingImage lacks gives contents bytes refusal
+pub writing_image : {W : Type 0} (lacks : Type 0) (gives : W → Type 0) (contents : W → Option (List ℕ)) (bytes : List ℕ) (refusal : CommandRefusal) → IsOfWritingImage lacks gives contents bytes refusal
     → IsOfWritingNext lacks gives contents bytes refusal
 writing_image lacks gives contents bytes (Layout fault) h = h
 writing_image lacks gives contents bytes (Mutator refused) h = h
@@ -44,7 +44,7 @@ writing_image lacks gives contents bytes (BadMarks line) h = h
 writing_image lacks gives contents bytes OutOfMemory h = h
 
 -- the image was written, and a call of the output failed
-pub unprinted_next : {W : Type 0} (lacks : Type 0) (gives : W → Type 0) (contents : W → Option (List ℕ)) (bytes : List ℕ) (result : Result (Unit {0}) Refusal) → OnErr result (result ≡ Err CannotPrint)
+pub unprinted_next : {W : Type 0} (lacks : Type 0) (gives : W → Type 0) (contents : W → Option (List ℕ)) (bytes : List ℕ) (result : Result (Unit {0}) CommandRefusal) → OnErr result (result ≡ Err CannotPrint)
     → WritesWhole gives contents bytes → IfErr result (IsOfWritingNext lacks gives contents bytes)
 unprinted_next lacks gives contents bytes (Ok _) cause written = tt
 unprinted_next lacks gives contents bytes (Err refusal) cause written =
@@ -52,26 +52,26 @@ unprinted_next lacks gives contents bytes (Err refusal) cause written =
     subst (IsOfWritingNext lacks gives contents bytes) (sym is) written
 
 -- what follows from an Ok, and from an Err
-pub ok_then : (P Q : Type 0) → (P → Q) → (result : Result (Unit {0}) Refusal) → OnOk result P → OnOk result Q
+pub ok_then : (P Q : Type 0) → (P → Q) → (result : Result (Unit {0}) CommandRefusal) → OnOk result P → OnOk result Q
 ok_then P Q f (Ok _) p = f p
 ok_then P Q f (Err refusal) p = tt
 
-pub err_then : (P Q : Refusal → Type 0) → ((refusal : Refusal) → P refusal → Q refusal) → (result : Result (Unit {0}) Refusal) → IfErr result P → IfErr result Q
+pub err_then : (P Q : CommandRefusal → Type 0) → ((refusal : CommandRefusal) → P refusal → Q refusal) → (result : Result (Unit {0}) CommandRefusal) → IfErr result P → IfErr result Q
 err_then P Q f (Ok _) p = tt
 err_then P Q f (Err refusal) p = f refusal p
 
 module _ {W : Type 0} (lacks : Type 0) (gives : W → Type 0) (contents : W → Option (List ℕ)) (mutators fresh : ℕ) (before after : Option (List ℕ)) (lines : List Line) (marks : List ℕ) (heap : Heap) where
   -- the cycle came to its end, and all was written and printed
-  pub made_ok : (made : Result Cycled Halted) → IfOk made (λ cycled. IsCycledHeap mutators fresh lines cycled.shown.items marks heap cycled.plan)
-      → (result : Result (Unit {0}) Refusal) → OnOk result (IsWrittenNext gives contents before after made) → OnOk result (Nexts gives contents mutators fresh before after lines marks heap)
+  pub made_ok : (made : Result Cycled PrintedHalt) → IfOk made (λ cycled. IsCycledHeap mutators fresh lines cycled.shown.items marks heap cycled.plan)
+      → (result : Result (Unit {0}) CommandRefusal) → OnOk result (IsWrittenNext gives contents before after made) → OnOk result (Nexts gives contents mutators fresh before after lines marks heap)
   made_ok made h (Err refusal) w = tt
   made_ok (Ok cycled) h (Ok _) w = record { shown = cycled.shown.items; next = cycled.plan; cycled = h; written = w.0; printed = w.1 }
   made_ok (Err halted) h (Ok _) w = absurd w
 
   -- or it did not
-  pub made_err : (made : Result Cycled Halted) → IfOk made (λ cycled. IsCycledHeap mutators fresh lines cycled.shown.items marks heap cycled.plan)
+  pub made_err : (made : Result Cycled PrintedHalt) → IfOk made (λ cycled. IsCycledHeap mutators fresh lines cycled.shown.items marks heap cycled.plan)
       → IfErr made (λ halted. IsUncycled mutators fresh lines halted.shown.items marks heap halted.refusal)
-      → (refusal : Refusal) → RefusesWriting lacks gives contents before after made refusal → RefusesCycle lacks gives contents mutators fresh before after lines marks heap refusal
+      → (refusal : CommandRefusal) → RefusesWriting lacks gives contents before after made refusal → RefusesCycle lacks gives contents mutators fresh before after lines marks heap refusal
   made_err (Ok cycled) h u refusal w = inr (cycled.shown.items, cycled.plan, h, w)
   made_err (Err halted) h u refusal w = inl (halted, u, w)
 

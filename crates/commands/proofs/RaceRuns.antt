@@ -19,10 +19,10 @@ use Rattle.commands.specs.Races.{HasRace, InterruptsRace, IsHaltedRace, IsRacedH
 use Rattle.commands.specs.Replays.{dumped_of, shown_lines, IsOfWritingRun, PrintsRun, SomeRun}
 use Rattle.command_io.specs.Texts.{IsTextOf, RefusesTextAt}
 use Rattle.command_io.specs.declared.refusal.Input.TheVariants as inputs
-use Rattle.command_io.specs.declared.refusal.Refusal.{Refusal}
-use Rattle.command_io.specs.declared.refusal.Refusal.TheVariants.{Layout, Mutator, Sweep, Trace, Dump, Audit, CannotOpen, CannotCreate, ReadFailed, CannotPrint, NoSuchWord, BadMarks, OutOfMemory}
+use Rattle.command_io.specs.declared.refusal.CommandRefusal.{CommandRefusal}
+use Rattle.command_io.specs.declared.refusal.CommandRefusal.TheVariants.{Layout, Mutator, Sweep, Trace, Dump, Audit, CannotOpen, CannotCreate, ReadFailed, CannotPrint, NoSuchWord, BadMarks, OutOfMemory}
 use Rattle.commands.specs.Outcomes.{IsHaltedBy, IsWritten, RefusesInputs, RefusesOutcome}
-use Rattle.commands.specs.declared.replays.Halted.{Halted}
+use Rattle.commands.specs.declared.replays.PrintedHalt.{PrintedHalt}
 use Rattle.commands.specs.declared.replays.Replayed.{Replayed}
 use Rattle.commands.proofs.ReplayRuns.{some_heap, some_refused, some_run}
 
@@ -38,11 +38,11 @@ races gives contents mutators fresh before after lines shown f heap h written pr
 -- The refusals of the command, from those of its parts.
 module _ {R S W : Type 0} (absent : Type 0) (given : R → Type 0) (remaining : R → Option (List ℕ)) (missing : Type 0) (texts : S → Type 0) (rest : S → Option (List ℕ))
     (lacks : Type 0) (gives : W → Type 0) (contents : W → Option (List ℕ)) (mutators fresh : ℕ) (before after : Option (List ℕ)) where
-  abbrev pub IsCause : Refusal → Type 0
+  abbrev pub IsCause : CommandRefusal → Type 0
   IsCause refusal = RefusesRace absent given remaining missing texts rest lacks gives contents mutators fresh before after refusal
 
   -- there is no heap
-  of_image : (refusal : Refusal) → RefusesAt absent given remaining RefusesImage refusal → IsCause refusal
+  of_image : (refusal : CommandRefusal) → RefusesAt absent given remaining RefusesImage refusal → IsCause refusal
   of_image (Layout fault) h = h
   of_image (Mutator refused) h = absurd h.2
   of_image (Sweep fault) h = absurd h.2
@@ -62,7 +62,7 @@ module _ {R S W : Type 0} (absent : Type 0) (given : R → Type 0) (remaining : 
 
   module _ (heap : Heap) (image : SomeGiven given remaining (IsImageOf (λ other. other ≡ heap))) where
     -- there is no trace for it, and nothing was printed
-    by_trace : Keeps before after → (refusal : Refusal) → RefusesTextAt missing texts rest mutators (length heap.roots) refusal → IsCause refusal
+    by_trace : Keeps before after → (refusal : CommandRefusal) → RefusesTextAt missing texts rest mutators (length heap.roots) refusal → IsCause refusal
     by_trace kept (Layout fault) h = absurd h.2
     by_trace kept (Mutator refused) h = absurd h.2
     by_trace kept (Sweep fault) h = absurd h.2
@@ -84,12 +84,12 @@ module _ {R S W : Type 0} (absent : Type 0) (given : R → Type 0) (remaining : 
     by_trace kept OutOfMemory h = tt
 
     module _ (lines : List Line) (trace : SomeGiven texts rest (IsTextOf mutators (length heap.roots) lines)) where
-      by_run : (refusal : Refusal) → RefusesRacing lacks gives contents mutators fresh before after refusal lines heap
+      by_run : (refusal : CommandRefusal) → RefusesRacing lacks gives contents mutators fresh before after refusal lines heap
           → SomeRun given remaining texts rest mutators (RefusesRacing lacks gives contents mutators fresh before after refusal)
       by_run refusal h = some_run given remaining texts rest mutators heap image (RefusesRacing lacks gives contents mutators fresh before after refusal) lines trace h
 
       -- its lines did not all run, and what they showed was printed
-      of_halt : (shown : List Shown) → Appends before after (shown_lines shown) → (refusal : Refusal) → IsHaltedRace mutators fresh lines shown heap refusal → IsCause refusal
+      of_halt : (shown : List Shown) → Appends before after (shown_lines shown) → (refusal : CommandRefusal) → IsHaltedRace mutators fresh lines shown heap refusal → IsCause refusal
       of_halt shown printed (Layout fault) h = absurd h
       of_halt shown printed (Mutator refused) h = by_run (Mutator refused) h.0
       of_halt shown printed (Sweep fault) h = absurd h
@@ -106,12 +106,12 @@ module _ {R S W : Type 0} (absent : Type 0) (given : R → Type 0) (remaining : 
       of_halt shown printed OutOfMemory h = tt
 
       -- or a call of the output failed
-      of_halt_unprinted : (shown : List Shown) (refusal : Refusal) → IsHaltedRace mutators fresh lines shown heap refusal → IsCause CannotPrint
+      of_halt_unprinted : (shown : List Shown) (refusal : CommandRefusal) → IsHaltedRace mutators fresh lines shown heap refusal → IsCause CannotPrint
       of_halt_unprinted shown refusal h = by_run CannotPrint (inr (refusal, shown, h))
 
       module _ (shown : List Shown) (f : Finished) (h : IsRacedHeap mutators fresh lines shown f heap) where
         -- they ran, and the dump was not written, or a call of the output failed
-        of_writing : (refusal : Refusal) → IsOfWritingRun lacks gives contents (dump_bytes (dumped_of mutators fresh f)) refusal → IsCause refusal
+        of_writing : (refusal : CommandRefusal) → IsOfWritingRun lacks gives contents (dump_bytes (dumped_of mutators fresh f)) refusal → IsCause refusal
         of_writing (Layout fault) w = absurd w
         of_writing (Mutator refused) w = absurd w
         of_writing (Sweep fault) w = absurd w
@@ -138,28 +138,28 @@ module _ {R S W : Type 0} (absent : Type 0) (given : R → Type 0) (remaining : 
             (races gives contents mutators fresh before after lines shown f heap h written printed)
 
       -- from what became of the run
-      of_outcome : (outcome : Result Replayed Halted) → IfOk outcome (λ run. IsRacedHeap mutators fresh lines run.shown.items run.finished heap)
+      of_outcome : (outcome : Result Replayed PrintedHalt) → IfOk outcome (λ run. IsRacedHeap mutators fresh lines run.shown.items run.finished heap)
           → IfErr outcome (λ run. IsHaltedRace mutators fresh lines run.shown.items heap run.refusal)
-          → (refusal : Refusal) → RefusesOutcome lacks gives contents mutators fresh before after outcome refusal → IsCause refusal
+          → (refusal : CommandRefusal) → RefusesOutcome lacks gives contents mutators fresh before after outcome refusal → IsCause refusal
       of_outcome (Ok run) ran halted refusal h = of_writing run.shown.items run.finished ran refusal h
       of_outcome (Err run) ran halted refusal (inl (is, printed)) = subst IsCause (sym is) (of_halt run.shown.items printed run.refusal halted)
       of_outcome (Err run) ran halted refusal (inr is) = subst IsCause (sym is) (of_halt_unprinted run.shown.items run.refusal halted)
 
-      pub of_outcome_err : (outcome : Result Replayed Halted) → IfOk outcome (λ run. IsRacedHeap mutators fresh lines run.shown.items run.finished heap)
+      pub of_outcome_err : (outcome : Result Replayed PrintedHalt) → IfOk outcome (λ run. IsRacedHeap mutators fresh lines run.shown.items run.finished heap)
           → IfErr outcome (λ run. IsHaltedRace mutators fresh lines run.shown.items heap run.refusal)
-          → (result : Result (Unit {0}) Refusal) → IfErr result (RefusesOutcome lacks gives contents mutators fresh before after outcome) → IfErr result IsCause
+          → (result : Result (Unit {0}) CommandRefusal) → IfErr result (RefusesOutcome lacks gives contents mutators fresh before after outcome) → IfErr result IsCause
       of_outcome_err outcome ran halted (Ok _) h = tt
       of_outcome_err outcome ran halted (Err refusal) h = of_outcome outcome ran halted refusal h
 
-      pub of_outcome_ok : (outcome : Result Replayed Halted) → IfOk outcome (λ run. IsRacedHeap mutators fresh lines run.shown.items run.finished heap)
-          → (result : Result (Unit {0}) Refusal) → OnOk result (IsWritten gives contents mutators fresh before after outcome)
+      pub of_outcome_ok : (outcome : Result Replayed PrintedHalt) → IfOk outcome (λ run. IsRacedHeap mutators fresh lines run.shown.items run.finished heap)
+          → (result : Result (Unit {0}) CommandRefusal) → OnOk result (IsWritten gives contents mutators fresh before after outcome)
           → OnOk result (SomeRun given remaining texts rest mutators (Races gives contents mutators fresh before after))
       of_outcome_ok outcome ran (Err refusal) h = tt
       of_outcome_ok (Ok run) ran (Ok _) h = of_all run.shown.items run.finished ran h.0 h.1
       of_outcome_ok (Err run) ran (Ok _) h = absurd h
 
   -- there is no heap, or no trace for it
-  pub of_inputs : Keeps before after → (refusal : Refusal) → RefusesInputs absent given remaining missing texts rest mutators refusal → IsCause refusal
+  pub of_inputs : Keeps before after → (refusal : CommandRefusal) → RefusesInputs absent given remaining missing texts rest mutators refusal → IsCause refusal
   of_inputs kept refusal (inl h) = of_image refusal h
   of_inputs kept refusal (inr (heap, image, h)) = by_trace heap image kept refusal h
 
@@ -173,7 +173,7 @@ raced_by mutators fresh lines shown heap (NoSuchRoot number) h = absurd h
 raced_by mutators fresh lines shown heap (Refused number refusal) h = tt
 raced_by mutators fresh lines shown heap traces.OutOfMemory h = h
 
-pub race_halted_by : (mutators fresh : ℕ) (lines : List Line) (heap : Heap) (shown : List Shown) (refusal : Refusal) → IsHaltedRace mutators fresh lines shown heap refusal → IsHaltedBy shown refusal
+pub race_halted_by : (mutators fresh : ℕ) (lines : List Line) (heap : Heap) (shown : List Shown) (refusal : CommandRefusal) → IsHaltedRace mutators fresh lines shown heap refusal → IsHaltedBy shown refusal
 race_halted_by mutators fresh lines heap shown (Layout fault) h = absurd h
 race_halted_by mutators fresh lines heap shown (Mutator refused) h = h.1
 race_halted_by mutators fresh lines heap shown (Sweep fault) h = absurd h

@@ -8,7 +8,7 @@ use Rattle.comp_mutator.specs.Lists.{Each}
 use Rattle.comp_mutator.specs.Setup.{Setup}
 use Rattle.comp_mutator.specs.Pass.{Pass}
 use Rattle.comp_mutator.proofs.Sums.{is_inside, there_at}
-use Rattle.comp_mutator.specs.Cells.{steps_of, AreNew}
+use Rattle.comp_mutator.specs.CellViews.{steps_of, AreNew}
 use Rattle.comp_mutator.proofs.Rows.{at_map_back}
 use Rattle.comp_mutator.specs.Finishes.{history_of, IsFinished}
 use Rattle.comp_mutator.specs.Mutators.{cells_of, pass_of, setup_of}
@@ -17,13 +17,13 @@ use Rattle.comp_mutator.specs.declared.mutator.Mutator.{Mutator}
 use Rattle.comp_mutator.specs.declared.space.Space.{Space}
 use Rattle.comp_trace.specs.Grammar.{parts}
 use Rattle.comp_trace.specs.Races.{numbered, own_lines, HaveRaced, Ran}
-use Rattle.comp_trace.specs.Stop.{Stop}
+use Rattle.comp_trace.specs.RefusedLine.{RefusedLine}
 use Rattle.comp_trace.specs.Line.{Line}
 use Rattle.comp_trace.specs.Run.{Run}
 use Rattle.comp_trace.specs.Shown.{Shown}
 use Rattle.comp_trace.proofs.Inside.{read_inside}
-use Rattle.commands.specs.ByLine.{AreByLine, AreOwn, HasEnded, IsLeastStop}
-use Rattle.commands.specs.Races.{HaveRun, IsRacedHeap, IsStoppedRace}
+use Rattle.commands.specs.ByLine.{AreByLine, AreOwn, HasEnded, IsLeastRefusedLine}
+use Rattle.commands.specs.Races.{RanTheirLines, IsRacedHeap, IsStoppedRace}
 use Rattle.commands.specs.Replays.{dumped_of, IsDumpAfter}
 use Rattle.command_io.specs.Texts.{HasLines}
 use Rattle.comp_trace.proofs.Runnings.{setup_is}
@@ -52,7 +52,7 @@ module _ {L B : Type 0} {g : Ghosts B} (space : Space L B g) (lines : List Line)
       let now = there_at after k (omega (arith, lt, many_runs, raced.all.count)) in
       of_run (setup_of space) (own_lines k (numbered 1 lines)) (pass_of old.0) (pass_of now.0) run.shown.items run.fault (raced.ran k old.0 now.0 run old.1 now.1 at)
 
-  have_run : HaveRun (setup_of space) lines (map pass_of after) runs
+  have_run : RanTheirLines (setup_of space) lines (map pass_of after) runs
   have_run = record {
     table = steps_of (cells_of space);
     about = refl;
@@ -80,7 +80,7 @@ module _ {L B : Type 0} {g : Ghosts B} (space : Space L B g) (lines : List Line)
         record {
           row = row;
           runs = runs;
-          ran = subst (λ (w : Setup). HaveRun w lines row runs) same have_run;
+          ran = subst (λ (w : Setup). RanTheirLines w lines row runs) same have_run;
           ended = ended;
           in_order = in_order;
           finished = subst (λ (w : Setup). IsFinished w row f) same end;
@@ -88,11 +88,11 @@ module _ {L B : Type 0} {g : Ghosts B} (space : Space L B g) (lines : List Line)
         }
 
     -- a race in which lines were refused
-    pub stopped_race : (stop : Stop) → IsLeastStop runs stop → IsStoppedRace (setup_of space).mutators (setup_of space).fresh lines shown (setup_of space).heap stop.line stop.refusal
+    pub stopped_race : (stop : RefusedLine) → IsLeastRefusedLine runs stop → IsStoppedRace (setup_of space).mutators (setup_of space).fresh lines shown (setup_of space).heap stop.line stop.refusal
     stopped_race stop first = record {
       row = map pass_of after;
       runs = runs;
-      ran = subst (λ (w : Setup). HaveRun w lines (map pass_of after) runs) (setup_is (setup_of space) compacted) have_run;
+      ran = subst (λ (w : Setup). RanTheirLines w lines (map pass_of after) runs) (setup_is (setup_of space) compacted) have_run;
       first = first;
       in_order = in_order;
     }

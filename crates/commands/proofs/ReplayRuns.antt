@@ -23,14 +23,14 @@ use Rattle.comp_dump.specs.declared.fault.DumpFault.TheVariants as faults
 use Rattle.command_io.specs.Dumps.{IsOfDumping, RefusedUncreated, WritesWhole}
 use Rattle.command_io.specs.Images.{IsImageOf, RefusesAt, RefusesImage, SomeGiven}
 use Rattle.command_io.specs.Printing.{CountsPrint}
-use Rattle.commands.specs.Replays.{dumped_of, shown_lines, HasRun, IsHalted, IsOfWritingRun, IsReplayedHeap, PrintsRun, RefusesReplay, RefusesRun, Replays, SomeRun, StopsReplay, StopsUnprinted}
+use Rattle.commands.specs.Replays.{dumped_of, shown_lines, RanOver, IsPrintedHalt, IsOfWritingRun, IsReplayedHeap, PrintsRun, RefusesReplay, RefusesRun, Replays, SomeRun, StopsReplay, StopsUnprinted}
 use Rattle.command_io.specs.Texts.{HasLines, IsTextOf, RefusesText, RefusesTextAt, SomeText}
 use Rattle.command_io.specs.declared.refusal.Input.TheVariants as inputs
-use Rattle.command_io.specs.declared.refusal.Refusal.{Refusal}
-use Rattle.command_io.specs.declared.refusal.Refusal.TheVariants.{Layout, Mutator, Sweep, Trace, Dump, Audit, CannotOpen, CannotCreate, ReadFailed, CannotPrint, NoSuchWord, BadMarks, OutOfMemory}
+use Rattle.command_io.specs.declared.refusal.CommandRefusal.{CommandRefusal}
+use Rattle.command_io.specs.declared.refusal.CommandRefusal.TheVariants.{Layout, Mutator, Sweep, Trace, Dump, Audit, CannotOpen, CannotCreate, ReadFailed, CannotPrint, NoSuchWord, BadMarks, OutOfMemory}
 use Rattle.command_io.proofs.Outcomes.{same_parts, uncounted_by, uncreated}
 use Rattle.commands.specs.Outcomes.{IsHaltedBy, IsWritten, RefusesInputs, RefusesOutcome}
-use Rattle.commands.specs.declared.replays.Halted.{Halted}
+use Rattle.commands.specs.declared.replays.PrintedHalt.{PrintedHalt}
 use Rattle.commands.specs.declared.replays.Replayed.{Replayed}
 
 -- what holds of the one heap of an image
@@ -38,7 +38,7 @@ of_heap : (Q : Heap → Type 0) (heap : Heap) (known : Option (List ℕ)) → Q 
 of_heap Q heap known q image = (image.0, image.1, image.2, (image.3.0, subst Q (sym image.3.1) q))
 
 -- a run, and its dump
-abbrev pub has_run : (mutators fresh : ℕ) (lines : List Line) (shown : List Shown) (f : Finished) (heap : Heap) → IsReplayedHeap mutators fresh lines shown f heap → HasRun mutators fresh lines heap
+abbrev pub has_run : (mutators fresh : ℕ) (lines : List Line) (shown : List Shown) (f : Finished) (heap : Heap) → IsReplayedHeap mutators fresh lines shown f heap → RanOver mutators fresh lines heap
 has_run mutators fresh lines shown f heap h = record { end = h.end; runs = h.runs; dump = dumped_of mutators fresh f; left = h.left }
 
 replays : {W : Type 0} (gives : W → Type 0) (contents : W → Option (List ℕ)) (mutators fresh : ℕ) (before after : Option (List ℕ)) (lines : List Line) (shown : List Shown) (f : Finished) (heap : Heap)
@@ -68,7 +68,7 @@ module _ {R S : Type 0} (given : R → Type 0) (remaining : R → Option (List �
   )
 
   -- a trace that is refused for the heap
-  pub some_refused : (refusal : Refusal) → SomeGiven texts rest (RefusesText mutators (length heap.roots) refusal)
+  pub some_refused : (refusal : CommandRefusal) → SomeGiven texts rest (RefusesText mutators (length heap.roots) refusal)
       → SomeGiven given remaining (IsImageOf (λ (h : Heap). SomeGiven texts rest (RefusesText mutators (length h.roots) refusal)))
   some_refused refusal trace = (image.0, image.1, of_heap (λ (h : Heap). SomeGiven texts rest (RefusesText mutators (length h.roots) refusal)) heap (remaining image.0) trace image.2)
 
@@ -78,11 +78,11 @@ module _ {R S : Type 0} (given : R → Type 0) (remaining : R → Option (List �
 -- The refusals of the command, from those of its parts.
 module _ {R S W : Type 0} (absent : Type 0) (given : R → Type 0) (remaining : R → Option (List ℕ)) (missing : Type 0) (texts : S → Type 0) (rest : S → Option (List ℕ))
     (lacks : Type 0) (gives : W → Type 0) (contents : W → Option (List ℕ)) (mutators fresh : ℕ) (before after : Option (List ℕ)) where
-  abbrev pub IsCause : Refusal → Type 0
+  abbrev pub IsCause : CommandRefusal → Type 0
   IsCause refusal = RefusesReplay absent given remaining missing texts rest lacks gives contents mutators fresh before after refusal
 
   -- there is no heap
-  of_image : (refusal : Refusal) → RefusesAt absent given remaining RefusesImage refusal → IsCause refusal
+  of_image : (refusal : CommandRefusal) → RefusesAt absent given remaining RefusesImage refusal → IsCause refusal
   of_image (Layout fault) h = h
   of_image (Mutator refused) h = absurd h.2
   of_image (Sweep fault) h = absurd h.2
@@ -102,7 +102,7 @@ module _ {R S W : Type 0} (absent : Type 0) (given : R → Type 0) (remaining : 
 
   module _ (heap : Heap) (image : SomeGiven given remaining (IsImageOf (λ other. other ≡ heap))) where
     -- there is no trace for it, and nothing was printed
-    by_trace : Keeps before after → (refusal : Refusal) → RefusesTextAt missing texts rest mutators (length heap.roots) refusal → IsCause refusal
+    by_trace : Keeps before after → (refusal : CommandRefusal) → RefusesTextAt missing texts rest mutators (length heap.roots) refusal → IsCause refusal
     by_trace kept (Layout fault) h = absurd h.2
     by_trace kept (Mutator refused) h = absurd h.2
     by_trace kept (Sweep fault) h = absurd h.2
@@ -124,12 +124,12 @@ module _ {R S W : Type 0} (absent : Type 0) (given : R → Type 0) (remaining : 
     by_trace kept OutOfMemory h = tt
 
     module _ (lines : List Line) (trace : SomeGiven texts rest (IsTextOf mutators (length heap.roots) lines)) where
-      by_run : (refusal : Refusal) → RefusesRun lacks gives contents mutators fresh before after refusal lines heap
+      by_run : (refusal : CommandRefusal) → RefusesRun lacks gives contents mutators fresh before after refusal lines heap
           → SomeRun given remaining texts rest mutators (RefusesRun lacks gives contents mutators fresh before after refusal)
       by_run refusal h = some_run given remaining texts rest mutators heap image (RefusesRun lacks gives contents mutators fresh before after refusal) lines trace h
 
       -- its lines did not run to their end, and what they showed was printed
-      of_halt : (shown : List Shown) → Appends before after (shown_lines shown) → (refusal : Refusal) → IsHalted mutators fresh lines shown heap refusal → IsCause refusal
+      of_halt : (shown : List Shown) → Appends before after (shown_lines shown) → (refusal : CommandRefusal) → IsPrintedHalt mutators fresh lines shown heap refusal → IsCause refusal
       of_halt shown printed (Layout fault) h = absurd h
       of_halt shown printed (Mutator refused) h = by_run (Mutator refused) h.0
       of_halt shown printed (Sweep fault) h = absurd h
@@ -146,12 +146,12 @@ module _ {R S W : Type 0} (absent : Type 0) (given : R → Type 0) (remaining : 
       of_halt shown printed OutOfMemory h = tt
 
       -- or a call of the output failed
-      of_halt_unprinted : (shown : List Shown) (refusal : Refusal) → IsHalted mutators fresh lines shown heap refusal → IsCause CannotPrint
+      of_halt_unprinted : (shown : List Shown) (refusal : CommandRefusal) → IsPrintedHalt mutators fresh lines shown heap refusal → IsCause CannotPrint
       of_halt_unprinted shown refusal h = by_run CannotPrint (inr (refusal, shown, h))
 
       module _ (shown : List Shown) (f : Finished) (h : IsReplayedHeap mutators fresh lines shown f heap) where
         -- they ran, and the dump was not written, or a call of the output failed
-        of_writing : (refusal : Refusal) → IsOfWritingRun lacks gives contents (dump_bytes (dumped_of mutators fresh f)) refusal → IsCause refusal
+        of_writing : (refusal : CommandRefusal) → IsOfWritingRun lacks gives contents (dump_bytes (dumped_of mutators fresh f)) refusal → IsCause refusal
         of_writing (Layout fault) w = absurd w
         of_writing (Mutator refused) w = absurd w
         of_writing (Sweep fault) w = absurd w
@@ -178,42 +178,42 @@ module _ {R S W : Type 0} (absent : Type 0) (given : R → Type 0) (remaining : 
             (replays gives contents mutators fresh before after lines shown f heap h written printed)
 
       -- from what became of the run
-      of_outcome : (outcome : Result Replayed Halted) → IfOk outcome (λ run. IsReplayedHeap mutators fresh lines run.shown.items run.finished heap)
-          → IfErr outcome (λ run. IsHalted mutators fresh lines run.shown.items heap run.refusal)
-          → (refusal : Refusal) → RefusesOutcome lacks gives contents mutators fresh before after outcome refusal → IsCause refusal
+      of_outcome : (outcome : Result Replayed PrintedHalt) → IfOk outcome (λ run. IsReplayedHeap mutators fresh lines run.shown.items run.finished heap)
+          → IfErr outcome (λ run. IsPrintedHalt mutators fresh lines run.shown.items heap run.refusal)
+          → (refusal : CommandRefusal) → RefusesOutcome lacks gives contents mutators fresh before after outcome refusal → IsCause refusal
       of_outcome (Ok run) ran halted refusal h = of_writing run.shown.items run.finished ran refusal h
       of_outcome (Err run) ran halted refusal (inl (is, printed)) = subst IsCause (sym is) (of_halt run.shown.items printed run.refusal halted)
       of_outcome (Err run) ran halted refusal (inr is) = subst IsCause (sym is) (of_halt_unprinted run.shown.items run.refusal halted)
 
-      pub of_outcome_err : (outcome : Result Replayed Halted) → IfOk outcome (λ run. IsReplayedHeap mutators fresh lines run.shown.items run.finished heap)
-          → IfErr outcome (λ run. IsHalted mutators fresh lines run.shown.items heap run.refusal)
-          → (result : Result (Unit {0}) Refusal) → IfErr result (RefusesOutcome lacks gives contents mutators fresh before after outcome) → IfErr result IsCause
+      pub of_outcome_err : (outcome : Result Replayed PrintedHalt) → IfOk outcome (λ run. IsReplayedHeap mutators fresh lines run.shown.items run.finished heap)
+          → IfErr outcome (λ run. IsPrintedHalt mutators fresh lines run.shown.items heap run.refusal)
+          → (result : Result (Unit {0}) CommandRefusal) → IfErr result (RefusesOutcome lacks gives contents mutators fresh before after outcome) → IfErr result IsCause
       of_outcome_err outcome ran halted (Ok _) h = tt
       of_outcome_err outcome ran halted (Err refusal) h = of_outcome outcome ran halted refusal h
 
-      pub of_outcome_ok : (outcome : Result Replayed Halted) → IfOk outcome (λ run. IsReplayedHeap mutators fresh lines run.shown.items run.finished heap)
-          → (result : Result (Unit {0}) Refusal) → OnOk result (IsWritten gives contents mutators fresh before after outcome)
+      pub of_outcome_ok : (outcome : Result Replayed PrintedHalt) → IfOk outcome (λ run. IsReplayedHeap mutators fresh lines run.shown.items run.finished heap)
+          → (result : Result (Unit {0}) CommandRefusal) → OnOk result (IsWritten gives contents mutators fresh before after outcome)
           → OnOk result (SomeRun given remaining texts rest mutators (Replays gives contents mutators fresh before after))
       of_outcome_ok outcome ran (Err refusal) h = tt
       of_outcome_ok (Ok run) ran (Ok _) h = of_all run.shown.items run.finished ran h.0 h.1
       of_outcome_ok (Err run) ran (Ok _) h = absurd h
 
   -- there is no heap, or no trace for it
-  pub of_inputs : Keeps before after → (refusal : Refusal) → RefusesInputs absent given remaining missing texts rest mutators refusal → IsCause refusal
+  pub of_inputs : Keeps before after → (refusal : CommandRefusal) → RefusesInputs absent given remaining missing texts rest mutators refusal → IsCause refusal
   of_inputs kept refusal (inl h) = of_image refusal h
   of_inputs kept refusal (inr (heap, image, h)) = by_trace heap image kept refusal h
 
 -- no refusal of an image or of a trace counts a failed call of the output
-image_uncounted : {R : Type 0} (absent : Type 0) (given : R → Type 0) (remaining : R → Option (List ℕ)) (n : ℕ) (refusal : Refusal) → RefusesAt absent given remaining RefusesImage refusal
+image_uncounted : {R : Type 0} (absent : Type 0) (given : R → Type 0) (remaining : R → Option (List ℕ)) (n : ℕ) (refusal : CommandRefusal) → RefusesAt absent given remaining RefusesImage refusal
     → CountsPrint {T = Unit {0}} n n (Err refusal)
 image_uncounted absent given remaining n refusal h = uncounted_by n n refusal refl (λ e. (subst (RefusesAt absent given remaining RefusesImage) e h).2)
 
-trace_uncounted : {S : Type 0} (missing : Type 0) (texts : S → Type 0) (rest : S → Option (List ℕ)) (mutators roots n : ℕ) (refusal : Refusal) → RefusesTextAt missing texts rest mutators roots refusal
+trace_uncounted : {S : Type 0} (missing : Type 0) (texts : S → Type 0) (rest : S → Option (List ℕ)) (mutators roots n : ℕ) (refusal : CommandRefusal) → RefusesTextAt missing texts rest mutators roots refusal
     → CountsPrint {T = Unit {0}} n n (Err refusal)
 trace_uncounted missing texts rest mutators roots n refusal h = uncounted_by n n refusal refl (λ e. (subst (RefusesTextAt missing texts rest mutators roots) e h).2)
 
 pub inputs_uncounted : {R S : Type 0} (absent : Type 0) (given : R → Type 0) (remaining : R → Option (List ℕ)) (missing : Type 0) (texts : S → Type 0) (rest : S → Option (List ℕ))
-    (mutators n : ℕ) (refusal : Refusal) → RefusesInputs absent given remaining missing texts rest mutators refusal → CountsPrint {T = Unit {0}} n n (Err refusal)
+    (mutators n : ℕ) (refusal : CommandRefusal) → RefusesInputs absent given remaining missing texts rest mutators refusal → CountsPrint {T = Unit {0}} n n (Err refusal)
 inputs_uncounted absent given remaining missing texts rest mutators n refusal (inl h) = image_uncounted absent given remaining n refusal h
 inputs_uncounted absent given remaining missing texts rest mutators n refusal (inr (heap, image, h)) = trace_uncounted missing texts rest mutators (length heap.roots) n refusal h
 
@@ -228,7 +228,7 @@ unprinted_trace before (Refused number refusal) = tt
 unprinted_trace before traces.OutOfMemory = Keeps-refl before
 
 -- what a refusal leaves of the output that comes before anything is printed
-pub unprinted_halt : (before : Option (List ℕ)) (refusal : Refusal) → StopsUnprinted {T = Unit {0}} before before (Err refusal)
+pub unprinted_halt : (before : Option (List ℕ)) (refusal : CommandRefusal) → StopsUnprinted {T = Unit {0}} before before (Err refusal)
 unprinted_halt before (Layout fault) = Keeps-refl before
 unprinted_halt before (Mutator refused) = Keeps-refl before
 unprinted_halt before (Sweep fault) = Keeps-refl before
@@ -262,7 +262,7 @@ cut_by u lines shown (NoSuchRoot number) h = absurd h
 cut_by u lines shown (Refused number refusal) h = tt
 cut_by u lines shown traces.OutOfMemory h = h
 
-pub halted_by : (mutators fresh : ℕ) (lines : List Line) (heap : Heap) (shown : List Shown) (refusal : Refusal) → IsHalted mutators fresh lines shown heap refusal → IsHaltedBy shown refusal
+pub halted_by : (mutators fresh : ℕ) (lines : List Line) (heap : Heap) (shown : List Shown) (refusal : CommandRefusal) → IsPrintedHalt mutators fresh lines shown heap refusal → IsHaltedBy shown refusal
 halted_by mutators fresh lines heap shown (Layout fault) h = absurd h
 halted_by mutators fresh lines heap shown (Mutator refused) h = h.1
 halted_by mutators fresh lines heap shown (Sweep fault) h = absurd h
@@ -278,10 +278,10 @@ halted_by mutators fresh lines heap shown (BadMarks line) h = absurd h
 halted_by mutators fresh lines heap shown OutOfMemory h = h
 
 -- what a halted run leaves of the output, if what it had shown was printed
-pub halt_counted : (shown : List Shown) (old new : ℕ) (refusal : Refusal) → new ≡ old → IsHaltedBy shown refusal → CountsPrint {T = Unit {0}} old new (Err refusal)
+pub halt_counted : (shown : List Shown) (old new : ℕ) (refusal : CommandRefusal) → new ≡ old → IsHaltedBy shown refusal → CountsPrint {T = Unit {0}} old new (Err refusal)
 halt_counted shown old new refusal same h = uncounted_by old new refusal same (λ e. subst (IsHaltedBy shown) e h)
 
-pub halt_unprinted : (before after : Option (List ℕ)) (shown : List Shown) → Appends before after (shown_lines shown) → (refusal : Refusal) → IsHaltedBy shown refusal
+pub halt_unprinted : (before after : Option (List ℕ)) (shown : List Shown) → Appends before after (shown_lines shown) → (refusal : CommandRefusal) → IsHaltedBy shown refusal
     → StopsUnprinted {T = Unit {0}} before after (Err refusal)
 halt_unprinted before after shown printed (Layout fault) h = none_printed before after shown h printed
 halt_unprinted before after shown printed (Mutator refused) h = none_printed before after shown h printed
@@ -304,17 +304,17 @@ halt_unprinted before after shown printed (BadMarks line) h = none_printed befor
 halt_unprinted before after shown printed OutOfMemory h = none_printed before after shown h printed
 
 -- and none of the dump
-pub uncreated_anyway : {D : Type 0} (dumps : D) (result : Result (Unit {0}) Refusal) → RefusedUncreated dumps dumps result
+pub uncreated_anyway : {D : Type 0} (dumps : D) (result : Result (Unit {0}) CommandRefusal) → RefusedUncreated dumps dumps result
 uncreated_anyway dumps (Ok _) = tt
 uncreated_anyway dumps (Err refusal) = uncreated dumps refusal
 
 -- what holds of an Ok, of two things
-pub ok_both : (result : Result (Unit {0}) Refusal) (P Q : Type 0) → OnOk result P → OnOk result Q → OnOk result (P × Q)
+pub ok_both : (result : Result (Unit {0}) CommandRefusal) (P Q : Type 0) → OnOk result P → OnOk result Q → OnOk result (P × Q)
 ok_both (Ok _) P Q p q = (p, q)
 ok_both (Err refusal) P Q p q = tt
 
 -- a refusal of the dump is one of the writing
-pub writing_of : {W : Type 0} (lacks : Type 0) (gives : W → Type 0) (contents : W → Option (List ℕ)) (bytes : List ℕ) (refusal : Refusal) → IsOfDumping lacks gives contents bytes refusal
+pub writing_of : {W : Type 0} (lacks : Type 0) (gives : W → Type 0) (contents : W → Option (List ℕ)) (bytes : List ℕ) (refusal : CommandRefusal) → IsOfDumping lacks gives contents bytes refusal
     → IsOfWritingRun lacks gives contents bytes refusal
 writing_of lacks gives contents bytes (Layout fault) h = h
 writing_of lacks gives contents bytes (Mutator refused) h = h
@@ -337,25 +337,25 @@ dumped_same mutators fresh f dump ee em en er ep eb et =
     same_parts dump.edition (edition_in f) dump.mutators mutators dump.fresh fresh dump.total (live_of f) dump.roots (roots_of f) dump.pages (map record_of (pages_of f)) dump.builds (builds_in f) ee em en er ep eb et
 
 -- A run prints its values, then its live words. If these fail, the dump was written, and a call of the output failed.
-pub printed_run : (before between after : Option (List ℕ)) (values line : List ℕ) (result : Result (Unit {0}) Refusal) → Appends before between values → OnOk result (Appends between after line)
+pub printed_run : (before between after : Option (List ℕ)) (values line : List ℕ) (result : Result (Unit {0}) CommandRefusal) → Appends before between values → OnOk result (Appends between after line)
     → OnOk result (Appends before after (values ++ line))
 printed_run before between after values line (Ok _) printed last = Appends-trans before between after values line printed last
 printed_run before between after values line (Err refusal) printed last = tt
 
-pub unprinted_run : {W : Type 0} (lacks : Type 0) (gives : W → Type 0) (contents : W → Option (List ℕ)) (bytes : List ℕ) (result : Result (Unit {0}) Refusal) → OnErr result (result ≡ Err CannotPrint)
+pub unprinted_run : {W : Type 0} (lacks : Type 0) (gives : W → Type 0) (contents : W → Option (List ℕ)) (bytes : List ℕ) (result : Result (Unit {0}) CommandRefusal) → OnErr result (result ≡ Err CannotPrint)
     → WritesWhole gives contents bytes → IfErr result (IsOfWritingRun lacks gives contents bytes)
 unprinted_run lacks gives contents bytes (Ok _) cause written = tt
 unprinted_run lacks gives contents bytes (Err refusal) cause written =
     let is : refusal ≡ CannotPrint = cc in
     subst (IsOfWritingRun lacks gives contents bytes) (sym is) written
 
-pub unprinted_line : (before after : Option (List ℕ)) (result : Result (Unit {0}) Refusal) → OnErr result (result ≡ Err CannotPrint) → StopsUnprinted before after result
+pub unprinted_line : (before after : Option (List ℕ)) (result : Result (Unit {0}) CommandRefusal) → OnErr result (result ≡ Err CannotPrint) → StopsUnprinted before after result
 unprinted_line before after (Ok _) cause = tt
 unprinted_line before after (Err refusal) cause =
     let is : refusal ≡ CannotPrint = cc in
-    subst (λ (r : Refusal). StopsUnprinted {T = Unit {0}} before after (Err r)) (sym is) tt
+    subst (λ (r : CommandRefusal). StopsUnprinted {T = Unit {0}} before after (Err r)) (sym is) tt
 
-pub of_unprinted : (result : Result (Unit {0}) Refusal) (refusal : Refusal) → result ≡ Err refusal → result ≡ Err CannotPrint → refusal ≡ CannotPrint
+pub of_unprinted : (result : Result (Unit {0}) CommandRefusal) (refusal : CommandRefusal) → result ≡ Err refusal → result ≡ Err CannotPrint → refusal ≡ CannotPrint
 of_unprinted result refusal is cause = cc
 
 -- What was done of a run, whether the output is flushed after it or not.

@@ -20,18 +20,18 @@ use Rattle.comp_mutator.specs.Closing.{journal_in, page_at, HasBase}
 use Rattle.comp_mutator.specs.Passes.{builds_of, did}
 use Rattle.comp_mutator.specs.Pass.{Pass}
 use Rattle.comp_mutator.proofs.Sums.{there_at}
-use Rattle.comp_mutator.specs.Cells.{steps_of, AreNew}
+use Rattle.comp_mutator.specs.CellViews.{steps_of, AreNew}
 use Rattle.comp_mutator.proofs.Rows.{at_map, at_map_back}
 use Rattle.comp_mutator.specs.Merged.{written_by}
 use Rattle.comp_mutator.specs.Shares.{allocated}
 use Rattle.comp_mutator.specs.Finishes.{builds_in, history_of, journals_of, live_of, pages_of, roots_of, there, IsFinished}
 use Rattle.comp_mutator.specs.Mutators.{cells_of, pass_of, setup_of}
-use Rattle.comp_mutator.specs.Orders.{HasNumber, IsRow}
+use Rattle.comp_mutator.specs.Orders.{HasNumber, IsInOrder}
 use Rattle.comp_mutator.specs.Finished.{Finished}
 use Rattle.comp_mutator.specs.declared.mutator.Mutator.{Mutator}
 use Rattle.comp_mutator.specs.declared.space.Space.{Space}
 use Rattle.comp_sweep.specs.Sweeps.{HandsBack, SomeSeesBuilt, Sweeps}
-use Rattle.comp_sweep.proofs.Told.{beside}
+use Rattle.comp_sweep.proofs.SweepAnswers.{beside}
 use Rattle.comp_dump.specs.Dumped.{BuiltPage}
 use Rattle.comp_dump.specs.Lent.{record_of}
 use Rattle.commands.specs.Compact.{slid_record, slid_records, AreBuilds, IsSweptHeap}
@@ -111,7 +111,7 @@ module _ (u : Setup) (row : List Pass) (f : Finished) (end : IsFinished u row f)
 
 module _ {L B : Type 0} {g : Ghosts B} (space : Space L B g) (given back : List (Mutator L)) (new : AreNew (steps_of (cells_of space)) (setup_of space).mutators (map pass_of given)) (h : HandsBack space given back) where
   -- mutators that are handed back stand in the order of their numbers
-  pub still_row : IsRow (setup_of space).mutators back back
+  pub still_row : IsInOrder (setup_of space).mutators back back
   still_row = record {
     count = AllZip-long (Sweeps space) given back h ∙ (sym (length-map given pass_of) ∙ new.count);
     numbers = λ k m at. let x = beside (Sweeps space) given back k m h at in x.2.grows.number ∙ (new.new k (pass_of x.0) (at_map pass_of given k x.0 x.1)).number;
@@ -135,7 +135,7 @@ module _ {L B : Type 0} {g : Ghosts B} (space : Space L B g) (given back : List 
   -- what they swept is then the swept heap
   pub swept_heap : (f : Finished) → (setup_of space).compacted ≡ sliding.pages (live (setup_of space).heap) → (setup_of space).fresh ≡ 0
       → ((p : ℕ) → p < (setup_of space).compacted → SomeSeesBuilt back p)
-      → (IsRow (setup_of space).mutators back back → IsFinished (setup_of space) (map pass_of back) f)
+      → (IsInOrder (setup_of space).mutators back back → IsFinished (setup_of space) (map pass_of back) f)
       → IsSweptHeap (setup_of space).mutators f (setup_of space).heap
   swept_heap f compacted fresh seen finished =
       let end = finished still_row in

@@ -13,13 +13,13 @@ use Rattle.comp_mutator.proofs.Sums.{at_last, but-other, but-same, each-append, 
 use Rattle.comp_mutator.proofs.Sorted.{at_in, in_at, in_front, in_behind, in_parts, In}
 use Rattle.comp_trace.specs.Acting.{null_registers, registers_after, shown_at}
 use Rattle.comp_trace.specs.Races.{numbered, own_lines, Ran, Went}
-use Rattle.comp_trace.specs.Stop.{Stop}
+use Rattle.comp_trace.specs.RefusedLine.{RefusedLine}
 use Rattle.comp_trace.specs.Action.{Action}
 use Rattle.comp_trace.specs.Action.TheVariants.{Root, Load, Get, Store, Put, New, Nil}
 use Rattle.comp_trace.specs.Line.{Line}
 use Rattle.comp_trace.specs.Run.{Run}
 use Rattle.comp_trace.specs.Shown.{Shown}
-use Rattle.commands.specs.ByLine.{earlier_of, printed_at, AreByLine, AreOf, AreOwn, HasEnded, IsFirstStop, IsLeastStop, LinesRise}
+use Rattle.commands.specs.ByLine.{earlier_of, printed_at, AreByLine, AreOf, AreOwn, HasEnded, IsFirstRefusedLine, IsLeastRefusedLine, LinesRise}
 
 -- ---- the walk
 
@@ -89,7 +89,7 @@ of_went u [] registers old values after new h = h.2
 of_went u (line ∷ lines) registers old values after new h =
     of_line line lines line.1.action h.1 h.2 values h.4 (of_went u lines (registers_after line.1.action registers h.1) h.0 h.2 after new h.5)
 
-pub of_run : (u : Setup) (lines : List (ℕ × Line)) (old new : Pass) (values : List Shown) (fault : Option Stop) → Ran u lines old new values fault → AreOf lines values
+pub of_run : (u : Setup) (lines : List (ℕ × Line)) (old new : Pass) (values : List Shown) (fault : Option RefusedLine) → Ran u lines old new values fault → AreOf lines values
 of_run u lines old new values fault h = of_taken h.count lines values (of_went u (take h.count lines) null_registers old values h.registers h.last h.went)
 
 -- the first value of lines from n on is of none below n
@@ -310,46 +310,46 @@ none_there None not = refl
 none_there (Some one) not = absurd (not one refl)
 
 -- ---- the refused line with the least number
-first_of_more : (runs : List Run) (run : Run) (stop : Stop) → Each runs HasEnded → run.fault ≡ Some stop → IsLeastStop (runs ++ run ∷ []) stop
+first_of_more : (runs : List Run) (run : Run) (stop : RefusedLine) → Each runs HasEnded → run.fault ≡ Some stop → IsLeastRefusedLine (runs ++ run ∷ []) stop
 first_of_more runs run stop ended fault = record {
   reported = (length runs, run, at_last runs run, fault);
   least = λ k r other at is. ⊎_elim
       (λ e. let none : Some other ≡ None = sym is ∙ ended k r e in absurd (some_not_none other none))
       (λ t. let same : Some other ≡ Some stop = sym is ∙ ap (λ (x : Run). x.fault) (sym t.1) ∙ fault in
       let one : other ≡ stop = cc in
-      omega (arith, ap (λ (s : Stop). s.line) one))
+      omega (arith, ap (λ (s : RefusedLine). s.line) one))
       (last_of runs run r k at);
 }
 
-least_still : (runs : List Run) (run : Run) (stop : Stop) → IsLeastStop runs stop → ((other : Stop) → run.fault ≡ Some other → stop.line ≤ other.line) → IsLeastStop (runs ++ run ∷ []) stop
+least_still : (runs : List Run) (run : Run) (stop : RefusedLine) → IsLeastRefusedLine runs stop → ((other : RefusedLine) → run.fault ≡ Some other → stop.line ≤ other.line) → IsLeastRefusedLine (runs ++ run ∷ []) stop
 least_still runs run stop h above = record {
   reported = (h.reported.0, h.reported.1, at_front runs run h.reported.0 h.reported.1 h.reported.2, h.reported.3);
   least = λ k r other at is. ⊎_elim (λ e. h.least k r other e is) (λ t. above other (ap (λ (x : Run). x.fault) t.1 ∙ is)) (last_of runs run r k at);
 }
 
-least_now : (runs : List Run) (run : Run) (stop other : Stop) → IsLeastStop runs stop → run.fault ≡ Some other → other.line < stop.line → IsLeastStop (runs ++ run ∷ []) other
+least_now : (runs : List Run) (run : Run) (stop other : RefusedLine) → IsLeastRefusedLine runs stop → run.fault ≡ Some other → other.line < stop.line → IsLeastRefusedLine (runs ++ run ∷ []) other
 least_now runs run stop other h fault lt = record {
   reported = (length runs, run, at_last runs run, fault);
   least = λ k r third at is. ⊎_elim
       (λ e. let le = h.least k r third e is in omega (arith, le, lt))
       (λ t. let same : Some third ≡ Some other = sym is ∙ ap (λ (x : Run). x.fault) (sym t.1) ∙ fault in
       let one : third ≡ other = cc in
-      omega (arith, ap (λ (s : Stop). s.line) one))
+      omega (arith, ap (λ (s : RefusedLine). s.line) one))
       (last_of runs run r k at);
 }
 
-first_with : (runs : List Run) (run : Run) (first fault : Option Stop) → run.fault ≡ fault → IsFirstStop runs first → IsFirstStop (runs ++ run ∷ []) (earlier_of first fault)
+first_with : (runs : List Run) (run : Run) (first fault : Option RefusedLine) → run.fault ≡ fault → IsFirstRefusedLine runs first → IsFirstRefusedLine (runs ++ run ∷ []) (earlier_of first fault)
 first_with runs run None None e h = each-append HasEnded runs (run ∷ []) h (each-one HasEnded run e)
 first_with runs run None (Some stop) e h = first_of_more runs run stop h e
 first_with runs run (Some first) None e h = least_still runs run first h (λ other is. let none : Some other ≡ None = sym is ∙ e in absurd (some_not_none other none))
 first_with runs run (Some first) (Some other) e h = ⊎_elim
-    (λ (lt : other.line < first.line). subst (λ (b : Bool). IsFirstStop (runs ++ run ∷ []) (if b then Some other else Some first)) (sym (lt-ltb other.line first.line lt)) (least_now runs run first other h e lt))
-    (λ (le : first.line ≤ other.line). subst (λ (b : Bool). IsFirstStop (runs ++ run ∷ []) (if b then Some other else Some first)) (sym (le-ltb other.line first.line le))
-    (least_still runs run first h (λ third is. let same : Some third ≡ Some other = sym is ∙ e in let one : third ≡ other = cc in omega (arith, le, ap (λ (s : Stop). s.line) one))))
+    (λ (lt : other.line < first.line). subst (λ (b : Bool). IsFirstRefusedLine (runs ++ run ∷ []) (if b then Some other else Some first)) (sym (lt-ltb other.line first.line lt)) (least_now runs run first other h e lt))
+    (λ (le : first.line ≤ other.line). subst (λ (b : Bool). IsFirstRefusedLine (runs ++ run ∷ []) (if b then Some other else Some first)) (sym (le-ltb other.line first.line le))
+    (least_still runs run first h (λ third is. let same : Some third ≡ Some other = sym is ∙ e in let one : third ≡ other = cc in omega (arith, le, ap (λ (s : RefusedLine). s.line) one))))
     (cases_lt other.line first.line)
 
 -- one run more
-pub first_on : (runs : List Run) (k : ℕ) (run : Run) (first : Option Stop) → k < length runs → run ≡ get_or runs k run → IsFirstStop (take k runs) first → IsFirstStop (take (k + 1) runs) (earlier_of first run.fault)
+pub first_on : (runs : List Run) (k : ℕ) (run : Run) (first : Option RefusedLine) → k < length runs → run ≡ get_or runs k run → IsFirstRefusedLine (take k runs) first → IsFirstRefusedLine (take (k + 1) runs) (earlier_of first run.fault)
 first_on runs k run first lt is h =
     let more : take (k + 1) runs ≡ take k runs ++ run ∷ [] = take_more runs k run lt ∙ ap (λ (r : Run). take k runs ++ r ∷ []) (sym is) in
-    subst (λ (rs : List Run). IsFirstStop rs (earlier_of first run.fault)) (sym more) (first_with (take k runs) run first run.fault refl h)
+    subst (λ (rs : List Run). IsFirstRefusedLine rs (earlier_of first run.fault)) (sym more) (first_with (take k runs) run first run.fault refl h)

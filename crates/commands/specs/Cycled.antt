@@ -14,8 +14,8 @@ use Rattle.comp_trace.specs.Bytes.{flipped, CutsShort}
 use Rattle.comp_trace.specs.CycleRuns.{IsLastRun, IsPart}
 use Rattle.comp_trace.specs.Shown.{Shown}
 use Rattle.comp_trace.specs.Line.{Line}
-use Rattle.command_io.specs.declared.refusal.Refusal.{Refusal}
-use Rattle.command_io.specs.declared.refusal.Refusal.TheVariants.{Layout, Mutator, OutOfMemory, Trace}
+use Rattle.command_io.specs.declared.refusal.CommandRefusal.{CommandRefusal}
+use Rattle.command_io.specs.declared.refusal.CommandRefusal.TheVariants.{Layout, Mutator, OutOfMemory, Trace}
 
 -- if a heap whose objects never move stands for this heap, the cycle is a chapter of its life
 abbrev pub IsChapterOf : Heap → Cycle → Type 0
@@ -28,7 +28,7 @@ pub record IsNextHeap (heap : Heap) (f : Finished) (marks : List ℕ) (next : He
   pub next_is : next ≡ heap_after (cycle_of heap f marks)
 
 -- why no heap follows: this is its first fault, or memory ran out
-abbrev pub IsUnmarked : Heap → Finished → List ℕ → Refusal → Type 0
+abbrev pub IsUnmarked : Heap → Finished → List ℕ → CommandRefusal → Type 0
 IsUnmarked heap f marks (Layout fault) = IsRefusedFor (next_faults (setup_in heap f) (journals_of f) (heap_after (cycle_of heap f marks))) fault
 IsUnmarked heap f marks OutOfMemory = Unit {0}
 IsUnmarked heap f marks _ = ⊥
@@ -50,7 +50,7 @@ pub record IsNotFollowed (mutators fresh : ℕ) (lines : List Line) (marks : Lis
 
 -- why the cycle does not come to its end, and what was shown until then: a line was refused, or the marks were, or
 -- memory ran out for a plan, for the flip or for the finish (there a mutator is refused)
-abbrev pub IsUncycled : ℕ → ℕ → List Line → List Shown → List ℕ → Heap → Refusal → Type 0
+abbrev pub IsUncycled : ℕ → ℕ → List Line → List Shown → List ℕ → Heap → CommandRefusal → Type 0
 IsUncycled mutators fresh lines shown marks heap (Trace fault) = CutsShort (flipped heap mutators fresh) lines shown fault
 IsUncycled mutators fresh lines shown marks heap (Layout fault) = (shown ≡ []) × IsNotFollowed mutators fresh lines marks heap fault
 IsUncycled mutators fresh lines shown marks heap (Mutator refusal) = (refusal ≡ refusals.OutOfMemory) × (shown ≡ [])

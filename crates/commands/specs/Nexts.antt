@@ -10,11 +10,11 @@ use Rattle.command_io.specs.Images.{IsImageOf, SomeGiven}
 use Rattle.command_io.specs.Marks.{AreMarksOf, RefusesMarksAt}
 use Rattle.command_io.specs.NewImages.{IsOfWritingImage}
 use Rattle.command_io.specs.Texts.{HasLines, IsTextOf}
-use Rattle.command_io.specs.declared.refusal.Refusal.{Refusal}
-use Rattle.command_io.specs.declared.refusal.Refusal.TheVariants.{CannotPrint}
+use Rattle.command_io.specs.declared.refusal.CommandRefusal.{CommandRefusal}
+use Rattle.command_io.specs.declared.refusal.CommandRefusal.TheVariants.{CannotPrint}
 use Rattle.commands.specs.Outcomes.{IsOfHalt, RefusesInputs}
 use Rattle.commands.specs.Replays.{PrintsRun}
-use Rattle.commands.specs.declared.replays.Halted.{Halted}
+use Rattle.commands.specs.declared.replays.PrintedHalt.{PrintedHalt}
 use Rattle.commands.specs.Cycled.{IsCycledHeap, IsUncycled}
 use Rattle.commands.specs.declared.cycling.Cycled.{Cycled}
 
@@ -32,15 +32,15 @@ pub record Nexts {W : Type 0} (gives : W → Type 0) (contents : W → Option (L
 -- why the image of the next heap was not written, or the lines after it not printed: there is no place for the image;
 -- or a call of its writer failed; or it was written, and a call of the output failed, which `CountsPrint` counts; or
 -- memory ran out
-abbrev pub IsOfWritingNext : {W : Type 0} → Type 0 → (W → Type 0) → (W → Option (List ℕ)) → List ℕ → Refusal → Type 0
+abbrev pub IsOfWritingNext : {W : Type 0} → Type 0 → (W → Type 0) → (W → Option (List ℕ)) → List ℕ → CommandRefusal → Type 0
 IsOfWritingNext lacks gives contents bytes CannotPrint = WritesWhole gives contents bytes
 IsOfWritingNext lacks gives contents bytes refusal = IsOfWritingImage lacks gives contents bytes refusal
 
 -- why the cycle does not come to its end, or is not written or printed: if its lines were halted, what they had shown
 -- was printed
-abbrev pub RefusesCycle : {W : Type 0} → Type 0 → (W → Type 0) → (W → Option (List ℕ)) → ℕ → ℕ → Option (List ℕ) → Option (List ℕ) → List Line → List ℕ → Heap → Refusal → Type 0
+abbrev pub RefusesCycle : {W : Type 0} → Type 0 → (W → Type 0) → (W → Option (List ℕ)) → ℕ → ℕ → Option (List ℕ) → Option (List ℕ) → List Line → List ℕ → Heap → CommandRefusal → Type 0
 RefusesCycle lacks gives contents mutators fresh before after lines marks heap refusal =
-    ((halted : Halted) × IsUncycled mutators fresh lines halted.shown.items marks heap halted.refusal × IsOfHalt before after halted refusal)
+    ((halted : PrintedHalt) × IsUncycled mutators fresh lines halted.shown.items marks heap halted.refusal × IsOfHalt before after halted refusal)
     ⊎ ((shown : List Shown) × (next : Heap) × IsCycledHeap mutators fresh lines shown marks heap next × IsOfWritingNext lacks gives contents (encoding next) refusal)
 
 -- ---- from the files
@@ -65,7 +65,7 @@ PrintsNext mutators fresh before after heap = (text : List ℕ) × (lines : List
     × (marks : List ℕ) × (shown : List Shown) × (next : Heap) × IsCycledHeap mutators fresh lines shown marks heap next × PrintsRun before after shown (live_words (live next))
 
 -- there are the heap of an image and the lines of a trace for it; the marks are refused, or there are none
-abbrev pub RefusesHanded : {R S : Type 0} → (R → Type 0) → (R → Option (List ℕ)) → (S → Type 0) → Type 0 → (S → Type 0) → (S → Option (List ℕ)) → ℕ → Refusal → Type 0
+abbrev pub RefusesHanded : {R S : Type 0} → (R → Type 0) → (R → Option (List ℕ)) → (S → Type 0) → Type 0 → (S → Type 0) → (S → Option (List ℕ)) → ℕ → CommandRefusal → Type 0
 RefusesHanded given remaining texts unmarked handed rest mutators refusal =
     (heap : Heap) × SomeGiven given remaining (IsImageOf (λ other. other ≡ heap))
     × ((lines : List Line) × SomeGiven texts rest (IsTextOf mutators (length heap.roots) lines) × RefusesMarksAt unmarked handed rest refusal)
@@ -73,7 +73,7 @@ RefusesHanded given remaining texts unmarked handed rest mutators refusal =
 -- why it is refused: there is no image, or no trace for its heap, or no marks; or one of them is refused; or the cycle
 -- is
 abbrev pub RefusesNext : {R S W : Type 0} → Type 0 → (R → Type 0) → (R → Option (List ℕ)) → Type 0 → (S → Type 0) → Type 0 → (S → Type 0) → (S → Option (List ℕ))
-    → Type 0 → (W → Type 0) → (W → Option (List ℕ)) → ℕ → ℕ → Option (List ℕ) → Option (List ℕ) → Refusal → Type 0
+    → Type 0 → (W → Type 0) → (W → Option (List ℕ)) → ℕ → ℕ → Option (List ℕ) → Option (List ℕ) → CommandRefusal → Type 0
 RefusesNext absent given remaining missing texts unmarked handed rest lacks gives contents mutators fresh before after refusal =
     RefusesInputs absent given remaining missing texts rest mutators refusal
     ⊎ (RefusesHanded given remaining texts unmarked handed rest mutators refusal
@@ -82,12 +82,12 @@ RefusesNext absent given remaining missing texts unmarked handed rest lacks give
 -- ---- within the command
 
 -- the cycle came to its end: the new image was written, and then what was shown and the live words were printed
-abbrev pub IsWrittenNext : {W : Type 0} → (W → Type 0) → (W → Option (List ℕ)) → Option (List ℕ) → Option (List ℕ) → Result Cycled Halted → Type 0
+abbrev pub IsWrittenNext : {W : Type 0} → (W → Type 0) → (W → Option (List ℕ)) → Option (List ℕ) → Option (List ℕ) → Result Cycled PrintedHalt → Type 0
 IsWrittenNext gives contents before after (Ok cycled) =
     WritesWhole gives contents (encoding cycled.plan) × PrintsRun before after cycled.shown.items (live_words (live cycled.plan))
 IsWrittenNext gives contents before after (Err halted) = ⊥
 
 -- why it was not written or printed, or was halted
-abbrev pub RefusesWriting : {W : Type 0} → Type 0 → (W → Type 0) → (W → Option (List ℕ)) → Option (List ℕ) → Option (List ℕ) → Result Cycled Halted → Refusal → Type 0
+abbrev pub RefusesWriting : {W : Type 0} → Type 0 → (W → Type 0) → (W → Option (List ℕ)) → Option (List ℕ) → Option (List ℕ) → Result Cycled PrintedHalt → CommandRefusal → Type 0
 RefusesWriting lacks gives contents before after (Ok cycled) refusal = IsOfWritingNext lacks gives contents (encoding cycled.plan) refusal
 RefusesWriting lacks gives contents before after (Err halted) refusal = IsOfHalt before after halted refusal

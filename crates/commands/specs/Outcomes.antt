@@ -9,37 +9,37 @@ use Rattle.comp_dump.specs.DumpEncoding.{dump_bytes}
 use Rattle.command_io.specs.Dumps.{WritesWhole}
 use Rattle.command_io.specs.Images.{IsImageOf, RefusesAt, RefusesImage, SomeGiven}
 use Rattle.command_io.specs.Texts.{RefusesTextAt}
-use Rattle.command_io.specs.declared.refusal.Refusal.{Refusal}
-use Rattle.command_io.specs.declared.refusal.Refusal.TheVariants.{CannotPrint, Trace}
+use Rattle.command_io.specs.declared.refusal.CommandRefusal.{CommandRefusal}
+use Rattle.command_io.specs.declared.refusal.CommandRefusal.TheVariants.{CannotPrint, Trace}
 use Rattle.commands.specs.Replays.{dumped_of, shown_lines, IsOfWritingRun, PrintsRun}
-use Rattle.commands.specs.declared.replays.Halted.{Halted}
+use Rattle.commands.specs.declared.replays.PrintedHalt.{PrintedHalt}
 use Rattle.commands.specs.declared.replays.Replayed.{Replayed}
 
 -- why there is no heap with a trace: there is no image, or it is refused; or there is no trace for the heap, or it is
 -- refused
-abbrev pub RefusesInputs : {R S : Type 0} → Type 0 → (R → Type 0) → (R → Option (List ℕ)) → Type 0 → (S → Type 0) → (S → Option (List ℕ)) → ℕ → Refusal → Type 0
+abbrev pub RefusesInputs : {R S : Type 0} → Type 0 → (R → Type 0) → (R → Option (List ℕ)) → Type 0 → (S → Type 0) → (S → Option (List ℕ)) → ℕ → CommandRefusal → Type 0
 RefusesInputs absent given remaining missing texts rest mutators refusal = RefusesAt absent given remaining RefusesImage refusal
     ⊎ ((heap : Heap) × SomeGiven given remaining (IsImageOf (λ other. other ≡ heap)) × RefusesTextAt missing texts rest mutators (length heap.roots) refusal)
 
 -- what a run had shown that was halted for this refusal: a refused line may come after lines that showed values, any
 -- other refusal comes with no value
-abbrev pub IsHaltedBy : List Shown → Refusal → Type 0
+abbrev pub IsHaltedBy : List Shown → CommandRefusal → Type 0
 IsHaltedBy shown (Trace (Refused number refusal)) = Unit {0}
 IsHaltedBy shown CannotPrint = ⊥
 IsHaltedBy shown refusal = shown ≡ []
 
 -- the refusal is the one that halted the run, and what the run had shown was printed between these two contents of the
 -- output; or a call of the output failed
-abbrev pub IsOfHalt : Option (List ℕ) → Option (List ℕ) → Halted → Refusal → Type 0
+abbrev pub IsOfHalt : Option (List ℕ) → Option (List ℕ) → PrintedHalt → CommandRefusal → Type 0
 IsOfHalt before after halted refusal = ((refusal ≡ halted.refusal) × Appends before after (shown_lines halted.shown.items)) ⊎ (refusal ≡ CannotPrint)
 
 -- the run came to its end: its dump was written, and then what it showed and the live words were printed
-abbrev pub IsWritten : {W : Type 0} → (W → Type 0) → (W → Option (List ℕ)) → ℕ → ℕ → Option (List ℕ) → Option (List ℕ) → Result Replayed Halted → Type 0
+abbrev pub IsWritten : {W : Type 0} → (W → Type 0) → (W → Option (List ℕ)) → ℕ → ℕ → Option (List ℕ) → Option (List ℕ) → Result Replayed PrintedHalt → Type 0
 IsWritten gives contents mutators fresh before after (Ok run) =
     WritesWhole gives contents (dump_bytes (dumped_of mutators fresh run.finished)) × PrintsRun before after run.shown.items (live_of run.finished)
 IsWritten gives contents mutators fresh before after (Err halted) = ⊥
 
 -- why it was not written or printed, or was halted
-abbrev pub RefusesOutcome : {W : Type 0} → Type 0 → (W → Type 0) → (W → Option (List ℕ)) → ℕ → ℕ → Option (List ℕ) → Option (List ℕ) → Result Replayed Halted → Refusal → Type 0
+abbrev pub RefusesOutcome : {W : Type 0} → Type 0 → (W → Type 0) → (W → Option (List ℕ)) → ℕ → ℕ → Option (List ℕ) → Option (List ℕ) → Result Replayed PrintedHalt → CommandRefusal → Type 0
 RefusesOutcome lacks gives contents mutators fresh before after (Ok run) refusal = IsOfWritingRun lacks gives contents (dump_bytes (dumped_of mutators fresh run.finished)) refusal
 RefusesOutcome lacks gives contents mutators fresh before after (Err halted) refusal = IsOfHalt before after halted refusal

@@ -10,10 +10,10 @@ use Rattle.comp_mutator.specs.Setup.{Setup}
 use Rattle.comp_mutator.specs.Passes.{about}
 use Rattle.comp_mutator.specs.Pass.{Pass}
 use Rattle.comp_mutator.specs.Steps.{Steps}
-use Rattle.comp_mutator.specs.Cells.{AreNew}
+use Rattle.comp_mutator.specs.CellViews.{AreNew}
 use Rattle.comp_mutator.specs.Finishes.{history_of, live_of, IsFinished}
 use Rattle.comp_mutator.specs.Finished.{Finished}
-use Rattle.comp_mutator.specs.Refusal.{Refusal as CallRefusal}
+use Rattle.comp_mutator.specs.Refusal.{Refusal}
 use Rattle.comp_mutator.specs.Refusal.TheVariants as refusals
 use Rattle.comp_trace.specs.Bytes.{flipped}
 use Rattle.comp_trace.specs.Races.{numbered, own_lines, Ran}
@@ -24,22 +24,22 @@ use Rattle.comp_trace.specs.Run.{Run}
 use Rattle.comp_trace.specs.Shown.{Shown}
 use Rattle.comp_dump.specs.DumpEncoding.{dump_bytes}
 use Rattle.comp_dump.specs.declared.fault.DumpFault.TheVariants.{Device}
-use Rattle.commands.specs.ByLine.{AreByLine, HasEnded, IsLeastStop}
+use Rattle.commands.specs.ByLine.{AreByLine, HasEnded, IsLeastRefusedLine}
 use Rattle.command_io.specs.Dumps.{WritesBeginning, WritesWhole}
 use Rattle.command_io.specs.Images.{IsImageOf, SomeGiven}
 use Rattle.commands.specs.Replays.{dumped_of, shown_lines, IsDumpAfter, PrintsRun, RefusesTrace, SomeRun}
 use Rattle.command_io.specs.Texts.{HasLines}
 use Rattle.command_io.specs.declared.refusal.Input.TheVariants as inputs
 use Rattle.command_io.specs.declared.refusal.Output.TheVariants as outputs
-use Rattle.command_io.specs.declared.refusal.Refusal.{Refusal}
-use Rattle.command_io.specs.declared.refusal.Refusal.TheVariants.{CannotCreate, CannotOpen, CannotPrint, Dump, Layout, Mutator, OutOfMemory, ReadFailed, Trace}
+use Rattle.command_io.specs.declared.refusal.CommandRefusal.{CommandRefusal}
+use Rattle.command_io.specs.declared.refusal.CommandRefusal.TheVariants.{CannotCreate, CannotOpen, CannotPrint, Dump, Layout, Mutator, OutOfMemory, ReadFailed, Trace}
 
 -- ---- what is left of a race
 
 -- Each mutator of a flipped heap, new before, ran its own lines: all of them, or those before its refused one. Their
 -- table is about this heap. `row` has what each mutator had seen and done at the end, and `runs` what its lines
 -- showed, and its refused line, if any.
-pub record HaveRun (u : Setup) (lines : List Line) (row : List Pass) (runs : List Run) : Type 0 where
+pub record RanTheirLines (u : Setup) (lines : List Line) (row : List Pass) (runs : List Run) : Type 0 where
   pub table : Steps
   pub about : about table ≡ u
   pub before : List Pass
@@ -54,7 +54,7 @@ pub record HaveRun (u : Setup) (lines : List Line) (row : List Pass) (runs : Lis
 pub record IsRacedHeap (mutators fresh : ℕ) (lines : List Line) (shown : List Shown) (f : Finished) (heap : Heap) : Type 0 where
   pub row : List Pass
   pub runs : List Run
-  pub ran : HaveRun (flipped heap mutators fresh) lines row runs
+  pub ran : RanTheirLines (flipped heap mutators fresh) lines row runs
   pub ended : Each runs HasEnded
   pub in_order : AreByLine runs shown
   -- the heap at the end: each page is what its journal makes of its base, the journals have all that the mutators did,
@@ -65,11 +65,11 @@ pub record IsRacedHeap (mutators fresh : ℕ) (lines : List Line) (shown : List 
 
 -- Each mutator ran its own lines to the end, or to its refused one. This refused line is the least of all, and the
 -- values are those that each mutator showed until its end.
-pub record IsStoppedRace (mutators fresh : ℕ) (lines : List Line) (shown : List Shown) (heap : Heap) (number : ℕ) (refusal : CallRefusal) : Type 0 where
+pub record IsStoppedRace (mutators fresh : ℕ) (lines : List Line) (shown : List Shown) (heap : Heap) (number : ℕ) (refusal : Refusal) : Type 0 where
   pub row : List Pass
   pub runs : List Run
-  pub ran : HaveRun (flipped heap mutators fresh) lines row runs
-  pub first : IsLeastStop runs (record { line = number; refusal = refusal })
+  pub ran : RanTheirLines (flipped heap mutators fresh) lines row runs
+  pub first : IsLeastRefusedLine runs (record { line = number; refusal = refusal })
   pub in_order : AreByLine runs shown
 
 -- why not all lines ran: one was refused, or memory ran out before the first
@@ -80,7 +80,7 @@ InterruptsRace mutators fresh lines shown heap _ = ⊥
 
 -- why the lines were not run to their end, or the heap was not finished, and what was shown until then: a line was
 -- refused, or memory ran out
-abbrev pub IsHaltedRace : ℕ → ℕ → List Line → List Shown → Heap → Refusal → Type 0
+abbrev pub IsHaltedRace : ℕ → ℕ → List Line → List Shown → Heap → CommandRefusal → Type 0
 IsHaltedRace mutators fresh lines shown heap (Trace fault) = InterruptsRace mutators fresh lines shown heap fault
 IsHaltedRace mutators fresh lines shown heap (Mutator refusal) = (refusal ≡ refusals.OutOfMemory) × (shown ≡ [])
 IsHaltedRace mutators fresh lines shown heap OutOfMemory = shown ≡ []
@@ -117,7 +117,7 @@ StopsRace mutators fresh before after fault lines heap =
     (shown : List Shown) × IsHaltedRace mutators fresh lines shown heap (Trace fault) × Appends before after (shown_lines shown)
 
 -- why the race of a trace over a heap does not come to its end, or is not written or printed
-abbrev pub RefusesRacing : {W : Type 0} → Type 0 → (W → Type 0) → (W → Option (List ℕ)) → ℕ → ℕ → Option (List ℕ) → Option (List ℕ) → Refusal → List Line → Heap → Type 0
+abbrev pub RefusesRacing : {W : Type 0} → Type 0 → (W → Type 0) → (W → Option (List ℕ)) → ℕ → ℕ → Option (List ℕ) → Option (List ℕ) → CommandRefusal → List Line → Heap → Type 0
 RefusesRacing lacks gives contents mutators fresh before after (Trace fault) lines heap = StopsRace mutators fresh before after fault lines heap
 RefusesRacing lacks gives contents mutators fresh before after (Mutator refusal) lines heap = refusal ≡ refusals.OutOfMemory
 RefusesRacing lacks gives contents mutators fresh before after (CannotCreate output) lines heap = (output ≡ outputs.Dump) × lacks × HasRace mutators fresh lines heap
@@ -125,14 +125,14 @@ RefusesRacing lacks gives contents mutators fresh before after (Dump Device) lin
     (race : HasRace mutators fresh lines heap) × WritesBeginning gives contents (dump_of_race race)
 RefusesRacing lacks gives contents mutators fresh before after CannotPrint lines heap =
     ((race : HasRace mutators fresh lines heap) × WritesWhole gives contents (dump_of_race race))
-    ⊎ ((refusal : Refusal) × (shown : List Shown) × IsHaltedRace mutators fresh lines shown heap refusal)
+    ⊎ ((refusal : CommandRefusal) × (shown : List Shown) × IsHaltedRace mutators fresh lines shown heap refusal)
 RefusesRacing lacks gives contents mutators fresh before after OutOfMemory lines heap = Unit {0}
 RefusesRacing lacks gives contents mutators fresh before after _ lines heap = ⊥
 
 -- why the command is refused: there is no image, or it is refused; or there is no trace for its heap, or it is
 -- refused, and nothing was printed; or the race is refused; or memory ran out
 abbrev pub RefusesRace : {R S W : Type 0} → Type 0 → (R → Type 0) → (R → Option (List ℕ)) → Type 0 → (S → Type 0) → (S → Option (List ℕ)) → Type 0 → (W → Type 0) → (W → Option (List ℕ))
-    → ℕ → ℕ → Option (List ℕ) → Option (List ℕ) → Refusal → Type 0
+    → ℕ → ℕ → Option (List ℕ) → Option (List ℕ) → CommandRefusal → Type 0
 RefusesRace absent given remaining missing texts rest lacks gives contents mutators fresh before after (CannotOpen inputs.Image) = absent
 RefusesRace absent given remaining missing texts rest lacks gives contents mutators fresh before after (CannotOpen inputs.Trace) = missing × SomeGiven given remaining (IsImageOf (λ heap. ⊤))
 RefusesRace absent given remaining missing texts rest lacks gives contents mutators fresh before after (Layout fault) = SomeGiven given remaining (λ known. IfSome known (Refuses fault))

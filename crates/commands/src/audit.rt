@@ -5,9 +5,9 @@ ghost use Rattle.comp_audit.specs.Judged.{faults, Judges};
 ghost use Rattle.commands.specs.Audits.{CountsDump, FailsAudit, HasPassed, IsDumpIn, IsOfOpeningDump, Passes, RefusesAudit, RefusesDump, RefusesDumpAt, SomeAudit};
 ghost use Rattle.command_io.specs.Images.{SomeGiven};
 ghost use Rattle.command_io.specs.Printing.{CountsPrint, RefusedUnprinted};
-ghost use Rattle.command_io.specs.declared.refusal.Refusal.TheVariants as refusals;
+ghost use Rattle.command_io.specs.declared.refusal.CommandRefusal.TheVariants as refusals;
 
-use command_io::{Images, Input, Refusal, heap_at, print_line};
+use command_io::{Images, Input, CommandRefusal, heap_at, print_line};
 use comp_audit::{Dump, Verdict, audit, read_dump};
 use comp_dump::dump_is_read_again;
 use heap_layout::{Counted, MarkedHeap};
@@ -24,7 +24,7 @@ pub fn print_audit<I: Images, O: Write>(
     image: &str,
     dump: &str,
     out: &mut Counted<&mut O>,
-) -> Result<(), Refusal>
+) -> Result<(), CommandRefusal>
     requires written { failures_of out.old < 2 ^ 64 - 1 }
     ensures passed { OnOk result (SomeAudit (I.gives images.now image.now) (I.gives images.now dump.now) I.Reader.remaining
         (Passes (O.contents (inner_of out.old).now) (O.contents (inner_of out.new).now))) }
@@ -44,7 +44,7 @@ fn audited_at<I: Images>(
     images: &I,
     image: &str,
     dump: &str,
-) -> Result<u64, Refusal>
+) -> Result<u64, CommandRefusal>
     ensures passed { IfOk result (λ words. SomeAudit (I.gives images.now image.now) (I.gives images.now dump.now) I.Reader.remaining (HasPassed words)) }
     ensures cause { IfErr result (FailsAudit (I.lacks images.now image.now) (I.gives images.now image.now) (I.lacks images.now dump.now) (I.gives images.now dump.now) I.Reader.remaining) }
 {
@@ -52,7 +52,7 @@ fn audited_at<I: Images>(
     let judged = dump_at(alloc, images, dump)?;
     match verdict_of(alloc, rt, heap, &judged)? {
         Verdict::Yes => Ok(judged.live_words()),
-        Verdict::No(fault) => Err(Refusal::Audit(fault)),
+        Verdict::No(fault) => Err(CommandRefusal::Audit(fault)),
     }
 }
 
@@ -62,7 +62,7 @@ fn verdict_of(
     rt: &(impl Threads + Sync),
     heap: MarkedHeap,
     dump: &Dump<'_>,
-) -> Result<Verdict, Refusal>
+) -> Result<Verdict, CommandRefusal>
     ensures verdict { IfOk result (Judges (faults heap dump.now)) }
     ensures cause { IfErr result (λ refusal. refusal ≡ refusals.OutOfMemory) }
 {
@@ -71,7 +71,7 @@ fn verdict_of(
 }
 
 // Reads the dump at a path. `images` opens it.
-fn dump_at<I: Images>(alloc: Global, images: &I, path: &str) -> Result<Dump<'static>, Refusal>
+fn dump_at<I: Images>(alloc: Global, images: &I, path: &str) -> Result<Dump<'static>, CommandRefusal>
     ensures dump { IfOk result (λ dump. SomeGiven (I.gives images.now path.now) I.Reader.remaining (IsDumpIn (λ other. other ≡ dump))) }
     ensures cause { IfErr result (RefusesDumpAt (I.lacks images.now path.now) (I.gives images.now path.now) I.Reader.remaining) }
 {
@@ -80,19 +80,19 @@ fn dump_at<I: Images>(alloc: Global, images: &I, path: &str) -> Result<Dump<'sta
 }
 
 // Opens the dump at a path, to be read from its first byte.
-fn open_dump<I: Images>(images: &I, path: &str) -> Result<I::Reader, Refusal>
+fn open_dump<I: Images>(images: &I, path: &str) -> Result<I::Reader, CommandRefusal>
     ensures given { IfOk result (I.gives images.now path.now) }
     ensures cause { IfErr result (IsOfOpeningDump (I.lacks images.now path.now)) }
 {
     match images.open(path) {
         Ok(reader) => Ok(reader),
-        Err(Refusal::OutOfMemory) => Err(Refusal::OutOfMemory),
-        Err(_) => Err(Refusal::CannotOpen(Input::Dump)),
+        Err(CommandRefusal::OutOfMemory) => Err(CommandRefusal::OutOfMemory),
+        Err(_) => Err(CommandRefusal::CannotOpen(Input::Dump)),
     }
 }
 
 /// Reads a dump to the end of the reader.
-pub fn dump_in<R: Read>(alloc: Global, r: &mut Counted<R>) -> Result<Dump<'static>, Refusal>
+pub fn dump_in<R: Read>(alloc: Global, r: &mut Counted<R>) -> Result<Dump<'static>, CommandRefusal>
     requires read { failures_of r.old < 2 ^ 64 - 1 }
     ensures dump { IfOk result (λ dump. IsDumpIn (λ other. other ≡ dump) (R.remaining (inner_of r.old))) }
     ensures cause { IfErr result (λ refusal. RefusesDump refusal (R.remaining (inner_of r.old))) }

@@ -1,8 +1,8 @@
 //! Joins the runs of a race: their values in the order of the lines, and the least refused line.
 ghost use Rattle.std.specs.Prelude.{◌≡◌, ℕ, ◌+◌, ◌<◌, ◌≤◌, [], All, drop, length, vec_capacity, IfSome};
-ghost use Rattle.commands.specs.ByLine.{earlier_of, printed_at, AreByLine, AreOwn, IsFirstStop};
+ghost use Rattle.commands.specs.ByLine.{earlier_of, printed_at, AreByLine, AreOwn, IsFirstRefusedLine};
 
-use comp_trace::{Line, Run, Shown, Stop};
+use comp_trace::{Line, Run, Shown, RefusedLine};
 
 /// All values that the runs showed, in the order of their lines. `runs` has the run of each mutator over its own
 /// lines, at most 64 of them. `shown` is empty, and has room for one value of each line.
@@ -38,8 +38,8 @@ fn shown_at(run: &Run, from: usize, line: u64) -> Option<Shown>
 }
 
 /// The refused line with the least number, if any was refused.
-pub fn first_stop(runs: &[Run]) -> Option<Stop>
-    ensures { IsFirstStop runs.now result }
+pub fn first_refused_line(runs: &[Run]) -> Option<RefusedLine>
+    ensures { IsFirstRefusedLine runs.now result }
 {
     let mut first = None;
     for run in runs {
@@ -49,7 +49,7 @@ pub fn first_stop(runs: &[Run]) -> Option<Stop>
 }
 
 // Of two refused lines the one with the lower number.
-fn earlier(first: Option<Stop>, other: Option<Stop>) -> Option<Stop>
+fn earlier(first: Option<RefusedLine>, other: Option<RefusedLine>) -> Option<RefusedLine>
     ensures { result ≡ earlier_of first other }
 {
     match (first, other) {

@@ -3,7 +3,7 @@ ghost use Rattle.std.specs.Prelude.{◌≡◌, ◌-◌, ◌^◌, ◌<◌, ◌≤
 ghost use Rattle.heap_layout.specs.Counted.{inner_of, failures_of, writer_of};
 ghost use Rattle.heap_layout.specs.Heap.{live};
 ghost use Rattle.page_plan.specs.Sliding.{pages};
-ghost use Rattle.comp_mutator.specs.Cells.{steps_of, AreNew};
+ghost use Rattle.comp_mutator.specs.CellViews.{steps_of, AreNew};
 ghost use Rattle.comp_mutator.specs.Finishes.{IsOfFlip};
 ghost use Rattle.comp_mutator.specs.Mutators.{cells_of, pass_of, setup_of, AreMutatorsOf};
 ghost use Rattle.commands.specs.Compact.{Compacts, IsOfSweeping, IsSweptHeap, RefusesCompact, RefusesSweep};
@@ -11,7 +11,7 @@ ghost use Rattle.command_io.specs.Dumps.{RefusedUncreated};
 ghost use Rattle.command_io.specs.Images.{IsImageOf, SomeGiven, RefusesAt};
 ghost use Rattle.command_io.specs.Printing.{CountsPrint, CountsRead, RefusedUnprinted};
 
-use command_io::{Dumps, Images, Refusal, print_line, write_to};
+use command_io::{Dumps, Images, CommandRefusal, print_line, write_to};
 use comp_audit::Dump;
 use comp_mutator::{FinishFault, Finished, FlipFault, Mutator, Space, flip};
 use comp_sweep::{Open, sweep};
@@ -43,7 +43,7 @@ pub fn print_compact<R: Threads + Wait + Sync, I: Images, D: Dumps, O: Write>(
     dumps: &mut D,
     asked: Compaction<'_>,
     out: &mut Counted<&mut O>,
-) -> Result<(), Refusal>
+) -> Result<(), CommandRefusal>
     requires workers { (1 ≤ asked.workers) × (asked.workers ≤ 64) }
     requires written { failures_of out.old < 2 ^ 64 - 1 }
     ensures compacted { OnOk result (SomeGiven (I.gives images.now asked.entry.image.now) I.Reader.remaining
@@ -68,7 +68,7 @@ fn swept_at<R: Threads + Wait + Sync, I: Images>(
     images: &I,
     path: &str,
     workers: u8,
-) -> Result<Finished, Refusal>
+) -> Result<Finished, CommandRefusal>
     requires workers { (1 ≤ workers) × (workers ≤ 64) }
     ensures swept { IfOk result (λ f. SomeGiven (I.gives images.now path.now) I.Reader.remaining (IsImageOf (IsSweptHeap workers f))) }
     ensures flipped { IfOk result (IsOfFlip workers 0) }
@@ -84,7 +84,7 @@ fn swept_in<S: Read, R: Threads + Wait + Sync>(
     rt: &R,
     r: &mut Counted<S>,
     workers: u8,
-) -> Result<Finished, Refusal>
+) -> Result<Finished, CommandRefusal>
     requires workers { (1 ≤ workers) × (workers ≤ 64) }
     requires read { failures_of r.old < 2 ^ 64 - 1 }
     ensures swept { IfOk result (λ f. IsImageOf (IsSweptHeap workers f) (S.remaining (inner_of r.old))) }
@@ -104,14 +104,14 @@ pub fn swept<R: Threads + Wait + Sync>(
     rt: &R,
     plan: Plan,
     workers: u8,
-) -> Result<Finished, Refusal>
+) -> Result<Finished, CommandRefusal>
     requires workers { (1 ≤ workers) × (workers ≤ 64) }
     ensures swept { IfOk result (λ f. IsSweptHeap workers f plan) }
     ensures flipped { IfOk result (IsOfFlip workers 0) }
     ensures cause { IfErr result (IsOfSweeping plan) }
 {
     let Ok(plan) = Arc::new(alloc, plan) else {
-        return Err(Refusal::OutOfMemory);
+        return Err(CommandRefusal::OutOfMemory);
     };
     flipped_and_swept::<Brand, R>(alloc, rt, Blank::new(u64::from(workers)), plan, workers)
 }
@@ -123,7 +123,7 @@ fn flipped_and_swept<L: Ledger + Send, R: Threads + Wait + Sync>(
     blank: Blank,
     plan: Arc<Plan>,
     workers: u8,
-) -> Result<Finished, Refusal>
+) -> Result<Finished, CommandRefusal>
     requires name { blank.name ≡ L.name }
     requires parts { blank.parts ≡ L.parts }
     requires count { blank.parts ≡ workers }
@@ -145,7 +145,7 @@ fn sweep_and_finish<L: Ledger + Send, R: Threads + Wait + Sync>(
     rt: &R,
     space: Space<L, Plan>,
     mutators: Vec<Mutator<L>>,
-) -> Result<Finished, Refusal>
+) -> Result<Finished, CommandRefusal>
     requires of { AreMutatorsOf space mutators.items }
     requires new { AreNew (steps_of (cells_of space)) (setup_of space).mutators (map pass_of mutators.items) }
     requires some { 0 < (setup_of space).mutators }
@@ -158,7 +158,7 @@ fn sweep_and_finish<L: Ledger + Send, R: Threads + Wait + Sync>(
 {
     let back = match sweep(alloc, rt, &space, mutators, &Open) {
         Ok(report) => report.mutators,
-        Err(refused) => return Err(Refusal::Sweep(refused.fault)),
+        Err(refused) => return Err(CommandRefusal::Sweep(refused.fault)),
     };
     match space.finish(alloc, back) {
         Ok(finished) => Ok(finished),

@@ -5,9 +5,9 @@ ghost use Rattle.comp_trace.specs.CycleRuns.{IsParsedFor};
 ghost use Rattle.comp_trace.specs.Traces.{lines_of};
 ghost use Rattle.commands.specs.Cycled.{IsCycledHeap, IsNextHeap, IsUncycled, IsUnmarked};
 
-use crate::replays::{Halted, unshown};
-use command_io::Refusal;
-use comp_mutator::{Finished, Refusal as MutatorRefusal};
+use crate::replays::{PrintedHalt, unshown};
+use command_io::CommandRefusal;
+use comp_mutator::{Finished, Refusal};
 use comp_trace::{CycleHalt, Halt, Shown, Trace, run_cycle};
 use heap_layout::MarkedHeap;
 use page_plan::Plan;
@@ -38,7 +38,7 @@ pub fn cycle_heap(
     marks: Vec<u32>,
     mutators: u8,
     fresh: u32,
-) -> Result<Cycled, Halted>
+) -> Result<Cycled, PrintedHalt>
     requires mutators { (1 ≤ mutators) × (mutators ≤ 64) }
     requires fresh { fresh ≤ 4096 }
     requires parsed { IsParsedFor mutators (length heap.roots) trace.now }
@@ -53,14 +53,14 @@ pub fn cycle_heap(
             }),
             Err(refusal) => Err(unshown(alloc, refusal)),
         },
-        Err(CycleHalt::Unplanned) => Err(unshown(alloc, Refusal::OutOfMemory)),
-        Err(CycleHalt::Halted(Halt::Cut(stopped))) => Err(Halted {
+        Err(CycleHalt::Unplanned) => Err(unshown(alloc, CommandRefusal::OutOfMemory)),
+        Err(CycleHalt::Halted(Halt::Cut(stopped))) => Err(PrintedHalt {
             shown: stopped.shown,
-            refusal: Refusal::Trace(stopped.fault),
+            refusal: CommandRefusal::Trace(stopped.fault),
         }),
         Err(CycleHalt::Halted(Halt::Unflipped | Halt::Unfinished(_))) => Err(unshown(
             alloc,
-            Refusal::Mutator(MutatorRefusal::OutOfMemory),
+            CommandRefusal::Mutator(Refusal::OutOfMemory),
         )),
     }
 }
@@ -72,13 +72,13 @@ fn mark_anew(
     plan: Arc<Plan>,
     finished: Finished,
     marks: Vec<u32>,
-) -> Result<Plan, Refusal>
+) -> Result<Plan, CommandRefusal>
     requires end { IsEndOf plan.value finished }
     ensures next { IfOk result (IsNextHeap plan.value finished marks.items) }
     ensures refused { IfErr result (IsUnmarked plan.value finished marks.items) }
 {
     match finished.next_cycle(alloc, &*plan, marks) {
         Ok(heap) => Ok(Plan::new(alloc, rt, heap)?),
-        Err(left) => Err(Refusal::Layout(left.fault)),
+        Err(left) => Err(CommandRefusal::Layout(left.fault)),
     }
 }

@@ -13,9 +13,9 @@ ghost use Rattle.commands.specs.Nexts.{IsOfWritingNext, IsWrittenNext, MakesNext
 
 use crate::cycling::{Cycled, cycle_heap};
 use crate::replay::{inputs_at, print_halted};
-use crate::replays::Halted;
+use crate::replays::PrintedHalt;
 use crate::shown::print_shown;
-use command_io::{Dumps, Images, Refusal, Traces, marks_at, print_line, write_image_to};
+use command_io::{Dumps, Images, CommandRefusal, Traces, marks_at, print_line, write_image_to};
 use command_line::NextRun;
 use heap_layout::Counted;
 use std::alloc::Global;
@@ -40,7 +40,7 @@ pub fn print_next<I: Images, T: Traces, D: Dumps, O: Write>(
     dumps: &mut D,
     asked: NextRun<'_>,
     out: &mut Counted<&mut O>,
-) -> Result<(), Refusal>
+) -> Result<(), CommandRefusal>
     requires mutators { (1 ≤ asked.mutators) × (asked.mutators ≤ 64) }
     requires fresh { asked.fresh ≤ 4096 }
     requires written { failures_of out.old < 2 ^ 64 - 1 }
@@ -80,9 +80,9 @@ pub fn print_next<I: Images, T: Traces, D: Dumps, O: Write>(
 fn write_made<D: Dumps, O: Write>(
     dumps: &mut D,
     path: &str,
-    made: Result<Cycled, Halted>,
+    made: Result<Cycled, PrintedHalt>,
     out: &mut Counted<&mut O>,
-) -> Result<(), Refusal>
+) -> Result<(), CommandRefusal>
     requires halted { IfErr made (λ halted. IsHaltedBy halted.shown.items halted.refusal) }
     requires written { failures_of out.old < 2 ^ 64 - 1 }
     ensures done { OnOk result (IsWrittenNext (D.gives dumps.old path.now) D.Writer.contents (O.contents (inner_of out.old).now) (O.contents (inner_of out.new).now) made) }
@@ -105,7 +105,7 @@ fn write_cycled<D: Dumps, O: Write>(
     path: &str,
     cycled: &Cycled,
     out: &mut Counted<&mut O>,
-) -> Result<(), Refusal>
+) -> Result<(), CommandRefusal>
     requires written { failures_of out.old < 2 ^ 64 - 1 }
     ensures written { OnOk result (WritesWhole (D.gives dumps.old path.now) D.Writer.contents (encoding cycled.now.plan)) }
     ensures printed { OnOk result (PrintsRun (O.contents (inner_of out.old).now) (O.contents (inner_of out.new).now) cycled.now.shown.items (live_words (live cycled.now.plan))) }

@@ -7,7 +7,7 @@ ghost use Rattle.command_io.specs.Printing.{CountsPrint, CountsRead, RefusedUnpr
 ghost use Rattle.commands.specs.Plan.{plan_text, count_lines, page_lines, root_lines, IsOfPrinting, PrintsPlan, RefusesPlan};
 ghost use Rattle.command_io.specs.Images.{IsImageOf, SomeGiven, RefusesAt};
 
-use command_io::{Images, Refusal, print_line, print_numbered};
+use command_io::{Images, CommandRefusal, print_line, print_numbered};
 use heap_layout::{Counted, read_image};
 use page_plan::Plan;
 use std::alloc::Global;
@@ -21,7 +21,7 @@ pub fn print_plan<I: Images, O: Write>(
     images: &I,
     path: &str,
     out: &mut Counted<&mut O>,
-) -> Result<(), Refusal>
+) -> Result<(), CommandRefusal>
     requires { failures_of out.old < 2 ^ 64 - 1 }
     ensures printed { OnOk result (SomeGiven (I.gives images.now path.now) I.Reader.remaining
         (IsImageOf (PrintsPlan (O.contents (inner_of out.old).now) (O.contents (inner_of out.new).now)))) }
@@ -41,7 +41,7 @@ fn print_plan_in<R: Read, O: Write>(
     rt: &(impl Threads + Sync),
     r: &mut Counted<R>,
     out: &mut Counted<&mut O>,
-) -> Result<(), Refusal>
+) -> Result<(), CommandRefusal>
     requires read { failures_of r.old < 2 ^ 64 - 1 }
     requires written { failures_of out.old < 2 ^ 64 - 1 }
     ensures printed { OnOk result (IsImageOf (PrintsPlan (O.contents (inner_of out.old).now) (O.contents (inner_of out.new).now))
@@ -62,7 +62,7 @@ fn write_plan<O: Write>(
     alloc: Global,
     plan: &Plan,
     out: &mut Counted<&mut O>,
-) -> Result<(), Refusal>
+) -> Result<(), CommandRefusal>
     requires { failures_of out.old < 2 ^ 64 - 1 }
     ensures printed { OnOk result (Appends (O.contents (inner_of out.old).now) (O.contents (inner_of out.new).now) (plan_text plan.now)) }
     ensures cause { IfErr result IsOfPrinting }
@@ -77,10 +77,10 @@ fn write_plan<O: Write>(
 }
 
 // Prints the live words and the number of pages.
-fn write_counts<O: Write>(plan: &Plan, out: &mut Counted<&mut O>) -> Result<(), Refusal>
+fn write_counts<O: Write>(plan: &Plan, out: &mut Counted<&mut O>) -> Result<(), CommandRefusal>
     requires { failures_of out.old < 2 ^ 64 - 1 }
     ensures printed { OnOk result (Appends (O.contents (inner_of out.old).now) (O.contents (inner_of out.new).now) (count_lines (live plan.now))) }
-    ensures cause { OnErr result (result ≡ Err Refusal.CannotPrint) }
+    ensures cause { OnErr result (result ≡ Err CommandRefusal.CannotPrint) }
     ensures counts { CountsPrint (failures_of out.old) (failures_of out.new) result }
     ensures same_writer { writer_of out.new ≡ writer_of out.old }
 {
@@ -89,10 +89,10 @@ fn write_counts<O: Write>(plan: &Plan, out: &mut Counted<&mut O>) -> Result<(), 
 }
 
 // Prints the first object of each page.
-fn write_pages<O: Write>(plan: &Plan, out: &mut Counted<&mut O>) -> Result<(), Refusal>
+fn write_pages<O: Write>(plan: &Plan, out: &mut Counted<&mut O>) -> Result<(), CommandRefusal>
     requires { failures_of out.old < 2 ^ 64 - 1 }
     ensures printed { OnOk result (Appends (O.contents (inner_of out.old).now) (O.contents (inner_of out.new).now) (page_lines (live plan.now))) }
-    ensures cause { OnErr result (result ≡ Err Refusal.CannotPrint) }
+    ensures cause { OnErr result (result ≡ Err CommandRefusal.CannotPrint) }
     ensures counts { CountsPrint (failures_of out.old) (failures_of out.new) result }
     ensures same_writer { writer_of out.new ≡ writer_of out.old }
 {
@@ -104,10 +104,10 @@ fn write_pages<O: Write>(plan: &Plan, out: &mut Counted<&mut O>) -> Result<(), R
 }
 
 // Prints each root after the flip.
-fn write_roots<O: Write>(roots: &[u64], out: &mut Counted<&mut O>) -> Result<(), Refusal>
+fn write_roots<O: Write>(roots: &[u64], out: &mut Counted<&mut O>) -> Result<(), CommandRefusal>
     requires { failures_of out.old < 2 ^ 64 - 1 }
     ensures printed { OnOk result (Appends (O.contents (inner_of out.old).now) (O.contents (inner_of out.new).now) (root_lines roots.now)) }
-    ensures cause { OnErr result (result ≡ Err Refusal.CannotPrint) }
+    ensures cause { OnErr result (result ≡ Err CommandRefusal.CannotPrint) }
     ensures counts { CountsPrint (failures_of out.old) (failures_of out.new) result }
     ensures same_writer { writer_of out.new ≡ writer_of out.old }
 {

@@ -8,7 +8,7 @@ ghost use Rattle.commands.specs.Replays.{SomeRun, StopsUnprinted};
 
 use crate::races::race_heap;
 use crate::replay::{inputs_at, write_outcome};
-use command_io::{Dumps, Images, Refusal, Traces};
+use command_io::{Dumps, Images, CommandRefusal, Traces};
 use command_line::TraceRun;
 use heap_layout::Counted;
 use std::alloc::Global;
@@ -30,7 +30,7 @@ pub fn print_race<R: Threads + Wait + Sync, I: Images, T: Traces, D: Dumps, O: W
     dumps: &mut D,
     asked: TraceRun<'_>,
     out: &mut Counted<&mut O>,
-) -> Result<(), Refusal>
+) -> Result<(), CommandRefusal>
     requires mutators { (1 ≤ asked.mutators) × (asked.mutators ≤ 64) }
     requires fresh { asked.fresh ≤ 4096 }
     requires written { failures_of out.old < 2 ^ 64 - 1 }

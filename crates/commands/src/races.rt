@@ -2,7 +2,7 @@
 ghost use Rattle.std.specs.Prelude.{◌≡◌, ℕ, ◌≤◌, List, map, length, IfOk, IfErr};
 ghost use Rattle.heap_layout.specs.Heap.{live};
 ghost use Rattle.page_plan.specs.Sliding.{pages};
-ghost use Rattle.comp_mutator.specs.Cells.{steps_of, AreNew};
+ghost use Rattle.comp_mutator.specs.CellViews.{steps_of, AreNew};
 ghost use Rattle.comp_mutator.specs.Finishes.{IsOfFlip};
 ghost use Rattle.comp_mutator.specs.Mutators.{cells_of, pass_of, setup_of, AreMutatorsOf};
 ghost use Rattle.comp_trace.specs.TraceStepsTraces.{IsParsedFor};
@@ -10,10 +10,10 @@ ghost use Rattle.comp_trace.specs.Traces.{lines_of, mutators_of, roots_of};
 ghost use Rattle.commands.specs.Races.{IsHaltedRace, IsRacedHeap};
 ghost use Rattle.command_io.specs.Texts.{HasLines};
 
-use crate::by_line::{by_line, first_stop};
-use crate::replays::{Halted, Replayed, unshown};
-use command_io::Refusal;
-use comp_mutator::{FinishFault, FlipFault, Mutator, Refusal as MutatorRefusal, Space, flip};
+use crate::by_line::{by_line, first_refused_line};
+use crate::replays::{PrintedHalt, Replayed, unshown};
+use command_io::CommandRefusal;
+use comp_mutator::{FinishFault, FlipFault, Mutator, Refusal, Space, flip};
 use comp_trace::{Run, Trace, TraceFault, race};
 use heap_layout::MarkedHeap;
 use page_plan::Plan;
@@ -36,7 +36,7 @@ pub fn race_heap<R: Threads + Wait + Sync>(
     trace: &Trace,
     mutators: u8,
     fresh: u32,
-) -> Result<Replayed, Halted>
+) -> Result<Replayed, PrintedHalt>
     requires mutators { (1 ≤ mutators) × (mutators ≤ 64) }
     requires fresh { fresh ≤ 4096 }
     requires parsed { (mutators_of trace.now ≡ mutators) × (roots_of trace.now ≡ length heap.roots) }
@@ -46,10 +46,10 @@ pub fn race_heap<R: Threads + Wait + Sync>(
     ensures halted { IfErr result (λ run. IsHaltedRace mutators fresh (lines_of trace.now) run.shown.items heap run.refusal) }
 {
     let Ok(plan) = Plan::new(alloc, rt, heap) else {
-        return Err(unshown(alloc, Refusal::OutOfMemory));
+        return Err(unshown(alloc, CommandRefusal::OutOfMemory));
     };
     let Ok(plan) = Arc::new(alloc, plan) else {
-        return Err(unshown(alloc, Refusal::OutOfMemory));
+        return Err(unshown(alloc, CommandRefusal::OutOfMemory));
     };
     flipped_and_raced::<Brand, R>(
         alloc,
@@ -71,7 +71,7 @@ fn flipped_and_raced<L: Ledger + Send + Sync, R: Threads + Wait + Sync>(
     trace: &Trace,
     mutators: u8,
     fresh: u32,
-) -> Result<Replayed, Halted>
+) -> Result<Replayed, PrintedHalt>
     requires name { blank.name ≡ L.name }
     requires parts { blank.parts ≡ L.parts }
     requires count { blank.parts ≡ mutators }
@@ -87,7 +87,7 @@ fn flipped_and_raced<L: Ledger + Send + Sync, R: Threads + Wait + Sync>(
         Ok((space, made)) => race_and_finish(alloc, rt, space, made, trace),
         Err(FlipFault::OutOfMemory) => Err(unshown(
             alloc,
-            Refusal::Mutator(MutatorRefusal::OutOfMemory),
+            CommandRefusal::Mutator(Refusal::OutOfMemory),
         )),
         Err(FlipFault::BadCounts) => unreachable!(),
     }
@@ -101,7 +101,7 @@ fn race_and_finish<L: Ledger + Send + Sync, R: Threads + Wait + Sync>(
     space: Space<L, Plan>,
     mutators: Vec<Mutator<L>>,
     trace: &Trace,
-) -> Result<Replayed, Halted>
+) -> Result<Replayed, PrintedHalt>
     requires of { AreMutatorsOf space mutators.items }
     requires new { AreNew (steps_of (cells_of space)) (setup_of space).mutators (map pass_of mutators.items) }
     requires whole { (setup_of space).mutators ≡ L.parts }
@@ -115,25 +115,25 @@ fn race_and_finish<L: Ledger + Send + Sync, R: Threads + Wait + Sync>(
 {
     let lines = trace.lines();
     let Ok(room) = Vec::with_capacity(alloc, lines.len()) else {
-        return Err(unshown(alloc, Refusal::Trace(TraceFault::OutOfMemory)));
+        return Err(unshown(alloc, CommandRefusal::Trace(TraceFault::OutOfMemory)));
     };
     let raced = match race(alloc, rt, trace, &space, mutators) {
         Ok(raced) => raced,
-        Err(not) => return Err(unshown(alloc, Refusal::Trace(not.fault))),
+        Err(not) => return Err(unshown(alloc, CommandRefusal::Trace(not.fault))),
     };
     let runs: &[Run] = &raced.runs;
     let shown = by_line(lines, runs, room);
-    match first_stop(runs) {
-        Some(stop) => Err(Halted {
+    match first_refused_line(runs) {
+        Some(stop) => Err(PrintedHalt {
             shown,
-            refusal: Refusal::Trace(TraceFault::Refused(stop.line, stop.refusal)),
+            refusal: CommandRefusal::Trace(TraceFault::Refused(stop.line, stop.refusal)),
         }),
         None => match space.finish(alloc, raced.mutators) {
             Ok(finished) => Ok(Replayed { shown, finished }),
             Err(left) => match left.fault {
                 FinishFault::OutOfMemory => Err(unshown(
                     alloc,
-                    Refusal::Mutator(MutatorRefusal::OutOfMemory),
+                    CommandRefusal::Mutator(Refusal::OutOfMemory),
                 )),
                 FinishFault::MutatorMissing(_) => unreachable!(),
             },

@@ -11,9 +11,9 @@ ghost use Rattle.comp_trace.specs.Traces.{lines_of, mutators_of, roots_of};
 ghost use Rattle.commands.specs.Outcomes.{IsHaltedBy, IsOfHalt, IsWritten, RefusesInputs, RefusesOutcome};
 ghost use Rattle.commands.specs.Replays.{dumped_of, IsOfWritingRun, PrintsRun, RefusesReplay, Replays, SomeRun, StopsUnprinted};
 
-use crate::replays::{Halted, Replayed, replay_heap};
+use crate::replays::{PrintedHalt, Replayed, replay_heap};
 use crate::shown::{print_shown, send_shown};
-use command_io::{Dumps, Images, Refusal, Traces, heap_at, print_line, trace_at, write_to};
+use command_io::{Dumps, Images, CommandRefusal, Traces, heap_at, print_line, trace_at, write_to};
 use command_line::TraceRun;
 use comp_audit::Dump;
 use comp_trace::Trace;
@@ -34,7 +34,7 @@ pub fn print_replay<I: Images, T: Traces, D: Dumps, O: Write>(
     dumps: &mut D,
     asked: TraceRun<'_>,
     out: &mut Counted<&mut O>,
-) -> Result<(), Refusal>
+) -> Result<(), CommandRefusal>
     requires mutators { (1 ≤ asked.mutators) × (asked.mutators ≤ 64) }
     requires fresh { asked.fresh ≤ 4096 }
     requires written { failures_of out.old < 2 ^ 64 - 1 }
@@ -83,7 +83,7 @@ pub fn inputs_at<I: Images, T: Traces>(
     image: &str,
     trace: &str,
     mutators: u8,
-) -> Result<Inputs, Refusal>
+) -> Result<Inputs, CommandRefusal>
     ensures heap { IfOk result (λ inputs. SomeGiven (I.gives images.now image.now) I.Reader.remaining (IsImageOf (λ other. other ≡ inputs.heap))) }
     ensures lines { IfOk result (λ inputs. SomeGiven (T.gives traces.now trace.now) T.Reader.remaining (IsTextOf mutators (length inputs.heap.roots) (lines_of inputs.trace))) }
     ensures counts { IfOk result (λ inputs. (mutators_of inputs.trace ≡ mutators) × (roots_of inputs.trace ≡ length inputs.heap.roots)) }
@@ -101,9 +101,9 @@ pub(crate) fn write_outcome<D: Dumps, O: Write>(
     alloc: Global,
     dumps: &mut D,
     asked: TraceRun<'_>,
-    outcome: Result<Replayed, Halted>,
+    outcome: Result<Replayed, PrintedHalt>,
     out: &mut Counted<&mut O>,
-) -> Result<(), Refusal>
+) -> Result<(), CommandRefusal>
     requires flipped { IfOk outcome (λ run. IsOfFlip asked.mutators asked.fresh run.finished) }
     requires halted { IfErr outcome (λ run. IsHaltedBy run.shown.items run.refusal) }
     requires written { failures_of out.old < 2 ^ 64 - 1 }
@@ -123,7 +123,7 @@ pub(crate) fn write_outcome<D: Dumps, O: Write>(
 }
 
 /// Prints what a halted run had shown, flushes the output, and answers the refusal of the run.
-pub fn print_halted<O: Write>(halted: &Halted, out: &mut Counted<&mut O>) -> Result<(), Refusal>
+pub fn print_halted<O: Write>(halted: &PrintedHalt, out: &mut Counted<&mut O>) -> Result<(), CommandRefusal>
     requires halted { IsHaltedBy halted.now.shown.items halted.now.refusal }
     requires written { failures_of out.old < 2 ^ 64 - 1 }
     ensures never { OnOk result ⊥ }
@@ -143,7 +143,7 @@ fn write_run<D: Dumps, O: Write>(
     asked: TraceRun<'_>,
     run: &Replayed,
     out: &mut Counted<&mut O>,
-) -> Result<(), Refusal>
+) -> Result<(), CommandRefusal>
     requires flipped { IsOfFlip asked.mutators asked.fresh run.now.finished }
     requires written { failures_of out.old < 2 ^ 64 - 1 }
     ensures written { OnOk result (WritesWhole (D.gives dumps.old asked.entry.dump.now) D.Writer.contents (dump_bytes (dumped_of asked.entry.mutators asked.entry.fresh run.now.finished))) }

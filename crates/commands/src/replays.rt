@@ -2,10 +2,10 @@
 ghost use Rattle.std.specs.Prelude.{◌≡◌, ◌≤◌, [], length, IfOk, IfErr};
 ghost use Rattle.comp_mutator.specs.Finishes.{IsOfFlip};
 ghost use Rattle.comp_trace.specs.Traces.{lines_of, mutators_of, roots_of};
-ghost use Rattle.commands.specs.Replays.{IsHalted, IsReplayedHeap};
+ghost use Rattle.commands.specs.Replays.{IsPrintedHalt, IsReplayedHeap};
 
-use command_io::Refusal;
-use comp_mutator::{Finished, Refusal as MutatorRefusal};
+use command_io::CommandRefusal;
+use comp_mutator::{Finished, Refusal};
 use comp_trace::{Halt, Shown, Trace, run_over};
 use heap_layout::MarkedHeap;
 use page_plan::Plan;
@@ -22,17 +22,17 @@ pub struct Replayed {
 
 /// Why a run did not come to its end, and what it had shown until then.
 #[derive(Drop)]
-pub struct Halted {
+pub struct PrintedHalt {
     pub shown: Vec<Shown>,
-    pub refusal: Refusal,
+    pub refusal: CommandRefusal,
 }
 
 /// A run that was refused before it showed anything.
-pub fn unshown(alloc: Global, refusal: Refusal) -> Halted
+pub fn unshown(alloc: Global, refusal: CommandRefusal) -> PrintedHalt
     ensures none { result.shown.items ≡ [] }
     ensures refusal { result.refusal ≡ refusal }
 {
-    Halted {
+    PrintedHalt {
         shown: Vec::new(alloc),
         refusal,
     }
@@ -51,32 +51,32 @@ pub fn replay_heap(
     trace: &Trace,
     mutators: u8,
     fresh: u32,
-) -> Result<Replayed, Halted>
+) -> Result<Replayed, PrintedHalt>
     requires mutators { (1 ≤ mutators) × (mutators ≤ 64) }
     requires fresh { fresh ≤ 4096 }
     requires parsed { (mutators_of trace.now ≡ mutators) × (roots_of trace.now ≡ length heap.roots) }
     ensures replayed { IfOk result (λ run. IsReplayedHeap mutators fresh (lines_of trace.now) run.shown.items run.finished heap) }
     ensures flipped { IfOk result (λ run. IsOfFlip mutators fresh run.finished) }
-    ensures halted { IfErr result (λ run. IsHalted mutators fresh (lines_of trace.now) run.shown.items heap run.refusal) }
+    ensures halted { IfErr result (λ run. IsPrintedHalt mutators fresh (lines_of trace.now) run.shown.items heap run.refusal) }
 {
     let Ok(plan) = Plan::new(alloc, rt, heap) else {
-        return Err(unshown(alloc, Refusal::OutOfMemory));
+        return Err(unshown(alloc, CommandRefusal::OutOfMemory));
     };
     let Ok(plan) = Arc::new(alloc, plan) else {
-        return Err(unshown(alloc, Refusal::OutOfMemory));
+        return Err(unshown(alloc, CommandRefusal::OutOfMemory));
     };
     match run_over(alloc, plan, trace, mutators, fresh) {
         Ok(run) => Ok(Replayed {
             shown: run.shown,
             finished: run.finished,
         }),
-        Err(Halt::Cut(stopped)) => Err(Halted {
+        Err(Halt::Cut(stopped)) => Err(PrintedHalt {
             shown: stopped.shown,
-            refusal: Refusal::Trace(stopped.fault),
+            refusal: CommandRefusal::Trace(stopped.fault),
         }),
         Err(Halt::Unflipped | Halt::Unfinished(_)) => Err(unshown(
             alloc,
-            Refusal::Mutator(MutatorRefusal::OutOfMemory),
+            CommandRefusal::Mutator(Refusal::OutOfMemory),
         )),
     }
 }

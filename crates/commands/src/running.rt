@@ -16,7 +16,7 @@ use crate::replay::print_replay;
 use crate::word::print_word;
 use clap::error::ErrorKind;
 use command_io::{
-    Dumps, FileDumps, FileImages, FileTraces, Images, Refusal, Traces, flush, print_help,
+    Dumps, FileDumps, FileImages, FileTraces, Images, CommandRefusal, Traces, flush, print_help,
     print_text,
 };
 use command_line::{Task, VERSION_LINE, read_task};
@@ -89,7 +89,7 @@ fn respond<R: Threads + Wait + Sync, I: Images, T: Traces, D: Dumps, O: Write, E
     match asked {
         Ok(task) => reported(perform(alloc, rt, images, traces, dumps, task, out), err),
         Err(error) if error.kind() == ErrorKind::OutOfMemory => reported(
-            Err(Refusal::OutOfMemory),
+            Err(CommandRefusal::OutOfMemory),
             err,
         ),
         Err(error) => {
@@ -108,7 +108,7 @@ fn perform<R: Threads + Wait + Sync, I: Images, T: Traces, D: Dumps, O: Write>(
     dumps: &mut D,
     task: Task,
     out: &mut Counted<&mut O>,
-) -> Result<(), Refusal>
+) -> Result<(), CommandRefusal>
     requires written { failures_of out.old < 2 ^ 64 - 1 }
     requires counts { HasLawfulCounts task }
     ensures done { OnOk result (DoesTask (I.gives images.now) I.Reader.remaining (T.gives traces.now) T.Reader.remaining (D.gives dumps.old) D.Writer.contents (O.contents (inner_of out.old).now) (O.contents (inner_of out.new).now) task.entry) }
@@ -132,7 +132,7 @@ fn print_task<R: Threads + Wait + Sync, I: Images, T: Traces, D: Dumps, O: Write
     dumps: &mut D,
     task: Task,
     out: &mut Counted<&mut O>,
-) -> Result<(), Refusal>
+) -> Result<(), CommandRefusal>
     requires written { failures_of out.old < 2 ^ 64 - 1 }
     requires counts { HasLawfulCounts task }
     ensures done { OnOk result (DoesTask (I.gives images.now) I.Reader.remaining (T.gives traces.now) T.Reader.remaining (D.gives dumps.old) D.Writer.contents (O.contents (inner_of out.old).now) (O.contents (inner_of out.new).now) task.entry) }
@@ -171,7 +171,7 @@ fn print_task<R: Threads + Wait + Sync, I: Images, T: Traces, D: Dumps, O: Write
 }
 
 // The status of a task. Prints a refusal on `err`; if that fails, nothing more is done.
-pub(crate) fn reported<E: Write>(outcome: Result<(), Refusal>, err: &mut E) -> u8
+pub(crate) fn reported<E: Write>(outcome: Result<(), CommandRefusal>, err: &mut E) -> u8
     ensures done { OnOk outcome (result ≡ 0) }
     ensures refused { OnErr outcome (result ≡ 1) }
 {

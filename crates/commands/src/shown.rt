@@ -5,7 +5,7 @@ ghost use Rattle.heap_layout.specs.Counted.{inner_of, failures_of, is_flushed_of
 ghost use Rattle.command_io.specs.Printing.{CountsPrint};
 ghost use Rattle.commands.specs.Replays.{shown_line, shown_lines};
 
-use command_io::{Refusal, flush, print_bytes};
+use command_io::{CommandRefusal, flush, print_bytes};
 use comp_trace::Shown;
 use heap_layout::Counted;
 use itoa::write_digits;
@@ -16,10 +16,10 @@ use std::io::Write;
 const LONGEST: usize = 42;
 
 /// Prints shown values, a line each: the number of the line that showed it, and the value.
-pub fn print_shown<O: Write>(shown: &[Shown], out: &mut Counted<&mut O>) -> Result<(), Refusal>
+pub fn print_shown<O: Write>(shown: &[Shown], out: &mut Counted<&mut O>) -> Result<(), CommandRefusal>
     requires { failures_of out.old < 2 ^ 64 - 1 }
     ensures printed { OnOk result (Appends (O.contents (inner_of out.old).now) (O.contents (inner_of out.new).now) (shown_lines shown.now)) }
-    ensures cause { OnErr result (result ≡ Err Refusal.CannotPrint) }
+    ensures cause { OnErr result (result ≡ Err CommandRefusal.CannotPrint) }
     ensures counts { CountsPrint (failures_of out.old) (failures_of out.new) result }
     ensures same_writer { writer_of out.new ≡ writer_of out.old }
 {
@@ -30,10 +30,10 @@ pub fn print_shown<O: Write>(shown: &[Shown], out: &mut Counted<&mut O>) -> Resu
 }
 
 /// Prints shown values, and flushes the output, since nothing is printed after a refused line.
-pub fn send_shown<O: Write>(shown: &[Shown], out: &mut Counted<&mut O>) -> Result<(), Refusal>
+pub fn send_shown<O: Write>(shown: &[Shown], out: &mut Counted<&mut O>) -> Result<(), CommandRefusal>
     requires { failures_of out.old < 2 ^ 64 - 1 }
     ensures printed { OnOk result (Appends (O.contents (inner_of out.old).now) (O.contents (inner_of out.new).now) (shown_lines shown.now)) }
-    ensures cause { OnErr result (result ≡ Err Refusal.CannotPrint) }
+    ensures cause { OnErr result (result ≡ Err CommandRefusal.CannotPrint) }
     ensures counts { CountsPrint (failures_of out.old) (failures_of out.new) result }
     ensures flushed { OnOk result (is_flushed_of out.new ≡ true) }
     ensures same_writer { writer_of out.new ≡ writer_of out.old }
@@ -43,10 +43,10 @@ pub fn send_shown<O: Write>(shown: &[Shown], out: &mut Counted<&mut O>) -> Resul
 }
 
 // Prints a shown value, with one call of the writer.
-fn print_value<O: Write>(shown: Shown, out: &mut Counted<&mut O>) -> Result<(), Refusal>
+fn print_value<O: Write>(shown: Shown, out: &mut Counted<&mut O>) -> Result<(), CommandRefusal>
     requires { failures_of out.old < 2 ^ 64 - 1 }
     ensures printed { OnOk result (Appends (O.contents (inner_of out.old).now) (O.contents (inner_of out.new).now) (shown_line shown)) }
-    ensures cause { OnErr result (result ≡ Err Refusal.CannotPrint) }
+    ensures cause { OnErr result (result ≡ Err CommandRefusal.CannotPrint) }
     ensures counts { CountsPrint (failures_of out.old) (failures_of out.new) result }
     ensures same_writer { writer_of out.new ≡ writer_of out.old }
 {

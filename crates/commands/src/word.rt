@@ -3,7 +3,7 @@ ghost use Rattle.std.specs.Prelude.{◌≡◌, ◌*◌, ◌-◌, ◌/◌, ◌^�
 ghost use Rattle.heap_layout.specs.Counted.{inner_of, failures_of, writer_of};
 ghost use Rattle.heap_layout.specs.Heap.{live};
 ghost use Rattle.page_plan.specs.Sliding.{pages, slid_words};
-ghost use Rattle.comp_mutator.specs.Cells.{steps_of, AreNew, IsNew};
+ghost use Rattle.comp_mutator.specs.CellViews.{steps_of, AreNew, IsNew};
 ghost use Rattle.comp_mutator.specs.Mutators.{cells_of, pass_of, setup_of};
 ghost use Rattle.comp_mutator.specs.Refusal.TheVariants as refusals;
 ghost use Rattle.std.specs.Io.KnownBytes.{Appends};
@@ -11,7 +11,7 @@ ghost use Rattle.command_io.specs.Printing.{line_of, CountsPrint, CountsRead, Re
 ghost use Rattle.command_io.specs.Images.{IsImageOf, SomeGiven, RefusesAt};
 ghost use Rattle.commands.specs.Word.{IsWordAt, IsPast, PrintsWordAt, RefusesWord, RefusesPrint};
 
-use command_io::{Images, Refusal, print_digits, print_text};
+use command_io::{Images, CommandRefusal, print_digits, print_text};
 use comp_mutator::{FlipFault, Mutator, Space, alone_sees_its_own, flip};
 use heap_layout::{Counted, read_image};
 use page_plan::{Plan, pages_are_parts};
@@ -30,7 +30,7 @@ pub fn print_word<I: Images, O: Write>(
     path: &str,
     index: u64,
     out: &mut Counted<&mut O>,
-) -> Result<(), Refusal>
+) -> Result<(), CommandRefusal>
     requires { failures_of out.old < 2 ^ 64 - 1 }
     ensures printed { OnOk result (SomeGiven (I.gives images.now path.now) I.Reader.remaining
         (IsImageOf (PrintsWordAt index (O.contents (inner_of out.old).now) (O.contents (inner_of out.new).now)))) }
@@ -50,7 +50,7 @@ fn print_word_in<R: Read, O: Write>(
     r: &mut Counted<R>,
     index: u64,
     out: &mut Counted<&mut O>,
-) -> Result<(), Refusal>
+) -> Result<(), CommandRefusal>
     requires read { failures_of r.old < 2 ^ 64 - 1 }
     requires written { failures_of out.old < 2 ^ 64 - 1 }
     ensures printed { OnOk result (IsImageOf (PrintsWordAt index (O.contents (inner_of out.old).now) (O.contents (inner_of out.new).now))
@@ -66,10 +66,10 @@ fn print_word_in<R: Read, O: Write>(
 }
 
 // Prints a number and a line feed.
-fn print_number<O: Write>(number: u64, out: &mut Counted<&mut O>) -> Result<(), Refusal>
+fn print_number<O: Write>(number: u64, out: &mut Counted<&mut O>) -> Result<(), CommandRefusal>
     requires { failures_of out.old < 2 ^ 64 - 1 }
     ensures printed { OnOk result (Appends (O.contents (inner_of out.old).now) (O.contents (inner_of out.new).now) (line_of number)) }
-    ensures cause { OnErr result (result ≡ Err Refusal.CannotPrint) }
+    ensures cause { OnErr result (result ≡ Err CommandRefusal.CannotPrint) }
     ensures counts { CountsPrint (failures_of out.old) (failures_of out.new) result }
     ensures same_writer { writer_of out.new ≡ writer_of out.old }
 {
@@ -83,7 +83,7 @@ pub fn word_in<R: Read>(
     rt: &(impl Threads + Sync),
     r: &mut Counted<R>,
     index: u64,
-) -> Result<u64, Refusal>
+) -> Result<u64, CommandRefusal>
     requires { failures_of r.old < 2 ^ 64 - 1 }
     ensures word { IfOk result (λ word. IsImageOf (IsWordAt index word) (R.remaining (inner_of r.old))) }
     ensures cause { IfErr result (λ refusal. RefusesWord index refusal (R.remaining (inner_of r.old))) }
@@ -96,15 +96,15 @@ pub fn word_in<R: Read>(
 
 // The slid word at an index. The heap is flipped for one mutator, with no fresh page; the word is that of the
 // mutator's copy of its page.
-fn word_of(alloc: Global, plan: Plan, index: u64) -> Result<u64, Refusal>
+fn word_of(alloc: Global, plan: Plan, index: u64) -> Result<u64, CommandRefusal>
     ensures word { IfOk result (λ word. IsWordAt index word plan) }
     ensures cause { IfErr result (IsPast index plan) }
 {
     if index / 64 >= plan.pages() {
-        return Err(Refusal::NoSuchWord(index));
+        return Err(CommandRefusal::NoSuchWord(index));
     }
     let Ok(plan) = Arc::new(alloc, plan) else {
-        return Err(Refusal::OutOfMemory);
+        return Err(CommandRefusal::OutOfMemory);
     };
     Ok(flipped_word::<Brand>(alloc, Blank::new(1), plan, index)?)
 }

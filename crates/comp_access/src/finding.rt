@@ -4,7 +4,7 @@ ghost use Rattle.heap_layout.specs.Header.{size_of};
 ghost use Rattle.heap_layout.specs.Kinds.{count_of, refers};
 ghost use Rattle.cell_steps.specs.Starts.{IsForwardingAddress};
 ghost use Rattle.cell_steps.specs.Passes.{builds_of, did, seen, HasSeenBuilt, MayRefer, Rests};
-ghost use Rattle.page_cells.specs.Cells.{mutators_of, page_number, setup_of, Has, IsPassOf};
+ghost use Rattle.page_cells.specs.CellViews.{mutators_of, page_number, setup_of, Has, IsPassOf};
 ghost use Rattle.page_cells.specs.Calls.{Grows, WroteNothing};
 ghost use Rattle.comp_access.specs.Fields.{field_address, IsFreshObject};
 ghost use Rattle.comp_access.specs.Finds.{HoldsField, IsEarly, IsFound, IsFreshField};

@@ -3,7 +3,7 @@ ghost use Rattle.std.specs.Prelude.{IfOk};
 ghost use Rattle.comp_audit.specs.Judged.{faults, Judges};
 
 use crate::verdict::Verdict;
-use audit_checks::{Setting, Stop, check};
+use audit_checks::{Setting, CheckEnd, check};
 use comp_dump::{Dump, dump_is_stored};
 use heap_layout::OutOfMemory;
 use page_plan::Plan;
@@ -34,7 +34,7 @@ pub fn audit(alloc: Global, plan: &Plan, dump: &Dump<'_>) -> Result<Verdict, Out
     );
     match found {
         Ok(()) => Ok(Verdict::Yes),
-        Err(Stop::Fault(fault)) => Ok(Verdict::No(fault)),
-        Err(Stop::Memory) => Err(OutOfMemory),
+        Err(CheckEnd::Fault(fault)) => Ok(Verdict::No(fault)),
+        Err(CheckEnd::OutOfMemory) => Err(OutOfMemory),
     }
 }

@@ -80,7 +80,7 @@ abbrev pub head_in : Setup → Journals → ℕ → Head
 head_in u journals i = header_of u.heap.edition (word_in u journals i)
 
 -- An object starts at this index.
-pub record StandsAt (u : Setup) (journals : Journals) (i : ℕ) : Type 0 where
+pub record IsWholeAt (u : Setup) (journals : Journals) (i : ℕ) : Type 0 where
   pub first : kind_in u journals i ≡ Some Header
   pub ends : i + size_of (head_in u journals i) ≤ 64 * pages u
   pub short : size_of (head_in u journals i) ≤ 1024
@@ -89,7 +89,7 @@ pub record StandsAt (u : Setup) (journals : Journals) (i : ℕ) : Type 0 where
 -- The word at this index is in an object that starts at another index.
 pub record IsWithin (u : Setup) (journals : Journals) (i : ℕ) : Type 0 where
   pub start : ℕ
-  pub stands : StandsAt u journals start
+  pub stands : IsWholeAt u journals start
   pub above : start < i
   pub below : i < start + size_of (head_in u journals start)
 
@@ -131,7 +131,7 @@ module _ (u : Setup) (journals : Journals) (closed : IsClosed u.heap) (can : Can
       ∙ ap (λ l. get_or l o 0) (slid_base u p few) ∙ page-at objects p o (omega arith) ∙ ap (λ n. get_or (slid_words objects) n 0) (sym (cut i) ∙ sym same))
       ∙ s.word
 
-  slid_stands : (i : ℕ) → IsForwardingAddress u.heap (to_address i) → StandsAt u journals i
+  slid_stands : (i : ℕ) → IsForwardingAddress u.heap (to_address i) → IsWholeAt u journals i
   slid_stands i is =
       let header = is.0 in
       let s = (objects_stand u.heap closed).stands (to_address i) header is.1 in
@@ -156,7 +156,7 @@ module _ (u : Setup) (journals : Journals) (closed : IsClosed u.heap) (can : Can
 
   -- the object that an entry made
   head_stands : (p index : ℕ) (e : Entry) (i : ℕ) → p < pages u → get_elem? (journals p) index ≡ maybe.some e → e.kind ≡ Header → i ≡ 64 * p + e.offset
-      → StandsAt u journals i × (head_in u journals i ≡ header_of u.heap.edition e.value)
+      → IsWholeAt u journals i × (head_in u journals i ≡ header_of u.heap.edition e.value)
   head_stands p index e i inside there head at =
       let made : IsMade u p (journals p) e = all_made u p (journals p) [] index e (can.lawful p) there head in
       let ends = made.ends in
@@ -176,7 +176,7 @@ module _ (u : Setup) (journals : Journals) (closed : IsClosed u.heap) (can : Can
       )
 
   -- an object stands where one starts
-  pub stands : (i : ℕ) → IsObjectAt u journals (to_address i) → StandsAt u journals i
+  pub stands : (i : ℕ) → IsObjectAt u journals (to_address i) → IsWholeAt u journals i
   stands i is = ⊎_elim
       (λ (slid : IsForwardingAddress u.heap (to_address i)). slid_stands i slid)
       (λ (m : IsMadeAt u journals (to_address i)).

@@ -28,7 +28,7 @@ use Rattle.comp_cycles.specs.NextHeap.{word_in, kind_in, lowered, lowered_as, ne
 use Rattle.comp_cycles.proofs.Living.{numbered_reference, numbered_other, header_is, Agrees}
 use Rattle.comp_cycles.proofs.Leaving.{among_is, none_among, left_other, left_weak, left_long, left_at}
 use Rattle.comp_cycles.proofs.Targets.{object_long, object_word, target_cases, target_mark, marks_once, named_mark, named_null, named_none}
-use Rattle.comp_cycles.proofs.Finals.{head_in, stands, StandsAt}
+use Rattle.comp_cycles.proofs.Finals.{head_in, stands, IsWholeAt}
 use Rattle.comp_cycles.proofs.Rows.{next_kind}
 
 -- the element at an index is the value read there
@@ -85,7 +85,7 @@ module _ (u : Setup) (journals : Journals) (closed_before : IsClosed u.heap) (ca
         (λ (m : IsMadeAt u journals a). omega (arith, m.at))
         (object_is a s)
 
-    object : (k : ℕ) → k < length marks → StandsAt u journals (mark k)
+    object : (k : ℕ) → k < length marks → IsWholeAt u journals (mark k)
     object k lt = stands u journals closed_before can (mark k) (object_is (at k) (started k lt))
 
     inside : (k : ℕ) → k < length marks → mark k + size_of (head_in u journals (mark k)) ≤ 64 * pages u

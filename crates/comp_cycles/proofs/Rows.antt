@@ -22,7 +22,7 @@ use Rattle.comp_history.proofs.Words.{some_field}
 use Rattle.comp_cycles.specs.NextHeap.{word_in, kind_in, lowered_as, next_word, next_heap, is_header, object_starts, next_faults}
 use Rattle.comp_cycles.proofs.Naming.{at_row, row_long}
 use Rattle.comp_cycles.proofs.Living.{other_kind}
-use Rattle.comp_cycles.proofs.Finals.{head_in, stands, field_within, none_is_zero, is_object, StandsAt}
+use Rattle.comp_cycles.proofs.Finals.{head_in, stands, field_within, none_is_zero, is_object, IsWholeAt}
 
 -- ---- words with kinds
 
@@ -50,13 +50,13 @@ empty_size One = refl
 empty_size Two = refl
 
 -- Words of these kinds: objects, and zeros between them.
-pub record IsRow (edition : Edition) (words : List ℕ) (kind : ℕ → Option Kind) : Type 0 where
+pub record IsObjectRow (edition : Edition) (words : List ℕ) (kind : ℕ → Option Kind) : Type 0 where
   pub placed : (i : ℕ) → i < length words → kind i ≡ Some Header → IsPlaced edition words i
   pub inside : (i j : ℕ) → i < length words → kind i ≡ Some Header → i < j → j < i + size_of (header_at edition words i) → IsField (kind j)
   pub within : (j : ℕ) → j < length words → IsField (kind j) → (i : ℕ) × (i < length words) × (kind i ≡ Some Header) × (i < j) × (j < i + size_of (header_at edition words i))
   pub empty : (i : ℕ) → i < length words → kind i ≡ None → get_or words i 0 ≡ 0
 
-module _ (edition : Edition) (words : List ℕ) (kind : ℕ → Option Kind) (row : IsRow edition words kind) where
+module _ (edition : Edition) (words : List ℕ) (kind : ℕ → Option Kind) (row : IsObjectRow edition words kind) where
   abbrev long : ℕ
   long = length words
 
@@ -182,14 +182,14 @@ module _ (u : Setup) (journals : Journals) (closed_before : IsClosed u.heap) (ca
   pub next_kind : (i : ℕ) (o : Option Kind) → i < 64 * pages u → kind_in u journals i ≡ o → get_or next.words i 0 ≡ lowered_as o (word_in u journals i)
   next_kind i o lt e = next_is i lt ∙ ap (λ k. lowered_as k (word_in u journals i)) e
 
-  stands_at : (i : ℕ) → i < 64 * pages u → kind_in u journals i ≡ Some Header → StandsAt u journals i
+  stands_at : (i : ℕ) → i < 64 * pages u → kind_in u journals i ≡ Some Header → IsWholeAt u journals i
   stands_at i lt e = stands u journals closed_before can i (is_object u journals closed_before can i lt e)
 
   -- a header stays
   next_head : (i : ℕ) → i < 64 * pages u → kind_in u journals i ≡ Some Header → header_at u.heap.edition next.words i ≡ head_in u journals i
   next_head i lt e = ap (header_of u.heap.edition) (next_kind i (Some Header) lt e)
 
-  pub next_row : IsRow u.heap.edition next.words (kind_in u journals)
+  pub next_row : IsObjectRow u.heap.edition next.words (kind_in u journals)
   next_row = record {
     placed = λ i lt e.
         let inside : i < 64 * pages u = omega (arith, lt, next_long) in

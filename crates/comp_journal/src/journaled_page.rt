@@ -10,7 +10,7 @@ use std::alloc::Global;
 use std::marker::Model;
 
 /// The most entries that a journal may have.
-pub const MOST_ENTRIES: usize = 1_024;
+pub const MAX_ENTRIES: usize = 1_024;
 
 /// A page with its journal. Its words are the base with all writes of the journal applied in order.
 #[derive(Debug, Drop)]
@@ -100,7 +100,7 @@ impl JournaledPage {
         ensures full { IsErrOf result JournalFull ↔ (length self.old.page.journal ≡ 1024) }
         ensures err { OnErr result (self.new.room ≡ self.old.room) }
     {
-        if self.journal.len() == MOST_ENTRIES {
+        if self.journal.len() == MAX_ENTRIES {
             return Err(JournalRefusal::JournalFull);
         }
         let alloc = *self.journal.allocator();

@@ -22,8 +22,8 @@ use Rattle.comp_mutator.proofs.CompAccessGrowing.{known_more}
 use Rattle.comp_sweep.specs.Regions.{SeesRegion}
 use Rattle.comp_sweep.specs.Sweeps.{BuildsMore, Sweeps}
 use Rattle.comp_sweep.specs.Workers.{WhyStopped}
-use Rattle.comp_sweep.specs.declared.working.Stop.{Stop}
-use Rattle.comp_sweep.specs.declared.working.Stop.TheVariants.{Full, Told, Wants}
+use Rattle.comp_sweep.specs.declared.working.WorkerEnd.{WorkerEnd}
+use Rattle.comp_sweep.specs.declared.working.WorkerEnd.TheVariants.{Full, Reported, Wants}
 use Rattle.heap_layout.specs.declared.edition.Edition.{Edition}
 
 -- a page that is refused, but not as busy, was not known to be built
@@ -96,8 +96,8 @@ module _ {L B : Type 0} {g : Ghosts B} (space : Space L B g) where
         }
 
     -- why a worker stops, if it made calls before
-    pub stopped_then : {A : Type 0} (compacted : ℕ) (known : Option A) (stop : Stop) → WhyStopped compacted (pass_of b) known stop → WhyStopped compacted (pass_of a) known stop
-    stopped_then compacted known Told w = w
+    pub stopped_then : {A : Type 0} (compacted : ℕ) (known : Option A) (stop : WorkerEnd) → WhyStopped compacted (pass_of b) known stop → WhyStopped compacted (pass_of a) known stop
+    stopped_then compacted known Reported w = w
     stopped_then compacted known Full w = tt
     stopped_then compacted known (Wants p) w = (w.0, λ k. w.1 (known_more (pass_of a) (pass_of b) h.grows p k))
 

@@ -4,22 +4,22 @@ use Rattle.std.proofs.lemmas.List.Elements.{All-append, All-cons, All-nil}
 use Rattle.comp_mutator.specs.Setup.{Setup}
 use Rattle.comp_mutator.specs.Lists.{only}
 use Rattle.comp_mutator.specs.Pass.{Pass}
-use Rattle.comp_sweep.specs.Lots.{taken, SameLot}
-use Rattle.comp_sweep.specs.declared.lots.Lot.{Lot}
+use Rattle.comp_sweep.specs.Queues.{taken, SameQueue}
+use Rattle.comp_sweep.specs.declared.queues.RegionQueue.{RegionQueue}
 use Rattle.comp_sweep.proofs.Tallies.{times_more}
 use Rattle.comp_sweep.specs.Regions.{SeesRegion}
 use Rattle.comp_sweep.specs.Workers.{Listed}
 
-pub lot_then : (a b c : Lot) → SameLot a b → SameLot b c → SameLot a c
-lot_then a b c h k = k ∙ h
+pub queue_then : (a b c : RegionQueue) → SameQueue a b → SameQueue b c → SameQueue a c
+queue_then a b c h k = k ∙ h
 
 module _ (u : Setup) where
   -- nothing was taken
-  pub listed_none : (pass : Pass) (lot : Lot) (regions : List ℕ) → All (SeesRegion u pass) regions → Listed u pass lot lot regions regions
-  listed_none pass lot regions seen = record { seen = seen; tally = λ x. refl }
+  pub listed_none : (pass : Pass) (queue : RegionQueue) (regions : List ℕ) → All (SeesRegion u pass) regions → Listed u pass queue queue regions regions
+  listed_none pass queue regions seen = record { seen = seen; tally = λ x. refl }
 
   -- one region more
-  pub listed_next : (pass next : Pass) (first old new : Lot) (before after more : List ℕ) (q : ℕ) → ((region : ℕ) → SeesRegion u pass region → SeesRegion u next region) → SeesRegion u next q
+  pub listed_next : (pass next : Pass) (first old new : RegionQueue) (before after more : List ℕ) (q : ℕ) → ((region : ℕ) → SeesRegion u pass region → SeesRegion u next region) → SeesRegion u next q
       → ((x : ℕ) → taken x new ≡ taken x old + only x q) → more ≡ after ++ q ∷ [] → Listed u pass first old before after → Listed u next first new before more
   listed_next pass next first old new before after more q keeps here tally e h = record {
     seen = subst (All (SeesRegion u next)) (sym e)

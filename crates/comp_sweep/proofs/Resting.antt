@@ -17,15 +17,15 @@ use Rattle.comp_mutator.proofs.CompAccessGrowing.{known_more}
 use Rattle.comp_mutator.specs.Mutators.{pass_of, IsMutatorOf}
 use Rattle.comp_mutator.specs.declared.space.Space.{Space}
 use Rattle.comp_mutator.specs.declared.mutator.Mutator.{Mutator}
-use Rattle.comp_sweep.specs.Lots.{put_in, standing, standings, taken, taken_in, AreDealt, IsAlone, IsOut, SameLot}
+use Rattle.comp_sweep.specs.Queues.{put_in, standing, standings, taken, taken_in, AreDistributed, IsAlone, IsOut, SameQueue}
 use Rattle.comp_sweep.specs.RegionSplits.{AreAllOnce}
-use Rattle.comp_sweep.specs.declared.lots.Lot.{Lot}
+use Rattle.comp_sweep.specs.declared.queues.RegionQueue.{RegionQueue}
 use Rattle.comp_sweep.proofs.Stands.{map_same}
 use Rattle.comp_sweep.proofs.Tallies.{all_taken}
 use Rattle.comp_sweep.specs.Sweeps.{HandsBack, SeesRegions, Sweeps}
 use Rattle.comp_sweep.specs.Workers.{AreRest, KnowsAll, Listed}
 use Rattle.comp_sweep.proofs.Composed.{sweeps_then}
-use Rattle.comp_sweep.proofs.Told.{beside}
+use Rattle.comp_sweep.proofs.SweepAnswers.{beside}
 
 module _ {X Y : Type 0} (R : X → Y → Type 0) where
   -- one element of the second list is replaced
@@ -75,12 +75,12 @@ module _ {L : Type 0} (u : Setup) (ms : List (Mutator L)) (ls : List (Vec ℕ)) 
   pub seen_rest : (m : Mutator L) (l : Vec ℕ) → SeesRegions u m l → AllZip (SeesRegions u) (set ms k m) (set ls k l)
   seen_rest m l sees = zip_both (SeesRegions u) ms ls k m l sees h
 
-module _ (os : List Lot) (k : ℕ) (o n : Lot) (lt : k < length os) (eo : o ≡ get_or os k o) where
-  pub same_rest : (first : List Lot) → SameLot o n → standings os ≡ standings first → standings (set os k n) ≡ standings first
+module _ (os : List RegionQueue) (k : ℕ) (o n : RegionQueue) (lt : k < length os) (eo : o ≡ get_or os k o) where
+  pub same_rest : (first : List RegionQueue) → SameQueue o n → standings os ≡ standings first → standings (set os k n) ≡ standings first
   same_rest first same e = map_same standing os k o n (at_value os k o lt eo) same ∙ e
 
   -- what was taken was listed
-  pub tally_rest : (u : Setup) (pass : Pass) (first : List Lot) (before ls : List (Vec ℕ)) (l v : Vec ℕ) → k < length ls → l ≡ get_or ls k l → Listed u pass o n l.items v.items
+  pub tally_rest : (u : Setup) (pass : Pass) (first : List RegionQueue) (before ls : List (Vec ℕ)) (l v : Vec ℕ) → k < length ls → l ≡ get_or ls k l → Listed u pass o n l.items v.items
       → ((x : ℕ) → named x (lists ls) + taken_in x first ≡ named x (lists before) + taken_in x os)
       → (x : ℕ) → named x (lists (set ls k v)) + taken_in x first ≡ named x (lists before) + taken_in x (set os k n)
   tally_rest u pass first before ls l v less el listed tally x =
@@ -93,20 +93,20 @@ module _ (os : List Lot) (k : ℕ) (o n : Lot) (lt : k < length os) (eo : o ≡ 
         total-set (times x) (lists ls) k l.items v.items (at_map (λ (w : Vec ℕ). w.items) ls k l (at_value ls k l less el)),
       )
 
-  pub out_rest : ((j : ℕ) (lot : Lot) → j < k → get_elem? os j ≡ some lot → IsOut lot) → IsOut n → (j : ℕ) (lot : Lot) → j < k + 1 → get_elem? (set os k n) j ≡ some lot → IsOut lot
-  out_rest before here j lot less at =
-      ⊎_elim (λ (x : (j ≡ k) × (n ≡ lot)). subst IsOut x.1 here) (λ (x : (j ≢ k) × (get_elem? os j ≡ some lot)). before j lot (omega (arith, less, x.0)) x.1) (at_set os k j n lot at)
+  pub out_rest : ((j : ℕ) (queue : RegionQueue) → j < k → get_elem? os j ≡ some queue → IsOut queue) → IsOut n → (j : ℕ) (queue : RegionQueue) → j < k + 1 → get_elem? (set os k n) j ≡ some queue → IsOut queue
+  out_rest before here j queue less at =
+      ⊎_elim (λ (x : (j ≡ k) × (n ≡ queue)). subst IsOut x.1 here) (λ (x : (j ≢ k) × (get_elem? os j ≡ some queue)). before j queue (omega (arith, less, x.0)) x.1) (at_set os k j n queue at)
 
 -- the number of lots is unchanged
-pub long_rest : (os first : List Lot) → standings os ≡ standings first → length os ≡ length first
+pub long_rest : (os first : List RegionQueue) → standings os ≡ standings first → length os ≡ length first
 long_rest os first e = sym (length-map os standing) ∙ ap length e ∙ length-map first standing
 
 -- the lists have all regions, each once
-pub concluded : {L : Type 0} (u : Setup) (n : ℕ) (dealt gathered left : List Lot) (before after : List (Vec ℕ)) (ms : List (Mutator L)) → AreDealt n (standings dealt)
-    → ((x : ℕ) → put_in x (standings gathered) ≡ put_in x (standings dealt)) → ((x : ℕ) → taken_in x gathered ≡ taken_in x dealt) → Each (standings gathered) IsAlone
-    → ((x : ℕ) → named x (lists before) ≡ taken_in x dealt) → AreRest u gathered before ms left after → AreAllOnce n (lists after)
-concluded u n dealt gathered left before after ms h put taken alone tally rest =
-    let put_left : (x : ℕ) → put_in x (standings left) ≡ put_in x (standings dealt) = λ x. ap (put_in x) rest.same ∙ put x in
+pub concluded : {L : Type 0} (u : Setup) (n : ℕ) (distributed gathered left : List RegionQueue) (before after : List (Vec ℕ)) (ms : List (Mutator L)) → AreDistributed n (standings distributed)
+    → ((x : ℕ) → put_in x (standings gathered) ≡ put_in x (standings distributed)) → ((x : ℕ) → taken_in x gathered ≡ taken_in x distributed) → Each (standings gathered) IsAlone
+    → ((x : ℕ) → named x (lists before) ≡ taken_in x distributed) → AreRest u gathered before ms left after → AreAllOnce n (lists after)
+concluded u n distributed gathered left before after ms h put taken alone tally rest =
+    let put_left : (x : ℕ) → put_in x (standings left) ≡ put_in x (standings distributed) = λ x. ap (put_in x) rest.same ∙ put x in
     let all = all_taken n left (λ x lt. put_left x ∙ h.once x lt) (λ x le. put_left x ∙ h.no_other x le) (subst (λ l. Each l IsAlone) (sym rest.same) alone) rest.out in record {
       once = λ x lt. omega (arith, rest.tally x, taken x, tally x, all.once x lt);
       no_other = λ x le. omega (arith, rest.tally x, taken x, tally x, all.no_other x le);

@@ -2,7 +2,13 @@
 ghost use Rattle.std.specs.Prelude.{◌≡◌};
 ghost use Rattle.crossbeam_deque.specs.Handles.{view, worker_flavor, worker_port, stealer_deque, stealer_flavor, IsPassOf};
 
-use crate::dealing::{Hand, Owner, Puts, Steals, Takes, Thief, Ways};
+use crate::distributing::Hand;
+use crate::distributing::Owner;
+use crate::distributing::Puts;
+use crate::distributing::Steals;
+use crate::distributing::Takes;
+use crate::distributing::Thief;
+use crate::distributing::Ways;
 use crossbeam_deque::{Pass, Steal};
 use heap_layout::OutOfMemory;
 use std::alloc::Global;
@@ -29,8 +35,8 @@ pub struct Way {
 
 impl Own {
     ghost use Rattle.std.specs.Prelude.{ℕ, ◌+◌, [], ◌∷◌, ◌++◌, OnOk, IfOk, IfSome, IfNone};
-    ghost use Rattle.comp_sweep.specs.Dealt.{hand, AllTaken};
-    ghost use Rattle.comp_sweep.specs.Lots.{SameOwn, own_deque, own_view, way_deque, way_view};
+    ghost use Rattle.comp_sweep.specs.Distributed.{hand, AllTaken};
+    ghost use Rattle.comp_sweep.specs.Queues.{SameOwn, own_deque, own_view, way_deque, way_view};
 
     /// Makes a deque with no region, and with room for `room` regions.
     pub(crate) fn new(alloc: Global, room: usize) -> Result<Own, OutOfMemory>
@@ -88,7 +94,7 @@ impl Own {
 
 impl Way {
     ghost use Rattle.std.specs.Prelude.{[], ◌∷◌, ◌++◌, IfSome, IfNone};
-    ghost use Rattle.comp_sweep.specs.Lots.{way_deque, way_view};
+    ghost use Rattle.comp_sweep.specs.Queues.{way_deque, way_view};
 
     /// The number of the deque to which the way leads.
     pub(crate) fn index(&self) -> usize

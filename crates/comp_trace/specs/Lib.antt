@@ -5,14 +5,14 @@ pub use Rattle.trace_text.specs.declared.line.Line
 pub use Rattle.trace_text.specs.Marks
 pub use Rattle.trace_race.specs.Races
 pub use Rattle.trace_race.specs.declared.racing.Run
-pub use Rattle.trace_text.specs.declared.fault.Stop
+pub use Rattle.trace_text.specs.declared.fault.RefusedLine
 pub use Rattle.trace_text.specs.declared.fault.TraceFault
 pub use Rattle.trace_text.specs.Traces
 pub use Rattle.trace_steps.specs.Acting
 pub use Rattle.trace_steps.specs.AllMutators
 pub use Rattle.trace_steps.specs.Builds
 pub use Rattle.trace_replay.specs.Bytes
-pub use Rattle.trace_steps.specs.Deeds
+pub use Rattle.trace_steps.specs.WrittenEntries
 pub use Rattle.trace_replay.specs.Heaps
 pub use Rattle.trace_steps.specs.Rounds
 pub use Rattle.trace_replay.specs.Runs

@@ -6,4 +6,4 @@ pub use trace_cycles::{CycleFault, CycleHalt, CyclesStopped, Ran, replay_cycles,
 pub use trace_race::{NotRaced, Raced, Run, race};
 pub use trace_replay::{Halt, Stopped, replay, replay_text, run_over};
 pub use trace_steps::Shown;
-pub use trace_text::{Action, Line, MarksFault, Stop, Trace, TraceFault, parse, read_marks};
+pub use trace_text::{Action, Line, MarksFault, RefusedLine, Trace, TraceFault, parse, read_marks};

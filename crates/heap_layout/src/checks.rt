@@ -13,16 +13,16 @@ use crate::kind::Kind;
 use crate::targets::Targets;
 
 /// The most words that a heap may have.
-pub const MOST_WORDS: usize = 1_048_576;
+pub const MAX_WORDS: usize = 1_048_576;
 
 /// The most marks that a heap may have.
-pub const MOST_MARKS: usize = 1_048_576;
+pub const MAX_MARKS: usize = 1_048_576;
 
 /// The most roots that a heap may have.
-pub const MOST_ROOTS: usize = 4_096;
+pub const MAX_ROOTS: usize = 4_096;
 
 /// The most words that an object may have, with its header.
-pub const MOST_OBJECT_WORDS: usize = 1_024;
+pub const MAX_OBJECT_WORDS: usize = 1_024;
 
 /// The address of from-space word 0.
 pub const FROM_SPACE: u64 = 4_294_967_296;
@@ -48,7 +48,7 @@ pub fn check(
 pub fn check_sizes(words: usize, marks: usize, roots: usize) -> Result<(), LayoutFault>
     ensures { Reports (size_faults words marks roots) result }
 {
-    if words > MOST_WORDS || marks > MOST_MARKS || roots > MOST_ROOTS {
+    if words > MAX_WORDS || marks > MAX_MARKS || roots > MAX_ROOTS {
         Err(LayoutFault::TooLarge)
     } else {
         Ok(())
@@ -94,7 +94,7 @@ fn check_row(
     let mut start = 0;
     while start < words.len() {
         let size = Header::from_word_of(edition, words[start]).size() as usize;
-        if size > MOST_OBJECT_WORDS {
+        if size > MAX_OBJECT_WORDS {
             return Err(LayoutFault::ObjectTooLong(start as u64));
         }
         if size > words.len() - start {

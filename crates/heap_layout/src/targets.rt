@@ -6,13 +6,13 @@ ghost use Rattle.heap_layout.specs.Heap.{is_target, starts};
 ghost use Rattle.heap_layout.specs.Faults.{object_faults};
 
 use crate::bits::{is_set, set, set_if};
-use crate::checks::{FROM_SPACE, MOST_WORDS};
+use crate::checks::{FROM_SPACE, MAX_WORDS};
 use crate::edition::Edition;
 use crate::header::Header;
 use std::marker::Model;
 
 // The number of blocks of 64 bits that have one bit for each word of the largest heap.
-const BLOCKS: usize = MOST_WORDS / 64;
+const BLOCKS: usize = MAX_WORDS / 64;
 
 /// A set of objects: one bit for each from-space word, set if one of the objects starts there.
 #[derive(Drop)]
@@ -84,8 +84,8 @@ impl Targets {
     {
         // This does not branch on null: null is about as frequent as not.
         let i = reference.wrapping_sub(FROM_SPACE);
-        let there = is_set(&self.starts, (i % MOST_WORDS as u64) as usize);
-        (reference == 0) | ((i < MOST_WORDS as u64) & there)
+        let there = is_set(&self.starts, (i % MAX_WORDS as u64) as usize);
+        (reference == 0) | ((i < MAX_WORDS as u64) & there)
     }
 }
 

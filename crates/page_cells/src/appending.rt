@@ -8,13 +8,13 @@ ghost use Rattle.cell_steps.specs.Lawful.{Fits, FitsEntry};
 ghost use Rattle.cell_steps.specs.Knowing.{WritesEntry};
 ghost use Rattle.cell_steps.specs.Plays.{stamped};
 ghost use Rattle.cell_steps.specs.Passes.{builds_of, did, number_of, page_with, seen, view_of, Holds, IsSame, KnowsFresh, MayRefer};
-ghost use Rattle.page_cells.specs.Cells.{journal_of, page_number, page_of, setup_of, steps_of, words_of, Has, IsPassOf};
+ghost use Rattle.page_cells.specs.CellViews.{journal_of, page_number, page_of, setup_of, steps_of, words_of, Has, IsPassOf};
 ghost use Rattle.page_cells.specs.Calls.{Grows};
 
 use crate::cells::Cells;
 use crate::taking::Taken;
 use cell_steps::Pass;
-use comp_journal::{Entry, JournalRefusal, MOST_ENTRIES};
+use comp_journal::{Entry, JournalRefusal, MAX_ENTRIES};
 use heap_layout::Kind;
 use page_plan::Builder;
 
@@ -49,7 +49,7 @@ impl<B: Builder> Cells<B> {
         ensures zeros { OnOk result (kind ≡ Header → (o : ℕ) → offset < o → o < offset + size_of (header_of (setup_of self.now).heap.edition value) → slice_index (words_of taken.new) o ≡ 0) }
         ensures refused { OnErr result (IsSame pass.old pass.new × (page_of taken.new ≡ page_of taken.old)) }
     {
-        prove!(taken.page.journal().len() <= MOST_ENTRIES);
+        prove!(taken.page.journal().len() <= MAX_ENTRIES);
         taken.page.reserve_entry()?;
         let draft = Entry {
             stamp: 0,

@@ -15,7 +15,7 @@ use Rattle.comp_mutator.specs.Reads.{Reads}
 use Rattle.comp_mutator.specs.Finishes.{journals_of, IsFinished}
 use Rattle.comp_mutator.specs.Finished.{Finished}
 use Rattle.comp_mutator.specs.Mutators.{pass_of, setup_of, IsMutatorOf}
-use Rattle.comp_mutator.specs.Orders.{number_of_mutator, IsRow}
+use Rattle.comp_mutator.specs.Orders.{number_of_mutator, IsInOrder}
 use Rattle.comp_mutator.specs.declared.mutator.Mutator.{Mutator}
 use Rattle.comp_mutator.specs.declared.space.Space.{Space}
 use Rattle.comp_trace.specs.AllMutators.{AreAll}
@@ -41,7 +41,7 @@ all_set space mutators k old new all there of same = record {
 }
 
 -- they are in the order of their numbers
-pub row_of : {L : Type 0} {B : Type 0} {g : Ghosts B} (space : Space L B g) (mutators : List (Mutator L)) → AreAll space mutators → IsRow (setup_of space).mutators mutators mutators
+pub row_of : {L : Type 0} {B : Type 0} {g : Ghosts B} (space : Space L B g) (mutators : List (Mutator L)) → AreAll space mutators → IsInOrder (setup_of space).mutators mutators mutators
 row_of space mutators all = record { count = all.count; numbers = all.numbers; given = λ k m at. (k, at) }
 
 -- a read that a mutator made before stands in the one history

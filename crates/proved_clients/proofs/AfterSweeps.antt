@@ -5,20 +5,20 @@ use Rattle.std.proofs.lemmas.Slice.Zip.{AllZip-long}
 use Rattle.page_plan.specs.declared.builder.Builder.{Ghosts}
 use Rattle.page_cells.specs.Setup.{Setup}
 use Rattle.page_cells.specs.Closing.{page_at}
-use Rattle.page_cells.specs.Cells.{steps_of, AreNew}
+use Rattle.page_cells.specs.CellViews.{steps_of, AreNew}
 use Rattle.page_cells.proofs.Rows.{at_map}
 use Rattle.comp_mutator.specs.Finishes.{pages_of, IsFinished}
 use Rattle.comp_mutator.specs.Mutators.{cells_of, pass_of}
-use Rattle.comp_mutator.specs.Orders.{IsRow}
+use Rattle.comp_mutator.specs.Orders.{IsInOrder}
 use Rattle.comp_mutator.specs.Finished.{Finished}
 use Rattle.comp_mutator.specs.declared.mutator.Mutator.{Mutator}
 use Rattle.comp_mutator.specs.declared.space.Space.{Space}
 use Rattle.comp_sweep.specs.Sweeps.{HandsBack, SomeSeesBuilt, Sweeps}
-use Rattle.comp_sweep.proofs.Told.{beside}
+use Rattle.comp_sweep.proofs.SweepAnswers.{beside}
 
 module _ {L B : Type 0} {g : Ghosts B} (space : Space L B g) (n : ℕ) (given back : List (Mutator L)) (new : AreNew (steps_of (cells_of space)) n (map pass_of given)) (h : HandsBack space given back) where
   -- they are in the order of their numbers
-  pub still_row : IsRow n back back
+  pub still_row : IsInOrder n back back
   still_row = record {
     count = AllZip-long (Sweeps space) given back h ∙ (sym (length-map given pass_of) ∙ new.count);
     numbers = λ k m at. let x = beside (Sweeps space) given back k m h at in x.2.grows.number ∙ (new.new k (pass_of x.0) (at_map pass_of given k x.0 x.1)).number;

@@ -7,7 +7,7 @@ use Rattle.page_cells.specs.Lists.{by, on, StartsWith}
 use Rattle.page_cells.specs.Passes.{number_of, seen, did}
 use Rattle.page_cells.specs.Pass.{Pass}
 use Rattle.page_cells.proofs.Joined.{longer_whole}
-use Rattle.page_cells.specs.Cells.{Remembers}
+use Rattle.page_cells.specs.CellViews.{Remembers}
 use Rattle.page_cells.specs.Calls.{Grows, Meets}
 use Rattle.page_cells.proofs.Growing.{begins_then}
 use Rattle.page_cells.proofs.Meetings.{nothing_new, between}

@@ -2,7 +2,7 @@
 ghost use Rattle.std.specs.Prelude.{◌≡◌, IfSome};
 ghost use Rattle.comp_mutator.specs.Mutators.{setup_of};
 ghost use Rattle.comp_trace.specs.AllMutators.{AreAll};
-ghost use Rattle.comp_trace.specs.Deeds.{DidNothingYet};
+ghost use Rattle.comp_trace.specs.WrittenEntries.{DidNothingYet};
 
 use comp_mutator::{Mutator, Space, flip};
 use page_plan::Plan;

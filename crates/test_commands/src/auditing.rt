@@ -1,7 +1,7 @@
 //! Audits of forged dumps.
 use crate::places::{File, Memory};
 use crate::printing::{Asked, is_answered};
-use command_io::Refusal;
+use command_io::CommandRefusal;
 use comp_dump::{AuditFault, DumpFault};
 use std::process::Abort;
 use std::thread::Threads;
@@ -11,14 +11,14 @@ use test_support::{
 };
 
 // A forged dump: its name, two changes, and the refusal.
-type Forgery = (&'static str, Change, Change, Refusal);
+type Forgery = (&'static str, Change, Change, CommandRefusal);
 
 // Whether a dump is refused so for the heap of an image, with nothing printed.
 fn is_refused(
     rt: &(impl AllocGlobal + Threads + Sync),
     image: &[u8],
     dump: &[u8],
-    refusal: Refusal,
+    refusal: CommandRefusal,
 ) -> bool {
     let files = [
         File {
@@ -52,7 +52,7 @@ pub fn expect_forgeries(rt: &(impl Abort + AllocGlobal + Threads + Sync), three:
     expect_refused(rt, three, &FORGED);
 }
 
-const TRUNCATED: Refusal = Refusal::Dump(DumpFault::Truncated);
+const TRUNCATED: CommandRefusal = CommandRefusal::Dump(DumpFault::Truncated);
 
 // All forged dumps.
 static FORGED: [Forgery; 28] = [
@@ -61,86 +61,86 @@ static FORGED: [Forgery; 28] = [
         "a root",
         Change::Word(ROOT, 0),
         Change::Word(TOTAL, 6),
-        Refusal::Audit(AuditFault::WrongHead),
+        CommandRefusal::Audit(AuditFault::WrongHead),
     ),
     (
         "the edition",
         Change::Byte(VERSION, 2),
         Change::Word(TOTAL, 6),
-        Refusal::Audit(AuditFault::WrongHead),
+        CommandRefusal::Audit(AuditFault::WrongHead),
     ),
     (
         "the edition, and an entry of a weak word",
         Change::Byte(VERSION, 2),
         Change::Byte(REFERENCE_KIND, 3),
-        Refusal::Audit(AuditFault::WrongHead),
+        CommandRefusal::Audit(AuditFault::WrongHead),
     ),
     (
         "an entry's offset",
         Change::Byte(HEADER_OFFSET, 1),
         Change::Word(TOTAL, 6),
-        Refusal::Audit(AuditFault::BadEntry(1, 0)),
+        CommandRefusal::Audit(AuditFault::BadEntry(1, 0)),
     ),
     (
         "a data word",
         Change::Word(FIRST_DATA, 12),
         Change::Word(TOTAL, 6),
-        Refusal::Audit(AuditFault::WrongWord(8_589_934_593)),
+        CommandRefusal::Audit(AuditFault::WrongWord(8_589_934_593)),
     ),
     (
         "the last word",
         Change::Word(LAST_WORD, 1),
         Change::Word(TOTAL, 6),
-        Refusal::Audit(AuditFault::WrongWord(8_589_934_655)),
+        CommandRefusal::Audit(AuditFault::WrongWord(8_589_934_655)),
     ),
     (
         "a reference into an object",
         Change::Word(REFERENCE_VALUE, 8_589_934_593),
         Change::Word(REFERENCE, 8_589_934_593),
-        Refusal::Audit(AuditFault::LooseReference(8_589_934_595)),
+        CommandRefusal::Audit(AuditFault::LooseReference(8_589_934_595)),
     ),
     (
         "a stamp twice",
         Change::Word(REFERENCE_STAMP, 0),
         Change::Word(TOTAL, 6),
-        Refusal::Audit(AuditFault::StampRepeated(0)),
+        CommandRefusal::Audit(AuditFault::StampRepeated(0)),
     ),
     (
         "a stamp that is not there",
         Change::Word(REFERENCE_STAMP, 2),
         Change::Word(TOTAL, 6),
-        Refusal::Audit(AuditFault::StampMissing(1)),
+        CommandRefusal::Audit(AuditFault::StampMissing(1)),
     ),
     (
         "a stamp that is too late",
         Change::Word(HEADER_STAMP, 1),
         Change::Word(REFERENCE_STAMP, 0),
-        Refusal::Audit(AuditFault::BadEntry(0, 0)),
+        CommandRefusal::Audit(AuditFault::BadEntry(0, 0)),
     ),
     (
         "the total",
         Change::Word(TOTAL, 6),
         Change::Word(REFERENCE_STAMP, 1),
-        Refusal::Audit(AuditFault::WrongTotal),
+        CommandRefusal::Audit(AuditFault::WrongTotal),
     ),
     // The dump with other lists of builds.
     (
         "without page 0",
         Change::Builds(&[1, 1]),
         Change::None,
-        Refusal::Audit(AuditFault::BuildUnclaimed(0)),
+        CommandRefusal::Audit(AuditFault::BuildUnclaimed(0)),
     ),
     (
         "with page 2",
         Change::Builds(&[3, 1, 0, 2]),
         Change::None,
-        Refusal::Audit(AuditFault::BuildUnclaimed(2)),
+        CommandRefusal::Audit(AuditFault::BuildUnclaimed(2)),
     ),
     (
         "with page 0 twice",
         Change::Builds(&[3, 1, 0, 0]),
         Change::None,
-        Refusal::Audit(AuditFault::BuildUnclaimed(0)),
+        CommandRefusal::Audit(AuditFault::BuildUnclaimed(0)),
     ),
     // Bytes that are no dump.
     ("no byte", Change::Cut(0), Change::None, TRUNCATED),
@@ -156,30 +156,30 @@ static FORGED: [Forgery; 28] = [
         "a byte more",
         Change::Push(0),
         Change::None,
-        Refusal::Dump(DumpFault::TrailingBytes),
+        CommandRefusal::Dump(DumpFault::TrailingBytes),
     ),
     (
         "the magic",
         Change::Byte(0, 0),
         Change::None,
-        Refusal::Dump(DumpFault::BadMagic),
+        CommandRefusal::Dump(DumpFault::BadMagic),
     ),
     (
         "the version",
         Change::Byte(VERSION, 9),
         Change::None,
-        Refusal::Dump(DumpFault::BadMagic),
+        CommandRefusal::Dump(DumpFault::BadMagic),
     ),
     (
         "an entry of a weak word",
         Change::Byte(REFERENCE_KIND, 3),
         Change::Word(TOTAL, 6),
-        Refusal::Dump(DumpFault::BadField),
+        CommandRefusal::Dump(DumpFault::BadField),
     ),
     (
         "the last page",
         Change::Byte(LAST_PAGE, 2),
         Change::None,
-        Refusal::Dump(DumpFault::BadField),
+        CommandRefusal::Dump(DumpFault::BadField),
     ),
 ];

@@ -2,7 +2,7 @@
 use crate::dumps::{Dump, dump_of};
 use crate::places::{File, Memory, Place};
 use crate::printing::{Asked, is_answered};
-use command_io::{Input, Refusal};
+use command_io::{Input, CommandRefusal};
 use command_line::TraceRun;
 use commands::{Compaction, print_compact, print_replay};
 use comp_dump::DumpFault;
@@ -34,7 +34,7 @@ pub struct Row {
     failure: Failure,
     /// The number of bytes that can be printed.
     printable: usize,
-    answer: Result<(), Refusal>,
+    answer: Result<(), CommandRefusal>,
     printed: &'static str,
     /// The whole dump, if one is created.
     dump: Dump,
@@ -49,7 +49,7 @@ fn write_dump<R: Abort + AllocGlobal + Threads + Wait + Sync>(
     row: &Row,
     place: &mut Place,
     out: &mut Narrow,
-) -> Result<(), Refusal> {
+) -> Result<(), CommandRefusal> {
     let mut counted = Counted::new(out);
     match row.writing {
         Writing::Compact(workers) => {
@@ -127,13 +127,13 @@ fn is_judged(
 // Whether the answer, the output, the creation of the dump and the number of its bytes are as the row says.
 fn is_so(
     row: &Row,
-    found: (Result<(), Refusal>, &[u8]),
+    found: (Result<(), CommandRefusal>, &[u8]),
     created: bool,
     dumped: &[u8],
     whole: &[u8],
 ) -> bool {
     let (answer, printed) = found;
-    let cut_off = answer == Err(Refusal::Dump(DumpFault::Device));
+    let cut_off = answer == Err(CommandRefusal::Dump(DumpFault::Device));
     answer == row.answer
         && printed == row.printed.as_bytes()
         && created == !whole.is_empty()
@@ -210,7 +210,7 @@ const ALONE: Row = Row {
 const UNFLUSHED: Row = Row {
     name: "no flush",
     failure: Failure::Flush,
-    answer: Err(Refusal::Dump(DumpFault::Device)),
+    answer: Err(CommandRefusal::Dump(DumpFault::Device)),
     printed: "",
     ..ALONE
 };
@@ -224,7 +224,7 @@ const CUT_IMAGE: Row = Row {
     room: 4_096,
     failure: Failure::Error,
     printable: 10,
-    answer: Err(Refusal::Layout(LayoutFault::Truncated)),
+    answer: Err(CommandRefusal::Layout(LayoutFault::Truncated)),
     printed: "",
     dump: Dump::None,
     left: 0,
@@ -239,7 +239,7 @@ const UNWRITTEN: Row = Row {
     room: 0,
     failure: Failure::Error,
     printable: 10,
-    answer: Err(Refusal::Dump(DumpFault::Device)),
+    answer: Err(CommandRefusal::Dump(DumpFault::Device)),
     printed: "",
     dump: Dump::Fresh,
     left: 0,
@@ -330,21 +330,21 @@ static ROWS: [Row; 21] = [
         name: "an image that is absent",
         image: "absent.img",
         path: "out",
-        answer: Err(Refusal::CannotOpen(Input::Image)),
+        answer: Err(CommandRefusal::CannotOpen(Input::Image)),
         ..CUT_IMAGE
     },
     Row {
         name: "an image that is absent, and no place for the dump",
         image: "absent.img",
         path: "absent",
-        answer: Err(Refusal::CannotOpen(Input::Image)),
+        answer: Err(CommandRefusal::CannotOpen(Input::Image)),
         ..CUT_IMAGE
     },
     // Three bytes of the line can be printed.
     Row {
         name: "room for 3 bytes of the line",
         printable: 3,
-        answer: Err(Refusal::CannotPrint),
+        answer: Err(CommandRefusal::CannotPrint),
         printed: "liv",
         ..ALONE
     },
@@ -376,7 +376,7 @@ static ROWS: [Row; 21] = [
     Row {
         name: "weak words, and room for 570 bytes",
         room: 570,
-        answer: Err(Refusal::Dump(DumpFault::Device)),
+        answer: Err(CommandRefusal::Dump(DumpFault::Device)),
         printed: "",
         left: 570,
         ..WEAK

@@ -1,6 +1,6 @@
 //! Dumps and new images in files of a device that is soon full, that cannot rename, or that sets no permissions. The
 //! file at the path stays as it was, and no other file is left.
-use command_io::{Dumps, FileDumps, Output, Refusal, write_image_to, write_to};
+use command_io::{Dumps, FileDumps, Output, CommandRefusal, write_image_to, write_to};
 use comp_dump::{Dump, DumpFault, read_dump};
 use heap_layout::{Counted, LayoutFault, MarkedHeap, read_image};
 use std::alloc::Allocator;
@@ -192,7 +192,7 @@ fn write<R: Files + AllocGlobal>(
     rt: &R,
     dump: &Dump<'_>,
     heap: Option<&MarkedHeap>,
-) -> Result<(), Refusal> {
+) -> Result<(), CommandRefusal> {
     let mut dumps = FileDumps { rt };
     match heap {
         Some(heap) => write_image_to(&mut dumps, PATH, heap),
@@ -201,12 +201,12 @@ fn write<R: Files + AllocGlobal>(
 }
 
 // The answer if the file is not written whole. It may not even be created.
-fn refused(heap: Option<&MarkedHeap>, created: bool) -> Refusal {
+fn refused(heap: Option<&MarkedHeap>, created: bool) -> CommandRefusal {
     match (heap, created) {
-        (Some(_), true) => Refusal::Layout(LayoutFault::Device),
-        (Some(_), false) => Refusal::CannotCreate(Output::New),
-        (None, true) => Refusal::Dump(DumpFault::Device),
-        (None, false) => Refusal::CannotCreate(Output::Dump),
+        (Some(_), true) => CommandRefusal::Layout(LayoutFault::Device),
+        (Some(_), false) => CommandRefusal::CannotCreate(Output::New),
+        (None, true) => CommandRefusal::Dump(DumpFault::Device),
+        (None, false) => CommandRefusal::CannotCreate(Output::Dump),
     }
 }
 

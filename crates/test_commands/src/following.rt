@@ -1,6 +1,6 @@
 //! Cycles on files in memory: the image of the next heap and the printed lines, also with writers that fail.
 use crate::places::{Memory, Place};
-use command_io::{Input, Output, Refusal};
+use command_io::{Input, Output, CommandRefusal};
 use command_line::NextRun;
 use commands::print_next;
 use heap_layout::{Counted, LayoutFault};
@@ -20,7 +20,7 @@ struct Row {
     failure: Failure,
     // The number of bytes that can be printed.
     printable: usize,
-    answer: Result<(), Refusal>,
+    answer: Result<(), CommandRefusal>,
     printed: &'static str,
     // Whether an image was created, and the number of its bytes left.
     created: bool,
@@ -47,7 +47,7 @@ fn write_next<'a>(
     row: &Row,
     place: &mut Place,
     out: &mut Narrow,
-) -> Result<(), Refusal> {
+) -> Result<(), CommandRefusal> {
     let asked = NextRun {
         image: "three.img",
         trace: "fresh.trace",
@@ -119,7 +119,7 @@ const WRITTEN: Row = Row {
 const UNFLUSHED: Row = Row {
     name: "no flush",
     failure: Failure::Flush,
-    answer: Err(Refusal::Layout(LayoutFault::Device)),
+    answer: Err(CommandRefusal::Layout(LayoutFault::Device)),
     printed: "",
     ..WRITTEN
 };
@@ -128,7 +128,7 @@ const UNFLUSHED: Row = Row {
 const UNMARKED: Row = Row {
     name: "marks that are absent",
     marks: "absent.marks",
-    answer: Err(Refusal::CannotOpen(Input::Marks)),
+    answer: Err(CommandRefusal::CannotOpen(Input::Marks)),
     printed: "",
     created: false,
     left: 0,
@@ -162,7 +162,7 @@ static ROWS: [Row; 9] = [
     Row {
         name: "three bytes of the line",
         printable: 3,
-        answer: Err(Refusal::CannotPrint),
+        answer: Err(CommandRefusal::CannotPrint),
         printed: "liv",
         ..WRITTEN
     },
@@ -172,14 +172,14 @@ static ROWS: [Row; 9] = [
         name: "a trace as marks",
         marks: "fresh.trace",
         path: "absent",
-        answer: Err(Refusal::BadMarks(1)),
+        answer: Err(CommandRefusal::BadMarks(1)),
         ..UNMARKED
     },
     Row {
         name: "no place for the image",
         marks: "fresh.marks",
         path: "absent",
-        answer: Err(Refusal::CannotCreate(Output::New)),
+        answer: Err(CommandRefusal::CannotCreate(Output::New)),
         ..UNMARKED
     },
 ];

@@ -19,7 +19,7 @@ mod replaying;
 #[cfg(test)]
 mod runs;
 #[cfg(test)]
-mod starting;
+mod launching;
 #[cfg(test)]
 mod tables;
 #[cfg(test)]

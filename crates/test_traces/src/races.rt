@@ -5,7 +5,7 @@ use crate::flipped::Case;
 use crate::ran::raced;
 use crate::replays::{WEAK_TEXT, replay_rows, replay_weak_rows};
 use comp_mutator::{Builder, Finished, Refusal};
-use comp_trace::{Run, Stop};
+use comp_trace::{Run, RefusedLine};
 use heap_layout::Header;
 use page_plan::Plan;
 use std::alloc::Global;
@@ -156,7 +156,7 @@ fn is_run(run: &Run, wanted: &Wanted) -> bool {
             is_shown(run, line, one, other) && run.fault.is_none()
         }
         Wanted::Refused(line, refusal) => {
-            run.shown.is_empty() && run.fault == Some(Stop { line, refusal })
+            run.shown.is_empty() && run.fault == Some(RefusedLine { line, refusal })
         }
     }
 }

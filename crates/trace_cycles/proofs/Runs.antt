@@ -10,7 +10,7 @@ use Rattle.comp_cycles.specs.Numbered.{first_numbers, first_numbered, IsNumbered
 use Rattle.comp_cycles.specs.Merged.{CanMerge}
 use Rattle.comp_cycles.specs.Ends.{cycle_of, setup_in, IsEndOf}
 use Rattle.comp_cycles.proofs.Chapters.{rising}
-use Rattle.trace_cycles.specs.CycleRuns.{last_heap, AreRuns, HaveRun, IsLastRun, IsRun}
+use Rattle.trace_cycles.specs.CycleRuns.{last_heap, AreRuns, CyclesRan, IsLastRun, IsRun}
 
 module _ (mutators fresh : ℕ) where
   -- the marks that are handed in later do not change a run
@@ -54,7 +54,7 @@ module _ (mutators fresh : ℕ) where
 
   abbrev pub have_run : ((heap last : Heap) (cycles : List Cycle) → IsClosed heap → Follow heap cycles last → IsOneLife heap cycles last)
       → ((c : Cycle) (numbers : List ℕ) (stable : StableHeap) → IsClosed c.setup.heap → CanMerge c.setup c.journals → IsNumberedAs c.setup.heap numbers stable → IsWriting c numbers stable) → (heap : Heap) → IsClosed heap
-      → (lines : List Line) (rest : List (List ℕ × List Line)) (shown : List (List Shown)) (cs : List Cycle) (f : Finished) → AreRuns mutators fresh heap lines rest shown cs f → HaveRun mutators fresh heap lines rest shown f
+      → (lines : List Line) (rest : List (List ℕ × List Line)) (shown : List (List Shown)) (cs : List Cycle) (f : Finished) → AreRuns mutators fresh heap lines rest shown cs f → CyclesRan mutators fresh heap lines rest shown f
   have_run life writes heap closed lines rest shown cs f h =
       let follow = follow_of cs heap lines rest shown f h in
       let whole = life heap (last_heap heap cs) cs closed follow in

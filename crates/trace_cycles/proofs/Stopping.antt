@@ -14,7 +14,7 @@ use Rattle.comp_cycles.specs.Ends.{cycle_of, setup_in, IsEndOf, IsRefusedFor}
 use Rattle.comp_cycles.specs.NextHeap.{lowered, next_faults}
 use Rattle.trace_text.specs.declared.fault.TraceFault.{TraceFault}
 use Rattle.trace_replay.specs.Bytes.{flipped, CutsShort, RunsThrough}
-use Rattle.trace_cycles.specs.CycleRuns.{last_heap, AreRuns, HaveRun, IsLastRun, IsNextRun}
+use Rattle.trace_cycles.specs.CycleRuns.{last_heap, AreRuns, CyclesRan, IsLastRun, IsNextRun}
 use Rattle.trace_cycles.specs.Stops.{none_further, some_values, Extent, HasNoEnd, IsCutOff, IsNotMarked, IsNotNext, IsNotRunOver, IsStopped, StopsAt, StopsCycles}
 use Rattle.trace_cycles.specs.declared.fault.CycleFault.{CycleFault}
 use Rattle.trace_cycles.specs.declared.fault.CycleFault.TheVariants.{NotMarked, OutOfMemory, Stopped}
@@ -42,7 +42,7 @@ module _ {T : Type 0} (mutators fresh : ℕ) (heap : Heap) (lines : List Line) (
   read : get_or (map pair rest) c none_further ≡ pair x
   read = get_or-map pair rest c x none_further inside ∙ ap pair (sym is)
 
-  abbrev before : (shown : List (List Shown)) (f : Finished) → HaveRun mutators fresh heap lines (map pair (take c rest)) shown f → HaveRun mutators fresh heap lines (take c (map pair rest)) shown f
+  abbrev before : (shown : List (List Shown)) (f : Finished) → CyclesRan mutators fresh heap lines (map pair (take c rest)) shown f → CyclesRan mutators fresh heap lines (take c (map pair rest)) shown f
   before shown f h = record { cycles = h.cycles; runs = subst (λ (l : List (List ℕ × List Line)). AreRuns mutators fresh heap lines l shown h.cycles f) (sym (take-map pair c rest)) h.runs; follow = h.follow; life = h.life; last = h.last; rising = h.rising }
 
   -- the cycle that followed with the marks of the pair followed with those at its index in the list
@@ -51,7 +51,7 @@ module _ {T : Type 0} (mutators fresh : ℕ) (heap : Heap) (lines : List Line) (
   followed f now cs at h =
       subst (λ (y : List ℕ × List Line). IsCycleOf (last_heap heap cs) (cycle_of (last_heap heap cs) f y.0)) (sym read) (subst (λ (n : Heap). IsCycleOf n (cycle_of n f (pair x).0)) (sym at) h)
 
-  cut_off : (shown : List (List Shown)) (f : Finished) (now : Heap) (ran : HaveRun mutators fresh heap lines (map pair (take c rest)) shown f) → last_heap heap ran.cycles ≡ now
+  cut_off : (shown : List (List Shown)) (f : Finished) (now : Heap) (ran : CyclesRan mutators fresh heap lines (map pair (take c rest)) shown f) → last_heap heap ran.cycles ≡ now
       → (n : ℕ) → (n ≡ c) ⊎ ((n ≡ c + 1) × IsCycleOf now (cycle_of now f (pair x).0)) → IsCutOff mutators fresh heap lines (map pair rest) shown n
   cut_off shown f now ran at n h = record {
     ended = c;
@@ -62,7 +62,7 @@ module _ {T : Type 0} (mutators fresh : ℕ) (heap : Heap) (lines : List Line) (
   }
 
   -- the next cycle was begun, but has no end
-  no_end : (shown : List (List Shown)) (f : Finished) (now : Heap) (ran : HaveRun mutators fresh heap lines (map pair (take c rest)) shown f) → last_heap heap ran.cycles ≡ now → IsCycleOf now (cycle_of now f (pair x).0)
+  no_end : (shown : List (List Shown)) (f : Finished) (now : Heap) (ran : CyclesRan mutators fresh heap lines (map pair (take c rest)) shown f) → last_heap heap ran.cycles ≡ now → IsCycleOf now (cycle_of now f (pair x).0)
       → (last : List Shown) (runs : Extent) → runs (flipped (heap_after (cycle_of now f (pair x).0)) mutators fresh) (pair x).1 last → StopsAt mutators fresh heap lines (map pair rest) (shown ++ last ∷ []) (c + 1) runs
   no_end shown f now ran at cycle last runs h =
       let one : suc c ≡ c + 1 = omega arith in
@@ -79,7 +79,7 @@ module _ {T : Type 0} (mutators fresh : ℕ) (heap : Heap) (lines : List Line) (
       } in
       subst (λ (n : ℕ). StopsAt mutators fresh heap lines (map pair rest) (shown ++ last ∷ []) n runs) one stop
 
-  pub stops_next : {A : Type 0} (shown : List (List Shown)) (f : Finished) (now : Heap) (ran : HaveRun mutators fresh heap lines (map pair (take c rest)) shown f) → last_heap heap ran.cycles ≡ now
+  pub stops_next : {A : Type 0} (shown : List (List Shown)) (f : Finished) (now : Heap) (ran : CyclesRan mutators fresh heap lines (map pair (take c rest)) shown f) → last_heap heap ran.cycles ≡ now
       → (last : Option (Vec Shown A)) (fault : CycleFault) → IsNotNext mutators fresh now f (pair x).0 (pair x).1 c last fault → StopsCycles mutators fresh heap lines (map pair rest) (shown ++ some_values last) fault
   stops_next shown f now ran at (Some values) fault h = ⊎_elim
       (λ (cut : (t : TraceFault) × (fault ≡ Stopped (c + 1) t) × CutsShort (flipped (heap_after (cycle_of now f (pair x).0)) mutators fresh) (pair x).1 values.items t).

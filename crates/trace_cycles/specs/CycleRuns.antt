@@ -66,7 +66,7 @@ pub record IsNextRun (mutators fresh : ℕ) (heap : Heap) (f : Finished) (marks 
   pub run : IsLastRun mutators fresh lines shown next left
 
 -- The traces were run over these cycles, and all cycles but the last are one life of a heap whose objects never move.
-pub record HaveRun (mutators fresh : ℕ) (heap : Heap) (lines : List Line) (rest : List (List ℕ × List Line)) (shown : List (List Shown)) (f : Finished) : Type 0 where
+pub record CyclesRan (mutators fresh : ℕ) (heap : Heap) (lines : List Line) (rest : List (List ℕ × List Line)) (shown : List (List Shown)) (f : Finished) : Type 0 where
   pub cycles : List Cycle
   pub runs : AreRuns mutators fresh heap lines rest shown cycles f
   pub follow : Follow heap cycles (last_heap heap cycles)

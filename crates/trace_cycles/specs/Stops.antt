@@ -14,7 +14,7 @@ use Rattle.comp_cycles.specs.Ends.{cycle_of, setup_in, IsRefusedFor}
 use Rattle.comp_cycles.specs.NextHeap.{next_faults}
 use Rattle.comp_cycles.specs.Setup.{Setup}
 use Rattle.trace_replay.specs.Bytes.{flipped, CutsShort, RunsThrough}
-use Rattle.trace_cycles.specs.CycleRuns.{last_heap, HaveRun}
+use Rattle.trace_cycles.specs.CycleRuns.{last_heap, CyclesRan}
 use Rattle.trace_cycles.specs.declared.fault.CycleFault.{CycleFault}
 use Rattle.trace_cycles.specs.declared.fault.CycleFault.TheVariants.{NotMarked, Stopped, OutOfMemory}
 
@@ -35,7 +35,7 @@ none_further = ([], [])
 pub record IsNotMarked (mutators fresh : ℕ) (heap : Heap) (lines : List Line) (rest : List (List ℕ × List Line)) (shown : List (List Shown)) (c : ℕ) (fault : LayoutFault) : Type 0 where
   pub further : c < length rest
   pub left : Finished
-  pub ran : HaveRun mutators fresh heap lines (take c rest) shown left
+  pub ran : CyclesRan mutators fresh heap lines (take c rest) shown left
   pub refused : IsRefusedFor (next_faults (setup_in (last_heap heap ran.cycles) left) (journals_of left) (heap_after (cycle_of (last_heap heap ran.cycles) left (slice_index_or rest c none_further).0))) fault
 
 -- how far the lines of a cycle were run, and what they showed
@@ -50,7 +50,7 @@ pub record IsStopped (mutators fresh : ℕ) (heap : Heap) (lines : List Line) (r
   pub values : List (List Shown)
   pub last : List Shown
   pub shown_is : shown ≡ values ++ last ∷ []
-  pub ran : HaveRun mutators fresh heap lines (take c rest) values left
+  pub ran : CyclesRan mutators fresh heap lines (take c rest) values left
   pub cycle : IsCycleOf (last_heap heap ran.cycles) (cycle_of (last_heap heap ran.cycles) left (slice_index_or rest c none_further).0)
   pub lines_run : runs (flipped (heap_after (cycle_of (last_heap heap ran.cycles) left (slice_index_or rest c none_further).0)) mutators fresh) (slice_index_or rest c none_further).1 last
 
@@ -65,7 +65,7 @@ pub record IsCutOff (mutators fresh : ℕ) (heap : Heap) (lines : List Line) (re
   pub ended : ℕ
   pub further : ended < length rest
   pub left : Finished
-  pub ran : HaveRun mutators fresh heap lines (take ended rest) shown left
+  pub ran : CyclesRan mutators fresh heap lines (take ended rest) shown left
   pub next : (c ≡ ended) ⊎ ((c ≡ ended + 1) × IsCycleOf (last_heap heap ran.cycles) (cycle_of (last_heap heap ran.cycles) left (slice_index_or rest ended none_further).0))
 
 -- memory ran out for the first cycle, which showed nothing; or after some further cycles had ended; or to finish cycle

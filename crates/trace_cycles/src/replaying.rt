@@ -5,7 +5,7 @@ ghost use Rattle.comp_cycles.specs.Finishes.{IsOfFlip};
 ghost use Rattle.heap_layout.specs.Heap.{Heap};
 ghost use Rattle.trace_text.specs.declared.line.Line.{Line};
 ghost use Rattle.trace_text.specs.Traces.{lines_of};
-ghost use Rattle.trace_cycles.specs.CycleRuns.{HaveRun, IsCycleHaltOf, IsNextRun, IsParsedFor};
+ghost use Rattle.trace_cycles.specs.CycleRuns.{CyclesRan, IsCycleHaltOf, IsNextRun, IsParsedFor};
 ghost use Rattle.trace_cycles.specs.Stops.{marks_and_lines, some_values, values_of, IsNotNext, IsNotRunOver, StopsCycles};
 
 use crate::cycle::{CycleHalt, Ran, run_cycle};
@@ -143,7 +143,7 @@ pub fn replay_cycles(
     requires fresh { fresh_pages ≤ 4096 }
     requires first { IsParsedFor mutators (length heap.roots) first.now }
     requires rest { All (λ further. IsParsedFor mutators (length heap.roots) further.1) rest.now }
-    ensures ran { IfOk result (λ run. HaveRun mutators fresh_pages heap (lines_of first.now) (map marks_and_lines rest.now) (values_of run.shown.items) run.finished) }
+    ensures ran { IfOk result (λ run. CyclesRan mutators fresh_pages heap (lines_of first.now) (map marks_and_lines rest.now) (values_of run.shown.items) run.finished) }
     ensures flipped { IfOk result (λ run. IsOfFlip mutators fresh_pages run.finished) }
     ensures stopped { IfErr result (λ stopped. StopsCycles mutators fresh_pages heap (lines_of first.now) (map marks_and_lines rest.now) (values_of stopped.shown.items) stopped.fault) }
 {

@@ -16,7 +16,7 @@ use Rattle.trace_race.specs.Races.{numbered, own_lines, Ends, Ran, Went}
 use Rattle.trace_race.specs.Chains.{IsNextOwn}
 use Rattle.trace_text.specs.declared.line.Line.{Line}
 use Rattle.trace_steps.specs.declared.shown.Shown.{Shown}
-use Rattle.trace_text.specs.declared.fault.Stop.{Stop}
+use Rattle.trace_text.specs.declared.fault.RefusedLine.{RefusedLine}
 use Rattle.trace_steps.proofs.OneLine.{shows_one}
 
 -- the lines of one mutator in two traces
@@ -127,7 +127,7 @@ module _ (u : Setup) (lines : List (ℕ × Line)) (k : ℕ) (old : Pass) (regist
       omega (arith, ap length more, length-append (own_lines (number_of old) (take k lines)) (line ∷ []), ap length first.1, length-append (own_lines (number_of old) (take (k + 1) lines)) first.0, h.few)
 
   -- the line was refused
-  pub ran_to : (new : Pass) (stop : Stop) → line.1.mutator ≡ number_of now → stop.line ≡ line.0 → Grows now new → did new ≡ did now → Refuses u line.1.action registers now new stop.refusal → ((q : ℕ) → stop.refusal ≡ Busy q → ⊥)
+  pub ran_to : (new : Pass) (stop : RefusedLine) → line.1.mutator ≡ number_of now → stop.line ≡ line.0 → Grows now new → did new ≡ did now → Refuses u line.1.action registers now new stop.refusal → ((q : ℕ) → stop.refusal ≡ Busy q → ⊥)
       → Ran u (own_lines (number_of old) lines) old new shown (Some stop)
   ran_to new stop own number grows same refuses waited =
       let front = own_lines (number_of old) (take k lines) in
@@ -194,7 +194,7 @@ run_to_next u lines k next old registers shown now h run =
     (omega (arith, same, h.inside, numbered_length 1 lines)) run)
 
 -- the number of the mutator is unchanged
-ends_number : (u : Setup) (lines : List (ℕ × Line)) (count : ℕ) (registers : List ℕ) (old new : Pass) (fault : Option Stop) → Ends u lines count registers old new fault → number_of new ≡ number_of old
+ends_number : (u : Setup) (lines : List (ℕ × Line)) (count : ℕ) (registers : List ℕ) (old new : Pass) (fault : Option RefusedLine) → Ends u lines count registers old new fault → number_of new ≡ number_of old
 ends_number u lines count registers old new None e = ap number_of e.1
 ends_number u lines count registers old new (Some stop) e = e.grows.number
 
@@ -208,7 +208,7 @@ pub went_grows : (u : Setup) (lines : List (ℕ × Line)) (registers : List ℕ)
 went_grows u [] registers old shown after new w = subst (Grows old) (sym w.1) (grows_none old)
 went_grows u (x ∷ xs) registers old shown after new w = grows_then old w.0 new w.3.grows (went_grows u xs (registers_after x.1.action registers w.1) w.0 w.2 after new w.5)
 
-pub ran_number : (u : Setup) (lines : List (ℕ × Line)) (old new : Pass) (shown : List Shown) (fault : Option Stop) → Ran u lines old new shown fault → number_of new ≡ number_of old
+pub ran_number : (u : Setup) (lines : List (ℕ × Line)) (old new : Pass) (shown : List Shown) (fault : Option RefusedLine) → Ran u lines old new shown fault → number_of new ≡ number_of old
 ran_number u lines old new shown fault r =
     ends_number u lines r.count r.registers r.last new fault r.ends
     ∙ (went_grows u (take r.count lines) null_registers old shown r.registers r.last r.went).number

@@ -14,7 +14,7 @@ use Rattle.comp_mutator.specs.declared.mutator.Mutator.{Mutator}
 use Rattle.comp_mutator.specs.declared.space.Space.{Space}
 use Rattle.trace_race.specs.Races.{numbered, own_lines, HaveRaced, Ran}
 use Rattle.trace_steps.specs.AllMutators.{AreAll}
-use Rattle.trace_race.specs.Runners.{lines_for, mutator_of, room_in, room_of, run_of, HasRun, HaveRooms, IsBlank, IsReady}
+use Rattle.trace_race.specs.Runners.{lines_for, mutator_of, room_in, room_of, run_of, RanItsLines, HaveRooms, IsBlank, IsReady}
 use Rattle.trace_text.specs.declared.line.Line.{Line}
 use Rattle.trace_race.specs.declared.racing.Run.{Run}
 use Rattle.trace_race.specs.declared.runner.Runner.{Runner}
@@ -71,13 +71,13 @@ moved {L} u k lines x y old new run is becomes told number h =
 -- each ran its lines
 pub raced_of : {L : Type 0} {B : Type 0} {g : Ghosts B} (space : Space L B g) (lines : List Line) (mutators : List (Mutator L)) (runners after : List (Runner L)) → map mutator_of runners ≡ mutators
     → length after ≡ length runners → AreAll space mutators
-    → ((k : ℕ) (x y : Runner L) → get_elem? runners k ≡ some x → get_elem? after k ≡ some y → HasRun space lines x y)
+    → ((k : ℕ) (x y : Runner L) → get_elem? runners k ≡ some x → get_elem? after k ≡ some y → RanItsLines space lines x y)
     → HaveRaced space lines mutators (map mutator_of after) (map run_of after)
 raced_of {L} {B} {g} space lines mutators runners after are long all ran =
     let u = setup_of space in
     let counts : length after ≡ length mutators = long ∙ sym (length-map runners mutator_of) ∙ ap length are in
     let before : (k : ℕ) (x : Runner L) → get_elem? runners k ≡ some x → get_elem? mutators k ≡ some x.mutator = λ k x at. ap (λ l. get_elem? l k) (sym are) ∙ at_map mutator_of runners k x at in
-    let ran_at : (k : ℕ) (y : Runner L) → get_elem? after k ≡ some y → (x : Runner L) × (get_elem? runners k ≡ some x) × HasRun space lines x y =
+    let ran_at : (k : ℕ) (y : Runner L) → get_elem? after k ≡ some y → (x : Runner L) × (get_elem? runners k ≡ some x) × RanItsLines space lines x y =
     λ k y at. let x = there_at runners k (omega (arith, is_inside after k y at, long)) in (x.0, x.1, ran k x.0 y x.1 at) in
     record {
       all = record {

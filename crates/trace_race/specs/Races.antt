@@ -12,7 +12,7 @@ use Rattle.comp_mutator.specs.declared.mutator.Mutator.{Mutator}
 use Rattle.comp_mutator.specs.Refusal.TheVariants.{Busy}
 use Rattle.comp_mutator.specs.declared.space.Space.{Space}
 use Rattle.trace_steps.specs.Acting.{null_registers, registers_after, shown_at, Refuses, Steps}
-use Rattle.trace_text.specs.declared.fault.Stop.{Stop}
+use Rattle.trace_text.specs.declared.fault.RefusedLine.{RefusedLine}
 use Rattle.trace_text.specs.declared.line.Line.{Line}
 use Rattle.trace_race.specs.declared.racing.Run.{Run}
 use Rattle.trace_steps.specs.declared.shown.Shown.{Shown}
@@ -38,7 +38,7 @@ Went u (line ∷ lines) registers old shown after new =
 
 -- The line after the first `count` was refused. The mutator, which ran the lines before it, wrote nothing in it, and
 -- forgot nothing.
-pub record Stops (u : Setup) (lines : List (ℕ × Line)) (count : ℕ) (registers : List ℕ) (old new : Pass) (stop : Stop) : Type 0 where
+pub record Stops (u : Setup) (lines : List (ℕ × Line)) (count : ℕ) (registers : List ℕ) (old new : Pass) (stop : RefusedLine) : Type 0 where
   pub line : ℕ × Line
   pub there : get_elem? lines count ≡ some line
   pub number : stop.line ≡ line.0
@@ -49,12 +49,12 @@ pub record Stops (u : Setup) (lines : List (ℕ × Line)) (count : ℕ) (registe
   pub waited : (p : ℕ) → stop.refusal ≡ Busy p → ⊥
 
 -- there are no lines after the first `count`, or the next line was refused
-abbrev pub Ends : Setup → List (ℕ × Line) → ℕ → List ℕ → Pass → Pass → Option Stop → Type 0
+abbrev pub Ends : Setup → List (ℕ × Line) → ℕ → List ℕ → Pass → Pass → Option RefusedLine → Type 0
 Ends u lines count registers old new None = (length lines ≤ count) × (new ≡ old)
 Ends u lines count registers old new (Some stop) = Stops u lines count registers old new stop
 
 -- A mutator ran its lines in order, from null registers: all of them, or those before its refused line.
-pub record Ran (u : Setup) (lines : List (ℕ × Line)) (old new : Pass) (shown : List Shown) (fault : Option Stop) : Type 0 where
+pub record Ran (u : Setup) (lines : List (ℕ × Line)) (old new : Pass) (shown : List Shown) (fault : Option RefusedLine) : Type 0 where
   pub count : ℕ
   pub registers : List ℕ
   pub last : Pass

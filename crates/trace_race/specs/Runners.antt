@@ -27,7 +27,7 @@ pub record IsReady {L : Type 0} {B : Type 0} {g : Ghosts B} (space : Space L B g
   pub room : length (lines_for lines runner.mutator) ≤ vec_capacity runner.shown
 
 -- A runner that ran its lines.
-pub record HasRun {L : Type 0} {B : Type 0} {g : Ghosts B} (space : Space L B g) (lines : List Line) (before after : Runner L) : Type 0 where
+pub record RanItsLines {L : Type 0} {B : Type 0} {g : Ghosts B} (space : Space L B g) (lines : List Line) (before after : Runner L) : Type 0 where
   pub of : IsMutatorOf space after.mutator
   pub ran : Ran (setup_of space) (lines_for lines before.mutator) (pass_of before.mutator) (pass_of after.mutator) after.shown.items after.fault
 

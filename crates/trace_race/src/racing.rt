@@ -7,7 +7,7 @@ ghost use Rattle.comp_mutator.specs.Mutators.{setup_of};
 ghost use Rattle.trace_race.specs.Chains.{AreChained};
 ghost use Rattle.trace_race.specs.Races.{HaveRaced};
 ghost use Rattle.trace_steps.specs.AllMutators.{AreAll};
-ghost use Rattle.trace_race.specs.Runners.{mutator_of, room_in, room_of, run_of, HasRun, HaveRooms, IsBlank, IsReady};
+ghost use Rattle.trace_race.specs.Runners.{mutator_of, room_in, room_of, run_of, RanItsLines, HaveRooms, IsBlank, IsReady};
 ghost use Rattle.trace_steps.specs.Traces.{AllFit, IsParsedFor};
 ghost use Rattle.trace_text.specs.Traces.{lines_of};
 
@@ -21,13 +21,13 @@ use std::sync::ledger::Ledger;
 use std::thread;
 use std::thread::Threads;
 use trace_steps::Shown;
-use trace_text::{Line, Stop, Trace, TraceFault};
+use trace_text::{Line, RefusedLine, Trace, TraceFault};
 
 /// The values that a mutator's lines showed, and the line that was refused, if there is one.
 #[derive(Debug, Drop)]
 pub struct Run {
     pub shown: Vec<Shown>,
-    pub fault: Option<Stop>,
+    pub fault: Option<RefusedLine>,
 }
 
 /// The mutators after a race, in the order of their numbers, and what each of them ran.
@@ -110,7 +110,7 @@ fn run_all<L: Ledger + Send + Sync, B: Builder, R: Threads + Wait + Sync>(
     requires chained { AreChained lines.now chains.now }
     requires ready { Each runners.old (IsReady space.now lines.now) }
     ensures long { length runners.new ≡ length runners.old }
-    ensures ran { (k : ℕ) (before after : Runner L) → get_elem? runners.old k ≡ some before → get_elem? runners.new k ≡ some after → HasRun space.now lines.now before after }
+    ensures ran { (k : ℕ) (before after : Runner L) → get_elem? runners.old k ≡ some before → get_elem? runners.new k ≡ some after → RanItsLines space.now lines.now before after }
 {
     let threads = runners.len().max(1);
     thread::for_each_mut(
@@ -119,7 +119,7 @@ fn run_all<L: Ledger + Send + Sync, B: Builder, R: Threads + Wait + Sync>(
         threads,
         &|_, runner: &mut Runner<L>|
             requires { AllFit (setup_of space.now) lines.now × AreChained lines.now chains.now × IsReady space.now lines.now runner.old }
-            ensures { HasRun space.entry.now lines.entry.now runner.old runner.new }
+            ensures { RanItsLines space.entry.now lines.entry.now runner.old runner.new }
         {
             run_own(alloc, rt, space, lines, chains, runner);
         },

@@ -14,7 +14,7 @@ use std::alloc::Global;
 use std::sync::Wait;
 use std::sync::ledger::Ledger;
 use trace_steps::{Shown, show};
-use trace_text::{Line, Stop};
+use trace_text::{Line, RefusedLine};
 
 /// A mutator that runs its lines: its registers, the values that its lines showed, and its refused line.
 #[derive(Drop)]
@@ -22,7 +22,7 @@ pub(crate) struct Runner<L: Ledger> {
     pub(crate) mutator: Mutator<L>,
     pub(crate) registers: [u64; 16],
     pub(crate) shown: Vec<Shown>,
-    pub(crate) fault: Option<Stop>,
+    pub(crate) fault: Option<RefusedLine>,
 }
 
 /// Runs the lines of one mutator, in order, up to the first that is refused. Requires null registers, the chains of the
@@ -58,7 +58,7 @@ pub(crate) fn run_own<L: Ledger, B: Builder>(
         match answer {
             Ok(value) => show(&mut runner.shown, number, action, value),
             Err(refusal) => {
-                runner.fault = Some(Stop {
+                runner.fault = Some(RefusedLine {
                     line: number,
                     refusal,
                 });

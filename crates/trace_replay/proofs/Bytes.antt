@@ -16,7 +16,7 @@ use Rattle.comp_mutator.specs.declared.mutator.Mutator.{Mutator}
 use Rattle.comp_mutator.specs.declared.space.Space.{Space}
 use Rattle.trace_replay.specs.Bytes.{flipped, no_entries, CutsShort, Interrupts, Shows, ShowOnce}
 use Rattle.trace_steps.specs.AllMutators.{AreAll}
-use Rattle.trace_steps.specs.Deeds.{deeds_of, DidNothingYet, HaveAll, KnowTheirs}
+use Rattle.trace_steps.specs.WrittenEntries.{written_by_each, DidNothingYet, HaveAll, KnowTheirs}
 use Rattle.trace_text.specs.Grammar.{parts, trace_of}
 use Rattle.trace_replay.specs.Replays.{HaveReplayed, HaveStopped}
 use Rattle.trace_replay.specs.Runs.{beginning, MayBegin, Runs}
@@ -43,7 +43,7 @@ show_once differ mutators fresh image text shown other x y =
 
 -- ---- if nothing was done
 
-pub deeds_none : {L : Type 0} (mutators : List (Mutator L)) → DidNothingYet mutators → (k : ℕ) → deeds_of mutators k ≡ []
+pub deeds_none : {L : Type 0} (mutators : List (Mutator L)) → DidNothingYet mutators → (k : ℕ) → written_by_each mutators k ≡ []
 deeds_none [] none k = refl
 deeds_none (m ∷ mutators) none zero = none 0 m refl
 deeds_none (m ∷ mutators) none (suc k) = deeds_none mutators (λ j x at. none (suc j) x at) k

@@ -17,12 +17,12 @@ use Rattle.comp_mutator.specs.Merged.{written_by}
 use Rattle.comp_mutator.specs.Finishes.{history_of, IsFinished}
 use Rattle.comp_mutator.specs.Finished.{Finished}
 use Rattle.comp_mutator.specs.Mutators.{pass_of, setup_of}
-use Rattle.comp_mutator.specs.Orders.{HasNumber, IsRow}
+use Rattle.comp_mutator.specs.Orders.{HasNumber, IsInOrder}
 use Rattle.comp_mutator.specs.declared.mutator.Mutator.{Mutator}
 use Rattle.comp_mutator.specs.declared.space.Space.{Space}
 use Rattle.trace_steps.specs.AllMutators.{AreAll}
 use Rattle.trace_steps.specs.Builds.{built_by, HaveBuilt}
-use Rattle.trace_steps.specs.Deeds.{deeds_of, DidNothingYet}
+use Rattle.trace_steps.specs.WrittenEntries.{written_by_each, DidNothingYet}
 use Rattle.trace_steps.specs.Traces.{AllFit}
 use Rattle.trace_steps.specs.declared.shown.Shown.{Shown}
 use Rattle.trace_text.specs.declared.fault.TraceFault.{TraceFault}
@@ -38,7 +38,7 @@ use Rattle.trace_replay.proofs.Inside.{AreInside}
 
 -- all mutators are in the order of their numbers, and none is missing
 module _ {L B : Type 0} {g : Ghosts B} (space : Space L B g) (back : List (Mutator L)) (all : AreAll space back) where
-  pub all_row : IsRow (setup_of space).mutators back back
+  pub all_row : IsInOrder (setup_of space).mutators back back
   all_row = record { count = all.count; numbers = all.numbers; given = λ k m at. (k, at) }
 
   pub all_there : (k : ℕ) → k < (setup_of space).mutators → HasNumber back k
@@ -48,10 +48,10 @@ module _ {L B : Type 0} {g : Ghosts B} (space : Space L B g) (back : List (Mutat
       (x.0, (k, x.1), all.numbers k x.0 x.1)
 
 -- what the mutator at an index did
-deeds_at : {L : Type 0} (mutators : List (Mutator L)) (k : ℕ) (m : Mutator L) → get_elem? mutators k ≡ some m → deeds_of mutators k ≡ did (pass_of m)
-deeds_at [] k m at = absurd (some-ne-none m (sym at))
-deeds_at {L} (x ∷ xs) zero m at = ap (λ (y : Mutator L). did (pass_of y)) (some-injective x m at)
-deeds_at (x ∷ xs) (suc k) m at = deeds_at xs k m at
+written_at : {L : Type 0} (mutators : List (Mutator L)) (k : ℕ) (m : Mutator L) → get_elem? mutators k ≡ some m → written_by_each mutators k ≡ did (pass_of m)
+written_at [] k m at = absurd (some-ne-none m (sym at))
+written_at {L} (x ∷ xs) zero m at = ap (λ (y : Mutator L). did (pass_of y)) (some-injective x m at)
+written_at (x ∷ xs) (suc k) m at = written_at xs k m at
 
 abbrev setup_with : Heap → ℕ → ℕ → ℕ → Setup
 setup_with heap fresh mutators compacted = record { heap = heap; compacted = compacted; fresh = fresh; mutators = mutators }
@@ -75,7 +75,7 @@ ran_over {L} u before after lines shown f compacted closed none unbuilt some_mut
     (λ k pass at.
     let m = at_map_back pass_of after k pass at in
     let below : k < length before = omega (arith, many, still, is_inside after k m.0 m.1) in
-    ap did (sym m.2) ∙ sym (deeds_at after k m.0 m.1) ∙ ran.1.did k below ∙ ap (λ (l : List (ℕ × Entry)). l ++ written_by k added) (deeds_none before none k)) in
+    ap did (sym m.2) ∙ sym (written_at after k m.0 m.1) ∙ ran.1.did k below ∙ ap (λ (l : List (ℕ × Entry)). l ++ written_by k added) (deeds_none before none k)) in
     let same = same_history u row f end added (all_added u (length row) lines beginning ran.0 refl (inside_all u (length row) lines crew fit) ran.1.runs) did_is in
     let lists = lists_built u after f ran.0.built (omega (arith, some_mutators, still)) end.pages (ran.2 unbuilt) ∙ ap (λ (n : ℕ). map (λ (k : ℕ). built_by k ran.0.built) (range_with_len 0 n)) still in
     let v : u ≡ flipped u.heap u.mutators u.fresh = setup_is u compacted in

@@ -19,8 +19,8 @@ use Rattle.comp_mutator.specs.declared.mutator.Mutator.{Mutator}
 use Rattle.comp_mutator.specs.Refusal.{Refusal}
 use Rattle.trace_steps.specs.Acting.{null_registers, registers_after, shown_at}
 use Rattle.trace_steps.specs.Builds.{built_after, touched, BuildOn, HaveBuilt, HaveSeenBuilt, SeeBuiltOn}
-use Rattle.trace_steps.specs.Deeds.{deeds_of, AreMerged, Deeds, HaveSeen, HaveSeenAll, HaveStart, IsMerged, KnowTheirs}
-use Rattle.trace_replay.specs.Replays.{CannotGoOn, GoesOn, RanTo, StandsAt}
+use Rattle.trace_steps.specs.WrittenEntries.{written_by_each, AreMerged, WrittenEntries, HaveSeen, HaveSeenAll, HaveStart, IsMerged, KnowTheirs}
+use Rattle.trace_replay.specs.Replays.{CannotGoOn, GoesOn, RanTo, HasReplayed}
 use Rattle.trace_steps.specs.Rounds.{Advances, AreLater, DidNothing, IsTurnedDown, Learns, RanLine, WasTurnedDown}
 use Rattle.trace_replay.specs.Runs.{beginning, Does, Moment, Runs}
 use Rattle.trace_steps.specs.Lines.{with_entries, Acts}
@@ -50,25 +50,25 @@ all_null (suc n) zero lt = refl
 all_null (suc n) (suc m) lt = all_null n m (omega (arith, lt))
 
 -- before the first line
-pub stands_first : (u : Setup) (n : ℕ) (start : Journals) (first : Deeds) (items : List (List ℕ)) → AreMerged n first start → items ≡ replicate n null_registers
-    → StandsAt u n start first first [] items [] beginning
+pub stands_first : (u : Setup) (n : ℕ) (start : Journals) (first : WrittenEntries) (items : List (List ℕ)) → AreMerged n first start → items ≡ replicate n null_registers
+    → HasReplayed u n start first first [] items [] beginning
 stands_first u n start first items merged null = record {
   ran = record { runs = refl; did = λ k lt. sym (append-nil (first k)); shows = refl };
   merged = λ p. merged_still n first p (start p) (merged p);
   hold = λ m lt. ap (λ (l : List (List ℕ)). get_or l m []) null ∙ all_null n m lt;
 }
 
-module _ (u : Setup) (n : ℕ) (start : Journals) (first deeds : Deeds) (now : Moment) (lines : List Line) (line : Line) (items : List (List ℕ)) (shown : List Shown) (own : List ℕ)
-    (inside : line.mutator < n) (wide : length items ≡ n) (is : own ≡ get_or items line.mutator []) (stands : StandsAt u n start first deeds lines items shown now)
+module _ (u : Setup) (n : ℕ) (start : Journals) (first written : WrittenEntries) (now : Moment) (lines : List Line) (line : Line) (items : List (List ℕ)) (shown : List Shown) (own : List ℕ)
+    (inside : line.mutator < n) (wide : length items ≡ n) (is : own ≡ get_or items line.mutator []) (stands : HasReplayed u n start first written lines items shown now)
   where
     -- what the registers hold
     pub held : own ≡ now.registers line.mutator
     held = is ∙ stands.hold line.mutator inside
 
-    pub line_stands : (later : Deeds) (number answer : ℕ) (registers : List ℕ) (showing : List Shown) → number ≡ 1 + length lines
-        → ((journals : Journals) → AreMerged n deeds journals → Advances u n line.mutator deeds later journals line.action own answer)
+    pub line_stands : (later : WrittenEntries) (number answer : ℕ) (registers : List ℕ) (showing : List Shown) → number ≡ 1 + length lines
+        → ((journals : Journals) → AreMerged n written journals → Advances u n line.mutator written later journals line.action own answer)
         → registers ≡ registers_after line.action own answer → showing ≡ shown ++ shown_at number line.action answer
-        → (after : Moment) × StandsAt u n start first later (lines ++ line ∷ []) (set items line.mutator registers) showing after
+        → (after : Moment) × HasReplayed u n start first later (lines ++ line ∷ []) (set items line.mutator registers) showing after
         × (after.built ≡ built_after now.built line.mutator (touched u line.action own answer))
     line_stands later number answer registers showing counted advances set_is shows =
         let m = line.mutator in
@@ -110,10 +110,10 @@ module _ {L : Type 0} (u : Setup) (before after : List (Mutator L)) (line : Line
         → GoesOn u line number before after items (set items i registers) shown showing
     goes_on number answer registers shown showing ran set_is shows builds sees start first lines now counted stands =
         let n = length before in
-        let one = line_stands u n start first (deeds_of before) now lines line items shown own inside wide is_there stands (deeds_of after) number answer registers showing counted
-        (λ journals merged. subst (λ (k : ℕ). Advances u n k (deeds_of before) (deeds_of after) journals line.action own answer) at (ran journals merged)) set_is shows in (
+        let one = line_stands u n start first (written_by_each before) now lines line items shown own inside wide is_there stands (written_by_each after) number answer registers showing counted
+        (λ journals merged. subst (λ (k : ℕ). Advances u n k (written_by_each before) (written_by_each after) journals line.action own answer) at (ran journals merged)) set_is shows in (
           one.0,
-          subst (λ (k : ℕ). StandsAt u n start first (deeds_of after) (lines ++ line ∷ []) (set items k registers) showing one.0) (sym at) one.1,
+          subst (λ (k : ℕ). HasReplayed u n start first (written_by_each after) (lines ++ line ∷ []) (set items k registers) showing one.0) (sym at) one.1,
           λ built. subst (HaveBuilt after) (ap (λ (k : ℕ). built_after now.built k (touched u line.action own answer)) at ∙ sym one.2) (builds now.built built),
           λ known. subst (HaveSeenBuilt after) (ap (λ (k : ℕ). built_after now.built k (touched u line.action own answer)) at ∙ sym one.2) (sees now.built known),
         )
@@ -122,7 +122,7 @@ module _ {L : Type 0} (u : Setup) (before after : List (Mutator L)) (line : Line
     cannot_go_on shown refusal cause start first lines now stands =
         let journals = with_entries start now.added in
         subst (λ (r : List ℕ). IsTurnedDown u line.mutator before after journals line.action r refusal)
-        (held u (length before) start first (deeds_of before) now lines line items shown own inside wide is_there stands)
+        (held u (length before) start first (written_by_each before) now lines line items shown own inside wide is_there stands)
         (subst (λ (k : ℕ). IsTurnedDown u k before after journals line.action own refusal) at (cause journals stands.merged))
 
 -- ---- mutators over several lines
@@ -172,28 +172,28 @@ refused_since u i first before after journals action registers refusal later h Q
 )
 
 -- mutators that have seen all that they did have seen all that the replay added
-pub seen_there : {L : Type 0} (u : Setup) (start : Journals) (first deeds : Deeds) (lines : List Line) (items : List (List ℕ)) (shown : List Shown) (n : ℕ) (after : List (Mutator L)) (now : Moment)
-    → HaveSeenAll after → length after ≡ n → ((k : ℕ) → k < n → deeds_of after k ≡ deeds k) → StandsAt u n start first deeds lines items shown now
+pub seen_there : {L : Type 0} (u : Setup) (start : Journals) (first written : WrittenEntries) (lines : List Line) (items : List (List ℕ)) (shown : List Shown) (n : ℕ) (after : List (Mutator L)) (now : Moment)
+    → HaveSeenAll after → length after ≡ n → ((k : ℕ) → k < n → written_by_each after k ≡ written k) → HasReplayed u n start first written lines items shown now
     → HaveSeen after (with_entries start now.added)
-seen_there u start first deeds lines items shown n after now seen long same h = seen (with_entries start now.added) (λ p.
-    merged_by (length after) deeds (deeds_of after) p (with_entries start now.added p) (λ k lt. sym (same k (omega (arith, lt, long))))
-    (subst (λ (c : ℕ). IsMerged c deeds p (with_entries start now.added p)) (sym long) (h.merged p)))
+seen_there u start first written lines items shown n after now seen long same h = seen (with_entries start now.added) (λ p.
+    merged_by (length after) written (written_by_each after) p (with_entries start now.added p) (λ k lt. sym (same k (omega (arith, lt, long))))
+    (subst (λ (c : ℕ). IsMerged c written p (with_entries start now.added p)) (sym long) (h.merged p)))
 
 -- it ran to that moment, whatever the mutators learnt since
-pub ran_to : (u : Setup) (n : ℕ) (start : Journals) (first deeds later : Deeds) (lines : List Line) (shown : List Shown) (now : Moment) → RanTo u n start first deeds lines shown now
-    → ((k : ℕ) → k < n → later k ≡ deeds k) → RanTo u n start first later lines shown now
-ran_to u n start first deeds later lines shown now h same = record { runs = h.runs; did = λ k lt. same k lt ∙ h.did k lt; shows = h.shows }
+pub ran_to : (u : Setup) (n : ℕ) (start : Journals) (first written later : WrittenEntries) (lines : List Line) (shown : List Shown) (now : Moment) → RanTo u n start first written lines shown now
+    → ((k : ℕ) → k < n → later k ≡ written k) → RanTo u n start first later lines shown now
+ran_to u n start first written later lines shown now h same = record { runs = h.runs; did = λ k lt. same k lt ∙ h.did k lt; shows = h.shows }
 
 -- the state of a replay, written with equal numbers and lists
-pub restand : (u : Setup) (n m : ℕ) (start : Journals) (first deeds : Deeds) (lines : List Line) (items others : List (List ℕ)) (shown : List Shown) (now : Moment) → n ≡ m → items ≡ others
-    → StandsAt u n start first deeds lines items shown now → StandsAt u m start first deeds lines others shown now
-restand u n m start first deeds lines items others shown now long same h =
-    subst (λ (k : ℕ). StandsAt u k start first deeds lines others shown now) long (subst (λ (l : List (List ℕ)). StandsAt u n start first deeds lines l shown now) same h)
+pub restand : (u : Setup) (n m : ℕ) (start : Journals) (first written : WrittenEntries) (lines : List Line) (items others : List (List ℕ)) (shown : List Shown) (now : Moment) → n ≡ m → items ≡ others
+    → HasReplayed u n start first written lines items shown now → HasReplayed u m start first written lines others shown now
+restand u n m start first written lines items others shown now long same h =
+    subst (λ (k : ℕ). HasReplayed u k start first written lines others shown now) long (subst (λ (l : List (List ℕ)). HasReplayed u n start first written lines l shown now) same h)
 
 -- if the mutators did nothing since, they have the same start
 pub start_same : {L : Type 0} (u : Setup) (old new : List (Mutator L)) → length new ≡ length old → DidNothing old new → HaveStart u new → HaveStart u old
 start_same u old new long same h =
-    (h.0, λ p. subst (λ (n : ℕ). IsMerged n (deeds_of old) p (h.0 p)) long (merged_by (length new) (deeds_of new) (deeds_of old) p (h.0 p) (λ k lt. same k (omega (arith, lt, long))) (h.1 p)), h.2)
+    (h.0, λ p. subst (λ (n : ℕ). IsMerged n (written_by_each old) p (h.0 p)) long (merged_by (length new) (written_by_each new) (written_by_each old) p (h.0 p) (λ k lt. same k (omega (arith, lt, long))) (h.1 p)), h.2)
 
 pub replicate_more : {A : Type 0} (n : ℕ) (x : A) → replicate n x ++ x ∷ [] ≡ replicate (n + 1) x
 replicate_more {A} n x = more n ∙ ap (λ (k : ℕ). replicate k x) (let e : suc n ≡ n + 1 = omega arith in e)

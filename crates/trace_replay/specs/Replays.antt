@@ -9,7 +9,7 @@ use Rattle.comp_mutator.specs.Merged.{written_by}
 use Rattle.comp_mutator.specs.declared.mutator.Mutator.{Mutator}
 use Rattle.comp_mutator.specs.Refusal.{Refusal}
 use Rattle.trace_steps.specs.Builds.{is_built, HaveBuilt, HaveSeenBuilt}
-use Rattle.trace_steps.specs.Deeds.{deeds_of, AreMerged, Deeds, HaveAll, HaveSeen}
+use Rattle.trace_steps.specs.WrittenEntries.{written_by_each, AreMerged, WrittenEntries, HaveAll, HaveSeen}
 use Rattle.trace_steps.specs.Rounds.{IsTurnedDown}
 use Rattle.trace_replay.specs.Runs.{beginning, Moment, Runs}
 use Rattle.trace_steps.specs.Lines.{with_entries}
@@ -20,9 +20,9 @@ use Rattle.trace_steps.specs.declared.shown.Shown.{Shown}
 
 -- The lines were run from null registers to this moment. Each of n mutators did what it had done before, and then what
 -- it added.
-pub record RanTo (u : Setup) (n : ℕ) (start : Journals) (first deeds : Deeds) (lines : List Line) (shown : List Shown) (end : Moment) : Type 0 where
+pub record RanTo (u : Setup) (n : ℕ) (start : Journals) (first written : WrittenEntries) (lines : List Line) (shown : List Shown) (end : Moment) : Type 0 where
   pub runs : Runs u start 1 lines beginning end
-  pub did : (k : ℕ) → k < n → deeds k ≡ first k ++ written_by k end.added
+  pub did : (k : ℕ) → k < n → written k ≡ first k ++ written_by k end.added
   pub shows : shown ≡ end.shown
 
 -- if the mutators had built nothing before, they have built what was built by this moment
@@ -38,7 +38,7 @@ SeenTo start after lines end = 0 < length lines → HaveSeen after (with_entries
 -- showed these values
 abbrev pub HaveReplayed : {L : Type 0} → Setup → List (Mutator L) → List (Mutator L) → List Line → List Shown → Type 0
 HaveReplayed u before after lines shown =
-    (start : Journals) → HaveAll before start → (end : Moment) × RanTo u (length before) start (deeds_of before) (deeds_of after) lines shown end
+    (start : Journals) → HaveAll before start → (end : Moment) × RanTo u (length before) start (written_by_each before) (written_by_each after) lines shown end
     × BuiltTo before after end × SeenTo start after lines end
 
 -- no line was run: no value is shown, and the mutators are unchanged
@@ -54,7 +54,7 @@ pub record IsRefused {L : Type 0} (u : Setup) (start : Journals) (before after :
   pub line : Line
   pub there : get_elem? lines count ≡ some line
   pub end : Moment
-  pub ran : RanTo u (length before) start (deeds_of before) (deeds_of after) (take count lines) shown end
+  pub ran : RanTo u (length before) start (written_by_each before) (written_by_each after) (take count lines) shown end
   pub cause : IsTurnedDown u line.mutator before after (with_entries start end.added) line.action (end.registers line.mutator) refusal
   pub built : (p : ℕ) → is_built end.built p ≡ true → HasSeenBuilt cause.old p
   pub seen : HaveSeen after (with_entries start end.added)
@@ -87,22 +87,22 @@ abbrev pub Hold : ℕ → List (List ℕ) → (ℕ → List ℕ) → Type 0
 Hold n items registers = (m : ℕ) → m < n → get_or items m [] ≡ registers m
 
 -- The state of a replay after some lines.
-pub record StandsAt (u : Setup) (n : ℕ) (start : Journals) (first deeds : Deeds) (lines : List Line) (items : List (List ℕ)) (shown : List Shown) (now : Moment) : Type 0 where
-  pub ran : RanTo u n start first deeds lines shown now
-  pub merged : AreMerged n deeds (with_entries start now.added)
+pub record HasReplayed (u : Setup) (n : ℕ) (start : Journals) (first written : WrittenEntries) (lines : List Line) (items : List (List ℕ)) (shown : List Shown) (now : Moment) : Type 0 where
+  pub ran : RanTo u n start first written lines shown now
+  pub merged : AreMerged n written (with_entries start now.added)
   pub hold : Hold n items now.registers
 
 -- if the replay had come to the line of this number, it has then come to the line after it
 abbrev pub GoesOn : {L : Type 0} → Setup → Line → ℕ → List (Mutator L) → List (Mutator L) → List (List ℕ) → List (List ℕ) → List Shown → List Shown → Type 0
 GoesOn u line number before after items holding shown showing =
-    (start : Journals) (first : Deeds) (lines : List Line) (now : Moment) → number ≡ 1 + length lines
-    → StandsAt u (length before) start first (deeds_of before) lines items shown now
-    → (later : Moment) × StandsAt u (length before) start first (deeds_of after) (lines ++ line ∷ []) holding showing later
+    (start : Journals) (first : WrittenEntries) (lines : List Line) (now : Moment) → number ≡ 1 + length lines
+    → HasReplayed u (length before) start first (written_by_each before) lines items shown now
+    → (later : Moment) × HasReplayed u (length before) start first (written_by_each after) (lines ++ line ∷ []) holding showing later
     × (HaveBuilt before now.built → HaveBuilt after later.built) × (HaveSeenBuilt before now.built → HaveSeenBuilt after later.built)
 
 -- the call of the line was refused, whatever the state of the replay
 abbrev pub CannotGoOn : {L : Type 0} → Setup → Line → List (Mutator L) → List (Mutator L) → List (List ℕ) → List Shown → Refusal → Type 0
 CannotGoOn u line before after items shown refusal =
-    (start : Journals) (first : Deeds) (lines : List Line) (now : Moment)
-    → StandsAt u (length before) start first (deeds_of before) lines items shown now
+    (start : Journals) (first : WrittenEntries) (lines : List Line) (now : Moment)
+    → HasReplayed u (length before) start first (written_by_each before) lines items shown now
     → IsTurnedDown u line.mutator before after (with_entries start now.added) line.action (now.registers line.mutator) refusal

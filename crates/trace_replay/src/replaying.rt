@@ -2,7 +2,7 @@
 ghost use Rattle.std.specs.Prelude.{◌≡◌, ◌<◌, ◌≤◌, ◌+◌, length, replicate, vec_capacity, IfErr, IfOk, OnErr, OnOk};
 ghost use Rattle.comp_mutator.specs.Mutators.{setup_of};
 ghost use Rattle.trace_steps.specs.Acting.{null_registers, Fits};
-ghost use Rattle.trace_steps.specs.Deeds.{HaveSeenAll, HaveStart};
+ghost use Rattle.trace_steps.specs.WrittenEntries.{HaveSeenAll, HaveStart};
 ghost use Rattle.trace_steps.specs.AllMutators.{AreAll};
 ghost use Rattle.trace_replay.specs.Replays.{CannotGoOn, GoesOn, HaveReplayed, HaveStopped, IsRefusal, RanNothing};
 ghost use Rattle.trace_steps.specs.Rounds.{AreLater, DidNothing};

@@ -1,7 +1,7 @@
 //! Runs the text of a trace.
 ghost use Rattle.std.specs.Prelude.{◌≡◌, length, IfErr, IfOk};
 ghost use Rattle.comp_mutator.specs.Mutators.{setup_of};
-ghost use Rattle.trace_steps.specs.Deeds.{DidNothingYet};
+ghost use Rattle.trace_steps.specs.WrittenEntries.{DidNothingYet};
 ghost use Rattle.trace_replay.specs.Bytes.{Shows, StopsShowing};
 ghost use Rattle.trace_steps.specs.AllMutators.{AreAll};
 

@@ -13,14 +13,14 @@ use Rattle.comp_mutator.specs.Steps.{Steps}
 use Rattle.comp_mutator.proofs.Joined.{by_none}
 use Rattle.comp_mutator.proofs.Growing.{begins_then}
 use Rattle.comp_mutator.proofs.Meetings.{between}
-use Rattle.comp_mutator.specs.Cells.{Works}
-use Rattle.trace_steps.specs.Deeds.{AreMerged, Deeds, IsMerged}
+use Rattle.comp_mutator.specs.CellViews.{Works}
+use Rattle.trace_steps.specs.WrittenEntries.{AreMerged, WrittenEntries, IsMerged}
 use Rattle.trace_steps.specs.Rounds.{Met}
 use Rattle.trace_steps.specs.Lines.{IsAboveAll}
 use Rattle.trace_steps.proofs.Merging.{by_between, merged_by, merged_more, merged_once, IsOneMore}
 
 -- what passes did
-abbrev pub dids : (ℕ → Pass) → Deeds
+abbrev pub dids : (ℕ → Pass) → WrittenEntries
 dids passes k = did (passes k)
 
 -- These are all n passes of a table, by their numbers.

@@ -6,14 +6,14 @@ use Rattle.heap_layout.specs.Heap.{Heap, live}
 use Rattle.comp_mutator.specs.Sliding.{forward}
 use Rattle.comp_mutator.specs.Builder.{Ghosts}
 use Rattle.comp_mutator.specs.Steps.{Steps}
-use Rattle.comp_mutator.specs.Cells.{steps_of, AreNew}
+use Rattle.comp_mutator.specs.CellViews.{steps_of, AreNew}
 use Rattle.comp_mutator.proofs.Rows.{at_map}
 use Rattle.comp_mutator.specs.Forwarded.{AreForwarded}
 use Rattle.comp_mutator.specs.Mutators.{cells_of, pass_of, setup_of, AreMutatorsOf}
 use Rattle.comp_mutator.specs.declared.mutator.Mutator.{Mutator}
 use Rattle.comp_mutator.specs.declared.space.Space.{Space}
 use Rattle.trace_steps.specs.Builds.{HaveBuilt}
-use Rattle.trace_steps.specs.Deeds.{DidNothingYet}
+use Rattle.trace_steps.specs.WrittenEntries.{DidNothingYet}
 use Rattle.trace_steps.specs.AllMutators.{AreAll}
 
 pub roots_count : (heap : Heap) (roots : List ℕ) → AreForwarded heap roots → length roots ≡ length heap.roots

@@ -23,7 +23,7 @@ use Rattle.comp_mutator.specs.Reads.{Reads}
 use Rattle.comp_mutator.specs.Writes.{entry_by, Adds, Writes}
 use Rattle.comp_mutator.specs.Allocations.{own_page, used, Allocates, AllocatesAsked}
 use Rattle.trace_steps.specs.Acting.{Answers}
-use Rattle.trace_steps.specs.Deeds.{AreMerged, KnowsMade}
+use Rattle.trace_steps.specs.WrittenEntries.{AreMerged, KnowsMade}
 use Rattle.trace_steps.specs.Rounds.{Advances, Learns, Met}
 use Rattle.trace_steps.specs.Lines.{used_by, with_entries, Acts, IsAboveAll, IsOneEntry, MakesAsked, MakesObject, WritesField}
 use Rattle.trace_steps.specs.Builds.{kind_if}

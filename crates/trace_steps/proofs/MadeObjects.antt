@@ -21,7 +21,7 @@ use Rattle.heap_layout.specs.Header.{header_with, Head}
 use Rattle.trace_steps.specs.Builds.{kind_if}
 use Rattle.comp_mutator.specs.Refusal.{Refusal}
 use Rattle.trace_steps.specs.Acting.{Answers, Steps}
-use Rattle.trace_steps.specs.Deeds.{Deeds, IsMerged, KnowsMade}
+use Rattle.trace_steps.specs.WrittenEntries.{WrittenEntries, IsMerged, KnowsMade}
 use Rattle.trace_steps.specs.Rounds.{Learns}
 use Rattle.trace_text.specs.declared.line.Action.{Action}
 use Rattle.trace_text.specs.declared.line.Action.TheVariants.{Root, Load, Get, Store, Put, New, Nil}
@@ -85,8 +85,8 @@ header_by (x ∷ xs) (suc i) e at =
     (λ not. (rest.0, ap (λ (l : List Entry). get_elem? l rest.0) (others x xs e.writer not) ∙ rest.1))
 
 -- an object of merged journals was made by one of the mutators
-pub made_whose : (n : ℕ) (deeds : Deeds) (p : ℕ) (journal : List Entry) → IsMerged n deeds p journal → (offset : ℕ) → HasHead journal offset → (k : ℕ) × (k < n) × HasHead (on p (deeds k)) offset
-made_whose n deeds p journal merged offset h =
+pub made_whose : (n : ℕ) (written : WrittenEntries) (p : ℕ) (journal : List Entry) → IsMerged n written p journal → (offset : ℕ) → HasHead journal offset → (k : ℕ) × (k < n) × HasHead (on p (written k)) offset
+made_whose n written p journal merged offset h =
     let own = header_by journal h.0 h.1 h.2 in
     elim (cases_lt h.1.writer n) [
       | inl lt ↦ (h.1.writer, lt, (own.0, h.1, ap (λ (l : List Entry). get_elem? l own.0) (sym (merged.own h.1.writer lt)) ∙ own.1, h.3, h.4))

@@ -11,7 +11,7 @@ use Rattle.comp_mutator.specs.Lists.{by, on, Rises, StartsWith}
 use Rattle.comp_mutator.proofs.Joined.{by-append}
 use Rattle.comp_mutator.proofs.Meetings.{between}
 use Rattle.comp_mutator.proofs.OwnPages.{on_append}
-use Rattle.trace_steps.specs.Deeds.{Deeds, IsMerged}
+use Rattle.trace_steps.specs.WrittenEntries.{WrittenEntries, IsMerged}
 
 by_begins : (k : ℕ) (a b : List Entry) → StartsWith b a → StartsWith (by k b) (by k a)
 by_begins k a b h = (by k h.0, ap (by k) h.1 ∙ by-append k a h.0)
@@ -75,25 +75,25 @@ alike_same (e ∷ es) (f ∷ fs) low low' high high' h i same =
     ap (λ (x : Entry). x ∷ es) first ∙ ap (λ (xs : List Entry). f ∷ xs) (alike_same es fs (e.stamp + 1) (f.stamp + 1) high high' h.1 i.1 (same_rest e es fs moved))
 
 -- there is at most one merged journal
-pub merged_once : (n : ℕ) (deeds : Deeds) (p : ℕ) (j l : List Entry) → IsMerged n deeds p j → IsMerged n deeds p l → j ≡ l
-merged_once n deeds p j l h i =
+pub merged_once : (n : ℕ) (written : WrittenEntries) (p : ℕ) (j l : List Entry) → IsMerged n written p j → IsMerged n written p l → j ≡ l
+merged_once n written p j l h i =
     alike_same j l 0 0 h.rises.0 i.rises.0 h.rises.1 i.rises.1
     (λ k. elim (cases_lt k n) [ inl lt ↦ h.own k lt ∙ sym (i.own k lt) | inr le ↦ h.strangers k le ∙ sym (i.strangers k le) ])
 
 -- ---- one entry more
 
 -- what the mutators did, with one entry more of mutator i
-abbrev pub IsOneMore : ℕ → Deeds → Deeds → ℕ → ℕ → Entry → Type 0
-IsOneMore n deeds later i p e = (later i ≡ deeds i ++ (p, e) ∷ []) × ((k : ℕ) → k < n → k ≢ i → later k ≡ deeds k)
+abbrev pub IsOneMore : ℕ → WrittenEntries → WrittenEntries → ℕ → ℕ → Entry → Type 0
+IsOneMore n written later i p e = (later i ≡ written i ++ (p, e) ∷ []) × ((k : ℕ) → k < n → k ≢ i → later k ≡ written k)
 
 rises_with : (low : ℕ) (j : List Entry) (high : ℕ) (e : Entry) → Rises low j high → low ≤ e.stamp → All (λ (x : Entry). x.stamp < e.stamp) j → Rises low (j ++ e ∷ []) (e.stamp + 1)
 rises_with low [] high e h le below = (le, omega arith)
 rises_with low (f ∷ fs) high e h le below = (h.0, rises_with (f.stamp + 1) fs high e h.1 (omega (arith, All-head (λ (x : Entry). x.stamp < e.stamp) f fs below)) (All-tail (λ (x : Entry). x.stamp < e.stamp) f fs below))
 
 -- the journal with that entry at its end is merged
-pub merged_more : (n : ℕ) (deeds later : Deeds) (i p q : ℕ) (e : Entry) (j : List Entry) → IsOneMore n deeds later i p e → i < n → e.writer ≡ i → All (λ (x : Entry). x.stamp < e.stamp) j
-    → IsMerged n deeds q j → IsMerged n later q (j ++ on q ((p, e) ∷ []))
-merged_more n deeds later i p q e j more lt writer below h =
+pub merged_more : (n : ℕ) (written later : WrittenEntries) (i p q : ℕ) (e : Entry) (j : List Entry) → IsOneMore n written later i p e → i < n → e.writer ≡ i → All (λ (x : Entry). x.stamp < e.stamp) j
+    → IsMerged n written q j → IsMerged n later q (j ++ on q ((p, e) ∷ []))
+merged_more n written later i p q e j more lt writer below h =
     record {
       rises = elim (p == q) as (λ t. (high : ℕ) × Rises 0 (j ++ cond t (e ∷ []) []) high) [
         | true ↦ (e.stamp + 1, rises_with 0 j h.rises.0 e h.rises.1 (omega arith) below)
@@ -101,8 +101,8 @@ merged_more n deeds later i p q e j more lt writer below h =
       ];
       own = λ k in_. dite (ℕ_discrete k i)
           (λ is. by-append k j (on q ((p, e) ∷ [])) ∙ ap (λ (l : List Entry). l ++ by k (on q ((p, e) ∷ []))) (h.own k in_)
-          ∙ ap (λ (l : List Entry). on q (deeds k) ++ l) (by_mine k q p e (writer ∙ sym is))
-          ∙ sym (ap (on q) (subst (λ (x : ℕ). later x ≡ deeds x ++ (p, e) ∷ []) (sym is) more.0) ∙ on_append q (deeds k) ((p, e) ∷ [])))
+          ∙ ap (λ (l : List Entry). on q (written k) ++ l) (by_mine k q p e (writer ∙ sym is))
+          ∙ sym (ap (on q) (subst (λ (x : ℕ). later x ≡ written x ++ (p, e) ∷ []) (sym is) more.0) ∙ on_append q (written k) ((p, e) ∷ [])))
           (λ not. by-append k j (on q ((p, e) ∷ [])) ∙ ap (λ (l : List Entry). by k j ++ l) (by_others k q p e (λ w. not (sym w ∙ writer))) ∙ append-nil (by k j) ∙ h.own k in_ ∙ ap (on q) (sym (more.1 k in_ not)));
       strangers = λ k le. by-append k j (on q ((p, e) ∷ [])) ∙ ap (λ (l : List Entry). by k j ++ l) (by_others k q p e (λ w. omega (arith, w, writer, le, lt))) ∙ append-nil (by k j) ∙ h.strangers k le;
     }
@@ -114,9 +114,9 @@ merged_more n deeds later i p q e j more lt writer below h =
     by_others k q p e w = elim (p == q) as (λ t. by k (cond t (e ∷ []) []) ≡ []) [ true ↦ others e [] k w | false ↦ refl ]
 
 -- a merged journal of some deeds is one of equal deeds
-pub merged_by : (n : ℕ) (deeds later : Deeds) (p : ℕ) (j : List Entry) → ((k : ℕ) → k < n → deeds k ≡ later k) → IsMerged n deeds p j → IsMerged n later p j
-merged_by n deeds later p j same h = record { rises = h.rises; own = λ k lt. h.own k lt ∙ ap (on p) (same k lt); strangers = h.strangers }
+pub merged_by : (n : ℕ) (written later : WrittenEntries) (p : ℕ) (j : List Entry) → ((k : ℕ) → k < n → written k ≡ later k) → IsMerged n written p j → IsMerged n later p j
+merged_by n written later p j same h = record { rises = h.rises; own = λ k lt. h.own k lt ∙ ap (on p) (same k lt); strangers = h.strangers }
 
 -- a merged journal is merged still if nothing is added
-pub merged_still : (n : ℕ) (deeds : Deeds) (p : ℕ) (j : List Entry) → IsMerged n deeds p j → IsMerged n deeds p (j ++ [])
-merged_still n deeds p j = subst (IsMerged n deeds p) (sym (append-nil j))
+pub merged_still : (n : ℕ) (written : WrittenEntries) (p : ℕ) (j : List Entry) → IsMerged n written p j → IsMerged n written p (j ++ [])
+merged_still n written p j = subst (IsMerged n written p) (sym (append-nil j))

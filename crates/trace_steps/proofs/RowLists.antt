@@ -11,13 +11,13 @@ use Rattle.comp_mutator.specs.Passes.{builds_of, did, number_of, HasSeenBuilt}
 use Rattle.comp_mutator.specs.Setup.{Setup}
 use Rattle.comp_mutator.specs.Pass.{Pass}
 use Rattle.comp_mutator.proofs.Sums.{is_inside, read_at}
-use Rattle.comp_mutator.specs.Cells.{steps_of, Works}
+use Rattle.comp_mutator.specs.CellViews.{steps_of, Works}
 use Rattle.comp_mutator.specs.Merged.{written_by}
 use Rattle.comp_mutator.specs.Mutators.{cells_of, pass_of, setup_of, AreMutatorsOf}
 use Rattle.comp_mutator.specs.declared.mutator.Mutator.{Mutator}
 use Rattle.comp_mutator.specs.declared.space.Space.{Space}
 use Rattle.trace_steps.specs.Builds.{built_by, HaveBuilt, HaveSeenBuilt}
-use Rattle.trace_steps.specs.Deeds.{deeds_of, AreMerged, Deeds, HaveAll}
+use Rattle.trace_steps.specs.WrittenEntries.{written_by_each, AreMerged, WrittenEntries, HaveAll}
 use Rattle.trace_steps.specs.Lines.{with_entries}
 use Rattle.trace_steps.specs.AllMutators.{AreAll}
 use Rattle.trace_steps.specs.Rounds.{row, Advances, AreLater, DidNothing, Learns}
@@ -28,10 +28,10 @@ use Rattle.trace_steps.proofs.Merging.{merged_by}
 use Rattle.trace_steps.proofs.Elements.{at_or}
 
 -- what the mutator at an index did
-pub deeds_at : {L : Type 0} (mutators : List (Mutator L)) (d : Mutator L) (k : ℕ) → k < length mutators → deeds_of mutators k ≡ dids (row d mutators) k
-deeds_at [] d k lt = absurd (omega arith)
-deeds_at (m ∷ mutators) d zero lt = refl
-deeds_at (m ∷ mutators) d (suc k) lt = deeds_at mutators d k (omega arith)
+pub written_at : {L : Type 0} (mutators : List (Mutator L)) (d : Mutator L) (k : ℕ) → k < length mutators → written_by_each mutators k ≡ dids (row d mutators) k
+written_at [] d k lt = absurd (omega arith)
+written_at (m ∷ mutators) d zero lt = refl
+written_at (m ∷ mutators) d (suc k) lt = written_at mutators d k (omega arith)
 
 -- the pass of the mutator at an index
 pub row_at : {L : Type 0} (mutators : List (Mutator L)) (d m : Mutator L) (k : ℕ) → get_elem? mutators k ≡ some m → row d mutators k ≡ pass_of m
@@ -39,15 +39,15 @@ row_at mutators d m k at = ap pass_of (read_at mutators k m d at)
 
 -- journals that have all that the mutators did
 pub rows_have : {L : Type 0} (mutators : List (Mutator L)) (d : Mutator L) (journals : Journals) → HaveAll mutators journals → AreMerged (length mutators) (dids (row d mutators)) journals
-rows_have mutators d journals h p = merged_by (length mutators) (deeds_of mutators) (dids (row d mutators)) p (journals p) (deeds_at mutators d) (h p)
+rows_have mutators d journals h p = merged_by (length mutators) (written_by_each mutators) (dids (row d mutators)) p (journals p) (written_at mutators d) (h p)
 
 pub have_all : {L : Type 0} (mutators : List (Mutator L)) (d : Mutator L) (journals : Journals) → AreMerged (length mutators) (dids (row d mutators)) journals → HaveAll mutators journals
-have_all mutators d journals h p = merged_by (length mutators) (dids (row d mutators)) (deeds_of mutators) p (journals p) (λ k lt. sym (deeds_at mutators d k lt)) (h p)
+have_all mutators d journals h p = merged_by (length mutators) (dids (row d mutators)) (written_by_each mutators) p (journals p) (λ k lt. sym (written_at mutators d k lt)) (h p)
 
 -- a line that ran, with the deeds written in another way
-pub advances_by : (u : Setup) (n i : ℕ) (deeds later other after : Deeds) (journals : Journals) (action : Action) (registers : List ℕ) (answer : ℕ) → ((k : ℕ) → k < n → deeds k ≡ other k)
-    → ((k : ℕ) → k < n → later k ≡ after k) → Advances u n i deeds later journals action registers answer → Advances u n i other after journals action registers answer
-advances_by u n i deeds later other after journals action registers answer was is h = record {
+pub advances_by : (u : Setup) (n i : ℕ) (written later other after : WrittenEntries) (journals : Journals) (action : Action) (registers : List ℕ) (answer : ℕ) → ((k : ℕ) → k < n → written k ≡ other k)
+    → ((k : ℕ) → k < n → later k ≡ after k) → Advances u n i written later journals action registers answer → Advances u n i other after journals action registers answer
+advances_by u n i written later other after journals action registers answer was is h = record {
   added = h.added;
   acts = h.acts;
   did = λ k lt. sym (is k lt) ∙ h.did k lt ∙ ap (λ (l : List (ℕ × Entry)). l ++ written_by k h.added) (was k lt);
@@ -87,7 +87,7 @@ later_by old new d long h = record {
 }
 
 pub nothing_by : {L : Type 0} (old new : List (Mutator L)) (d : Mutator L) → length new ≡ length old → ((k : ℕ) → k < length old → did (row d new k) ≡ did (row d old k)) → DidNothing old new
-nothing_by old new d long h k lt = deeds_at new d k (omega (arith, lt, long)) ∙ h k lt ∙ sym (deeds_at old d k lt)
+nothing_by old new d long h k lt = written_at new d k (omega (arith, lt, long)) ∙ h k lt ∙ sym (written_at old d k lt)
 
 -- what all have seen built, by indices
 pub rows_seen_built : {L : Type 0} (mutators : List (Mutator L)) (d : Mutator L) (built : List (ℕ × ℕ)) → HaveSeenBuilt mutators built → SeeTheirs (length mutators) (row d mutators) built

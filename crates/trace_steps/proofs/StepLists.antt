@@ -11,14 +11,14 @@ use Rattle.comp_mutator.specs.Setup.{Setup}
 use Rattle.comp_mutator.specs.Pass.{Pass}
 use Rattle.comp_mutator.proofs.Sums.{is_inside}
 use Rattle.comp_mutator.specs.Calls.{Grows}
-use Rattle.comp_mutator.specs.Cells.{steps_of}
+use Rattle.comp_mutator.specs.CellViews.{steps_of}
 use Rattle.comp_mutator.specs.Mutators.{cells_of, pass_of, setup_of, AreMutatorsOf}
 use Rattle.comp_mutator.specs.declared.mutator.Mutator.{Mutator}
 use Rattle.comp_mutator.specs.Refusal.{Refusal}
 use Rattle.comp_mutator.specs.declared.space.Space.{Space}
 use Rattle.trace_steps.specs.Acting.{Answers, Refuses}
 use Rattle.trace_steps.specs.Builds.{built_after, BuildOn, BuildsTouched, SeeBuiltOn}
-use Rattle.trace_steps.specs.Deeds.{deeds_of, AreMerged, HaveAll, HaveSeenAll, HaveStart}
+use Rattle.trace_steps.specs.WrittenEntries.{written_by_each, AreMerged, HaveAll, HaveSeenAll, HaveStart}
 use Rattle.trace_steps.specs.AllMutators.{AreAll}
 use Rattle.trace_steps.specs.Rounds.{row, AreLater, DidNothing, HasMetAll, IsTurnedDown, Learns, Met, RanLine}
 use Rattle.trace_text.specs.declared.line.Action.{Action}
@@ -26,7 +26,7 @@ use Rattle.trace_steps.proofs.BetweenRounds.{dids, IsCrew}
 use Rattle.trace_steps.proofs.Building.{builds_on, see_built_on, BuiltTheirs, HaveStrange, SeeTheirs}
 use Rattle.trace_steps.proofs.LineRuns.{advances, all_seen_last, known, knows, knows_starts, learnt, same_deeds, IsBetween}
 use Rattle.trace_steps.proofs.Elements.{at_or}
-use Rattle.trace_steps.proofs.RowLists.{advances_by, all_later, crew_later, crew_of, deeds_at, have_all, have_built, have_seen_built, later_by, nothing_by, row_at, rows_built, rows_have, rows_seen_built}
+use Rattle.trace_steps.proofs.RowLists.{advances_by, all_later, crew_later, crew_of, written_at, have_all, have_built, have_seen_built, later_by, nothing_by, row_at, rows_built, rows_have, rows_seen_built}
 
 module _ {L : Type 0} {B : Type 0} {g : Ghosts B} (space : Space L B g) (i : ℕ) (first met last : List (Mutator L)) (m new : Mutator L)
     (all : AreAll space first) (inside : i < length first) (is : m ≡ get_or met i m)
@@ -109,8 +109,8 @@ module _ {L : Type 0} {B : Type 0} {g : Ghosts B} (space : Space L B g) (i : ℕ
 
     pub ran_line : (action : Action) (registers : List ℕ) (answer : ℕ) → Answers u action registers (pass_of (get_or met i m)) (pass_of new) answer → RanLine u i first last action registers answer
     ran_line action registers answer h journals have =
-        advances_by u n i (dids (row m first)) (dids (row m last)) (deeds_of first) (deeds_of last) journals action registers answer
-        (λ k lt. sym (deeds_at first m k lt)) (λ k lt. sym (deeds_at last m k (omega (arith, lt, long))))
+        advances_by u n i (dids (row m first)) (dids (row m last)) (written_by_each first) (written_by_each last) journals action registers answer
+        (λ k lt. sym (written_at first m k lt)) (λ k lt. sym (written_at last m k (omega (arith, lt, long))))
         (advances _ n i _ _ _ _ line u journals (rows_have first m journals have) action registers answer
         (subst (λ (x : Pass). Answers u action registers (row m met i) x answer) (sym acted_is) h))
 
@@ -135,7 +135,7 @@ module _ {L : Type 0} {B : Type 0} {g : Ghosts B} (space : Space L B g) (i : ℕ
           new = row m acted i;
           began = λ x at. subst (λ (y : Pass). Grows y (row m met i)) (row_at first m x i at) ((before m).grows i inside);
           wrote_none = did_same same;
-          did = sym (did_same same) ∙ sym (second.did i inside) ∙ sym (deeds_at last m i (omega (arith, inside, long)));
+          did = sym (did_same same) ∙ sym (second.did i inside) ∙ sym (written_at last m i (omega (arith, inside, long)));
           knows = knows _ n i _ _ _ _ line journals merged;
           starts = λ made p offset at. knows_starts _ n i _ _ _ _ line u journals merged (λ k lt. made k (get_or first k m) (at_or first k m lt)) p offset at;
           grows = call.0;

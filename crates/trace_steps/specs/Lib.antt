@@ -1,7 +1,7 @@
 pub mod Acting
 pub mod Traces
 pub mod Builds
-pub mod Deeds
+pub mod WrittenEntries
 pub mod Rounds
 pub mod AllMutators
 pub mod Lines

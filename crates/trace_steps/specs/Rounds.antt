@@ -15,7 +15,7 @@ use Rattle.comp_mutator.specs.Mutators.{pass_of}
 use Rattle.comp_mutator.specs.declared.mutator.Mutator.{Mutator}
 use Rattle.comp_mutator.specs.Refusal.{Refusal}
 use Rattle.trace_steps.specs.Acting.{Refuses}
-use Rattle.trace_steps.specs.Deeds.{deeds_of, AreMerged, Deeds, HaveAll, KnowsMade, KnowTheirs}
+use Rattle.trace_steps.specs.WrittenEntries.{written_by_each, AreMerged, WrittenEntries, HaveAll, KnowsMade, KnowTheirs}
 use Rattle.trace_steps.specs.Lines.{with_entries, Acts}
 use Rattle.trace_text.specs.declared.line.Action.{Action}
 
@@ -61,19 +61,19 @@ pub record AreLater {L : Type 0} (old new : List (Mutator L)) : Type 0 where
 
 -- none of them did anything since
 abbrev pub DidNothing : {L : Type 0} → List (Mutator L) → List (Mutator L) → Type 0
-DidNothing old new = (k : ℕ) → k < length old → deeds_of new k ≡ deeds_of old k
+DidNothing old new = (k : ℕ) → k < length old → written_by_each new k ≡ written_by_each old k
 
 -- Mutator i of n ran a line, on all that the mutators did before it.
-pub record Advances (u : Setup) (n i : ℕ) (deeds later : Deeds) (journals : Journals) (action : Action) (registers : List ℕ) (answer : ℕ) : Type 0 where
+pub record Advances (u : Setup) (n i : ℕ) (written later : WrittenEntries) (journals : Journals) (action : Action) (registers : List ℕ) (answer : ℕ) : Type 0 where
   pub added : List (ℕ × Entry)
   pub acts : Acts u journals i action registers added answer
-  pub did : (k : ℕ) → k < n → later k ≡ deeds k ++ written_by k added
+  pub did : (k : ℕ) → k < n → later k ≡ written k ++ written_by k added
   pub merged : AreMerged n later (with_entries journals added)
 
 -- The mutator at index i ran a line, for all journals that have exactly what the mutators did before it.
 abbrev pub RanLine : {L : Type 0} → Setup → ℕ → List (Mutator L) → List (Mutator L) → Action → List ℕ → ℕ → Type 0
 RanLine u i before after action registers answer =
-    (journals : Journals) → HaveAll before journals → Advances u (length before) i (deeds_of before) (deeds_of after) journals action registers answer
+    (journals : Journals) → HaveAll before journals → Advances u (length before) i (written_by_each before) (written_by_each after) journals action registers answer
 
 -- The call of the mutator at index i was refused, and at the call it knew all that the mutators did. What it knew
 -- before the line it knew at the call, and what it knew at the call it knows after the line.
@@ -83,7 +83,7 @@ pub record IsTurnedDown {L : Type 0} (u : Setup) (i : ℕ) (before after : List 
   pub began : (m : Mutator L) → get_elem? before i ≡ some m → Grows (pass_of m) old
   -- it wrote nothing in the call, nor since
   pub wrote_none : did new ≡ did old
-  pub did : did old ≡ deeds_of after i
+  pub did : did old ≡ written_by_each after i
   pub knows : (p : ℕ) → seen old p ≡ journals p
   -- it knows each object that was made, if each mutator knew what it made
   pub starts : KnowTheirs before → (p offset : ℕ) → HasHead (journals p) offset → KnowsFresh old p offset

@@ -3,7 +3,7 @@ ghost use Rattle.std.specs.Prelude.{◌≡◌, ◌≢◌, ◌<◌, length, IfErr
 ghost use Rattle.comp_mutator.specs.Mutators.{setup_of, AreMutatorsOf};
 ghost use Rattle.trace_steps.specs.Acting.{registers_after, Fits};
 ghost use Rattle.trace_steps.specs.Builds.{touched, BuildOn, SeeBuiltOn};
-ghost use Rattle.trace_steps.specs.Deeds.{HaveSeenAll, HaveStart};
+ghost use Rattle.trace_steps.specs.WrittenEntries.{HaveSeenAll, HaveStart};
 ghost use Rattle.trace_steps.specs.AllMutators.{AreAll};
 ghost use Rattle.trace_steps.specs.Rounds.{AreLater, DidNothing, HasMetAll, HaveMet, RanLine, WasTurnedDown};
 

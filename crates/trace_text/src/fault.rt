@@ -33,15 +33,15 @@ pub enum TraceFault {
 
 /// A line whose call was refused: its number, counted from 1, and the refusal.
 #[derive(Clone, Copy, Debug, PartialEq, Eq)]
-pub struct Stop {
+pub struct RefusedLine {
     pub line: u64,
     pub refusal: Refusal,
 }
 
-impl From<Stop> for TraceFault {
+impl From<RefusedLine> for TraceFault {
     ghost from_gives = { λ stop given. given ≡ faults.Refused stop.line stop.refusal };
 
-    fn from(stop: Stop) -> TraceFault {
+    fn from(stop: RefusedLine) -> TraceFault {
         TraceFault::Refused(stop.line, stop.refusal)
     }
 }

@@ -10,7 +10,7 @@ mod parsing;
 mod reading;
 mod trace;
 
-pub use fault::{Stop, TraceFault};
+pub use fault::{RefusedLine, TraceFault};
 pub use line::{Action, Line};
 pub use marks::{MarksFault, read_marks};
 pub use parsing::parse;

@@ -1,7 +1,7 @@
 //! The cells of pages with two passes that work at once or by turns.
 ghost use Rattle.std.specs.Prelude.{All};
 ghost use Rattle.cell_steps.specs.Passes.{Rests};
-ghost use Rattle.page_cells.specs.Cells.{IsPassOf};
+ghost use Rattle.page_cells.specs.CellViews.{IsPassOf};
 
 use crate::shared::expected::{At, expect_so};
 use crate::shared::rows::{Row, at_once};

@@ -1,6 +1,6 @@
 use Rattle.heap_layout.specs.Heap.{Heap}
 use Rattle.std.proofs.Common.{subst}
-use Rattle.command_io.specs.declared.refusal.Refusal.TheVariants.{Layout}
+use Rattle.command_io.specs.declared.refusal.CommandRefusal.TheVariants.{Layout}
 use Rattle.commands.specs.Cycled.{IsUnmarked}
 use Rattle.commands.proofs.CycledHeaps.{next_heap_of}
 use Rattle.commands.proofs.cycling.mark_anew.Goals as goal

@@ -1,6 +1,6 @@
 use Rattle.std.proofs.Common.{IfErr, OnOk, Result, subst, sym}
 use Rattle.heap_layout.specs.Counted.{inner_of}
-use Rattle.commands.specs.declared.replays.Halted.{Halted}
+use Rattle.commands.specs.declared.replays.PrintedHalt.{PrintedHalt}
 use Rattle.commands.proofs.ReplayRuns.{ok_both}
 use Rattle.commands.specs.Nexts.{IsWrittenNext, RefusesWriting}
 use Rattle.commands.specs.declared.cycling.Cycled.{Cycled}
@@ -12,7 +12,7 @@ pub returns-in-Ok-clause-done : goal.returns-in-Ok-clause-done
 returns-in-Ok-clause-done g c =
     let path = c.args.path.now in
     let w = c.write_cycled in
-    subst (λ (made : Result Cycled Halted). OnOk w.result (IsWrittenNext (g.D.Dumps.gives c.args.dumps.now path) g.D.Writer.Write.contents
+    subst (λ (made : Result Cycled PrintedHalt). OnOk w.result (IsWrittenNext (g.D.Dumps.gives c.args.dumps.now path) g.D.Writer.Write.contents
     (g.O.Write.contents (inner_of c.args.out.now).now) (g.O.Write.contents (inner_of w.new.out).now) made)) (sym c.in-Ok.is)
     (ok_both w.result _ _ w.ensures.written w.ensures.printed)
 
@@ -20,7 +20,7 @@ pub returns-in-Ok-clause-cause : goal.returns-in-Ok-clause-cause
 returns-in-Ok-clause-cause g c =
     let path = c.args.path.now in
     let w = c.write_cycled in
-    subst (λ (made : Result Cycled Halted). IfErr w.result (RefusesWriting (g.D.Dumps.lacks c.args.dumps.now path) (g.D.Dumps.gives c.args.dumps.now path) g.D.Writer.Write.contents
+    subst (λ (made : Result Cycled PrintedHalt). IfErr w.result (RefusesWriting (g.D.Dumps.lacks c.args.dumps.now path) (g.D.Dumps.gives c.args.dumps.now path) g.D.Writer.Write.contents
     (g.O.Write.contents (inner_of c.args.out.now).now) (g.O.Write.contents (inner_of w.new.out).now) made)) (sym c.in-Ok.is) w.ensures.cause
 
 -- It was halted.
@@ -28,14 +28,14 @@ pub returns-in-Err-clause-done : goal.returns-in-Err-clause-done
 returns-in-Err-clause-done g c =
     let path = c.args.path.now in
     let p = c.print_halted in
-    subst (λ (made : Result Cycled Halted). OnOk p.result (IsWrittenNext (g.D.Dumps.gives c.args.dumps.now path) g.D.Writer.Write.contents
+    subst (λ (made : Result Cycled PrintedHalt). OnOk p.result (IsWrittenNext (g.D.Dumps.gives c.args.dumps.now path) g.D.Writer.Write.contents
     (g.O.Write.contents (inner_of c.args.out.now).now) (g.O.Write.contents (inner_of p.new.out).now) made)) (sym c.in-Err.is) p.ensures.never
 
 pub returns-in-Err-clause-cause : goal.returns-in-Err-clause-cause
 returns-in-Err-clause-cause g c =
     let path = c.args.path.now in
     let p = c.print_halted in
-    subst (λ (made : Result Cycled Halted). IfErr p.result (RefusesWriting (g.D.Dumps.lacks c.args.dumps.now path) (g.D.Dumps.gives c.args.dumps.now path) g.D.Writer.Write.contents
+    subst (λ (made : Result Cycled PrintedHalt). IfErr p.result (RefusesWriting (g.D.Dumps.lacks c.args.dumps.now path) (g.D.Dumps.gives c.args.dumps.now path) g.D.Writer.Write.contents
     (g.O.Write.contents (inner_of c.args.out.now).now) (g.O.Write.contents (inner_of p.new.out).now) made)) (sym c.in-Err.is) p.ensures.cause
 
 pub returns-in-Err-clause-unmade : goal.returns-in-Err-clause-unmade

@@ -1,7 +1,7 @@
 use Rattle.std.proofs.Common.{IfErr, OnOk, Result, subst, sym}
 use Rattle.heap_layout.specs.Counted.{inner_of}
 use Rattle.commands.specs.Outcomes.{IsWritten, RefusesOutcome}
-use Rattle.commands.specs.declared.replays.Halted.{Halted}
+use Rattle.commands.specs.declared.replays.PrintedHalt.{PrintedHalt}
 use Rattle.commands.specs.declared.replays.Replayed.{Replayed}
 use Rattle.commands.proofs.ReplayRuns.{ok_both, uncreated_anyway}
 use Rattle.commands.proofs.replay.write_outcome.Goals as goal
@@ -11,7 +11,7 @@ pub returns-in-Ok-clause-done : goal.returns-in-Ok-clause-done
 returns-in-Ok-clause-done g c =
     let asked = c.args.asked in
     let w = c.write_run in
-    subst (λ (o : Result Replayed Halted). OnOk w.result (IsWritten (g.D.Dumps.gives c.args.dumps.now asked.dump.now) g.D.Writer.Write.contents asked.mutators asked.fresh
+    subst (λ (o : Result Replayed PrintedHalt). OnOk w.result (IsWritten (g.D.Dumps.gives c.args.dumps.now asked.dump.now) g.D.Writer.Write.contents asked.mutators asked.fresh
     (g.O.Write.contents (inner_of c.args.out.now).now) (g.O.Write.contents (inner_of w.new.out).now) o)) (sym c.in-Ok.is)
     (ok_both w.result _ _ w.ensures.written w.ensures.printed)
 
@@ -19,7 +19,7 @@ pub returns-in-Ok-clause-cause : goal.returns-in-Ok-clause-cause
 returns-in-Ok-clause-cause g c =
     let asked = c.args.asked in
     let w = c.write_run in
-    subst (λ (o : Result Replayed Halted). IfErr w.result (RefusesOutcome (g.D.Dumps.lacks c.args.dumps.now asked.dump.now) (g.D.Dumps.gives c.args.dumps.now asked.dump.now)
+    subst (λ (o : Result Replayed PrintedHalt). IfErr w.result (RefusesOutcome (g.D.Dumps.lacks c.args.dumps.now asked.dump.now) (g.D.Dumps.gives c.args.dumps.now asked.dump.now)
     g.D.Writer.Write.contents asked.mutators asked.fresh (g.O.Write.contents (inner_of c.args.out.now).now) (g.O.Write.contents (inner_of w.new.out).now) o)) (sym c.in-Ok.is) w.ensures.cause
 
 -- It was halted.
@@ -27,14 +27,14 @@ pub returns-in-Err-clause-done : goal.returns-in-Err-clause-done
 returns-in-Err-clause-done g c =
     let asked = c.args.asked in
     let p = c.print_halted in
-    subst (λ (o : Result Replayed Halted). OnOk p.result (IsWritten (g.D.Dumps.gives c.args.dumps.now asked.dump.now) g.D.Writer.Write.contents asked.mutators asked.fresh
+    subst (λ (o : Result Replayed PrintedHalt). OnOk p.result (IsWritten (g.D.Dumps.gives c.args.dumps.now asked.dump.now) g.D.Writer.Write.contents asked.mutators asked.fresh
     (g.O.Write.contents (inner_of c.args.out.now).now) (g.O.Write.contents (inner_of p.new.out).now) o)) (sym c.in-Err.is) p.ensures.never
 
 pub returns-in-Err-clause-cause : goal.returns-in-Err-clause-cause
 returns-in-Err-clause-cause g c =
     let asked = c.args.asked in
     let p = c.print_halted in
-    subst (λ (o : Result Replayed Halted). IfErr p.result (RefusesOutcome (g.D.Dumps.lacks c.args.dumps.now asked.dump.now) (g.D.Dumps.gives c.args.dumps.now asked.dump.now)
+    subst (λ (o : Result Replayed PrintedHalt). IfErr p.result (RefusesOutcome (g.D.Dumps.lacks c.args.dumps.now asked.dump.now) (g.D.Dumps.gives c.args.dumps.now asked.dump.now)
     g.D.Writer.Write.contents asked.mutators asked.fresh (g.O.Write.contents (inner_of c.args.out.now).now) (g.O.Write.contents (inner_of p.new.out).now) o)) (sym c.in-Err.is) p.ensures.cause
 
 pub returns-in-Err-clause-uncreated : goal.returns-in-Err-clause-uncreated

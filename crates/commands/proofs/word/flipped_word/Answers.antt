@@ -1,5 +1,5 @@
 use Rattle.comp_mutator.specs.Mutators.{cells_of}
-use Rattle.comp_mutator.specs.Cells.{steps_of}
+use Rattle.comp_mutator.specs.CellViews.{steps_of}
 use Rattle.commands.proofs.Copied.{first_is_new}
 use Rattle.commands.proofs.word.flipped_word.Goals as goal
 

@@ -3,7 +3,7 @@ use Rattle.heap_layout.specs.Header.{header_of, size_of, Head}
 use Rattle.heap_layout.specs.declared.edition.Edition.{Edition}
 use Rattle.cell_steps.specs.Setup.{address}
 use Rattle.cell_steps.specs.Passes.{KnowsFresh, seen}
-use Rattle.page_cells.specs.Cells.{setup_of}
+use Rattle.page_cells.specs.CellViews.{setup_of}
 use Rattle.page_cells.specs.Objects.{page_at, HasShape, HasFields}
 use Rattle.comp_access.specs.Reads.{BuildsNothing}
 use Rattle.comp_access.proofs.FieldAddresses as places

@@ -7,8 +7,8 @@ use Rattle.comp_dump.specs.Dumped.{BuiltPage, Dumped}
 use Rattle.audit_checks.specs.Reported.{faults_for, IsFirst, Reports}
 use Rattle.comp_audit.specs.Judged.{faults}
 use Rattle.comp_dump.specs.declared.fault.AuditFault.{AuditFault}
-use Rattle.audit_checks.specs.declared.fault.Stop.{Stop}
-use Rattle.audit_checks.specs.declared.fault.Stop.TheVariants as stop
+use Rattle.audit_checks.specs.declared.fault.CheckEnd.{CheckEnd}
+use Rattle.audit_checks.specs.declared.fault.CheckEnd.TheVariants as stop
 use Rattle.comp_audit.proofs.auditing.audit.Goals as goal
 
 -- the faults of a dump are those of its parts
@@ -25,11 +25,11 @@ parts_faults heap dump edition fresh mutators roots builds pages total e f m r b
     ∙ ap (λ (n : ℕ). faults_for (setup_for heap dump.fresh dump.mutators) dump.edition dump.roots dump.builds dump.pages n) t
 
 -- the fault that is answered is the first
-reported_first : (list all : List AuditFault) (result : Result (Unit {0}) Stop) (why : Stop) (fault : AuditFault) → result ≡ Err why → why ≡ stop.Fault fault → list ≡ all
+reported_first : (list all : List AuditFault) (result : Result (Unit {0}) CheckEnd) (why : CheckEnd) (fault : AuditFault) → result ≡ Err why → why ≡ stop.Fault fault → list ≡ all
     → Reports list result → IsFirst all fault
 reported_first list all result why fault is was same reported =
-    let early : Reports list (Err why) = subst (λ (r : Result (Unit {0}) Stop). Reports list r) is reported in
-    let first : IsFirst list fault = subst (λ (w : Stop). Reports list (Err w)) was early in
+    let early : Reports list (Err why) = subst (λ (r : Result (Unit {0}) CheckEnd). Reports list r) is reported in
+    let first : IsFirst list fault = subst (λ (w : CheckEnd). Reports list (Err w)) was early in
     subst (λ (l : List AuditFault). IsFirst l fault) same first
 
 pub returns-in-Ok : goal.returns-in-Ok

@@ -4,7 +4,7 @@ use Rattle.comp_mutator.proofs.Rows.{at_below}
 use Rattle.comp_mutator.specs.Mutators.{pass_of, setup_of}
 use Rattle.comp_sweep.specs.Sweeps.{SeesRegions, Sweeps}
 use Rattle.comp_sweep.proofs.Resting.{knows_rest, long_rest, of_rest, out_rest, same_rest, seen_at, seen_rest, swept_rest, tally_rest}
-use Rattle.comp_sweep.proofs.Told.{none_swept}
+use Rattle.comp_sweep.proofs.SweepAnswers.{none_swept}
 use Rattle.comp_sweep.proofs.concluding.sweep_rest.Goals as goal
 
 pub loop-k-init : goal.loop-k-init
@@ -13,7 +13,7 @@ loop-k-init g c = record {
   same = refl;
   seen = c.requires.seen;
   tally = λ x. refl;
-  out = λ j lot lt at. absurd (omega (arith, lt));
+  out = λ j queue lt at. absurd (omega (arith, lt));
 }
 
 pub index_mut-m-requires : goal.index_mut-m-requires
@@ -60,31 +60,31 @@ loop-k-preserved g c =
     let inv = c.loop-k.invariant in
     let k = c.loop-k.k in
     let ms = c.loop-k.mutators.items in
-    let os = c.loop-k.lots.items in
+    let os = c.loop-k.queues.items in
     let ls = c.loop-k.regions.items in
     let long = AllZip-long (Sweeps c.args.space.now) c.args.mutators.now.items ms inv.swept in
     let inside : k < length ms = omega (arith, long, c.loop-k-test.true, c.len-k-end.ensures, c.args.mutators.now.ok) in
-    let inside_lots : k < length os = omega (arith, inside, long, long_rest os c.args.lots.now.items inv.same, c.requires.count) in
+    let inside_queues : k < length os = omega (arith, inside, long, long_rest os c.args.queues.now.items inv.same, c.requires.count) in
     let inside_lists : k < length ls = omega (arith, inside, AllZip-long (SeesRegions u) ms ls inv.seen) in
-    let o = c.index_mut-lot.result.now in
-    let n = c.sweep_left.new.lot in
-    let eo = c.index_mut-lot.ensures.value in
+    let o = c.index_mut-queue.result.now in
+    let n = c.sweep_left.new.queue in
+    let eo = c.index_mut-queue.ensures.value in
     let listed = c.in_ok-sweep_left.ensures.listed in record {
       swept = swept_rest c.args.space.now c.args.mutators.now.items ms k c.index_mut-m.result.now inside c.index_mut-m.ensures.value inv.swept c.sweep_left.new.m c.sweep_left.ensures.sweeps;
-      same = same_rest os k o n inside_lots eo c.args.lots.now.items c.sweep_left.ensures.lot inv.same;
+      same = same_rest os k o n inside_queues eo c.args.queues.now.items c.sweep_left.ensures.queue inv.same;
       seen = seen_rest u ms ls k inv.seen c.sweep_left.new.m c.sweep_left.new.regions listed.seen;
-      tally = tally_rest os k o n inside_lots eo u (pass_of c.sweep_left.new.m) c.args.lots.now.items c.args.regions.now.items ls c.index_mut-list.result.now c.sweep_left.new.regions
+      tally = tally_rest os k o n inside_queues eo u (pass_of c.sweep_left.new.m) c.args.queues.now.items c.args.regions.now.items ls c.index_mut-list.result.now c.sweep_left.new.regions
           inside_lists c.index_mut-list.ensures.value listed inv.tally;
-      out = out_rest os k o n inside_lots eo inv.out c.in_ok-sweep_left.ensures.out;
+      out = out_rest os k o n inside_queues eo inv.out c.in_ok-sweep_left.ensures.out;
     }
 
 pub returns-clause-rest : goal.returns-clause-rest
 returns-clause-rest g c =
     let inv = c.loop-k.invariant in
-    let os = c.loop-k.lots.items in record {
+    let os = c.loop-k.queues.items in record {
       same = inv.same;
       seen = inv.seen;
       tally = inv.tally;
-      out = λ j lot at.
-          inv.out j lot (omega (arith, at_below os j lot at, long_rest os c.args.lots.now.items inv.same, c.requires.count, c.loop-k-test.false, c.len-k-end.ensures, c.args.mutators.now.ok)) at;
+      out = λ j queue at.
+          inv.out j queue (omega (arith, at_below os j queue at, long_rest os c.args.queues.now.items inv.same, c.requires.count, c.loop-k-test.false, c.len-k-end.ensures, c.args.mutators.now.ok)) at;
     }

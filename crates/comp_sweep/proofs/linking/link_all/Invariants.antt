@@ -1,5 +1,5 @@
-use Rattle.comp_sweep.specs.Lots.{HasLinked}
+use Rattle.comp_sweep.specs.Queues.{HasLinked}
 use Rattle.comp_sweep.proofs.linking.link_all.Given as goal
 
 abbrev pub invariant-loop-step : goal.invariant-loop-step
-invariant-loop-step l = HasLinked l.initial.lots.items l.lots.items
+invariant-loop-step l = HasLinked l.initial.queues.items l.queues.items

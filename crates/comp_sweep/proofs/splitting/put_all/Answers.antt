@@ -4,14 +4,14 @@ use Rattle.comp_sweep.proofs.splitting.put_all.Goals as goal
 
 pub loop-region-preserved : goal.loop-region-preserved
 loop-region-preserved c =
-    let lots = c.loop-region.lots.items in
+    let queues = c.loop-region.queues.items in
     let at = c.loop-region.region % c.len.result in
-    let inside : at < length lots = search rules in
-    let old = c.index_mut-lot.result.now in
+    let inside : at < length queues = search rules in
+    let old = c.index_mut-queue.result.now in
     let new = c.put.new.self in
-    let is = c.index_mut-lot.ensures.value in
+    let is = c.index_mut-queue.ensures.value in
     let put = c.in_ok-put.ensures in record {
-      count = length-set lots at new ∙ c.loop-region.invariant.count;
-      dealt = put_next lots at old new inside is c.loop-region.region put.still put.ways put.out put.put c.loop-region.invariant.dealt;
-      taken = λ x. taken_same lots at old new inside is x (put.taken x) ∙ c.loop-region.invariant.taken x;
+      count = length-set queues at new ∙ c.loop-region.invariant.count;
+      distributed = put_next queues at old new inside is c.loop-region.region put.still put.ways put.out put.put c.loop-region.invariant.distributed;
+      taken = λ x. taken_same queues at old new inside is x (put.taken x) ∙ c.loop-region.invariant.taken x;
     }

@@ -1,5 +1,5 @@
 use Rattle.std.proofs.Common.{◌<◌, map, subst, sym}
-use Rattle.page_cells.specs.Cells.{steps_of, AreNew}
+use Rattle.page_cells.specs.CellViews.{steps_of, AreNew}
 use Rattle.comp_mutator.specs.Mutators.{cells_of, pass_of, setup_of}
 use Rattle.proved_clients.proofs.AfterSweeps.{still_row, there}
 use Rattle.proved_clients.proofs.swept.sweep_and_finish.Goals as goal

@@ -1,6 +1,6 @@
 use Rattle.std.proofs.Common.{rules, get_or, sym, subst, ◌∙◌}
 use Rattle.comp_mutator.proofs.Sums.{is_inside, read_at}
-use Rattle.trace_race.specs.Runners.{HasRun, IsReady}
+use Rattle.trace_race.specs.Runners.{RanItsLines, IsReady}
 use Rattle.trace_steps.proofs.Elements.{at_or}
 use Rattle.trace_race.proofs.racing.run_all.Goals as goal
 
@@ -14,5 +14,5 @@ returns-clause-ran g c k before after at now =
     let e = (c.for_each_mut.ensures k before (is_inside c.args.runners.now k before at)).1 in
     let old = e.argument_is ∙ read_at c.args.runners.now k before before at in
     let new = e.left ∙ read_at c.for_each_mut.new.s k after before now in
-    subst (λ r. HasRun c.args.space.now c.args.lines.now r after) old
-    (subst (λ r. HasRun c.args.space.now c.args.lines.now e.argument.now r) new e.call)
+    subst (λ r. RanItsLines c.args.space.now c.args.lines.now r after) old
+    (subst (λ r. RanItsLines c.args.space.now c.args.lines.now e.argument.now r) new e.call)

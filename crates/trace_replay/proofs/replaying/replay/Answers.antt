@@ -2,7 +2,7 @@ use Rattle.std.proofs.Common.{◌≡◌, ◌<◌, List, length, sym, ap, subst, 
 use Rattle.std.specs.Prelude.{IfErr, IfOk, OnOk}
 use Rattle.comp_mutator.specs.Mutators.{setup_of}
 use Rattle.comp_mutator.specs.declared.mutator.Mutator.{Mutator}
-use Rattle.trace_steps.specs.Deeds.{HaveStart}
+use Rattle.trace_steps.specs.WrittenEntries.{HaveStart}
 use Rattle.trace_steps.specs.AllMutators.{AreAll}
 use Rattle.trace_steps.specs.Rounds.{AreLater}
 use Rattle.trace_replay.specs.Replays.{HaveReplayed, HaveStopped, IsRefusal, RanNothing}

@@ -8,8 +8,8 @@ use Rattle.comp_mutator.proofs.Sums.{there_at}
 use Rattle.comp_mutator.specs.Mutators.{setup_of}
 use Rattle.trace_steps.specs.Acting.{null_registers}
 use Rattle.trace_steps.specs.Builds.{is_built}
-use Rattle.trace_steps.specs.Deeds.{deeds_of}
-use Rattle.trace_replay.specs.Replays.{RanTo, StandsAt}
+use Rattle.trace_steps.specs.WrittenEntries.{written_by_each}
+use Rattle.trace_replay.specs.Replays.{RanTo, HasReplayed}
 use Rattle.trace_replay.specs.Runs.{beginning}
 use Rattle.trace_steps.specs.Lines.{with_entries}
 use Rattle.trace_text.specs.declared.line.Action.TheVariants.{Root}
@@ -28,7 +28,7 @@ loop-j-init g c =
     let v = c.in-Ok.ensures in
     let n = length c.args.mutators.now in
     let u = setup_of c.args.space.now in
-    let first = deeds_of c.args.mutators.now in
+    let first = written_by_each c.args.mutators.now in
     let items = c.in-Ok-all_null.registers.items in
     record {
       all = c.requires.all;
@@ -37,7 +37,7 @@ loop-j-init g c =
       first = λ z k lt. refl;
       start = λ some. absurd (omega (arith, some));
       room = (omega (arith, ap length v.items), v.capacity);
-      stands = λ start have. (beginning, subst (λ (l : List Shown). StandsAt u n start first first [] items l beginning) (sym v.items) (stands_first u n start first items have c.in-Ok-all_null.ensures), λ built. built, λ p there. cc);
+      stands = λ start have. (beginning, subst (λ (l : List Shown). HasReplayed u n start first first [] items l beginning) (sym v.items) (stands_first u n start first items have c.in-Ok-all_null.ensures), λ built. built, λ p there. cc);
       empty = λ none. (v.items, refl);
       seen = λ some. absurd (omega (arith, some));
     }
@@ -61,24 +61,24 @@ returns-in-Err-clause-stopped g c = λ start have.
     let lt : j < length lines = c.loop-j-test.true in
     let one : Line = get_or lines j no_line in
     let h = i.stands start have in
-    let given = restand u n (length c.loop-j.mutators) start (deeds_of olds) (deeds_of c.loop-j.mutators) (take j lines) c.loop-j.registers.items c.deref_mut.result.now c.loop-j.shown.items h.0 (sym i.later.count)
+    let given = restand u n (length c.loop-j.mutators) start (written_by_each olds) (written_by_each c.loop-j.mutators) (take j lines) c.loop-j.registers.items c.deref_mut.result.now c.loop-j.shown.items h.0 (sym i.later.count)
     (sym c.deref_mut.ensures.value) h.1 in
-    let cause = e.refused start (deeds_of olds) (take j lines) h.0 given in
+    let cause = e.refused start (written_by_each olds) (take j lines) h.0 given in
     let inside : one.mutator < length c.loop-j.mutators = let fits = c.requires.lines j no_line lt in omega (arith, fits.0, i.later.count, c.requires.all.count) in
     let m = there_at c.loop-j.mutators one.mutator inside in
     let since = refused_since u one.mutator olds c.loop-j.mutators news (with_entries start h.0.added) one.action (h.0.registers one.mutator) c.in-Err.refusal i.later cause
     (λ (x : Pass). (p : ℕ) → is_built h.0.built p ≡ true → HasSeenBuilt x p) (λ p there. (cause.began m.0 m.1).built p (h.3 p there one.mutator m.0 m.1)) in
-    let ran = ran_to u n start (deeds_of olds) (deeds_of c.loop-j.mutators) (deeds_of news) (take j lines) c.loop-j.shown.items h.0 h.1.ran (λ k le. e.did.0 k (omega (arith, le, i.later.count))) in
+    let ran = ran_to u n start (written_by_each olds) (written_by_each c.loop-j.mutators) (written_by_each news) (take j lines) c.loop-j.shown.items h.0 h.1.ran (λ k le. e.did.0 k (omega (arith, le, i.later.count))) in
     record {
       count = j;
       number_is = refl;
       line = one;
       there = at_or lines j no_line lt;
       end = h.0;
-      ran = subst (λ (l : List Shown). RanTo u n start (deeds_of olds) (deeds_of news) (take j lines) l h.0) (sym e.did.1) ran;
+      ran = subst (λ (l : List Shown). RanTo u n start (written_by_each olds) (written_by_each news) (take j lines) l h.0) (sym e.did.1) ran;
       cause = since.0;
       built = since.1;
-      seen = seen_there u start (deeds_of olds) (deeds_of c.loop-j.mutators) (take j lines) c.loop-j.registers.items c.loop-j.shown.items n news h.0 e.seen (e.later.count ∙ i.later.count)
+      seen = seen_there u start (written_by_each olds) (written_by_each c.loop-j.mutators) (take j lines) c.loop-j.registers.items c.loop-j.shown.items n news h.0 e.seen (e.later.count ∙ i.later.count)
           (λ k le. e.did.0 k (omega (arith, le, i.later.count))) h.1;
     }
 
@@ -114,13 +114,13 @@ loop-j-preserved g c =
       room = (omega (arith, e.room.1, i.room.0), omega (arith, e.room.0, i.room.1));
       stands = λ start have.
           let h = i.stands start have in
-          let given = restand u n (length c.loop-j.mutators) start (deeds_of olds) (deeds_of c.loop-j.mutators) (take j lines) c.loop-j.registers.items c.deref_mut.result.now c.loop-j.shown.items h.0 (sym i.later.count)
+          let given = restand u n (length c.loop-j.mutators) start (written_by_each olds) (written_by_each c.loop-j.mutators) (take j lines) c.loop-j.registers.items c.deref_mut.result.now c.loop-j.shown.items h.0 (sym i.later.count)
           (sym c.deref_mut.ensures.value) h.1 in
           let counted : j + 1 ≡ 1 + length (take j lines) = omega (arith, length-take-le j lines (omega (arith, lt))) in
-          let next = e.ran start (deeds_of olds) (take j lines) h.0 counted given in
-          let there = restand u (length c.loop-j.mutators) n start (deeds_of olds) (deeds_of new.mutators) (take j lines ++ one ∷ []) new.registers written new.shown.items next.0 i.later.count (sym back) next.1 in (
+          let next = e.ran start (written_by_each olds) (take j lines) h.0 counted given in
+          let there = restand u (length c.loop-j.mutators) n start (written_by_each olds) (written_by_each new.mutators) (take j lines ++ one ∷ []) new.registers written new.shown.items next.0 i.later.count (sym back) next.1 in (
             next.0,
-            subst (λ (ls : List Line). StandsAt u n start (deeds_of olds) (deeds_of new.mutators) ls written new.shown.items next.0) (sym (take_more lines j no_line lt)) there,
+            subst (λ (ls : List Line). HasReplayed u n start (written_by_each olds) (written_by_each new.mutators) ls written new.shown.items next.0) (sym (take_more lines j no_line lt)) there,
             λ none. next.2 (h.2 none),
             next.3 h.3,
           );
@@ -135,9 +135,9 @@ returns-clause-ran g c = λ start have.
     let h = c.loop-j.invariant.stands start have in
     let all : take c.loop-j.j c.args.lines.now ≡ c.args.lines.now = take_all c.loop-j.j c.args.lines.now c.loop-j-test.false in (
       h.0,
-      subst (λ (ls : List Line). RanTo u (length olds) start (deeds_of olds) (deeds_of c.loop-j.mutators) ls c.loop-j.shown.items h.0) all h.1.ran,
+      subst (λ (ls : List Line). RanTo u (length olds) start (written_by_each olds) (written_by_each c.loop-j.mutators) ls c.loop-j.shown.items h.0) all h.1.ran,
       h.2,
-      λ some. seen_there u start (deeds_of olds) (deeds_of c.loop-j.mutators) (take c.loop-j.j c.args.lines.now) c.loop-j.registers.items c.loop-j.shown.items (length olds) c.loop-j.mutators h.0
+      λ some. seen_there u start (written_by_each olds) (written_by_each c.loop-j.mutators) (take c.loop-j.j c.args.lines.now) c.loop-j.registers.items c.loop-j.shown.items (length olds) c.loop-j.mutators h.0
           (c.loop-j.invariant.seen (omega (arith, some, c.loop-j-test.false))) c.loop-j.invariant.later.count (λ k lt. refl) h.1,
     )
 

@@ -2,9 +2,9 @@ use Rattle.std.proofs.Common.{◌≡◌, ◌<◌, ◌≤◌, length, take, vec_c
 use Rattle.comp_mutator.specs.Locks.{Journals}
 use Rattle.comp_mutator.specs.Mutators.{setup_of}
 use Rattle.trace_steps.specs.Builds.{HaveSeenBuilt}
-use Rattle.trace_steps.specs.Deeds.{deeds_of, HaveAll, HaveSeenAll, HaveStart}
+use Rattle.trace_steps.specs.WrittenEntries.{written_by_each, HaveAll, HaveSeenAll, HaveStart}
 use Rattle.trace_steps.specs.AllMutators.{AreAll}
-use Rattle.trace_replay.specs.Replays.{BuiltTo, RanNothing, StandsAt}
+use Rattle.trace_replay.specs.Replays.{BuiltTo, RanNothing, HasReplayed}
 use Rattle.trace_steps.specs.Rounds.{AreLater, DidNothing}
 use Rattle.trace_replay.specs.Runs.{Moment}
 use Rattle.trace_replay.proofs.replaying.run_lines.Given as goal
@@ -18,7 +18,7 @@ invariant-loop-j g l = record {
   start : 0 < l.j → HaveStart (setup_of l.space) l.fn.mutators;
   room : (length l.shown.items ≤ l.j) × (length l.lines ≤ vec_capacity l.shown);
   stands : (start : Journals) → HaveAll l.fn.mutators start
-      → (now : Moment) × StandsAt (setup_of l.space) (length l.fn.mutators) start (deeds_of l.fn.mutators) (deeds_of l.mutators) (take l.j l.lines) l.registers.items l.shown.items now
+      → (now : Moment) × HasReplayed (setup_of l.space) (length l.fn.mutators) start (written_by_each l.fn.mutators) (written_by_each l.mutators) (take l.j l.lines) l.registers.items l.shown.items now
       × BuiltTo l.fn.mutators l.mutators now × HaveSeenBuilt l.mutators now.built;
   empty : length l.lines ≡ 0 → RanNothing l.fn.mutators l.mutators l.shown.items;
   seen : 0 < l.j → HaveSeenAll l.mutators;

@@ -1,5 +1,5 @@
 use Rattle.std.proofs.Common.{refl, subst, arith}
-use Rattle.comp_mutator.specs.Cells.{steps_of}
+use Rattle.comp_mutator.specs.CellViews.{steps_of}
 use Rattle.comp_mutator.specs.Unfinished.{IsUnfinishedFor}
 use Rattle.comp_mutator.specs.Mutators.{cells_of, setup_of}
 use Rattle.comp_mutator.specs.declared.finishing.FinishFault.{FinishFault}

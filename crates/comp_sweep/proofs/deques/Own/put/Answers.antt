@@ -1,5 +1,5 @@
-use Rattle.comp_sweep.proofs.Deals.{dealt_put}
+use Rattle.comp_sweep.proofs.Distributions.{distributed_put}
 use Rattle.comp_sweep.proofs.deques.Own.put.Goals as goal
 
 pub push_as-requires-clause-pushes : goal.push_as-requires-clause-pushes
-push_as-requires-clause-pushes c = dealt_put _ _ c.args.self.now.port _
+push_as-requires-clause-pushes c = distributed_put _ _ c.args.self.now.port _

@@ -1,5 +1,5 @@
 use Rattle.std.proofs.Common.{◌≡◌}
-use Rattle.comp_sweep.specs.Lots.{way_deque, way_view}
+use Rattle.comp_sweep.specs.Queues.{way_deque, way_view}
 use Rattle.comp_sweep.proofs.deques.Way.steal.Given as goal
 
 abbrev pub invariant-loop : goal.invariant-loop

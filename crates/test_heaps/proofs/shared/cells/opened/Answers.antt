@@ -1,7 +1,7 @@
 use Rattle.std.proofs.Common.{ℕ, sym, subst}
 use Rattle.cell_steps.proofs.Sums.{there_at, read_at}
 use Rattle.cell_steps.specs.Passes.{Rests}
-use Rattle.page_cells.specs.Cells.{Works, IsPassOf}
+use Rattle.page_cells.specs.CellViews.{Works, IsPassOf}
 use Rattle.test_heaps.proofs.shared.cells.opened.Goals as goal
 
 pub returns : goal.returns

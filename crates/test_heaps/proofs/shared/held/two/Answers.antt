@@ -2,7 +2,7 @@ use Rattle.std.proofs.Common.{IfSome, subst}
 use Rattle.std.proofs.lemmas.List.Elements.{All-pop}
 use Rattle.cell_steps.specs.Passes.{Rests}
 use Rattle.cell_steps.specs.declared.pass.Pass.{Pass}
-use Rattle.page_cells.specs.Cells.{IsPassOf}
+use Rattle.page_cells.specs.CellViews.{IsPassOf}
 use Rattle.test_heaps.proofs.shared.held.two.Goals as goal
 
 -- the pass belongs to these cells and holds no page

@@ -2,7 +2,7 @@ use Rattle.std.proofs.Common.{◌≡◌, ℕ, ◌+◌, ◌<◌, subst, sym, arit
 use Rattle.heap_layout.specs.Header.{refs_of, weak_of, data_of}
 use Rattle.heap_layout.specs.declared.kind.Kind.TheVariants.{Data}
 use Rattle.cell_steps.specs.Lawful.{IsField}
-use Rattle.page_cells.specs.Cells.{journal_of, setup_of}
+use Rattle.page_cells.specs.CellViews.{journal_of, setup_of}
 use Rattle.page_cells.specs.Objects.{offset_at, page_at}
 use Rattle.test_heaps.proofs.shared.pages.take_and_write.Goals as goal
 

@@ -1,5 +1,5 @@
 use Rattle.cell_steps.specs.Passes.{Rests}
-use Rattle.page_cells.specs.Cells.{IsPassOf}
+use Rattle.page_cells.specs.CellViews.{IsPassOf}
 use Rattle.test_heaps.proofs.shared.rows.play.Given as goal
 
 abbrev pub invariant-loop-row : goal.invariant-loop-row
