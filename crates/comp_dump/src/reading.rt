@@ -12,6 +12,7 @@ ghost use Rattle.comp_dump.specs.DumpReading.{number, read_whole, times_read, wo
 pub(crate) mod fields;
 mod pages;
 
+use heap_layout::{MAX_MUTATORS, MAX_FRESH_PAGES, MAX_PAGES, MAX_ROOTS};
 use crate::dump::Dump;
 use crate::fault::DumpFault;
 use crate::reading::fields::{MAGIC, expect, expect_end, read_edition, read_eight, read_four};
@@ -83,10 +84,10 @@ fn read_head<R: Read>(r: &mut Counted<R>) -> Result<Head, DumpFault>
 {
     expect(r, &MAGIC)?;
     let edition = read_edition(r)?;
-    let mutators = read_four(r, 1, 64)?;
-    let fresh = read_four(r, 0, 4_096)?;
-    let pages = read_four(r, fresh, 20_480)?;
-    let roots = read_four(r, 0, 4_096)?;
+    let mutators = read_four(r, 1, MAX_MUTATORS)?;
+    let fresh = read_four(r, 0, MAX_FRESH_PAGES)?;
+    let pages = read_four(r, fresh, MAX_PAGES)?;
+    let roots = read_four(r, 0, MAX_ROOTS as u32)?;
     Ok(Head {
         edition,
         mutators: mutators as u8,

@@ -5,12 +5,9 @@ ghost use Rattle.comp_journal.specs.declared.refusal.JournalRefusal.TheVariants.
 use crate::base_words::keep;
 use crate::entry::Entry;
 use crate::refusal::JournalRefusal;
-use heap_layout::{PAGE_WORDS, PageWords};
+use heap_layout::{MAX_ENTRIES, PAGE_WORDS, PageWords};
 use std::alloc::Global;
 use std::marker::Model;
-
-/// The most entries that a journal may have.
-pub const MAX_ENTRIES: usize = 1_024;
 
 /// A page with its journal. Its words are the base with all writes of the journal applied in order.
 #[derive(Debug, Drop)]

@@ -10,22 +10,8 @@ use crate::edition::Edition;
 use crate::fault::LayoutFault;
 use crate::header::Header;
 use crate::kind::Kind;
+use crate::limits::{FROM_SPACE, MAX_MARKS, MAX_OBJECT_WORDS, MAX_ROOTS, MAX_WORDS};
 use crate::targets::Targets;
-
-/// The most words that a heap may have.
-pub const MAX_WORDS: usize = 1_048_576;
-
-/// The most marks that a heap may have.
-pub const MAX_MARKS: usize = 1_048_576;
-
-/// The most roots that a heap may have.
-pub const MAX_ROOTS: usize = 4_096;
-
-/// The most words that an object may have, with its header.
-pub const MAX_OBJECT_WORDS: usize = 1_024;
-
-/// The address of from-space word 0.
-pub const FROM_SPACE: u64 = 4_294_967_296;
 
 /// Checks a heap made of these parts: Ok if it is accepted, otherwise Err with its first fault.
 pub fn check(

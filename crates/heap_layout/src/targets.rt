@@ -6,7 +6,8 @@ ghost use Rattle.heap_layout.specs.Heap.{is_target, starts};
 ghost use Rattle.heap_layout.specs.Faults.{object_faults};
 
 use crate::bits::{is_set, set, set_if};
-use crate::checks::{FROM_SPACE, MAX_WORDS};
+use crate::limits::FROM_SPACE;
+use crate::limits::MAX_WORDS;
 use crate::edition::Edition;
 use crate::header::Header;
 use std::marker::Model;

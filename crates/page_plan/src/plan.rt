@@ -4,7 +4,7 @@ ghost use Rattle.mark_tables.specs.LiveWords.{live_indices};
 ghost use Rattle.page_plan.specs.Planned.{AreFirst, AreStarts};
 ghost use Rattle.page_plan.specs.Sliding.{first_object, forward, kind, live_words, page, pages, shape_at, to_address, HasObject, slid_words, IsPartFrom};
 
-use crate::forwarding::TO_SPACE;
+use heap_layout::TO_SPACE;
 use crate::first_objects;
 use crate::page_builder;
 use crate::forwarding;

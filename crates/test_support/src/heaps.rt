@@ -5,11 +5,7 @@ use std::alloc::{AllocError, Global};
 use std::test::Fail;
 use std::thread::Threads;
 
-/// The address of from-space word 0.
-pub const F: u64 = 4_294_967_296;
-
-/// The address of to-space word 0.
-pub const T: u64 = 8_589_934_592;
+pub use heap_layout::{FROM_SPACE as F, TO_SPACE as T};
 
 /// Three objects. The first and the last are marked.
 pub const THREE: [u64; 7] = [
