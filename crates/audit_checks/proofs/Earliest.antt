@@ -22,7 +22,7 @@ use Rattle.audit_checks.proofs.Entries.{stamp_below}
 abbrev pub at_stamp : Late → ℕ → List AuditFault
 at_stamp late s = unless (not (eqb late.stamp s)) (BadEntry late.page late.number)
 
-both_none : (one others : List AuditFault) → one ≡ [] → others ≡ [] → one ++ others ≡ []
+pub both_none : (one others : List AuditFault) → one ≡ [] → others ≡ [] → one ++ others ≡ []
 both_none one others p q = rw (p, q) refl
 
 -- functions with the same faults have the same earliest entry

@@ -43,12 +43,10 @@ use Rattle.audit_checks.proofs.Ranges.{none_in_range}
 use Rattle.audit_checks.proofs.Built.{none_built}
 use Rattle.comp_audit.proofs.Clock.{stamps_counted, stamps_long}
 use Rattle.comp_audit.proofs.Sound.{page_long, total_merged}
+use Rattle.audit_checks.proofs.Earliest.{both_none}
 
 holds : (b : Bool) (fault : AuditFault) → b ≡ true → unless b fault ≡ []
 holds b fault e = rw e refl
-
-join : (one others : List AuditFault) → one ≡ [] → others ≡ [] → one ++ others ≡ []
-join one others p q = rw (p, q) refl
 
 claim_tested : (builds : List (List ℕ)) (p : ℕ) (kept : Option BuiltPage) → named p builds ≡ built_count kept → is_claimed builds (p, kept) ≡ true
 claim_tested builds p None e = eq-eqb _ _ e
@@ -251,6 +249,6 @@ lawful_is_yes heap dump stored lawful =
     let sum : dump.total ≡ live_words (live heap) + allocated heap.edition (all (length records)) =
     lawful.total ∙ ap (λ (n : ℕ). live_words (live heap) + n) (total_merged u (journals_in records) ∙ ap (λ (n : ℕ). allocated heap.edition (all n)) here) in
     let total : total_faults heap dump.total records ≡ [] = holds (eqb dump.total (live_words (live heap) + allocated heap.edition (all (length records)))) WrongTotal (eq-eqb _ _ sum) in
-    join _ _ head
-    (join _ _ (join _ _ builds (join _ _ (no_entries u dump lawful long) (no_wrong_words u dump lawful long)))
-    (join _ _ (join _ _ loose (join _ _ repeats (join _ _ missing late))) total))
+    both_none _ _ head
+    (both_none _ _ (both_none _ _ builds (both_none _ _ (no_entries u dump lawful long) (no_wrong_words u dump lawful long)))
+    (both_none _ _ (both_none _ _ loose (both_none _ _ repeats (both_none _ _ missing late))) total))

@@ -23,3 +23,4 @@ pub use Rattle.comp_history.proofs.Heads
 pub use Rattle.comp_history.proofs.LastWord
 pub use Rattle.comp_history.proofs.Leading
 pub use Rattle.comp_history.proofs.Legal
+pub use Rattle.comp_history.proofs.Heaps

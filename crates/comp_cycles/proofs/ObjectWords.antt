@@ -1,40 +1,16 @@
 -- The words of an object, with one function applied to its references and weak words. The header and the data words
 -- stay.
-use Rattle.std.proofs.Common.{◌≡◌, ℕ, zero, suc, ◌+◌, ◌-◌, ◌<◌, ◌≤◌, List, ◌∷◌, ◌++◌, length, get_or, take, drop, map, sym, ap, ◌∙◌, arith, length-append, length-drop, length-take, drop-drop}
+use Rattle.std.proofs.Common.{◌≡◌, ℕ, zero, suc, ◌+◌, ◌-◌, ◌<◌, ◌≤◌, List, ◌∷◌, ◌++◌, length, get_or, take, drop, map, sym, ap, ◌∙◌, arith, drop-drop}
 use Rattle.std.proofs.Math.Seq.{take-add}
-use Rattle.std.proofs.lemmas.List.{length-map, map-append, get_or-map, get_or-take, get_or-drop, get_or_append_left, get_or-append_right}
+use Rattle.std.proofs.lemmas.List.{map-append}
 use Rattle.heap_layout.specs.Header.{refs_of, weak_of, data_of, size_of}
 use Rattle.heap_layout.specs.declared.edition.Edition.{Edition}
 use Rattle.heap_layout.specs.Heap.{Object, header_at, object_at, IsPlaced}
+use Rattle.page_plan.proofs.Objects.{at-data, length-parts, at-reference}
 
 -- the words, with g applied to the references and weak words
 abbrev pub words_by : (ℕ → ℕ) → Object → List ℕ
 words_by g object = object.header.word ∷ (map g object.references ++ map g object.weak ++ object.data_words)
-
--- words that are changed, and then words that stay
-length-parts : (words : List ℕ) (g : ℕ → ℕ) (i refs more : ℕ) → i + (1 + refs + more) ≤ length words
-    → length (map g (take refs (drop (i + 1) words)) ++ take more (drop (i + 1 + refs) words)) ≡ refs + more
-length-parts words g i refs more within = simp (length-append, length-map, length-take, length-drop) (omega arith)
-
-at-reference : (words : List ℕ) (g : ℕ → ℕ) (i refs more f : ℕ) → i + (1 + refs + more) ≤ length words → f < refs
-    → get_or (map g (take refs (drop (i + 1) words)) ++ take more (drop (i + 1 + refs) words)) f 0 ≡ g (get_or words (i + 1 + f) 0)
-at-reference words g i refs more f within lt =
-    let references = take refs (drop (i + 1) words) in
-    let long : length references ≡ refs = simp (length-take, length-drop) (omega arith) in
-    get_or_append_left (map g references) _ 0 f (omega (arith, length-map references g))
-    ∙ get_or-map g references f 0 0 (omega arith)
-    ∙ ap g (get_or-take refs (drop (i + 1) words) f 0 lt ∙ get_or-drop (i + 1) words f 0)
-
-at-data : (words : List ℕ) (g : ℕ → ℕ) (i refs more f : ℕ) → i + (1 + refs + more) ≤ length words → refs ≤ f → f < refs + more
-    → get_or (map g (take refs (drop (i + 1) words)) ++ take more (drop (i + 1 + refs) words)) f 0 ≡ get_or words (i + 1 + f) 0
-at-data words g i refs more f within above lt =
-    let references = take refs (drop (i + 1) words) in
-    let long : length (map g references) ≡ refs = simp (length-map, length-take, length-drop) (omega arith) in
-    let same : i + 1 + refs + (f - refs) ≡ i + 1 + f = omega arith in
-    get_or-append_right (map g references) _ refs f 0 long above
-    ∙ get_or-take more (drop (i + 1 + refs) words) (f - refs) 0 (omega arith)
-    ∙ get_or-drop (i + 1 + refs) words (f - refs) 0
-    ∙ ap (λ (k : ℕ). get_or words k 0) same
 
 module _ (edition : Edition) (g : ℕ → ℕ) (words : List ℕ) (i : ℕ) where
   abbrev refs : ℕ

@@ -18,6 +18,7 @@ use Rattle.trace_text.specs.declared.line.Line.{Line}
 use Rattle.trace_steps.specs.declared.shown.Shown.{Shown}
 use Rattle.trace_text.specs.declared.fault.RefusedLine.{RefusedLine}
 use Rattle.trace_steps.proofs.OneLine.{shows_one}
+use Rattle.trace_steps.proofs.Elements.{take_first}
 
 -- the lines of one mutator in two traces
 lines_append : (n : ℕ) (a b : List (ℕ × Line)) → own_lines n (a ++ b) ≡ own_lines n a ++ own_lines n b
@@ -58,11 +59,6 @@ two_parts (x ∷ xs) (suc k) = let p = two_parts xs k in (p.0, ap (λ l. x ∷ l
 -- the mutator's lines among the first k are its first ones
 pub first_own : (n : ℕ) (lines : List (ℕ × Line)) (k : ℕ) → (rest : List (ℕ × Line)) × (own_lines n lines ≡ own_lines n (take k lines) ++ rest)
 first_own n lines k = let p = two_parts lines k in (own_lines n p.0, ap (own_lines n) p.1 ∙ lines_append n (take k lines) p.0)
-
--- the first elements of a list that has a beginning
-take_front : {A : Type 0} (front rest : List A) → take (length front) (front ++ rest) ≡ front
-take_front [] rest = refl
-take_front (x ∷ xs) rest = ap (λ l. x ∷ l) (take_front xs rest)
 
 at_front : {A : Type 0} (front rest : List A) (a : A) → get_elem? (front ++ a ∷ rest) (length front) ≡ some a
 at_front [] rest a = refl
@@ -138,7 +134,7 @@ module _ (u : Setup) (lines : List (ℕ × Line)) (k : ℕ) (old : Pass) (regist
         count = length front;
         registers = registers;
         last = now;
-        went = subst (λ l. Went u l null_registers old shown registers now) (sym (ap (take (length front)) all ∙ take_front front (line ∷ first.0))) h.went;
+        went = subst (λ l. Went u l null_registers old shown registers now) (sym (ap (take (length front)) all ∙ take_first front (line ∷ first.0))) h.went;
         ends = record { line = line; there = ap (λ l. get_elem? l (length front)) all ∙ at_front front first.0 line; number = number; grows = grows; did = same; refuses = refuses; waited = waited };
       }
 

@@ -1,5 +1,5 @@
 -- A run is determined, except for stamps.
-use Rattle.std.proofs.Common.{◌≡◌, ◌≢◌, ℕ, zero, suc, ◌+◌, ◌%◌, ◌<◌, ◌≤◌, ◌==◌, Bool, cond, true, false, List, [], ◌∷◌, ◌++◌, Option, Some, None, length, map, slice_index, refl, sym, ap, subst, ◌∙◌, arith, inl, inr, append_assoc, length-append, eq-eqb, ne_eqb}
+use Rattle.std.proofs.Common.{◌≡◌, ◌≢◌, ℕ, zero, suc, ◌+◌, ◌%◌, ◌<◌, ◌≤◌, ◌==◌, cond, true, false, List, [], ◌∷◌, ◌++◌, Option, Some, None, length, map, slice_index, refl, sym, ap, subst, ◌∙◌, arith, inl, inr, append_assoc, length-append, eq-eqb, ne_eqb}
 use Rattle.std.proofs.lemmas.List.{append-nil}
 use Rattle.std.proofs.lemmas.Bool.{cases_lt}
 use Rattle.std.proofs.lemmas.List.Elements.{All-head, All-tail}
@@ -18,7 +18,7 @@ use Rattle.page_plan.specs.Sliding.{to_address}
 use Rattle.page_plan.proofs.Shapes.{shape-behind}
 use Rattle.comp_mutator.specs.Entry.{Entry}
 use Rattle.comp_mutator.specs.Journal.{replayed, written}
-use Rattle.comp_mutator.specs.Setup.{Setup, base_of, address, fresh_page}
+use Rattle.comp_mutator.specs.Setup.{Setup, base_of, address}
 use Rattle.comp_mutator.specs.Lists.{but, by, on}
 use Rattle.comp_mutator.specs.Lawful.{kinds_by, kinds_in, kinds_of_header, filled, Fits, IsFreshOf, IsNext, LawfulAfter}
 use Rattle.comp_mutator.specs.Locks.{Journals}
@@ -27,7 +27,7 @@ use Rattle.comp_mutator.proofs.Rows.{at_map, at_map_back}
 use Rattle.comp_mutator.specs.Allocations.{own_page}
 use Rattle.comp_mutator.specs.Fields.{field_address, IsFieldOf}
 use Rattle.comp_mutator.specs.Reads.{Reads}
-use Rattle.comp_mutator.proofs.OwnPages.{filled_append, on_append, own_fresh, read_back}
+use Rattle.comp_mutator.proofs.OwnPages.{filled_append, on_append, own_fresh, read_back, one_owner}
 use Rattle.trace_steps.specs.Acting.{registers_after, shown_at}
 use Rattle.trace_steps.specs.Builds.{built_after, kind_if, touched}
 use Rattle.trace_steps.proofs.MadeObjects.{no_header}
@@ -37,13 +37,7 @@ use Rattle.trace_text.specs.declared.line.Action.{Action}
 use Rattle.trace_text.specs.declared.line.Action.TheVariants.{Root, Load, Get, Store, Put, New, Nil}
 use Rattle.trace_text.specs.declared.line.Line.{Line}
 use Rattle.trace_steps.specs.declared.shown.Shown.{Shown}
-
--- the first entry is of this writer, or of another
-mine : (e : Entry) (es : List Entry) (k : ℕ) → e.writer ≡ k → by k (e ∷ es) ≡ e ∷ by k es
-mine e es k h = ap (λ (t : Bool). cond t (e ∷ by k es) (by k es)) (eq-eqb e.writer k h)
-
-others : (e : Entry) (es : List Entry) (k : ℕ) → e.writer ≢ k → by k (e ∷ es) ≡ by k es
-others e es k h = ap (λ (t : Bool). cond t (e ∷ by k es) (by k es)) (ne_eqb e.writer k h)
+use Rattle.trace_steps.proofs.Merging.{mine, others}
 
 -- ---- what reads no stamps
 abbrev bare : List Entry → List Entry
@@ -244,13 +238,6 @@ adds_none edition Header value h = absurd (h refl)
 adds_none edition Reference value h = refl
 adds_none edition Weak value h = refl
 adds_none edition Data value h = refl
-
--- two mutators have no page in common
-one_owner : (u : Setup) (a b p : ℕ) → IsFreshOf u a p → IsFreshOf u b p → a ≡ b
-one_owner u a b p h k =
-    let pages : fresh_page u h.0 ≡ fresh_page u k.0 = sym h.2 ∙ k.2 in
-    let same : h.0 ≡ k.0 = omega arith in
-    h.3 ∙ ap (λ j. j % u.mutators) same ∙ sym k.3
 
 by_owner : (u : Setup) (m p : ℕ) → IsFreshOf u m p → (before j : List Entry) → HeadsAfter u p before j → filled u.heap.edition (by m j) ≡ filled u.heap.edition j
 by_owner u m p own before [] h = refl

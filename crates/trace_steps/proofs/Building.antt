@@ -12,7 +12,7 @@ use Rattle.heap_layout.specs.Header.{Head}
 use Rattle.comp_mutator.specs.Sliding.{shape_at}
 use Rattle.comp_mutator.specs.Lists.{only, times}
 use Rattle.comp_mutator.specs.Passes.{builds_of, number_of, HasSeenBuilt}
-use Rattle.comp_mutator.specs.Setup.{Setup, address}
+use Rattle.comp_mutator.specs.Setup.{Setup}
 use Rattle.comp_mutator.specs.Pass.{Pass}
 use Rattle.comp_mutator.proofs.Sums.{times-other, total-append}
 use Rattle.comp_mutator.specs.Calls.{Grows}
@@ -22,6 +22,7 @@ use Rattle.comp_mutator.specs.Fields.{field_address}
 use Rattle.comp_mutator.specs.Reads.{BuildsNothing, BuildsPage, MayBuild, MayBuildTouched}
 use Rattle.trace_steps.specs.Builds.{built_after, built_by, is_built, slid_page, BuildsTouched}
 use Rattle.trace_steps.specs.Rounds.{Met}
+use Rattle.comp_mutator.proofs.Heaps.{page_is as on_page}
 
 -- ---- the page that a call touched
 
@@ -37,9 +38,6 @@ field_touched u old new kind object field (p, inr fresh, seen) =
     let page : Head → ℕ = λ header. page_at (field_address kind object header field) in
     let none = none_there (shape_at (live u.heap) object) (λ header is. fresh.0.0.apart (header, is)) in
     subst (λ (t : Option ℕ). BuildsTouched t old new) (sym (ap (option_map page) none)) fresh.1
-
-on_page : (p o : ℕ) → o < 64 → page_at (address p o) ≡ p
-on_page p o lt = omega (arith, lt)
 
 pub made_touched : (u : Setup) (old new : Pass) (header : Head) (word_address : ℕ) → Allocates u old new header word_address → BuildsTouched (Some (page_at word_address)) old new
 made_touched u old new header word_address h =

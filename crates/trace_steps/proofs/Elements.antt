@@ -10,7 +10,7 @@ at_or (x ∷ xs) zero d lt = refl
 at_or (x ∷ xs) (suc i) d lt = at_or xs i d (omega arith)
 
 -- the first elements of a list that has a beginning
-take_first : {A : Type 0} (front rest : List A) → take (length front) (front ++ rest) ≡ front
+pub take_first : {A : Type 0} (front rest : List A) → take (length front) (front ++ rest) ≡ front
 take_first [] rest = refl
 take_first (x ∷ xs) rest = ap (λ l. x ∷ l) (take_first xs rest)
 

@@ -1,7 +1,6 @@
 -- A round of meetings, one after the other.
 use Rattle.std.proofs.Common.{◌≡◌, ◌≢◌, ℕ, ◌+◌, ◌<◌, ◌≤◌, Bool, true, false, cond, nat_lt, List, [], length, refl, sym, ap, subst, ◌∙◌, arith, inl, inr}
 use Rattle.std.specs.Prelude.{◌⊎◌}
-use Rattle.std.proofs.lemmas.List.{append-nil}
 use native.Mathlib.Decide.{ℕ_discrete}
 use mathlib.Core.Logic.{dite, ⊎_elim}
 use Rattle.comp_mutator.specs.Entry.{Entry}
@@ -9,12 +8,8 @@ use Rattle.comp_mutator.specs.Lists.{StartsWith}
 use Rattle.comp_mutator.specs.Passes.{builds_of, did, seen, HasSeenBuilt, KnowsFresh}
 use Rattle.comp_mutator.specs.Pass.{Pass}
 use Rattle.comp_mutator.specs.Calls.{Grows, Meets}
-use Rattle.comp_mutator.proofs.Growing.{begins_then, grows_none, grows_then}
+use Rattle.comp_mutator.proofs.Growing.{begins_then, grows_none, grows_then, same_begins}
 use Rattle.trace_steps.specs.Rounds.{Met}
-
--- a list begins with what equals it
-same_begins : (whole front : List Entry) → whole ≡ front → StartsWith whole front
-same_begins whole front e = ([], e ∙ sym (append-nil front))
 
 -- One meeting: each of the two has then seen, of each page, what one of the two had seen.
 pub record IsMeeting (other_old old other_new new : Pass) : Type 0 where

@@ -1,5 +1,5 @@
 -- Clipped numbers are judged like the numbers themselves.
-use Rattle.std.proofs.Common.{◌≡◌, ℕ, ◌^◌, ◌<◌, ◌≤◌, ◌||◌, Bool, true, false, cond, List, [], ◌∷◌, map, Option, Some, None, Result, Ok, Err, option_map, refl, sym, ap, ◌∙◌, arith, nat_le, codes, inl, inr}
+use Rattle.std.proofs.Common.{◌≡◌, ℕ, ◌^◌, ◌<◌, ◌≤◌, ◌||◌, Bool, true, false, cond, List, [], ◌∷◌, map, Option, Some, None, Ok, option_map, refl, sym, ap, ◌∙◌, arith, nat_le, codes, inl, inr}
 use Rattle.std.proofs.lemmas.Bool.{leb-false, le-leb, lt-leb, or_parts, cases_lt}
 use Rattle.std.specs.List.{list_any}
 use Rattle.std.specs.Str.{bytes_eq}
@@ -8,6 +8,7 @@ use Rattle.trace_text.specs.declared.line.Action.{Action}
 use Rattle.trace_text.specs.declared.line.Action.TheVariants.{Root, Load, Get, Store, Put, New, Nil}
 use Rattle.trace_text.specs.declared.line.Line.{Line}
 use Rattle.trace_text.specs.Grammar.{clipped, judged, line_with, registers_of, is_too_large, roots_of}
+use Rattle.trace_text.proofs.Lines.{tests}
 
 -- a bound that clipping keeps
 abbrev IsBound : ℕ → Type 0
@@ -24,10 +25,6 @@ same b x bound small = omega (arith, leb-false b x small)
 
 any_one : (b x : ℕ) → list_any (nat_le b) (x ∷ []) ≡ false → nat_le b x ≡ false
 any_one b x h = (or_parts _ _ h).0
-
--- the tests of a line, in order, and the line if none applies
-abbrev tests : Bool → Bool → Bool → Bool → TraceFault → TraceFault → TraceFault → TraceFault → Line → Result Line TraceFault
-tests a b c d e f g h line = cond a (Err e) (cond b (Err f) (cond c (Err g) (cond d (Err h) (Ok line))))
 
 alike : (a b c d : Bool) (e f g h : TraceFault) (line other : Line) → (a ≡ false → b ≡ false → c ≡ false → d ≡ false → line ≡ other) → tests a b c d e f g h line ≡ tests a b c d e f g h other
 alike true b c d e f g h line other p = refl

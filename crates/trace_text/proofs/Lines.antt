@@ -43,7 +43,7 @@ told view OutOfMemory whole e = tt
 pub told_on : {A B : Type 0} (view : A → B) (r : Result A TraceFault) (y fault : TraceFault) (whole : Result B TraceFault) → r ≡ Err y → y ≡ fault → whole ≡ Err fault → IsReadAs view r whole
 told_on {A} {B} view r y fault whole p q e = subst (λ (s : Result A TraceFault). IsReadAs view s whole) (sym (p ∙ ap (λ (z : TraceFault). Err z) q)) (told view fault whole e)
 
-abbrev tests : Bool → Bool → Bool → Bool → TraceFault → TraceFault → TraceFault → TraceFault → Line → Result Line TraceFault
+abbrev pub tests : Bool → Bool → Bool → Bool → TraceFault → TraceFault → TraceFault → TraceFault → Line → Result Line TraceFault
 tests a b c d e f g h line = cond a (Err e) (cond b (Err f) (cond c (Err g) (cond d (Err h) (Ok line))))
 
 -- a line that is read has no fault, whatever its number
