@@ -40,7 +40,12 @@ pub fn check_journals(
 }
 
 // Checks that the journal of page `p` is lawful, and that its stamps rise.
-fn check_journal(alloc: Global, setting: Setting<'_>, p: u64, journal: &[Entry]) -> Result<(), CheckEnd>
+fn check_journal(
+    alloc: Global,
+    setting: Setting<'_>,
+    p: u64,
+    journal: &[Entry],
+) -> Result<(), CheckEnd>
     requires some { 0 < setting.mutators }
     requires inside { p < pages (setup_at setting) }
     requires stored { All (IsStoredEntry setting.edition setting.mutators) journal.now }

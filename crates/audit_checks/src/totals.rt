@@ -15,7 +15,11 @@ use heap_layout::{Edition, Header, Kind};
 use page_plan::Plan;
 
 /// Checks that the total is the number of words that slid and of words of new objects.
-pub fn check_total(plan: &Plan, total: u64, records: &[Option<DumpedPage<'_>>]) -> Result<(), CheckEnd>
+pub fn check_total(
+    plan: &Plan,
+    total: u64,
+    records: &[Option<DumpedPage<'_>>],
+) -> Result<(), CheckEnd>
     requires few { length records.now ≤ 20480 }
     requires pages { All HasFewEntries records.now }
     ensures { Reports (total_faults plan.now total records.now) result }

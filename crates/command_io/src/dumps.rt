@@ -9,7 +9,7 @@ ghost use Rattle.command_io.specs.Dumps.{IsOfCreating, IsOfDumping, WritesWhole}
 ghost use Rattle.command_io.specs.declared.refusal.Output.TheVariants as outputs;
 
 use crate::output_files::{OutputFile, create_file};
-use crate::refusal::{Output, CommandRefusal};
+use crate::refusal::{CommandRefusal, Output};
 use comp_dump::{Dump, DumpFault, write_dump};
 use heap_layout::Counted;
 use std::io::Write;

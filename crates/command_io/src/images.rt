@@ -3,7 +3,7 @@ ghost use Rattle.std.specs.Prelude.{◌≡◌, ℕ, List, IfOk, IfErr};
 ghost use Rattle.command_io.specs.Images.{IsImageOf, RefusesAt, RefusesImage, SomeGiven};
 ghost use Rattle.command_io.specs.Printing.{IsOfOpening};
 
-use crate::refusal::{Input, CommandRefusal};
+use crate::refusal::{CommandRefusal, Input};
 use heap_layout::{Counted, MarkedHeap, read_image};
 use std::alloc::Global;
 use std::fs;
@@ -53,7 +53,11 @@ impl<R: Files + AllocGlobal> Images for FileImages<'_, R> {
 }
 
 /// Reads the heap whose image is at a path.
-pub fn heap_at<I: Images>(alloc: Global, images: &I, path: &str) -> Result<MarkedHeap, CommandRefusal>
+pub fn heap_at<I: Images>(
+    alloc: Global,
+    images: &I,
+    path: &str,
+) -> Result<MarkedHeap, CommandRefusal>
     ensures heap { IfOk result (λ heap. SomeGiven (I.gives images.now path.now) I.Reader.remaining (IsImageOf (λ other. other ≡ heap))) }
     ensures cause { IfErr result (RefusesAt (I.lacks images.now path.now) (I.gives images.now path.now) I.Reader.remaining RefusesImage) }
 {

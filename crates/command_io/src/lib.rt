@@ -19,5 +19,5 @@ pub use output_files::OutputFile;
 pub use print::{
     flush, print_bytes, print_digits, print_help, print_line, print_numbered, print_text,
 };
-pub use refusal::{Input, Output, CommandRefusal};
+pub use refusal::{CommandRefusal, Input, Output};
 pub use traces::{FileTraces, Traces, trace_at, trace_in};

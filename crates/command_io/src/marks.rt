@@ -5,7 +5,7 @@ ghost use Rattle.command_io.specs.Images.{SomeGiven};
 ghost use Rattle.command_io.specs.Marks.{AreMarksOf, RefusesMarksAt, RefusesMarksText};
 ghost use Rattle.command_io.specs.Texts.{CountsText};
 
-use crate::refusal::{Input, CommandRefusal};
+use crate::refusal::{CommandRefusal, Input};
 use crate::texts::{Unread, text_in};
 use crate::traces::Traces;
 use comp_trace::{MarksFault, read_marks};
@@ -15,7 +15,11 @@ use std::io::Read;
 
 /// Reads the marks whose text is at a path. Refuses if the file cannot be opened or read, if a line of it is no mark,
 /// with the number of the first such line, and if memory runs out.
-pub fn marks_at<T: Traces>(alloc: Global, traces: &T, path: &str) -> Result<Vec<u32>, CommandRefusal>
+pub fn marks_at<T: Traces>(
+    alloc: Global,
+    traces: &T,
+    path: &str,
+) -> Result<Vec<u32>, CommandRefusal>
     ensures marks { IfOk result (λ marks. SomeGiven (T.gives traces.now path.now) T.Reader.remaining (AreMarksOf marks.items)) }
     ensures cause { IfErr result (RefusesMarksAt (T.lacks traces.now path.now) (T.gives traces.now path.now) T.Reader.remaining) }
 {

@@ -13,7 +13,11 @@ use heap_layout::{Counted, LayoutFault, MarkedHeap, write_image};
 use std::io::Write;
 
 /// Writes the image of a heap to a path. If a call of its writer fails, the writer has taken a beginning of the image.
-pub fn write_image_to<D: Dumps>(dumps: &mut D, path: &str, heap: &MarkedHeap) -> Result<(), CommandRefusal>
+pub fn write_image_to<D: Dumps>(
+    dumps: &mut D,
+    path: &str,
+    heap: &MarkedHeap,
+) -> Result<(), CommandRefusal>
     ensures written { OnOk result (WritesWhole (D.gives dumps.old path.now) D.Writer.contents (encoding heap.now)) }
     ensures cause { IfErr result (IsOfWritingImage (D.lacks dumps.old path.now) (D.gives dumps.old path.now) D.Writer.contents (encoding heap.now)) }
 {

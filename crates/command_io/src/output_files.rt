@@ -3,7 +3,7 @@ ghost use Rattle.std.specs.Prelude.{◌≡◌, IfErr};
 ghost use Rattle.command_io.specs.Dumps.{IsOfCreating};
 ghost use Rattle.command_io.specs.declared.refusal.CommandRefusal.TheVariants as refusal;
 
-use crate::refusal::{Output, CommandRefusal};
+use crate::refusal::{CommandRefusal, Output};
 use std::alloc::Global;
 use std::fs::{self, Metadata, OpenFile, OpenOptions};
 use std::io::{BufWriter, Error, ErrorKind, Result as IoResult, Write};

@@ -19,7 +19,8 @@ pub fn print_bytes<O: Write>(bytes: &[u8], out: &mut Counted<&mut O>) -> Result<
     ensures counts { CountsPrint (failures_of out.old) (failures_of out.new) result }
     ensures same_writer { writer_of out.new ≡ writer_of out.old }
 {
-    out.write_part(bytes).map_err(|_| CommandRefusal::CannotPrint)
+    out.write_part(bytes)
+        .map_err(|_| CommandRefusal::CannotPrint)
 }
 
 /// Prints a text.

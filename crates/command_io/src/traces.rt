@@ -6,7 +6,7 @@ ghost use Rattle.command_io.specs.Images.{SomeGiven};
 ghost use Rattle.command_io.specs.Marks.{IsOfOpeningMarks};
 ghost use Rattle.command_io.specs.Texts.{CountsText, IsOfOpeningText, IsTextOf, RefusesText, RefusesTextAt};
 
-use crate::refusal::{Input, CommandRefusal};
+use crate::refusal::{CommandRefusal, Input};
 use crate::texts::{Unread, text_in};
 use comp_trace::{Trace, TraceFault, parse};
 use heap_layout::Counted;

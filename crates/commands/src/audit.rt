@@ -7,7 +7,7 @@ ghost use Rattle.command_io.specs.Images.{SomeGiven};
 ghost use Rattle.command_io.specs.Printing.{CountsPrint, RefusedUnprinted};
 ghost use Rattle.command_io.specs.declared.refusal.CommandRefusal.TheVariants as refusals;
 
-use command_io::{Images, Input, CommandRefusal, heap_at, print_line};
+use command_io::{CommandRefusal, Images, Input, heap_at, print_line};
 use comp_audit::{Dump, Verdict, audit, read_dump};
 use comp_dump::dump_is_read_again;
 use heap_layout::{Counted, MarkedHeap};
@@ -71,7 +71,11 @@ fn verdict_of(
 }
 
 // Reads the dump at a path. `images` opens it.
-fn dump_at<I: Images>(alloc: Global, images: &I, path: &str) -> Result<Dump<'static>, CommandRefusal>
+fn dump_at<I: Images>(
+    alloc: Global,
+    images: &I,
+    path: &str,
+) -> Result<Dump<'static>, CommandRefusal>
     ensures dump { IfOk result (λ dump. SomeGiven (I.gives images.now path.now) I.Reader.remaining (IsDumpIn (λ other. other ≡ dump))) }
     ensures cause { IfErr result (RefusesDumpAt (I.lacks images.now path.now) (I.gives images.now path.now) I.Reader.remaining) }
 {

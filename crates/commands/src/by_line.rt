@@ -2,7 +2,7 @@
 ghost use Rattle.std.specs.Prelude.{◌≡◌, ℕ, ◌+◌, ◌<◌, ◌≤◌, [], All, drop, length, vec_capacity, IfSome};
 ghost use Rattle.commands.specs.ByLine.{earlier_of, printed_at, AreByLine, AreOwn, IsFirstRefusedLine};
 
-use comp_trace::{Line, Run, Shown, RefusedLine};
+use comp_trace::{Line, RefusedLine, Run, Shown};
 
 /// All values that the runs showed, in the order of their lines. `runs` has the run of each mutator over its own
 /// lines, at most 64 of them. `shown` is empty, and has room for one value of each line.

@@ -11,7 +11,7 @@ ghost use Rattle.command_io.specs.Dumps.{RefusedUncreated};
 ghost use Rattle.command_io.specs.Images.{IsImageOf, SomeGiven, RefusesAt};
 ghost use Rattle.command_io.specs.Printing.{CountsPrint, CountsRead, RefusedUnprinted};
 
-use command_io::{Dumps, Images, CommandRefusal, print_line, write_to};
+use command_io::{CommandRefusal, Dumps, Images, print_line, write_to};
 use comp_audit::Dump;
 use comp_mutator::{FinishFault, Finished, FlipFault, Mutator, Space, flip};
 use comp_sweep::{Open, sweep};

@@ -15,7 +15,7 @@ use crate::cycling::{Cycled, cycle_heap};
 use crate::replay::{inputs_at, print_halted};
 use crate::replays::PrintedHalt;
 use crate::shown::print_shown;
-use command_io::{Dumps, Images, CommandRefusal, Traces, marks_at, print_line, write_image_to};
+use command_io::{CommandRefusal, Dumps, Images, Traces, marks_at, print_line, write_image_to};
 use command_line::NextRun;
 use heap_layout::Counted;
 use std::alloc::Global;

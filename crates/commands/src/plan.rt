@@ -7,7 +7,7 @@ ghost use Rattle.command_io.specs.Printing.{CountsPrint, CountsRead, RefusedUnpr
 ghost use Rattle.commands.specs.Plan.{plan_text, count_lines, page_lines, root_lines, IsOfPrinting, PrintsPlan, RefusesPlan};
 ghost use Rattle.command_io.specs.Images.{IsImageOf, SomeGiven, RefusesAt};
 
-use command_io::{Images, CommandRefusal, print_line, print_numbered};
+use command_io::{CommandRefusal, Images, print_line, print_numbered};
 use heap_layout::{Counted, read_image};
 use page_plan::Plan;
 use std::alloc::Global;

@@ -8,7 +8,7 @@ ghost use Rattle.commands.specs.Replays.{SomeRun, StopsUnprinted};
 
 use crate::races::race_heap;
 use crate::replay::{inputs_at, write_outcome};
-use command_io::{Dumps, Images, CommandRefusal, Traces};
+use command_io::{CommandRefusal, Dumps, Images, Traces};
 use command_line::TraceRun;
 use heap_layout::Counted;
 use std::alloc::Global;

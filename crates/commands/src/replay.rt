@@ -13,7 +13,7 @@ ghost use Rattle.commands.specs.Replays.{dumped_of, IsOfWritingRun, PrintsRun, R
 
 use crate::replays::{PrintedHalt, Replayed, replay_heap};
 use crate::shown::{print_shown, send_shown};
-use command_io::{Dumps, Images, CommandRefusal, Traces, heap_at, print_line, trace_at, write_to};
+use command_io::{CommandRefusal, Dumps, Images, Traces, heap_at, print_line, trace_at, write_to};
 use command_line::TraceRun;
 use comp_audit::Dump;
 use comp_trace::Trace;
@@ -123,7 +123,10 @@ pub(crate) fn write_outcome<D: Dumps, O: Write>(
 }
 
 /// Prints what a halted run had shown, flushes the output, and answers the refusal of the run.
-pub fn print_halted<O: Write>(halted: &PrintedHalt, out: &mut Counted<&mut O>) -> Result<(), CommandRefusal>
+pub fn print_halted<O: Write>(
+    halted: &PrintedHalt,
+    out: &mut Counted<&mut O>,
+) -> Result<(), CommandRefusal>
     requires halted { IsHaltedBy halted.now.shown.items halted.now.refusal }
     requires written { failures_of out.old < 2 ^ 64 - 1 }
     ensures never { OnOk result ⊥ }

@@ -16,7 +16,7 @@ use crate::replay::print_replay;
 use crate::word::print_word;
 use clap::error::ErrorKind;
 use command_io::{
-    Dumps, FileDumps, FileImages, FileTraces, Images, CommandRefusal, Traces, flush, print_help,
+    CommandRefusal, Dumps, FileDumps, FileImages, FileTraces, Images, Traces, flush, print_help,
     print_text,
 };
 use command_line::{Task, VERSION_LINE, read_task};

@@ -16,7 +16,10 @@ use std::io::Write;
 const LONGEST: usize = 42;
 
 /// Prints shown values, a line each: the number of the line that showed it, and the value.
-pub fn print_shown<O: Write>(shown: &[Shown], out: &mut Counted<&mut O>) -> Result<(), CommandRefusal>
+pub fn print_shown<O: Write>(
+    shown: &[Shown],
+    out: &mut Counted<&mut O>,
+) -> Result<(), CommandRefusal>
     requires { failures_of out.old < 2 ^ 64 - 1 }
     ensures printed { OnOk result (Appends (O.contents (inner_of out.old).now) (O.contents (inner_of out.new).now) (shown_lines shown.now)) }
     ensures cause { OnErr result (result ≡ Err CommandRefusal.CannotPrint) }
@@ -30,7 +33,10 @@ pub fn print_shown<O: Write>(shown: &[Shown], out: &mut Counted<&mut O>) -> Resu
 }
 
 /// Prints shown values, and flushes the output, since nothing is printed after a refused line.
-pub fn send_shown<O: Write>(shown: &[Shown], out: &mut Counted<&mut O>) -> Result<(), CommandRefusal>
+pub fn send_shown<O: Write>(
+    shown: &[Shown],
+    out: &mut Counted<&mut O>,
+) -> Result<(), CommandRefusal>
     requires { failures_of out.old < 2 ^ 64 - 1 }
     ensures printed { OnOk result (Appends (O.contents (inner_of out.old).now) (O.contents (inner_of out.new).now) (shown_lines shown.now)) }
     ensures cause { OnErr result (result ≡ Err CommandRefusal.CannotPrint) }

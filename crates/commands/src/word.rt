@@ -11,7 +11,7 @@ ghost use Rattle.command_io.specs.Printing.{line_of, CountsPrint, CountsRead, Re
 ghost use Rattle.command_io.specs.Images.{IsImageOf, SomeGiven, RefusesAt};
 ghost use Rattle.commands.specs.Word.{IsWordAt, IsPast, PrintsWordAt, RefusesWord, RefusesPrint};
 
-use command_io::{Images, CommandRefusal, print_digits, print_text};
+use command_io::{CommandRefusal, Images, print_digits, print_text};
 use comp_mutator::{FlipFault, Mutator, Space, alone_sees_its_own, flip};
 use heap_layout::{Counted, read_image};
 use page_plan::{Plan, pages_are_parts};

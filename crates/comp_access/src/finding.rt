@@ -11,8 +11,7 @@ ghost use Rattle.comp_access.specs.Finds.{HoldsField, IsEarly, IsFound, IsFreshF
 ghost use Rattle.comp_access.specs.Reads.{FieldRefused, KnowsBuilt, MayBuildTouched, Reads};
 ghost use Rattle.call_refusals.specs.declared.refusal.Refusal.TheVariants.{Busy};
 
-use crate::addresses::offset_at;
-use crate::addresses::page_at;
+use crate::addresses::{offset_at, page_at};
 use crate::taking::{load, take};
 use call_refusals::Refusal;
 use cell_steps::Pass;

@@ -12,12 +12,11 @@ ghost use Rattle.comp_dump.specs.DumpReading.{number, read_whole, times_read, wo
 pub(crate) mod fields;
 mod pages;
 
-use heap_layout::{MAX_MUTATORS, MAX_FRESH_PAGES, MAX_PAGES, MAX_ROOTS};
 use crate::dump::Dump;
 use crate::fault::DumpFault;
 use crate::reading::fields::{MAGIC, expect, expect_end, read_edition, read_eight, read_four};
 use crate::reading::pages::read_pages;
-use heap_layout::{Counted, Edition};
+use heap_layout::{Counted, Edition, MAX_FRESH_PAGES, MAX_MUTATORS, MAX_PAGES, MAX_ROOTS};
 use std::alloc::Global;
 use std::io::Read;
 

@@ -2,13 +2,7 @@
 ghost use Rattle.std.specs.Prelude.{◌≡◌};
 ghost use Rattle.crossbeam_deque.specs.Handles.{view, worker_flavor, worker_port, stealer_deque, stealer_flavor, IsPassOf};
 
-use crate::distributing::Hand;
-use crate::distributing::Owner;
-use crate::distributing::Puts;
-use crate::distributing::Steals;
-use crate::distributing::Takes;
-use crate::distributing::Thief;
-use crate::distributing::Ways;
+use crate::distributing::{Hand, Owner, Puts, Steals, Takes, Thief, Ways};
 use crossbeam_deque::{Pass, Steal};
 use heap_layout::OutOfMemory;
 use std::alloc::Global;

@@ -39,7 +39,11 @@ fn put_all(queues: &mut Vec<RegionQueue>, regions: u64) -> Result<(), OutOfMemor
 
 /// Makes a lot for each worker, with ways to all others, and puts each region below `regions` into one of the lots.
 /// Requires at least one worker.
-pub fn distribute(alloc: Global, regions: u64, workers: usize) -> Result<Vec<RegionQueue>, OutOfMemory>
+pub fn distribute(
+    alloc: Global,
+    regions: u64,
+    workers: usize,
+) -> Result<Vec<RegionQueue>, OutOfMemory>
     requires { 0 < workers }
     ensures count { IfOk result (λ queues. length queues.items ≡ workers) }
     ensures distributed { IfOk result (λ queues. AreDistributed regions (standings queues.items)) }

@@ -6,10 +6,9 @@ ghost use Rattle.heap_layout.specs.Heap.{is_target, starts};
 ghost use Rattle.heap_layout.specs.Faults.{object_faults};
 
 use crate::bits::{is_set, set, set_if};
-use crate::limits::FROM_SPACE;
-use crate::limits::MAX_WORDS;
 use crate::edition::Edition;
 use crate::header::Header;
+use crate::limits::{FROM_SPACE, MAX_WORDS};
 use std::marker::Model;
 
 // The number of blocks of 64 bits that have one bit for each word of the largest heap.

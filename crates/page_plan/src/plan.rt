@@ -4,12 +4,8 @@ ghost use Rattle.mark_tables.specs.LiveWords.{live_indices};
 ghost use Rattle.page_plan.specs.Planned.{AreFirst, AreStarts};
 ghost use Rattle.page_plan.specs.Sliding.{first_object, forward, kind, live_words, page, pages, shape_at, to_address, HasObject, slid_words, IsPartFrom};
 
-use heap_layout::TO_SPACE;
-use crate::first_objects;
-use crate::page_builder;
-use crate::forwarding;
-use crate::starts;
-use heap_layout::{FROM_SPACE, Header, Kind, MarkedHeap, OutOfMemory, PageWords, is_set};
+use crate::{first_objects, forwarding, page_builder, starts};
+use heap_layout::{FROM_SPACE, Header, Kind, MarkedHeap, OutOfMemory, PageWords, TO_SPACE, is_set};
 use mark_tables::Tables;
 use std::alloc::Global;
 use std::marker::Model;

@@ -2,7 +2,7 @@
 use crate::dumps::{Dump, dump_of};
 use crate::places::{File, Memory, Place};
 use crate::printing::{Asked, is_answered};
-use command_io::{Input, CommandRefusal};
+use command_io::{CommandRefusal, Input};
 use command_line::TraceRun;
 use commands::{Compaction, print_compact, print_replay};
 use comp_dump::DumpFault;

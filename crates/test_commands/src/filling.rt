@@ -1,6 +1,6 @@
 //! Dumps and new images in files of a device that is soon full, that cannot rename, or that sets no permissions. The
 //! file at the path stays as it was, and no other file is left.
-use command_io::{Dumps, FileDumps, Output, CommandRefusal, write_image_to, write_to};
+use command_io::{CommandRefusal, Dumps, FileDumps, Output, write_image_to, write_to};
 use comp_dump::{Dump, DumpFault, read_dump};
 use heap_layout::{Counted, LayoutFault, MarkedHeap, read_image};
 use std::alloc::Allocator;

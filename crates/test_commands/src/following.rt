@@ -1,6 +1,6 @@
 //! Cycles on files in memory: the image of the next heap and the printed lines, also with writers that fail.
 use crate::places::{Memory, Place};
-use command_io::{Input, Output, CommandRefusal};
+use command_io::{CommandRefusal, Input, Output};
 use command_line::NextRun;
 use commands::print_next;
 use heap_layout::{Counted, LayoutFault};

@@ -9,6 +9,8 @@ mod cycling;
 #[cfg(test)]
 mod judging;
 #[cfg(test)]
+mod launching;
+#[cfg(test)]
 mod printing;
 #[cfg(test)]
 mod programs;
@@ -18,8 +20,6 @@ mod racing;
 mod replaying;
 #[cfg(test)]
 mod runs;
-#[cfg(test)]
-mod launching;
 #[cfg(test)]
 mod tables;
 #[cfg(test)]

@@ -1,11 +1,10 @@
 //! The heaps of the tests, encoded by hand.
 use heap_layout::{Edition, Header, LayoutFault, MarkedHeap};
+pub use heap_layout::{FROM_SPACE as F, TO_SPACE as T};
 use page_plan::Plan;
 use std::alloc::{AllocError, Global};
 use std::test::Fail;
 use std::thread::Threads;
-
-pub use heap_layout::{FROM_SPACE as F, TO_SPACE as T};
 
 /// Three objects. The first and the last are marked.
 pub const THREE: [u64; 7] = [

@@ -5,7 +5,7 @@ use crate::flipped::Case;
 use crate::ran::raced;
 use crate::replays::{WEAK_TEXT, replay_rows, replay_weak_rows};
 use comp_mutator::{Builder, Finished, Refusal};
-use comp_trace::{Run, RefusedLine};
+use comp_trace::{RefusedLine, Run};
 use heap_layout::Header;
 use page_plan::Plan;
 use std::alloc::Global;
