@@ -13,7 +13,7 @@ fn wanted_of(line: &'static str, refused: bool) -> Run {
         status: u8::from(refused),
         out: Text::Is(""),
         err: if refused {
-            Text::CommandRefusal("P4 CannotPrint")
+            Text::Refusal("P4 CannotPrint")
         } else {
             Text::Is("")
         },
