@@ -11,7 +11,8 @@ use Rattle.comp_dump.specs.Dumped.{BuiltPage}
 use Rattle.comp_dump.specs.declared.fault.AuditFault.{AuditFault}
 use Rattle.audit_checks.specs.Checks.{of_built, each_built, journal_of, journals_in, build_faults, journal_faults, word_faults}
 use Rattle.audit_checks.specs.Reported.{page_faults}
-use Rattle.audit_checks.proofs.Reporting.{none_both, item_none, none_items}
+use Rattle.heap_layout.proofs.Rows.{append-none}
+use Rattle.audit_checks.proofs.Reporting.{item_none, none_items}
 use Rattle.audit_checks.proofs.Meanings.{faultless_is_lawful}
 
 -- a page that was built has a place
@@ -57,6 +58,6 @@ rising_records u records none = λ p. (lawful_by u records p (get_or records p N
 -- so they are if no single page has a fault
 pub lawful_pages : (u : Setup) (builds : List (List ℕ)) (records : List (Option BuiltPage)) → page_faults u builds records ≡ [] → AreLawful u (journals_in records)
 lawful_pages u builds records none =
-    let behind = none_both (build_faults builds records) (each_built (journal_faults u) records ++ each_built (word_faults u) records) none in
-    let entries = none_both (each_built (journal_faults u) records) (each_built (word_faults u) records) behind.1 in
+    let behind = append-none (build_faults builds records) (each_built (journal_faults u) records ++ each_built (word_faults u) records) none in
+    let entries = append-none (each_built (journal_faults u) records) (each_built (word_faults u) records) behind.1 in
     lawful_records u records entries.0

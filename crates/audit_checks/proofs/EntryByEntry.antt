@@ -9,9 +9,7 @@ use Rattle.comp_dump.specs.declared.fault.AuditFault.{AuditFault}
 use Rattle.comp_dump.specs.declared.fault.AuditFault.TheVariants.{BadEntry}
 use Rattle.audit_checks.specs.Checks.{unless, entry_faults, fits}
 use Rattle.audit_checks.specs.Reported.{IsFirst}
-
-both_true : (a b : Bool) (fault : AuditFault) → a ≡ true → b ≡ true → unless (a && b) fault ≡ []
-both_true a b fault p q = rw (p, q) refl
+use Rattle.audit_checks.proofs.Reporting.{both_pass}
 
 -- after an entry that fits, the faults are those of the entries after it
 pub entry_next : (u : Setup) (p i low : ℕ) (j : List Entry) (d : Entry) → i < length j → low ≤ (get_or j i d).stamp
@@ -22,7 +20,7 @@ entry_next u p i low j d inside rises may =
     let next : i + 1 ≡ suc i = omega arith in
     let others = entry_faults u p (i + 1) (e.stamp + 1) (take i j ++ e ∷ []) (drop (suc i) j) in
     let one : unless (leb low e.stamp && fits u p (take i j) e.kind e.writer e.offset e.value) (BadEntry p i) ≡ [] =
-    both_true (leb low e.stamp) _ (BadEntry p i) (le-leb low e.stamp rises) may in
+    both_pass (leb low e.stamp) _ (BadEntry p i) (le-leb low e.stamp rises) may in
     let here : entry_faults u p i low (take i j) (drop i j) ≡ others =
     ap (λ (rest : List Entry). entry_faults u p i low (take i j) rest) (drop-cons j i d inside)
     ∙ ap (λ (front : List AuditFault). front ++ others) one in

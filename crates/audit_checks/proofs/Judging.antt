@@ -8,7 +8,8 @@ use Rattle.audit_checks.specs.declared.fault.CheckEnd.{CheckEnd}
 use Rattle.audit_checks.specs.Checks.{all_entries, all_stamps, each_built, is_led, is_made_before, is_forwarding_address, is_start, late_faults, missing_faults, reference_faults, repeat_faults}
 use Rattle.audit_checks.specs.Reported.{history_faults, Reports}
 use Rattle.audit_checks.specs.Noted.{is_noted_before, leads, Notes, Stamped}
-use Rattle.audit_checks.proofs.Reporting.{reports_first, reports_then, none_both}
+use Rattle.heap_layout.proofs.Rows.{append-none}
+use Rattle.audit_checks.proofs.Reporting.{reports_first, reports_then}
 
 module _ (u : Setup) (records : List (Option BuiltPage)) (starts : Stamped) (notes : Notes starts (all_entries records)) where
   abbrev loose : (ℕ → Bool) → List AuditFault
@@ -45,7 +46,7 @@ module _ (u : Setup) (records : List (Option BuiltPage)) (starts : Stamped) (not
   pub late_end : (result : Result (Unit {0}) CheckEnd) → loose (leads u.heap starts) ≡ [] → stamp_faults ≡ [] → Reports (late (is_noted_before starts)) result
       → Reports (history_faults u records) result
   late_end result none stamps reported =
-      let both = none_both (repeat_faults (all_stamps records)) (missing_faults (all_stamps records)) stamps in
+      let both = append-none (repeat_faults (all_stamps records)) (missing_faults (all_stamps records)) stamps in
       reports_then (loose (is_start u.heap (all_entries records))) _ result (none_loose none)
       (reports_then (repeat_faults (all_stamps records)) _ result both.0
       (reports_then (missing_faults (all_stamps records)) _ result both.1

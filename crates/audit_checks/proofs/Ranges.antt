@@ -11,7 +11,7 @@ use Rattle.comp_dump.specs.declared.fault.AuditFault.{AuditFault}
 use Rattle.comp_dump.specs.declared.fault.AuditFault.TheVariants.{StampRepeated, StampMissing}
 use Rattle.audit_checks.specs.Checks.{unless, above, repeat_faults, missing_faults}
 use Rattle.audit_checks.specs.Reported.{IsFirst}
-use Rattle.audit_checks.proofs.Reporting.{first_part}
+use Rattle.heap_layout.proofs.Rows.{first-part}
 
 -- the first number of a range that has a fault
 pub first_in_range : (f : ℕ → List AuditFault) (low n v : ℕ) (fault : AuditFault) → low ≤ v → v < low + n → ((s : ℕ) → low ≤ s → s < v → f s ≡ [])
@@ -24,7 +24,7 @@ first_in_range f low (suc n) v fault from to none h =
           (first_in_range f (low + 1) n v fault (omega (arith, lt)) (omega (arith, to)) (λ s ge less. none s (omega (arith, ge)) less) h)
       | inr le ↦
           let same : v ≡ low = omega (arith, le, from) in
-          first_part (f low) (flat_map f (range_with_len (low + 1) n)) fault (subst (λ (k : ℕ). IsFirst (f k) fault) same h)
+          first-part (f low) (flat_map f (range_with_len (low + 1) n)) fault (subst (λ (k : ℕ). IsFirst (f k) fault) same h)
     ]
 
 -- no number of a range has a fault

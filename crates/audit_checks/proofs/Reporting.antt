@@ -5,6 +5,7 @@ use Rattle.std.specs.List.{flat_map, enumerate_from}
 use Rattle.std.proofs.Math.Seq.{drop-cons}
 use Rattle.std.proofs.lemmas.List.{take_more}
 use Rattle.std.proofs.lemmas.List.Concat.{flat_map-append}
+use Rattle.heap_layout.proofs.Rows.{append-none, first-part}
 use Rattle.comp_dump.specs.declared.fault.AuditFault.{AuditFault}
 use Rattle.audit_checks.specs.declared.fault.CheckEnd.{CheckEnd}
 use Rattle.audit_checks.specs.declared.fault.CheckEnd.TheVariants as stop
@@ -23,29 +24,14 @@ both_pass true true fault p q = refl
 both_pass true false fault p q = absurd cc
 both_pass false b fault p q = absurd cc
 
--- a list of faults begins with the first of its parts
-pub first_part : (one others : List AuditFault) (fault : AuditFault) → IsFirst one fault → IsFirst (one ++ others) fault
-first_part [] others fault h = absurd h
-first_part (first ∷ rest) others fault h = h
-
 -- a check that ends early ends all that follow it
 pub reports_first : (one others : List AuditFault) (why : CheckEnd) → Reports one (Err why) → Reports (one ++ others) (Err why)
 reports_first one others stop.OutOfMemory h = tt
-reports_first one others (stop.Fault fault) h = first_part one others fault h
+reports_first one others (stop.Fault fault) h = first-part one others fault h
 
 -- after a check that passes, the next one answers
 pub reports_then : (one others : List AuditFault) (result : Result (Unit {0}) CheckEnd) → one ≡ [] → Reports others result → Reports (one ++ others) result
 reports_then one others result none h = subst (λ (front : List AuditFault). Reports (front ++ others) result) (sym none) h
-
--- two parts have no fault if both together have none
-pub none_both : (one others : List AuditFault) → one ++ others ≡ [] → (one ≡ []) × (others ≡ [])
-none_both [] others h = (refl, h)
-none_both (first ∷ rest) others h = absurd cc
-
--- a test without a fault holds
-pub unless_holds : (b : Bool) (fault : AuditFault) → unless b fault ≡ [] → b ≡ true
-unless_holds true fault none = refl
-unless_holds false fault none = absurd cc
 
 -- the faults of a list from one item on are those of that item and of the items after it
 pub faults_next : {X : Type 0} (f : ℕ × X → List AuditFault) (i : ℕ) (xs : List X) (x : X) → i < length xs
@@ -76,9 +62,9 @@ pub item_none : {X : Type 0} (f : ℕ × X → List AuditFault) (n : ℕ) (xs : 
 item_none f n [] i k d inside is none = absurd (omega (arith, inside))
 item_none f n (x ∷ xs) zero k d inside is none =
     let here : n ≡ k = omega (arith, is) in
-    subst (λ (m : ℕ). f (m, x) ≡ []) here (none_both (f (n, x)) (flat_map f (enumerate_from (n + 1) xs)) none).0
+    subst (λ (m : ℕ). f (m, x) ≡ []) here (append-none (f (n, x)) (flat_map f (enumerate_from (n + 1) xs)) none).0
 item_none f n (x ∷ xs) (suc i) k d inside is none =
-    item_none f (n + 1) xs i k d (omega (arith, inside)) (omega (arith, is)) (none_both (f (n, x)) (flat_map f (enumerate_from (n + 1) xs)) none).1
+    item_none f (n + 1) xs i k d (omega (arith, inside)) (omega (arith, is)) (append-none (f (n, x)) (flat_map f (enumerate_from (n + 1) xs)) none).1
 
 -- and conversely
 pub none_items : {X : Type 0} (f : ℕ × X → List AuditFault) (n : ℕ) (xs : List X) → ((i k : ℕ) (x : X) → i < length xs → k ≡ n + i → x ≡ get_or xs i x → f (k, x) ≡ [])

@@ -1,7 +1,8 @@
 -- The nine checks of the audit. Each is the list of its faults in a dump, ordered by page, entry, address or stamp. The
 -- tests are computed; `Faultless` says what the test of an entry means for the cells.
-use Rattle.std.specs.Prelude.{ℕ, ◌+◌, ◌-◌, ◌%◌, ◌==◌, ◌&&◌, ◌||◌, max, not, is_some, Bool, true, false, nat_lt, nat_le, bytes_eq, List, [], ◌∷◌, ◌++◌, length, map, slice_index, slice_index_or, Option, Some, None, if◌then◌else◌}
+use Rattle.std.specs.Prelude.{ℕ, ◌+◌, ◌-◌, ◌%◌, ◌==◌, ◌&&◌, ◌||◌, max, not, is_some, Bool, true, false, nat_lt, nat_le, bytes_eq, List, [], ◌∷◌, ◌++◌, length, map, slice_index, slice_index_or, Option, Some, None}
 use Rattle.std.specs.List.{flat_map, enumerate_from, list_any, range_with_len}
+pub use Rattle.heap_layout.specs.Faults.{unless}
 use Rattle.heap_layout.specs.Header.{header_of, size_of}
 use Rattle.heap_layout.specs.Kinds.{refers}
 use Rattle.heap_layout.specs.Heap.{Heap, live}
@@ -45,10 +46,6 @@ all_entries records = entries_below (journals_in records) (length records)
 -- the stamps of all entries
 abbrev pub all_stamps : List (Option BuiltPage) → List ℕ
 all_stamps records = map stamp_of (all_entries records)
-
--- the fault, if the test fails
-abbrev pub unless : Bool → AuditFault → List AuditFault
-unless holds fault = if holds then [] else fault ∷ []
 
 -- the faults of a page that was built, by its number
 abbrev pub of_built : (ℕ → BuiltPage → List AuditFault) → ℕ × Option BuiltPage → List AuditFault

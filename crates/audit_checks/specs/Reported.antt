@@ -1,5 +1,6 @@
 -- What the checks answer. The faults of a dump stand in one list, in the order of the checks.
-use Rattle.std.specs.Prelude.{◌≡◌, ℕ, List, [], ◌∷◌, ◌++◌, Option, Result, Ok, Err}
+use Rattle.std.specs.Prelude.{◌≡◌, ℕ, List, [], ◌++◌, Option, Result, Ok, Err}
+pub use Rattle.heap_layout.specs.Faults.{IsFirst}
 use Rattle.heap_layout.specs.declared.edition.Edition.{Edition}
 use Rattle.comp_history.specs.Setup.{Setup}
 use Rattle.comp_dump.specs.Dumped.{BuiltPage}
@@ -30,11 +31,6 @@ faults_for u edition roots builds records total =
     ++ (page_faults u builds records
     ++ (history_faults u records
     ++ total_faults u.heap total records))
-
--- the list begins with this fault
-abbrev pub IsFirst : List AuditFault → AuditFault → Type 0
-IsFirst [] fault = ⊥
-IsFirst (first ∷ others) fault = fault ≡ first
 
 -- a check passes if there is no fault, and else answers the first; it may end early if memory runs out
 abbrev pub Reports : List AuditFault → Result (Unit {0}) CheckEnd → Type 0

@@ -12,7 +12,7 @@ use Rattle.comp_dump.proofs.CompHistoryPages.{total_below}
 use Rattle.comp_dump.specs.declared.fault.AuditFault.{AuditFault}
 use Rattle.comp_dump.specs.declared.fault.AuditFault.TheVariants.{StampRepeated, StampMissing}
 use Rattle.audit_checks.specs.Checks.{unless, above, repeat_faults, missing_faults}
-use Rattle.audit_checks.proofs.Reporting.{none_both, unless_holds}
+use Rattle.heap_layout.proofs.Rows.{append-none, unless-none}
 use Rattle.audit_checks.proofs.Ranges.{somewhere, all_below}
 
 times_stamps : (s : ℕ) (all : List (ℕ × Entry)) → times s (map stamp_of all) ≡ total (λ (x : ℕ × Entry). only s (stamp_of x)) all
@@ -66,7 +66,7 @@ each_once f (suc n) some =
 pub range_none : (f : ℕ → List AuditFault) (low n s : ℕ) → flat_map f (range_with_len low n) ≡ [] → low ≤ s → s < low + n → f s ≡ []
 range_none f low zero s none ge lt = absurd (omega (arith, ge, lt))
 range_none f low (suc n) s none ge lt =
-    let both = none_both (f low) (flat_map f (range_with_len (low + 1) n)) none in
+    let both = append-none (f low) (flat_map f (range_with_len (low + 1) n)) none in
     elim (cases_lt low s) [
       | inl less ↦ range_none f (low + 1) n s both.1 (omega (arith, less)) (omega (arith, lt))
       | inr le ↦ let same : low ≡ s = omega (arith, ge, le) in ap f (sym same) ∙ both.0
@@ -75,7 +75,7 @@ range_none f low (suc n) s none ge lt =
 pub stamps_once : (xs : List ℕ) → repeat_faults xs ≡ [] → (s : ℕ) → times s xs ≤ 1
 stamps_once xs none s =
     elim (cases_lt s (above xs)) [
-      | inl lt ↦ leb-true _ _ (unless_holds (leb (times s xs) 1) (StampRepeated s)
+      | inl lt ↦ leb-true _ _ (unless-none (leb (times s xs) 1) (StampRepeated s)
           (range_none (λ k. unless (leb (times k xs) 1) (StampRepeated k)) 0 (above xs) s none (omega arith) (omega (arith, lt))))
       | inr le ↦ elim (cases_lt (times s xs) 1) [
         | inl few ↦ omega (arith, few)
@@ -85,7 +85,7 @@ stamps_once xs none s =
 
 pub stamps_there : (xs : List ℕ) → missing_faults xs ≡ [] → (s : ℕ) → s < length xs → 1 ≤ times s xs
 stamps_there xs none s lt =
-    leb-true _ _ (unless_holds (leb 1 (times s xs)) (StampMissing s)
+    leb-true _ _ (unless-none (leb 1 (times s xs)) (StampMissing s)
     (range_none (λ k. unless (leb 1 (times k xs)) (StampMissing k)) 0 (length xs) s none (omega arith) (omega (arith, lt))))
 
 pub stamps_no_more : (xs : List ℕ) → missing_faults xs ≡ [] → (s : ℕ) → length xs ≤ s → times s xs ≡ 0

@@ -41,7 +41,8 @@ use Rattle.comp_dump.specs.Dumped.{BuiltPage, IsStoredRecord}
 use Rattle.comp_dump.specs.declared.fault.AuditFault.TheVariants.{WrongHead, WrongWord, WrongTotal, BuildUnclaimed, BadEntry}
 use Rattle.audit_checks.specs.Checks.{setup_for, unless, all_entries, all_stamps, journal_of, journals_in, above, is_edition, head_faults, is_claimed, build_faults, journal_faults, same_words, word_faults, each_built, is_kind, makes, is_forwarding_address, is_made_before, is_led, late_on, late_with, late_faults, repeat_faults, missing_faults}
 use Rattle.comp_audit.specs.Meant.{built_count, journals_of, IsLawfulDump, YesIsSound}
-use Rattle.audit_checks.proofs.Reporting.{none_both, unless_holds, item_none}
+use Rattle.heap_layout.proofs.Rows.{append-none, unless-none}
+use Rattle.audit_checks.proofs.Reporting.{item_none}
 use Rattle.audit_checks.proofs.Meanings.{and_true, kind_means}
 use Rattle.audit_checks.proofs.Built.{built_none, built_inside, lawful_records, rising_records}
 use Rattle.comp_audit.proofs.Clock.{stamps_counted, stamps_long, stamps_once, stamps_there, stamps_no_more, range_none}
@@ -58,7 +59,7 @@ head_means : (u : Setup) (edition : Edition) (roots : List ℕ) (records : List 
     → (edition ≡ u.heap.edition) × (length records ≡ pages u) × (roots ≡ map (forwarded (live u.heap)) u.heap.roots)
 head_means u edition roots records none =
     let right = map (forwarded (live u.heap)) u.heap.roots in
-    let all = and_true (is_edition edition u.heap.edition) (eqb (length records) (pages u) && bytes_eq roots right) (unless_holds _ WrongHead none) in
+    let all = and_true (is_edition edition u.heap.edition) (eqb (length records) (pages u) && bytes_eq roots right) (unless-none _ WrongHead none) in
     let both = and_true (eqb (length records) (pages u)) (bytes_eq roots right) all.1 in
     (edition_means edition u.heap.edition all.0, eqb-true _ _ both.0, (bytes_eq-Decides roots right).0 both.1)
 
@@ -70,14 +71,14 @@ claim_by builds p (Some page) h = eqb-true _ _ h
 claims_mean : (builds : List (List ℕ)) (records : List (Option BuiltPage)) → build_faults builds records ≡ [] → (p : ℕ) → p < length records
     → named p builds ≡ built_count (get_or records p None)
 claims_mean builds records none p lt =
-    claim_by builds p (get_or records p None) (unless_holds (is_claimed builds (p, get_or records p None)) (BuildUnclaimed p)
+    claim_by builds p (get_or records p None) (unless-none (is_claimed builds (p, get_or records p None)) (BuildUnclaimed p)
     (item_none (λ place. unless (is_claimed builds place) (BuildUnclaimed place.0)) 0 records p p None lt (omega arith) none))
 
 -- the words of a page
 words_mean : (right words : List ℕ) (p : ℕ) → length right ≡ 64 → length words ≡ 64 → same_words right p words ≡ [] → words ≡ right
 words_mean right words p long as_long none =
     ext_get_or 0 words right (as_long ∙ sym long) (λ i lt.
-    eqb-true _ _ (unless_holds (eqb (get_or words i 0) (get_or right i 0)) (WrongWord (address p i))
+    eqb-true _ _ (unless-none (eqb (get_or words i 0) (get_or right i 0)) (WrongWord (address p i))
     (item_none (λ word. unless (eqb word.1 (get_or right word.0 0)) (WrongWord (address p word.0))) 0 words i i 0 lt (omega arith) none)))
 
 pub page_long : (edition : Edition) (mutators : ℕ) (records : List (Option BuiltPage)) (p : ℕ) (page : BuiltPage) → ((k : ℕ) (d : Option BuiltPage) → k < length records → IsStoredRecord edition mutators (get_or records k d))
@@ -160,7 +161,7 @@ passes_by test records p i e (Some page) none at there =
     let one = item_none (λ entry. unless (not (eqb entry.1.stamp e.stamp) || test entry.1) (BadEntry p entry.0)) 0 page.journal i i e (is_inside page.journal i e there) (omega arith) entries in
     let here : unless (not (eqb e.stamp e.stamp) || test e) (BadEntry p i) ≡ [] =
     subst (λ (x : Entry). unless (not (eqb x.stamp e.stamp) || test x) (BadEntry p i) ≡ []) (read_at page.journal i e e there) one in
-    or_right (not (eqb e.stamp e.stamp)) (test e) (ap not (eq-eqb e.stamp e.stamp refl)) (unless_holds (not (eqb e.stamp e.stamp) || test e) (BadEntry p i) here)
+    or_right (not (eqb e.stamp e.stamp)) (test e) (ap not (eq-eqb e.stamp e.stamp refl)) (unless-none (not (eqb e.stamp e.stamp) || test e) (BadEntry p i) here)
 
 passes_late : (test : Entry → Bool) (records : List (Option BuiltPage)) → late_faults test records ≡ [] → (p i : ℕ) (e : Entry)
     → get_elem? (journals_in records p) i ≡ maybe.some e → test e ≡ true
@@ -200,14 +201,14 @@ unfolding history
 yes_is_sound heap dump closed stored none =
     let u = setup_for heap dump.fresh dump.mutators in
     let records = dump.pages in
-    let head = none_both _ _ none in
-    let singles = none_both _ _ head.1 in
-    let between = none_both _ _ singles.1 in
-    let builds = none_both _ _ singles.0 in
-    let entries_words = none_both _ _ builds.1 in
-    let references = none_both _ _ between.0 in
-    let repeats = none_both _ _ references.1 in
-    let missing_late = none_both _ _ repeats.1 in
+    let head = append-none _ _ none in
+    let singles = append-none _ _ head.1 in
+    let between = append-none _ _ singles.1 in
+    let builds = append-none _ _ singles.0 in
+    let entries_words = append-none _ _ builds.1 in
+    let references = append-none _ _ between.0 in
+    let repeats = append-none _ _ references.1 in
+    let missing_late = append-none _ _ repeats.1 in
     let front = head_means u dump.edition dump.roots records head.0 in
     let can = merges u records front.1 refl entries_words.0 repeats.0 missing_late.0 missing_late.1 in
     let lawful : IsLawfulDump u dump = record {
@@ -218,7 +219,7 @@ yes_is_sound heap dump closed stored none =
       words = λ p page at. words_mean (replayed (base_of u p) page.journal) page.words p (replayed_long (base_of u p) page.journal ∙ base_long u p)
           (page_long dump.edition dump.mutators records p page stored.pages at) (built_none (word_faults u) records p page entries_words.1 at);
       merges = can;
-      total = eqb-true _ _ (unless_holds (eqb dump.total (live_words (live heap) + allocated heap.edition (all_entries records))) WrongTotal between.1)
+      total = eqb-true _ _ (unless-none (eqb dump.total (live_words (live heap) + allocated heap.edition (all_entries records))) WrongTotal between.1)
           ∙ ap (λ (n : ℕ). live_words (live heap) + allocated heap.edition (entries_below (journals_in records) n)) front.1
           ∙ ap (λ (n : ℕ). live_words (live heap) + n) (sym (total_merged u (journals_in records)));
     } in

@@ -5,6 +5,7 @@ use Rattle.std.proofs.lemmas.List.{length-map}
 use Rattle.heap_layout.specs.Bits.{bit}
 use Rattle.heap_layout.specs.Heap.{Heap, is_start}
 use Rattle.heap_layout.specs.Faults.{size_faults, mark_faults, root_faults, target_faults, weak_faults, faults, IsFirst, IsAccepted}
+use Rattle.heap_layout.proofs.Rows.{first-part}
 use Rattle.heap_layout.specs.declared.edition.Edition.{Edition}
 use Rattle.heap_layout.specs.declared.fault.LayoutFault.{LayoutFault}
 use Rattle.heap_layout.specs.declared.fault.LayoutFault.TheVariants.{TooLarge, ObjectPastEnd, ObjectTooLong, MarkNotStart, MarksNotRising, BadRoot, UnmarkedTarget, Truncated, TrailingBytes, BadMagic, OutOfMemory, Device, BadWeak}
@@ -36,11 +37,6 @@ refused_first list (BadWeak i) h = h
 
 abbrev heap_of : Edition → List ℕ → List ℕ → List ℕ → Heap
 heap_of edition marks words roots = record { edition = edition; words = words; marks = marks; roots = roots }
-
--- the first fault of a list is the first fault of a longer list
-first_of : (a b : List LayoutFault) (fault : LayoutFault) → IsFirst a fault → IsFirst (a ++ b) fault
-first_of [] b fault h = absurd h
-first_of (x ∷ a) b fault h = h
 
 module _ (heap : Heap) (f : Finished) (marks : List ℕ) (e : IsEndOf heap f) where
   abbrev u : Setup
@@ -87,15 +83,15 @@ module _ (heap : Heap) (f : Finished) (marks : List ℕ) (e : IsEndOf heap f) wh
       let marked = mark_faults (object_starts u journals) 0 marks in
       let own = size_faults (length next.words) (length marks) (length next.roots) in
       refused_first (next_faults u journals next) fault
-      (first_of (((own ++ marked) ++ others) ++ targets) last fault
-      (first_of ((own ++ marked) ++ others) targets fault (first_of (own ++ marked) others fault (first_of own marked fault here))))
+      (first-part (((own ++ marked) ++ others) ++ targets) last fault
+      (first-part ((own ++ marked) ++ others) targets fault (first-part (own ++ marked) others fault (first-part own marked fault here))))
 
   pub mark_refused : (fault : LayoutFault) → sizes ≡ [] → IsFirst (mark_faults (object_starts u journals) 0 marks) fault → IsRefusedFor (next_faults u journals next) fault
   mark_refused fault none first =
       let marked = mark_faults (object_starts u journals) 0 marks in
       refused_first (next_faults u journals next) fault
       (subst (λ l. IsFirst ((((l ++ marked) ++ others) ++ targets) ++ last) fault) (sym none ∙ sizes_are)
-      (first_of ((marked ++ others) ++ targets) last fault (first_of (marked ++ others) targets fault (first_of marked others fault first))))
+      (first-part ((marked ++ others) ++ targets) last fault (first-part (marked ++ others) targets fault (first-part marked others fault first))))
 
   -- the bits say which marks are starts
   pub bits_are : (words bits : List ℕ) → AreMoved u journals (64 * length (pages_of f)) words bits → length bits ≡ length (pages_of f) → (i : ℕ) → is_start (object_starts u journals) i ≡ (ltb i (64 * length bits) && bit bits i)

@@ -6,7 +6,7 @@ ghost use Rattle.heap_layout.specs.Writing.{Writes, CountsOne};
 ghost use Rattle.comp_cycles.specs.PageCellsEnds.{lists as items_of};
 ghost use Rattle.comp_dump.specs.Codes.{kind_code};
 ghost use Rattle.comp_dump.specs.Dumped.{HasFewEntries, IsWritable};
-ghost use Rattle.comp_dump.specs.DumpEncoding.{builds_bytes, dump_bytes, eight_bytes, entry_bytes, four_bytes, head, one_byte, page_bytes};
+ghost use Rattle.comp_dump.specs.DumpEncoding.{builds_bytes, dump_bytes, eight_bytes, entry_bytes, one_byte, page_bytes};
 ghost use Rattle.comp_dump.specs.DumpReading.{CountsFailure};
 ghost use Rattle.comp_dump.specs.declared.fault.DumpFault.TheVariants as fault;
 
@@ -17,7 +17,7 @@ use crate::reading::fields::MAGIC;
 use byteorder::{ByteOrder, LittleEndian};
 use comp_journal::Entry;
 use heap_layout::{
-    Counted, Edition, Kind, write_four, write_numbers, write_part, write_version, write_words,
+    Counted, Edition, Kind, write_four, write_head, write_numbers, write_part, write_words,
 };
 use std::io::Write;
 
@@ -27,14 +27,6 @@ fn write_one<W: Write>(w: &mut Counted<W>, n: u8) -> std::io::Result<()>
     ensures counts { CountsOne (failures_of w.old) (failures_of w.new) result }
 {
     write_part(w, &[n])
-}
-
-// Writes a small number, in 4 bytes.
-fn write_small<W: Write>(w: &mut Counted<W>, n: u8) -> std::io::Result<()>
-    ensures writes { Writes (W.contents (inner_of w.old)) (W.contents (inner_of w.new)) (four_bytes n) result }
-    ensures counts { CountsOne (failures_of w.old) (failures_of w.new) result }
-{
-    write_four(w, u32::from(n))
 }
 
 // Writes a number of 8 bytes.
@@ -154,26 +146,6 @@ fn write_all_builds<W: Write>(w: &mut Counted<W>, lists: &[Vec<u32>]) -> std::io
     Ok(())
 }
 
-// Writes all that precedes the roots.
-fn write_head<W: Write>(
-    w: &mut Counted<W>,
-    edition: Edition,
-    mutators: u8,
-    fresh: u32,
-    pages: u32,
-    roots: u32,
-) -> std::io::Result<()>
-    ensures writes { Writes (W.contents (inner_of w.old)) (W.contents (inner_of w.new)) (head edition mutators fresh pages roots) result }
-    ensures counts { CountsOne (failures_of w.old) (failures_of w.new) result }
-{
-    write_part(w, &MAGIC)?;
-    write_version(w, edition)?;
-    write_small(w, mutators)?;
-    write_four(w, fresh)?;
-    write_four(w, pages)?;
-    write_four(w, roots)
-}
-
 // Writes a dump of these parts.
 fn write_parts<W: Write>(
     w: &mut Counted<W>,
@@ -190,14 +162,13 @@ fn write_parts<W: Write>(
         (dump_bytes (record { edition = edition; mutators = mutators; fresh = fresh; roots = roots.now; pages = pages.now; builds = items_of builds.now; total = total })) result }
     ensures counts { CountsOne (failures_of w.old) (failures_of w.new) result }
 {
-    write_head(
-        w,
-        edition,
-        mutators,
+    let counts = [
+        u32::from(mutators),
         fresh,
         pages.len() as u32,
         roots.len() as u32,
-    )?;
+    ];
+    write_head(w, &MAGIC, edition, &counts)?;
     write_words(w, roots)?;
     write_pages(w, pages)?;
     write_all_builds(w, builds)?;

@@ -1,9 +1,10 @@
-ghost use Rattle.std.specs.Prelude.{◌≡◌, ◌↔◌, ◌+◌, ◌-◌, ◌<◌, ◌≤◌, [], ◌∷◌, ◌++◌, length, min, vec_len, vec_capacity, OnOk, OnErr, IsErrOf};
+ghost use Rattle.std.specs.Prelude.{◌≡◌, ◌↔◌, ◌+◌, ◌<◌, ◌≤◌, [], ◌∷◌, ◌++◌, length, None, OnOk, OnErr, IsErrOf, IsSome};
+ghost use Rattle.std.specs.Option.{unwrap_or};
 ghost use Rattle.comp_journal.specs.Journal.{replayed};
 ghost use Rattle.comp_journal.specs.declared.refusal.JournalRefusal.TheVariants.{JournalFull};
 
-use crate::base_words::keep;
 use crate::entry::Entry;
+use crate::page_log::PageLog;
 use crate::refusal::JournalRefusal;
 use heap_layout::{MAX_ENTRIES, PAGE_WORDS, PageWords};
 use std::alloc::Global;
@@ -12,27 +13,43 @@ use std::marker::Model;
 /// A page with its journal. Its words are the base with all writes of the journal applied in order.
 #[derive(Debug, Drop)]
 pub struct JournaledPage {
-    // The words that the page began with. A copy is made when the first entry is reserved. Before that there are no
-    // entries, and `words` is the base.
-    base: Option<PageWords>,
-    words: PageWords,
-    journal: Vec<Entry>,
+    log: PageLog,
+    // The words of the page. A copy of the base is made when the first entry is reserved. Before that there are no
+    // entries, and the words are the base.
+    words: Option<PageWords>,
 }
 
 impl Model for JournaledPage {
-    ghost use Rattle.std.specs.Prelude.{◌≡◌, ◌≤◌, ◌-◌, None, min, length, vec_len, vec_capacity};
+    ghost use Rattle.std.specs.Prelude.{◌≡◌, [], None};
     ghost use Rattle.std.specs.Option.{unwrap_or};
     ghost use Rattle.comp_journal.specs.Journal.{replayed, Reserved};
 
     ghost Value = { Reserved };
 
-    ghost view = { λ page. record {
-      page = record { base = unwrap_or page.base page.words; journal = page.journal.items };
-      room = min (vec_capacity page.journal) 1024 - vec_len page.journal;
-    } };
+    ghost view = { λ page. page.log };
 
-    ghost invariant = { λ page. (page.words ≡ replayed (unwrap_or page.base page.words) page.journal.items) × (vec_len page.journal ≤ 1024)
-        × (page.base ≡ None → (vec_len page.journal ≡ 0) × (vec_capacity page.journal ≡ 0)) };
+    ghost invariant = { λ page. (unwrap_or page.words page.log.page.base ≡ replayed page.log.page.base page.log.page.journal)
+        × (page.words ≡ None → (page.log.page.journal ≡ []) × (page.log.room ≡ 0)) };
+}
+
+// Keeps a copy of the base as the words, if none are kept yet. Err with `OutOfMemory` changes nothing.
+fn keep_words(
+    words: &mut Option<PageWords>,
+    alloc: Global,
+    base: &[u64; PAGE_WORDS],
+) -> Result<(), JournalRefusal>
+    ensures same { unwrap_or words.new base.now ≡ unwrap_or words.old base.now }
+    ensures kept { OnOk result (IsSome words.new) }
+    ensures refused { OnErr result (words.new ≡ words.old) }
+    ensures full { IsErrOf result JournalFull → ⊥ }
+{
+    if words.is_none() {
+        let Ok(copy) = PageWords::copied(alloc, base) else {
+            return Err(JournalRefusal::OutOfMemory);
+        };
+        *words = Some(copy);
+    }
+    Ok(())
 }
 
 impl JournaledPage {
@@ -42,31 +59,29 @@ impl JournaledPage {
         ensures room { result.room ≡ 0 }
     {
         JournaledPage {
-            base: None,
-            words,
-            journal: Vec::new(alloc),
+            log: PageLog::new(alloc, words),
+            words: None,
         }
     }
 
-    /// A page made of these parts. The words must be those that the journal makes of the base.
-    pub(crate) fn of_parts(base: PageWords, words: PageWords, journal: Vec<Entry>) -> JournaledPage
-        requires words { words ≡ replayed base journal.items }
-        requires few { vec_len journal ≤ 1024 }
-        ensures page { result.page ≡ record { base = base; journal = journal.items } }
-        ensures room { result.room ≡ min (vec_capacity journal) 1024 - vec_len journal }
+    /// The page of this log. The words must be those that its journal makes of its base. There may be none only if
+    /// nothing was written and no room for an entry is reserved.
+    pub(crate) fn of_log(log: PageLog, words: Option<PageWords>) -> JournaledPage
+        requires words { unwrap_or words log.page.base ≡ replayed log.page.base log.page.journal }
+        requires unwritten { words ≡ None → (log.page.journal ≡ []) × (log.room ≡ 0) }
+        ensures { result ≡ log }
     {
-        JournaledPage {
-            base: Some(base),
-            words,
-            journal,
-        }
+        JournaledPage { log, words }
     }
 
     /// The words of the page.
     pub fn words(&self) -> &[u64; PAGE_WORDS]
         ensures { result.now ≡ replayed self.now.page.base self.now.page.journal }
     {
-        self.words.as_array()
+        match &self.words {
+            Some(words) => words.as_array(),
+            None => self.log.base(),
+        }
     }
 
     /// All writes into the page, in order.
@@ -74,17 +89,14 @@ impl JournaledPage {
         ensures entries { result.now ≡ self.now.page.journal }
         ensures few { length self.now.page.journal ≤ 1024 }
     {
-        &self.journal
+        self.log.journal()
     }
 
     /// The words that the page began with.
     pub fn base(&self) -> &[u64; PAGE_WORDS]
         ensures { result.now ≡ self.now.page.base }
     {
-        match &self.base {
-            Some(base) => base.as_array(),
-            None => self.words.as_array(),
-        }
+        self.log.base()
     }
 
     /// Reserves room for one entry.
@@ -97,13 +109,12 @@ impl JournaledPage {
         ensures full { IsErrOf result JournalFull ↔ (length self.old.page.journal ≡ 1024) }
         ensures err { OnErr result (self.new.room ≡ self.old.room) }
     {
-        if self.journal.len() == MAX_ENTRIES {
+        if self.log.journal().len() == MAX_ENTRIES {
             return Err(JournalRefusal::JournalFull);
         }
-        let alloc = *self.journal.allocator();
-        keep(&mut self.base, alloc, self.words.as_array())?;
-        self.journal.reserve(1)?;
-        Ok(())
+        let alloc = self.log.allocator();
+        keep_words(&mut self.words, alloc, self.log.base())?;
+        self.log.reserve_entry()
     }
 
     /// Writes the value of the entry at its offset, and appends the entry to the journal. There must be room for it,
@@ -115,7 +126,9 @@ impl JournaledPage {
         ensures journal { self.new.page.journal ≡ self.old.page.journal ++ entry ∷ [] }
         ensures room { self.new.room + 1 ≡ self.old.room }
     {
-        self.words.set(entry.offset, entry.value);
-        self.journal.push_reserved(entry);
+        if let Some(words) = &mut self.words {
+            words.set(entry.offset, entry.value);
+        }
+        self.log.append_reserved(entry);
     }
 }

@@ -1,10 +1,11 @@
 -- The numbers of shares.
-use Rattle.std.proofs.Common.{◌≡◌, ℕ, zero, suc, ◌+◌, ◌-◌, ◌<◌, ◌≤◌, List, [], ◌∷◌, ◌++◌, length, sum, take, take_all, get_or, Contains, ap, sym, ◌∙◌, ⊎_elim, arith, subst}
+use Rattle.std.proofs.Common.{◌≡◌, ℕ, zero, suc, ◌+◌, ◌-◌, ◌<◌, ◌≤◌, List, [], ◌∷◌, ◌++◌, length, sum, take, get_or, Contains, ap, ◌∙◌, ⊎_elim, arith}
 use Rattle.std.proofs.lemmas.Bool.{cases_lt}
-use Rattle.std.proofs.lemmas.List.{get_or-map, length-map, map-append, take_more}
-use Rattle.std.proofs.lemmas.List.Elements.{Contains-push_cases}
+use Rattle.std.proofs.lemmas.List.{length-map, map-append}
 use Rattle.std.proofs.lemmas.List.Sums.{sum_by_more, sum_by_more_le}
 use Rattle.std.specs.List.{range_with_len}
+use Rattle.heap_layout.specs.Numbered.{HasNumber}
+use Rattle.heap_layout.proofs.Indexed.{at_below, at_map, read_at}
 use Rattle.comp_ledger.specs.Shares.{number_of, numbers_of, posted_of, total_posted, NoneMissing}
 use Rattle.comp_ledger.specs.declared.share.Share.{Share}
 use Rattle.comp_ledger.proofs.Counting.{enough}
@@ -13,33 +14,15 @@ module _ {L : Type 0} where
   pub numbers_of-push : (xs : List (Share L)) (x : Share L) → numbers_of (xs ++ x ∷ []) ≡ numbers_of xs ++ number_of x ∷ []
   numbers_of-push xs x = map-append number_of xs (x ∷ [])
 
-  -- a share of the list has this number
-  pub has_here : (xs : List (Share L)) (i : ℕ) (share : Share L) (n : ℕ) → i < length xs → share ≡ get_or xs i share → number_of share ≡ n → Contains (numbers_of xs) n
-  has_here xs i share n lt is e =
-      let long = length-map xs number_of in
-      (i, omega (arith, lt, long), get_or-map number_of xs i share n lt ∙ ap number_of (sym is) ∙ e)
-
-  -- if neither the shares before index i nor the share at i have this number, none of the first i + 1 shares has it
-  pub not_through : (xs : List (Share L)) (i : ℕ) (share : Share L) (n : ℕ) → i < length xs → share ≡ get_or xs i share → (number_of share ≡ n → ⊥) → (Contains (numbers_of (take i xs)) n → ⊥) → Contains (numbers_of (take (i + 1) xs)) n → ⊥
-  not_through xs i share n lt is other before has =
-      let more : take (i + 1) xs ≡ take i xs ++ share ∷ [] = take_more xs i share lt ∙ ap (λ s. take i xs ++ s ∷ []) (sym is) in
-      let pushed : Contains (numbers_of (take i xs) ++ number_of share ∷ []) n = subst (λ l. Contains l n) (ap numbers_of more ∙ numbers_of-push (take i xs) share) has in
-      ⊎_elim before other (Contains-push_cases (numbers_of (take i xs)) (number_of share) n pushed)
-
-  -- if no share before i has this number, and i is past the end, no share has it
-  pub not_at_all : (xs : List (Share L)) (i n : ℕ) → length xs ≤ i → (Contains (numbers_of (take i xs)) n → ⊥) → Contains (numbers_of xs) n → ⊥
-  not_at_all xs i n le before has = before (subst (λ l. Contains (numbers_of l) n) (sym (take_all i xs le)) has)
+  -- the number of a share of the list
+  has_number : (xs : List (Share L)) (n : ℕ) → HasNumber number_of xs n → Contains (numbers_of xs) n
+  has_number xs n h =
+      let at = at_map number_of xs h.1.0 h.0 h.1.1 in
+      (h.1.0, at_below (numbers_of xs) h.1.0 _ at, read_at (numbers_of xs) h.1.0 _ n at ∙ h.2)
 
   -- if none of n shares is missing, the list has at least n shares
   pub as_many : (n : ℕ) (xs : List (Share L)) → NoneMissing n xs → n ≤ length xs
-  as_many n xs all = let long = length-map xs number_of in let many = enough n (numbers_of xs) all in omega (arith, long, many)
-
-  -- if a share has the number n too, none of n + 1 shares is missing
-  pub none_missing_next : (n : ℕ) (xs : List (Share L)) → NoneMissing n xs → Contains (numbers_of xs) n → NoneMissing (n + 1) xs
-  none_missing_next n xs before here k lt = ⊎_elim
-      (λ (below : k < n). before k below)
-      (λ (past : n ≤ k). let e : n ≡ k = omega (arith, lt, past) in subst (Contains (numbers_of xs)) e here)
-      (cases_lt k n)
+  as_many n xs all = let long = length-map xs number_of in let many = enough n (numbers_of xs) (λ k lt. has_number xs k (all k lt)) in omega (arith, long, many)
 
   -- if no share is missing, the merged parts are exactly `whole`
   pub all_parts : (parts whole : ℕ) (xs : List (Share L)) → NoneMissing whole xs → 1 ≤ whole → parts ≡ length xs → (1 < parts → parts ≤ whole) → parts ≡ whole

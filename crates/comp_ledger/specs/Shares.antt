@@ -1,5 +1,6 @@
 -- Shares of a ledger.
-use Rattle.std.specs.Prelude.{ℕ, ◌<◌, List, map, sum_by, Contains}
+use Rattle.std.specs.Prelude.{ℕ, List, map, sum_by}
+use Rattle.heap_layout.specs.Numbered as numbered
 use Rattle.comp_ledger.specs.declared.share.Share.{Share}
 
 -- the share's number
@@ -20,11 +21,8 @@ total_posted {L} shares = sum_by (λ (share : Share L). posted_of share) shares
 
 -- each number below `count` is the number of one of these shares
 abbrev pub NoneMissing : {L : Type 0} → ℕ → List (Share L) → Type 0
-NoneMissing count shares = (k : ℕ) → k < count → Contains (numbers_of shares) k
+NoneMissing count shares = numbered.HasAll number_of count shares
 
--- k is the least missing number: no share has it, it is below `count`, and each number below it is the number of some
--- share
-pub record IsLeastMissing {L : Type 0} (count : ℕ) (shares : List (Share L)) (k : ℕ) : Type 0 where
-  pub below : k < count
-  pub missing : Contains (numbers_of shares) k → ⊥
-  pub least : NoneMissing k shares
+-- no share has the number k, which is below `count`, and some share has each number below k
+abbrev pub IsLeastMissing : {L : Type 0} → ℕ → List (Share L) → ℕ → Type 0
+IsLeastMissing count shares k = numbered.IsLeastMissing number_of count shares k

@@ -2,10 +2,10 @@ ghost use Rattle.std.specs.Prelude.{◌≡◌, ◌↔◌, ◌+◌, ◌^◌, ◌<
 ghost use Rattle.std.specs.List.{range_with_len};
 
 use crate::fault::LedgerFault;
-use crate::gathering::{last_within, least_missing, merged};
+use crate::gathering::{last_within, merged};
 use crate::posted::Posted;
 use crate::share::Share;
-use heap_layout::OutOfMemory;
+use heap_layout::{OutOfMemory, least_missing};
 use std::alloc::Global;
 use std::sync::ledger::{Blank, Ledger as Named};
 use std::sync::{Mutex, Wait};

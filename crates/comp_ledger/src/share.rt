@@ -1,5 +1,6 @@
 ghost use Rattle.std.specs.Prelude.{◌≡◌};
 
+use heap_layout::Numbered;
 use std::sync::ledger::{Ledger as Named, Share as Token};
 
 /// A share of a ledger. Its owner, a thread that makes objects, posts words with it. It records how many words were
@@ -11,6 +12,14 @@ pub struct Share<L: Named> {
     pub(crate) token: Token<L>,
     ghost one: { token.parts ≡ 1 },
     ghost counted: { posted ≡ token.amount },
+}
+
+impl<L: Named> Numbered for Share<L> {
+    ghost number_of = { λ share. share.number };
+
+    fn number(&self) -> u8 {
+        Share::number(self)
+    }
 }
 
 impl<L: Named> Share<L> {

@@ -11,8 +11,8 @@ ghost use Rattle.comp_access.specs.Writes.{ReferenceRefused, Writes};
 ghost use Rattle.call_refusals.specs.declared.refusal.Refusal.TheVariants.{Busy};
 
 use crate::mutator::{Hand, Mutator};
+use crate::retried;
 use crate::space::Space;
-use crate::waiting::is_busy;
 use call_refusals::Refusal;
 use heap_layout::Kind;
 use page_plan::Builder;
@@ -76,14 +76,7 @@ impl<L: Named, B: Builder> Space<L, B> {
         ensures builds { OnOk result (MayBuildTouched (setup_of self.now) (pass_of m.old) (pass_of m.new) kind object field) }
         ensures refused { IfErr result (FieldRefused (setup_of self.now) (pass_of m.old) (pass_of m.new) kind object field) }
     {
-        let mut waits = 0;
-        for _ in rt.forever() {
-            let answer = self.try_read_referring(alloc, m, kind, object, field);
-            if !is_busy(&answer, &mut waits) {
-                return answer;
-            }
-        }
-        unreachable!()
+        retried!(rt, self.try_read_referring(alloc, m, kind, object, field))
     }
 
     /// Writes `value` into a field of a kind that refers, and answers the stamp of the entry. The value must be null or
@@ -143,13 +136,9 @@ impl<L: Named, B: Builder> Space<L, B> {
         ensures did { OnErr result (did (pass_of m.new) ≡ did (pass_of m.old)) }
         ensures refused { IfErr result (ReferenceRefused (setup_of self.now) (pass_of m.old) (pass_of m.new) kind object field value) }
     {
-        let mut waits = 0;
-        for _ in rt.forever() {
-            let answer = self.try_write_referring(alloc, m, kind, object, field, value);
-            if !is_busy(&answer, &mut waits) {
-                return answer;
-            }
-        }
-        unreachable!()
+        retried!(
+            rt,
+            self.try_write_referring(alloc, m, kind, object, field, value)
+        )
     }
 }

@@ -13,7 +13,7 @@ use Rattle.heap_layout.specs.declared.fault.LayoutFault.{LayoutFault}
 use Rattle.heap_layout.specs.declared.fault.LayoutFault.TheVariants.{TooLarge, ObjectPastEnd, ObjectTooLong, MarkNotStart, MarksNotRising, BadRoot, UnmarkedTarget, BadWeak}
 
 -- the fault, if the test fails
-abbrev pub unless : Bool → LayoutFault → List LayoutFault
+abbrev pub unless : {F : Type 0} → Bool → F → List F
 unless holds fault = if holds then [] else fault ∷ []
 
 -- the numbers of words, marks or roots that are above the limits of an image
@@ -92,11 +92,11 @@ abbrev pub IsAccepted : Heap → Type 0
 IsAccepted heap = faults heap ≡ []
 
 -- the list begins with this fault
-abbrev pub IsFirst : List LayoutFault → LayoutFault → Type 0
+abbrev pub IsFirst : {F : Type 0} → List F → F → Type 0
 IsFirst [] fault = ⊥
 IsFirst (first ∷ others) fault = fault ≡ first
 
 -- the answer for this list of faults: Ok if it is empty, otherwise its first fault
-abbrev pub Reports : {T : Type 0} → List LayoutFault → Result T LayoutFault → Type 0
+abbrev pub Reports : {F T : Type 0} → List F → Result T F → Type 0
 Reports list (Ok _) = list ≡ []
 Reports list (Err fault) = IsFirst list fault

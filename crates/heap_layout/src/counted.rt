@@ -37,13 +37,6 @@ impl<R> Counted<R> {
         self.failures
     }
 
-    /// Whether all bytes that the writer has taken have been flushed since.
-    pub fn is_flushed(&self) -> bool
-        ensures { result ≡ is_flushed_of self.now }
-    {
-        self.flushed
-    }
-
     /// The reader or writer inside.
     pub fn into_inner(self) -> R
         ensures { result ≡ inner_of self }

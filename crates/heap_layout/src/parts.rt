@@ -1,8 +1,9 @@
 //! Reading and writing parts of many bytes whole, by as many calls as the device needs.
-ghost use Rattle.std.specs.Prelude.{◌≡◌, ℕ, ◌^◌, ◌-◌, ◌<◌, false, length, slice_index, IfErr, IfSome, OnErr, OnOk};
-ghost use Rattle.std.specs.Io.KnownBytes.{Appends, Consumes};
-ghost use Rattle.heap_layout.specs.Counted.{inner_of, failures_of, is_flushed_of, one_more, AppendsBeginning};
+ghost use Rattle.std.specs.Prelude.{◌≡◌, ℕ, ◌^◌, ◌-◌, ◌<◌, length, slice_index, IfErr, IfSome, OnOk};
+ghost use Rattle.std.specs.Io.KnownBytes.{Consumes};
+ghost use Rattle.heap_layout.specs.Counted.{inner_of, failures_of};
 ghost use Rattle.heap_layout.specs.Parts.{CutsBefore, CountsCut};
+ghost use Rattle.heap_layout.specs.Writing.{Writes, CountsOne};
 ghost use Rattle.heap_layout.specs.declared.parts.Cut.TheVariants as cuts;
 
 use crate::counted::Counted;
@@ -40,13 +41,9 @@ pub fn fill<R: Read>(r: &mut Counted<R>, buf: &mut [u8]) -> Result<(), Cut>
 
 /// Writes a whole part. The first call of the writer that fails ends it, even if it was only interrupted, and also one
 /// that takes no byte. What was taken before stays written.
-pub fn write_whole<W: Write>(w: &mut Counted<W>, part: &[u8]) -> std::io::Result<()>
-    ensures written { OnOk result (Appends (W.contents (inner_of w.old)) (W.contents (inner_of w.new)) part.now) }
-    ensures begun { OnErr result (AppendsBeginning (W.contents (inner_of w.old)) (W.contents (inner_of w.new)) (is_flushed_of w.old) (is_flushed_of w.new) part.now) }
-    ensures ok { OnOk result (failures_of w.new ≡ failures_of w.old) }
-    ensures err { OnErr result (failures_of w.new ≡ one_more (failures_of w.old)) }
-    ensures unflushed { OnOk result (0 < length part.now → is_flushed_of w.new ≡ false) }
-    ensures empty { length part.now ≡ 0 → is_flushed_of w.new ≡ is_flushed_of w.old }
+pub fn write_part<W: Write>(w: &mut Counted<W>, part: &[u8]) -> std::io::Result<()>
+    ensures writes { Writes (W.contents (inner_of w.old)) (W.contents (inner_of w.new)) part.now result }
+    ensures counts { CountsOne (failures_of w.old) (failures_of w.new) result }
 {
     let mut taken = 0;
     while taken < part.len() {

@@ -1,8 +1,8 @@
 //! Writes whole images, and the parts that images and dumps share.
-ghost use Rattle.std.specs.Prelude.{◌≡◌, ◌-◌, ◌^◌, ◌<◌, ◌≤◌, IfErr, length};
+ghost use Rattle.std.specs.Prelude.{◌≡◌, ◌-◌, ◌^◌, ◌<◌, ◌≤◌, ◌++◌, IfErr, length};
 ghost use Rattle.std.specs.List.{flat_map};
 ghost use Rattle.heap_layout.specs.Counted.{inner_of, failures_of};
-ghost use Rattle.heap_layout.specs.Encoding.{encoding, head, eight_bytes, four_bytes, version};
+ghost use Rattle.heap_layout.specs.Encoding.{encoding, eight_bytes, four_bytes, version};
 ghost use Rattle.heap_layout.specs.Writing.{Writes, CountsOne};
 ghost use Rattle.heap_layout.specs.declared.fault.LayoutFault.TheVariants as fault;
 
@@ -11,21 +11,10 @@ use crate::edition::Edition;
 use crate::fault::LayoutFault;
 use crate::heap::MarkedHeap;
 use crate::image::MAGIC;
-use crate::parts::write_whole;
+use crate::parts::write_part;
 use crate::versions::version_of;
 use byteorder::{ByteOrder, LittleEndian};
 use std::io::Write;
-
-/// Writes a whole part.
-pub fn write_part<W: Write>(w: &mut Counted<W>, part: &[u8]) -> std::io::Result<()>
-    ensures writes { Writes (W.contents (inner_of w.old)) (W.contents (inner_of w.new)) part.now result }
-    ensures counts { CountsOne (failures_of w.old) (failures_of w.new) result }
-{
-    match write_whole(w, part) {
-        Ok(()) => Ok(()),
-        Err(error) => Err(error),
-    }
-}
 
 /// Writes a number in 4 bytes, little-endian.
 pub fn write_four<W: Write>(w: &mut Counted<W>, n: u32) -> std::io::Result<()>
@@ -35,8 +24,8 @@ pub fn write_four<W: Write>(w: &mut Counted<W>, n: u32) -> std::io::Result<()>
     write_part(w, &n.to_le_bytes())
 }
 
-/// Writes the version of the edition, as it stands in images and dumps.
-pub fn write_version<W: Write>(w: &mut Counted<W>, edition: Edition) -> std::io::Result<()>
+// Writes the version of the edition, as it stands in images and dumps.
+fn write_version<W: Write>(w: &mut Counted<W>, edition: Edition) -> std::io::Result<()>
     ensures writes { Writes (W.contents (inner_of w.old)) (W.contents (inner_of w.new)) (version edition) result }
     ensures counts { CountsOne (failures_of w.old) (failures_of w.new) result }
 {
@@ -80,22 +69,19 @@ pub fn write_numbers<W: Write>(w: &mut Counted<W>, numbers: &[u32]) -> std::io::
     Ok(())
 }
 
-// Writes all that stands before the words in an image: the magic, the version and the counts.
-fn write_head<W: Write>(
+/// Writes the head of an image or of a dump: its magic, the version of the edition, and its counts, 4 bytes each.
+pub fn write_head<W: Write>(
     w: &mut Counted<W>,
+    magic: &[u8; 8],
     edition: Edition,
-    words: u32,
-    marks: u32,
-    roots: u32,
+    numbers: &[u32],
 ) -> std::io::Result<()>
-    ensures writes { Writes (W.contents (inner_of w.old)) (W.contents (inner_of w.new)) (head edition words marks roots) result }
+    ensures writes { Writes (W.contents (inner_of w.old)) (W.contents (inner_of w.new)) (magic.now ++ (version edition ++ flat_map four_bytes numbers.now)) result }
     ensures counts { CountsOne (failures_of w.old) (failures_of w.new) result }
 {
-    write_part(w, &MAGIC)?;
+    write_part(w, magic)?;
     write_version(w, edition)?;
-    write_four(w, words)?;
-    write_four(w, marks)?;
-    write_four(w, roots)
+    write_numbers(w, numbers)
 }
 
 // Writes the image of a heap with these parts.
@@ -111,13 +97,8 @@ fn write_heap<W: Write>(
         (encoding (record { edition = edition; words = words.now; marks = marks.now; roots = roots.now })) result }
     ensures counts { CountsOne (failures_of w.old) (failures_of w.new) result }
 {
-    write_head(
-        w,
-        edition,
-        words.len() as u32,
-        marks.len() as u32,
-        roots.len() as u32,
-    )?;
+    let counts = [words.len() as u32, marks.len() as u32, roots.len() as u32];
+    write_head(w, &MAGIC, edition, &counts)?;
     write_words(w, words)?;
     write_numbers(w, marks)?;
     write_words(w, roots)

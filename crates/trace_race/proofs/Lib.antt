@@ -1,4 +1,4 @@
-pub mod FieldCalls
 pub mod OwnLines
 pub mod ChainedLines
 pub mod Runners
+mod Retries

@@ -13,7 +13,7 @@ use trace_text::Action;
 
 /// Does what a line says, and answers what its call answers; a line `root` answers the forwarded root, and a line `nil`
 /// 0. Does not wait for a busy page. Requires a mutator of this space, and a line whose registers and root exist.
-pub(crate) fn act<L: Ledger, B: Builder>(
+pub fn act<L: Ledger, B: Builder>(
     alloc: Global,
     space: &Space<L, B>,
     m: &mut Mutator<L>,

@@ -7,6 +7,6 @@ mod registers;
 mod shown;
 mod stepping;
 
-pub use registers::{held, kind_if, root_at};
+pub use acting::act;
 pub use shown::{Shown, show};
 pub use stepping::step;

@@ -11,7 +11,7 @@ use heap_layout::Kind;
 use std::sync::ledger::Ledger;
 
 /// The word in a register. There are 16 registers.
-pub fn held(registers: &[u64; 16], register: u8) -> u64
+pub(crate) fn held(registers: &[u64; 16], register: u8) -> u64
     requires { register < 16 }
     ensures { result ≡ slice_index registers.now register }
 {
@@ -19,7 +19,7 @@ pub fn held(registers: &[u64; 16], register: u8) -> u64
 }
 
 /// The forwarded root of this number. Requires that the heap has it.
-pub fn root_at<L: Ledger, B: Builder>(space: &Space<L, B>, root: u16) -> u64
+pub(crate) fn root_at<L: Ledger, B: Builder>(space: &Space<L, B>, root: u16) -> u64
     requires { root < length (setup_of space.now).heap.roots }
     ensures { forward (live (setup_of space.now).heap) (slice_index (setup_of space.now).heap.roots root) ≡ Some result }
 {
@@ -27,7 +27,7 @@ pub fn root_at<L: Ledger, B: Builder>(space: &Space<L, B>, root: u16) -> u64
 }
 
 /// The kind of the field that a load or a store names: weak if `weak`, and else a reference. Both kinds refer.
-pub fn kind_if(weak: bool) -> Kind
+pub(crate) fn kind_if(weak: bool) -> Kind
     ensures kind { result ≡ kind_if weak }
     ensures refers { refers result ≡ true }
 {
