@@ -1,10 +1,10 @@
 //! Two cycles of a heap, which begin again if memory is refused in either.
-use crate::heaps::{Heap, heap_of};
 use comp_mutator::Refusal;
 use comp_trace::{CycleFault, CyclesStopped, Shown, TraceFault, parse, replay_cycles};
 use heap_layout::LayoutFault;
 use std::alloc::Global;
 use std::thread::Threads;
+use test_support::{Worked, worked_heap};
 
 // The data word of the first object is shown, and a new object is stored.
 const FIRST: &[u8] =
@@ -63,7 +63,7 @@ fn is_memory(stopped: &CyclesStopped) -> bool {
 
 // The cycles, or `None` if memory was refused before they began.
 fn cycles_once(rt: &(impl Threads + Sync), alloc: Global) -> Option<bool> {
-    let heap = heap_of(alloc, Heap::Three)?;
+    let heap = worked_heap(alloc, Worked::Three)?;
     let roots = heap.roots().len() as u16;
     let first = parse(alloc, FIRST, 1, roots).ok()?;
     let second = parse(alloc, SECOND, 1, roots).ok()?;

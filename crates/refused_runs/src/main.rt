@@ -7,7 +7,6 @@ mod answers;
 mod cycling;
 mod finishing;
 mod flipped;
-mod heaps;
 mod judging;
 mod ledgers;
 mod playing;

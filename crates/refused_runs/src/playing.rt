@@ -4,7 +4,6 @@ ghost use Rattle.comp_mutator.specs.Mutators.{setup_of, AreMutatorsOf};
 
 use crate::answers::is_answered;
 use crate::finishing::{finish, swept};
-use crate::heaps::{Heap, plan_of};
 use crate::rows::Row;
 use comp_mutator::{Finished, FlipFault, Mutator, Space, flip};
 use page_plan::Plan;
@@ -13,11 +12,12 @@ use std::marker::Brand;
 use std::sync::ledger::{Blank, Ledger as Named};
 use std::sync::{Arc, Wait};
 use std::thread::Threads;
+use test_support::{Worked, plan_of};
 
 /// A run: a heap that is flipped, what its mutators do, and what they leave.
 pub struct Case {
     pub name: &'static str,
-    pub heap: Heap,
+    pub heap: Worked,
     pub mutators: u32,
     pub fresh_pages: u32,
     pub rows: &'static [Row],
@@ -165,7 +165,7 @@ fn plays_named<L: Named + Send, R: Threads + Wait + Sync>(
 
 // The run, or `None` if there is no memory for its heap.
 fn plays_once<R: Threads + Wait + Sync>(rt: &R, alloc: Global, case: &Case) -> Option<bool> {
-    let plan = plan_of(rt, alloc, case.heap)?;
+    let plan = Arc::new(alloc, plan_of(rt, alloc, case.heap)?).ok()?;
     let blank = Blank::new(u64::from(case.mutators));
     plays_named::<Brand, R>(rt, alloc, blank, plan, case)
 }

@@ -6,7 +6,6 @@ ghost use Rattle.comp_trace.specs.WrittenEntries.{DidNothingYet};
 
 use crate::finishing::finish;
 use crate::flipped::flipped;
-use crate::heaps::{Heap, plan_of};
 use crate::judging::is_lawful;
 use comp_mutator::{Mutator, Refusal, Space};
 use comp_trace::{Shown, Stopped, TraceFault, replay_text};
@@ -16,6 +15,7 @@ use std::marker::Brand;
 use std::sync::Arc;
 use std::sync::ledger::{Blank, Ledger as Named};
 use std::thread::Threads;
+use test_support::{Worked, plan_of};
 
 // Mutator 0 writes 7, and line 6 of mutator 1 shows it.
 const TEXT: &[u8] = b"0 root 0 0\n0 load 1 0 0\n0 put 1 0 7\n1 root 0 0\n1 load 1 0 0\n1 get 1 0\n";
@@ -87,8 +87,8 @@ fn replays_named<L: Named>(
 
 // The replay, or `None` if there is no memory for its heaps.
 fn replays_once(rt: &(impl Threads + Sync), alloc: Global) -> Option<bool> {
-    let plan = plan_of(rt, alloc, Heap::Three)?;
-    let builder = plan_of(rt, alloc, Heap::Three)?;
+    let plan = plan_of(rt, alloc, Worked::Three)?;
+    let builder = Arc::new(alloc, plan_of(rt, alloc, Worked::Three)?).ok()?;
     replays_named::<Brand>(alloc, Blank::new(2), builder, &plan)
 }
 

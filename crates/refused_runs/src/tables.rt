@@ -1,10 +1,9 @@
 //! The runs of mutators.
-use crate::heaps::Heap;
 use crate::playing::Case;
 use crate::rows::{Call, Row};
 use comp_mutator::Refusal;
 use heap_layout::Kind;
-use test_support::T;
+use test_support::{T, Worked};
 
 // The first address on the second page of to-space, and on the third.
 const SECOND: u64 = T + 64;
@@ -14,7 +13,7 @@ const THIRD: u64 = T + 128;
 // Writes a data word.
 const WRITTEN: Case = Case {
     name: "a write",
-    heap: Heap::Three,
+    heap: Worked::Three,
     mutators: 1,
     fresh_pages: 0,
     rows: &[
@@ -30,7 +29,7 @@ const WRITTEN: Case = Case {
 // Objects fill two fresh pages.
 const ALLOCATED: Case = Case {
     name: "allocations",
-    heap: Heap::Smallest,
+    heap: Worked::Smallest,
     mutators: 1,
     fresh_pages: 2,
     rows: &[
@@ -50,7 +49,7 @@ const ALLOCATED: Case = Case {
 // Touches a page.
 const TOUCHED: Case = Case {
     name: "a touch",
-    heap: Heap::Zeros(255),
+    heap: Worked::Zeros(255),
     mutators: 1,
     fresh_pages: 0,
     rows: &[
@@ -66,7 +65,7 @@ const TOUCHED: Case = Case {
 // Two mutators make objects, and the first settles.
 const SETTLED: Case = Case {
     name: "allocations that are settled",
-    heap: Heap::Zeros(9),
+    heap: Worked::Zeros(9),
     mutators: 2,
     fresh_pages: 2,
     rows: &[
@@ -82,7 +81,7 @@ const SETTLED: Case = Case {
 // Objects of two mutators refer to one another.
 const REFERRED: Case = Case {
     name: "references to new objects",
-    heap: Heap::Three,
+    heap: Worked::Three,
     mutators: 2,
     fresh_pages: 2,
     rows: &[
@@ -116,7 +115,7 @@ const REFERRED: Case = Case {
 // One worker sweeps the twenty pages.
 const SWEPT: Case = Case {
     name: "a sweep",
-    heap: Heap::Twenty,
+    heap: Worked::Twenty,
     mutators: 1,
     fresh_pages: 0,
     rows: &[],

@@ -1,12 +1,12 @@
 //! The fights: how many mutators write into the first data word of the three objects, how often, and what is left.
-use crate::flipped::{plan_of, shared};
 use crate::judged::fight_named;
 use std::alloc::Global;
 use std::marker::Brand;
 use std::process::Abort;
-use std::sync::Wait;
 use std::sync::ledger::Blank;
+use std::sync::{Arc, Wait};
 use std::thread::Threads;
+use test_support::{At, Worked, plan_of};
 
 /// A fight for page 0.
 #[derive(Clone, Copy)]
@@ -20,6 +20,16 @@ pub struct Fight {
     pub waits: bool,
     /// Whether the writes fill the journal.
     pub fills: bool,
+}
+
+impl Fight {
+    /// Where a failing test is, by the number of a mutator, a stamp, a value or entries.
+    pub fn at(self, number: u64) -> At<'static> {
+        At {
+            case: self.name,
+            row: number,
+        }
+    }
 }
 
 static FIGHTS: [Fight; 3] = [
@@ -48,14 +58,15 @@ static FIGHTS: [Fight; 3] = [
 
 // Runs a fight on the heap of the three objects.
 fn fight_out<R: Abort + Threads + Wait + Sync>(rt: &R, alloc: Global, fight: &Fight) {
-    let plan = plan_of(rt, alloc);
-    let builder = shared(rt, alloc, plan_of(rt, alloc));
+    let plan = plan_of(rt, alloc, Worked::Three).expect(rt, "a plan");
+    let shared = plan_of(rt, alloc, Worked::Three).expect(rt, "a plan");
+    let builder = Arc::new(alloc, shared).expect(rt, "memory for the builder");
     let blank = Blank::new(u64::from(fight.mutators));
     fight_named::<Brand, R>(rt, alloc, blank, builder, &plan, *fight);
 }
 
 #[test]
-fn fights_for_one_page(rt: HostRuntime) {
+fn racing_writes_each_have_one_entry(rt: HostRuntime) {
     for each in &FIGHTS {
         fight_out(&rt, rt.alloc(), each);
     }

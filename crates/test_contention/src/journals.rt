@@ -1,5 +1,5 @@
 //! What a fight leaves on the page.
-use crate::expected::expect_so;
+use crate::expected::{expect_eq, expect_so};
 use crate::fights::Fight;
 use crate::writing::value_at;
 use comp_journal::{Entry, JournaledPage};
@@ -45,14 +45,14 @@ fn has_last(page: &JournaledPage) -> bool {
 
 // Panics unless the journal has `entries` entries, their stamps count from 0, and the values of each writer rise.
 fn expect_journal(rt: &impl Abort, journal: &[Entry], entries: u64, fight: Fight) {
-    expect_so(rt, fight.name, journal.len() as u64 == entries, entries);
+    expect_eq(rt, fight.at(0), journal.len() as u64, entries);
     for (stamp, entry) in journal.iter().enumerate() {
         let stamp = stamp as u64;
-        expect_so(rt, fight.name, is_entry(entry, stamp, fight), stamp);
+        expect_so(rt, fight.at(stamp), is_entry(entry, stamp, fight));
     }
     for writer in 0..fight.mutators {
         let so = are_of_writer(journal, writer, fight);
-        expect_so(rt, fight.name, so, u64::from(writer));
+        expect_so(rt, fight.at(u64::from(writer)), so);
     }
 }
 
@@ -62,10 +62,11 @@ pub fn expect_page(rt: &impl Abort, finished: &Finished, entries: u64, fight: Fi
     match page {
         Some(page) => {
             expect_journal(rt, page.journal(), entries, fight);
-            expect_so(rt, fight.name, has_last(page), entries);
+            expect_so(rt, fight.at(entries), has_last(page));
         }
         None => rt.panic(fight.name),
     }
-    let all = !fight.fills || entries == 1_024;
-    expect_so(rt, fight.name, all, entries);
+    if fight.fills {
+        expect_eq(rt, fight.at(0), entries, 1_024);
+    }
 }

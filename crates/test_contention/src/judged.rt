@@ -3,7 +3,7 @@ ghost use Rattle.std.specs.Prelude.{◌≡◌};
 ghost use Rattle.comp_mutator.specs.Finishes.{IsOfFlip};
 ghost use Rattle.comp_mutator.specs.Mutators.{setup_of, AreMutatorsOf};
 
-use crate::expected::expect_so;
+use crate::expected::expect_eq;
 use crate::fights::Fight;
 use crate::journals::expect_page;
 use crate::writing::{count_entries, expect_full, write_at_once};
@@ -23,7 +23,7 @@ fn expect_lawful(rt: &impl Abort, alloc: Global, plan: &Plan, finished: &Finishe
     let n = u32::from(fight.mutators);
     let dump = Dump::of(alloc, finished, n, 0).expect(rt, fight.name);
     let verdict = audit(alloc, plan, &dump).expect(rt, fight.name);
-    expect_so(rt, fight.name, verdict == Verdict::Yes, 0);
+    expect_eq(rt, fight.at(0), verdict, Verdict::Yes);
 }
 
 // Finishes the heap, and panics unless it has all that was written.

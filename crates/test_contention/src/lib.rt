@@ -6,8 +6,6 @@ mod expected;
 #[cfg(test)]
 mod fights;
 #[cfg(test)]
-mod flipped;
-#[cfg(test)]
 mod journals;
 #[cfg(test)]
 mod judged;

@@ -1,7 +1,7 @@
 //! Writes of many threads at once into the first data word of the three objects.
 ghost use Rattle.comp_mutator.specs.Mutators.{AreMutatorsOf, IsMutatorOf};
 
-use crate::expected::expect_so;
+use crate::expected::{expect_eq, expect_so};
 use crate::fights::Fight;
 use comp_mutator::{Builder, Mutator, Refusal, Space};
 use std::alloc::Global;
@@ -34,7 +34,7 @@ fn writes<L: Named, B: Builder, R: Abort + Wait>(
         false => space.try_write_data(alloc, m, T, 0, value),
     };
     let busy = !fight.waits && told == Err(Refusal::Busy(0));
-    expect_so(rt, fight.name, told.is_ok() || busy, value);
+    expect_so(rt, fight.at(value), told.is_ok() || busy);
     told.is_ok()
 }
 
@@ -56,7 +56,7 @@ fn write_all<L: Named, B: Builder, R: Abort + Wait>(
             count = count.wrapping_add(1);
         }
     }
-    expect_so(rt, fight.name, m.entries() == count, u64::from(number));
+    expect_eq(rt, fight.at(u64::from(number)), m.entries(), count);
 }
 
 /// Lets each mutator write in a thread of its own.
@@ -106,6 +106,6 @@ pub fn expect_full<L: Named, B: Builder>(
     let before = m.entries();
     let told = space.try_write_data(alloc, m, T, 0, 0);
     let after = m.entries();
-    let full = told == Err(Refusal::JournalFull(0)) && after == before;
-    expect_so(rt, fight.name, full, before);
+    expect_eq(rt, fight.at(before), told, Err(Refusal::JournalFull(0)));
+    expect_eq(rt, fight.at(before), after, before);
 }

@@ -8,20 +8,12 @@ use heap_layout::{MarkedHeap, PageWords};
 use page_plan::Plan;
 use std::alloc::Global;
 use std::process::Abort;
-use std::test::Fail;
 use std::thread::Threads;
+use test_support::{Worked, worked_heap};
 
-/// Panics with the name and the number unless `so` holds.
-pub fn expect_so(rt: &impl Abort, name: &str, so: bool, number: u64) {
-    assert!(rt; so, "{name}: {number}");
-}
-
-/// The heap, which must be accepted.
-pub fn made(rt: &impl Abort, heap: Result<MarkedHeap, Fail>) -> MarkedHeap {
-    match heap {
-        Ok(heap) => heap,
-        Err(_fail) => rt.panic("a heap"),
-    }
+/// The heap of the three objects.
+pub fn three(rt: &impl Abort, alloc: Global) -> MarkedHeap {
+    worked_heap(alloc, Worked::Three).expect(rt, "a heap")
 }
 
 /// A run of a text over a heap, by `mutators` mutators and with `fresh` fresh pages.

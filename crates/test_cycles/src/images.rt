@@ -1,9 +1,11 @@
 //! Images of next heaps.
-use crate::chains::{expect_so, follow};
+use crate::chains::follow;
+use crate::expected::{expect_eq, expect_so};
 use crate::rows::linked;
 use heap_layout::{Counted, Edition, MarkedHeap, read_image, write_image};
 use std::alloc::Global;
 use std::process::Abort;
+use test_support::At;
 
 /// The image of a heap. Checks that it is read as that heap.
 pub fn image(rt: &impl Abort, alloc: Global, heap: &MarkedHeap) -> Vec<u8> {
@@ -11,10 +13,10 @@ pub fn image(rt: &impl Abort, alloc: Global, heap: &MarkedHeap) -> Vec<u8> {
     write_image(heap, &mut writer).expect(rt, "writing into memory");
     let bytes = writer.into_inner();
     let again = read_image(alloc, &mut Counted::new(&bytes[..])).expect(rt, "a heap");
-    expect_so(rt, "words", again.words() == heap.words(), 0);
-    expect_so(rt, "marks", again.marks() == heap.marks(), 0);
-    expect_so(rt, "roots", again.roots() == heap.roots(), 0);
-    expect_so(rt, "edition", again.edition() == heap.edition(), 0);
+    expect_eq(rt, At::new("words", 0), again.words(), heap.words());
+    expect_eq(rt, At::new("marks", 0), again.marks(), heap.marks());
+    expect_eq(rt, At::new("roots", 0), again.roots(), heap.roots());
+    expect_eq(rt, At::new("edition", 0), again.edition(), heap.edition());
     bytes
 }
 
@@ -25,11 +27,11 @@ const HEAD: [u8; 24] = [
 ];
 
 #[test]
-fn the_next_image(rt: HostRuntime) {
+fn image_of_the_next_heap_is_read_as_that_heap(rt: HostRuntime) {
     let alloc = rt.alloc();
     let heap = follow(&rt, alloc, linked(&rt, alloc), &[2, 64]);
     let bytes = image(&rt, alloc, &heap);
-    expect_so(&rt, "bytes", bytes.len() == 1_576, bytes.len() as u64);
-    expect_so(&rt, "head", bytes.starts_with(HEAD.as_slice()), 0);
-    expect_so(&rt, "edition", heap.edition() == Edition::One, 1);
+    expect_eq(&rt, At::new("bytes", 0), bytes.len(), 1_576);
+    expect_so(&rt, At::new("head", 0), bytes.starts_with(HEAD.as_slice()));
+    expect_eq(&rt, At::new("edition", 0), heap.edition(), Edition::One);
 }

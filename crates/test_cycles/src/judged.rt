@@ -1,5 +1,6 @@
 //! The audit accepts the dump of the last heap of several cycles.
-use crate::chains::{expect_so, follow, made};
+use crate::chains::{follow, three};
+use crate::expected::expect_so;
 use crate::rows::{LINKED, linked};
 use comp_audit::{Dump, Verdict, audit};
 use comp_trace::{parse, replay_cycles};
@@ -7,7 +8,7 @@ use page_plan::Plan;
 use std::alloc::Global;
 use std::process::Abort;
 use std::thread::Threads;
-use test_support::three;
+use test_support::At;
 
 // The marks that begin the second cycle.
 const MARKS: [u32; 2] = [2, 64];
@@ -19,9 +20,9 @@ fn is_lawful(rt: &impl Abort, alloc: Global, plan: &Plan, dump: &Dump<'_>) -> bo
 }
 
 #[test]
-fn last_heap_is_lawful(rt: HostRuntime) {
+fn audit_accepts_the_last_heap_of_two_cycles(rt: HostRuntime) {
     let alloc = rt.alloc();
-    let heap = made(&rt, three(alloc));
+    let heap = three(&rt, alloc);
     let roots = heap.roots().len() as u16;
     let first = parse(alloc, LINKED, 1, roots).expect(&rt, "a trace");
     let more = parse(alloc, LINKED, 1, roots).expect(&rt, "a trace");
@@ -35,7 +36,15 @@ fn last_heap_is_lawful(rt: HostRuntime) {
     let before = left.plan.clone().expect(&rt, "the plan of the first cycle");
     let last = follow(&rt, alloc, left, &MARKS);
     let plan = Plan::new(alloc, &rt, last).expect(&rt, "a plan");
-    expect_so(&rt, "lawful", is_lawful(&rt, alloc, &plan, &dump), 0);
+    expect_so(
+        &rt,
+        At::new("lawful", 0),
+        is_lawful(&rt, alloc, &plan, &dump),
+    );
     let by_first = is_lawful(&rt, alloc, &before, &dump);
-    expect_so(&rt, "lawful by the plan of the first cycle", !by_first, 0);
+    expect_so(
+        &rt,
+        At::new("lawful by the plan of the first cycle", 0),
+        !by_first,
+    );
 }

@@ -1,18 +1,18 @@
 //! The next heap has at most 1,048,576 words, and as many marks.
 ghost use Rattle.std.specs.Prelude.{◌≤◌};
 
-use crate::chains::{expect_so, followed, made, ran};
+use crate::chains::{followed, ran};
+use crate::expected::{expect_eq, expect_so};
 use crate::rows::linked;
 use comp_cycles::NotCycled;
 use heap_layout::{Header, LayoutFault, MarkedHeap};
-use std::alloc::Global;
+use std::alloc::{AllocError, Global};
 use std::process::Abort;
-use std::test::Fail;
 use std::thread::Threads;
-use test_support::heap;
+use test_support::{At, heap};
 
-// 769 objects of 1,024 words, all marked. They fill 12,304 pages.
-fn long_objects(alloc: Global) -> Result<MarkedHeap, Fail> {
+// The words and the marks of 769 objects of 1,024 words, all marked.
+fn long_parts(alloc: Global) -> Result<(Vec<u64>, Vec<u32>), AllocError> {
     let header = Header::new(0, 1_023, 0).word();
     let mut words = vec![in alloc; 0; 787_456]?;
     let mut marks = Vec::new(alloc);
@@ -23,6 +23,12 @@ fn long_objects(alloc: Global) -> Result<MarkedHeap, Fail> {
         }
         marks.push(start)?;
     }
+    Ok((words, marks))
+}
+
+// The heap of these objects. They fill 12,304 pages.
+fn long_objects(alloc: Global) -> Option<MarkedHeap> {
+    let (words, marks) = long_parts(alloc).ok()?;
     heap(alloc, &words, &marks, &[])
 }
 
@@ -35,7 +41,7 @@ fn behind_long_objects(
 ) -> Result<MarkedHeap, NotCycled>
     requires { fresh ≤ 4096 }
 {
-    let heap = made(rt, long_objects(alloc));
+    let heap = long_objects(alloc).expect(rt, "a heap");
     followed(rt, alloc, ran(rt, alloc, heap, b"", 1, fresh), marks)
 }
 
@@ -47,22 +53,22 @@ fn is_too_large(heap: &Result<MarkedHeap, NotCycled>) -> bool {
 }
 
 #[test]
-fn pages_that_are_too_many(rt: HostRuntime) {
+fn next_heap_has_at_most_16_384_pages(rt: HostRuntime) {
     let alloc = rt.alloc();
     // The mark is on no start, which is checked later.
     let refused = behind_long_objects(&rt, alloc, 4_081, &[1]);
-    expect_so(&rt, "too large", is_too_large(&refused), 16_385);
+    expect_so(&rt, At::new("too large", 16_385), is_too_large(&refused));
     match behind_long_objects(&rt, alloc, 4_080, &[0, 1_024]) {
-        Ok(heap) => expect_so(&rt, "words", heap.words().len() == 1_048_576, 16_384),
-        Err(_left) => expect_so(&rt, "a heap", false, 16_384),
+        Ok(heap) => expect_eq(&rt, At::new("words", 16_384), heap.words().len(), 1_048_576),
+        Err(_left) => expect_so(&rt, At::new("a heap", 16_384), false),
     }
 }
 
 #[test]
-fn marks_that_are_too_many(rt: HostRuntime) {
+fn next_heap_has_at_most_1_048_576_marks(rt: HostRuntime) {
     let alloc = rt.alloc();
     // The marks do not rise, which is checked later.
     let marks = vec![in alloc; 0; 1_048_577].expect(&rt, "marks");
     let refused = followed(&rt, alloc, linked(&rt, alloc), &marks);
-    expect_so(&rt, "too large", is_too_large(&refused), 1_048_577);
+    expect_so(&rt, At::new("too large", 1_048_577), is_too_large(&refused));
 }

@@ -6,6 +6,8 @@
 #[cfg(test)]
 mod chains;
 #[cfg(test)]
+mod expected;
+#[cfg(test)]
 mod images;
 #[cfg(test)]
 mod judged;

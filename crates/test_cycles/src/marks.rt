@@ -1,8 +1,9 @@
 //! Texts of marks, cut and changed. The reader must read each as the plain reader of this module does.
-use crate::chains::expect_so;
+use crate::expected::{expect_eq, expect_so};
 use comp_trace::{MarksFault, read_marks};
 use std::alloc::{AllocError, Global};
 use std::process::Abort;
+use test_support::At;
 
 const TEXT: &[u8] = b"0\n7\n64\n100\n4294967295\n";
 
@@ -46,11 +47,18 @@ fn expect_alike(rt: &impl Abort, alloc: Global, text: &[u8], number: u64) {
         (Err(MarksFault::BadMarks(line)), Err(other)) => line == other,
         _ => false,
     };
-    expect_so(rt, "marks", alike, number);
+    expect_so(
+        rt,
+        At {
+            case: "marks",
+            row: number,
+        },
+        alike,
+    );
 }
 
 #[test]
-fn marks_are_cut(rt: HostRuntime) {
+fn cut_marks_are_read_as_the_plain_reader_does(rt: HostRuntime) {
     for end in 0..=TEXT.len() {
         if let Some(text) = TEXT.get(..end) {
             expect_alike(&rt, rt.alloc(), text, end as u64);
@@ -62,7 +70,7 @@ fn marks_are_cut(rt: HostRuntime) {
 const BYTES: &[u8] = b"\0\t\n\r +-/019:x\xff";
 
 #[test]
-fn marks_are_changed(rt: HostRuntime) {
+fn changed_marks_are_read_as_the_plain_reader_does(rt: HostRuntime) {
     for at in 0..TEXT.len() {
         for byte in BYTES {
             let mut text = TEXT.to_vec(rt.alloc()).expect(&rt, "memory for a text");
@@ -97,13 +105,13 @@ static ROWS: [Row; 16] = [
 ];
 
 #[test]
-fn lines_that_are_no_marks(rt: HostRuntime) {
+fn first_line_that_is_no_mark_is_named(rt: HostRuntime) {
     for (number, row) in ROWS.iter().enumerate() {
         let line = match read_marks(rt.alloc(), row.0) {
             Ok(_marks) => 0,
             Err(MarksFault::BadMarks(line)) => line,
             Err(MarksFault::OutOfMemory) => u64::MAX,
         };
-        expect_so(&rt, "line", line == row.1, number as u64);
+        expect_eq(&rt, At::new("line", number), line, row.1);
     }
 }

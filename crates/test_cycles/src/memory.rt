@@ -1,13 +1,13 @@
 //! If an allocation is refused, as a switch of the test run asks, cycles report that they are out of memory and show
 //! what they showed before.
-use crate::chains::expect_so;
+use crate::expected::{expect_eq, expect_so};
 use call_refusals::Refusal;
 use comp_trace::{CycleFault, CyclesStopped, Shown, TraceFault, parse, replay_cycles};
 use heap_layout::{Edition, LayoutFault, MarkedHeap};
 use std::alloc::Global;
 use std::process::Abort;
 use std::thread::Threads;
-use test_support::{F, THREE};
+use test_support::{At, F, THREE};
 
 // The first object's data word is shown and a new object is stored. The second cycle shows the data word again.
 const FIRST: &[u8] =
@@ -60,15 +60,22 @@ fn had_shown(fault: CycleFault, c: u64, line: u64) -> bool {
 fn expect_shown(rt: &impl Abort, stopped: &CyclesStopped) {
     let (least, most) = lists(stopped.fault);
     let count = stopped.shown.len() as u64;
-    expect_so(rt, "lists", least <= count && count <= most, count);
+    expect_so(
+        rt,
+        At {
+            case: "lists",
+            row: count,
+        },
+        least <= count && count <= most,
+    );
     for (c, values) in stopped.shown.iter().enumerate() {
         let line = SHOWING.get(c).copied().unwrap_or(0);
         let wanted = match had_shown(stopped.fault, c as u64, line) {
             true => Some(Shown { line, value: 11 }),
             false => None,
         };
-        expect_so(rt, "values", values.len() <= 1, c as u64);
-        expect_so(rt, "value", values.first().copied() == wanted, c as u64);
+        expect_so(rt, At::new("values", c), values.len() <= 1);
+        expect_eq(rt, At::new("value", c), values.first().copied(), wanted);
     }
 }
 
@@ -97,11 +104,19 @@ fn cycles(rt: &(impl Abort + Threads + Sync), alloc: Global) -> Option<Result<u6
 }
 
 #[test]
-fn want_of_memory_is_told(rt: HostRuntime) {
+fn cycles_without_memory_keep_what_they_showed(rt: HostRuntime) {
     match cycles(&rt, rt.alloc()) {
-        Some(Ok(sum)) => expect_so(&rt, "shown", sum == 22, sum),
+        Some(Ok(sum)) => expect_eq(
+            &rt,
+            At {
+                case: "shown",
+                row: sum,
+            },
+            sum,
+            22,
+        ),
         Some(Err(stopped)) => {
-            expect_so(&rt, "fault", wants_memory(stopped.fault), 0);
+            expect_so(&rt, At::new("fault", 0), wants_memory(stopped.fault));
             expect_shown(&rt, &stopped);
         }
         None => {}

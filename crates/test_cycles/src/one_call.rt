@@ -2,13 +2,14 @@
 ghost use Rattle.std.specs.Prelude.{All};
 ghost use Rattle.comp_trace.specs.CycleRuns.{IsParsedFor};
 
-use crate::chains::expect_so;
+use crate::expected::expect_eq;
 use crate::random_chains::{FRESH, MUTATORS};
 use comp_trace::{Shown, Trace, parse, replay_cycles};
 use heap_layout::MarkedHeap;
 use std::alloc::Global;
 use std::process::Abort;
 use std::thread::Threads;
+use test_support::At;
 
 /// A cycle that was run: the marks with which its heap was made (none for the first), the text of its lines, and the
 /// values shown.
@@ -21,9 +22,17 @@ pub struct Past {
 
 /// Checks that these values were shown, and no others.
 pub fn expect_values(rt: &impl Abort, shown: &[Shown], wanted: &[u64], name: &str) {
-    expect_so(rt, name, shown.len() == wanted.len(), 0);
+    expect_eq(rt, At::new(name, 0), shown.len(), wanted.len());
     for (value, wanted) in shown.iter().zip(wanted) {
-        expect_so(rt, name, value.value == *wanted, value.line);
+        expect_eq(
+            rt,
+            At {
+                case: name,
+                row: value.line,
+            },
+            value.value,
+            *wanted,
+        );
     }
 }
 
@@ -58,7 +67,7 @@ pub fn expect_past(
     let rest = further(rt, alloc, others, roots);
     match replay_cycles(alloc, rt, heap, &trace, &rest, MUTATORS, FRESH) {
         Ok(run) => {
-            expect_so(rt, name, run.shown.len() == past.len(), 0);
+            expect_eq(rt, At::new(name, 0), run.shown.len(), past.len());
             for (values, one) in run.shown.iter().zip(past) {
                 expect_values(rt, values, &one.shown, name);
             }

@@ -1,9 +1,9 @@
 //! A plain model of the objects, which never move. A cycle only changes their addresses.
-use crate::chains::expect_so;
+use crate::expected::expect_eq;
 use heap_layout::{Edition, Header, MarkedHeap};
 use std::alloc::{AllocError, Global};
 use std::process::Abort;
-use test_support::F;
+use test_support::{At, F};
 
 /// The index of an object that was dropped.
 const NOWHERE: u64 = u64::MAX;
@@ -206,7 +206,15 @@ impl Life {
     fn expect_words(&self, rt: &impl Abort, heap: &MarkedHeap, name: &str, object: &Plain) {
         let index = object.at as usize;
         let header = heap.words().get(index).copied();
-        expect_so(rt, name, header == Some(object.header.word()), object.at);
+        expect_eq(
+            rt,
+            At {
+                case: name,
+                row: object.at,
+            },
+            header,
+            Some(object.header.word()),
+        );
         for (field, value) in object.fields.iter().enumerate() {
             let wanted = match field < object.references() {
                 true => self.address(*value),
@@ -216,13 +224,21 @@ impl Life {
                 .words()
                 .get(index.wrapping_add(1).wrapping_add(field))
                 .copied();
-            expect_so(rt, name, found == Some(wanted), object.at);
+            expect_eq(
+                rt,
+                At {
+                    case: name,
+                    row: object.at,
+                },
+                found,
+                Some(wanted),
+            );
         }
     }
 
     /// Checks that the next heap has the words of all objects, kept or not, and the roots.
     pub fn expect_heap(&self, rt: &impl Abort, heap: &MarkedHeap, name: &str) {
-        expect_so(rt, name, heap.edition() == self.edition, 0);
+        expect_eq(rt, At::new(name, 0), heap.edition(), self.edition);
         for object in &self.objects {
             if object.at != NOWHERE {
                 self.expect_words(rt, heap, name, object);
@@ -230,7 +246,7 @@ impl Life {
         }
         for (root, number) in self.roots.iter().enumerate() {
             let found = heap.roots().get(root).copied();
-            expect_so(rt, name, found == Some(self.address(*number)), root as u64);
+            expect_eq(rt, At::new(name, root), found, Some(self.address(*number)));
         }
     }
 

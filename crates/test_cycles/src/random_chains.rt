@@ -1,7 +1,7 @@
 //! Pseudorandom chains of ten cycles of two mutators, in both editions. Each cycle shows what the plain model shows,
 //! whose objects never move, and the next heap has the words of the model. All cycles of a chain by one call show the
 //! same.
-use crate::chains::{follow, made, ran};
+use crate::chains::{follow, ran};
 use crate::images::image;
 use crate::one_call::{Past, expect_past, expect_values};
 use crate::plain::{Field, Life, Plain};
@@ -80,16 +80,17 @@ fn opening(alloc: Global, edition: Edition) -> Result<Life, AllocError> {
 fn opening_heap(rt: &impl Abort, alloc: Global, edition: Edition) -> MarkedHeap {
     let first = header(edition, 2, 1, 1, 1).word();
     let second = header(edition, 1, 1, 1, 2).word();
-    match edition {
+    let heap = match edition {
         Edition::One => {
             let words = [first, F + 4, 0, 10, second, F, 20];
-            made(rt, heap_of(alloc, edition, &words, &[0, 4], &[F, 0, F + 4]))
+            heap_of(alloc, edition, &words, &[0, 4], &[F, 0, F + 4])
         }
         Edition::Two => {
             let words = [first, F + 5, 0, F, 10, second, F, F + 5, 20];
-            made(rt, heap_of(alloc, edition, &words, &[0, 5], &[F, 0, F + 5]))
+            heap_of(alloc, edition, &words, &[0, 5], &[F, 0, F + 5])
         }
-    }
+    };
+    heap.expect(rt, "a heap")
 }
 
 impl Chain {
@@ -290,14 +291,14 @@ fn run_chain(rt: &(impl Abort + Threads + Sync), alloc: Global, edition: Edition
 }
 
 #[test]
-fn chains_of_edition_one(rt: HostRuntime) {
+fn random_cycles_agree_with_the_plain_model(rt: HostRuntime) {
     for seed in 0..CHAINS {
         run_chain(&rt, rt.alloc(), Edition::One, seed);
     }
 }
 
 #[test]
-fn chains_of_edition_two(rt: HostRuntime) {
+fn random_cycles_of_edition_two_agree_with_the_plain_model(rt: HostRuntime) {
     for seed in 0..CHAINS {
         run_chain(&rt, rt.alloc(), Edition::Two, seed);
     }

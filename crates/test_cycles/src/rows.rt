@@ -1,7 +1,8 @@
 //! The three objects: the next heap, refused marks, and how several cycles stop.
 ghost use Rattle.comp_cycles.specs.Ends.{IsEndOf};
 
-use crate::chains::{expect_so, first_page, follow, followed, made, ran};
+use crate::chains::{first_page, follow, followed, ran, three};
+use crate::expected::{expect_eq, expect_so};
 use call_refusals::Refusal;
 use comp_trace::{CycleFault, Ran, TraceFault, parse, replay_cycles};
 use heap_layout::LayoutFault;
@@ -9,7 +10,7 @@ use page_plan::Plan;
 use std::alloc::Global;
 use std::process::Abort;
 use std::thread::Threads;
-use test_support::{F, T, three};
+use test_support::{At, F, T};
 
 /// The last of the three objects gets a reference to a new object.
 pub const LINKED: &[u8] = b"0 root 0 0\n0 new 1 0 0 9\n0 store 0 0 1\n";
@@ -30,7 +31,7 @@ const WORDS: [(usize, u64); 5] = [
 pub fn linked(rt: &(impl Abort + Threads + Sync), alloc: Global) -> Ran
     ensures { IsEndOf result.plan.value result.finished }
 {
-    ran(rt, alloc, made(rt, three(alloc)), LINKED, 1, 2)
+    ran(rt, alloc, three(rt, alloc), LINKED, 1, 2)
 }
 
 // The word at an index of the next heap.
@@ -44,26 +45,31 @@ fn wanted(index: usize) -> u64 {
 }
 
 #[test]
-fn the_next_heap(rt: HostRuntime) {
+fn next_heap_has_these_words(rt: HostRuntime) {
     let alloc = rt.alloc();
     let heap = follow(&rt, alloc, linked(&rt, alloc), &[2, 64]);
-    expect_so(&rt, "words", heap.words().len() == 192, 192);
+    expect_eq(&rt, At::new("words", 0), heap.words().len(), 192);
     for (index, word) in heap.words().iter().enumerate() {
-        expect_so(&rt, "word", *word == wanted(index), index as u64);
+        expect_eq(&rt, At::new("word", index), *word, wanted(index));
     }
-    expect_so(&rt, "marks", heap.marks() == [2, 64].as_slice(), 0);
-    expect_so(&rt, "roots", heap.roots() == [4_294_967_298].as_slice(), 0);
+    expect_eq(&rt, At::new("marks", 0), heap.marks(), [2, 64].as_slice());
+    expect_eq(
+        &rt,
+        At::new("roots", 0),
+        heap.roots(),
+        [4_294_967_298].as_slice(),
+    );
     let second = Plan::new(alloc, &rt, heap).expect(&rt, "a plan");
-    expect_so(&rt, "live", second.live_words() == 3, 3);
-    expect_so(&rt, "pages", second.pages() == 1, 1);
-    expect_so(&rt, "first", second.first_object(0) == Some(2), 2);
-    expect_so(&rt, "root", second.forward(F + 2) == Some(T), 0);
+    expect_eq(&rt, At::new("live", 0), second.live_words(), 3);
+    expect_eq(&rt, At::new("pages", 0), second.pages(), 1);
+    expect_eq(&rt, At::new("first", 0), second.first_object(0), Some(2));
+    expect_eq(&rt, At::new("root", 0), second.forward(F + 2), Some(T));
     let page = first_page(&rt, alloc, &second);
-    expect_so(&rt, "page", page.get(0) == 12_884_901_889, 0);
-    expect_so(&rt, "page", page.get(1) == 8_589_934_594, 1);
-    expect_so(&rt, "page", page.get(2) == 38_654_705_664, 2);
+    expect_eq(&rt, At::new("page", 0), page.get(0), 12_884_901_889);
+    expect_eq(&rt, At::new("page", 1), page.get(1), 8_589_934_594);
+    expect_eq(&rt, At::new("page", 2), page.get(2), 38_654_705_664);
     for k in 3..64 {
-        expect_so(&rt, "page", page.get(k) == 0, k as u64);
+        expect_eq(&rt, At::new("page", usize::from(k)), page.get(k), 0);
     }
 }
 
@@ -80,14 +86,14 @@ static REFUSED: [Refused; 6] = [
 ];
 
 #[test]
-fn marks_are_refused(rt: HostRuntime) {
+fn next_heap_refuses_wrong_marks(rt: HostRuntime) {
     let alloc = rt.alloc();
     for (number, row) in REFUSED.iter().enumerate() {
         match followed(&rt, alloc, linked(&rt, alloc), row.0) {
-            Ok(_heap) => expect_so(&rt, "accepted", false, number as u64),
+            Ok(_heap) => expect_so(&rt, At::new("accepted", number), false),
             Err(left) => {
-                expect_so(&rt, "fault", left.fault == row.1, number as u64);
-                expect_so(&rt, "live", left.finished.live_words() == 5, number as u64);
+                expect_eq(&rt, At::new("fault", number), left.fault, row.1);
+                expect_eq(&rt, At::new("live", number), left.finished.live_words(), 5);
             }
         }
     }
@@ -100,7 +106,7 @@ fn stop(
     alloc: Global,
     marks: &[u32],
 ) -> Option<(CycleFault, usize)> {
-    let heap = made(rt, three(alloc));
+    let heap = three(rt, alloc);
     let roots = heap.roots().len() as u16;
     let first = parse(alloc, LINKED, 1, roots).expect(rt, "a trace");
     let more = parse(alloc, PUT, 1, roots).expect(rt, "a trace");
@@ -112,18 +118,18 @@ fn stop(
 }
 
 #[test]
-fn cycles_stop(rt: HostRuntime) {
+fn cycles_stop_at_a_refused_line_or_mark(rt: HostRuntime) {
     let alloc = rt.alloc();
     let refused = TraceFault::Refused(3, Refusal::NoSuchField);
     let at_line = stop(&rt, alloc, &[2, 64]) == Some((CycleFault::Stopped(1, refused), 2));
-    expect_so(&rt, "stopped", at_line, 1);
+    expect_so(&rt, At::new("stopped", 1), at_line);
     let unmarked = LayoutFault::UnmarkedTarget(3);
     let at_marks = stop(&rt, alloc, &[2]) == Some((CycleFault::NotMarked(0, unmarked), 1));
-    expect_so(&rt, "not marked", at_marks, 0);
+    expect_so(&rt, At::new("not marked", 0), at_marks);
 }
 
 #[test]
-fn faults_are_printed(rt: HostRuntime) {
+fn prints_cycle_faults(rt: HostRuntime) {
     let alloc = rt.alloc();
     let rows = [
         (
@@ -138,6 +144,6 @@ fn faults_are_printed(rt: HostRuntime) {
     ];
     for (number, (fault, text)) in rows.iter().enumerate() {
         let printed = fault.to_string(alloc).expect(&rt, "a text");
-        expect_so(&rt, "printed", printed.as_str() == *text, number as u64);
+        expect_eq(&rt, At::new("printed", number), printed.as_str(), *text);
     }
 }

@@ -1,11 +1,12 @@
 //! Dumps with each byte changed to each other value.
 use crate::encoded::{Whole, encoded};
-use crate::expected::expect_so;
+use crate::expected::expect_eq;
 use crate::judged::{Told, told};
 use comp_audit::{AuditFault, DumpFault, Verdict};
 use page_plan::Plan;
 use std::alloc::Global;
 use std::process::Abort;
+use test_support::At;
 
 /// What becomes of a dump after a change of one byte.
 pub enum Becomes {
@@ -45,8 +46,8 @@ fn expect_reckoned(rt: &impl Abort, rules: &[Rule], found: Told, at: usize, byte
         if *first <= at && at <= *last && *least <= byte && byte <= *most {
             let number = at.wrapping_mul(256).wrapping_add(usize::from(byte));
             let wanted = reckoned(rule, at, found);
-            let name = "256 times the place, and the byte:";
-            return expect_so(rt, name, number, found == wanted);
+            let at = At::new("256 times the place, plus the byte", number);
+            return expect_eq(rt, at, found, wanted);
         }
     }
     rt.panic("no rule")
@@ -84,8 +85,8 @@ pub fn expect_bytes(
     rules: &[Rule],
 ) {
     let mut bytes = encoded(rt, alloc, dump);
-    expect_so(rt, "bytes", 0, bytes.len() == length);
+    expect_eq(rt, At::new("bytes", 0), bytes.len(), length);
     expect_each(rt, alloc, plan, rules, &mut bytes);
     let found = told(alloc, plan, &bytes);
-    expect_so(rt, "no change", 0, found == Ok(Verdict::Yes));
+    expect_eq(rt, At::new("no change", 0), found, Ok(Verdict::Yes));
 }

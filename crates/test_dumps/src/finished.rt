@@ -4,8 +4,7 @@ ghost use Rattle.comp_mutator.specs.Mutators.{setup_of, AreMutatorsOf, IsMutator
 
 use crate::dumped::expect_dump;
 use crate::encoded::{Whole, encoded};
-use crate::expected::expect_so;
-use crate::planned::{Worked, plan_of};
+use crate::expected::expect_eq;
 use comp_audit::Dump;
 use comp_mutator::{Mutator, Refusal, Space, Touched, flip};
 use page_plan::Plan;
@@ -15,6 +14,7 @@ use std::process::Abort;
 use std::sync::Arc;
 use std::sync::ledger::{Blank, Ledger as Named};
 use std::thread::Threads;
+use test_support::{At, Worked, plan_of};
 
 /// A call of a mutator.
 pub enum Call {
@@ -110,7 +110,7 @@ fn expect_row<L: Named>(
     let by = *by;
     assert!(rt; by < mutators.len());
     let found = answer(rt, alloc, space, &mut mutators[by], call);
-    expect_so(rt, name, at, found == Ok(*wanted));
+    expect_eq(rt, At::new(name, at), found, Ok(*wanted));
 }
 
 // Checks the calls of a run, one after another.
@@ -134,9 +134,9 @@ fn expect_rows<L: Named>(
 
 // Checks the dump that a run left.
 fn expect_left(rt: &(impl Abort + Threads + Sync), alloc: Global, run: &Run, dump: &Dump<'_>) {
-    let plan = plan_of(rt, alloc, &run.heap);
+    let plan = plan_of(rt, alloc, run.heap).expect(rt, "a plan");
     let wanted = encoded(rt, alloc, &run.parts);
-    expect_so(rt, run.name, 0, wanted.len() == run.length);
+    expect_eq(rt, At::new(run.name, 0), wanted.len(), run.length);
     expect_dump(rt, alloc, &plan, dump, &wanted);
 }
 
@@ -171,7 +171,8 @@ fn expect_run_of<L: Named>(
     requires parts { blank.parts ≡ L.parts }
     requires count { blank.parts ≡ run.now.mutators }
 {
-    let builder = Arc::new(alloc, plan_of(rt, alloc, &run.heap)).expect(rt, "memory");
+    let plan = plan_of(rt, alloc, run.heap).expect(rt, "a plan");
+    let builder = Arc::new(alloc, plan).expect(rt, "memory");
     let flipped = flip::<L, Plan>(alloc, blank, builder, run.mutators, run.fresh_pages);
     let (space, mut mutators) = flipped.expect(rt, "a flip");
     expect_rows(rt, alloc, &space, &mut mutators, run);

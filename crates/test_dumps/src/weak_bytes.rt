@@ -1,9 +1,8 @@
 //! A dump of edition two with each byte changed to each other value, by rules as in `each_byte`.
 use crate::changed_bytes::{Becomes, Rule, expect_bytes};
 use crate::encoded::Whole;
-use crate::planned::{Worked, plan_of};
 use comp_audit::{AuditFault, DumpFault, Verdict};
-use test_support::T;
+use test_support::{T, Worked, plan_of};
 
 const BAD_MAGIC: Becomes = Becomes::Is(Err(DumpFault::BadMagic));
 
@@ -102,8 +101,8 @@ static RULES: [Rule; 46] = [
 ];
 
 #[test]
-fn tells_each_changed_byte_of_edition_two(rt: HostRuntime) {
+fn no_changed_byte_of_edition_two_leaves_a_lawful_dump(rt: HostRuntime) {
     let alloc = rt.alloc();
-    let plan = plan_of(&rt, alloc, &Worked::Weak);
+    let plan = plan_of(&rt, alloc, Worked::Weak).expect(&rt, "a plan");
     expect_bytes(&rt, alloc, &plan, &Whole::WeakLinked, 1_147, &RULES);
 }

@@ -2,60 +2,13 @@
 ghost use Rattle.std.specs.Prelude.{◌≡◌};
 ghost use Rattle.comp_mutator.specs.Mutators.{setup_of, AreMutatorsOf};
 
-use crate::expected::{At, expect_so};
+use crate::expected::expect_eq;
 use comp_mutator::{Builder, FinishFault, Finished, Mutator, Space, Unfinished, flip};
-use page_plan::Plan;
 use std::alloc::Global;
 use std::process::Abort;
 use std::sync::Arc;
 use std::sync::ledger::{Blank, Ledger as Named};
-use std::test::Fail;
-use std::thread::Threads;
-use test_support::{
-    counting_heap, empty, planned, seventeen_pages, smallest, three, weak, zeros_heap,
-};
-
-/// The heap of a case.
-#[derive(Clone, Copy)]
-pub enum Heap {
-    /// The empty heap.
-    Empty,
-    /// One object of one word, which the root refers to.
-    Smallest,
-    /// Three objects. The first and the last are marked, and the root refers to the last.
-    Three,
-    /// Three objects of edition two. The first, which has two weak words, and the last are marked, and the root refers
-    /// to the last.
-    Weak,
-    /// An object of one word and one of 1,024 words.
-    Seventeen,
-    /// An object without references and with this many data words, which count from 1.
-    Counting(u16),
-    /// An object without references and with this many data words, which are 0.
-    Zeros(u16),
-}
-
-/// The value, which must be there.
-pub fn made<T>(rt: &impl Abort, found: Result<T, Fail>) -> T {
-    match found {
-        Ok(value) => value,
-        Err(_) => panic!(rt; "a worked heap"),
-    }
-}
-
-/// The plan of this heap.
-pub fn plan_of(rt: &(impl Abort + Threads + Sync), alloc: Global, heap: Heap) -> Plan {
-    let heap = match heap {
-        Heap::Empty => empty(alloc),
-        Heap::Smallest => smallest(alloc),
-        Heap::Three => three(alloc),
-        Heap::Weak => weak(alloc),
-        Heap::Seventeen => seventeen_pages(alloc),
-        Heap::Counting(data_words) => counting_heap(alloc, data_words),
-        Heap::Zeros(data_words) => zeros_heap(alloc, data_words),
-    };
-    made(rt, planned(alloc, rt, made(rt, heap)))
-}
+use test_support::At;
 
 /// The builder, shared.
 pub fn shared<B: Builder>(rt: &impl Abort, alloc: Global, builder: B) -> Arc<B> {
@@ -118,9 +71,9 @@ fn expect_missing(
     back: usize,
     number: u8,
 ) {
-    let row = usize::from(number);
-    let missing = fault == FinishFault::MutatorMissing(number);
-    expect_so(rt, At { case, row }, missing && back == row);
+    let at = At::new(case, usize::from(number));
+    expect_eq(rt, at, fault, FinishFault::MutatorMissing(number));
+    expect_eq(rt, at, back, usize::from(number));
 }
 
 /// Finishes with all mutators, the first one last in the list. If memory is refused once, it finishes with what came

@@ -1,12 +1,11 @@
 //! Weak fields in both editions: reads, writes, and new objects with weak words.
 use crate::cases::{BuiltBy, Case};
 use crate::endings::{End, Ending};
-use crate::flipped::Heap;
 use crate::rows::Row;
 use comp_journal::Entry;
 use comp_mutator::Refusal;
 use heap_layout::Kind;
-use test_support::T;
+use test_support::{T, Worked};
 
 // The start of the second slid object.
 const SECOND: u64 = T + 4;
@@ -57,7 +56,7 @@ const MADE: [Entry; 2] = [
 // written, and an object with a weak word is made. At the end 6 words slid and 2 were made.
 const FIELDS: Case = Case {
     name: "reads and writes weak words",
-    heap: Heap::Weak,
+    heap: Worked::Weak,
     built_by: BuiltBy::Plan,
     mutators: 1,
     fresh_pages: 1,
@@ -110,7 +109,7 @@ const FIELDS: Case = Case {
 // The refusals of a read or a write, each beside those that come after it. The page keeps its words.
 const REFUSALS: Case = Case {
     name: "refuses weak fields as references",
-    heap: Heap::Weak,
+    heap: Worked::Weak,
     built_by: BuiltBy::Plan,
     mutators: 1,
     fresh_pages: 1,
@@ -138,7 +137,7 @@ const REFUSALS: Case = Case {
 // end 6 words slid and 64 were made.
 const TAGS: Case = Case {
     name: "refuses tags of 17 bits in edition two",
-    heap: Heap::Weak,
+    heap: Worked::Weak,
     built_by: BuiltBy::Plan,
     mutators: 1,
     fresh_pages: 1,
@@ -171,7 +170,7 @@ const TAGS: Case = Case {
 // object with weak words is refused whatever its size and the room. At the end 1 word slid and 64 were made.
 const NONE: Case = Case {
     name: "has no weak words in edition one",
-    heap: Heap::Smallest,
+    heap: Worked::Smallest,
     built_by: BuiltBy::Plan,
     mutators: 1,
     fresh_pages: 1,
@@ -204,7 +203,7 @@ const NONE: Case = Case {
 // The calls that wait, of a mutator that is alone. Each answers at once.
 const AT_ONCE: Case = Case {
     name: "answers at once of weak words when no page is busy",
-    heap: Heap::Weak,
+    heap: Worked::Weak,
     built_by: BuiltBy::Plan,
     mutators: 1,
     fresh_pages: 1,

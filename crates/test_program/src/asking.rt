@@ -4,7 +4,7 @@ use std::process::Abort;
 use test_support::words_of;
 
 // The expected text about a line.
-#[derive(Clone, Copy)]
+#[derive(Clone, Copy, Debug)]
 enum Told<'a> {
     // This task, as `Debug` prints it.
     Task(&'a str),
@@ -23,20 +23,24 @@ fn tells(text: &str, wanted: Told) -> bool {
     }
 }
 
-// Whether the words of a line ask for this, or are refused with this.
-fn is_told(rt: &(impl Abort + AllocGlobal), line: &str, wanted: Told) -> bool {
+// Checks that the words of a line ask for this, or are refused with this.
+fn expect_told(rt: &(impl Abort + AllocGlobal), line: &str, wanted: Told) {
     let words = words_of(rt.alloc(), line).expect(rt, "memory for words");
     let text = match read_task(rt.alloc(), &words) {
         Ok(task) => format!(in rt.alloc(); "{task:?}"),
         Err(error) => format!(in rt.alloc(); "{error}"),
     };
-    tells(&text.expect(rt, "memory for a text"), wanted)
+    let text = text.expect(rt, "memory for a text");
+    assert!(rt;
+        tells(&text, wanted),
+        "{line}: found {text}, wanted {wanted:?}"
+    );
 }
 
 // Checks each of these lines.
 fn expect_lines(rt: &(impl Abort + AllocGlobal), lines: &[&str], wanted: Told) {
     for line in lines {
-        assert!(rt; is_told(rt, line, wanted), "{line}");
+        expect_told(rt, line, wanted);
     }
 }
 
@@ -46,7 +50,7 @@ type Row = (&'static str, &'static str);
 // Checks the tasks of these lines.
 fn expect_rows(rt: &(impl Abort + AllocGlobal), rows: &[Row]) {
     for (line, task) in rows {
-        assert!(rt; is_told(rt, line, Told::Task(task)), "{line}");
+        expect_told(rt, line, Told::Task(task));
     }
 }
 
@@ -142,7 +146,7 @@ static TASKS: [Row; 24] = [
 ];
 
 #[test]
-fn reads_what_the_words_ask(rt: HostRuntime) {
+fn words_ask_for_these_tasks(rt: HostRuntime) {
     expect_rows(&rt, &TASKS);
 }
 
@@ -166,7 +170,7 @@ static HELPS: [&str; 15] = [
 ];
 
 #[test]
-fn answers_help_where_it_is_asked(rt: HostRuntime) {
+fn help_is_printed_for_these_words(rt: HostRuntime) {
     expect_lines(&rt, &HELPS, Told::Help);
 }
 
@@ -179,7 +183,7 @@ static VERSIONS: [Row; 4] = [
 ];
 
 #[test]
-fn answers_the_version_where_it_is_asked(rt: HostRuntime) {
+fn version_is_printed_for_these_words(rt: HostRuntime) {
     expect_rows(&rt, &VERSIONS);
     assert!(rt; VERSION_LINE == "compressor 0.1.0\n");
 }
@@ -243,6 +247,6 @@ static NO_COMMANDS: [&str; 54] = [
 ];
 
 #[test]
-fn refuses_words_that_are_no_command(rt: HostRuntime) {
+fn words_that_are_no_command_are_refused(rt: HostRuntime) {
     expect_lines(&rt, &NO_COMMANDS, Told::Error);
 }

@@ -48,21 +48,22 @@ fn is_given(
 
 // Checks that these words are given, or that the error is of this kind.
 fn expect_given(rt: &(impl Abort + AllocGlobal), words: &[&[u8]], wanted: Result<&str, ErrorKind>) {
-    assert!(rt; is_given(rt, words, wanted));
+    assert!(rt; is_given(rt, words, wanted), "wanted {wanted:?}");
 }
 
 // Checks the status and the text that a kind of error ends with.
 fn expect_told(rt: &(impl Abort + AllocGlobal), kind: ErrorKind, status: u8, text: &str) {
     let mut err = Vec::new(rt.alloc());
     let found = report_unstarted(kind, &mut err);
-    assert!(rt; found == status && err.as_slice() == text.as_bytes());
+    assert_eq!(rt; found, status, "{text}");
+    assert_eq!(rt; err.as_slice(), text.as_bytes(), "{text}");
 }
 
 // The report on a word that is not UTF-8.
 const NO_TEXT: &str = "error: invalid UTF-8 was detected in one or more arguments\n";
 
 #[test]
-fn begins_with_words_that_are_text(rt: HostRuntime) {
+fn runs_begin_only_with_words_in_utf_8(rt: HostRuntime) {
     let no_text = Err(ErrorKind::InvalidData);
     expect_given(&rt, &[b"compressor", b"plan", b"a.img"], Ok("plan a.img"));
     expect_given(

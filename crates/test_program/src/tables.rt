@@ -43,7 +43,7 @@ fn take_tables<R: Files + AllocGlobal + Threads + Wait + Sync>(
 }
 
 #[test]
-fn does_what_its_words_ask(rt: HostRuntime) -> Result<(), Fail> {
+fn program_prints_writes_and_refuses_as_worked_by_hand(rt: HostRuntime) -> Result<(), Fail> {
     take_tables(&rt, &tables())?;
     expect_lines(&rt, &LINES)?;
     take_steps(&rt, REMOVED)

@@ -1,10 +1,7 @@
 //! The heaps of the tests, encoded by hand.
 use heap_layout::{Edition, Header, LayoutFault, MarkedHeap};
 pub use heap_layout::{FROM_SPACE as F, TO_SPACE as T};
-use page_plan::Plan;
 use std::alloc::{AllocError, Global};
-use std::test::Fail;
-use std::thread::Threads;
 
 /// Three objects. The first and the last are marked.
 pub const THREE: [u64; 7] = [
@@ -45,34 +42,29 @@ pub fn judged(
     ))
 }
 
-/// The heap of these parts, which must be accepted.
+/// The heap of these parts, or `None` if it is refused or memory runs out.
 pub fn heap_of(
     alloc: Global,
     edition: Edition,
     words: &[u64],
     marks: &[u32],
     roots: &[u64],
-) -> Result<MarkedHeap, Fail> {
-    Ok(judged(alloc, edition, words, marks, roots)??)
+) -> Option<MarkedHeap> {
+    judged(alloc, edition, words, marks, roots).ok()?.ok()
 }
 
-/// The heap of edition one of these parts, which must be accepted.
-pub fn heap(
-    alloc: Global,
-    words: &[u64],
-    marks: &[u32],
-    roots: &[u64],
-) -> Result<MarkedHeap, Fail> {
+/// The heap of edition one of these parts, or `None` if it is refused or memory runs out.
+pub fn heap(alloc: Global, words: &[u64], marks: &[u32], roots: &[u64]) -> Option<MarkedHeap> {
     heap_of(alloc, Edition::One, words, marks, roots)
 }
 
 /// The three objects. The root refers to the last.
-pub fn three(alloc: Global) -> Result<MarkedHeap, Fail> {
+pub fn three(alloc: Global) -> Option<MarkedHeap> {
     heap(alloc, &THREE, &[0, 5], &[F + 5])
 }
 
 /// The three objects of edition two. The root refers to the last.
-pub fn weak(alloc: Global) -> Result<MarkedHeap, Fail> {
+pub fn weak(alloc: Global) -> Option<MarkedHeap> {
     heap_of(alloc, Edition::Two, &WEAK, &[0, 5], &[F + 5])
 }
 
@@ -86,8 +78,8 @@ pub fn counting_object(alloc: Global, data_words: u16) -> Result<Vec<u64>, Alloc
 }
 
 /// A heap of that object alone, marked.
-pub fn counting_heap(alloc: Global, data_words: u16) -> Result<MarkedHeap, Fail> {
-    heap(alloc, &counting_object(alloc, data_words)?, &[0], &[])
+pub fn counting_heap(alloc: Global, data_words: u16) -> Option<MarkedHeap> {
+    heap(alloc, &counting_object(alloc, data_words).ok()?, &[0], &[])
 }
 
 /// An object without references whose data words are 0.
@@ -100,28 +92,23 @@ pub fn zeros_object(alloc: Global, data_words: u16) -> Result<Vec<u64>, AllocErr
 }
 
 /// A heap of that object alone, marked.
-pub fn zeros_heap(alloc: Global, data_words: u16) -> Result<MarkedHeap, Fail> {
-    heap(alloc, &zeros_object(alloc, data_words)?, &[0], &[])
+pub fn zeros_heap(alloc: Global, data_words: u16) -> Option<MarkedHeap> {
+    heap(alloc, &zeros_object(alloc, data_words).ok()?, &[0], &[])
 }
 
 /// The smallest heap: one object of one word, which the root refers to.
-pub fn smallest(alloc: Global) -> Result<MarkedHeap, Fail> {
+pub fn smallest(alloc: Global) -> Option<MarkedHeap> {
     heap(alloc, &[30_064_771_072], &[0], &[F])
 }
 
 /// The empty heap.
-pub fn empty(alloc: Global) -> Result<MarkedHeap, Fail> {
+pub fn empty(alloc: Global) -> Option<MarkedHeap> {
     heap(alloc, &[], &[], &[])
 }
 
 /// An object of one word and one of 1,024 words, both marked. The last word alone is on page 16.
-pub fn seventeen_pages(alloc: Global) -> Result<MarkedHeap, Fail> {
-    let mut words = counting_object(alloc, 1_023)?;
-    words.insert(0, 0)?;
+pub fn seventeen_pages(alloc: Global) -> Option<MarkedHeap> {
+    let mut words = counting_object(alloc, 1_023).ok()?;
+    words.insert(0, 0).ok()?;
     heap(alloc, &words, &[0, 1], &[])
-}
-
-/// The plan of a heap.
-pub fn planned(alloc: Global, rt: &(impl Threads + Sync), heap: MarkedHeap) -> Result<Plan, Fail> {
-    Ok(Plan::new(alloc, rt, heap)?)
 }

@@ -4,21 +4,26 @@
 //! sliding compaction defines.
 #![tactic(auto)]
 
+mod at;
 mod builders;
 mod call;
 mod changes;
 mod contents;
 mod heaps;
 mod images;
+mod larger_heaps;
 mod object;
 mod objects;
 mod parts;
 mod random;
+mod readers;
 mod runs;
 mod steps;
 mod two_live_objects;
+mod worked;
 mod writers;
 
+pub use at::At;
 pub use builders::{Counting, Meeting, Refusing, both, met};
 pub use call::Call;
 pub use changes::{
@@ -27,10 +32,7 @@ pub use changes::{
     WEAK_WORD,
 };
 pub use contents::{Content, bytes_in};
-pub use heaps::{
-    F, T, THREE, WEAK, counting_heap, counting_object, empty, heap, heap_of, judged, planned,
-    seventeen_pages, smallest, three, weak, zeros_heap, zeros_object,
-};
+pub use heaps::{F, T, THREE, WEAK, counting_object, heap, heap_of, judged, zeros_object};
 pub use images::{
     ALL, BAD_ROOT_IMAGE, EMPTY_IMAGE, FRESH_DUMP, THREE_IMAGE, THREE_OBJECTS, TWENTY_IMAGE,
     WEAK_DUMP, WEAK_IMAGE, WEAK_SWEPT_DUMP,
@@ -39,7 +41,9 @@ pub use object::Object;
 pub use objects::{Objects, Written};
 pub use parts::{Part, bytes_of};
 pub use random::Random;
+pub use readers::Pieces;
 pub use runs::{Run, Text, expect_ran, words_of};
-pub use steps::{Step, run_of, take_file_step, take_file_steps};
+pub use steps::{Step, run_of, take_file_step};
 pub use two_live_objects::{opening, roots, two_live};
+pub use worked::{Worked, plan_of, worked_heap};
 pub use writers::{Failure, Narrow};

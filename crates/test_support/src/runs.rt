@@ -4,7 +4,7 @@ use std::str::from_utf8;
 use std::test::Fail;
 
 /// What a text is expected to be.
-#[derive(Clone, Copy)]
+#[derive(Clone, Copy, Debug)]
 pub enum Text {
     /// This text.
     Is(&'static str),
@@ -36,12 +36,17 @@ pub fn words_of(alloc: Global, line: &str) -> Result<Vec<String>, AllocError> {
     Ok(words)
 }
 
-/// Fails with the line unless the run ended with the expected status, output and standard error.
+/// Fails unless the run ended with the expected status, output and standard error. The failure has the line, what was
+/// found and what was wanted.
 pub fn expect_ran(run: &Run, status: u8, out: &[u8], err: &[u8]) -> Result<(), Fail> {
     if status == run.status && fits(text_of(out), run.out) && fits(text_of(err), run.err) {
         return Ok(());
     }
-    Err(run.line.into())
+    let (found, wanted) = ((text_of(out), text_of(err)), (run.out, run.err));
+    Err(Fail::new(format_args!(
+        "{}: found {status} {found:?}, wanted {} {wanted:?}",
+        run.line, run.status
+    )))
 }
 
 // The text of these bytes.

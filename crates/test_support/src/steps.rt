@@ -71,14 +71,6 @@ pub fn take_file_step<R: Files + AllocGlobal>(rt: &R, step: &Step) -> Result<(),
     }
 }
 
-/// Takes steps that are no runs, one after another.
-pub fn take_file_steps<R: Files + AllocGlobal>(rt: &R, steps: &[Step]) -> Result<(), Fail> {
-    for step in steps {
-        take_file_step(rt, step)?;
-    }
-    Ok(())
-}
-
 // Writes this content to the file at a path.
 fn write_file<R: Files + AllocGlobal>(rt: &R, path: &str, content: Content) -> Result<(), Fail> {
     let bytes = bytes_in(rt.alloc(), content)?;
@@ -92,7 +84,10 @@ fn expect_file<R: Files + AllocGlobal>(rt: &R, path: &str, content: Content) -> 
     if found == wanted {
         return Ok(());
     }
-    Err(Fail::new(format_args!("{path} has other bytes")))
+    let (found, wanted) = (found.len(), wanted.len());
+    Err(Fail::new(format_args!(
+        "{path}: found {found} bytes, other than the {wanted} bytes wanted"
+    )))
 }
 
 // Fails unless the file at a path has this length.
@@ -101,13 +96,13 @@ fn expect_length<R: Files + AllocGlobal>(rt: &R, path: &str, length: usize) -> R
     if found == length {
         return Ok(());
     }
-    Err(Fail::new(format_args!("{path} has {found} bytes")))
+    Err(Fail::new(format_args!("{path}: found {found} bytes, wanted {length}")))
 }
 
 // Fails if there is a file at a path.
 fn expect_absent<R: Files + AllocGlobal>(rt: &R, path: &str) -> Result<(), Fail> {
     match fs::read(rt, path) {
         Err(error) if error.kind() == ErrorKind::NotFound => Ok(()),
-        _ => Err(Fail::new(format_args!("{path} is there"))),
+        _ => Err(Fail::new(format_args!("{path}: found a file, wanted none"))),
     }
 }

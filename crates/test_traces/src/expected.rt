@@ -1,33 +1,14 @@
-//! Checks of tests.
-use heap_layout::MarkedHeap;
-use page_plan::Plan;
-use std::alloc::Global;
+//! Checks of tests. They end the process, which nothing but a test may do, so each test crate has its own.
+use std::fmt::Debug;
 use std::process::Abort;
-use std::test::Fail;
-use std::thread::Threads;
-use test_support::planned;
+use test_support::At;
 
-/// Panics with the name and the number, which is that of a page, a mutator, a stamp or words, unless `so` holds.
-pub fn expect_so(rt: &impl Abort, name: &str, so: bool, number: u64) {
-    assert!(rt; so, "{name}: {number}");
+/// Fails at `at` unless `so` holds.
+pub fn expect_so(rt: &impl Abort, at: At, so: bool) {
+    assert!(rt; so, "{at}");
 }
 
-/// The plan of the heap, which must be accepted.
-pub fn plan_of(
-    rt: &(impl Abort + Threads + Sync),
-    alloc: Global,
-    made: Result<MarkedHeap, Fail>,
-) -> Plan {
-    match made {
-        Ok(heap) => expect_plan(rt, planned(alloc, rt, heap)),
-        Err(_fail) => rt.panic("no heap"),
-    }
-}
-
-/// The plan, which must be there.
-pub fn expect_plan(rt: &impl Abort, made: Result<Plan, Fail>) -> Plan {
-    match made {
-        Ok(plan) => plan,
-        Err(_fail) => rt.panic("no plan"),
-    }
+/// Fails at `at` unless both are equal, and prints what was found and what was wanted.
+pub fn expect_eq<T: Copy + PartialEq + Debug>(rt: &impl Abort, at: At, found: T, wanted: T) {
+    assert_eq!(rt; found, wanted, "{at}");
 }

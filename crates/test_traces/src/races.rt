@@ -1,6 +1,6 @@
 //! Races: what lines show and refuse with one thread a mutator. Each row is a text that all its mutators race, and the
 //! live words at the end.
-use crate::expected::{expect_so, plan_of};
+use crate::expected::{expect_eq, expect_so};
 use crate::flipped::Case;
 use crate::ran::raced;
 use crate::replays::{WEAK_TEXT, replay_rows, replay_weak_rows};
@@ -14,7 +14,7 @@ use std::process::Abort;
 use std::sync::Wait;
 use std::sync::ledger::Blank;
 use std::thread::Threads;
-use test_support::{F, Meeting, heap, three, weak};
+use test_support::{At, F, Meeting, Worked, heap, plan_of};
 
 // The expected run of a mutator.
 enum Wanted {
@@ -163,14 +163,12 @@ fn is_run(run: &Run, wanted: &Wanted) -> bool {
 
 // Checks that all runs and the live words are as the row says.
 fn expect_row(rt: &impl Abort, row: &Row, runs: &[Run], finished: &Finished) {
-    let live = finished.live_words();
-    let mut same = runs.len() == row.runs.len() && live == row.live_words;
-    for (k, run) in runs.iter().enumerate() {
-        if let Some(wanted) = row.runs.get(k) {
-            same = same && is_run(run, wanted);
-        }
+    let at = At::new(row.case.name, 0);
+    expect_eq(rt, at, runs.len(), row.runs.len());
+    expect_eq(rt, at, finished.live_words(), row.live_words);
+    for (k, (run, wanted)) in runs.iter().zip(row.runs).enumerate() {
+        expect_so(rt, at.after(k), is_run(run, wanted));
     }
-    expect_so(rt, row.case.name, same, live);
 }
 
 // Races the text of a row on the heap of this builder, which this plan compacted, and finishes.
@@ -190,20 +188,23 @@ fn race_row<B: Builder, R: Abort + Threads + Wait + Sync>(
 fn zeros(rt: &(impl Abort + Threads + Sync), alloc: Global) -> Plan {
     let mut words = [0u64; 256];
     words[0] = Header::new(0, 255, 0).word();
-    plan_of(rt, alloc, heap(alloc, &words, &[0], &[F]))
+    let heap = heap(alloc, &words, &[0], &[F]).expect(rt, "a heap");
+    Plan::new(alloc, rt, heap).expect(rt, "a plan")
 }
 
 // All rows on the three objects, which have this plan.
 fn race_rows<R: Abort + Threads + Wait + Sync>(rt: &R, alloc: Global, plan: &Plan) {
     for row in &ROWS {
-        race_row(rt, alloc, plan_of(rt, alloc, three(alloc)), plan, row);
+        let builder = plan_of(rt, alloc, Worked::Three).expect(rt, "a plan");
+        race_row(rt, alloc, builder, plan, row);
     }
 }
 
 // All rows on the three objects of edition two, which have this plan.
 fn race_weak_rows<R: Abort + Threads + Wait + Sync>(rt: &R, alloc: Global, plan: &Plan) {
     for row in &WEAK_ROWS {
-        race_row(rt, alloc, plan_of(rt, alloc, weak(alloc)), plan, row);
+        let builder = plan_of(rt, alloc, Worked::Weak).expect(rt, "a plan");
+        race_row(rt, alloc, builder, plan, row);
     }
 }
 
@@ -215,13 +216,13 @@ fn race_side_by_side<R: Abort + Threads + Wait + Sync>(rt: &R, alloc: Global) {
 }
 
 #[test]
-fn replays_and_races_on_three_and_races_side_by_side(rt: HostRuntime) {
+fn replays_and_races_show_and_leave_what_was_worked_by_hand(rt: HostRuntime) {
     let alloc = rt.alloc();
-    let plan = plan_of(&rt, alloc, three(alloc));
+    let plan = plan_of(&rt, alloc, Worked::Three).expect(&rt, "a plan");
     replay_rows(&rt, alloc, &plan);
     race_rows(&rt, alloc, &plan);
     race_side_by_side(&rt, alloc);
-    let plan = plan_of(&rt, alloc, weak(alloc));
+    let plan = plan_of(&rt, alloc, Worked::Weak).expect(&rt, "a plan");
     replay_weak_rows(&rt, alloc, &plan);
     race_weak_rows(&rt, alloc, &plan);
 }

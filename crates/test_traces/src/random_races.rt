@@ -1,7 +1,7 @@
 //! Pseudorandom traces, raced by one mutator, which must do as the plain model does, and by several, whose history must
 //! be a run of the model.
 use crate::drawn::Drawn;
-use crate::expected::{expect_plan, expect_so};
+use crate::expected::{expect_eq, expect_so};
 use crate::finished::{expect_pages, take_history};
 use crate::ran::raced;
 use crate::random_traces::case_of;
@@ -16,7 +16,7 @@ use std::process::Abort;
 use std::sync::Wait;
 use std::sync::ledger::Blank;
 use std::thread::Threads;
-use test_support::{Objects, opening, two_live};
+use test_support::{At, Objects, opening, two_live};
 
 // The refusals of a line that waits and has memory.
 const STOPS: [Refusal; 5] = [
@@ -162,15 +162,16 @@ fn expect_runs(rt: &impl Abort, drawn: &Drawn, runs: &[Run], objects: &Objects) 
             run,
             objects,
         };
-        expect_so(rt, &drawn.name, is_run(&drawn.lines, deeds), k as u64);
+        expect_so(rt, At::new(&drawn.name, k), is_run(&drawn.lines, deeds));
     }
 }
 
 // Checks that a mutator alone showed the values of the plain model and stopped where the model did.
 fn expect_alone(rt: &impl Abort, drawn: &Drawn, runs: &[Run]) {
     let run = runs.first().expect(rt, &drawn.name);
-    let same = run.shown.as_slice() == drawn.run.shown.as_slice() && run.fault == drawn.stop;
-    expect_so(rt, &drawn.name, same, 0);
+    let at = At::new(&drawn.name, 0);
+    expect_eq(rt, at, run.shown.as_slice(), drawn.run.shown.as_slice());
+    expect_eq(rt, at, run.fault, drawn.stop);
 }
 
 // Checks that the finished heap has one history, and that it is what `n` mutators ran. A mutator alone must do as the
@@ -184,7 +185,7 @@ fn expect_raced(
     finished: &Finished,
 ) {
     let count = runs.len();
-    expect_so(rt, &drawn.name, count == usize::from(n), count as u64);
+    expect_eq(rt, At::new(&drawn.name, count), count, usize::from(n));
     if n == 1 {
         expect_alone(rt, drawn, runs);
         expect_pages(rt, alloc, &drawn.name, finished, &drawn.run.objects);
@@ -205,7 +206,7 @@ pub fn race_drawn<R: Abort + Threads + Wait + Sync>(
 ) {
     let case = case_of(drawn, n);
     let blank = Blank::new(u64::from(case.mutators));
-    let builder = expect_plan(rt, two_live(alloc, rt, drawn.run.objects.edition));
+    let builder = two_live(alloc, rt, drawn.run.objects.edition).expect(rt, "a plan");
     let (runs, finished) = raced::<Brand, Plan, R>(rt, alloc, blank, case, builder, plan);
     expect_raced(rt, alloc, drawn, n, &runs, &finished);
 }

@@ -1,7 +1,6 @@
 //! A thousand pseudorandom traces of each edition, replayed by one thread or raced. A replay must do as the plain model
 //! does.
 use crate::drawn::{Drawn, draw_trace};
-use crate::expected::expect_plan;
 use crate::finished::expect_pages;
 use crate::flipped::Case;
 use crate::ran::replayed;
@@ -73,7 +72,7 @@ fn replay_drawn(
 ) {
     let case = case_of(drawn, n);
     let blank = Blank::new(u64::from(case.mutators));
-    let builder = expect_plan(rt, two_live(alloc, rt, drawn.run.objects.edition));
+    let builder = two_live(alloc, rt, drawn.run.objects.edition).expect(rt, "a plan");
     let (run, finished) = replayed::<Brand>(rt, alloc, blank, case, builder, plan);
     expect_drawn(rt, alloc, drawn, &run, &finished);
 }
@@ -112,7 +111,7 @@ fn run_seed<R: Abort + Threads + Wait + Sync>(
 
 // All traces on the two live objects of an edition.
 fn run_all<R: Abort + Threads + Wait + Sync>(rt: &R, alloc: Global, edition: Edition) {
-    let plan = expect_plan(rt, two_live(alloc, rt, edition));
+    let plan = two_live(alloc, rt, edition).expect(rt, "a plan");
     for Draws(n, count, way) in &DRAWS {
         for seed in 0..*count {
             run_seed(rt, alloc, &plan, edition, *n, seed, *way);
@@ -121,7 +120,7 @@ fn run_all<R: Abort + Threads + Wait + Sync>(rt: &R, alloc: Global, edition: Edi
 }
 
 #[test]
-fn replays_as_plain_objects_do_and_races_to_one_history(rt: HostRuntime) {
+fn random_replays_agree_with_the_plain_model_and_races_have_one_history(rt: HostRuntime) {
     let alloc = rt.alloc();
     run_all(&rt, alloc, Edition::One);
     run_all(&rt, alloc, Edition::Two);

@@ -1,6 +1,6 @@
 //! Replays: what lines show, write and refuse, one after another. Each row is a text that is replayed on the three
 //! objects, and the finished heap.
-use crate::expected::{expect_so, plan_of};
+use crate::expected::{expect_eq, expect_so};
 use crate::flipped::Case;
 use crate::ran::replayed;
 use comp_journal::Entry;
@@ -13,7 +13,7 @@ use std::marker::Brand;
 use std::process::Abort;
 use std::sync::ledger::Blank;
 use std::thread::Threads;
-use test_support::{three, weak};
+use test_support::{At, Worked, plan_of};
 
 // The only entry of a page, by mutator 0: the number of the page, and the stamp, kind, offset and value of the entry.
 struct Only(usize, u64, Kind, u8, u64);
@@ -251,7 +251,8 @@ pub fn expect_replay(
         Ok(all) => (all, None),
         Err(stopped) => (&stopped.shown, Some(stopped.fault)),
     };
-    expect_so(rt, name, all.as_slice() == shown && cause == fault, 0);
+    expect_eq(rt, At::new(name, 0), all.as_slice(), shown);
+    expect_eq(rt, At::new(name, 0), cause, fault);
 }
 
 // Whether the page has this entry alone.
@@ -272,11 +273,11 @@ fn has_only(finished: &Finished, only: &Only) -> bool {
 
 // Checks the live words and the entries of the finished heap.
 fn expect_finished(rt: &impl Abort, row: &Row, finished: &Finished) {
-    let mut same = finished.live_words() == row.live_words;
-    for only in row.entries {
-        same = same && has_only(finished, only);
+    let live = finished.live_words();
+    expect_eq(rt, At::new(row.case.name, 0), live, row.live_words);
+    for (k, only) in row.entries.iter().enumerate() {
+        expect_so(rt, At::new(row.case.name, k), has_only(finished, only));
     }
-    expect_so(rt, row.case.name, same, finished.live_words());
 }
 
 // Replays this text of a row on the heap of this builder, which this plan compacted, and finishes.
@@ -295,20 +296,14 @@ fn replay_full(rt: &(impl Abort + Threads + Sync), alloc: Global, plan: &Plan) {
         text.extend_from_slice(b"0 put 1 0 7\n")
             .expect(rt, "a line");
     }
-    replay_row(
-        rt,
-        alloc,
-        plan_of(rt, alloc, three(alloc)),
-        plan,
-        &FULL,
-        &text,
-    );
+    let builder = plan_of(rt, alloc, Worked::Three).expect(rt, "a plan");
+    replay_row(rt, alloc, builder, plan, &FULL, &text);
 }
 
 /// All rows on the three objects, which have this plan.
 pub fn replay_rows(rt: &(impl Abort + Threads + Sync), alloc: Global, plan: &Plan) {
     for row in &ROWS {
-        let builder = plan_of(rt, alloc, three(alloc));
+        let builder = plan_of(rt, alloc, Worked::Three).expect(rt, "a plan");
         replay_row(rt, alloc, builder, plan, row, row.case.text);
     }
     replay_full(rt, alloc, plan);
@@ -317,7 +312,7 @@ pub fn replay_rows(rt: &(impl Abort + Threads + Sync), alloc: Global, plan: &Pla
 /// All rows on the three objects of edition two, which have this plan.
 pub fn replay_weak_rows(rt: &(impl Abort + Threads + Sync), alloc: Global, plan: &Plan) {
     for row in &WEAK_ROWS {
-        let builder = plan_of(rt, alloc, weak(alloc));
+        let builder = plan_of(rt, alloc, Worked::Weak).expect(rt, "a plan");
         replay_row(rt, alloc, builder, plan, row, row.case.text);
     }
 }

@@ -3,17 +3,15 @@ ghost use Rattle.std.specs.Prelude.{All};
 ghost use Rattle.cell_steps.specs.Passes.{Rests};
 ghost use Rattle.page_cells.specs.CellViews.{IsPassOf};
 
-use crate::shared::expected::{At, expect_so};
+use crate::expected::expect_eq;
 use crate::shared::rows::{Row, at_once};
-use heap_layout::MarkedHeap;
 use page_cells::{CellRefusal, Cells, Pass};
 use page_plan::{Builder, Plan};
 use std::alloc::Global;
 use std::process::Abort;
 use std::sync::Arc;
-use std::test::Fail;
 use std::thread::Threads;
-use test_support::{Meeting, Refusing, planned, three, zeros_heap};
+use test_support::{At, Meeting, Refusing, Worked, plan_of};
 
 // What two passes do at once: the rows of the first and of the second.
 type Round = (&'static [Row], &'static [Row]);
@@ -61,19 +59,11 @@ fn play_rounds<B: Builder, R: Abort + Threads + Sync>(
     requires of { All (λ pass. IsPassOf cells.now pass × Rests pass) passes.old }
 {
     for (round, (first, second)) in case.rounds.iter().enumerate() {
-        let at = At {
-            case: case.name,
-            round,
-            row: 0,
-        };
+        let at = At::of_round(case.name, round);
         at_once(rt, alloc, cells, passes, at, first, second);
     }
-    let end = At {
-        case: case.name,
-        round: case.rounds.len(),
-        row: 0,
-    };
-    expect_so(rt, end, builds_of(passes) == case.builds);
+    let end = At::of_round(case.name, case.rounds.len());
+    expect_eq(rt, end, builds_of(passes), case.builds);
 }
 
 // Plays a case with this builder.
@@ -87,31 +77,14 @@ fn play_case<B: Builder, R: Abort + Threads + Sync>(
     play_rounds(rt, alloc, &cells, &mut passes, case);
 }
 
-// The value, which must be there.
-fn made<T>(rt: &impl Abort, found: Result<T, Fail>) -> T {
-    match found {
-        Ok(value) => value,
-        Err(_) => panic!(rt; "a worked heap"),
-    }
-}
-
-// The plan of a worked heap.
-fn plan_of(
-    rt: &(impl Abort + Threads + Sync),
-    alloc: Global,
-    heap: Result<MarkedHeap, Fail>,
-) -> Plan {
-    made(rt, planned(alloc, rt, made(rt, heap)))
-}
-
 /// The plan of the heap of three objects.
 pub(crate) fn planned_three(rt: &(impl Abort + Threads + Sync), alloc: Global) -> Plan {
-    plan_of(rt, alloc, three(alloc))
+    plan_of(rt, alloc, Worked::Three).expect(rt, "a plan")
 }
 
 // The plan of a heap of one object of 255 data words, which are 0.
 fn planned_four_pages(rt: &(impl Abort + Threads + Sync), alloc: Global) -> Plan {
-    plan_of(rt, alloc, zeros_heap(alloc, 255))
+    plan_of(rt, alloc, Worked::Zeros(255)).expect(rt, "a plan")
 }
 
 // The first pass writes, then the other one reads.
@@ -154,7 +127,7 @@ const TWO_PAGES: Case = Case {
 };
 
 #[test]
-fn plays_cases(rt: HostRuntime) {
+fn passes_build_each_page_once_and_read_writes(rt: HostRuntime) {
     let alloc = rt.alloc();
     play_case(&rt, alloc, planned_three(&rt, alloc), &WRITTEN);
     play_case(&rt, alloc, planned_three(&rt, alloc), &RACE);

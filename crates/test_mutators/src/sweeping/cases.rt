@@ -151,7 +151,7 @@ static CASES: [Case; 9] = [
 ];
 
 #[test]
-fn sweeps_heaps(rt: HostRuntime) {
+fn sweeps_build_each_page_once(rt: HostRuntime) {
     for case in &CASES {
         play_case(&rt, rt.alloc(), case);
     }
@@ -164,7 +164,7 @@ const TEXTS: [(SweepFault, &str); 3] = [
 ];
 
 #[test]
-fn prints_refusals_of_sweeps(rt: HostRuntime) {
+fn prints_sweep_faults(rt: HostRuntime) {
     for (fault, text) in &TEXTS {
         let printed = fault.to_string(rt.alloc()).expect(&rt, "memory for a text");
         expect(&rt, text, "as it is printed", printed.as_str() == *text);
