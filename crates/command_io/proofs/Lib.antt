@@ -5,3 +5,4 @@ pub mod Pieces
 pub mod Unread
 pub mod Imaged
 pub mod Printings
+pub mod Opened

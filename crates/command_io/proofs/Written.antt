@@ -11,8 +11,11 @@ use Rattle.comp_dump.specs.declared.fault.DumpFault.{DumpFault}
 use Rattle.comp_dump.specs.declared.fault.DumpFault.TheVariants.{Truncated, TrailingBytes, BadMagic, BadField, OutOfMemory, Device}
 use Rattle.heap_layout.specs.declared.fault.LayoutFault.{LayoutFault}
 use Rattle.heap_layout.specs.declared.fault.LayoutFault.TheVariants as layout
-use Rattle.command_io.specs.Dumps.{IsOfDumping, WritesBeginning, WritesWhole}
+use Rattle.command_io.specs.Disk.{Disk, WritesBeginning, WritesWhole}
+use Rattle.command_io.specs.Dumps.{IsOfDumping}
 use Rattle.command_io.specs.NewImages.{IsOfWritingImage}
+use Rattle.command_io.specs.declared.refusal.Output.{Output}
+use Rattle.command_io.specs.declared.refusal.Output.TheVariants as outputs
 use Rattle.command_io.specs.declared.refusal.CommandRefusal.TheVariants.{Dump, Layout}
 
 -- if only the flush failed, all bytes were taken
@@ -22,38 +25,47 @@ unflushed a b c bytes taken kept = record {
   bytes = subst (Appends a c) (sym (take_all (length bytes) bytes (omega arith))) (Appends-kept a b c bytes taken kept);
 }
 
--- What some writer that is given took, if the count began around it.
-module _ {W : Type 0} (gives : W → Type 0) (contents : W → Option (List ℕ)) (bytes : List ℕ) (made : W) (old new : Counted W) (given : gives made) (inner : inner_of old ≡ made) (none : failures_of old ≡ 0) where
-  pub whole : Appends (contents (inner_of old)) (contents (inner_of new)) bytes → failures_of new ≡ failures_of old → is_flushed_of new ≡ true → WritesWhole gives contents bytes
+-- What some writer that a path gives took, if the count began around it.
+module _ {W : Type 0} (disk : Disk W) (contents : W → Option (List ℕ)) (same : (w : W) → disk.contents w ≡ contents w) (output : Output) (path bytes : List ℕ)
+    (made : W) (old new : Counted W) (given : disk.makes output path made) (inner : inner_of old ≡ made) (none : failures_of old ≡ 0) where
+  -- what the writer's own contract says of what it took
+  own : (P : Option (List ℕ) → Option (List ℕ) → Type 0) → P (contents (inner_of old)) (contents (inner_of new)) → P (disk.contents made) (disk.contents (inner_of new))
+  own P h = subst (λ (w : W). P (disk.contents w) (disk.contents (inner_of new))) inner
+      (subst (λ (known : Option (List ℕ)). P known (disk.contents (inner_of new))) (sym (same (inner_of old)))
+      (subst (λ (known : Option (List ℕ)). P (contents (inner_of old)) known) (sym (same (inner_of new))) h))
+
+  pub whole : Appends (contents (inner_of old)) (contents (inner_of new)) bytes → failures_of new ≡ failures_of old → is_flushed_of new ≡ true → WritesWhole disk output path bytes
   whole appended counts flushed = record {
     made = made;
     given = given;
     written = new;
-    appended = subst (λ (w : W). Appends (contents w) (contents (inner_of new)) bytes) inner appended;
+    appended = own (λ before after. Appends before after bytes) appended;
     flushed = flushed;
     none_failed = counts ∙ none;
   }
 
-  beginning : AppendsSome (contents (inner_of old)) (contents (inner_of new)) bytes → failures_of new ≡ failures_of old + 1 → WritesBeginning gives contents bytes
+  pub beginning : AppendsSome (contents (inner_of old)) (contents (inner_of new)) bytes → failures_of new ≡ failures_of old + 1 → WritesBeginning disk output path bytes
   beginning appended counts = record {
     made = made;
     given = given;
     written = new;
-    appended = subst (λ (w : W). AppendsSome (contents w) (contents (inner_of new)) bytes) inner appended;
+    appended = own (λ before after. AppendsSome before after bytes) appended;
     failed = omega (arith, counts, none);
   }
 
-  pub cut_off : (closed : Type 0) (fault : DumpFault) → fault ≡ Device → AppendsSome (contents (inner_of old)) (contents (inner_of new)) bytes
-      → CountsFailure {T = Unit {0}} (failures_of old) (failures_of new) (Err fault) → IsOfDumping closed gives contents bytes (Dump fault)
-  cut_off closed Device is appended counts = beginning appended counts
-  cut_off closed Truncated is appended counts = cc
-  cut_off closed TrailingBytes is appended counts = cc
-  cut_off closed BadMagic is appended counts = cc
-  cut_off closed BadField is appended counts = cc
-  cut_off closed OutOfMemory is appended counts = cc
+module _ {W : Type 0} (disk : Disk W) (contents : W → Option (List ℕ)) (same : (w : W) → disk.contents w ≡ contents w) (path bytes : List ℕ) (made : W) (old new : Counted W)
+    (inner : inner_of old ≡ made) (none : failures_of old ≡ 0) where
+  pub cut_off : disk.makes outputs.Dump path made → (fault : DumpFault) → fault ≡ Device → AppendsSome (contents (inner_of old)) (contents (inner_of new)) bytes
+      → CountsFailure {T = Unit {0}} (failures_of old) (failures_of new) (Err fault) → IsOfDumping disk path bytes (Dump fault)
+  cut_off given Device is appended counts = beginning disk contents same outputs.Dump path bytes made old new given inner none appended counts
+  cut_off given Truncated is appended counts = cc
+  cut_off given TrailingBytes is appended counts = cc
+  cut_off given BadMagic is appended counts = cc
+  cut_off given BadField is appended counts = cc
+  cut_off given OutOfMemory is appended counts = cc
 
-  pub image_cut_off : (closed : Type 0) (fault : LayoutFault) → fault ≡ layout.Device → AppendsSome (contents (inner_of old)) (contents (inner_of new)) bytes
-      → failures_of new ≡ one_more (failures_of old) → IsOfWritingImage closed gives contents bytes (Layout fault)
-  image_cut_off closed fault is appended counts =
+  pub image_cut_off : disk.makes outputs.New path made → (fault : LayoutFault) → fault ≡ layout.Device → AppendsSome (contents (inner_of old)) (contents (inner_of new)) bytes
+      → failures_of new ≡ one_more (failures_of old) → IsOfWritingImage disk path bytes (Layout fault)
+  image_cut_off given fault is appended counts =
       let one : one_more (failures_of old) ≡ failures_of old + 1 = omega (arith, none) in
-      (is, beginning appended (counts ∙ one))
+      (is, beginning disk contents same outputs.New path bytes made old new given inner none appended (counts ∙ one))

@@ -3,6 +3,7 @@ use Rattle.std.specs.Prelude.{◌≡◌, ℕ, List, Option, IfSome}
 use Rattle.heap_layout.specs.Heap.{Heap, IsStored}
 use Rattle.heap_layout.specs.Faults.{IsAccepted}
 use Rattle.heap_layout.specs.Encoding.{encoding, Refuses}
+use Rattle.command_io.specs.Disk.{Disk, SomeFile}
 use Rattle.command_io.specs.declared.refusal.Input.TheVariants.{Image}
 use Rattle.command_io.specs.declared.refusal.CommandRefusal.{CommandRefusal}
 use Rattle.command_io.specs.declared.refusal.CommandRefusal.TheVariants.{CannotOpen, Layout, OutOfMemory}
@@ -15,16 +16,20 @@ SomeHeap P = (heap : Heap) × IsStored heap × IsAccepted heap × P heap
 abbrev pub IsImageOf : (Heap → Type 0) → Option (List ℕ) → Type 0
 IsImageOf P known = SomeHeap (λ heap. IfSome known (λ bytes. bytes ≡ encoding heap) × P heap)
 
--- P holds of the known bytes of some reader that is given
-abbrev pub SomeGiven : {R : Type 0} → (R → Type 0) → (R → Option (List ℕ)) → (Option (List ℕ) → Type 0) → Type 0
-SomeGiven {R = R} gives remaining P = (reader : R) × gives reader × P (remaining reader)
+-- P holds of the heap of some image that can be read at the path
+abbrev pub SomeHeapAt : {W : Type 0} → Disk W → List ℕ → (Heap → Type 0) → Type 0
+SomeHeapAt disk path P = SomeFile disk Image path (IsImageOf P)
 
--- why a task on an image is refused: there is none at the path; or memory ran out; or P gives the reason, by the known
--- bytes of some reader that is given
-abbrev pub RefusesAt : {R : Type 0} → Type 0 → (R → Type 0) → (R → Option (List ℕ)) → (CommandRefusal → Option (List ℕ) → Type 0) → CommandRefusal → Type 0
-RefusesAt lacks gives remaining P (CannotOpen Image) = lacks
-RefusesAt lacks gives remaining P OutOfMemory = Unit {0}
-RefusesAt lacks gives remaining P refusal = SomeGiven gives remaining (P refusal)
+-- this heap is that of some image that can be read at the path
+abbrev pub IsHeapAt : {W : Type 0} → Disk W → List ℕ → Heap → Type 0
+IsHeapAt disk path heap = SomeHeapAt disk path (λ other. other ≡ heap)
+
+-- why a task on an image is refused: there is none at the path; or memory ran out; or P gives the reason, by the bytes
+-- of some image that can be read at the path
+abbrev pub RefusesAt : {W : Type 0} → Disk W → List ℕ → (CommandRefusal → Option (List ℕ) → Type 0) → CommandRefusal → Type 0
+RefusesAt disk path P (CannotOpen Image) = disk.lacks Image path
+RefusesAt disk path P OutOfMemory = Unit {0}
+RefusesAt disk path P refusal = SomeFile disk Image path (P refusal)
 
 -- the image is refused, for a fault of its bytes, if they are known
 abbrev pub RefusesImage : CommandRefusal → Option (List ℕ) → Type 0

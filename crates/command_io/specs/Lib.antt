@@ -1,3 +1,4 @@
+pub mod Disk
 pub mod Printing
 pub mod Images
 pub mod Dumps

@@ -1,16 +1,14 @@
--- What a call leaves of the output and of the file that it reads. It is refused for a device if and only if a call of
--- that device failed.
+-- What a call prints, and what it leaves of the output. It is refused for the output if and only if a call of it failed.
 use Rattle.std.specs.Prelude.{◌≡◌, ℕ, ◌+◌, List, [], ◌∷◌, ◌++◌, Option, Result, Ok, Err, codes}
 use Rattle.std.specs.Fmt.{decimal}
 use Rattle.std.specs.Io.KnownBytes.{Keeps}
 use Rattle.std.specs.Str.{trim_end}
-use Rattle.heap_layout.specs.Counted.{CountsFailure}
 use Rattle.command_io.specs.declared.refusal.Input.{Input}
 use Rattle.command_io.specs.declared.refusal.Input.TheVariants.{Image, Trace, Dump, Marks}
 use Rattle.command_io.specs.declared.refusal.Output.{Output}
 use Rattle.command_io.specs.declared.refusal.Output.TheVariants as outputs
 use Rattle.command_io.specs.declared.refusal.CommandRefusal.{CommandRefusal}
-use Rattle.command_io.specs.declared.refusal.CommandRefusal.TheVariants.{Layout, CannotOpen, CannotPrint, OutOfMemory}
+use Rattle.command_io.specs.declared.refusal.CommandRefusal.TheVariants.{CannotPrint}
 
 -- the name of a file that is read, in refusals
 abbrev pub input_name : Input → List ℕ
@@ -55,15 +53,3 @@ abbrev pub RefusedUnprinted : {T : Type 0} → Option (List ℕ) → Option (Lis
 RefusedUnprinted before after (Ok _) = Unit {0}
 RefusedUnprinted before after (Err CannotPrint) = Unit {0}
 RefusedUnprinted before after (Err _) = Keeps before after
-
--- a call answers `Device` if and only if one more call of the reader failed
-abbrev pub CountsRead : {T : Type 0} → ℕ → ℕ → Result T CommandRefusal → Type 0
-CountsRead before after (Ok _) = after ≡ before
-CountsRead {T = T} before after (Err (Layout fault)) = CountsFailure {T = T} before after (Err fault)
-CountsRead before after (Err _) = after ≡ before
-
--- why an image could not be opened: there is none, as `lacks` says, or memory ran out
-abbrev pub IsOfOpening : Type 0 → CommandRefusal → Type 0
-IsOfOpening lacks (CannotOpen Image) = lacks
-IsOfOpening lacks OutOfMemory = Unit {0}
-IsOfOpening lacks _ = ⊥

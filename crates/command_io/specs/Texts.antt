@@ -2,7 +2,7 @@
 use Rattle.std.specs.Prelude.{◌≡◌, ℕ, ◌+◌, List, Option, IfSome, Result, Ok, Err}
 use Rattle.comp_trace.specs.Grammar.{trace_of, IsReadAs}
 use Rattle.comp_trace.specs.Line.{Line}
-use Rattle.command_io.specs.Images.{SomeGiven}
+use Rattle.command_io.specs.Disk.{Disk, SomeFile}
 use Rattle.command_io.specs.declared.refusal.Input.TheVariants as inputs
 use Rattle.command_io.specs.declared.refusal.CommandRefusal.{CommandRefusal}
 use Rattle.command_io.specs.declared.refusal.CommandRefusal.TheVariants.{CannotOpen, OutOfMemory, ReadFailed, Trace}
@@ -21,23 +21,26 @@ HasLines mutators roots lines text = trace_of mutators roots text ≡ Ok lines
 abbrev pub IsTextOf : ℕ → ℕ → List Line → Option (List ℕ) → Type 0
 IsTextOf mutators roots lines known = SomeText (HasLines mutators roots lines) known
 
--- why a trace could not be opened: there is none, as `lacks` says, or memory ran out
-abbrev pub IsOfOpeningText : Type 0 → CommandRefusal → Type 0
-IsOfOpeningText lacks (CannotOpen inputs.Trace) = lacks
-IsOfOpeningText lacks OutOfMemory = Unit {0}
-IsOfOpeningText lacks _ = ⊥
-
 -- the text is no trace, for its first fault; or a call of the reader failed, or memory ran out
 abbrev pub RefusesText : ℕ → ℕ → CommandRefusal → Option (List ℕ) → Type 0
 RefusesText mutators roots (ReadFailed inputs.Trace) known = Unit {0}
 RefusesText mutators roots (Trace fault) known = SomeText (λ text. IsReadAs {A = List Line} (λ lines. lines) (Err fault) (trace_of mutators roots text)) known
 RefusesText mutators roots _ known = ⊥
 
--- the same for a path: there is no trace at it, or memory ran out, or the text of some reader that is given is refused
-abbrev pub RefusesTextAt : {R : Type 0} → Type 0 → (R → Type 0) → (R → Option (List ℕ)) → ℕ → ℕ → CommandRefusal → Type 0
-RefusesTextAt lacks gives remaining mutators roots (CannotOpen inputs.Trace) = lacks
-RefusesTextAt lacks gives remaining mutators roots OutOfMemory = Unit {0}
-RefusesTextAt lacks gives remaining mutators roots refusal = SomeGiven gives remaining (RefusesText mutators roots refusal)
+-- P holds of the text of some trace that can be read at the path
+abbrev pub SomeTextAt : {W : Type 0} → Disk W → List ℕ → (List ℕ → Type 0) → Type 0
+SomeTextAt disk path P = SomeFile disk inputs.Trace path (SomeText P)
+
+-- some trace that can be read at the path has these lines
+abbrev pub HasLinesAt : {W : Type 0} → Disk W → List ℕ → ℕ → ℕ → List Line → Type 0
+HasLinesAt disk path mutators roots lines = SomeFile disk inputs.Trace path (IsTextOf mutators roots lines)
+
+-- why there is no trace: there is none at the path, or memory ran out, or the text of some trace that can be read there
+-- is refused
+abbrev pub RefusesTextAt : {W : Type 0} → Disk W → List ℕ → ℕ → ℕ → CommandRefusal → Type 0
+RefusesTextAt disk path mutators roots (CannotOpen inputs.Trace) = disk.lacks inputs.Trace path
+RefusesTextAt disk path mutators roots OutOfMemory = Unit {0}
+RefusesTextAt disk path mutators roots refusal = SomeFile disk inputs.Trace path (RefusesText mutators roots refusal)
 
 -- a call answers `ReadFailed` if and only if one more call of the reader failed
 abbrev pub CountsText : {T : Type 0} → ℕ → ℕ → Result T CommandRefusal → Type 0

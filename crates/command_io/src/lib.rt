@@ -1,23 +1,25 @@
-//! What all commands use: refusals, the files of images, traces, marks, dumps and new images, and printing.
+//! What all commands use: refusals, the files that are read and made, and printing.
 #![tactic(auto)]
 
 mod dumps;
 mod images;
 mod marks;
 mod new_images;
+mod opening;
 mod output_files;
 mod print;
 mod refusal;
 mod texts;
 mod traces;
 
-pub use dumps::{Dumps, FileDumps, write_to};
-pub use images::{FileImages, Images, heap_at};
+pub use dumps::write_dump_to;
+pub use images::heap_at;
 pub use marks::{marks_at, marks_in};
 pub use new_images::write_image_to;
+pub use opening::{Files, RuntimeFiles};
 pub use output_files::OutputFile;
 pub use print::{
     flush, print_bytes, print_digits, print_help, print_line, print_numbered, print_text,
 };
 pub use refusal::{CommandRefusal, Input, Output};
-pub use traces::{FileTraces, Traces, trace_at, trace_in};
+pub use traces::{trace_at, trace_in};

@@ -1,13 +1,12 @@
 //! Reads the texts of marks.
 ghost use Rattle.std.specs.Prelude.{◌-◌, ◌^◌, ◌<◌, IfOk, IfErr};
 ghost use Rattle.heap_layout.specs.Counted.{inner_of, failures_of};
-ghost use Rattle.command_io.specs.Images.{SomeGiven};
-ghost use Rattle.command_io.specs.Marks.{AreMarksOf, RefusesMarksAt, RefusesMarksText};
+ghost use Rattle.command_io.specs.Marks.{AreMarksAt, AreMarksOf, RefusesMarksAt, RefusesMarksText};
 ghost use Rattle.command_io.specs.Texts.{CountsText};
 
+use crate::opening::Files;
 use crate::refusal::{CommandRefusal, Input};
 use crate::texts::{Unread, text_in};
-use crate::traces::Traces;
 use comp_trace::{MarksFault, read_marks};
 use heap_layout::Counted;
 use std::alloc::Global;
@@ -15,15 +14,11 @@ use std::io::Read;
 
 /// Reads the marks whose text is at a path. Refuses if the file cannot be opened or read, if a line of it is no mark,
 /// with the number of the first such line, and if memory runs out.
-pub fn marks_at<T: Traces>(
-    alloc: Global,
-    traces: &T,
-    path: &str,
-) -> Result<Vec<u32>, CommandRefusal>
-    ensures marks { IfOk result (λ marks. SomeGiven (T.gives traces.now path.now) T.Reader.remaining (AreMarksOf marks.items)) }
-    ensures cause { IfErr result (RefusesMarksAt (T.lacks traces.now path.now) (T.gives traces.now path.now) T.Reader.remaining) }
+pub fn marks_at<F: Files>(alloc: Global, files: &F, path: &str) -> Result<Vec<u32>, CommandRefusal>
+    ensures marks { IfOk result (λ marks. AreMarksAt (F.disk files.now) path.now marks.items) }
+    ensures cause { IfErr result (RefusesMarksAt (F.disk files.now) path.now) }
 {
-    let mut reader = Counted::new(traces.open_marks(path)?);
+    let mut reader = Counted::new(files.open(Input::Marks, path)?);
     marks_in(alloc, &mut reader)
 }
 

@@ -4,24 +4,25 @@ ghost use Rattle.heap_layout.specs.Counted.{inner_of, failures_of, is_flushed_of
 ghost use Rattle.heap_layout.specs.Encoding.{encoding};
 ghost use Rattle.heap_layout.specs.Writing.{Writes, CountsOne};
 ghost use Rattle.heap_layout.specs.declared.fault.LayoutFault.TheVariants as fault;
-ghost use Rattle.command_io.specs.Dumps.{WritesWhole};
+ghost use Rattle.command_io.specs.Disk.{WritesWhole};
 ghost use Rattle.command_io.specs.NewImages.{IsOfWritingImage};
+ghost use Rattle.command_io.specs.declared.refusal.Output.TheVariants as outputs;
 
-use crate::dumps::Dumps;
-use crate::refusal::CommandRefusal;
+use crate::opening::Files;
+use crate::refusal::{CommandRefusal, Output};
 use heap_layout::{Counted, LayoutFault, MarkedHeap, write_image};
 use std::io::Write;
 
 /// Writes the image of a heap to a path. If a call of its writer fails, the writer has taken a beginning of the image.
-pub fn write_image_to<D: Dumps>(
-    dumps: &mut D,
+pub fn write_image_to<F: Files>(
+    files: &mut F,
     path: &str,
     heap: &MarkedHeap,
 ) -> Result<(), CommandRefusal>
-    ensures written { OnOk result (WritesWhole (D.gives dumps.old path.now) D.Writer.contents (encoding heap.now)) }
-    ensures cause { IfErr result (IsOfWritingImage (D.lacks dumps.old path.now) (D.gives dumps.old path.now) D.Writer.contents (encoding heap.now)) }
+    ensures written { OnOk result (WritesWhole (F.disk files.old) outputs.New path.now (encoding heap.now)) }
+    ensures cause { IfErr result (IsOfWritingImage (F.disk files.old) path.now (encoding heap.now)) }
 {
-    let mut w = Counted::new(dumps.create_image(path)?);
+    let mut w = Counted::new(files.create(Output::New, path)?);
     write_flushed(heap, &mut w)?;
     Ok(())
 }

@@ -1,90 +1,30 @@
-//! The traces and marks that the program reads, and how the texts of traces are read.
-ghost use Rattle.std.specs.Prelude.{◌≡◌, ℕ, ◌-◌, ◌^◌, ◌<◌, List, IfOk, IfErr};
+//! Reads the texts of traces.
+ghost use Rattle.std.specs.Prelude.{◌≡◌, ◌-◌, ◌^◌, ◌<◌, IfOk, IfErr};
 ghost use Rattle.heap_layout.specs.Counted.{inner_of, failures_of};
 ghost use Rattle.comp_trace.specs.Traces.{lines_of, mutators_of, roots_of};
-ghost use Rattle.command_io.specs.Images.{SomeGiven};
-ghost use Rattle.command_io.specs.Marks.{IsOfOpeningMarks};
-ghost use Rattle.command_io.specs.Texts.{CountsText, IsOfOpeningText, IsTextOf, RefusesText, RefusesTextAt};
+ghost use Rattle.command_io.specs.Texts.{CountsText, HasLinesAt, IsTextOf, RefusesText, RefusesTextAt};
 
+use crate::opening::Files;
 use crate::refusal::{CommandRefusal, Input};
 use crate::texts::{Unread, text_in};
 use comp_trace::{Trace, TraceFault, parse};
 use heap_layout::Counted;
 use std::alloc::Global;
-use std::fs;
-use std::io::{BufReader, Read};
-use std::rt::Files;
-
-/// Opens the traces and marks that the program reads, by their paths.
-pub trait Traces {
-    type Reader: Read + Drop;
-
-    // what is known of each reader that a path gives
-    ghost gives: { Self → List ℕ → Self.Reader → Type 0 };
-
-    // what is known if a path gives none
-    ghost lacks: { Self → List ℕ → Type 0 };
-
-    /// Opens the trace at a path, to be read from its first byte.
-    fn open(&self, path: &str) -> Result<Self::Reader, CommandRefusal>
-        ensures given { IfOk result (gives self.now path.now) }
-        ensures cause { IfErr result (IsOfOpeningText (lacks self.now path.now)) };
-
-    /// Opens the marks at a path, to be read from their first byte.
-    fn open_marks(&self, path: &str) -> Result<Self::Reader, CommandRefusal>
-        ensures given { IfOk result (gives self.now path.now) }
-        ensures cause { IfErr result (IsOfOpeningMarks (lacks self.now path.now)) };
-}
-
-/// The traces and marks in the files of a runtime, read through a buffer.
-#[derive(Drop)]
-pub struct FileTraces<'a, R> {
-    pub rt: &'a R,
-}
-
-impl<R: Files + AllocGlobal> Traces for FileTraces<'_, R> {
-    type Reader = BufReader<R::File, Global>;
-
-    // The kit's contracts do not say which file a path leads to, nor what a file holds: any reader may be given, and
-    // any path may give none.
-    ghost gives = { λ _ _ _. Unit {0} };
-
-    ghost lacks = { λ _ _. Unit {0} };
-
-    fn open(&self, path: &str) -> Result<BufReader<R::File, Global>, CommandRefusal> {
-        let Ok(file) = fs::open(self.rt, path) else {
-            return Err(CommandRefusal::CannotOpen(Input::Trace));
-        };
-        match BufReader::new(self.rt.alloc(), file) {
-            Ok(reader) => Ok(reader),
-            Err(_) => Err(CommandRefusal::OutOfMemory),
-        }
-    }
-
-    fn open_marks(&self, path: &str) -> Result<BufReader<R::File, Global>, CommandRefusal> {
-        let Ok(file) = fs::open(self.rt, path) else {
-            return Err(CommandRefusal::CannotOpen(Input::Marks));
-        };
-        match BufReader::new(self.rt.alloc(), file) {
-            Ok(reader) => Ok(reader),
-            Err(_) => Err(CommandRefusal::OutOfMemory),
-        }
-    }
-}
+use std::io::Read;
 
 /// Reads the trace whose text is at a path, for these numbers of mutators and shared roots.
-pub fn trace_at<T: Traces>(
+pub fn trace_at<F: Files>(
     alloc: Global,
-    traces: &T,
+    files: &F,
     path: &str,
     mutators: u8,
     roots: u16,
 ) -> Result<Trace, CommandRefusal>
-    ensures lines { IfOk result (λ trace. SomeGiven (T.gives traces.now path.now) T.Reader.remaining (IsTextOf mutators roots (lines_of trace))) }
+    ensures lines { IfOk result (λ trace. HasLinesAt (F.disk files.now) path.now mutators roots (lines_of trace)) }
     ensures counts { IfOk result (λ trace. (mutators_of trace ≡ mutators) × (roots_of trace ≡ roots)) }
-    ensures cause { IfErr result (RefusesTextAt (T.lacks traces.now path.now) (T.gives traces.now path.now) T.Reader.remaining mutators roots) }
+    ensures cause { IfErr result (RefusesTextAt (F.disk files.now) path.now mutators roots) }
 {
-    let mut reader = Counted::new(traces.open(path)?);
+    let mut reader = Counted::new(files.open(Input::Trace, path)?);
     trace_in(alloc, &mut reader, mutators, roots)
 }
 

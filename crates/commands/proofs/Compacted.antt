@@ -11,11 +11,13 @@ use Rattle.comp_dump.specs.Lent.{record_of}
 use Rattle.comp_dump.specs.declared.fault.DumpFault.TheVariants.{Truncated, TrailingBytes, BadMagic, BadField, Device}
 use Rattle.comp_dump.specs.declared.fault.DumpFault.TheVariants as faults
 use Rattle.commands.specs.Compact.{slid_records, swept_dump, BeginsDump, Compacts, DumpsHeap, IsSweptHeap, RefusesCompact, RefusesSweep, WasSwept}
-use Rattle.command_io.specs.Dumps.{IsOfDumping, WritesBeginning, WritesWhole}
-use Rattle.command_io.specs.Images.{IsImageOf, RefusesAt, SomeGiven}
+use Rattle.command_io.specs.Disk.{Disk, WritesBeginning, WritesWhole}
+use Rattle.command_io.specs.Dumps.{IsOfDumping}
+use Rattle.command_io.specs.Images.{RefusesAt, SomeHeapAt}
 use Rattle.command_io.specs.Printing.{named, CountsPrint}
 use Rattle.command_io.specs.declared.refusal.Input.TheVariants.{Image}
 use Rattle.command_io.specs.declared.refusal.Input.TheVariants as inputs
+use Rattle.command_io.specs.declared.refusal.Output.TheVariants as outputs
 use Rattle.command_io.specs.declared.refusal.CommandRefusal.{CommandRefusal}
 use Rattle.command_io.specs.declared.refusal.CommandRefusal.TheVariants.{Layout, Mutator, Sweep, Trace, Dump, Audit, CannotOpen, CannotCreate, ReadFailed, CannotPrint, NoSuchWord, BadMarks, OutOfMemory}
 use Rattle.command_io.proofs.Imaged.{of_image}
@@ -37,23 +39,23 @@ module _ (workers : ℕ) (f : Finished) (dump : Dumped) (parts : IsDumpOf worker
       dump.pages (slid_records (live heap)) dump.builds (builds_in f)
       (parts.edition ∙ h.edition) parts.mutators parts.fresh (parts.roots ∙ h.roots) (parts.pages ∙ h.pages) parts.builds (parts.total ∙ h.total)
 
-  module _ {W : Type 0} (gives : W → Type 0) (contents : W → Option (List ℕ)) where
-    pub dumps : WritesWhole gives contents (dump_bytes dump) → DumpsHeap gives contents workers heap
-    dumps w = (builds_in f, h.builds, subst (λ (d : Dumped). WritesWhole gives contents (dump_bytes d)) same_dump w)
+  module _ {W : Type 0} (disk : Disk W) (path : List ℕ) where
+    pub dumps : WritesWhole disk outputs.Dump path (dump_bytes dump) → DumpsHeap disk path workers heap
+    dumps w = (builds_in f, h.builds, subst (λ (d : Dumped). WritesWhole disk outputs.Dump path (dump_bytes d)) same_dump w)
 
-    pub begins : WritesBeginning gives contents (dump_bytes dump) → BeginsDump gives contents workers heap
-    begins w = (builds_in f, h.builds, subst (λ (d : Dumped). WritesBeginning gives contents (dump_bytes d)) same_dump w)
+    pub begins : WritesBeginning disk outputs.Dump path (dump_bytes dump) → BeginsDump disk path workers heap
+    begins w = (builds_in f, h.builds, subst (λ (d : Dumped). WritesBeginning disk outputs.Dump path (dump_bytes d)) same_dump w)
 
   pub same_total : dump.total ≡ live_words (live heap)
   same_total = parts.total ∙ h.total
 
 -- The refusals of a compaction, from those of its parts.
-module _ {R W : Type 0} (absent closed : Type 0) (given : R → Type 0) (remaining : R → Option (List ℕ)) (gives : W → Type 0) (contents : W → Option (List ℕ)) (workers : ℕ) where
+module _ {W : Type 0} (disk : Disk W) (image path : List ℕ) (workers : ℕ) where
   abbrev pub Refuses : CommandRefusal → Type 0
-  Refuses refusal = RefusesAt absent given remaining (RefusesCompact closed gives contents workers) refusal
+  Refuses refusal = RefusesAt disk image (RefusesCompact disk path workers) refusal
 
   -- the heap was not swept
-  pub of_sweep : (refusal : CommandRefusal) → RefusesAt absent given remaining RefusesSweep refusal → Refuses refusal
+  pub of_sweep : (refusal : CommandRefusal) → RefusesAt disk image RefusesSweep refusal → Refuses refusal
   of_sweep (Layout fault) h = h
   of_sweep (Mutator refused) h = h
   of_sweep (Sweep fault) h = h
@@ -71,9 +73,9 @@ module _ {R W : Type 0} (absent closed : Type 0) (given : R → Type 0) (remaini
   of_sweep (BadMarks line) h = absurd h.2
   of_sweep OutOfMemory h = tt
 
-  module _ (f : Finished) (dump : Dumped) (parts : IsDumpOf workers f dump) (swept : SomeGiven given remaining (IsImageOf (IsSweptHeap workers f))) where
+  module _ (f : Finished) (dump : Dumped) (parts : IsDumpOf workers f dump) (swept : SomeHeapAt disk image (IsSweptHeap workers f)) where
     -- its dump was not written
-    pub of_dumping : (refusal : CommandRefusal) → IsOfDumping closed gives contents (dump_bytes dump) refusal → Refuses refusal
+    pub of_dumping : (refusal : CommandRefusal) → IsOfDumping disk path (dump_bytes dump) refusal → Refuses refusal
     of_dumping (Layout fault) h = absurd h
     of_dumping (Mutator refused) h = absurd h
     of_dumping (Sweep fault) h = absurd h
@@ -83,20 +85,20 @@ module _ {R W : Type 0} (absent closed : Type 0) (given : R → Type 0) (remaini
     of_dumping (Dump BadMagic) h = absurd h
     of_dumping (Dump BadField) h = absurd h
     of_dumping (Dump faults.OutOfMemory) h = absurd h
-    of_dumping (Dump Device) h = (swept.0, swept.1, of_image (IsSweptHeap workers f) (BeginsDump gives contents workers) (remaining swept.0) (λ heap s. begins workers f dump parts heap s gives contents h) swept.2)
+    of_dumping (Dump Device) h = (swept.0, swept.1, of_image (IsSweptHeap workers f) (BeginsDump disk path workers) swept.0 (λ heap s. begins workers f dump parts heap s disk path h) swept.2)
     of_dumping (Audit fault) h = absurd h
     of_dumping (CannotOpen input) h = absurd h
-    of_dumping (CannotCreate output) h = (swept.0, swept.1, (h.0, h.1, of_image (IsSweptHeap workers f) (WasSwept workers) (remaining swept.0) (λ heap s. (f, s)) swept.2))
+    of_dumping (CannotCreate output) h = (swept.0, swept.1, (h.0, h.1, of_image (IsSweptHeap workers f) (WasSwept workers) swept.0 (λ heap s. (f, s)) swept.2))
     of_dumping (ReadFailed input) h = absurd h
     of_dumping CannotPrint h = absurd h
     of_dumping (NoSuchWord index) h = absurd h
     of_dumping (BadMarks line) h = absurd h
     of_dumping OutOfMemory h = tt
 
-    module _ (whole : WritesWhole gives contents (dump_bytes dump)) where
+    module _ (whole : WritesWhole disk outputs.Dump path (dump_bytes dump)) where
       -- its line was not printed
       of_printing : Refuses CannotPrint
-      of_printing = (swept.0, swept.1, of_image (IsSweptHeap workers f) (DumpsHeap gives contents workers) (remaining swept.0) (λ heap s. dumps workers f dump parts heap s gives contents whole) swept.2)
+      of_printing = (swept.0, swept.1, of_image (IsSweptHeap workers f) (DumpsHeap disk path workers) swept.0 (λ heap s. dumps workers f dump parts heap s disk path whole) swept.2)
 
       pub of_line : (result : Result (Unit {0}) CommandRefusal) → OnErr result (result ≡ Err CannotPrint) → IfErr result Refuses
       of_line (Ok _) h = tt
@@ -104,16 +106,16 @@ module _ {R W : Type 0} (absent closed : Type 0) (given : R → Type 0) (remaini
 
       -- its line was printed
       pub of_all : (before after : Option (List ℕ)) (n : ℕ) → n ≡ dump.total → Appends before after (named (codes "live ") n)
-          → SomeGiven given remaining (IsImageOf (Compacts gives contents workers before after))
+          → SomeHeapAt disk image (Compacts disk path workers before after)
       of_all before after n is line = (
         swept.0,
         swept.1,
-        of_image (IsSweptHeap workers f) (Compacts gives contents workers before after) (remaining swept.0) (λ heap s. record {
-          dump = dumps workers f dump parts heap s gives contents whole;
+        of_image (IsSweptHeap workers f) (Compacts disk path workers before after) swept.0 (λ heap s. record {
+          dump = dumps workers f dump parts heap s disk path whole;
           line = subst (λ (m : ℕ). Appends before after (named (codes "live ") m)) (is ∙ same_total workers f dump parts heap s) line;
         }) swept.2,
       )
 
 -- a refusal to sweep is none of the output
-pub uncounted : {R : Type 0} (absent : Type 0) (given : R → Type 0) (remaining : R → Option (List ℕ)) (n : ℕ) (refusal : CommandRefusal) → RefusesAt absent given remaining RefusesSweep refusal → CountsPrint {T = Unit {0}} n n (Err refusal)
-uncounted absent given remaining n refusal h = uncounted_by n n refusal refl (λ e. (subst (RefusesAt absent given remaining RefusesSweep) e h).2)
+pub uncounted : {W : Type 0} (disk : Disk W) (image : List ℕ) (n : ℕ) (refusal : CommandRefusal) → RefusesAt disk image RefusesSweep refusal → CountsPrint {T = Unit {0}} n n (Err refusal)
+uncounted disk image n refusal h = uncounted_by n n refusal refl (λ e. (subst (RefusesAt disk image RefusesSweep) e h).2)

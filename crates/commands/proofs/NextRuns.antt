@@ -4,11 +4,13 @@ use Rattle.std.proofs.KnownBytes.{Appends-kept}
 use Rattle.std.specs.Io.KnownBytes.{Keeps}
 use Rattle.heap_layout.specs.Heap.{Heap}
 use Rattle.comp_trace.specs.Line.{Line}
-use Rattle.command_io.specs.Dumps.{WritesWhole}
+use Rattle.command_line.specs.declared.next.NextRun.{NextRun}
+use Rattle.command_io.specs.Disk.{Disk, WritesWhole}
 use Rattle.command_io.specs.Images.{SomeHeap}
 use Rattle.command_io.specs.Marks.{RefusesMarksAt}
 use Rattle.command_io.specs.NewImages.{IsOfWritingImage, RefusedUnmade}
 use Rattle.command_io.specs.Printing.{CountsPrint}
+use Rattle.command_io.specs.declared.refusal.Output.TheVariants as outputs
 use Rattle.command_io.specs.declared.refusal.CommandRefusal.{CommandRefusal}
 use Rattle.command_io.specs.declared.refusal.CommandRefusal.TheVariants.{Layout, Mutator, Sweep, Trace, Dump, Audit, CannotOpen, CannotCreate, ReadFailed, CannotPrint, NoSuchWord, BadMarks, OutOfMemory}
 use Rattle.command_io.proofs.Outcomes.{uncounted_by, unmade}
@@ -18,38 +20,38 @@ use Rattle.commands.specs.Nexts.{IsOfWritingNext, IsWrittenNext, MakesNext, Next
 use Rattle.commands.specs.declared.cycling.Cycled.{Cycled}
 
 -- no refusal of marks counts a failed call of the output
-pub marks_uncounted : {S : Type 0} (unmarked : Type 0) (handed : S → Type 0) (rest : S → Option (List ℕ)) (n : ℕ) (refusal : CommandRefusal) → RefusesMarksAt unmarked handed rest refusal → CountsPrint {T = Unit {0}} n n (Err refusal)
-marks_uncounted unmarked handed rest n refusal h = uncounted_by n n refusal refl (λ e. (subst (RefusesMarksAt unmarked handed rest) e h).2)
+pub marks_uncounted : {W : Type 0} (disk : Disk W) (path : List ℕ) (n : ℕ) (refusal : CommandRefusal) → RefusesMarksAt disk path refusal → CountsPrint {T = Unit {0}} n n (Err refusal)
+marks_uncounted disk path n refusal h = uncounted_by n n refusal refl (λ e. (subst (RefusesMarksAt disk path) e h).2)
 
 -- no image was created, since none was begun
-pub unmade_anyway : {D : Type 0} (dumps : D) (result : Result (Unit {0}) CommandRefusal) → RefusedUnmade dumps dumps result
-unmade_anyway dumps (Ok _) = tt
-unmade_anyway dumps (Err refusal) = unmade dumps refusal
+pub unmade_anyway : {F : Type 0} (files : F) (result : Result (Unit {0}) CommandRefusal) → RefusedUnmade files files result
+unmade_anyway files (Ok _) = tt
+unmade_anyway files (Err refusal) = unmade files refusal
 
 -- a refusal of the image is one of the writing
-pub writing_image : {W : Type 0} (lacks : Type 0) (gives : W → Type 0) (contents : W → Option (List ℕ)) (bytes : List ℕ) (refusal : CommandRefusal) → IsOfWritingImage lacks gives contents bytes refusal
-    → IsOfWritingNext lacks gives contents bytes refusal
-writing_image lacks gives contents bytes (Layout fault) h = h
-writing_image lacks gives contents bytes (Mutator refused) h = h
-writing_image lacks gives contents bytes (Sweep fault) h = h
-writing_image lacks gives contents bytes (Trace fault) h = h
-writing_image lacks gives contents bytes (Dump fault) h = h
-writing_image lacks gives contents bytes (Audit fault) h = h
-writing_image lacks gives contents bytes (CannotOpen input) h = h
-writing_image lacks gives contents bytes (CannotCreate output) h = h
-writing_image lacks gives contents bytes (ReadFailed input) h = h
-writing_image lacks gives contents bytes CannotPrint h = absurd h
-writing_image lacks gives contents bytes (NoSuchWord index) h = h
-writing_image lacks gives contents bytes (BadMarks line) h = h
-writing_image lacks gives contents bytes OutOfMemory h = h
+pub writing_image : {W : Type 0} (disk : Disk W) (path bytes : List ℕ) (refusal : CommandRefusal) → IsOfWritingImage disk path bytes refusal
+    → IsOfWritingNext disk path bytes refusal
+writing_image disk path bytes (Layout fault) h = h
+writing_image disk path bytes (Mutator refused) h = h
+writing_image disk path bytes (Sweep fault) h = h
+writing_image disk path bytes (Trace fault) h = h
+writing_image disk path bytes (Dump fault) h = h
+writing_image disk path bytes (Audit fault) h = h
+writing_image disk path bytes (CannotOpen input) h = h
+writing_image disk path bytes (CannotCreate output) h = h
+writing_image disk path bytes (ReadFailed input) h = h
+writing_image disk path bytes CannotPrint h = absurd h
+writing_image disk path bytes (NoSuchWord index) h = h
+writing_image disk path bytes (BadMarks line) h = h
+writing_image disk path bytes OutOfMemory h = h
 
 -- the image was written, and a call of the output failed
-pub unprinted_next : {W : Type 0} (lacks : Type 0) (gives : W → Type 0) (contents : W → Option (List ℕ)) (bytes : List ℕ) (result : Result (Unit {0}) CommandRefusal) → OnErr result (result ≡ Err CannotPrint)
-    → WritesWhole gives contents bytes → IfErr result (IsOfWritingNext lacks gives contents bytes)
-unprinted_next lacks gives contents bytes (Ok _) cause written = tt
-unprinted_next lacks gives contents bytes (Err refusal) cause written =
+pub unprinted_next : {W : Type 0} (disk : Disk W) (path bytes : List ℕ) (result : Result (Unit {0}) CommandRefusal) → OnErr result (result ≡ Err CannotPrint)
+    → WritesWhole disk outputs.New path bytes → IfErr result (IsOfWritingNext disk path bytes)
+unprinted_next disk path bytes (Ok _) cause written = tt
+unprinted_next disk path bytes (Err refusal) cause written =
     let is : refusal ≡ CannotPrint = cc in
-    subst (IsOfWritingNext lacks gives contents bytes) (sym is) written
+    subst (IsOfWritingNext disk path bytes) (sym is) written
 
 -- what follows from an Ok, and from an Err
 pub ok_then : (P Q : Type 0) → (P → Q) → (result : Result (Unit {0}) CommandRefusal) → OnOk result P → OnOk result Q
@@ -60,35 +62,34 @@ pub err_then : (P Q : CommandRefusal → Type 0) → ((refusal : CommandRefusal)
 err_then P Q f (Ok _) p = tt
 err_then P Q f (Err refusal) p = f refusal p
 
-module _ {W : Type 0} (lacks : Type 0) (gives : W → Type 0) (contents : W → Option (List ℕ)) (mutators fresh : ℕ) (before after : Option (List ℕ)) (lines : List Line) (marks : List ℕ) (heap : Heap) where
+module _ {W : Type 0} (disk : Disk W) (asked : NextRun) (before after : Option (List ℕ)) (lines : List Line) (marks : List ℕ) (heap : Heap) where
   -- the cycle came to its end, and all was written and printed
-  pub made_ok : (made : Result Cycled PrintedHalt) → IfOk made (λ cycled. IsCycledHeap mutators fresh lines cycled.shown.items marks heap cycled.plan)
-      → (result : Result (Unit {0}) CommandRefusal) → OnOk result (IsWrittenNext gives contents before after made) → OnOk result (Nexts gives contents mutators fresh before after lines marks heap)
+  pub made_ok : (made : Result Cycled PrintedHalt) → IfOk made (λ cycled. IsCycledHeap asked.mutators asked.fresh lines cycled.shown.items marks heap cycled.plan)
+      → (result : Result (Unit {0}) CommandRefusal) → OnOk result (IsWrittenNext disk asked.new.now before after made) → OnOk result (Nexts disk asked before after lines marks heap)
   made_ok made h (Err refusal) w = tt
   made_ok (Ok cycled) h (Ok _) w = record { shown = cycled.shown.items; next = cycled.plan; cycled = h; written = w.0; printed = w.1 }
   made_ok (Err halted) h (Ok _) w = absurd w
 
   -- or it did not
-  pub made_err : (made : Result Cycled PrintedHalt) → IfOk made (λ cycled. IsCycledHeap mutators fresh lines cycled.shown.items marks heap cycled.plan)
-      → IfErr made (λ halted. IsUncycled mutators fresh lines halted.shown.items marks heap halted.refusal)
-      → (refusal : CommandRefusal) → RefusesWriting lacks gives contents before after made refusal → RefusesCycle lacks gives contents mutators fresh before after lines marks heap refusal
+  pub made_err : (made : Result Cycled PrintedHalt) → IfOk made (λ cycled. IsCycledHeap asked.mutators asked.fresh lines cycled.shown.items marks heap cycled.plan)
+      → IfErr made (λ halted. IsUncycled asked.mutators asked.fresh lines halted.shown.items marks heap halted.refusal)
+      → (refusal : CommandRefusal) → RefusesWriting disk asked.new.now before after made refusal → RefusesCycle disk asked before after lines marks heap refusal
   made_err (Ok cycled) h u refusal w = inr (cycled.shown.items, cycled.plan, h, w)
   made_err (Err halted) h u refusal w = inl (halted, u, w)
 
 -- What the command did, whether the output is flushed after it or not.
-module _ {R S W : Type 0} (given : R → Type 0) (remaining : R → Option (List ℕ)) (texts handed : S → Type 0) (rest : S → Option (List ℕ)) (gives : W → Type 0) (contents : W → Option (List ℕ))
-    (mutators fresh : ℕ) (before between after : Option (List ℕ)) where
-  pub flushed_next : Keeps between after → MakesNext given remaining texts handed rest gives contents mutators fresh before between → MakesNext given remaining texts handed rest gives contents mutators fresh before after
+module _ {W : Type 0} (disk : Disk W) (asked : NextRun) (before between after : Option (List ℕ)) where
+  pub flushed_next : Keeps between after → MakesNext disk asked before between → MakesNext disk asked before after
   flushed_next kept (heap, image, (lines, trace, (marks, own, h))) =
       let printed = Appends-kept before between after _ h.printed kept in
       (heap, image, (lines, trace, (marks, own, record { shown = h.shown; next = h.next; cycled = h.cycled; written = h.written; printed = printed })))
 
-  pub unflushed_next : (absent missing unmarked lacks : Type 0) → MakesNext given remaining texts handed rest gives contents mutators fresh before between
-      → RefusesNext absent given remaining missing texts unmarked handed rest lacks gives contents mutators fresh before after CannotPrint
-  unflushed_next absent missing unmarked lacks (heap, image, (lines, trace, (marks, own, h))) =
+  pub unflushed_next : MakesNext disk asked before between
+      → RefusesNext disk asked before after CannotPrint
+  unflushed_next (heap, image, (lines, trace, (marks, own, h))) =
       inr (inr (heap, image, (lines, trace, (marks, own, inr (h.shown, h.next, h.cycled, h.written)))))
 
   -- what was printed of an accepted heap
-  pub printed_next : MakesNext given remaining texts handed rest gives contents mutators fresh before after → SomeHeap (PrintsNext mutators fresh before after)
-  printed_next (heap, (reader, is_given, (other, stored, accepted, (known, same))), (lines, (second, is_text_of, (text, is_text, has_lines)), (marks, own, h))) =
-      (other, stored, accepted, subst (PrintsNext mutators fresh before after) (sym same) (text, lines, has_lines, marks, h.shown, h.next, h.cycled, h.printed))
+  pub printed_next : MakesNext disk asked before after → SomeHeap (PrintsNext asked.mutators asked.fresh before after)
+  printed_next (heap, (bytes, is_there, (other, stored, accepted, (known, same))), (lines, (more, is_near, (text, is_text, has_lines)), (marks, own, h))) =
+      (other, stored, accepted, subst (PrintsNext asked.mutators asked.fresh before after) (sym same) (text, lines, has_lines, marks, h.shown, h.next, h.cycled, h.printed))

@@ -13,12 +13,14 @@ use Rattle.comp_trace.specs.Shown.{Shown}
 use Rattle.comp_dump.specs.DumpEncoding.{dump_bytes}
 use Rattle.comp_dump.specs.declared.fault.DumpFault.TheVariants.{Truncated, TrailingBytes, BadMagic, BadField, Device}
 use Rattle.comp_dump.specs.declared.fault.DumpFault.TheVariants as faults
-use Rattle.command_io.specs.Dumps.{WritesWhole}
-use Rattle.command_io.specs.Images.{IsImageOf, RefusesAt, RefusesImage, SomeGiven}
+use Rattle.command_line.specs.declared.words.TraceRun.{TraceRun}
+use Rattle.command_io.specs.Disk.{Disk, WritesWhole}
+use Rattle.command_io.specs.Images.{IsHeapAt, RefusesAt, RefusesImage}
 use Rattle.commands.specs.Races.{HasRace, InterruptsRace, IsHaltedRace, IsRacedHeap, Races, RefusesRace, RefusesRacing, StopsRace}
 use Rattle.commands.specs.Replays.{dumped_of, shown_lines, IsOfWritingRun, PrintsRun, SomeRun}
-use Rattle.command_io.specs.Texts.{IsTextOf, RefusesTextAt}
+use Rattle.command_io.specs.Texts.{HasLinesAt, RefusesTextAt}
 use Rattle.command_io.specs.declared.refusal.Input.TheVariants as inputs
+use Rattle.command_io.specs.declared.refusal.Output.TheVariants as outputs
 use Rattle.command_io.specs.declared.refusal.CommandRefusal.{CommandRefusal}
 use Rattle.command_io.specs.declared.refusal.CommandRefusal.TheVariants.{Layout, Mutator, Sweep, Trace, Dump, Audit, CannotOpen, CannotCreate, ReadFailed, CannotPrint, NoSuchWord, BadMarks, OutOfMemory}
 use Rattle.commands.specs.Outcomes.{IsHaltedBy, IsWritten, RefusesInputs, RefusesOutcome}
@@ -30,19 +32,18 @@ use Rattle.commands.proofs.ReplayRuns.{some_heap, some_refused, some_run}
 abbrev has_race : (mutators fresh : ℕ) (lines : List Line) (shown : List Shown) (f : Finished) (heap : Heap) → IsRacedHeap mutators fresh lines shown f heap → HasRace mutators fresh lines heap
 has_race mutators fresh lines shown f heap h = record { shown = shown; left = f; raced = h }
 
-races : {W : Type 0} (gives : W → Type 0) (contents : W → Option (List ℕ)) (mutators fresh : ℕ) (before after : Option (List ℕ)) (lines : List Line) (shown : List Shown) (f : Finished) (heap : Heap)
-    → IsRacedHeap mutators fresh lines shown f heap → WritesWhole gives contents (dump_bytes (dumped_of mutators fresh f)) → PrintsRun before after shown (live_of f)
-    → Races gives contents mutators fresh before after lines heap
-races gives contents mutators fresh before after lines shown f heap h written printed = record { race = has_race mutators fresh lines shown f heap h; written = written; printed = printed }
+races : {W : Type 0} (disk : Disk W) (asked : TraceRun) (before after : Option (List ℕ)) (lines : List Line) (shown : List Shown) (f : Finished) (heap : Heap)
+    → IsRacedHeap asked.mutators asked.fresh lines shown f heap → WritesWhole disk outputs.Dump asked.dump.now (dump_bytes (dumped_of asked.mutators asked.fresh f)) → PrintsRun before after shown (live_of f)
+    → Races disk asked before after lines heap
+races disk asked before after lines shown f heap h written printed = record { race = has_race asked.mutators asked.fresh lines shown f heap h; written = written; printed = printed }
 
 -- The refusals of the command, from those of its parts.
-module _ {R S W : Type 0} (absent : Type 0) (given : R → Type 0) (remaining : R → Option (List ℕ)) (missing : Type 0) (texts : S → Type 0) (rest : S → Option (List ℕ))
-    (lacks : Type 0) (gives : W → Type 0) (contents : W → Option (List ℕ)) (mutators fresh : ℕ) (before after : Option (List ℕ)) where
+module _ {W : Type 0} (disk : Disk W) (asked : TraceRun) (before after : Option (List ℕ)) where
   abbrev pub IsCause : CommandRefusal → Type 0
-  IsCause refusal = RefusesRace absent given remaining missing texts rest lacks gives contents mutators fresh before after refusal
+  IsCause refusal = RefusesRace disk asked before after refusal
 
   -- there is no heap
-  of_image : (refusal : CommandRefusal) → RefusesAt absent given remaining RefusesImage refusal → IsCause refusal
+  of_image : (refusal : CommandRefusal) → RefusesAt disk asked.image.now RefusesImage refusal → IsCause refusal
   of_image (Layout fault) h = h
   of_image (Mutator refused) h = absurd h.2
   of_image (Sweep fault) h = absurd h.2
@@ -60,22 +61,22 @@ module _ {R S W : Type 0} (absent : Type 0) (given : R → Type 0) (remaining : 
   of_image (BadMarks line) h = absurd h.2
   of_image OutOfMemory h = tt
 
-  module _ (heap : Heap) (image : SomeGiven given remaining (IsImageOf (λ other. other ≡ heap))) where
+  module _ (heap : Heap) (image : IsHeapAt disk asked.image.now heap) where
     -- there is no trace for it, and nothing was printed
-    by_trace : Keeps before after → (refusal : CommandRefusal) → RefusesTextAt missing texts rest mutators (length heap.roots) refusal → IsCause refusal
+    by_trace : Keeps before after → (refusal : CommandRefusal) → RefusesTextAt disk asked.trace.now asked.mutators (length heap.roots) refusal → IsCause refusal
     by_trace kept (Layout fault) h = absurd h.2
     by_trace kept (Mutator refused) h = absurd h.2
     by_trace kept (Sweep fault) h = absurd h.2
-    by_trace kept (Trace fault) h = inl (some_refused given remaining texts rest mutators heap image (Trace fault) h, kept)
+    by_trace kept (Trace fault) h = inl (some_refused disk asked heap image (Trace fault) h, kept)
     by_trace kept (Dump fault) h = absurd h.2
     by_trace kept (Audit fault) h = absurd h.2
     by_trace kept (CannotOpen inputs.Image) h = absurd h.2
-    by_trace kept (CannotOpen inputs.Trace) h = (h, some_heap given remaining texts rest mutators heap image)
+    by_trace kept (CannotOpen inputs.Trace) h = (h, some_heap disk asked heap image)
     by_trace kept (CannotOpen inputs.Dump) h = absurd h.2
     by_trace kept (CannotOpen inputs.Marks) h = absurd h.2
     by_trace kept (CannotCreate output) h = absurd h.2
     by_trace kept (ReadFailed inputs.Image) h = absurd h.2
-    by_trace kept (ReadFailed inputs.Trace) h = some_refused given remaining texts rest mutators heap image (ReadFailed inputs.Trace) h
+    by_trace kept (ReadFailed inputs.Trace) h = some_refused disk asked heap image (ReadFailed inputs.Trace) h
     by_trace kept (ReadFailed inputs.Dump) h = absurd h.2
     by_trace kept (ReadFailed inputs.Marks) h = absurd h.2
     by_trace kept CannotPrint h = absurd h.2
@@ -83,18 +84,18 @@ module _ {R S W : Type 0} (absent : Type 0) (given : R → Type 0) (remaining : 
     by_trace kept (BadMarks line) h = absurd h.2
     by_trace kept OutOfMemory h = tt
 
-    module _ (lines : List Line) (trace : SomeGiven texts rest (IsTextOf mutators (length heap.roots) lines)) where
-      by_run : (refusal : CommandRefusal) → RefusesRacing lacks gives contents mutators fresh before after refusal lines heap
-          → SomeRun given remaining texts rest mutators (RefusesRacing lacks gives contents mutators fresh before after refusal)
-      by_run refusal h = some_run given remaining texts rest mutators heap image (RefusesRacing lacks gives contents mutators fresh before after refusal) lines trace h
+    module _ (lines : List Line) (trace : HasLinesAt disk asked.trace.now asked.mutators (length heap.roots) lines) where
+      by_run : (refusal : CommandRefusal) → RefusesRacing disk asked before after refusal lines heap
+          → SomeRun disk asked (RefusesRacing disk asked before after refusal)
+      by_run refusal h = some_run disk asked heap image (RefusesRacing disk asked before after refusal) lines trace h
 
       -- its lines did not all run, and what they showed was printed
-      of_halt : (shown : List Shown) → Appends before after (shown_lines shown) → (refusal : CommandRefusal) → IsHaltedRace mutators fresh lines shown heap refusal → IsCause refusal
+      of_halt : (shown : List Shown) → Appends before after (shown_lines shown) → (refusal : CommandRefusal) → IsHaltedRace asked.mutators asked.fresh lines shown heap refusal → IsCause refusal
       of_halt shown printed (Layout fault) h = absurd h
       of_halt shown printed (Mutator refused) h = by_run (Mutator refused) h.0
       of_halt shown printed (Sweep fault) h = absurd h
       of_halt shown printed (Trace fault) h =
-          inr (some_run given remaining texts rest mutators heap image (StopsRace mutators fresh before after fault) lines trace (shown, h, printed))
+          inr (some_run disk asked heap image (StopsRace asked.mutators asked.fresh before after fault) lines trace (shown, h, printed))
       of_halt shown printed (Dump fault) h = absurd h
       of_halt shown printed (Audit fault) h = absurd h
       of_halt shown printed (CannotOpen input) h = absurd h
@@ -106,12 +107,12 @@ module _ {R S W : Type 0} (absent : Type 0) (given : R → Type 0) (remaining : 
       of_halt shown printed OutOfMemory h = tt
 
       -- or a call of the output failed
-      of_halt_unprinted : (shown : List Shown) (refusal : CommandRefusal) → IsHaltedRace mutators fresh lines shown heap refusal → IsCause CannotPrint
+      of_halt_unprinted : (shown : List Shown) (refusal : CommandRefusal) → IsHaltedRace asked.mutators asked.fresh lines shown heap refusal → IsCause CannotPrint
       of_halt_unprinted shown refusal h = by_run CannotPrint (inr (refusal, shown, h))
 
-      module _ (shown : List Shown) (f : Finished) (h : IsRacedHeap mutators fresh lines shown f heap) where
+      module _ (shown : List Shown) (f : Finished) (h : IsRacedHeap asked.mutators asked.fresh lines shown f heap) where
         -- they ran, and the dump was not written, or a call of the output failed
-        of_writing : (refusal : CommandRefusal) → IsOfWritingRun lacks gives contents (dump_bytes (dumped_of mutators fresh f)) refusal → IsCause refusal
+        of_writing : (refusal : CommandRefusal) → IsOfWritingRun disk asked.dump.now (dump_bytes (dumped_of asked.mutators asked.fresh f)) refusal → IsCause refusal
         of_writing (Layout fault) w = absurd w
         of_writing (Mutator refused) w = absurd w
         of_writing (Sweep fault) w = absurd w
@@ -121,45 +122,45 @@ module _ {R S W : Type 0} (absent : Type 0) (given : R → Type 0) (remaining : 
         of_writing (Dump BadMagic) w = absurd w
         of_writing (Dump BadField) w = absurd w
         of_writing (Dump faults.OutOfMemory) w = absurd w
-        of_writing (Dump Device) w = by_run (Dump Device) (has_race mutators fresh lines shown f heap h, w)
+        of_writing (Dump Device) w = by_run (Dump Device) (has_race asked.mutators asked.fresh lines shown f heap h, w)
         of_writing (Audit fault) w = absurd w
         of_writing (CannotOpen input) w = absurd w
-        of_writing (CannotCreate output) w = by_run (CannotCreate output) (w.0, w.1, has_race mutators fresh lines shown f heap h)
+        of_writing (CannotCreate output) w = by_run (CannotCreate output) (w.0, w.1, has_race asked.mutators asked.fresh lines shown f heap h)
         of_writing (ReadFailed input) w = absurd w
-        of_writing CannotPrint w = by_run CannotPrint (inl (has_race mutators fresh lines shown f heap h, w))
+        of_writing CannotPrint w = by_run CannotPrint (inl (has_race asked.mutators asked.fresh lines shown f heap h, w))
         of_writing (NoSuchWord index) w = absurd w
         of_writing (BadMarks line) w = absurd w
         of_writing OutOfMemory w = tt
 
         -- the dump was written, and all was printed
-        of_all : WritesWhole gives contents (dump_bytes (dumped_of mutators fresh f)) → PrintsRun before after shown (live_of f)
-            → SomeRun given remaining texts rest mutators (Races gives contents mutators fresh before after)
-        of_all written printed = some_run given remaining texts rest mutators heap image (Races gives contents mutators fresh before after) lines trace
-            (races gives contents mutators fresh before after lines shown f heap h written printed)
+        of_all : WritesWhole disk outputs.Dump asked.dump.now (dump_bytes (dumped_of asked.mutators asked.fresh f)) → PrintsRun before after shown (live_of f)
+            → SomeRun disk asked (Races disk asked before after)
+        of_all written printed = some_run disk asked heap image (Races disk asked before after) lines trace
+            (races disk asked before after lines shown f heap h written printed)
 
       -- from what became of the run
-      of_outcome : (outcome : Result Replayed PrintedHalt) → IfOk outcome (λ run. IsRacedHeap mutators fresh lines run.shown.items run.finished heap)
-          → IfErr outcome (λ run. IsHaltedRace mutators fresh lines run.shown.items heap run.refusal)
-          → (refusal : CommandRefusal) → RefusesOutcome lacks gives contents mutators fresh before after outcome refusal → IsCause refusal
+      of_outcome : (outcome : Result Replayed PrintedHalt) → IfOk outcome (λ run. IsRacedHeap asked.mutators asked.fresh lines run.shown.items run.finished heap)
+          → IfErr outcome (λ run. IsHaltedRace asked.mutators asked.fresh lines run.shown.items heap run.refusal)
+          → (refusal : CommandRefusal) → RefusesOutcome disk asked before after outcome refusal → IsCause refusal
       of_outcome (Ok run) ran halted refusal h = of_writing run.shown.items run.finished ran refusal h
       of_outcome (Err run) ran halted refusal (inl (is, printed)) = subst IsCause (sym is) (of_halt run.shown.items printed run.refusal halted)
       of_outcome (Err run) ran halted refusal (inr is) = subst IsCause (sym is) (of_halt_unprinted run.shown.items run.refusal halted)
 
-      pub of_outcome_err : (outcome : Result Replayed PrintedHalt) → IfOk outcome (λ run. IsRacedHeap mutators fresh lines run.shown.items run.finished heap)
-          → IfErr outcome (λ run. IsHaltedRace mutators fresh lines run.shown.items heap run.refusal)
-          → (result : Result (Unit {0}) CommandRefusal) → IfErr result (RefusesOutcome lacks gives contents mutators fresh before after outcome) → IfErr result IsCause
+      pub of_outcome_err : (outcome : Result Replayed PrintedHalt) → IfOk outcome (λ run. IsRacedHeap asked.mutators asked.fresh lines run.shown.items run.finished heap)
+          → IfErr outcome (λ run. IsHaltedRace asked.mutators asked.fresh lines run.shown.items heap run.refusal)
+          → (result : Result (Unit {0}) CommandRefusal) → IfErr result (RefusesOutcome disk asked before after outcome) → IfErr result IsCause
       of_outcome_err outcome ran halted (Ok _) h = tt
       of_outcome_err outcome ran halted (Err refusal) h = of_outcome outcome ran halted refusal h
 
-      pub of_outcome_ok : (outcome : Result Replayed PrintedHalt) → IfOk outcome (λ run. IsRacedHeap mutators fresh lines run.shown.items run.finished heap)
-          → (result : Result (Unit {0}) CommandRefusal) → OnOk result (IsWritten gives contents mutators fresh before after outcome)
-          → OnOk result (SomeRun given remaining texts rest mutators (Races gives contents mutators fresh before after))
+      pub of_outcome_ok : (outcome : Result Replayed PrintedHalt) → IfOk outcome (λ run. IsRacedHeap asked.mutators asked.fresh lines run.shown.items run.finished heap)
+          → (result : Result (Unit {0}) CommandRefusal) → OnOk result (IsWritten disk asked before after outcome)
+          → OnOk result (SomeRun disk asked (Races disk asked before after))
       of_outcome_ok outcome ran (Err refusal) h = tt
       of_outcome_ok (Ok run) ran (Ok _) h = of_all run.shown.items run.finished ran h.0 h.1
       of_outcome_ok (Err run) ran (Ok _) h = absurd h
 
   -- there is no heap, or no trace for it
-  pub of_inputs : Keeps before after → (refusal : CommandRefusal) → RefusesInputs absent given remaining missing texts rest mutators refusal → IsCause refusal
+  pub of_inputs : Keeps before after → (refusal : CommandRefusal) → RefusesInputs disk asked.image.now asked.trace.now asked.mutators refusal → IsCause refusal
   of_inputs kept refusal (inl h) = of_image refusal h
   of_inputs kept refusal (inr (heap, image, h)) = by_trace heap image kept refusal h
 
@@ -189,13 +190,12 @@ race_halted_by mutators fresh lines heap shown (BadMarks line) h = absurd h
 race_halted_by mutators fresh lines heap shown OutOfMemory h = h
 
 -- What was done of a race, whether the output is flushed after it or not.
-module _ {R S W : Type 0} (given : R → Type 0) (remaining : R → Option (List ℕ)) (texts : S → Type 0) (rest : S → Option (List ℕ)) (gives : W → Type 0) (contents : W → Option (List ℕ))
-    (mutators fresh : ℕ) (before between after : Option (List ℕ)) where
-  pub flushed_race : Keeps between after → SomeRun given remaining texts rest mutators (Races gives contents mutators fresh before between)
-      → SomeRun given remaining texts rest mutators (Races gives contents mutators fresh before after)
-  flushed_race kept (reader, is_given, (heap, stored, accepted, (known, (other, is_text_of, (text, is_text, (lines, has_lines, h)))))) = (
-    reader,
-    is_given,
+module _ {W : Type 0} (disk : Disk W) (asked : TraceRun) (before between after : Option (List ℕ)) where
+  pub flushed_race : Keeps between after → SomeRun disk asked (Races disk asked before between)
+      → SomeRun disk asked (Races disk asked before after)
+  flushed_race kept (bytes, is_there, (heap, stored, accepted, (known, (more, is_near, (text, is_text, (lines, has_lines, h)))))) = (
+    bytes,
+    is_there,
     (
       heap,
       stored,
@@ -203,8 +203,8 @@ module _ {R S W : Type 0} (given : R → Type 0) (remaining : R → Option (List
       (
         known,
         (
-          other,
-          is_text_of,
+          more,
+          is_near,
           (
             text,
             is_text,
@@ -223,7 +223,7 @@ module _ {R S W : Type 0} (given : R → Type 0) (remaining : R → Option (List
     ),
   )
 
-  pub unflushed_race : (lacks : Type 0) → SomeRun given remaining texts rest mutators (Races gives contents mutators fresh before between)
-      → SomeRun given remaining texts rest mutators (RefusesRacing lacks gives contents mutators fresh before after CannotPrint)
-  unflushed_race lacks (reader, is_given, (heap, stored, accepted, (known, (other, is_text_of, (text, is_text, (lines, has_lines, h)))))) =
-      (reader, is_given, (heap, stored, accepted, (known, (other, is_text_of, (text, is_text, (lines, has_lines, inl (h.race, h.written)))))))
+  pub unflushed_race : SomeRun disk asked (Races disk asked before between)
+      → SomeRun disk asked (RefusesRacing disk asked before after CannotPrint)
+  unflushed_race (bytes, is_there, (heap, stored, accepted, (known, (more, is_near, (text, is_text, (lines, has_lines, h)))))) =
+      (bytes, is_there, (heap, stored, accepted, (known, (more, is_near, (text, is_text, (lines, has_lines, inl (h.race, h.written)))))))

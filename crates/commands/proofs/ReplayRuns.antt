@@ -20,69 +20,66 @@ use Rattle.comp_dump.specs.DumpEncoding.{dump_bytes}
 use Rattle.comp_dump.specs.Lent.{record_of}
 use Rattle.comp_dump.specs.declared.fault.DumpFault.TheVariants.{Truncated, TrailingBytes, BadMagic, BadField, Device}
 use Rattle.comp_dump.specs.declared.fault.DumpFault.TheVariants as faults
-use Rattle.command_io.specs.Dumps.{IsOfDumping, RefusedUncreated, WritesWhole}
-use Rattle.command_io.specs.Images.{IsImageOf, RefusesAt, RefusesImage, SomeGiven}
+use Rattle.command_line.specs.declared.words.TraceRun.{TraceRun}
+use Rattle.command_io.specs.Disk.{Disk, SomeFile, WritesWhole}
+use Rattle.command_io.specs.Dumps.{IsOfDumping, RefusedUncreated}
+use Rattle.command_io.specs.Images.{IsHeapAt, RefusesAt, RefusesImage, SomeHeapAt}
 use Rattle.command_io.specs.Printing.{CountsPrint}
-use Rattle.commands.specs.Replays.{dumped_of, shown_lines, RanOver, IsPrintedHalt, IsOfWritingRun, IsReplayedHeap, PrintsRun, RefusesReplay, RefusesRun, Replays, SomeRun, StopsReplay, StopsUnprinted}
-use Rattle.command_io.specs.Texts.{HasLines, IsTextOf, RefusesText, RefusesTextAt, SomeText}
+use Rattle.commands.specs.Replays.{dumped_of, shown_lines, RanOver, IsPrintedHalt, IsOfWritingRun, IsReplayedHeap, PrintsRun, RefusesReplay, RefusesRun, Replays, RefusesTrace, SomeRun, StopsReplay, StopsUnprinted}
+use Rattle.command_io.specs.Texts.{HasLines, HasLinesAt, RefusesText, RefusesTextAt, SomeText}
 use Rattle.command_io.specs.declared.refusal.Input.TheVariants as inputs
+use Rattle.command_io.specs.declared.refusal.Output.TheVariants as outputs
 use Rattle.command_io.specs.declared.refusal.CommandRefusal.{CommandRefusal}
 use Rattle.command_io.specs.declared.refusal.CommandRefusal.TheVariants.{Layout, Mutator, Sweep, Trace, Dump, Audit, CannotOpen, CannotCreate, ReadFailed, CannotPrint, NoSuchWord, BadMarks, OutOfMemory}
+use Rattle.command_io.proofs.Imaged.{of_heap}
 use Rattle.command_io.proofs.Outcomes.{same_parts, uncounted_by, uncreated}
 use Rattle.commands.specs.Outcomes.{IsHaltedBy, IsWritten, RefusesInputs, RefusesOutcome}
 use Rattle.commands.specs.declared.replays.PrintedHalt.{PrintedHalt}
 use Rattle.commands.specs.declared.replays.Replayed.{Replayed}
 
--- what holds of the one heap of an image
-of_heap : (Q : Heap → Type 0) (heap : Heap) (known : Option (List ℕ)) → Q heap → IsImageOf (λ other. other ≡ heap) known → IsImageOf Q known
-of_heap Q heap known q image = (image.0, image.1, image.2, (image.3.0, subst Q (sym image.3.1) q))
-
 -- a run, and its dump
 abbrev pub has_run : (mutators fresh : ℕ) (lines : List Line) (shown : List Shown) (f : Finished) (heap : Heap) → IsReplayedHeap mutators fresh lines shown f heap → RanOver mutators fresh lines heap
 has_run mutators fresh lines shown f heap h = record { end = h.end; runs = h.runs; dump = dumped_of mutators fresh f; left = h.left }
 
-replays : {W : Type 0} (gives : W → Type 0) (contents : W → Option (List ℕ)) (mutators fresh : ℕ) (before after : Option (List ℕ)) (lines : List Line) (shown : List Shown) (f : Finished) (heap : Heap)
-    → IsReplayedHeap mutators fresh lines shown f heap → WritesWhole gives contents (dump_bytes (dumped_of mutators fresh f)) → PrintsRun before after shown (live_of f)
-    → Replays gives contents mutators fresh before after lines heap
-replays gives contents mutators fresh before after lines shown f heap h written printed = record {
-  run = has_run mutators fresh lines shown f heap h;
+replays : {W : Type 0} (disk : Disk W) (asked : TraceRun) (before after : Option (List ℕ)) (lines : List Line) (shown : List Shown) (f : Finished) (heap : Heap)
+    → IsReplayedHeap asked.mutators asked.fresh lines shown f heap → WritesWhole disk outputs.Dump asked.dump.now (dump_bytes (dumped_of asked.mutators asked.fresh f)) → PrintsRun before after shown (live_of f)
+    → Replays disk asked before after lines heap
+replays disk asked before after lines shown f heap h written printed = record {
+  run = has_run asked.mutators asked.fresh lines shown f heap h;
   written = written;
   printed = subst (λ (values : List Shown). PrintsRun before after values (live_words (live heap) + allocated heap.edition h.end.added)) h.shown_is
       (subst (PrintsRun before after shown) h.left.after.total printed);
 }
 
 -- the lines of a text for the number of the heap's roots
-pub some_text : {S : Type 0} (texts : S → Type 0) (rest : S → Option (List ℕ)) (mutators roots other : ℕ) (lines : List Line) → roots ≡ other → SomeGiven texts rest (IsTextOf mutators roots lines)
-    → SomeGiven texts rest (IsTextOf mutators other lines)
-some_text texts rest mutators roots other lines e given = subst (λ (r : ℕ). SomeGiven texts rest (IsTextOf mutators r lines)) e given
+pub some_text : {W : Type 0} (disk : Disk W) (path : List ℕ) (mutators roots other : ℕ) (lines : List Line) → roots ≡ other → HasLinesAt disk path mutators roots lines → HasLinesAt disk path mutators other lines
+some_text disk path mutators roots other lines e given = subst (λ (r : ℕ). HasLinesAt disk path mutators r lines) e given
 
-module _ {R S : Type 0} (given : R → Type 0) (remaining : R → Option (List ℕ)) (texts : S → Type 0) (rest : S → Option (List ℕ)) (mutators : ℕ) (heap : Heap)
-    (image : SomeGiven given remaining (IsImageOf (λ other. other ≡ heap))) where
+module _ {W : Type 0} (disk : Disk W) (asked : TraceRun) (heap : Heap) (image : IsHeapAt disk asked.image.now heap) where
   -- of the lines of a trace, and the heap of an image
-  pub some_run : (P : List Line → Heap → Type 0) (lines : List Line) → SomeGiven texts rest (IsTextOf mutators (length heap.roots) lines) → P lines heap → SomeRun given remaining texts rest mutators P
+  pub some_run : (P : List Line → Heap → Type 0) (lines : List Line) → HasLinesAt disk asked.trace.now asked.mutators (length heap.roots) lines → P lines heap → SomeRun disk asked P
   some_run P lines trace p = (
     image.0,
     image.1,
-    of_heap (λ (h : Heap). SomeGiven texts rest (SomeText (λ text. (ls : List Line) × HasLines mutators (length h.roots) ls text × P ls h))) heap (remaining image.0)
+    of_heap (λ (h : Heap). SomeFile disk inputs.Trace asked.trace.now (SomeText (λ text. (ls : List Line) × HasLines asked.mutators (length h.roots) ls text × P ls h))) heap image.0
         (trace.0, trace.1, (trace.2.0, trace.2.1, (lines, trace.2.2, p))) image.2,
   )
 
   -- a trace that is refused for the heap
-  pub some_refused : (refusal : CommandRefusal) → SomeGiven texts rest (RefusesText mutators (length heap.roots) refusal)
-      → SomeGiven given remaining (IsImageOf (λ (h : Heap). SomeGiven texts rest (RefusesText mutators (length h.roots) refusal)))
-  some_refused refusal trace = (image.0, image.1, of_heap (λ (h : Heap). SomeGiven texts rest (RefusesText mutators (length h.roots) refusal)) heap (remaining image.0) trace image.2)
+  pub some_refused : (refusal : CommandRefusal) → SomeFile disk inputs.Trace asked.trace.now (RefusesText asked.mutators (length heap.roots) refusal) → RefusesTrace disk asked refusal
+  some_refused refusal trace =
+      (image.0, image.1, of_heap (λ (h : Heap). SomeFile disk inputs.Trace asked.trace.now (RefusesText asked.mutators (length h.roots) refusal)) heap image.0 trace image.2)
 
-  pub some_heap : SomeGiven given remaining (IsImageOf (λ h. ⊤))
-  some_heap = (image.0, image.1, of_heap (λ (h : Heap). ⊤) heap (remaining image.0) tt image.2)
+  pub some_heap : SomeHeapAt disk asked.image.now (λ h. ⊤)
+  some_heap = (image.0, image.1, of_heap (λ (h : Heap). ⊤) heap image.0 tt image.2)
 
 -- The refusals of the command, from those of its parts.
-module _ {R S W : Type 0} (absent : Type 0) (given : R → Type 0) (remaining : R → Option (List ℕ)) (missing : Type 0) (texts : S → Type 0) (rest : S → Option (List ℕ))
-    (lacks : Type 0) (gives : W → Type 0) (contents : W → Option (List ℕ)) (mutators fresh : ℕ) (before after : Option (List ℕ)) where
+module _ {W : Type 0} (disk : Disk W) (asked : TraceRun) (before after : Option (List ℕ)) where
   abbrev pub IsCause : CommandRefusal → Type 0
-  IsCause refusal = RefusesReplay absent given remaining missing texts rest lacks gives contents mutators fresh before after refusal
+  IsCause refusal = RefusesReplay disk asked before after refusal
 
   -- there is no heap
-  of_image : (refusal : CommandRefusal) → RefusesAt absent given remaining RefusesImage refusal → IsCause refusal
+  of_image : (refusal : CommandRefusal) → RefusesAt disk asked.image.now RefusesImage refusal → IsCause refusal
   of_image (Layout fault) h = h
   of_image (Mutator refused) h = absurd h.2
   of_image (Sweep fault) h = absurd h.2
@@ -100,22 +97,22 @@ module _ {R S W : Type 0} (absent : Type 0) (given : R → Type 0) (remaining : 
   of_image (BadMarks line) h = absurd h.2
   of_image OutOfMemory h = tt
 
-  module _ (heap : Heap) (image : SomeGiven given remaining (IsImageOf (λ other. other ≡ heap))) where
+  module _ (heap : Heap) (image : IsHeapAt disk asked.image.now heap) where
     -- there is no trace for it, and nothing was printed
-    by_trace : Keeps before after → (refusal : CommandRefusal) → RefusesTextAt missing texts rest mutators (length heap.roots) refusal → IsCause refusal
+    by_trace : Keeps before after → (refusal : CommandRefusal) → RefusesTextAt disk asked.trace.now asked.mutators (length heap.roots) refusal → IsCause refusal
     by_trace kept (Layout fault) h = absurd h.2
     by_trace kept (Mutator refused) h = absurd h.2
     by_trace kept (Sweep fault) h = absurd h.2
-    by_trace kept (Trace fault) h = inl (some_refused given remaining texts rest mutators heap image (Trace fault) h, kept)
+    by_trace kept (Trace fault) h = inl (some_refused disk asked heap image (Trace fault) h, kept)
     by_trace kept (Dump fault) h = absurd h.2
     by_trace kept (Audit fault) h = absurd h.2
     by_trace kept (CannotOpen inputs.Image) h = absurd h.2
-    by_trace kept (CannotOpen inputs.Trace) h = (h, some_heap given remaining texts rest mutators heap image)
+    by_trace kept (CannotOpen inputs.Trace) h = (h, some_heap disk asked heap image)
     by_trace kept (CannotOpen inputs.Dump) h = absurd h.2
     by_trace kept (CannotOpen inputs.Marks) h = absurd h.2
     by_trace kept (CannotCreate output) h = absurd h.2
     by_trace kept (ReadFailed inputs.Image) h = absurd h.2
-    by_trace kept (ReadFailed inputs.Trace) h = some_refused given remaining texts rest mutators heap image (ReadFailed inputs.Trace) h
+    by_trace kept (ReadFailed inputs.Trace) h = some_refused disk asked heap image (ReadFailed inputs.Trace) h
     by_trace kept (ReadFailed inputs.Dump) h = absurd h.2
     by_trace kept (ReadFailed inputs.Marks) h = absurd h.2
     by_trace kept CannotPrint h = absurd h.2
@@ -123,18 +120,18 @@ module _ {R S W : Type 0} (absent : Type 0) (given : R → Type 0) (remaining : 
     by_trace kept (BadMarks line) h = absurd h.2
     by_trace kept OutOfMemory h = tt
 
-    module _ (lines : List Line) (trace : SomeGiven texts rest (IsTextOf mutators (length heap.roots) lines)) where
-      by_run : (refusal : CommandRefusal) → RefusesRun lacks gives contents mutators fresh before after refusal lines heap
-          → SomeRun given remaining texts rest mutators (RefusesRun lacks gives contents mutators fresh before after refusal)
-      by_run refusal h = some_run given remaining texts rest mutators heap image (RefusesRun lacks gives contents mutators fresh before after refusal) lines trace h
+    module _ (lines : List Line) (trace : HasLinesAt disk asked.trace.now asked.mutators (length heap.roots) lines) where
+      by_run : (refusal : CommandRefusal) → RefusesRun disk asked before after refusal lines heap
+          → SomeRun disk asked (RefusesRun disk asked before after refusal)
+      by_run refusal h = some_run disk asked heap image (RefusesRun disk asked before after refusal) lines trace h
 
       -- its lines did not run to their end, and what they showed was printed
-      of_halt : (shown : List Shown) → Appends before after (shown_lines shown) → (refusal : CommandRefusal) → IsPrintedHalt mutators fresh lines shown heap refusal → IsCause refusal
+      of_halt : (shown : List Shown) → Appends before after (shown_lines shown) → (refusal : CommandRefusal) → IsPrintedHalt asked.mutators asked.fresh lines shown heap refusal → IsCause refusal
       of_halt shown printed (Layout fault) h = absurd h
       of_halt shown printed (Mutator refused) h = by_run (Mutator refused) h.0
       of_halt shown printed (Sweep fault) h = absurd h
       of_halt shown printed (Trace fault) h =
-          inr (some_run given remaining texts rest mutators heap image (StopsReplay mutators fresh before after fault) lines trace (shown, h, printed))
+          inr (some_run disk asked heap image (StopsReplay asked.mutators asked.fresh before after fault) lines trace (shown, h, printed))
       of_halt shown printed (Dump fault) h = absurd h
       of_halt shown printed (Audit fault) h = absurd h
       of_halt shown printed (CannotOpen input) h = absurd h
@@ -146,12 +143,12 @@ module _ {R S W : Type 0} (absent : Type 0) (given : R → Type 0) (remaining : 
       of_halt shown printed OutOfMemory h = tt
 
       -- or a call of the output failed
-      of_halt_unprinted : (shown : List Shown) (refusal : CommandRefusal) → IsPrintedHalt mutators fresh lines shown heap refusal → IsCause CannotPrint
+      of_halt_unprinted : (shown : List Shown) (refusal : CommandRefusal) → IsPrintedHalt asked.mutators asked.fresh lines shown heap refusal → IsCause CannotPrint
       of_halt_unprinted shown refusal h = by_run CannotPrint (inr (refusal, shown, h))
 
-      module _ (shown : List Shown) (f : Finished) (h : IsReplayedHeap mutators fresh lines shown f heap) where
+      module _ (shown : List Shown) (f : Finished) (h : IsReplayedHeap asked.mutators asked.fresh lines shown f heap) where
         -- they ran, and the dump was not written, or a call of the output failed
-        of_writing : (refusal : CommandRefusal) → IsOfWritingRun lacks gives contents (dump_bytes (dumped_of mutators fresh f)) refusal → IsCause refusal
+        of_writing : (refusal : CommandRefusal) → IsOfWritingRun disk asked.dump.now (dump_bytes (dumped_of asked.mutators asked.fresh f)) refusal → IsCause refusal
         of_writing (Layout fault) w = absurd w
         of_writing (Mutator refused) w = absurd w
         of_writing (Sweep fault) w = absurd w
@@ -161,61 +158,58 @@ module _ {R S W : Type 0} (absent : Type 0) (given : R → Type 0) (remaining : 
         of_writing (Dump BadMagic) w = absurd w
         of_writing (Dump BadField) w = absurd w
         of_writing (Dump faults.OutOfMemory) w = absurd w
-        of_writing (Dump Device) w = by_run (Dump Device) (has_run mutators fresh lines shown f heap h, w)
+        of_writing (Dump Device) w = by_run (Dump Device) (has_run asked.mutators asked.fresh lines shown f heap h, w)
         of_writing (Audit fault) w = absurd w
         of_writing (CannotOpen input) w = absurd w
-        of_writing (CannotCreate output) w = by_run (CannotCreate output) (w.0, w.1, has_run mutators fresh lines shown f heap h)
+        of_writing (CannotCreate output) w = by_run (CannotCreate output) (w.0, w.1, has_run asked.mutators asked.fresh lines shown f heap h)
         of_writing (ReadFailed input) w = absurd w
-        of_writing CannotPrint w = by_run CannotPrint (inl (has_run mutators fresh lines shown f heap h, w))
+        of_writing CannotPrint w = by_run CannotPrint (inl (has_run asked.mutators asked.fresh lines shown f heap h, w))
         of_writing (NoSuchWord index) w = absurd w
         of_writing (BadMarks line) w = absurd w
         of_writing OutOfMemory w = tt
 
         -- the dump was written, and all was printed
-        of_all : WritesWhole gives contents (dump_bytes (dumped_of mutators fresh f)) → PrintsRun before after shown (live_of f)
-            → SomeRun given remaining texts rest mutators (Replays gives contents mutators fresh before after)
-        of_all written printed = some_run given remaining texts rest mutators heap image (Replays gives contents mutators fresh before after) lines trace
-            (replays gives contents mutators fresh before after lines shown f heap h written printed)
+        of_all : WritesWhole disk outputs.Dump asked.dump.now (dump_bytes (dumped_of asked.mutators asked.fresh f)) → PrintsRun before after shown (live_of f)
+            → SomeRun disk asked (Replays disk asked before after)
+        of_all written printed = some_run disk asked heap image (Replays disk asked before after) lines trace
+            (replays disk asked before after lines shown f heap h written printed)
 
       -- from what became of the run
-      of_outcome : (outcome : Result Replayed PrintedHalt) → IfOk outcome (λ run. IsReplayedHeap mutators fresh lines run.shown.items run.finished heap)
-          → IfErr outcome (λ run. IsPrintedHalt mutators fresh lines run.shown.items heap run.refusal)
-          → (refusal : CommandRefusal) → RefusesOutcome lacks gives contents mutators fresh before after outcome refusal → IsCause refusal
+      of_outcome : (outcome : Result Replayed PrintedHalt) → IfOk outcome (λ run. IsReplayedHeap asked.mutators asked.fresh lines run.shown.items run.finished heap)
+          → IfErr outcome (λ run. IsPrintedHalt asked.mutators asked.fresh lines run.shown.items heap run.refusal)
+          → (refusal : CommandRefusal) → RefusesOutcome disk asked before after outcome refusal → IsCause refusal
       of_outcome (Ok run) ran halted refusal h = of_writing run.shown.items run.finished ran refusal h
       of_outcome (Err run) ran halted refusal (inl (is, printed)) = subst IsCause (sym is) (of_halt run.shown.items printed run.refusal halted)
       of_outcome (Err run) ran halted refusal (inr is) = subst IsCause (sym is) (of_halt_unprinted run.shown.items run.refusal halted)
 
-      pub of_outcome_err : (outcome : Result Replayed PrintedHalt) → IfOk outcome (λ run. IsReplayedHeap mutators fresh lines run.shown.items run.finished heap)
-          → IfErr outcome (λ run. IsPrintedHalt mutators fresh lines run.shown.items heap run.refusal)
-          → (result : Result (Unit {0}) CommandRefusal) → IfErr result (RefusesOutcome lacks gives contents mutators fresh before after outcome) → IfErr result IsCause
+      pub of_outcome_err : (outcome : Result Replayed PrintedHalt) → IfOk outcome (λ run. IsReplayedHeap asked.mutators asked.fresh lines run.shown.items run.finished heap)
+          → IfErr outcome (λ run. IsPrintedHalt asked.mutators asked.fresh lines run.shown.items heap run.refusal)
+          → (result : Result (Unit {0}) CommandRefusal) → IfErr result (RefusesOutcome disk asked before after outcome) → IfErr result IsCause
       of_outcome_err outcome ran halted (Ok _) h = tt
       of_outcome_err outcome ran halted (Err refusal) h = of_outcome outcome ran halted refusal h
 
-      pub of_outcome_ok : (outcome : Result Replayed PrintedHalt) → IfOk outcome (λ run. IsReplayedHeap mutators fresh lines run.shown.items run.finished heap)
-          → (result : Result (Unit {0}) CommandRefusal) → OnOk result (IsWritten gives contents mutators fresh before after outcome)
-          → OnOk result (SomeRun given remaining texts rest mutators (Replays gives contents mutators fresh before after))
+      pub of_outcome_ok : (outcome : Result Replayed PrintedHalt) → IfOk outcome (λ run. IsReplayedHeap asked.mutators asked.fresh lines run.shown.items run.finished heap)
+          → (result : Result (Unit {0}) CommandRefusal) → OnOk result (IsWritten disk asked before after outcome)
+          → OnOk result (SomeRun disk asked (Replays disk asked before after))
       of_outcome_ok outcome ran (Err refusal) h = tt
       of_outcome_ok (Ok run) ran (Ok _) h = of_all run.shown.items run.finished ran h.0 h.1
       of_outcome_ok (Err run) ran (Ok _) h = absurd h
 
   -- there is no heap, or no trace for it
-  pub of_inputs : Keeps before after → (refusal : CommandRefusal) → RefusesInputs absent given remaining missing texts rest mutators refusal → IsCause refusal
+  pub of_inputs : Keeps before after → (refusal : CommandRefusal) → RefusesInputs disk asked.image.now asked.trace.now asked.mutators refusal → IsCause refusal
   of_inputs kept refusal (inl h) = of_image refusal h
   of_inputs kept refusal (inr (heap, image, h)) = by_trace heap image kept refusal h
 
 -- no refusal of an image or of a trace counts a failed call of the output
-image_uncounted : {R : Type 0} (absent : Type 0) (given : R → Type 0) (remaining : R → Option (List ℕ)) (n : ℕ) (refusal : CommandRefusal) → RefusesAt absent given remaining RefusesImage refusal
-    → CountsPrint {T = Unit {0}} n n (Err refusal)
-image_uncounted absent given remaining n refusal h = uncounted_by n n refusal refl (λ e. (subst (RefusesAt absent given remaining RefusesImage) e h).2)
+image_uncounted : {W : Type 0} (disk : Disk W) (path : List ℕ) (n : ℕ) (refusal : CommandRefusal) → RefusesAt disk path RefusesImage refusal → CountsPrint {T = Unit {0}} n n (Err refusal)
+image_uncounted disk path n refusal h = uncounted_by n n refusal refl (λ e. (subst (RefusesAt disk path RefusesImage) e h).2)
 
-trace_uncounted : {S : Type 0} (missing : Type 0) (texts : S → Type 0) (rest : S → Option (List ℕ)) (mutators roots n : ℕ) (refusal : CommandRefusal) → RefusesTextAt missing texts rest mutators roots refusal
-    → CountsPrint {T = Unit {0}} n n (Err refusal)
-trace_uncounted missing texts rest mutators roots n refusal h = uncounted_by n n refusal refl (λ e. (subst (RefusesTextAt missing texts rest mutators roots) e h).2)
+trace_uncounted : {W : Type 0} (disk : Disk W) (path : List ℕ) (mutators roots n : ℕ) (refusal : CommandRefusal) → RefusesTextAt disk path mutators roots refusal → CountsPrint {T = Unit {0}} n n (Err refusal)
+trace_uncounted disk path mutators roots n refusal h = uncounted_by n n refusal refl (λ e. (subst (RefusesTextAt disk path mutators roots) e h).2)
 
-pub inputs_uncounted : {R S : Type 0} (absent : Type 0) (given : R → Type 0) (remaining : R → Option (List ℕ)) (missing : Type 0) (texts : S → Type 0) (rest : S → Option (List ℕ))
-    (mutators n : ℕ) (refusal : CommandRefusal) → RefusesInputs absent given remaining missing texts rest mutators refusal → CountsPrint {T = Unit {0}} n n (Err refusal)
-inputs_uncounted absent given remaining missing texts rest mutators n refusal (inl h) = image_uncounted absent given remaining n refusal h
-inputs_uncounted absent given remaining missing texts rest mutators n refusal (inr (heap, image, h)) = trace_uncounted missing texts rest mutators (length heap.roots) n refusal h
+pub inputs_uncounted : {W : Type 0} (disk : Disk W) (image trace : List ℕ) (mutators n : ℕ) (refusal : CommandRefusal) → RefusesInputs disk image trace mutators refusal → CountsPrint {T = Unit {0}} n n (Err refusal)
+inputs_uncounted disk image trace mutators n refusal (inl h) = image_uncounted disk image n refusal h
+inputs_uncounted disk image trace mutators n refusal (inr (heap, is_heap, h)) = trace_uncounted disk trace mutators (length heap.roots) n refusal h
 
 -- what a trace that is refused before anything is printed leaves of the output
 unprinted_trace : (before : Option (List ℕ)) (fault : TraceFault) → StopsUnprinted {T = Unit {0}} before before (Err (Trace fault))
@@ -304,9 +298,9 @@ halt_unprinted before after shown printed (BadMarks line) h = none_printed befor
 halt_unprinted before after shown printed OutOfMemory h = none_printed before after shown h printed
 
 -- and none of the dump
-pub uncreated_anyway : {D : Type 0} (dumps : D) (result : Result (Unit {0}) CommandRefusal) → RefusedUncreated dumps dumps result
-uncreated_anyway dumps (Ok _) = tt
-uncreated_anyway dumps (Err refusal) = uncreated dumps refusal
+pub uncreated_anyway : {F : Type 0} (files : F) (result : Result (Unit {0}) CommandRefusal) → RefusedUncreated files files result
+uncreated_anyway files (Ok _) = tt
+uncreated_anyway files (Err refusal) = uncreated files refusal
 
 -- what holds of an Ok, of two things
 pub ok_both : (result : Result (Unit {0}) CommandRefusal) (P Q : Type 0) → OnOk result P → OnOk result Q → OnOk result (P × Q)
@@ -314,21 +308,21 @@ ok_both (Ok _) P Q p q = (p, q)
 ok_both (Err refusal) P Q p q = tt
 
 -- a refusal of the dump is one of the writing
-pub writing_of : {W : Type 0} (lacks : Type 0) (gives : W → Type 0) (contents : W → Option (List ℕ)) (bytes : List ℕ) (refusal : CommandRefusal) → IsOfDumping lacks gives contents bytes refusal
-    → IsOfWritingRun lacks gives contents bytes refusal
-writing_of lacks gives contents bytes (Layout fault) h = h
-writing_of lacks gives contents bytes (Mutator refused) h = h
-writing_of lacks gives contents bytes (Sweep fault) h = h
-writing_of lacks gives contents bytes (Trace fault) h = h
-writing_of lacks gives contents bytes (Dump fault) h = h
-writing_of lacks gives contents bytes (Audit fault) h = h
-writing_of lacks gives contents bytes (CannotOpen input) h = h
-writing_of lacks gives contents bytes (CannotCreate output) h = h
-writing_of lacks gives contents bytes (ReadFailed input) h = h
-writing_of lacks gives contents bytes CannotPrint h = absurd h
-writing_of lacks gives contents bytes (NoSuchWord index) h = h
-writing_of lacks gives contents bytes (BadMarks line) h = h
-writing_of lacks gives contents bytes OutOfMemory h = h
+pub writing_of : {W : Type 0} (disk : Disk W) (path bytes : List ℕ) (refusal : CommandRefusal) → IsOfDumping disk path bytes refusal
+    → IsOfWritingRun disk path bytes refusal
+writing_of disk path bytes (Layout fault) h = h
+writing_of disk path bytes (Mutator refused) h = h
+writing_of disk path bytes (Sweep fault) h = h
+writing_of disk path bytes (Trace fault) h = h
+writing_of disk path bytes (Dump fault) h = h
+writing_of disk path bytes (Audit fault) h = h
+writing_of disk path bytes (CannotOpen input) h = h
+writing_of disk path bytes (CannotCreate output) h = h
+writing_of disk path bytes (ReadFailed input) h = h
+writing_of disk path bytes CannotPrint h = absurd h
+writing_of disk path bytes (NoSuchWord index) h = h
+writing_of disk path bytes (BadMarks line) h = h
+writing_of disk path bytes OutOfMemory h = h
 
 -- the dump of a finished heap has its parts
 pub dumped_same : (mutators fresh : ℕ) (f : Finished) (dump : Dumped) → dump.edition ≡ edition_in f → dump.mutators ≡ mutators → dump.fresh ≡ fresh → dump.roots ≡ roots_of f → dump.pages ≡ map record_of (pages_of f)
@@ -342,12 +336,12 @@ pub printed_run : (before between after : Option (List ℕ)) (values line : List
 printed_run before between after values line (Ok _) printed last = Appends-trans before between after values line printed last
 printed_run before between after values line (Err refusal) printed last = tt
 
-pub unprinted_run : {W : Type 0} (lacks : Type 0) (gives : W → Type 0) (contents : W → Option (List ℕ)) (bytes : List ℕ) (result : Result (Unit {0}) CommandRefusal) → OnErr result (result ≡ Err CannotPrint)
-    → WritesWhole gives contents bytes → IfErr result (IsOfWritingRun lacks gives contents bytes)
-unprinted_run lacks gives contents bytes (Ok _) cause written = tt
-unprinted_run lacks gives contents bytes (Err refusal) cause written =
+pub unprinted_run : {W : Type 0} (disk : Disk W) (path bytes : List ℕ) (result : Result (Unit {0}) CommandRefusal) → OnErr result (result ≡ Err CannotPrint)
+    → WritesWhole disk outputs.Dump path bytes → IfErr result (IsOfWritingRun disk path bytes)
+unprinted_run disk path bytes (Ok _) cause written = tt
+unprinted_run disk path bytes (Err refusal) cause written =
     let is : refusal ≡ CannotPrint = cc in
-    subst (IsOfWritingRun lacks gives contents bytes) (sym is) written
+    subst (IsOfWritingRun disk path bytes) (sym is) written
 
 pub unprinted_line : (before after : Option (List ℕ)) (result : Result (Unit {0}) CommandRefusal) → OnErr result (result ≡ Err CannotPrint) → StopsUnprinted before after result
 unprinted_line before after (Ok _) cause = tt
@@ -359,13 +353,12 @@ pub of_unprinted : (result : Result (Unit {0}) CommandRefusal) (refusal : Comman
 of_unprinted result refusal is cause = cc
 
 -- What was done of a run, whether the output is flushed after it or not.
-module _ {R S W : Type 0} (given : R → Type 0) (remaining : R → Option (List ℕ)) (texts : S → Type 0) (rest : S → Option (List ℕ)) (gives : W → Type 0) (contents : W → Option (List ℕ))
-    (mutators fresh : ℕ) (before between after : Option (List ℕ)) where
-  pub flushed_run : Keeps between after → SomeRun given remaining texts rest mutators (Replays gives contents mutators fresh before between)
-      → SomeRun given remaining texts rest mutators (Replays gives contents mutators fresh before after)
-  flushed_run kept (reader, is_given, (heap, stored, accepted, (known, (other, is_text_of, (text, is_text, (lines, has_lines, h)))))) = (
-    reader,
-    is_given,
+module _ {W : Type 0} (disk : Disk W) (asked : TraceRun) (before between after : Option (List ℕ)) where
+  pub flushed_run : Keeps between after → SomeRun disk asked (Replays disk asked before between)
+      → SomeRun disk asked (Replays disk asked before after)
+  flushed_run kept (bytes, is_there, (heap, stored, accepted, (known, (more, is_near, (text, is_text, (lines, has_lines, h)))))) = (
+    bytes,
+    is_there,
     (
       heap,
       stored,
@@ -373,8 +366,8 @@ module _ {R S W : Type 0} (given : R → Type 0) (remaining : R → Option (List
       (
         known,
         (
-          other,
-          is_text_of,
+          more,
+          is_near,
           (
             text,
             is_text,
@@ -393,7 +386,7 @@ module _ {R S W : Type 0} (given : R → Type 0) (remaining : R → Option (List
     ),
   )
 
-  pub unflushed_run : (lacks : Type 0) → SomeRun given remaining texts rest mutators (Replays gives contents mutators fresh before between)
-      → SomeRun given remaining texts rest mutators (RefusesRun lacks gives contents mutators fresh before after CannotPrint)
-  unflushed_run lacks (reader, is_given, (heap, stored, accepted, (known, (other, is_text_of, (text, is_text, (lines, has_lines, h)))))) =
-      (reader, is_given, (heap, stored, accepted, (known, (other, is_text_of, (text, is_text, (lines, has_lines, inl (h.run, h.written)))))))
+  pub unflushed_run : SomeRun disk asked (Replays disk asked before between)
+      → SomeRun disk asked (RefusesRun disk asked before after CannotPrint)
+  unflushed_run (bytes, is_there, (heap, stored, accepted, (known, (more, is_near, (text, is_text, (lines, has_lines, h)))))) =
+      (bytes, is_there, (heap, stored, accepted, (known, (more, is_near, (text, is_text, (lines, has_lines, inl (h.run, h.written)))))))

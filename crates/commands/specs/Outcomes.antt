@@ -6,9 +6,11 @@ use Rattle.comp_mutator.specs.Finishes.{live_of}
 use Rattle.comp_trace.specs.TraceFault.TheVariants.{Refused}
 use Rattle.comp_trace.specs.Shown.{Shown}
 use Rattle.comp_dump.specs.DumpEncoding.{dump_bytes}
-use Rattle.command_io.specs.Dumps.{WritesWhole}
-use Rattle.command_io.specs.Images.{IsImageOf, RefusesAt, RefusesImage, SomeGiven}
+use Rattle.command_line.specs.declared.words.TraceRun.{TraceRun}
+use Rattle.command_io.specs.Disk.{Disk, WritesWhole}
+use Rattle.command_io.specs.Images.{IsHeapAt, RefusesAt, RefusesImage}
 use Rattle.command_io.specs.Texts.{RefusesTextAt}
+use Rattle.command_io.specs.declared.refusal.Output.TheVariants as outputs
 use Rattle.command_io.specs.declared.refusal.CommandRefusal.{CommandRefusal}
 use Rattle.command_io.specs.declared.refusal.CommandRefusal.TheVariants.{CannotPrint, Trace}
 use Rattle.commands.specs.Replays.{dumped_of, shown_lines, IsOfWritingRun, PrintsRun}
@@ -17,9 +19,8 @@ use Rattle.commands.specs.declared.replays.Replayed.{Replayed}
 
 -- why there is no heap with a trace: there is no image, or it is refused; or there is no trace for the heap, or it is
 -- refused
-abbrev pub RefusesInputs : {R S : Type 0} → Type 0 → (R → Type 0) → (R → Option (List ℕ)) → Type 0 → (S → Type 0) → (S → Option (List ℕ)) → ℕ → CommandRefusal → Type 0
-RefusesInputs absent given remaining missing texts rest mutators refusal = RefusesAt absent given remaining RefusesImage refusal
-    ⊎ ((heap : Heap) × SomeGiven given remaining (IsImageOf (λ other. other ≡ heap)) × RefusesTextAt missing texts rest mutators (length heap.roots) refusal)
+abbrev pub RefusesInputs : {W : Type 0} → Disk W → List ℕ → List ℕ → ℕ → CommandRefusal → Type 0
+RefusesInputs disk image trace mutators refusal = RefusesAt disk image RefusesImage refusal ⊎ ((heap : Heap) × IsHeapAt disk image heap × RefusesTextAt disk trace mutators (length heap.roots) refusal)
 
 -- what a run had shown that was halted for this refusal: a refused line may come after lines that showed values, any
 -- other refusal comes with no value
@@ -34,12 +35,12 @@ abbrev pub IsOfHalt : Option (List ℕ) → Option (List ℕ) → PrintedHalt �
 IsOfHalt before after halted refusal = ((refusal ≡ halted.refusal) × Appends before after (shown_lines halted.shown.items)) ⊎ (refusal ≡ CannotPrint)
 
 -- the run came to its end: its dump was written, and then what it showed and the live words were printed
-abbrev pub IsWritten : {W : Type 0} → (W → Type 0) → (W → Option (List ℕ)) → ℕ → ℕ → Option (List ℕ) → Option (List ℕ) → Result Replayed PrintedHalt → Type 0
-IsWritten gives contents mutators fresh before after (Ok run) =
-    WritesWhole gives contents (dump_bytes (dumped_of mutators fresh run.finished)) × PrintsRun before after run.shown.items (live_of run.finished)
-IsWritten gives contents mutators fresh before after (Err halted) = ⊥
+abbrev pub IsWritten : {W : Type 0} → Disk W → TraceRun → Option (List ℕ) → Option (List ℕ) → Result Replayed PrintedHalt → Type 0
+IsWritten disk asked before after (Ok run) =
+    WritesWhole disk outputs.Dump asked.dump.now (dump_bytes (dumped_of asked.mutators asked.fresh run.finished)) × PrintsRun before after run.shown.items (live_of run.finished)
+IsWritten disk asked before after (Err halted) = ⊥
 
 -- why it was not written or printed, or was halted
-abbrev pub RefusesOutcome : {W : Type 0} → Type 0 → (W → Type 0) → (W → Option (List ℕ)) → ℕ → ℕ → Option (List ℕ) → Option (List ℕ) → Result Replayed PrintedHalt → CommandRefusal → Type 0
-RefusesOutcome lacks gives contents mutators fresh before after (Ok run) refusal = IsOfWritingRun lacks gives contents (dump_bytes (dumped_of mutators fresh run.finished)) refusal
-RefusesOutcome lacks gives contents mutators fresh before after (Err halted) refusal = IsOfHalt before after halted refusal
+abbrev pub RefusesOutcome : {W : Type 0} → Disk W → TraceRun → Option (List ℕ) → Option (List ℕ) → Result Replayed PrintedHalt → CommandRefusal → Type 0
+RefusesOutcome disk asked before after (Ok run) refusal = IsOfWritingRun disk asked.dump.now (dump_bytes (dumped_of asked.mutators asked.fresh run.finished)) refusal
+RefusesOutcome disk asked before after (Err halted) refusal = IsOfHalt before after halted refusal

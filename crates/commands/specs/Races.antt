@@ -25,8 +25,9 @@ use Rattle.comp_trace.specs.Shown.{Shown}
 use Rattle.comp_dump.specs.DumpEncoding.{dump_bytes}
 use Rattle.comp_dump.specs.declared.fault.DumpFault.TheVariants.{Device}
 use Rattle.commands.specs.ByLine.{AreByLine, HasEnded, IsLeastRefusedLine}
-use Rattle.command_io.specs.Dumps.{WritesBeginning, WritesWhole}
-use Rattle.command_io.specs.Images.{IsImageOf, SomeGiven}
+use Rattle.command_line.specs.declared.words.TraceRun.{TraceRun}
+use Rattle.command_io.specs.Disk.{Disk, SomeFile, WritesBeginning, WritesWhole}
+use Rattle.command_io.specs.Images.{SomeHeapAt}
 use Rattle.commands.specs.Replays.{dumped_of, shown_lines, IsDumpAfter, PrintsRun, RefusesTrace, SomeRun}
 use Rattle.command_io.specs.Texts.{HasLines}
 use Rattle.command_io.specs.declared.refusal.Input.TheVariants as inputs
@@ -100,9 +101,9 @@ dump_of_race {mutators} {fresh} race = dump_bytes (dumped_of mutators fresh race
 
 -- The trace was raced over the heap: the dump was written, and then the values of the `get` lines and the live words
 -- were printed.
-pub record Races {W : Type 0} (gives : W → Type 0) (contents : W → Option (List ℕ)) (mutators fresh : ℕ) (before after : Option (List ℕ)) (lines : List Line) (heap : Heap) : Type 0 where
-  pub race : HasRace mutators fresh lines heap
-  pub written : WritesWhole gives contents (dump_of_race race)
+pub record Races {W : Type 0} (disk : Disk W) (asked : TraceRun) (before after : Option (List ℕ)) (lines : List Line) (heap : Heap) : Type 0 where
+  pub race : HasRace asked.mutators asked.fresh lines heap
+  pub written : WritesWhole disk outputs.Dump asked.dump.now (dump_of_race race)
   pub printed : PrintsRun before after race.shown (live_of race.left)
 
 -- what was printed, between these two contents of the output, are the values of a trace that was raced over the heap,
@@ -117,29 +118,26 @@ StopsRace mutators fresh before after fault lines heap =
     (shown : List Shown) × IsHaltedRace mutators fresh lines shown heap (Trace fault) × Appends before after (shown_lines shown)
 
 -- why the race of a trace over a heap does not come to its end, or is not written or printed
-abbrev pub RefusesRacing : {W : Type 0} → Type 0 → (W → Type 0) → (W → Option (List ℕ)) → ℕ → ℕ → Option (List ℕ) → Option (List ℕ) → CommandRefusal → List Line → Heap → Type 0
-RefusesRacing lacks gives contents mutators fresh before after (Trace fault) lines heap = StopsRace mutators fresh before after fault lines heap
-RefusesRacing lacks gives contents mutators fresh before after (Mutator refusal) lines heap = refusal ≡ refusals.OutOfMemory
-RefusesRacing lacks gives contents mutators fresh before after (CannotCreate output) lines heap = (output ≡ outputs.Dump) × lacks × HasRace mutators fresh lines heap
-RefusesRacing lacks gives contents mutators fresh before after (Dump Device) lines heap =
-    (race : HasRace mutators fresh lines heap) × WritesBeginning gives contents (dump_of_race race)
-RefusesRacing lacks gives contents mutators fresh before after CannotPrint lines heap =
-    ((race : HasRace mutators fresh lines heap) × WritesWhole gives contents (dump_of_race race))
-    ⊎ ((refusal : CommandRefusal) × (shown : List Shown) × IsHaltedRace mutators fresh lines shown heap refusal)
-RefusesRacing lacks gives contents mutators fresh before after OutOfMemory lines heap = Unit {0}
-RefusesRacing lacks gives contents mutators fresh before after _ lines heap = ⊥
+abbrev pub RefusesRacing : {W : Type 0} → Disk W → TraceRun → Option (List ℕ) → Option (List ℕ) → CommandRefusal → List Line → Heap → Type 0
+RefusesRacing disk asked before after (Trace fault) lines heap = StopsRace asked.mutators asked.fresh before after fault lines heap
+RefusesRacing disk asked before after (Mutator refusal) lines heap = refusal ≡ refusals.OutOfMemory
+RefusesRacing disk asked before after (CannotCreate output) lines heap = (output ≡ outputs.Dump) × disk.bars outputs.Dump asked.dump.now × HasRace asked.mutators asked.fresh lines heap
+RefusesRacing disk asked before after (Dump Device) lines heap =
+    (race : HasRace asked.mutators asked.fresh lines heap) × WritesBeginning disk outputs.Dump asked.dump.now (dump_of_race race)
+RefusesRacing disk asked before after CannotPrint lines heap =
+    ((race : HasRace asked.mutators asked.fresh lines heap) × WritesWhole disk outputs.Dump asked.dump.now (dump_of_race race))
+    ⊎ ((refusal : CommandRefusal) × (shown : List Shown) × IsHaltedRace asked.mutators asked.fresh lines shown heap refusal)
+RefusesRacing disk asked before after OutOfMemory lines heap = Unit {0}
+RefusesRacing disk asked before after _ lines heap = ⊥
 
 -- why the command is refused: there is no image, or it is refused; or there is no trace for its heap, or it is
 -- refused, and nothing was printed; or the race is refused; or memory ran out
-abbrev pub RefusesRace : {R S W : Type 0} → Type 0 → (R → Type 0) → (R → Option (List ℕ)) → Type 0 → (S → Type 0) → (S → Option (List ℕ)) → Type 0 → (W → Type 0) → (W → Option (List ℕ))
-    → ℕ → ℕ → Option (List ℕ) → Option (List ℕ) → CommandRefusal → Type 0
-RefusesRace absent given remaining missing texts rest lacks gives contents mutators fresh before after (CannotOpen inputs.Image) = absent
-RefusesRace absent given remaining missing texts rest lacks gives contents mutators fresh before after (CannotOpen inputs.Trace) = missing × SomeGiven given remaining (IsImageOf (λ heap. ⊤))
-RefusesRace absent given remaining missing texts rest lacks gives contents mutators fresh before after (Layout fault) = SomeGiven given remaining (λ known. IfSome known (Refuses fault))
-RefusesRace absent given remaining missing texts rest lacks gives contents mutators fresh before after (ReadFailed input) = RefusesTrace given remaining texts rest mutators (ReadFailed input)
-RefusesRace absent given remaining missing texts rest lacks gives contents mutators fresh before after (Trace fault) =
-    (RefusesTrace given remaining texts rest mutators (Trace fault) × Keeps before after)
-    ⊎ SomeRun given remaining texts rest mutators (StopsRace mutators fresh before after fault)
-RefusesRace absent given remaining missing texts rest lacks gives contents mutators fresh before after OutOfMemory = Unit {0}
-RefusesRace absent given remaining missing texts rest lacks gives contents mutators fresh before after refusal =
-    SomeRun given remaining texts rest mutators (RefusesRacing lacks gives contents mutators fresh before after refusal)
+abbrev pub RefusesRace : {W : Type 0} → Disk W → TraceRun → Option (List ℕ) → Option (List ℕ) → CommandRefusal → Type 0
+RefusesRace disk asked before after (CannotOpen inputs.Image) = disk.lacks inputs.Image asked.image.now
+RefusesRace disk asked before after (CannotOpen inputs.Trace) = disk.lacks inputs.Trace asked.trace.now × SomeHeapAt disk asked.image.now (λ heap. ⊤)
+RefusesRace disk asked before after (Layout fault) = SomeFile disk inputs.Image asked.image.now (λ known. IfSome known (Refuses fault))
+RefusesRace disk asked before after (ReadFailed input) = RefusesTrace disk asked (ReadFailed input)
+RefusesRace disk asked before after (Trace fault) =
+    (RefusesTrace disk asked (Trace fault) × Keeps before after) ⊎ SomeRun disk asked (StopsRace asked.mutators asked.fresh before after fault)
+RefusesRace disk asked before after OutOfMemory = Unit {0}
+RefusesRace disk asked before after refusal = SomeRun disk asked (RefusesRacing disk asked before after refusal)

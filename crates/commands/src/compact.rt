@@ -8,115 +8,72 @@ ghost use Rattle.comp_mutator.specs.Finishes.{IsOfFlip};
 ghost use Rattle.comp_mutator.specs.Mutators.{cells_of, pass_of, setup_of, AreMutatorsOf};
 ghost use Rattle.commands.specs.Compact.{Compacts, IsOfSweeping, IsSweptHeap, RefusesCompact, RefusesSweep};
 ghost use Rattle.command_io.specs.Dumps.{RefusedUncreated};
-ghost use Rattle.command_io.specs.Images.{IsImageOf, SomeGiven, RefusesAt};
-ghost use Rattle.command_io.specs.Printing.{CountsPrint, CountsRead, RefusedUnprinted};
+ghost use Rattle.command_io.specs.Images.{SomeHeapAt, RefusesAt};
+ghost use Rattle.command_io.specs.Printing.{CountsPrint, RefusedUnprinted};
 
-use command_io::{CommandRefusal, Dumps, Images, print_line, write_to};
+use crate::flipping::{finish_all, flip_plan, plan_heap};
+use command_io::{CommandRefusal, Files, heap_at, print_line, write_dump_to};
 use comp_audit::Dump;
-use comp_mutator::{FinishFault, Finished, FlipFault, Mutator, Space, flip};
+use comp_mutator::{Finished, Mutator, Space};
 use comp_sweep::{Open, sweep};
-use heap_layout::{Counted, read_image};
+use heap_layout::Counted;
 use page_plan::Plan;
 use std::alloc::Global;
-use std::io::{Read, Write};
+use std::io::Write;
 use std::marker::Brand;
 use std::sync::ledger::{Blank, Ledger};
 use std::sync::{Arc, Wait};
 use std::thread::Threads;
 
-/// What to compact: the path of the image, the path of the dump, and the number of workers, 1 to 64.
-#[derive(Clone, Copy, Debug)]
-pub struct Compaction<'a> {
-    pub image: &'a str,
-    pub dump: &'a str,
-    pub workers: u8,
-}
-
-/// Compacts the heap whose image is at a path, writes the dump, and prints the live words.
+/// Compacts the heap whose image is at `image` with 1 to 64 workers, writes its dump to `dump`, and prints the live
+/// words.
 ///
 /// Workers in threads of their own build the pages. The dump is created after the heap is finished, and the line is
 /// printed after the dump is written.
-pub fn print_compact<R: Threads + Wait + Sync, I: Images, D: Dumps, O: Write>(
+pub fn print_compact<R: Threads + Wait + Sync, F: Files, O: Write>(
     alloc: Global,
     rt: &R,
-    images: &I,
-    dumps: &mut D,
-    asked: Compaction<'_>,
+    files: &mut F,
+    image: &str,
+    dump: &str,
+    workers: u8,
     out: &mut Counted<&mut O>,
 ) -> Result<(), CommandRefusal>
-    requires workers { (1 ≤ asked.workers) × (asked.workers ≤ 64) }
+    requires workers { (1 ≤ workers) × (workers ≤ 64) }
     requires written { failures_of out.old < 2 ^ 64 - 1 }
-    ensures compacted { OnOk result (SomeGiven (I.gives images.now asked.entry.image.now) I.Reader.remaining
-        (IsImageOf (Compacts (D.gives dumps.old asked.entry.dump.now) D.Writer.contents asked.entry.workers (O.contents (inner_of out.old).now) (O.contents (inner_of out.new).now)))) }
-    ensures cause { IfErr result (RefusesAt (I.lacks images.now asked.entry.image.now) (I.gives images.now asked.entry.image.now) I.Reader.remaining
-        (RefusesCompact (D.lacks dumps.old asked.entry.dump.now) (D.gives dumps.old asked.entry.dump.now) D.Writer.contents asked.entry.workers)) }
-    ensures uncreated { RefusedUncreated dumps.old dumps.new result }
+    ensures compacted { OnOk result (SomeHeapAt (F.disk files.old) image.now (Compacts (F.disk files.old) dump.now workers (O.contents (inner_of out.old).now) (O.contents (inner_of out.new).now))) }
+    ensures cause { IfErr result (RefusesAt (F.disk files.old) image.now (RefusesCompact (F.disk files.old) dump.now workers)) }
+    ensures uncreated { RefusedUncreated files.old files.new result }
     ensures counts { CountsPrint (failures_of out.old) (failures_of out.new) result }
     ensures same_writer { writer_of out.new ≡ writer_of out.old }
     ensures unprinted { RefusedUnprinted (O.contents (inner_of out.old).now) (O.contents (inner_of out.new).now) result }
 {
-    let finished = swept_at(alloc, rt, images, asked.image, asked.workers)?;
-    let dump = Dump::of(alloc, &finished, u32::from(asked.workers), 0)?;
-    write_to(dumps, asked.dump, &dump)?;
-    print_line("live ", dump.live_words(), out)
+    let finished = swept_heap(alloc, rt, &*files, image, workers)?;
+    let made = Dump::of(alloc, &finished, u32::from(workers), 0)?;
+    write_dump_to(files, dump, &made)?;
+    print_line("live ", made.live_words(), out)
 }
 
 // Reads the heap whose image is at a path, sweeps it by 1 to 64 workers, and finishes it.
-fn swept_at<R: Threads + Wait + Sync, I: Images>(
+fn swept_heap<R: Threads + Wait + Sync, F: Files>(
     alloc: Global,
     rt: &R,
-    images: &I,
+    files: &F,
     path: &str,
     workers: u8,
 ) -> Result<Finished, CommandRefusal>
     requires workers { (1 ≤ workers) × (workers ≤ 64) }
-    ensures swept { IfOk result (λ f. SomeGiven (I.gives images.now path.now) I.Reader.remaining (IsImageOf (IsSweptHeap workers f))) }
+    ensures swept { IfOk result (λ f. SomeHeapAt (F.disk files.now) path.now (IsSweptHeap workers f)) }
     ensures flipped { IfOk result (IsOfFlip workers 0) }
-    ensures cause { IfErr result (RefusesAt (I.lacks images.now path.now) (I.gives images.now path.now) I.Reader.remaining RefusesSweep) }
+    ensures cause { IfErr result (RefusesAt (F.disk files.now) path.now RefusesSweep) }
 {
-    let mut reader = Counted::new(images.open(path)?);
-    swept_in(alloc, rt, &mut reader, workers)
-}
-
-// Reads the heap whose image is left in the reader, sweeps it by 1 to 64 workers, and finishes it.
-fn swept_in<S: Read, R: Threads + Wait + Sync>(
-    alloc: Global,
-    rt: &R,
-    r: &mut Counted<S>,
-    workers: u8,
-) -> Result<Finished, CommandRefusal>
-    requires workers { (1 ≤ workers) × (workers ≤ 64) }
-    requires read { failures_of r.old < 2 ^ 64 - 1 }
-    ensures swept { IfOk result (λ f. IsImageOf (IsSweptHeap workers f) (S.remaining (inner_of r.old))) }
-    ensures flipped { IfOk result (IsOfFlip workers 0) }
-    ensures cause { IfErr result (λ refusal. RefusesSweep refusal (S.remaining (inner_of r.old))) }
-    ensures reads { CountsRead (failures_of r.old) (failures_of r.new) result }
-{
-    let heap = read_image(alloc, r)?;
-    let plan = Plan::new(alloc, rt, heap)?;
-    swept(alloc, rt, plan, workers)
-}
-
-/// Sweeps the heap of a plan by 1 to 64 workers, and finishes it. Then each page of the slid words was built, and
-/// nobody wrote.
-pub fn swept<R: Threads + Wait + Sync>(
-    alloc: Global,
-    rt: &R,
-    plan: Plan,
-    workers: u8,
-) -> Result<Finished, CommandRefusal>
-    requires workers { (1 ≤ workers) × (workers ≤ 64) }
-    ensures swept { IfOk result (λ f. IsSweptHeap workers f plan) }
-    ensures flipped { IfOk result (IsOfFlip workers 0) }
-    ensures cause { IfErr result (IsOfSweeping plan) }
-{
-    let Ok(plan) = Arc::new(alloc, plan) else {
-        return Err(CommandRefusal::OutOfMemory);
-    };
+    let heap = heap_at(alloc, files, path)?;
+    let plan = plan_heap(alloc, rt, heap)?;
     flipped_and_swept::<Brand, R>(alloc, rt, Blank::new(u64::from(workers)), plan, workers)
 }
 
-// Flips the heap of a plan for `workers` mutators with no fresh page, sweeps it by them, and finishes it.
+// Flips the heap of a plan for `workers` mutators with no fresh page, sweeps it by them, and finishes it. Then each
+// page of the slid words was built, and nobody wrote.
 fn flipped_and_swept<L: Ledger + Send, R: Threads + Wait + Sync>(
     alloc: Global,
     rt: &R,
@@ -132,11 +89,8 @@ fn flipped_and_swept<L: Ledger + Send, R: Threads + Wait + Sync>(
     ensures flipped { IfOk result (IsOfFlip workers 0) }
     ensures cause { IfErr result (IsOfSweeping plan.value) }
 {
-    match flip::<L, Plan>(alloc, blank, plan, u32::from(workers), 0) {
-        Ok((space, mutators)) => sweep_and_finish(alloc, rt, space, mutators),
-        Err(FlipFault::OutOfMemory) => Err(comp_mutator::Refusal::OutOfMemory.into()),
-        Err(FlipFault::BadCounts) => unreachable!(),
-    }
+    let (space, mutators) = flip_plan::<L>(alloc, blank, plan, workers, 0)?;
+    sweep_and_finish(alloc, rt, space, mutators)
 }
 
 // Sweeps a space by all its mutators, which did nothing yet, and finishes it.
@@ -160,11 +114,5 @@ fn sweep_and_finish<L: Ledger + Send, R: Threads + Wait + Sync>(
         Ok(report) => report.mutators,
         Err(refused) => return Err(CommandRefusal::Sweep(refused.fault)),
     };
-    match space.finish(alloc, back) {
-        Ok(finished) => Ok(finished),
-        Err(left) => match left.fault {
-            FinishFault::OutOfMemory => Err(comp_mutator::Refusal::OutOfMemory.into()),
-            FinishFault::MutatorMissing(_) => unreachable!(),
-        },
-    }
+    finish_all(alloc, space, back)
 }

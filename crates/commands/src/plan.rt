@@ -3,56 +3,34 @@ ghost use Rattle.std.specs.Prelude.{◌≡◌, ◌-◌, ◌^◌, ◌<◌, IfErr,
 ghost use Rattle.std.specs.Io.KnownBytes.{Appends};
 ghost use Rattle.heap_layout.specs.Counted.{inner_of, failures_of, writer_of};
 ghost use Rattle.heap_layout.specs.Heap.{live};
-ghost use Rattle.command_io.specs.Printing.{CountsPrint, CountsRead, RefusedUnprinted};
+ghost use Rattle.command_io.specs.Printing.{CountsPrint, RefusedUnprinted};
 ghost use Rattle.commands.specs.Plan.{plan_text, count_lines, page_lines, root_lines, IsOfPrinting, PrintsPlan, RefusesPlan};
-ghost use Rattle.command_io.specs.Images.{IsImageOf, SomeGiven, RefusesAt};
+ghost use Rattle.command_io.specs.Images.{SomeHeapAt, RefusesAt};
 
-use command_io::{CommandRefusal, Images, print_line, print_numbered};
-use heap_layout::{Counted, read_image};
+use command_io::{CommandRefusal, Files, heap_at, print_line, print_numbered};
+use heap_layout::Counted;
 use page_plan::Plan;
 use std::alloc::Global;
-use std::io::{Read, Write};
+use std::io::Write;
 use std::thread::Threads;
 
-/// Prints the plan of the heap whose image is at a path.
-pub fn print_plan<I: Images, O: Write>(
+/// Prints the plan of the heap whose image is at a path, a line each for: the live words, the pages, the first object of
+/// each page, and the address of each root after the flip.
+pub fn print_plan<F: Files, O: Write>(
     alloc: Global,
     rt: &(impl Threads + Sync),
-    images: &I,
+    files: &F,
     path: &str,
     out: &mut Counted<&mut O>,
 ) -> Result<(), CommandRefusal>
     requires { failures_of out.old < 2 ^ 64 - 1 }
-    ensures printed { OnOk result (SomeGiven (I.gives images.now path.now) I.Reader.remaining
-        (IsImageOf (PrintsPlan (O.contents (inner_of out.old).now) (O.contents (inner_of out.new).now)))) }
-    ensures cause { IfErr result (RefusesAt (I.lacks images.now path.now) (I.gives images.now path.now) I.Reader.remaining RefusesPlan) }
+    ensures printed { OnOk result (SomeHeapAt (F.disk files.now) path.now (PrintsPlan (O.contents (inner_of out.old).now) (O.contents (inner_of out.new).now))) }
+    ensures cause { IfErr result (RefusesAt (F.disk files.now) path.now RefusesPlan) }
     ensures counts { CountsPrint (failures_of out.old) (failures_of out.new) result }
     ensures same_writer { writer_of out.new ≡ writer_of out.old }
     ensures unprinted { RefusedUnprinted (O.contents (inner_of out.old).now) (O.contents (inner_of out.new).now) result }
 {
-    let mut reader = Counted::new(images.open(path)?);
-    print_plan_in(alloc, rt, &mut reader, out)
-}
-
-// Prints the plan of the heap whose image is left in the reader, a line each for: the live words, the pages, the first
-// object of each page, and the address of each root after the flip.
-fn print_plan_in<R: Read, O: Write>(
-    alloc: Global,
-    rt: &(impl Threads + Sync),
-    r: &mut Counted<R>,
-    out: &mut Counted<&mut O>,
-) -> Result<(), CommandRefusal>
-    requires read { failures_of r.old < 2 ^ 64 - 1 }
-    requires written { failures_of out.old < 2 ^ 64 - 1 }
-    ensures printed { OnOk result (IsImageOf (PrintsPlan (O.contents (inner_of out.old).now) (O.contents (inner_of out.new).now))
-        (R.remaining (inner_of r.old))) }
-    ensures cause { IfErr result (λ refusal. RefusesPlan refusal (R.remaining (inner_of r.old))) }
-    ensures reads { CountsRead (failures_of r.old) (failures_of r.new) result }
-    ensures counts { CountsPrint (failures_of out.old) (failures_of out.new) result }
-    ensures same_writer { writer_of out.new ≡ writer_of out.old }
-    ensures unprinted { RefusedUnprinted (O.contents (inner_of out.old).now) (O.contents (inner_of out.new).now) result }
-{
-    let heap = read_image(alloc, r)?;
+    let heap = heap_at(alloc, files, path)?;
     let plan = Plan::new(alloc, rt, heap)?;
     write_plan(alloc, &plan, out)
 }

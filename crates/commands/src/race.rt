@@ -8,7 +8,7 @@ ghost use Rattle.commands.specs.Replays.{SomeRun, StopsUnprinted};
 
 use crate::races::race_heap;
 use crate::replay::{inputs_at, write_outcome};
-use command_io::{CommandRefusal, Dumps, Images, Traces};
+use command_io::{CommandRefusal, Files};
 use command_line::TraceRun;
 use heap_layout::Counted;
 use std::alloc::Global;
@@ -22,37 +22,24 @@ use std::thread::Threads;
 ///
 /// If lines are refused, it prints the values that all mutators had shown, refuses with the least of these lines, and
 /// creates no dump.
-pub fn print_race<R: Threads + Wait + Sync, I: Images, T: Traces, D: Dumps, O: Write>(
+pub fn print_race<R: Threads + Wait + Sync, F: Files, O: Write>(
     alloc: Global,
     rt: &R,
-    images: &I,
-    traces: &T,
-    dumps: &mut D,
+    files: &mut F,
     asked: TraceRun<'_>,
     out: &mut Counted<&mut O>,
 ) -> Result<(), CommandRefusal>
     requires mutators { (1 ≤ asked.mutators) × (asked.mutators ≤ 64) }
     requires fresh { asked.fresh ≤ 4096 }
     requires written { failures_of out.old < 2 ^ 64 - 1 }
-    ensures raced { OnOk result (SomeRun (I.gives images.now asked.entry.image.now) I.Reader.remaining (T.gives traces.now asked.entry.trace.now) T.Reader.remaining asked.entry.mutators
-        (Races (D.gives dumps.old asked.entry.dump.now) D.Writer.contents asked.entry.mutators asked.entry.fresh (O.contents (inner_of out.old).now) (O.contents (inner_of out.new).now))) }
-    ensures cause { IfErr result (RefusesRace (I.lacks images.now asked.entry.image.now) (I.gives images.now asked.entry.image.now) I.Reader.remaining
-        (T.lacks traces.now asked.entry.trace.now) (T.gives traces.now asked.entry.trace.now) T.Reader.remaining
-        (D.lacks dumps.old asked.entry.dump.now) (D.gives dumps.old asked.entry.dump.now) D.Writer.contents
-        asked.entry.mutators asked.entry.fresh (O.contents (inner_of out.old).now) (O.contents (inner_of out.new).now)) }
-    ensures uncreated { RefusedUncreated dumps.old dumps.new result }
+    ensures raced { OnOk result (SomeRun (F.disk files.old) asked.entry (Races (F.disk files.old) asked.entry (O.contents (inner_of out.old).now) (O.contents (inner_of out.new).now))) }
+    ensures cause { IfErr result (RefusesRace (F.disk files.old) asked.entry (O.contents (inner_of out.old).now) (O.contents (inner_of out.new).now)) }
+    ensures uncreated { RefusedUncreated files.old files.new result }
     ensures counts { CountsPrint (failures_of out.old) (failures_of out.new) result }
     ensures same_writer { writer_of out.new ≡ writer_of out.old }
     ensures unprinted { StopsUnprinted (O.contents (inner_of out.old).now) (O.contents (inner_of out.new).now) result }
 {
-    let inputs = inputs_at(
-        alloc,
-        images,
-        traces,
-        asked.image,
-        asked.trace,
-        asked.mutators,
-    )?;
+    let inputs = inputs_at(alloc, &*files, asked.image, asked.trace, asked.mutators)?;
     let ran = race_heap(
         alloc,
         rt,
@@ -61,5 +48,5 @@ pub fn print_race<R: Threads + Wait + Sync, I: Images, T: Traces, D: Dumps, O: W
         asked.mutators,
         asked.fresh,
     );
-    write_outcome(alloc, dumps, asked, ran, out)
+    write_outcome(alloc, files, asked, ran, out)
 }

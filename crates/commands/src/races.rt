@@ -11,9 +11,10 @@ ghost use Rattle.commands.specs.Races.{IsHaltedRace, IsRacedHeap};
 ghost use Rattle.command_io.specs.Texts.{HasLines};
 
 use crate::by_line::{by_line, first_refused_line};
+use crate::flipping::{finish_all, flip_plan, plan_heap};
 use crate::replays::{PrintedHalt, Replayed, unshown};
 use command_io::CommandRefusal;
-use comp_mutator::{FinishFault, FlipFault, Mutator, Refusal, Space, flip};
+use comp_mutator::{Mutator, Space};
 use comp_trace::{Run, Trace, TraceFault, race};
 use heap_layout::MarkedHeap;
 use page_plan::Plan;
@@ -45,11 +46,9 @@ pub fn race_heap<R: Threads + Wait + Sync>(
     ensures flipped { IfOk result (λ run. IsOfFlip mutators fresh run.finished) }
     ensures halted { IfErr result (λ run. IsHaltedRace mutators fresh (lines_of trace.now) run.shown.items heap run.refusal) }
 {
-    let Ok(plan) = Plan::new(alloc, rt, heap) else {
-        return Err(unshown(alloc, CommandRefusal::OutOfMemory));
-    };
-    let Ok(plan) = Arc::new(alloc, plan) else {
-        return Err(unshown(alloc, CommandRefusal::OutOfMemory));
+    let plan = match plan_heap(alloc, rt, heap) {
+        Ok(plan) => plan,
+        Err(refusal) => return Err(unshown(alloc, refusal)),
     };
     flipped_and_raced::<Brand, R>(
         alloc,
@@ -83,13 +82,9 @@ fn flipped_and_raced<L: Ledger + Send + Sync, R: Threads + Wait + Sync>(
     ensures flipped { IfOk result (λ run. IsOfFlip mutators fresh run.finished) }
     ensures halted { IfErr result (λ run. IsHaltedRace mutators fresh (lines_of trace.now) run.shown.items plan.value run.refusal) }
 {
-    match flip::<L, Plan>(alloc, blank, plan, u32::from(mutators), fresh) {
+    match flip_plan::<L>(alloc, blank, plan, mutators, fresh) {
         Ok((space, made)) => race_and_finish(alloc, rt, space, made, trace),
-        Err(FlipFault::OutOfMemory) => Err(unshown(
-            alloc,
-            CommandRefusal::Mutator(Refusal::OutOfMemory),
-        )),
-        Err(FlipFault::BadCounts) => unreachable!(),
+        Err(refusal) => Err(unshown(alloc, refusal)),
     }
 }
 
@@ -128,15 +123,9 @@ fn race_and_finish<L: Ledger + Send + Sync, R: Threads + Wait + Sync>(
             shown,
             refusal: CommandRefusal::Trace(TraceFault::Refused(stop.line, stop.refusal)),
         }),
-        None => match space.finish(alloc, raced.mutators) {
+        None => match finish_all(alloc, space, raced.mutators) {
             Ok(finished) => Ok(Replayed { shown, finished }),
-            Err(left) => match left.fault {
-                FinishFault::OutOfMemory => Err(unshown(
-                    alloc,
-                    CommandRefusal::Mutator(Refusal::OutOfMemory),
-                )),
-                FinishFault::MutatorMissing(_) => unreachable!(),
-            },
+            Err(refusal) => Err(unshown(alloc, refusal)),
         },
     }
 }

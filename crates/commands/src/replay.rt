@@ -3,17 +3,19 @@ ghost use Rattle.std.specs.Prelude.{◌≡◌, ◌-◌, ◌^◌, ◌<◌, ◌≤
 ghost use Rattle.heap_layout.specs.Counted.{inner_of, failures_of, writer_of};
 ghost use Rattle.comp_mutator.specs.Finishes.{live_of, IsOfFlip};
 ghost use Rattle.comp_dump.specs.DumpEncoding.{dump_bytes};
-ghost use Rattle.command_io.specs.Dumps.{RefusedUncreated, WritesWhole};
-ghost use Rattle.command_io.specs.Images.{IsImageOf, SomeGiven};
+ghost use Rattle.command_io.specs.Disk.{WritesWhole};
+ghost use Rattle.command_io.specs.Dumps.{RefusedUncreated};
+ghost use Rattle.command_io.specs.Images.{IsHeapAt};
 ghost use Rattle.command_io.specs.Printing.{CountsPrint};
-ghost use Rattle.command_io.specs.Texts.{IsTextOf};
+ghost use Rattle.command_io.specs.Texts.{HasLinesAt};
+ghost use Rattle.command_io.specs.declared.refusal.Output.TheVariants as outputs;
 ghost use Rattle.comp_trace.specs.Traces.{lines_of, mutators_of, roots_of};
 ghost use Rattle.commands.specs.Outcomes.{IsHaltedBy, IsOfHalt, IsWritten, RefusesInputs, RefusesOutcome};
 ghost use Rattle.commands.specs.Replays.{dumped_of, IsOfWritingRun, PrintsRun, RefusesReplay, Replays, SomeRun, StopsUnprinted};
 
 use crate::replays::{PrintedHalt, Replayed, replay_heap};
-use crate::shown::{print_shown, send_shown};
-use command_io::{CommandRefusal, Dumps, Images, Traces, heap_at, print_line, trace_at, write_to};
+use crate::shown::{print_run, send_shown};
+use command_io::{CommandRefusal, Files, heap_at, trace_at, write_dump_to};
 use command_line::TraceRun;
 use comp_audit::Dump;
 use comp_trace::Trace;
@@ -26,37 +28,24 @@ use std::thread::Threads;
 /// and prints the values that lines showed, and the live words.
 ///
 /// If a line is refused, it prints the values of the lines before it, and creates no dump.
-pub fn print_replay<I: Images, T: Traces, D: Dumps, O: Write>(
+pub fn print_replay<F: Files, O: Write>(
     alloc: Global,
     rt: &(impl Threads + Sync),
-    images: &I,
-    traces: &T,
-    dumps: &mut D,
+    files: &mut F,
     asked: TraceRun<'_>,
     out: &mut Counted<&mut O>,
 ) -> Result<(), CommandRefusal>
     requires mutators { (1 ≤ asked.mutators) × (asked.mutators ≤ 64) }
     requires fresh { asked.fresh ≤ 4096 }
     requires written { failures_of out.old < 2 ^ 64 - 1 }
-    ensures replayed { OnOk result (SomeRun (I.gives images.now asked.entry.image.now) I.Reader.remaining (T.gives traces.now asked.entry.trace.now) T.Reader.remaining asked.entry.mutators
-        (Replays (D.gives dumps.old asked.entry.dump.now) D.Writer.contents asked.entry.mutators asked.entry.fresh (O.contents (inner_of out.old).now) (O.contents (inner_of out.new).now))) }
-    ensures cause { IfErr result (RefusesReplay (I.lacks images.now asked.entry.image.now) (I.gives images.now asked.entry.image.now) I.Reader.remaining
-        (T.lacks traces.now asked.entry.trace.now) (T.gives traces.now asked.entry.trace.now) T.Reader.remaining
-        (D.lacks dumps.old asked.entry.dump.now) (D.gives dumps.old asked.entry.dump.now) D.Writer.contents
-        asked.entry.mutators asked.entry.fresh (O.contents (inner_of out.old).now) (O.contents (inner_of out.new).now)) }
-    ensures uncreated { RefusedUncreated dumps.old dumps.new result }
+    ensures replayed { OnOk result (SomeRun (F.disk files.old) asked.entry (Replays (F.disk files.old) asked.entry (O.contents (inner_of out.old).now) (O.contents (inner_of out.new).now))) }
+    ensures cause { IfErr result (RefusesReplay (F.disk files.old) asked.entry (O.contents (inner_of out.old).now) (O.contents (inner_of out.new).now)) }
+    ensures uncreated { RefusedUncreated files.old files.new result }
     ensures counts { CountsPrint (failures_of out.old) (failures_of out.new) result }
     ensures same_writer { writer_of out.new ≡ writer_of out.old }
     ensures unprinted { StopsUnprinted (O.contents (inner_of out.old).now) (O.contents (inner_of out.new).now) result }
 {
-    let inputs = inputs_at(
-        alloc,
-        images,
-        traces,
-        asked.image,
-        asked.trace,
-        asked.mutators,
-    )?;
+    let inputs = inputs_at(alloc, &*files, asked.image, asked.trace, asked.mutators)?;
     let ran = replay_heap(
         alloc,
         rt,
@@ -65,7 +54,7 @@ pub fn print_replay<I: Images, T: Traces, D: Dumps, O: Write>(
         asked.mutators,
         asked.fresh,
     );
-    write_outcome(alloc, dumps, asked, ran, out)
+    write_outcome(alloc, files, asked, ran, out)
 }
 
 /// The heap and the trace of a run.
@@ -76,30 +65,28 @@ pub struct Inputs {
 }
 
 /// Reads the heap whose image is at a path, and then the trace for it at another path.
-pub fn inputs_at<I: Images, T: Traces>(
+pub fn inputs_at<F: Files>(
     alloc: Global,
-    images: &I,
-    traces: &T,
+    files: &F,
     image: &str,
     trace: &str,
     mutators: u8,
 ) -> Result<Inputs, CommandRefusal>
-    ensures heap { IfOk result (λ inputs. SomeGiven (I.gives images.now image.now) I.Reader.remaining (IsImageOf (λ other. other ≡ inputs.heap))) }
-    ensures lines { IfOk result (λ inputs. SomeGiven (T.gives traces.now trace.now) T.Reader.remaining (IsTextOf mutators (length inputs.heap.roots) (lines_of inputs.trace))) }
+    ensures heap { IfOk result (λ inputs. IsHeapAt (F.disk files.now) image.now inputs.heap) }
+    ensures lines { IfOk result (λ inputs. HasLinesAt (F.disk files.now) trace.now mutators (length inputs.heap.roots) (lines_of inputs.trace)) }
     ensures counts { IfOk result (λ inputs. (mutators_of inputs.trace ≡ mutators) × (roots_of inputs.trace ≡ length inputs.heap.roots)) }
-    ensures cause { IfErr result (RefusesInputs (I.lacks images.now image.now) (I.gives images.now image.now) I.Reader.remaining
-        (T.lacks traces.now trace.now) (T.gives traces.now trace.now) T.Reader.remaining mutators) }
+    ensures cause { IfErr result (RefusesInputs (F.disk files.now) image.now trace.now mutators) }
 {
-    let heap = heap_at(alloc, images, image)?;
+    let heap = heap_at(alloc, files, image)?;
     let roots = heap.roots().len() as u16;
-    let trace = trace_at(alloc, traces, trace, mutators, roots)?;
+    let trace = trace_at(alloc, files, trace, mutators, roots)?;
     Ok(Inputs { heap, trace })
 }
 
 /// Writes and prints what a run left. If the run was halted, prints what it had shown, and answers its refusal.
-pub(crate) fn write_outcome<D: Dumps, O: Write>(
+pub(crate) fn write_outcome<F: Files, O: Write>(
     alloc: Global,
-    dumps: &mut D,
+    files: &mut F,
     asked: TraceRun<'_>,
     outcome: Result<Replayed, PrintedHalt>,
     out: &mut Counted<&mut O>,
@@ -107,17 +94,15 @@ pub(crate) fn write_outcome<D: Dumps, O: Write>(
     requires flipped { IfOk outcome (λ run. IsOfFlip asked.mutators asked.fresh run.finished) }
     requires halted { IfErr outcome (λ run. IsHaltedBy run.shown.items run.refusal) }
     requires written { failures_of out.old < 2 ^ 64 - 1 }
-    ensures done { OnOk result (IsWritten (D.gives dumps.old asked.entry.dump.now) D.Writer.contents asked.entry.mutators asked.entry.fresh
-        (O.contents (inner_of out.old).now) (O.contents (inner_of out.new).now) outcome) }
-    ensures cause { IfErr result (RefusesOutcome (D.lacks dumps.old asked.entry.dump.now) (D.gives dumps.old asked.entry.dump.now) D.Writer.contents
-        asked.entry.mutators asked.entry.fresh (O.contents (inner_of out.old).now) (O.contents (inner_of out.new).now) outcome) }
-    ensures uncreated { RefusedUncreated dumps.old dumps.new result }
+    ensures done { OnOk result (IsWritten (F.disk files.old) asked.entry (O.contents (inner_of out.old).now) (O.contents (inner_of out.new).now) outcome) }
+    ensures cause { IfErr result (RefusesOutcome (F.disk files.old) asked.entry (O.contents (inner_of out.old).now) (O.contents (inner_of out.new).now) outcome) }
+    ensures uncreated { RefusedUncreated files.old files.new result }
     ensures counts { CountsPrint (failures_of out.old) (failures_of out.new) result }
     ensures same_writer { writer_of out.new ≡ writer_of out.old }
     ensures unprinted { StopsUnprinted (O.contents (inner_of out.old).now) (O.contents (inner_of out.new).now) result }
 {
     match outcome {
-        Ok(run) => write_run(alloc, dumps, asked, &run, out),
+        Ok(run) => write_run(alloc, files, asked, &run, out),
         Err(halted) => print_halted(&halted, out),
     }
 }
@@ -140,26 +125,24 @@ pub fn print_halted<O: Write>(
 }
 
 // Writes the dump of a run, and prints the values that it showed, and the live words.
-fn write_run<D: Dumps, O: Write>(
+fn write_run<F: Files, O: Write>(
     alloc: Global,
-    dumps: &mut D,
+    files: &mut F,
     asked: TraceRun<'_>,
     run: &Replayed,
     out: &mut Counted<&mut O>,
 ) -> Result<(), CommandRefusal>
     requires flipped { IsOfFlip asked.mutators asked.fresh run.now.finished }
     requires written { failures_of out.old < 2 ^ 64 - 1 }
-    ensures written { OnOk result (WritesWhole (D.gives dumps.old asked.entry.dump.now) D.Writer.contents (dump_bytes (dumped_of asked.entry.mutators asked.entry.fresh run.now.finished))) }
+    ensures written { OnOk result (WritesWhole (F.disk files.old) outputs.Dump asked.entry.dump.now (dump_bytes (dumped_of asked.entry.mutators asked.entry.fresh run.now.finished))) }
     ensures printed { OnOk result (PrintsRun (O.contents (inner_of out.old).now) (O.contents (inner_of out.new).now) run.now.shown.items (live_of run.now.finished)) }
-    ensures cause { IfErr result (IsOfWritingRun (D.lacks dumps.old asked.entry.dump.now) (D.gives dumps.old asked.entry.dump.now) D.Writer.contents
-        (dump_bytes (dumped_of asked.entry.mutators asked.entry.fresh run.now.finished))) }
-    ensures uncreated { RefusedUncreated dumps.old dumps.new result }
+    ensures cause { IfErr result (IsOfWritingRun (F.disk files.old) asked.entry.dump.now (dump_bytes (dumped_of asked.entry.mutators asked.entry.fresh run.now.finished))) }
+    ensures uncreated { RefusedUncreated files.old files.new result }
     ensures counts { CountsPrint (failures_of out.old) (failures_of out.new) result }
     ensures same_writer { writer_of out.new ≡ writer_of out.old }
     ensures unprinted { StopsUnprinted (O.contents (inner_of out.old).now) (O.contents (inner_of out.new).now) result }
 {
     let dump = Dump::of(alloc, &run.finished, u32::from(asked.mutators), asked.fresh)?;
-    write_to(dumps, asked.dump, &dump)?;
-    print_shown(&run.shown, out)?;
-    print_line("live ", dump.live_words(), out)
+    write_dump_to(files, asked.dump, &dump)?;
+    print_run(&run.shown, dump.live_words(), out)
 }

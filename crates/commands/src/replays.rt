@@ -4,13 +4,12 @@ ghost use Rattle.comp_mutator.specs.Finishes.{IsOfFlip};
 ghost use Rattle.comp_trace.specs.Traces.{lines_of, mutators_of, roots_of};
 ghost use Rattle.commands.specs.Replays.{IsPrintedHalt, IsReplayedHeap};
 
+use crate::flipping::plan_heap;
 use command_io::CommandRefusal;
 use comp_mutator::{Finished, Refusal};
 use comp_trace::{Halt, Shown, Trace, run_over};
 use heap_layout::MarkedHeap;
-use page_plan::Plan;
 use std::alloc::Global;
-use std::sync::Arc;
 use std::thread::Threads;
 
 /// A finished heap over which a trace was run, and the values that the trace showed.
@@ -59,11 +58,9 @@ pub fn replay_heap(
     ensures flipped { IfOk result (λ run. IsOfFlip mutators fresh run.finished) }
     ensures halted { IfErr result (λ run. IsPrintedHalt mutators fresh (lines_of trace.now) run.shown.items heap run.refusal) }
 {
-    let Ok(plan) = Plan::new(alloc, rt, heap) else {
-        return Err(unshown(alloc, CommandRefusal::OutOfMemory));
-    };
-    let Ok(plan) = Arc::new(alloc, plan) else {
-        return Err(unshown(alloc, CommandRefusal::OutOfMemory));
+    let plan = match plan_heap(alloc, rt, heap) {
+        Ok(plan) => plan,
+        Err(refusal) => return Err(unshown(alloc, refusal)),
     };
     match run_over(alloc, plan, trace, mutators, fresh) {
         Ok(run) => Ok(Replayed {

@@ -8,22 +8,19 @@ ghost use Rattle.commands.specs.Replays.{StopsUnprinted};
 ghost use Rattle.commands.specs.Tasks.{Answers, AreWrong, DoesTask, HasAnswered, IsRefused, RefusesTask};
 
 use crate::audit::print_audit;
-use crate::compact::{Compaction, print_compact};
+use crate::compact::print_compact;
 use crate::next::print_next;
 use crate::plan::print_plan;
 use crate::race::print_race;
 use crate::replay::print_replay;
 use crate::word::print_word;
 use clap::error::ErrorKind;
-use command_io::{
-    CommandRefusal, Dumps, FileDumps, FileImages, FileTraces, Images, Traces, flush, print_help,
-    print_text,
-};
+use command_io::{CommandRefusal, Files, RuntimeFiles, flush, print_help, print_text};
 use command_line::{Task, VERSION_LINE, read_task};
 use heap_layout::Counted;
 use std::alloc::Global;
 use std::io::Write;
-use std::rt::Files;
+use std::rt;
 use std::sync::Wait;
 use std::thread::Threads;
 
@@ -38,7 +35,7 @@ pub const MISUSED: u8 = 2;
 
 /// Does what the words after the program's name ask for, and answers the status. It opens files and starts threads
 /// through `rt`, and flushes `out` at the end. A refusal prints one line on `err`; so does a call of `out` that fails.
-pub fn run<R: Files + AllocGlobal + Threads + Wait + Sync, O: Write, E: Write>(
+pub fn run<R: rt::Files + AllocGlobal + Threads + Wait + Sync, O: Write, E: Write>(
     rt: &R,
     words: Vec<String>,
     out: &mut O,
@@ -54,9 +51,7 @@ pub fn run<R: Files + AllocGlobal + Threads + Wait + Sync, O: Write, E: Write>(
     respond(
         rt.alloc(),
         rt,
-        &FileImages { rt },
-        &FileTraces { rt },
-        &mut FileDumps { rt },
+        &mut RuntimeFiles { rt },
         asked,
         &mut out,
         err,
@@ -65,12 +60,10 @@ pub fn run<R: Files + AllocGlobal + Threads + Wait + Sync, O: Write, E: Write>(
 
 // Does what is asked for, and answers the status. A refusal prints one line on `err`; so does a call of `out` that
 // fails.
-fn respond<R: Threads + Wait + Sync, I: Images, T: Traces, D: Dumps, O: Write, E: Write>(
+fn respond<R: Threads + Wait + Sync, F: Files, O: Write, E: Write>(
     alloc: Global,
     rt: &R,
-    images: &I,
-    traces: &T,
-    dumps: &mut D,
+    files: &mut F,
     asked: Result<Task, clap::Error>,
     out: &mut Counted<&mut O>,
     err: &mut E,
@@ -78,16 +71,15 @@ fn respond<R: Threads + Wait + Sync, I: Images, T: Traces, D: Dumps, O: Write, E
     requires written { failures_of out.old < 2 ^ 64 - 1 }
     requires counts { IfOk asked HasLawfulCounts }
     ensures status { result ≤ 2 }
-    ensures done { result ≡ 0 → Answers (I.gives images.now) I.Reader.remaining (T.gives traces.now) T.Reader.remaining (D.gives dumps.old) D.Writer.contents (O.contents (inner_of out.old).now) (O.contents (inner_of out.new).now) asked.entry }
+    ensures done { result ≡ 0 → Answers (F.disk files.old) (O.contents (inner_of out.old).now) (O.contents (inner_of out.new).now) asked.entry }
     ensures flushed { result ≡ 0 → is_flushed_of out.new ≡ true }
-    ensures refused { result ≡ 1 → IsRefused (I.lacks images.now) (I.gives images.now) I.Reader.remaining (T.lacks traces.now) (T.gives traces.now) T.Reader.remaining
-        (D.lacks dumps.old) (D.gives dumps.old) D.Writer.contents (failures_of out.old) (failures_of out.new) (O.contents (inner_of out.old).now) (O.contents (inner_of out.new).now) asked.entry }
+    ensures refused { result ≡ 1 → IsRefused (F.disk files.old) (failures_of out.old) (failures_of out.new) (O.contents (inner_of out.old).now) (O.contents (inner_of out.new).now) asked.entry }
     ensures wrong { result ≡ 2 → AreWrong asked.entry }
     ensures misused { result ≡ 2 → Keeps (O.contents (inner_of out.old).now) (O.contents (inner_of out.new).now) }
     ensures same_writer { writer_of out.new ≡ writer_of out.old }
 {
     match asked {
-        Ok(task) => reported(perform(alloc, rt, images, traces, dumps, task, out), err),
+        Ok(task) => reported(perform(alloc, rt, files, task, out), err),
         Err(error) if error.kind() == ErrorKind::OutOfMemory => reported(
             Err(CommandRefusal::OutOfMemory),
             err,
@@ -100,71 +92,54 @@ fn respond<R: Threads + Wait + Sync, I: Images, T: Traces, D: Dumps, O: Write, E
 }
 
 // Does a task, and flushes the output.
-fn perform<R: Threads + Wait + Sync, I: Images, T: Traces, D: Dumps, O: Write>(
+fn perform<R: Threads + Wait + Sync, F: Files, O: Write>(
     alloc: Global,
     rt: &R,
-    images: &I,
-    traces: &T,
-    dumps: &mut D,
+    files: &mut F,
     task: Task,
     out: &mut Counted<&mut O>,
 ) -> Result<(), CommandRefusal>
     requires written { failures_of out.old < 2 ^ 64 - 1 }
     requires counts { HasLawfulCounts task }
-    ensures done { OnOk result (DoesTask (I.gives images.now) I.Reader.remaining (T.gives traces.now) T.Reader.remaining (D.gives dumps.old) D.Writer.contents (O.contents (inner_of out.old).now) (O.contents (inner_of out.new).now) task.entry) }
-    ensures cause { IfErr result (RefusesTask (I.lacks images.now) (I.gives images.now) I.Reader.remaining (T.lacks traces.now) (T.gives traces.now) T.Reader.remaining
-        (D.lacks dumps.old) (D.gives dumps.old) D.Writer.contents (O.contents (inner_of out.old).now) (O.contents (inner_of out.new).now) task.entry) }
+    ensures done { OnOk result (DoesTask (F.disk files.old) (O.contents (inner_of out.old).now) (O.contents (inner_of out.new).now) task.entry) }
+    ensures cause { IfErr result (RefusesTask (F.disk files.old) (O.contents (inner_of out.old).now) (O.contents (inner_of out.new).now) task.entry) }
     ensures flushed { OnOk result (is_flushed_of out.new ≡ true) }
     ensures counts { CountsPrint (failures_of out.old) (failures_of out.new) result }
     ensures same_writer { writer_of out.new ≡ writer_of out.old }
     ensures unprinted { StopsUnprinted (O.contents (inner_of out.old).now) (O.contents (inner_of out.new).now) result }
 {
-    print_task(alloc, rt, images, traces, dumps, task, out)?;
+    print_task(alloc, rt, files, task, out)?;
     flush(out)
 }
 
 // Does a task, without a flush of the output after it.
-fn print_task<R: Threads + Wait + Sync, I: Images, T: Traces, D: Dumps, O: Write>(
+fn print_task<R: Threads + Wait + Sync, F: Files, O: Write>(
     alloc: Global,
     rt: &R,
-    images: &I,
-    traces: &T,
-    dumps: &mut D,
+    files: &mut F,
     task: Task,
     out: &mut Counted<&mut O>,
 ) -> Result<(), CommandRefusal>
     requires written { failures_of out.old < 2 ^ 64 - 1 }
     requires counts { HasLawfulCounts task }
-    ensures done { OnOk result (DoesTask (I.gives images.now) I.Reader.remaining (T.gives traces.now) T.Reader.remaining (D.gives dumps.old) D.Writer.contents (O.contents (inner_of out.old).now) (O.contents (inner_of out.new).now) task.entry) }
-    ensures cause { IfErr result (RefusesTask (I.lacks images.now) (I.gives images.now) I.Reader.remaining (T.lacks traces.now) (T.gives traces.now) T.Reader.remaining
-        (D.lacks dumps.old) (D.gives dumps.old) D.Writer.contents (O.contents (inner_of out.old).now) (O.contents (inner_of out.new).now) task.entry) }
+    ensures done { OnOk result (DoesTask (F.disk files.old) (O.contents (inner_of out.old).now) (O.contents (inner_of out.new).now) task.entry) }
+    ensures cause { IfErr result (RefusesTask (F.disk files.old) (O.contents (inner_of out.old).now) (O.contents (inner_of out.new).now) task.entry) }
     ensures counts { CountsPrint (failures_of out.old) (failures_of out.new) result }
     ensures same_writer { writer_of out.new ≡ writer_of out.old }
     ensures unprinted { StopsUnprinted (O.contents (inner_of out.old).now) (O.contents (inner_of out.new).now) result }
 {
     match task {
-        Task::Plan { image } => print_plan(alloc, rt, images, image, out),
-        Task::Word { image, index } => print_word(alloc, rt, images, image, index, out),
-        Task::Replay(run) => print_replay(alloc, rt, images, traces, dumps, run, out),
-        Task::Race(run) => print_race(alloc, rt, images, traces, dumps, run, out),
+        Task::Plan { image } => print_plan(alloc, rt, &*files, image, out),
+        Task::Word { image, index } => print_word(alloc, rt, &*files, image, index, out),
+        Task::Replay(run) => print_replay(alloc, rt, files, run, out),
+        Task::Race(run) => print_race(alloc, rt, files, run, out),
         Task::Compact {
             image,
             dump,
             workers,
-        } => print_compact(
-            alloc,
-            rt,
-            images,
-            dumps,
-            Compaction {
-                image,
-                dump,
-                workers,
-            },
-            out,
-        ),
-        Task::Audit { image, dump } => print_audit(alloc, rt, images, image, dump, out),
-        Task::Next(run) => print_next(alloc, rt, images, traces, dumps, run, out),
+        } => print_compact(alloc, rt, files, image, dump, workers, out),
+        Task::Audit { image, dump } => print_audit(alloc, rt, &*files, image, dump, out),
+        Task::Next(run) => print_next(alloc, rt, files, run, out),
         Task::Help { text } => print_help(&text, out),
         Task::Version => print_text(VERSION_LINE, out),
     }

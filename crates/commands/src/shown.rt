@@ -1,11 +1,11 @@
-//! Prints the values that the lines of a trace showed.
+//! Prints the values that the lines of a trace showed, and the line of live words after them.
 ghost use Rattle.std.specs.Prelude.{◌≡◌, ◌-◌, ◌^◌, ◌<◌, drop, true, OnOk, OnErr, Err};
 ghost use Rattle.std.specs.Io.KnownBytes.{Appends};
 ghost use Rattle.heap_layout.specs.Counted.{inner_of, failures_of, is_flushed_of, writer_of};
 ghost use Rattle.command_io.specs.Printing.{CountsPrint};
-ghost use Rattle.commands.specs.Replays.{shown_line, shown_lines};
+ghost use Rattle.commands.specs.Replays.{shown_line, shown_lines, PrintsRun};
 
-use command_io::{CommandRefusal, flush, print_bytes};
+use command_io::{CommandRefusal, flush, print_bytes, print_line};
 use comp_trace::Shown;
 use heap_layout::Counted;
 use itoa::write_digits;
@@ -15,11 +15,24 @@ use std::io::Write;
 // feed.
 const LONGEST: usize = 42;
 
-/// Prints shown values, a line each: the number of the line that showed it, and the value.
-pub fn print_shown<O: Write>(
+/// Prints what a run showed, and then the live words of the heap that it left.
+pub fn print_run<O: Write>(
     shown: &[Shown],
+    live: u64,
     out: &mut Counted<&mut O>,
 ) -> Result<(), CommandRefusal>
+    requires { failures_of out.old < 2 ^ 64 - 1 }
+    ensures printed { OnOk result (PrintsRun (O.contents (inner_of out.old).now) (O.contents (inner_of out.new).now) shown.now live) }
+    ensures cause { OnErr result (result ≡ Err CommandRefusal.CannotPrint) }
+    ensures counts { CountsPrint (failures_of out.old) (failures_of out.new) result }
+    ensures same_writer { writer_of out.new ≡ writer_of out.old }
+{
+    print_shown(shown, out)?;
+    print_line("live ", live, out)
+}
+
+// Prints shown values, a line each: the number of the line that showed it, and the value.
+fn print_shown<O: Write>(shown: &[Shown], out: &mut Counted<&mut O>) -> Result<(), CommandRefusal>
     requires { failures_of out.old < 2 ^ 64 - 1 }
     ensures printed { OnOk result (Appends (O.contents (inner_of out.old).now) (O.contents (inner_of out.new).now) (shown_lines shown.now)) }
     ensures cause { OnErr result (result ≡ Err CommandRefusal.CannotPrint) }

@@ -4,7 +4,7 @@ use crate::places::{File, Memory, Place};
 use crate::printing::{Asked, is_answered};
 use command_io::{CommandRefusal, Input};
 use command_line::TraceRun;
-use commands::{Compaction, print_compact, print_replay};
+use commands::{print_compact, print_replay};
 use comp_dump::DumpFault;
 use heap_layout::{Counted, LayoutFault};
 use std::process::Abort;
@@ -45,7 +45,6 @@ pub struct Row {
 // Writes a dump as a row says.
 fn write_dump<R: Abort + AllocGlobal + Threads + Wait + Sync>(
     rt: &R,
-    memory: &Memory,
     row: &Row,
     place: &mut Place,
     out: &mut Narrow,
@@ -54,12 +53,15 @@ fn write_dump<R: Abort + AllocGlobal + Threads + Wait + Sync>(
     match row.writing {
         Writing::Compact(workers) => {
             assert!(rt; 1 <= workers && workers <= 64);
-            let asked = Compaction {
-                image: row.image,
-                dump: row.path,
+            print_compact(
+                rt.alloc(),
+                rt,
+                place,
+                row.image,
+                row.path,
                 workers,
-            };
-            print_compact(rt.alloc(), rt, memory, place, asked, &mut counted)
+                &mut counted,
+            )
         }
         Writing::Replay(trace, fresh) => {
             assert!(rt; fresh <= 4_096);
@@ -70,7 +72,7 @@ fn write_dump<R: Abort + AllocGlobal + Threads + Wait + Sync>(
                 mutators: 1,
                 fresh,
             };
-            print_replay(rt.alloc(), rt, memory, memory, place, asked, &mut counted)
+            print_replay(rt.alloc(), rt, place, asked, &mut counted)
         }
     }
 }
@@ -148,6 +150,7 @@ fn expect_row<R: Abort + AllocGlobal + Threads + Wait + Sync>(rt: &R, memory: &M
     let mut dumped = Vec::new(rt.alloc());
     let mut printed = Vec::new(rt.alloc());
     let mut place = Place {
+        files: memory.files,
         writer: Some(Narrow {
             taken: &mut dumped,
             room: row.room,
@@ -161,7 +164,7 @@ fn expect_row<R: Abort + AllocGlobal + Threads + Wait + Sync>(rt: &R, memory: &M
         at_once: usize::MAX,
         failure: Failure::TakesNone,
     };
-    let answer = write_dump(rt, memory, row, &mut place, &mut out);
+    let answer = write_dump(rt, row, &mut place, &mut out);
     let created = place.writer.is_none();
     assert!(rt;
         is_so(row, (answer, &printed), created, &dumped, &whole),

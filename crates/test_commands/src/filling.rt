@@ -1,13 +1,13 @@
 //! Dumps and new images in files of a device that is soon full, that cannot rename, or that sets no permissions. The
 //! file at the path stays as it was, and no other file is left.
-use command_io::{CommandRefusal, Dumps, FileDumps, Output, write_image_to, write_to};
+use command_io::{CommandRefusal, Files, Output, RuntimeFiles, write_dump_to, write_image_to};
 use comp_dump::{Dump, DumpFault, read_dump};
 use heap_layout::{Counted, LayoutFault, MarkedHeap, read_image};
 use std::alloc::Allocator;
 use std::fs::{self, Metadata, OpenFile, OpenOptions, Permissions};
 use std::io::{Error, ErrorKind, Read, Result as IoResult, Seek, SeekFrom, Write};
 use std::process::Abort;
-use std::rt::Files;
+use std::rt;
 
 // A device whose files each have room for a number of bytes, and which may be unable to rename files or to set
 // permissions.
@@ -80,7 +80,7 @@ impl<F: Read + Write + Seek + OpenFile + Drop> OpenFile for Small<F> {
     }
 }
 
-impl<R: Files> Files for Device<'_, R> {
+impl<R: rt::Files> rt::Files for Device<'_, R> {
     type File = Small<R::File>;
 
     type Dir = R::Dir;
@@ -183,20 +183,20 @@ static ROWS: [Row; 5] = [
 ];
 
 // The bytes at the path, or `None` if there is no file.
-fn bytes_at<R: Files + AllocGlobal>(rt: &R, path: &str) -> Option<Vec<u8>> {
+fn bytes_at<R: rt::Files + AllocGlobal>(rt: &R, path: &str) -> Option<Vec<u8>> {
     fs::read(rt, path).ok()
 }
 
 // Writes the image of this heap to a device, or else a dump.
-fn write<R: Files + AllocGlobal>(
+fn write<R: rt::Files + AllocGlobal>(
     rt: &R,
     dump: &Dump<'_>,
     heap: Option<&MarkedHeap>,
 ) -> Result<(), CommandRefusal> {
-    let mut dumps = FileDumps { rt };
+    let mut files = RuntimeFiles { rt };
     match heap {
-        Some(heap) => write_image_to(&mut dumps, PATH, heap),
-        None => write_to(&mut dumps, PATH, dump),
+        Some(heap) => write_image_to(&mut files, PATH, heap),
+        None => write_dump_to(&mut files, PATH, dump),
     }
 }
 
@@ -212,7 +212,7 @@ fn refused(heap: Option<&MarkedHeap>, created: bool) -> CommandRefusal {
 
 // Writes these bytes to a device. Checks that the path has all of them, or what it had before, and that no file is left
 // beside it.
-fn expect_row<R: Abort + Files + AllocGlobal>(
+fn expect_row<R: Abort + rt::Files + AllocGlobal>(
     rt: &R,
     dump: &Dump<'_>,
     heap: Option<&MarkedHeap>,
@@ -257,7 +257,7 @@ fn expect_row<R: Abort + Files + AllocGlobal>(
 }
 
 // Writes these bytes to each of the devices, over a file and without one.
-fn expect_rows<R: Abort + Files + AllocGlobal>(
+fn expect_rows<R: Abort + rt::Files + AllocGlobal>(
     rt: &R,
     dump: &Dump<'_>,
     heap: Option<&MarkedHeap>,
@@ -270,7 +270,7 @@ fn expect_rows<R: Abort + Files + AllocGlobal>(
 }
 
 // If no file can be renamed, the first flush fails, and so does each later call.
-fn expect_given_up<R: Abort + Files + AllocGlobal>(rt: &R) {
+fn expect_given_up<R: Abort + rt::Files + AllocGlobal>(rt: &R) {
     let device = (
         Device {
             rt,
@@ -280,8 +280,8 @@ fn expect_given_up<R: Abort + Files + AllocGlobal>(rt: &R) {
         },
         rt.alloc(),
     );
-    let mut dumps = FileDumps { rt: &device };
-    let mut file = dumps.create(PATH).expect(rt, "a file");
+    let mut files = RuntimeFiles { rt: &device };
+    let mut file = files.create(Output::Dump, PATH).expect(rt, "a file");
     assert!(rt; file.write(b"whole").is_ok(), "a write");
     assert!(rt; file.flush().is_err(), "a flush");
     assert!(rt; file.flush().is_err(), "a flush behind it");
@@ -290,7 +290,7 @@ fn expect_given_up<R: Abort + Files + AllocGlobal>(rt: &R) {
 }
 
 /// Writes a dump and an image of these bytes to each of the devices.
-pub fn expect_filled<R: Abort + Files + AllocGlobal>(rt: &R, dump: &[u8], image: &[u8]) {
+pub fn expect_filled<R: Abort + rt::Files + AllocGlobal>(rt: &R, dump: &[u8], image: &[u8]) {
     // An earlier run of this test that was killed may have left its files.
     let _ = fs::remove_file(rt, PART);
     let _ = fs::remove_file(rt, PATH);

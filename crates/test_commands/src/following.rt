@@ -40,10 +40,8 @@ const NEW_IMAGE: [Part; 6] = [
 ];
 
 // Writes the new image as a row says.
-fn write_next<'a>(
+fn write_next(
     rt: &(impl AllocGlobal + Threads + Sync),
-    images: &Memory<'a>,
-    texts: &Memory<'a>,
     row: &Row,
     place: &mut Place,
     out: &mut Narrow,
@@ -57,7 +55,7 @@ fn write_next<'a>(
         fresh: 2,
     };
     let mut counted = Counted::new(&mut *out);
-    print_next(rt.alloc(), rt, images, texts, place, asked, &mut counted)
+    print_next(rt.alloc(), rt, place, asked, &mut counted)
 }
 
 // Checks a row.
@@ -66,6 +64,7 @@ fn expect_row(rt: &(impl Abort + AllocGlobal + Threads + Sync), memory: &Memory,
     let mut written = Vec::new(rt.alloc());
     let mut printed = Vec::new(rt.alloc());
     let mut place = Place {
+        files: memory.files,
         writer: Some(Narrow {
             taken: &mut written,
             room: row.room,
@@ -79,7 +78,7 @@ fn expect_row(rt: &(impl Abort + AllocGlobal + Threads + Sync), memory: &Memory,
         at_once: usize::MAX,
         failure: Failure::TakesNone,
     };
-    let answer = write_next(rt, memory, memory, row, &mut place, &mut out);
+    let answer = write_next(rt, row, &mut place, &mut out);
     let created = place.writer.is_none();
     assert!(rt; answer == row.answer, "{}: answer", row.name);
     assert!(rt;

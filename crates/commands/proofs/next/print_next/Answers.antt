@@ -19,9 +19,7 @@ pub returns-in_err-inputs-clause-counts : goal.returns-in_err-inputs-clause-coun
 returns-in_err-inputs-clause-counts g c =
     let p = err_from_is_err_and c.from_residual.result c.from_residual.ensures.1 in
     let asked = c.args.asked in
-    rw (p.1, p.2) (inputs_uncounted (g.I.Images.lacks c.args.images.now asked.image.now) (g.I.Images.gives c.args.images.now asked.image.now) g.I.Reader.Read.remaining
-    (g.T.Traces.lacks c.args.traces.now asked.trace.now) (g.T.Traces.gives c.args.traces.now asked.trace.now) g.T.Reader.Read.remaining
-    asked.mutators (failures_of c.args.out.now) _ c.in_err-inputs.ensures.cause)
+    rw (p.1, p.2) (inputs_uncounted (g.F.Files.disk c.args.files.now) asked.image.now asked.trace.now asked.mutators (failures_of c.args.out.now) _ c.in_err-inputs.ensures.cause)
 
 pub returns-in_err-inputs-clause-unprinted : goal.returns-in_err-inputs-clause-unprinted
 returns-in_err-inputs-clause-unprinted g c =
@@ -31,7 +29,7 @@ returns-in_err-inputs-clause-unprinted g c =
 pub returns-in_err-inputs-clause-unmade : goal.returns-in_err-inputs-clause-unmade
 returns-in_err-inputs-clause-unmade g c =
     let p = err_from_is_err_and c.from_residual.result c.from_residual.ensures.1 in
-    rw (p.1, p.2) (unmade c.args.dumps.now _)
+    rw (p.1, p.2) (unmade c.args.files.now _)
 
 -- There are no marks.
 pub returns-in_err-marks-clause-cause : goal.returns-in_err-marks-clause-cause
@@ -44,8 +42,7 @@ returns-in_err-marks-clause-cause g c =
 pub returns-in_err-marks-clause-counts : goal.returns-in_err-marks-clause-counts
 returns-in_err-marks-clause-counts g c =
     let p = err_from_is_err_and c.from_residual-in_err-marks.result c.from_residual-in_err-marks.ensures.1 in
-    let path = c.args.asked.marks.now in
-    rw (p.1, p.2) (marks_uncounted (g.T.Traces.lacks c.args.traces.now path) (g.T.Traces.gives c.args.traces.now path) g.T.Reader.Read.remaining (failures_of c.args.out.now) _ c.in_err-marks.ensures.cause)
+    rw (p.1, p.2) (marks_uncounted (g.F.Files.disk c.args.files.now) c.args.asked.marks.now (failures_of c.args.out.now) _ c.in_err-marks.ensures.cause)
 
 pub returns-in_err-marks-clause-unprinted : goal.returns-in_err-marks-clause-unprinted
 returns-in_err-marks-clause-unprinted g c =
@@ -55,7 +52,7 @@ returns-in_err-marks-clause-unprinted g c =
 pub returns-in_err-marks-clause-unmade : goal.returns-in_err-marks-clause-unmade
 returns-in_err-marks-clause-unmade g c =
     let p = err_from_is_err_and c.from_residual-in_err-marks.result c.from_residual-in_err-marks.ensures.1 in
-    rw (p.1, p.2) (unmade c.args.dumps.now _)
+    rw (p.1, p.2) (unmade c.args.files.now _)
 
 -- All files were read.
 pub write_made-requires-clause-halted : goal.write_made-requires-clause-halted
@@ -70,19 +67,14 @@ returns-clause-made g c =
     let inputs = c.in_ok-inputs.inputs in
     let read = c.in_ok-inputs.ensures in
     let marks = c.in_ok-marks.marks.items in
-    let given = g.I.Images.gives c.args.images.now asked.image.now in
-    let texts = g.T.Traces.gives c.args.traces.now asked.trace.now in
-    let handed = g.T.Traces.gives c.args.traces.now asked.marks.now in
-    let lacks = g.D.Dumps.lacks c.args.dumps.now asked.new.now in
-    let gives = g.D.Dumps.gives c.args.dumps.now asked.new.now in
-    let contents = g.D.Writer.Write.contents in
+    let disk = g.F.Files.disk c.args.files.now in
     let before = g.O.Write.contents (inner_of c.args.out.now).now in
     let after = g.O.Write.contents (inner_of c.write_made.new.out).now in
-    ok_then (Nexts gives contents asked.mutators asked.fresh before after (lines_of inputs.trace) marks inputs.heap)
-    (MakesNext given g.I.Reader.Read.remaining texts handed g.T.Reader.Read.remaining gives contents asked.mutators asked.fresh before after)
+    ok_then (Nexts disk asked before after (lines_of inputs.trace) marks inputs.heap)
+    (MakesNext disk asked before after)
     (λ h. (inputs.heap, read.heap, (lines_of inputs.trace, read.lines, (marks, c.in_ok-marks.ensures.marks, h))))
     c.write_made.result
-    (made_ok lacks gives contents asked.mutators asked.fresh before after (lines_of inputs.trace) marks inputs.heap c.cycle_heap-made.result c.cycle_heap-made.ensures.cycled
+    (made_ok disk asked before after (lines_of inputs.trace) marks inputs.heap c.cycle_heap-made.result c.cycle_heap-made.ensures.cycled
     c.write_made.result c.write_made.ensures.done)
 
 pub returns-clause-cause : goal.returns-clause-cause
@@ -91,16 +83,11 @@ returns-clause-cause g c =
     let inputs = c.in_ok-inputs.inputs in
     let read = c.in_ok-inputs.ensures in
     let marks = c.in_ok-marks.marks.items in
-    let lacks = g.D.Dumps.lacks c.args.dumps.now asked.new.now in
-    let gives = g.D.Dumps.gives c.args.dumps.now asked.new.now in
-    let contents = g.D.Writer.Write.contents in
+    let disk = g.F.Files.disk c.args.files.now in
     let before = g.O.Write.contents (inner_of c.args.out.now).now in
     let after = g.O.Write.contents (inner_of c.write_made.new.out).now in
-    err_then (RefusesWriting lacks gives contents before after c.cycle_heap-made.result)
-    (RefusesNext (g.I.Images.lacks c.args.images.now asked.image.now) (g.I.Images.gives c.args.images.now asked.image.now) g.I.Reader.Read.remaining
-    (g.T.Traces.lacks c.args.traces.now asked.trace.now) (g.T.Traces.gives c.args.traces.now asked.trace.now)
-    (g.T.Traces.lacks c.args.traces.now asked.marks.now) (g.T.Traces.gives c.args.traces.now asked.marks.now) g.T.Reader.Read.remaining
-    lacks gives contents asked.mutators asked.fresh before after)
+    err_then (RefusesWriting disk asked.new.now before after c.cycle_heap-made.result)
+    (RefusesNext disk asked before after)
     (λ refusal h. inr (inr (
       inputs.heap,
       read.heap,
@@ -110,7 +97,7 @@ returns-clause-cause g c =
         (
           marks,
           c.in_ok-marks.ensures.marks,
-          made_err lacks gives contents asked.mutators asked.fresh before after (lines_of inputs.trace) marks inputs.heap c.cycle_heap-made.result
+          made_err disk asked before after (lines_of inputs.trace) marks inputs.heap c.cycle_heap-made.result
               c.cycle_heap-made.ensures.cycled c.cycle_heap-made.ensures.halted refusal h,
         ),
       ),

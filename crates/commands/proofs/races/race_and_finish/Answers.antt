@@ -1,7 +1,5 @@
 use Rattle.std.proofs.Common.{◌<◌, List, All, length, refl, sym, subst, ap, ◌∙◌}
-use Rattle.comp_mutator.specs.Unfinished.{IsUnfinishedFor}
 use Rattle.comp_mutator.specs.Mutators.{setup_of}
-use Rattle.comp_mutator.specs.declared.finishing.FinishFault.{FinishFault}
 use Rattle.comp_mutator.specs.Lists.{Each}
 use Rattle.comp_trace.specs.Traces.{lines_of}
 use Rattle.comp_trace.specs.Line.{Line}
@@ -30,13 +28,8 @@ by_line-shown-requires-clause-inside g c =
     subst (λ (ls : List Line). All (λ (line : Line). line.mutator < length c.deref-runs.result.now) ls) (sym c.lines-lines.ensures.lines)
     (all_inside u.mutators (length u.heap.roots) (length c.deref-runs.result.now) (lines_of c.args.trace.now) c.requires.read.0 (ap length c.deref-runs.ensures.value ∙ many) c.requires.read.1)
 
-pub unreachable-requires : goal.unreachable-requires
-unreachable-requires g c =
-    let space = c.args.space in
-    let after = c.in-Ok-race.raced.mutators.items in
-    let k = c.in-MutatorMissing.field-0 in
-    let least = subst (λ (fault : FinishFault). IsUnfinishedFor (setup_of space).mutators after fault) c.in-MutatorMissing.is c.in-Err-finish.ensures.fault in
-    least.missing (all_there space after c.in-Ok-race.ensures.raced.all k least.below)
+pub finish_all-requires-clause-all : goal.finish_all-requires-clause-all
+finish_all-requires-clause-all g c = all_there c.args.space c.in-Ok-race.raced.mutators.items c.in-Ok-race.ensures.raced.all
 
 -- A line was refused.
 pub returns-in-Some-clause-halted : goal.returns-in-Some-clause-halted
@@ -48,13 +41,13 @@ returns-in-Some-clause-halted g c =
     shown (subst (λ (runs : List Run). AreByLine runs shown) same c.by_line-shown.ensures) c.in-Some.stop (subst (λ (runs : List Run). IsLeastRefusedLine runs c.in-Some.stop) same c.in-Some.ensures)
 
 -- All lines ran, and the heap was finished.
-pub returns-in-Ok-finish-clause-raced : goal.returns-in-Ok-finish-clause-raced
-returns-in-Ok-finish-clause-raced g c =
+pub returns-in-Ok-finish_all-clause-raced : goal.returns-in-Ok-finish_all-clause-raced
+returns-in-Ok-finish_all-clause-raced g c =
     let space = c.args.space in
     let raced = c.in-Ok-race.raced in
     let shown = c.by_line-shown.result.items in
     let same = c.deref-runs.ensures.value in
     raced_heap space (lines_of c.args.trace.now) c.args.mutators.items raced.mutators.items raced.runs.items c.requires.new c.in-Ok-race.ensures.raced c.requires.compacted
-    shown (subst (λ (runs : List Run). AreByLine runs shown) same c.by_line-shown.ensures) c.in-Ok-finish.finished
+    shown (subst (λ (runs : List Run). AreByLine runs shown) same c.by_line-shown.ensures) c.in-Ok-finish_all.finished
     (subst (λ (runs : List Run). Each runs HasEnded) same c.in-None.ensures)
-    (c.in-Ok-finish.ensures.ordered (all_row space raced.mutators.items c.in-Ok-race.ensures.raced.all))
+    (c.in-Ok-finish_all.ensures.ordered (all_row space raced.mutators.items c.in-Ok-race.ensures.raced.all))

@@ -18,7 +18,7 @@ returns-in_err-trace-clause-cause g c =
     rw (p.1, p.2) (inr (
       c.in_ok-heap.heap,
       c.in_ok-heap.ensures.heap,
-      subst (λ (n : ℕ). RefusesTextAt (g.T.Traces.lacks c.args.traces.now path) (g.T.Traces.gives c.args.traces.now path) g.T.Reader.Read.remaining c.args.mutators n refusal)
+      subst (λ (n : ℕ). RefusesTextAt (g.F.Files.disk c.args.files.now) path c.args.mutators n refusal)
           (ap length c.roots.ensures.roots) c.in_err-trace.ensures.cause,
     ))
 
@@ -27,7 +27,7 @@ returns-clause-heap g c = c.in_ok-heap.ensures.heap
 
 pub returns-clause-lines : goal.returns-clause-lines
 returns-clause-lines g c =
-    some_text (g.T.Traces.gives c.args.traces.now c.args.trace.now) g.T.Reader.Read.remaining c.args.mutators _ (length c.in_ok-heap.heap.roots) (lines_of c.in_ok-trace.trace)
+    some_text (g.F.Files.disk c.args.files.now) c.args.trace.now c.args.mutators _ (length c.in_ok-heap.heap.roots) (lines_of c.in_ok-trace.trace)
     (ap length c.roots.ensures.roots) c.in_ok-trace.ensures.lines
 
 pub returns-clause-counts : goal.returns-clause-counts

@@ -10,20 +10,14 @@ use Rattle.commands.proofs.replay.print_replay.Goals as goal
 pub returns-in_err-inputs-clause-cause : goal.returns-in_err-inputs-clause-cause
 returns-in_err-inputs-clause-cause g c =
     let p = err_from_is_err_and c.from_residual.result c.from_residual.ensures.1 in
-    let paths = c.args.asked in
     let output = g.O.Write.contents (inner_of c.args.out.now).now in
-    rw (p.1, p.2) (of_inputs (g.I.Images.lacks c.args.images.now paths.image.now) (g.I.Images.gives c.args.images.now paths.image.now) g.I.Reader.Read.remaining
-    (g.T.Traces.lacks c.args.traces.now paths.trace.now) (g.T.Traces.gives c.args.traces.now paths.trace.now) g.T.Reader.Read.remaining
-    (g.D.Dumps.lacks c.args.dumps.now paths.dump.now) (g.D.Dumps.gives c.args.dumps.now paths.dump.now) g.D.Writer.Write.contents
-    paths.mutators paths.fresh output output (Keeps-refl output) _ c.in_err-inputs.ensures.cause)
+    rw (p.1, p.2) (of_inputs (g.F.Files.disk c.args.files.now) c.args.asked output output (Keeps-refl output) _ c.in_err-inputs.ensures.cause)
 
 pub returns-in_err-inputs-clause-counts : goal.returns-in_err-inputs-clause-counts
 returns-in_err-inputs-clause-counts g c =
     let p = err_from_is_err_and c.from_residual.result c.from_residual.ensures.1 in
     let paths = c.args.asked in
-    rw (p.1, p.2) (inputs_uncounted (g.I.Images.lacks c.args.images.now paths.image.now) (g.I.Images.gives c.args.images.now paths.image.now) g.I.Reader.Read.remaining
-    (g.T.Traces.lacks c.args.traces.now paths.trace.now) (g.T.Traces.gives c.args.traces.now paths.trace.now) g.T.Reader.Read.remaining
-    paths.mutators (failures_of c.args.out.now) _ c.in_err-inputs.ensures.cause)
+    rw (p.1, p.2) (inputs_uncounted (g.F.Files.disk c.args.files.now) paths.image.now paths.trace.now paths.mutators (failures_of c.args.out.now) _ c.in_err-inputs.ensures.cause)
 
 pub returns-in_err-inputs-clause-unprinted : goal.returns-in_err-inputs-clause-unprinted
 returns-in_err-inputs-clause-unprinted g c =
@@ -33,7 +27,7 @@ returns-in_err-inputs-clause-unprinted g c =
 pub returns-in_err-inputs-clause-uncreated : goal.returns-in_err-inputs-clause-uncreated
 returns-in_err-inputs-clause-uncreated g c =
     let p = err_from_is_err_and c.from_residual.result c.from_residual.ensures.1 in
-    rw (p.1, p.2) (uncreated c.args.dumps.now _)
+    rw (p.1, p.2) (uncreated c.args.files.now _)
 
 pub write_outcome-requires-clause-halted : goal.write_outcome-requires-clause-halted
 write_outcome-requires-clause-halted g c =
@@ -44,23 +38,15 @@ write_outcome-requires-clause-halted g c =
 -- The run was written and printed, or it was not, or it was halted.
 pub returns-clause-replayed : goal.returns-clause-replayed
 returns-clause-replayed g c =
-    let paths = c.args.asked in
     let inputs = c.in_ok-inputs.inputs in
-    of_outcome_ok (g.I.Images.lacks c.args.images.now paths.image.now) (g.I.Images.gives c.args.images.now paths.image.now) g.I.Reader.Read.remaining
-    (g.T.Traces.lacks c.args.traces.now paths.trace.now) (g.T.Traces.gives c.args.traces.now paths.trace.now) g.T.Reader.Read.remaining
-    (g.D.Dumps.lacks c.args.dumps.now paths.dump.now) (g.D.Dumps.gives c.args.dumps.now paths.dump.now) g.D.Writer.Write.contents
-    paths.mutators paths.fresh (g.O.Write.contents (inner_of c.args.out.now).now) (g.O.Write.contents (inner_of c.write_outcome.new.out).now)
+    of_outcome_ok (g.F.Files.disk c.args.files.now) c.args.asked (g.O.Write.contents (inner_of c.args.out.now).now) (g.O.Write.contents (inner_of c.write_outcome.new.out).now)
     inputs.heap c.in_ok-inputs.ensures.heap (lines_of inputs.trace) c.in_ok-inputs.ensures.lines c.replay_heap-ran.result c.replay_heap-ran.ensures.replayed
     c.write_outcome.result c.write_outcome.ensures.done
 
 pub returns-clause-cause : goal.returns-clause-cause
 returns-clause-cause g c =
-    let paths = c.args.asked in
     let inputs = c.in_ok-inputs.inputs in
-    of_outcome_err (g.I.Images.lacks c.args.images.now paths.image.now) (g.I.Images.gives c.args.images.now paths.image.now) g.I.Reader.Read.remaining
-    (g.T.Traces.lacks c.args.traces.now paths.trace.now) (g.T.Traces.gives c.args.traces.now paths.trace.now) g.T.Reader.Read.remaining
-    (g.D.Dumps.lacks c.args.dumps.now paths.dump.now) (g.D.Dumps.gives c.args.dumps.now paths.dump.now) g.D.Writer.Write.contents
-    paths.mutators paths.fresh (g.O.Write.contents (inner_of c.args.out.now).now) (g.O.Write.contents (inner_of c.write_outcome.new.out).now)
+    of_outcome_err (g.F.Files.disk c.args.files.now) c.args.asked (g.O.Write.contents (inner_of c.args.out.now).now) (g.O.Write.contents (inner_of c.write_outcome.new.out).now)
     inputs.heap c.in_ok-inputs.ensures.heap (lines_of inputs.trace) c.in_ok-inputs.ensures.lines c.replay_heap-ran.result c.replay_heap-ran.ensures.replayed c.replay_heap-ran.ensures.halted
     c.write_outcome.result c.write_outcome.ensures.cause
 

@@ -4,18 +4,12 @@ use Rattle.commands.proofs.Performed.{err_by, flushed_task, ok_by, unflushed_tas
 use Rattle.commands.proofs.running.perform.Goals as goal
 
 pub returns-clause-done : goal.returns-clause-done
-returns-clause-done g c = ok_by c.flush.result (flushed_task (g.I.Images.lacks c.args.images.now) (g.I.Images.gives c.args.images.now) g.I.Reader.Read.remaining
-    (g.T.Traces.lacks c.args.traces.now) (g.T.Traces.gives c.args.traces.now) g.T.Reader.Read.remaining
-    (g.D.Dumps.lacks c.args.dumps.now) (g.D.Dumps.gives c.args.dumps.now) g.D.Writer.Write.contents (g.O.Write.contents (inner_of c.args.out.now).now)
+returns-clause-done g c = ok_by c.flush.result (flushed_task (g.F.Files.disk c.args.files.now) (g.O.Write.contents (inner_of c.args.out.now).now)
     (g.O.Write.contents (inner_of c.print_task.new.out).now) (g.O.Write.contents (inner_of c.flush.new.out).now) c.flush.ensures.kept c.args.task c.in_ok-print_task.ensures.done)
 
 pub returns-clause-cause : goal.returns-clause-cause
 returns-clause-cause g c =
     let output = g.O.Write.contents (inner_of c.args.out.now).now in
-    err_by (RefusesTask (g.I.Images.lacks c.args.images.now) (g.I.Images.gives c.args.images.now) g.I.Reader.Read.remaining
-    (g.T.Traces.lacks c.args.traces.now) (g.T.Traces.gives c.args.traces.now) g.T.Reader.Read.remaining
-    (g.D.Dumps.lacks c.args.dumps.now) (g.D.Dumps.gives c.args.dumps.now) g.D.Writer.Write.contents output (g.O.Write.contents (inner_of c.flush.new.out).now) c.args.task)
-    c.flush.result c.flush.ensures.cause (unflushed_task (g.I.Images.lacks c.args.images.now) (g.I.Images.gives c.args.images.now) g.I.Reader.Read.remaining
-    (g.T.Traces.lacks c.args.traces.now) (g.T.Traces.gives c.args.traces.now) g.T.Reader.Read.remaining
-    (g.D.Dumps.lacks c.args.dumps.now) (g.D.Dumps.gives c.args.dumps.now) g.D.Writer.Write.contents output (g.O.Write.contents (inner_of c.print_task.new.out).now)
+    err_by (RefusesTask (g.F.Files.disk c.args.files.now) output (g.O.Write.contents (inner_of c.flush.new.out).now) c.args.task)
+    c.flush.result c.flush.ensures.cause (unflushed_task (g.F.Files.disk c.args.files.now) output (g.O.Write.contents (inner_of c.print_task.new.out).now)
     (g.O.Write.contents (inner_of c.flush.new.out).now) c.args.task c.in_ok-print_task.ensures.done)

@@ -8,100 +8,65 @@ use Rattle.commands.proofs.running.print_task.Goals as goal
 
 pub returns-in-Plan-clause-done : goal.returns-in-Plan-clause-done
 returns-in-Plan-clause-done g c =
-    subst (λ (task : Task). OnOk c.print_plan.result (DoesTask (g.I.Images.gives c.args.images.now) g.I.Reader.Read.remaining (g.T.Traces.gives c.args.traces.now) g.T.Reader.Read.remaining
-    (g.D.Dumps.gives c.args.dumps.now) g.D.Writer.Write.contents
-    (g.O.Write.contents (inner_of c.args.out.now).now) (g.O.Write.contents (inner_of c.print_plan.new.out).now) task)) (sym c.in-Plan.is) c.print_plan.ensures.printed
+    subst (λ (task : Task). OnOk c.print_plan.result (DoesTask (g.F.Files.disk c.args.files.now) (g.O.Write.contents (inner_of c.args.out.now).now) (g.O.Write.contents (inner_of c.print_plan.new.out).now) task)) (sym c.in-Plan.is) c.print_plan.ensures.printed
 
 pub returns-in-Plan-clause-cause : goal.returns-in-Plan-clause-cause
 returns-in-Plan-clause-cause g c =
-    subst (λ (task : Task). IfErr c.print_plan.result (RefusesTask (g.I.Images.lacks c.args.images.now) (g.I.Images.gives c.args.images.now) g.I.Reader.Read.remaining
-    (g.T.Traces.lacks c.args.traces.now) (g.T.Traces.gives c.args.traces.now) g.T.Reader.Read.remaining
-    (g.D.Dumps.lacks c.args.dumps.now) (g.D.Dumps.gives c.args.dumps.now) g.D.Writer.Write.contents
-    (g.O.Write.contents (inner_of c.args.out.now).now) (g.O.Write.contents (inner_of c.print_plan.new.out).now) task)) (sym c.in-Plan.is) c.print_plan.ensures.cause
+    subst (λ (task : Task). IfErr c.print_plan.result (RefusesTask (g.F.Files.disk c.args.files.now) (g.O.Write.contents (inner_of c.args.out.now).now) (g.O.Write.contents (inner_of c.print_plan.new.out).now) task)) (sym c.in-Plan.is) c.print_plan.ensures.cause
 
 pub returns-in-Word-clause-done : goal.returns-in-Word-clause-done
 returns-in-Word-clause-done g c =
-    subst (λ (task : Task). OnOk c.print_word.result (DoesTask (g.I.Images.gives c.args.images.now) g.I.Reader.Read.remaining (g.T.Traces.gives c.args.traces.now) g.T.Reader.Read.remaining
-    (g.D.Dumps.gives c.args.dumps.now) g.D.Writer.Write.contents
-    (g.O.Write.contents (inner_of c.args.out.now).now) (g.O.Write.contents (inner_of c.print_word.new.out).now) task)) (sym c.in-Word.is) c.print_word.ensures.printed
+    subst (λ (task : Task). OnOk c.print_word.result (DoesTask (g.F.Files.disk c.args.files.now) (g.O.Write.contents (inner_of c.args.out.now).now) (g.O.Write.contents (inner_of c.print_word.new.out).now) task)) (sym c.in-Word.is) c.print_word.ensures.printed
 
 pub returns-in-Word-clause-cause : goal.returns-in-Word-clause-cause
 returns-in-Word-clause-cause g c =
-    subst (λ (task : Task). IfErr c.print_word.result (RefusesTask (g.I.Images.lacks c.args.images.now) (g.I.Images.gives c.args.images.now) g.I.Reader.Read.remaining
-    (g.T.Traces.lacks c.args.traces.now) (g.T.Traces.gives c.args.traces.now) g.T.Reader.Read.remaining
-    (g.D.Dumps.lacks c.args.dumps.now) (g.D.Dumps.gives c.args.dumps.now) g.D.Writer.Write.contents
-    (g.O.Write.contents (inner_of c.args.out.now).now) (g.O.Write.contents (inner_of c.print_word.new.out).now) task)) (sym c.in-Word.is) c.print_word.ensures.cause
+    subst (λ (task : Task). IfErr c.print_word.result (RefusesTask (g.F.Files.disk c.args.files.now) (g.O.Write.contents (inner_of c.args.out.now).now) (g.O.Write.contents (inner_of c.print_word.new.out).now) task)) (sym c.in-Word.is) c.print_word.ensures.cause
 
 pub returns-in-Replay-clause-done : goal.returns-in-Replay-clause-done
 returns-in-Replay-clause-done g c =
-    subst (λ (task : Task). OnOk c.print_replay.result (DoesTask (g.I.Images.gives c.args.images.now) g.I.Reader.Read.remaining (g.T.Traces.gives c.args.traces.now) g.T.Reader.Read.remaining
-    (g.D.Dumps.gives c.args.dumps.now) g.D.Writer.Write.contents
-    (g.O.Write.contents (inner_of c.args.out.now).now) (g.O.Write.contents (inner_of c.print_replay.new.out).now) task)) (sym c.in-Replay.is) c.print_replay.ensures.replayed
+    subst (λ (task : Task). OnOk c.print_replay.result (DoesTask (g.F.Files.disk c.args.files.now) (g.O.Write.contents (inner_of c.args.out.now).now) (g.O.Write.contents (inner_of c.print_replay.new.out).now) task)) (sym c.in-Replay.is) c.print_replay.ensures.replayed
 
 pub returns-in-Replay-clause-cause : goal.returns-in-Replay-clause-cause
 returns-in-Replay-clause-cause g c =
-    subst (λ (task : Task). IfErr c.print_replay.result (RefusesTask (g.I.Images.lacks c.args.images.now) (g.I.Images.gives c.args.images.now) g.I.Reader.Read.remaining
-    (g.T.Traces.lacks c.args.traces.now) (g.T.Traces.gives c.args.traces.now) g.T.Reader.Read.remaining
-    (g.D.Dumps.lacks c.args.dumps.now) (g.D.Dumps.gives c.args.dumps.now) g.D.Writer.Write.contents
-    (g.O.Write.contents (inner_of c.args.out.now).now) (g.O.Write.contents (inner_of c.print_replay.new.out).now) task)) (sym c.in-Replay.is) c.print_replay.ensures.cause
+    subst (λ (task : Task). IfErr c.print_replay.result (RefusesTask (g.F.Files.disk c.args.files.now) (g.O.Write.contents (inner_of c.args.out.now).now) (g.O.Write.contents (inner_of c.print_replay.new.out).now) task)) (sym c.in-Replay.is) c.print_replay.ensures.cause
 
 pub returns-in-Replay-clause-unprinted : goal.returns-in-Replay-clause-unprinted
 returns-in-Replay-clause-unprinted g c = c.print_replay.ensures.unprinted
 
 pub returns-in-Race-clause-done : goal.returns-in-Race-clause-done
 returns-in-Race-clause-done g c =
-    subst (λ (task : Task). OnOk c.print_race.result (DoesTask (g.I.Images.gives c.args.images.now) g.I.Reader.Read.remaining (g.T.Traces.gives c.args.traces.now) g.T.Reader.Read.remaining
-    (g.D.Dumps.gives c.args.dumps.now) g.D.Writer.Write.contents
-    (g.O.Write.contents (inner_of c.args.out.now).now) (g.O.Write.contents (inner_of c.print_race.new.out).now) task)) (sym c.in-Race.is) c.print_race.ensures.raced
+    subst (λ (task : Task). OnOk c.print_race.result (DoesTask (g.F.Files.disk c.args.files.now) (g.O.Write.contents (inner_of c.args.out.now).now) (g.O.Write.contents (inner_of c.print_race.new.out).now) task)) (sym c.in-Race.is) c.print_race.ensures.raced
 
 pub returns-in-Race-clause-cause : goal.returns-in-Race-clause-cause
 returns-in-Race-clause-cause g c =
-    subst (λ (task : Task). IfErr c.print_race.result (RefusesTask (g.I.Images.lacks c.args.images.now) (g.I.Images.gives c.args.images.now) g.I.Reader.Read.remaining
-    (g.T.Traces.lacks c.args.traces.now) (g.T.Traces.gives c.args.traces.now) g.T.Reader.Read.remaining
-    (g.D.Dumps.lacks c.args.dumps.now) (g.D.Dumps.gives c.args.dumps.now) g.D.Writer.Write.contents
-    (g.O.Write.contents (inner_of c.args.out.now).now) (g.O.Write.contents (inner_of c.print_race.new.out).now) task)) (sym c.in-Race.is) c.print_race.ensures.cause
+    subst (λ (task : Task). IfErr c.print_race.result (RefusesTask (g.F.Files.disk c.args.files.now) (g.O.Write.contents (inner_of c.args.out.now).now) (g.O.Write.contents (inner_of c.print_race.new.out).now) task)) (sym c.in-Race.is) c.print_race.ensures.cause
 
 pub returns-in-Race-clause-unprinted : goal.returns-in-Race-clause-unprinted
 returns-in-Race-clause-unprinted g c = c.print_race.ensures.unprinted
 
 pub returns-in-Compact-clause-done : goal.returns-in-Compact-clause-done
 returns-in-Compact-clause-done g c =
-    subst (λ (task : Task). OnOk c.print_compact.result (DoesTask (g.I.Images.gives c.args.images.now) g.I.Reader.Read.remaining (g.T.Traces.gives c.args.traces.now) g.T.Reader.Read.remaining
-    (g.D.Dumps.gives c.args.dumps.now) g.D.Writer.Write.contents
-    (g.O.Write.contents (inner_of c.args.out.now).now) (g.O.Write.contents (inner_of c.print_compact.new.out).now) task)) (sym c.in-Compact.is) c.print_compact.ensures.compacted
+    subst (λ (task : Task). OnOk c.print_compact.result (DoesTask (g.F.Files.disk c.args.files.now) (g.O.Write.contents (inner_of c.args.out.now).now) (g.O.Write.contents (inner_of c.print_compact.new.out).now) task)) (sym c.in-Compact.is) c.print_compact.ensures.compacted
 
 pub returns-in-Compact-clause-cause : goal.returns-in-Compact-clause-cause
 returns-in-Compact-clause-cause g c =
-    subst (λ (task : Task). IfErr c.print_compact.result (RefusesTask (g.I.Images.lacks c.args.images.now) (g.I.Images.gives c.args.images.now) g.I.Reader.Read.remaining
-    (g.T.Traces.lacks c.args.traces.now) (g.T.Traces.gives c.args.traces.now) g.T.Reader.Read.remaining
-    (g.D.Dumps.lacks c.args.dumps.now) (g.D.Dumps.gives c.args.dumps.now) g.D.Writer.Write.contents
-    (g.O.Write.contents (inner_of c.args.out.now).now) (g.O.Write.contents (inner_of c.print_compact.new.out).now) task)) (sym c.in-Compact.is) c.print_compact.ensures.cause
+    subst (λ (task : Task). IfErr c.print_compact.result (RefusesTask (g.F.Files.disk c.args.files.now) (g.O.Write.contents (inner_of c.args.out.now).now) (g.O.Write.contents (inner_of c.print_compact.new.out).now) task)) (sym c.in-Compact.is) c.print_compact.ensures.cause
 
 pub returns-in-Audit-clause-done : goal.returns-in-Audit-clause-done
 returns-in-Audit-clause-done g c =
-    subst (λ (task : Task). OnOk c.print_audit.result (DoesTask (g.I.Images.gives c.args.images.now) g.I.Reader.Read.remaining (g.T.Traces.gives c.args.traces.now) g.T.Reader.Read.remaining
-    (g.D.Dumps.gives c.args.dumps.now) g.D.Writer.Write.contents
-    (g.O.Write.contents (inner_of c.args.out.now).now) (g.O.Write.contents (inner_of c.print_audit.new.out).now) task)) (sym c.in-Audit.is) c.print_audit.ensures.passed
+    subst (λ (task : Task). OnOk c.print_audit.result (DoesTask (g.F.Files.disk c.args.files.now) (g.O.Write.contents (inner_of c.args.out.now).now) (g.O.Write.contents (inner_of c.print_audit.new.out).now) task)) (sym c.in-Audit.is) c.print_audit.ensures.passed
 
 pub returns-in-Audit-clause-cause : goal.returns-in-Audit-clause-cause
 returns-in-Audit-clause-cause g c =
-    subst (λ (task : Task). IfErr c.print_audit.result (RefusesTask (g.I.Images.lacks c.args.images.now) (g.I.Images.gives c.args.images.now) g.I.Reader.Read.remaining
-    (g.T.Traces.lacks c.args.traces.now) (g.T.Traces.gives c.args.traces.now) g.T.Reader.Read.remaining
-    (g.D.Dumps.lacks c.args.dumps.now) (g.D.Dumps.gives c.args.dumps.now) g.D.Writer.Write.contents
-    (g.O.Write.contents (inner_of c.args.out.now).now) (g.O.Write.contents (inner_of c.print_audit.new.out).now) task)) (sym c.in-Audit.is) c.print_audit.ensures.cause
+    subst (λ (task : Task). IfErr c.print_audit.result (RefusesTask (g.F.Files.disk c.args.files.now) (g.O.Write.contents (inner_of c.args.out.now).now) (g.O.Write.contents (inner_of c.print_audit.new.out).now) task)) (sym c.in-Audit.is) c.print_audit.ensures.cause
 
 pub returns-in-Next-clause-done : goal.returns-in-Next-clause-done
 returns-in-Next-clause-done g c =
-    subst (λ (task : Task). OnOk c.print_next.result (DoesTask (g.I.Images.gives c.args.images.now) g.I.Reader.Read.remaining (g.T.Traces.gives c.args.traces.now) g.T.Reader.Read.remaining
-    (g.D.Dumps.gives c.args.dumps.now) g.D.Writer.Write.contents
-    (g.O.Write.contents (inner_of c.args.out.now).now) (g.O.Write.contents (inner_of c.print_next.new.out).now) task)) (sym c.in-Next.is) c.print_next.ensures.made
+    subst (λ (task : Task). OnOk c.print_next.result (DoesTask (g.F.Files.disk c.args.files.now) (g.O.Write.contents (inner_of c.args.out.now).now) (g.O.Write.contents (inner_of c.print_next.new.out).now) task)) (sym c.in-Next.is) c.print_next.ensures.made
 
 pub returns-in-Next-clause-cause : goal.returns-in-Next-clause-cause
 returns-in-Next-clause-cause g c =
-    subst (λ (task : Task). IfErr c.print_next.result (RefusesTask (g.I.Images.lacks c.args.images.now) (g.I.Images.gives c.args.images.now) g.I.Reader.Read.remaining
-    (g.T.Traces.lacks c.args.traces.now) (g.T.Traces.gives c.args.traces.now) g.T.Reader.Read.remaining
-    (g.D.Dumps.lacks c.args.dumps.now) (g.D.Dumps.gives c.args.dumps.now) g.D.Writer.Write.contents
-    (g.O.Write.contents (inner_of c.args.out.now).now) (g.O.Write.contents (inner_of c.print_next.new.out).now) task)) (sym c.in-Next.is) c.print_next.ensures.cause
+    subst (λ (task : Task). IfErr c.print_next.result (RefusesTask (g.F.Files.disk c.args.files.now) (g.O.Write.contents (inner_of c.args.out.now).now) (g.O.Write.contents (inner_of c.print_next.new.out).now) task)) (sym c.in-Next.is) c.print_next.ensures.cause
 
 pub returns-in-Next-clause-unprinted : goal.returns-in-Next-clause-unprinted
 returns-in-Next-clause-unprinted g c = c.print_next.ensures.unprinted
@@ -114,20 +79,14 @@ returns-in-Next-clause-same_writer g c = c.print_next.ensures.same_writer
 
 pub returns-in-Help-clause-cause : goal.returns-in-Help-clause-cause
 returns-in-Help-clause-cause g c =
-    subst (λ (task : Task). IfErr c.print_help.result (RefusesTask (g.I.Images.lacks c.args.images.now) (g.I.Images.gives c.args.images.now) g.I.Reader.Read.remaining
-    (g.T.Traces.lacks c.args.traces.now) (g.T.Traces.gives c.args.traces.now) g.T.Reader.Read.remaining
-    (g.D.Dumps.lacks c.args.dumps.now) (g.D.Dumps.gives c.args.dumps.now) g.D.Writer.Write.contents
-    (g.O.Write.contents (inner_of c.args.out.now).now) (g.O.Write.contents (inner_of c.print_help.new.out).now) task)) (sym c.in-Help.is) (err_by _ c.print_help.result c.print_help.ensures.cause refl)
+    subst (λ (task : Task). IfErr c.print_help.result (RefusesTask (g.F.Files.disk c.args.files.now) (g.O.Write.contents (inner_of c.args.out.now).now) (g.O.Write.contents (inner_of c.print_help.new.out).now) task)) (sym c.in-Help.is) (err_by _ c.print_help.result c.print_help.ensures.cause refl)
 
 pub returns-in-Help-clause-unprinted : goal.returns-in-Help-clause-unprinted
 returns-in-Help-clause-unprinted g c = unprinted_line _ _ c.print_help.result c.print_help.ensures.cause
 
 pub returns-in-Version-clause-cause : goal.returns-in-Version-clause-cause
 returns-in-Version-clause-cause g c =
-    subst (λ (task : Task). IfErr c.print_text.result (RefusesTask (g.I.Images.lacks c.args.images.now) (g.I.Images.gives c.args.images.now) g.I.Reader.Read.remaining
-    (g.T.Traces.lacks c.args.traces.now) (g.T.Traces.gives c.args.traces.now) g.T.Reader.Read.remaining
-    (g.D.Dumps.lacks c.args.dumps.now) (g.D.Dumps.gives c.args.dumps.now) g.D.Writer.Write.contents
-    (g.O.Write.contents (inner_of c.args.out.now).now) (g.O.Write.contents (inner_of c.print_text.new.out).now) task)) (sym c.in-Version.is) (err_by _ c.print_text.result c.print_text.ensures.cause refl)
+    subst (λ (task : Task). IfErr c.print_text.result (RefusesTask (g.F.Files.disk c.args.files.now) (g.O.Write.contents (inner_of c.args.out.now).now) (g.O.Write.contents (inner_of c.print_text.new.out).now) task)) (sym c.in-Version.is) (err_by _ c.print_text.result c.print_text.ensures.cause refl)
 
 pub returns-in-Version-clause-unprinted : goal.returns-in-Version-clause-unprinted
 returns-in-Version-clause-unprinted g c = unprinted_line _ _ c.print_text.result c.print_text.ensures.cause

@@ -13,9 +13,7 @@ returns-in-Ok-clause-status g c = reported_within c.perform.result c.reported.re
 
 pub returns-in-Ok-clause-done : goal.returns-in-Ok-clause-done
 returns-in-Ok-clause-done g c = λ zero.
-    subst (λ (asked : Result Task Error). Answers (g.I.Images.gives c.args.images.now) g.I.Reader.Read.remaining (g.T.Traces.gives c.args.traces.now) g.T.Reader.Read.remaining
-    (g.D.Dumps.gives c.args.dumps.now) g.D.Writer.Write.contents
-    (g.O.Write.contents (inner_of c.args.out.now).now) (g.O.Write.contents (inner_of c.perform.new.out).now) asked) (sym c.in-Ok.is)
+    subst (λ (asked : Result Task Error). Answers (g.F.Files.disk c.args.files.now) (g.O.Write.contents (inner_of c.args.out.now).now) (g.O.Write.contents (inner_of c.perform.new.out).now) asked) (sym c.in-Ok.is)
     (reported_done c.perform.result c.reported.result _ c.reported.ensures.refused c.perform.ensures.done zero)
 
 pub returns-in-Ok-clause-flushed : goal.returns-in-Ok-clause-flushed
@@ -23,15 +21,9 @@ returns-in-Ok-clause-flushed g c = reported_done c.perform.result c.reported.res
 
 pub returns-in-Ok-clause-refused : goal.returns-in-Ok-clause-refused
 returns-in-Ok-clause-refused g c = λ one.
-    subst (λ (asked : Result Task Error). IsRefused (g.I.Images.lacks c.args.images.now) (g.I.Images.gives c.args.images.now) g.I.Reader.Read.remaining
-    (g.T.Traces.lacks c.args.traces.now) (g.T.Traces.gives c.args.traces.now) g.T.Reader.Read.remaining
-    (g.D.Dumps.lacks c.args.dumps.now) (g.D.Dumps.gives c.args.dumps.now) g.D.Writer.Write.contents
-    (failures_of c.args.out.now) (failures_of c.perform.new.out) (g.O.Write.contents (inner_of c.args.out.now).now) (g.O.Write.contents (inner_of c.perform.new.out).now) asked) (sym c.in-Ok.is)
+    subst (λ (asked : Result Task Error). IsRefused (g.F.Files.disk c.args.files.now) (failures_of c.args.out.now) (failures_of c.perform.new.out) (g.O.Write.contents (inner_of c.args.out.now).now) (g.O.Write.contents (inner_of c.perform.new.out).now) asked) (sym c.in-Ok.is)
     (reported_refused c.perform.result c.reported.result (failures_of c.args.out.now) (failures_of c.perform.new.out) (g.O.Write.contents (inner_of c.args.out.now).now) (g.O.Write.contents (inner_of c.perform.new.out).now)
-    (RefusesTask (g.I.Images.lacks c.args.images.now) (g.I.Images.gives c.args.images.now) g.I.Reader.Read.remaining
-    (g.T.Traces.lacks c.args.traces.now) (g.T.Traces.gives c.args.traces.now) g.T.Reader.Read.remaining
-    (g.D.Dumps.lacks c.args.dumps.now) (g.D.Dumps.gives c.args.dumps.now) g.D.Writer.Write.contents
-    (g.O.Write.contents (inner_of c.args.out.now).now) (g.O.Write.contents (inner_of c.perform.new.out).now) c.in-Ok.task)
+    (RefusesTask (g.F.Files.disk c.args.files.now) (g.O.Write.contents (inner_of c.args.out.now).now) (g.O.Write.contents (inner_of c.perform.new.out).now) c.in-Ok.task)
     c.reported.ensures.done c.perform.ensures.cause c.perform.ensures.counts c.perform.ensures.unprinted one)
 
 pub returns-in-Ok-clause-wrong : goal.returns-in-Ok-clause-wrong

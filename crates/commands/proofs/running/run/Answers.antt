@@ -8,7 +8,7 @@ pub returns-clause-done : goal.returns-clause-done
 returns-clause-done g c = λ zero.
     let words : c.deref.result.now ≡ c.args.words.items = search rules in
     let asks = subst (λ (xs : List (String Global)). IfOk c.read_task-asked.result (Asks (map string_bytes xs))) words c.read_task-asked.ensures.asked in
-    let h = answered _ _ _ _ _ _ _ _ (map string_bytes c.args.words.items) _ asks (c.respond.ensures.done zero) in
+    let h = answered _ _ _ (map string_bytes c.args.words.items) _ asks (c.respond.ensures.done zero) in
     let inner = c.new-out.ensures.inner in
     let begun = rw inner at h in
     let same = c.respond.ensures.same_writer in

@@ -4,22 +4,19 @@ use Rattle.comp_audit.specs.declared.verdict.Verdict.{Verdict}
 use Rattle.comp_audit.specs.declared.verdict.Verdict.TheVariants.{No}
 use Rattle.commands.specs.Audits.{HasPassed}
 use Rattle.commands.proofs.Audited.{of_both}
-use Rattle.commands.proofs.audit.audited_at.Goals as goal
+use Rattle.commands.proofs.audit.audited_words.Goals as goal
 
 pub returns-in-Yes-clause-passed : goal.returns-in-Yes-clause-passed
 returns-in-Yes-clause-passed g c =
-    let gives = g.I.Images.gives c.args.images.now in
     let heap = c.in_ok-heap.heap in
     let dump = c.in_ok-judged.judged in
     let yes = subst (λ (v : Verdict). Judges (faults heap dump) v) c.in-Yes.is c.in_ok-verdict_of.ensures.verdict in
-    of_both (gives c.args.image.now) (gives c.args.dump.now) g.I.Reader.Read.remaining heap c.in_ok-heap.ensures.heap dump c.in_ok-judged.ensures.dump (HasPassed c.live_words.result)
+    of_both (g.F.Files.disk c.args.files.now) c.args.image.now c.args.dump.now heap c.in_ok-heap.ensures.heap dump c.in_ok-judged.ensures.dump (HasPassed c.live_words.result)
     (record { judged = yes; total = c.live_words.ensures.total })
 
 pub returns-clause-cause : goal.returns-clause-cause
 returns-clause-cause g c =
-    let gives = g.I.Images.gives c.args.images.now in
     let heap = c.in_ok-heap.heap in
     let dump = c.in_ok-judged.judged in
     let no = subst (λ (v : Verdict). Judges (faults heap dump) v) c.in-No.is c.in_ok-verdict_of.ensures.verdict in
-    of_both (gives c.args.image.now) (gives c.args.dump.now) g.I.Reader.Read.remaining heap c.in_ok-heap.ensures.heap dump c.in_ok-judged.ensures.dump
-    (λ h d. Judges (faults h d) (No c.in-No.fault)) no
+    of_both (g.F.Files.disk c.args.files.now) c.args.image.now c.args.dump.now heap c.in_ok-heap.ensures.heap dump c.in_ok-judged.ensures.dump (λ h d. Judges (faults h d) (No c.in-No.fault)) no

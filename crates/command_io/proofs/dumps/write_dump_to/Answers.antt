@@ -1,0 +1,18 @@
+use Rattle.std.proofs.lemmas.Result.{err_from_is_err_and}
+use Rattle.comp_dump.specs.DumpEncoding.{dump_bytes}
+use Rattle.command_io.specs.declared.refusal.Output.TheVariants as outputs
+use Rattle.command_io.proofs.Written.{cut_off, whole}
+use Rattle.command_io.proofs.dumps.write_dump_to.Goals as goal
+
+pub returns-in_err-write_flushed-clause-cause : goal.returns-in_err-write_flushed-clause-cause
+returns-in_err-write_flushed-clause-cause g c =
+    let p = err_from_is_err_and c.from_residual-in_err-write_flushed.result c.from_residual-in_err-write_flushed.ensures.1 in
+    let failed = c.in_err-write_flushed.ensures in
+    rw (p.1, p.2) (cut_off (g.F.Files.disk c.args.files.now) g.F.Writer.Write.contents (g.met.F.Files.contents_are c.args.files.now) c.args.path.now (dump_bytes c.args.dump.now)
+    c.in_ok-create.field-0 c.new-w.result c.write_flushed.new.w c.new-w.ensures.inner c.new-w.ensures.none c.in_ok-create.ensures.given _ failed.cause failed.writes failed.counts)
+
+pub returns-clause-written : goal.returns-clause-written
+returns-clause-written g c =
+    let done = c.in_ok-write_flushed.ensures in
+    whole (g.F.Files.disk c.args.files.now) g.F.Writer.Write.contents (g.met.F.Files.contents_are c.args.files.now) outputs.Dump c.args.path.now (dump_bytes c.args.dump.now)
+    c.in_ok-create.field-0 c.new-w.result c.write_flushed.new.w c.in_ok-create.ensures.given c.new-w.ensures.inner c.new-w.ensures.none done.writes done.counts done.flushed

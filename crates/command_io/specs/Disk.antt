@@ -1,0 +1,56 @@
+-- What is known of the files that a command reads and makes.
+use Rattle.std.specs.Prelude.{◌≡◌, ℕ, List, Option, true}
+use Rattle.std.specs.Io.KnownBytes.{Appends}
+use Rattle.heap_layout.specs.Counted.{failures_of, inner_of, is_flushed_of}
+use Rattle.heap_layout.specs.declared.counted.Counted.{Counted}
+use Rattle.heap_layout.specs.Writing.{AppendsSome}
+use Rattle.command_io.specs.declared.refusal.Input.{Input}
+use Rattle.command_io.specs.declared.refusal.Output.{Output}
+use Rattle.command_io.specs.declared.refusal.CommandRefusal.{CommandRefusal}
+use Rattle.command_io.specs.declared.refusal.CommandRefusal.TheVariants.{CannotCreate, CannotOpen, OutOfMemory}
+
+-- What is known of files of each kind, by their paths. Their writers are of the type W.
+pub record Disk (W : Type 0) : Type 1 where
+  -- a file that can be read at this path has these bytes, if they are known
+  pub holds : Input → List ℕ → Option (List ℕ) → Type 0
+  -- no file can be opened at this path
+  pub lacks : Input → List ℕ → Type 0
+  -- a file that is created at this path is written by this writer
+  pub makes : Output → List ℕ → W → Type 0
+  -- no file can be created at this path
+  pub bars : Output → List ℕ → Type 0
+  -- what a writer has taken, if it is known
+  pub contents : W → Option (List ℕ)
+
+-- P holds of the bytes of some file that can be read at the path
+abbrev pub SomeFile : {W : Type 0} → Disk W → Input → List ℕ → (Option (List ℕ) → Type 0) → Type 0
+SomeFile disk input path P = (known : Option (List ℕ)) × disk.holds input path known × P known
+
+-- why this file could not be opened: there is none, as `lacks` says, or memory ran out
+abbrev pub IsOfOpening : Input → Type 0 → CommandRefusal → Type 0
+IsOfOpening input lacks (CannotOpen named) = (named ≡ input) × lacks
+IsOfOpening input lacks OutOfMemory = Unit {0}
+IsOfOpening input lacks _ = ⊥
+
+-- why this file could not be created: there is no place for it, as `bars` says, or memory ran out
+abbrev pub IsOfCreating : Output → Type 0 → CommandRefusal → Type 0
+IsOfCreating output bars (CannotCreate named) = (named ≡ output) × bars
+IsOfCreating output bars OutOfMemory = Unit {0}
+IsOfCreating output bars _ = ⊥
+
+-- some writer that the path gives took all these bytes, no call of it failed, and it was flushed at the end
+pub record WritesWhole {W : Type 0} (disk : Disk W) (output : Output) (path bytes : List ℕ) : Type 0 where
+  pub made : W
+  pub given : disk.makes output path made
+  pub written : Counted W
+  pub appended : Appends (disk.contents made) (disk.contents (inner_of written)) bytes
+  pub flushed : is_flushed_of written ≡ true
+  pub none_failed : failures_of written ≡ 0
+
+-- some writer that the path gives took a beginning of these bytes, and then one call of it failed
+pub record WritesBeginning {W : Type 0} (disk : Disk W) (output : Output) (path bytes : List ℕ) : Type 0 where
+  pub made : W
+  pub given : disk.makes output path made
+  pub written : Counted W
+  pub appended : AppendsSome (disk.contents made) (disk.contents (inner_of written)) bytes
+  pub failed : failures_of written ≡ 1

@@ -1,0 +1,71 @@
+//! How the program opens the files that it reads, and creates those that it makes.
+ghost use Rattle.std.specs.Prelude.{◌≡◌, ℕ, List, None, refl, IfOk, IfErr};
+ghost use Rattle.command_io.specs.Disk.{Disk, IsOfCreating, IsOfOpening};
+
+use crate::output_files::{OutputFile, create_file};
+use crate::refusal::{CommandRefusal, Input, Output};
+use std::alloc::Global;
+use std::io::{BufReader, Read, Write};
+use std::{fs, rt};
+
+/// Opens the files that the program reads, and creates those that it makes, by their kinds and paths.
+pub trait Files {
+    type Reader: Read + Drop;
+
+    type Writer: Write + Drop;
+
+    // what is known of the files
+    ghost disk: { Self → Disk Self.Writer };
+
+    /// Opens a file, to be read from its first byte.
+    fn open(&self, input: Input, path: &str) -> Result<Self::Reader, CommandRefusal>
+        ensures given { IfOk result (λ reader. (disk self.now).holds input path.now (Self.Reader.remaining reader)) }
+        ensures cause { IfErr result (IsOfOpening input ((disk self.now).lacks input path.now)) };
+
+    /// Creates a file, to be written from its first byte. Once it is flushed it replaces what was at its path.
+    fn create(&mut self, output: Output, path: &str) -> Result<Self::Writer, CommandRefusal>
+        ensures given { IfOk result ((disk self.old).makes output path.now) }
+        ensures cause { IfErr result (IsOfCreating output ((disk self.old).bars output path.now)) };
+
+    // what a writer has taken is what its own contract says
+    ghost contents_are: { (files : Self) (w : Self.Writer) → (disk files).contents w ≡ Self.Writer.contents w };
+}
+
+/// The files of a runtime, read and written through buffers. As long as a file that is made is not whole, a regular
+/// file at its path stays as it was.
+#[derive(Drop)]
+pub struct RuntimeFiles<'a, R> {
+    pub rt: &'a R,
+}
+
+impl<'a, R: rt::Files + AllocGlobal> Files for RuntimeFiles<'a, R> {
+    type Reader = BufReader<R::File, Global>;
+
+    type Writer = OutputFile<'a, R>;
+
+    // The kit's contracts do not say which file a path leads to, nor what a file holds or takes: anything may be read
+    // at a path, any writer may be given, and any path may give none.
+    ghost disk = { λ _. record {
+      holds = λ _ _ _. Unit {0};
+      lacks = λ _ _. Unit {0};
+      makes = λ _ _ _. Unit {0};
+      bars = λ _ _. Unit {0};
+      contents = λ _. None;
+    } };
+
+    ghost contents_are = { λ _ _. refl };
+
+    fn open(&self, input: Input, path: &str) -> Result<BufReader<R::File, Global>, CommandRefusal> {
+        let Ok(file) = fs::open(self.rt, path) else {
+            return Err(CommandRefusal::CannotOpen(input));
+        };
+        match BufReader::new(self.rt.alloc(), file) {
+            Ok(reader) => Ok(reader),
+            Err(_) => Err(CommandRefusal::OutOfMemory),
+        }
+    }
+
+    fn create(&mut self, output: Output, path: &str) -> Result<OutputFile<'a, R>, CommandRefusal> {
+        create_file(self.rt, path, output)
+    }
+}

@@ -1,0 +1,23 @@
+use Rattle.std.proofs.Common.{subst}
+use Rattle.std.proofs.lemmas.Result.{IfErr-weaker, IfOk-weaker}
+use Rattle.heap_layout.specs.Heap.{Heap}
+use Rattle.command_io.proofs.Imaged.{at_heap}
+use Rattle.commands.specs.Word.{IsPast, IsWordAt}
+use Rattle.commands.proofs.OfImages.{of_past}
+use Rattle.commands.proofs.word.word_at.Goals as goal
+
+pub returns-clause-word : goal.returns-clause-word
+returns-clause-word g c =
+    let index = c.args.index in
+    IfOk-weaker c.word_of.result _ _
+    (λ word h. at_heap (g.F.Files.disk c.args.files.now) c.args.path.now c.in_ok-heap.heap (IsWordAt index word) c.in_ok-heap.ensures.heap
+    (subst (λ (heap : Heap). IsWordAt index word heap) c.in_ok-plan.ensures.plan h))
+    c.word_of.ensures.word
+
+pub returns-clause-cause : goal.returns-clause-cause
+returns-clause-cause g c =
+    let index = c.args.index in
+    IfErr-weaker c.word_of.result _ _
+    (λ refusal h. of_past (g.F.Files.disk c.args.files.now) c.args.path.now c.in_ok-heap.heap c.in_ok-heap.ensures.heap index refusal
+    (subst (λ (heap : Heap). IsPast index heap refusal) c.in_ok-plan.ensures.plan h))
+    c.word_of.ensures.cause
