@@ -1,7 +1,8 @@
 //! The words of a new table, which are lent and never written.
 ghost use Rattle.std.specs.Prelude.{◌≡◌, ◌≤◌, replicate};
 
-// The words of the largest table: 16,384 compacted pages and 4,096 fresh ones, each with a state word and 64 words; the start bits of the fresh ones; the clock.
+// The words of the largest table: 16,384 compacted pages and 4,096 fresh ones, each with a state word and 64 words; the
+// start bits of the fresh ones; the clock.
 const MAX_TABLE_WORDS: usize = 1_335_297;
 
 static ZEROS: [u64; MAX_TABLE_WORDS] = [0; MAX_TABLE_WORDS];

@@ -116,7 +116,7 @@ module _ (u : Setup) (closed : IsClosed u.heap) (slid : u.compacted ≡ sliding.
   other_of : (k j : ℕ) → k < length marks → (1 ≤ j → pointers_of (header k) < j) → j < size_of (header k) → first.word (new_address objects k + j) ≡ get_or words (mark k + j) 0
   other_of k j lt behind inside = word_of k j lt inside ∙ slid-other u.heap closed k j lt behind inside
 
-  -- objects start only at places
+  -- objects start only at forwarding addresses
   pub start_of : (a : ℕ) → HasStart first a → (k : ℕ) × (k < length marks) × (a ≡ new_address objects k)
   start_of a s = ⊎_elim
       (λ (is : IsForwardingAddress u.heap a). let k = address-only objects a is in (k.0, omega (arith, k.1, count), k.2))

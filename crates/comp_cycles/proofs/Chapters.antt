@@ -259,12 +259,12 @@ rising u closed slid a b x y up below at_a at_b =
 
 -- ---- all cycles
 
-pub record Told (last : Heap) (cycles : List Cycle) (numbers : List ℕ) (stable : StableHeap) : Type 0 where
+pub record AllNumbered (last : Heap) (cycles : List Cycle) (numbers : List ℕ) (stable : StableHeap) : Type 0 where
   pub life : IsLife stable (story cycles numbers stable.given)
   pub result : IsNumberedAs last (numbers_left cycles numbers stable.given) (lived stable (story cycles numbers stable.given))
   pub chapters : AreChapters cycles numbers stable
 
-pub all_numbered : (cycles : List Cycle) (heap last : Heap) (numbers : List ℕ) (stable : StableHeap) → IsClosed heap → IsNumberedAs heap numbers stable → Follow heap cycles last → Told last cycles numbers stable
+pub all_numbered : (cycles : List Cycle) (heap last : Heap) (numbers : List ℕ) (stable : StableHeap) → IsClosed heap → IsNumberedAs heap numbers stable → Follow heap cycles last → AllNumbered last cycles numbers stable
 all_numbered [] heap last numbers stable closed t follow = record { life = tt; result = subst (λ h. IsNumberedAs h numbers stable) (sym follow) t; chapters = tt }
 all_numbered (c ∷ cs) heap last numbers stable closed t follow =
     let is = follow.0 in

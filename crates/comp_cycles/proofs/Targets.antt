@@ -113,7 +113,7 @@ module _ (heap : Heap) (closed : IsClosed heap) where
       let found = target_mark heap.marks w i inside (sym (address_is i inside) ∙ e) in
       both_ways (is_target heap.marks w) none (or_right (eqb w 0) (list_any (λ mark. from_address mark == w) heap.marks) found))
 
-  -- a marked object's address is forwarded to its place
+  -- a marked object's address is forwarded to its object's new address
   pub forward_mark : (l : ℕ) → l < length heap.marks → forward (live heap) (from_address (get_or heap.marks l 0)) ≡ Some (new_address (live heap) l)
   forward_mark l lt =
       let w = from_address (get_or heap.marks l 0) in

@@ -13,7 +13,7 @@ use Rattle.comp_history.specs.View.{Slot}
 use Rattle.comp_history.specs.Closing.{journal_at, page_at, HasBase}
 use Rattle.comp_history.specs.Passes.{edition_of, builds_of, did, seen, HasSeenBuilt}
 use Rattle.comp_history.specs.Pass.{Pass}
-use Rattle.comp_history.specs.Ends.{lists}
+use Rattle.comp_history.specs.CellEnds.{lists}
 use Rattle.comp_history.specs.Objects.{AreLawful, ReferencesAreStarts}
 use Rattle.comp_history.specs.Merged.{history, written_by, CanMerge, IsOneHistory, IsPoint}
 use Rattle.comp_history.specs.Shares.{allocated}

@@ -7,7 +7,7 @@ pub mod Cycles
 pub mod Ends
 pub mod DrawnCycle
 pub use Rattle.comp_history.specs.Merged
-pub use Rattle.comp_history.specs.Ends as PageCellsEnds
+pub use Rattle.comp_history.specs.CellEnds
 pub use Rattle.comp_history.specs.Passes
 pub use Rattle.comp_history.specs.Setup
 pub use Rattle.comp_history.specs.Closing

@@ -21,7 +21,7 @@ pub struct Finished {
 }
 
 impl Finished {
-    ghost use Rattle.comp_history.specs.Ends.{lists};
+    ghost use Rattle.comp_history.specs.CellEnds.{lists};
     ghost use Rattle.comp_cycles.specs.Finishes.{builds_in, edition_in, live_of, pages_of, roots_of};
 
     /// The edition of the heap.

@@ -9,8 +9,7 @@ use Rattle.heap_layout.specs.declared.kind.Kind.TheVariants.{Header, Reference, 
 use Rattle.comp_journal.specs.declared.entry.Entry.{Entry}
 use Rattle.cell_steps.specs.Setup.{Setup}
 use Rattle.cell_steps.specs.Lawful.{kinds_by, kinds_in, filled, Fits, LawfulAfter}
-use Rattle.page_cells.proofs.Heads.{kinds_append, one_on}
-use Rattle.comp_history.proofs.Words.{kinds_long}
+use Rattle.page_cells.proofs.Heads.{kinds_append, kinds_long, one_on}
 
 -- the kinds with one more entry
 pub kinds_more : (edition : Edition) (j : List Entry) (i : ℕ) (d : Entry) → i < length j

@@ -62,8 +62,8 @@ abbrev pub linked_too_early : List (ℕ × Entry)
 linked_too_early = (0, links) ∷ (1, makes) ∷ (0, changes) ∷ (1, links_back) ∷ []
 
 -- the heap of one thread after the first n entries
-abbrev pub behind : ℕ → OneThreadHeap
-behind n = result_of (first_heap drawn) (take n drawn_history)
+abbrev pub heap_after : ℕ → OneThreadHeap
+heap_after n = result_of (first_heap drawn) (take n drawn_history)
 
 -- its words at T, T+1, T+2, T+3, T+64 and T+65
 abbrev pub drawn_words : OneThreadHeap → List ℕ

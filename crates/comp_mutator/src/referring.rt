@@ -56,7 +56,7 @@ impl<L: Named, B: Builder> Space<L, B> {
     }
 
     /// Like `try_read_referring`, but retries while the page is busy. The requirements are the same.
-    pub fn read_referring(
+    pub(crate) fn read_referring(
         &self,
         alloc: Global,
         rt: &impl Wait,
@@ -114,7 +114,7 @@ impl<L: Named, B: Builder> Space<L, B> {
     }
 
     /// Like `try_write_referring`, but retries while the page is busy. The requirements are the same.
-    pub fn write_referring(
+    pub(crate) fn write_referring(
         &self,
         alloc: Global,
         rt: &impl Wait,

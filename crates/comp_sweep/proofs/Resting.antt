@@ -1,4 +1,4 @@
--- The sweep of what is left after all workers have ended, one lot at a time.
+-- The sweep of what is left after all workers have ended, one region queue at a time.
 use Rattle.std.specs.Global.{Vec}
 use Rattle.std.specs.List.{AllZip}
 use Rattle.std.proofs.Common.{◌≡◌, ◌≢◌, ⊎_elim, ℕ, zero, suc, ◌+◌, ◌<◌, List, [], ◌∷◌, length, set, get_or, sym, ap, subst, ◌∙◌, arith}
@@ -10,7 +10,7 @@ use Rattle.comp_mutator.specs.Setup.{Setup}
 use Rattle.comp_mutator.specs.Lists.{times, Each}
 use Rattle.comp_mutator.specs.Pass.{Pass}
 use Rattle.comp_mutator.proofs.Sums.{total-set}
-use Rattle.comp_mutator.specs.PageCellsEnds.{lists}
+use Rattle.comp_mutator.specs.CellEnds.{lists}
 use Rattle.comp_mutator.proofs.Rows.{at_map, at_set, at_value}
 use Rattle.comp_mutator.specs.Builds.{named}
 use Rattle.comp_mutator.proofs.CompAccessGrowing.{known_more}
@@ -97,7 +97,7 @@ module _ (os : List RegionQueue) (k : ℕ) (o n : RegionQueue) (lt : k < length 
   out_rest before here j queue less at =
       ⊎_elim (λ (x : (j ≡ k) × (n ≡ queue)). subst IsOut x.1 here) (λ (x : (j ≢ k) × (get_elem? os j ≡ some queue)). before j queue (omega (arith, less, x.0)) x.1) (at_set os k j n queue at)
 
--- the number of lots is unchanged
+-- the number of region queues is unchanged
 pub long_rest : (os first : List RegionQueue) → standings os ≡ standings first → length os ≡ length first
 long_rest os first e = sym (length-map os standing) ∙ ap length e ∙ length-map first standing
 

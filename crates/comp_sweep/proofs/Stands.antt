@@ -1,4 +1,4 @@
--- Changes of one lot at a time, except for what was taken.
+-- Changes of one region queue at a time, except for what was taken.
 use Rattle.std.proofs.Common.{◌≡◌, ◌≢◌, ℕ, zero, suc, ◌+◌, Bool, cond, List, [], ◌∷◌, ◌++◌, map, set, refl, sym, ap, subst, ◌∙◌, ⊎_elim, arith}
 use Rattle.std.proofs.lemmas.Bool.{eq-eqb, ne_eqb}
 use mathlib.Core.Option.{some, some-injective, some-ne-none}
@@ -67,7 +67,7 @@ module _ {D : Type 0} where
         lead zero w e = subst (LeadsTo (deques queues)) (some-injective (k, s.deque) w e) (at_map (λ (queue : Standing D). queue.deque) queues k s at)
         lead (suc j) w e = absurd (some-ne-none w (sym e))
 
-    -- a loose way gets its lot
+    -- a loose way gets its region queue
     pub linked_hold : (w : ℕ × D) → t.out ≡ s.out → t.back ≡ s.back → t.ways ≡ s.ways ++ w ∷ [] → Linked queues (w ∷ []) → Linked (set queues k t) []
     linked_hold w eo eb ew h =
         linked_set queues k s t (w ∷ []) [] at deque h
@@ -92,7 +92,7 @@ module _ {D : Type 0} where
         linked_set queues k s t (w ∷ rest) rest at deque h (subst (λ l. Each l (LeadsTo (deques queues))) (sym ew) (h.lead k s at)) (λ j x e. h.loose_lead (suc j) x e)
         (λ j ne. omega (arith, ap (ways_to j) ew, only_other j w.0 (λ e. ne (e ∙ is)))) (omega (arith, eo, eb, ap (ways_to k) ew, only_same k w.0 (sym is)))
 
-    -- what was put into the other lots is unchanged
+    -- what was put into the other region queues is unchanged
     pub put_more : (x : ℕ) → put_in x (set queues k t) + times x s.put ≡ put_in x queues + times x t.put
     put_more x = total-set (λ (queue : Standing D). times x queue.put) queues k s t at
 
@@ -104,11 +104,11 @@ module _ {D : Type 0} where
   no_ways j [] none = refl
   no_ways j (x ∷ xs) none = omega (arith, ap (ways_to j) (none 0 x refl), no_ways j xs (λ i y e. none (suc i) y e))
 
-  -- if no lot has a way, all ways came back
+  -- if no region queue has a way, all ways came back
   pub all_alone : (queues : List (Standing D)) → Linked queues [] → Each queues (λ (queue : Standing D). queue.ways ≡ []) → Each queues IsAlone
   all_alone queues h none j s at = (none j s at, omega (arith, h.whole j s at, no_ways j queues none))
 
-  -- no lot has a way yet
+  -- no region queue has a way yet
   pub linked_none : (queues : List (Standing D)) → Each queues (λ (queue : Standing D). (queue.ways ≡ []) × (queue.out ≡ 0) × (queue.back ≡ 0)) → Linked queues []
   linked_none queues new = record {
     lead = λ j s at. subst (λ l. Each l (LeadsTo (deques queues))) (sym (new j s at).0) (λ i x e. absurd (some-ne-none x (sym e)));

@@ -15,7 +15,7 @@ use Rattle.comp_mutator.specs.Setup.{Setup}
 use Rattle.comp_mutator.specs.Lists.{only, times, Each}
 use Rattle.comp_mutator.specs.Pass.{Pass}
 use Rattle.comp_mutator.proofs.Sums.{some_term}
-use Rattle.comp_mutator.specs.PageCellsEnds.{lists}
+use Rattle.comp_mutator.specs.CellEnds.{lists}
 use Rattle.comp_mutator.proofs.Rows.{at_map, at_map_back}
 use Rattle.comp_mutator.specs.Builds.{named}
 use Rattle.comp_mutator.specs.Mutators.{pass_of, setup_of, AreMutatorsOf, IsMutatorOf}
@@ -53,7 +53,7 @@ beside R (a ∷ xs) [] j y m e = absurd m
 beside R (a ∷ xs) (b ∷ ys) zero y m e = (a, refl, subst (R a) (some_inj.0 e) m.0)
 beside R (a ∷ xs) (b ∷ ys) (suc j) y m e = beside R xs ys j y m.1 e
 
--- lots that are the same, except for what was taken, have the same standings
+-- region queues that are the same, except for what was taken, have the same standings
 pub same_standings : (old new : List RegionQueue) → AllZip SameQueue old new → standings new ≡ standings old
 same_standings [] [] m = refl
 same_standings [] (y ∷ ys) m = absurd m
@@ -130,7 +130,7 @@ module _ {L B : Type 0} {g : Ghosts B} (space : Space L B g) where
     pub handed_back : (back : List (Mutator L)) → AllZip (HasSwept space) workers back → HandsBack space given back
     handed_back back m = subst (λ l. AllZip (Sweeps space) l back) made.mutators (map_zip worker_mutator (Sweeps space) workers back m)
 
-    -- their lots are those that were dealt
+    -- their region queues are those that were distributed
     queues_distributed : (n count : ℕ) (queues : List RegionQueue) → AllZip HasQueue workers queues → AreInputs n count inputs → AreDistributed n (standings queues)
     queues_distributed n count queues m k = subst (AreDistributed n) (sym (same_standings (map worker_queue workers) queues (map_zip worker_queue SameQueue workers queues m))) (subst (λ l. AreDistributed n (standings l)) (sym made.queues) k.distributed)
 
@@ -148,7 +148,7 @@ module _ {L B : Type 0} {g : Ghosts B} (space : Space L B g) where
           refused = run.refused;
         }
 
--- kits of these lots
+-- worker inputs of these region queues
 pub inputs_of : {S : Type 0} {s : sweeping.Ghosts S} (n count : ℕ) (inputs : List (WorkerInput S s)) (given : List RegionQueue) → map input_queue inputs ≡ given → Each inputs HasNoRegion → length given ≡ count
     → AreDistributed n (standings given) → ((x : ℕ) → taken_in x given ≡ 0) → AreInputs n count inputs
 inputs_of n count inputs given e none long distributed untaken = record {

@@ -1,4 +1,4 @@
--- Lots of workers, and what was taken from them.
+-- Region queues of workers, and what was taken from them.
 use Rattle.std.proofs.Common.{◌≡◌, ◌≢◌, ⊎_elim, ℕ, suc, ◌+◌, ◌<◌, ◌≤◌, List, [], ◌∷◌, ◌++◌, map, length, length-set, set, get_or, refl, sym, ap, subst, ◌∙◌, arith}
 use Rattle.std.proofs.lemmas.List.{map-set, nil_from_length, length-map}
 use mathlib.Core.Option.{some, some-injective}
@@ -38,7 +38,7 @@ times_more x q before after e = omega (arith, ap (times x) e, total-append (only
 pub ways_more : (x : ℕ) (before after : List Way) (way : Way) → after ≡ before ++ way ∷ [] → taken_on x after ≡ taken_on x before + times x (way_view way).taken
 ways_more x before after way e = omega (arith, ap (taken_on x) e, total-append (λ (w : Way). times x (way_view w).taken) before (way ∷ []))
 
--- the lot at k is replaced
+-- the region queue at k is replaced
 pub standing_set : (queues : List RegionQueue) (k : ℕ) (new : RegionQueue) → standings (set queues k new) ≡ set (standings queues) k (standing new)
 standing_set queues k new = map-set standing queues k new
 
@@ -77,28 +77,28 @@ module _ (queues : List RegionQueue) (k : ℕ) (old new : RegionQueue) (lt : k <
   put_next n still ways out put h =
       subst (AreDistributed (n + 1)) (sym (standing_set queues k new)) (distributed_next n (standings queues) k (standing old) (standing new) there still.deque out still.back ways put h)
 
-  -- what was taken is unchanged if it is unchanged for the lot at k
+  -- what was taken is unchanged if it is unchanged for the region queue at k
   pub taken_same : (x : ℕ) → taken x new ≡ taken x old → taken_in x (set queues k new) ≡ taken_in x queues
   taken_same x same = omega (arith, taken_set x queues k old new lt e, same)
 
   put_same : (x : ℕ) → (standing new).put ≡ (standing old).put → (standing new).deque ≡ (standing old).deque → put_in x (standings (set queues k new)) ≡ put_in x (standings queues)
   put_same x put deque = ap (put_in x) (standing_set queues k new) ∙ omega (arith, put_more (standings queues) k (standing old) (standing new) there deque x, ap (times x) put)
 
-  -- a way to the lot at k
+  -- a way to the region queue at k
   way_made : (way : Way) → Gives k old new way → Linked (standings queues) [] → Linked (standings (set queues k new)) (way_name way ∷ [])
   way_made way given h =
       subst (λ w. Linked (standings (set queues k new)) (w ∷ [])) (sym (name_is way k (standing old).deque given.index_is given.leads))
       (subst (λ l. Linked l ((k, (standing old).deque) ∷ [])) (sym (standing_set queues k new))
       (linked_out (standings queues) k (standing old) (standing new) there given.still.deque given.out given.still.back given.ways h))
 
-  -- a way for the lot at k
+  -- a way for the region queue at k
   way_held : (way : Way) → StillQueue old new → (standing new).out ≡ (standing old).out → (standing new).ways ≡ (standing old).ways ++ way_name way ∷ []
       → Linked (standings queues) (way_name way ∷ []) → Linked (standings (set queues k new)) []
   way_held way still out ways h =
       subst (λ l. Linked l []) (sym (standing_set queues k new))
       (linked_hold (standings queues) k (standing old) (standing new) there still.deque (way_name way) out still.back ways h)
 
-  -- the ways of the lot at k are loose
+  -- the ways of the region queue at k are loose
   pub ways_freed : (freed : List Way) → StillQueue old new → (standing new).out ≡ (standing old).out → (standing new).ways ≡ [] → map way_name freed ≡ (standing old).ways
       → Linked (standings queues) [] → Linked (standings (set queues k new)) (map way_name freed)
   ways_freed freed still out none names h =
@@ -109,7 +109,7 @@ module _ (queues : List RegionQueue) (k : ℕ) (old new : RegionQueue) (lt : k <
   pub put_freed : (x : ℕ) → StillQueue old new → (standing new).put ≡ (standing old).put → put_in x (standings (set queues k new)) ≡ put_in x (standings queues)
   put_freed x still put = put_same x put still.deque
 
-  -- the first k lots and this one have no way
+  -- the first k region queues and this one have no way
   pub none_next : (standing new).ways ≡ [] → ((j : ℕ) (queue : Standing Deque) → j < k → get_elem? (standings queues) j ≡ some queue → queue.ways ≡ [])
       → (after : List RegionQueue) → map ways_of (standings after) ≡ map ways_of (standings (set queues k new))
       → (j : ℕ) (queue : Standing Deque) → j < k + 1 → get_elem? (standings after) j ≡ some queue → queue.ways ≡ []
@@ -119,7 +119,7 @@ module _ (queues : List RegionQueue) (k : ℕ) (old new : RegionQueue) (lt : k <
       sym back.2 ∙ ⊎_elim (λ (x : (j ≡ k) × (standing new ≡ back.0)). ap ways_of (sym x.1) ∙ none)
       (λ (x : (j ≢ k) × (get_elem? (standings queues) j ≡ some back.0)). before j back.0 (omega (arith, less, x.0)) x.1) (at_set (standings queues) k j (standing new) back.0 was)
 
-  -- a way to the lot at k came back
+  -- a way to the region queue at k came back
   pub gathered_next : (way : Way) (more rest : List Way) → rest ≡ way ∷ more → way.index ≡ k → HasBack old new way → Linked (standings queues) (map way_name rest)
       → Linked (standings (set queues k new)) (map way_name more)
   gathered_next way more rest e is came h =
@@ -143,13 +143,13 @@ module _ (queues : List RegionQueue) (k : ℕ) (old new : RegionQueue) (lt : k <
       let same : lead.0 ≡ standing old = some-injective _ _ (sym lead.1 ∙ ap (get_elem? (standings queues)) (sym is) ∙ there) in
       sym lead.2 ∙ ap (λ (s : Standing Deque). s.deque) same
 
--- a way leads to a lot that is there
+-- a way leads to a region queue that is there
 pub leads_inside : (queues : List RegionQueue) (way : Way) (more rest : List Way) → rest ≡ way ∷ more → Linked (standings queues) (map way_name rest) → way.index < length queues
 leads_inside queues way more rest e h =
     let lead = first_leads (standings queues) (way_name way) (map way_name more) (subst (λ l. Linked (standings queues) (map way_name l)) e h) in
     omega (arith, at_below (standings queues) way.index lead.0 lead.1, length-map queues standing)
 
--- a way from one lot to another
+-- a way from one region queue to another
 pub linked_to : (queues : List RegionQueue) (to from : ℕ) (g g' h h' : RegionQueue) (way : Way) → to < length queues → from < length queues → g ≡ get_or queues to g → h ≡ get_or (set queues to g') from h
     → Gives to g g' way → StillQueue h h' → (standing h').put ≡ (standing h).put → (standing h').out ≡ (standing h).out → (standing h').ways ≡ (standing h).ways ++ way_name way ∷ []
     → ((x : ℕ) → taken x h' ≡ taken x h + times x (way_view way).taken) → Linked (standings queues) [] → HasLinked queues (set (set queues to g') from h')
@@ -172,7 +172,7 @@ linked_to queues to from g g' h h' way lt_to lt_from eg eh given still put out w
 pub linked_then : (a b c : List RegionQueue) → HasLinked a b → HasLinked b c → HasLinked a c
 linked_then a b c h k = record { count = k.count ∙ h.count; linked = k.linked; put = λ x. k.put x ∙ h.put x; taken = λ x. k.taken x ∙ h.taken x }
 
--- new lots
+-- new region queues
 new_ways : (queues : List RegionQueue) → Each queues IsNew → Each (standings queues) (λ (s : Standing Deque). (s.ways ≡ []) × (s.out ≡ 0) × (s.back ≡ 0))
 new_ways queues new j s at =
     let queue = at_map_back standing queues j s at in

@@ -1,4 +1,4 @@
--- The lots from which workers take regions, and how often each region was taken.
+-- The region queues from which workers take regions, and how often each region was taken.
 use Rattle.std.specs.Global.{Global}
 use Rattle.std.specs.Prelude.{◌≡◌, ℕ, ◌+◌, ◌<◌, ◌≤◌, List, [], length, map}
 use mathlib.Core.Option.{some}
@@ -40,15 +40,15 @@ pub record SameOwn (old new : Own) : Type 0 where
 abbrev pub taken_on : ℕ → List Way → ℕ
 taken_on x ways = total (λ (way : Way). times x (way_view way).taken) ways
 
--- how often x was taken with this lot, from its own deque or on its ways; and with all these lots
+-- how often x was taken with this region queue, from its own deque or on its ways; and with all these region queues
 abbrev pub taken : ℕ → RegionQueue → ℕ
 taken x queue = times x (own_view queue.own).taken + taken_on x queue.ways.items
 
 abbrev pub taken_in : ℕ → List RegionQueue → ℕ
 taken_in x queues = total (taken x) queues
 
--- A lot without what was taken: its deque, the regions put into it, the numbers of ways to it that were made and that
--- came back, and the deques to which its own ways lead, each with its number.
+-- A region queue without what was taken: its deque, the regions put into it, the numbers of ways to it that were made
+-- and that came back, and the deques to which its own ways lead, each with its number.
 pub record Standing (D : Type 0) : Type 0 where
   pub deque : D
   pub put : List ℕ
@@ -65,7 +65,7 @@ standing queue = record { deque = own_deque queue.own; put = (own_view queue.own
 abbrev pub standings : List RegionQueue → List (Standing Deque)
 standings queues = map standing queues
 
--- the lot has no region and no way
+-- the region queue has no region and no way
 pub record IsNew (queue : RegionQueue) : Type 0 where
   pub put : (standing queue).put ≡ []
   pub out : (standing queue).out ≡ 0
@@ -78,7 +78,7 @@ pub record StillQueue (old new : RegionQueue) : Type 0 where
   pub deque : (standing new).deque ≡ (standing old).deque
   pub back : (standing new).back ≡ (standing old).back
 
--- a way to the lot's deque was made
+-- a way to the region queue's deque was made
 pub record Gives (index : ℕ) (old new : RegionQueue) (way : Way) : Type 0 where
   pub still : StillQueue old new
   pub put : (standing new).put ≡ (standing old).put
@@ -89,7 +89,7 @@ pub record Gives (index : ℕ) (old new : RegionQueue) (way : Way) : Type 0 wher
   pub leads : way_deque way ≡ (standing old).deque
   pub fresh : (way_view way).taken ≡ []
 
--- a way to the lot's deque came back
+-- a way to the region queue's deque came back
 pub record HasBack (old new : RegionQueue) (way : Way) : Type 0 where
   pub deque : (standing new).deque ≡ (standing old).deque
   pub put : (standing new).put ≡ (standing old).put
@@ -98,7 +98,7 @@ pub record HasBack (old new : RegionQueue) (way : Way) : Type 0 where
   pub ways : (standing new).ways ≡ (standing old).ways
   pub taken : (x : ℕ) → taken x new ≡ taken x old + times x (way_view way).taken
 
--- the lots are the same, except for what was taken
+-- the region queues are the same, except for what was taken
 abbrev pub SameQueue : RegionQueue → RegionQueue → Type 0
 SameQueue old new = standing new ≡ standing old
 
@@ -106,7 +106,7 @@ module _ {D : Type 0} where
   abbrev pub deques : List (Standing D) → List D
   deques queues = map (λ (queue : Standing D). queue.deque) queues
 
-  -- how often x was put into these lots
+  -- how often x was put into these region queues
   abbrev pub put_in : ℕ → List (Standing D) → ℕ
   put_in x queues = total (λ (queue : Standing D). times x queue.put) queues
 
@@ -121,24 +121,24 @@ module _ {D : Type 0} where
   abbrev pub LeadsTo : List D → ℕ × D → Type 0
   LeadsTo all way = get_elem? all way.0 ≡ some way.1
 
--- All ways lead to the deques of these lots, and none is missing: each way that was made came back, is in a lot, or is
--- one of the loose ways.
+-- All ways lead to the deques of these region queues, and none is missing: each way that was made came back, is in a
+-- region queue, or is one of the loose ways.
 pub record Linked {D : Type 0} (queues : List (Standing D)) (loose : List (ℕ × D)) : Type 0 where
   pub lead : Each queues (λ (queue : Standing D). Each queue.ways (LeadsTo (deques queues)))
   pub loose_lead : Each loose (LeadsTo (deques queues))
   pub whole : (j : ℕ) (queue : Standing D) → get_elem? queues j ≡ some queue → queue.out ≡ queue.back + all_ways_to j queues + ways_to j loose
 
--- The regions below n were dealt, each once.
+-- The regions below n were distributed, each once.
 pub record AreDistributed {D : Type 0} (n : ℕ) (queues : List (Standing D)) : Type 0 where
   pub once : (x : ℕ) → x < n → put_in x queues ≡ 1
   pub no_other : (x : ℕ) → n ≤ x → put_in x queues ≡ 0
   pub linked : Linked queues []
 
--- the lot has no ways, and all ways to it came back
+-- the region queue has no ways, and all ways to it came back
 abbrev pub IsAlone : {D : Type 0} → Standing D → Type 0
 IsAlone queue = (queue.ways ≡ []) × (queue.out ≡ queue.back)
 
--- if all ways came back, everything that was put into the lot's deque was taken
+-- if all ways came back, everything that was put into the region queue's deque was taken
 abbrev pub IsOut : RegionQueue → Type 0
 IsOut queue = AllTaken (own_view queue.own)
 
@@ -147,14 +147,14 @@ pub record AreTaken (n : ℕ) (queues : List RegionQueue) : Type 0 where
   pub once : (x : ℕ) → x < n → taken_in x queues ≡ 1
   pub no_other : (x : ℕ) → n ≤ x → taken_in x queues ≡ 0
 
--- Ways were made between the lots, and nothing was taken.
+-- Ways were made between the region queues, and nothing was taken.
 pub record HasLinked (old new : List RegionQueue) : Type 0 where
   pub count : length new ≡ length old
   pub linked : Linked (standings new) []
   pub put : (x : ℕ) → put_in x (standings new) ≡ put_in x (standings old)
   pub taken : (x : ℕ) → taken_in x new ≡ taken_in x old
 
--- These ways came back to the lots, and no way was made.
+-- These ways came back to the region queues, and no way was made.
 pub record HasGathered (old new : List RegionQueue) (came : List Way) : Type 0 where
   pub count : length new ≡ length old
   pub linked : Linked (standings new) []

@@ -1,4 +1,4 @@
-//! Gathers the ways of lots after their workers have ended.
+//! Gathers the ways of region queues after their workers have ended.
 ghost use Rattle.std.specs.Prelude.{◌≡◌, ℕ, [], length, map};
 ghost use Rattle.comp_mutator.specs.Lists.{Each};
 ghost use Rattle.comp_sweep.specs.Queues.{HasGathered, IsAlone, Linked, put_in, standings, taken_in, way_name};
@@ -21,8 +21,8 @@ fn give_back(queues: &mut Vec<RegionQueue>, ways: Vec<Way>)
 
 /// Gives each way back to the deque to which it leads. What was put and what was taken in all is unchanged.
 ///
-/// Requires that the lots hold all ways to their deques, and no others. `distribute` makes them so, and `next_region` keeps
-/// them so.
+/// Requires that the region queues hold all ways to their deques, and no others. `distribute` makes them so, and
+/// `next_region` keeps them so.
 pub fn gather(alloc: Global, queues: &mut Vec<RegionQueue>)
     requires { Linked (standings queues.old.items) [] }
     ensures count { length queues.new.items ≡ length queues.old.items }

@@ -1,4 +1,4 @@
-//! Lots, from which workers take their regions.
+//! Region queues, from which workers take their regions.
 ghost use Rattle.std.specs.Prelude.{◌≡◌};
 
 use crate::deques::{Own, Way};
@@ -7,7 +7,7 @@ use std::alloc::Global;
 use std::mem;
 use std::sync::Wait;
 
-/// A worker's lot: its own deque of regions, and a way to the deque of each other worker.
+/// A worker's region queue: its own deque of regions, and a way to the deque of each other worker.
 #[derive(Drop)]
 pub struct RegionQueue {
     own: Own,
@@ -19,7 +19,7 @@ impl RegionQueue {
     ghost use Rattle.comp_mutator.specs.Lists.{only, times};
     ghost use Rattle.comp_sweep.specs.Queues.{Gives, HasBack, IsNew, IsOut, SameQueue, StillQueue, own_deque, standing, taken, taken_on, way_deque, way_name, way_view};
 
-    /// Makes a lot with no region and no way, and with room for `room` regions.
+    /// Makes a region queue with no region and no way, and with room for `room` regions.
     pub(crate) fn new(alloc: Global, room: usize) -> Result<RegionQueue, OutOfMemory>
         ensures { IfOk result IsNew }
     {
@@ -41,14 +41,14 @@ impl RegionQueue {
         self.own.put(region)
     }
 
-    /// Makes a way to the deque of this lot, which has number `index`.
+    /// Makes a way to the deque of this region queue, which has number `index`.
     pub(crate) fn way(&mut self, index: usize) -> Result<Way, OutOfMemory>
         ensures { IfOk result (λ way. Gives index self.old self.new way) }
     {
         self.own.way(index)
     }
 
-    /// Adds a way to another deque to this lot.
+    /// Adds a way to another deque to this region queue.
     pub(crate) fn hold(&mut self, way: Way) -> Result<(), OutOfMemory>
         ensures still { OnOk result (StillQueue self.old self.new) }
         ensures put { OnOk result ((standing self.new).put ≡ (standing self.old).put) }
@@ -61,7 +61,7 @@ impl RegionQueue {
         Ok(())
     }
 
-    /// Takes all ways out of this lot.
+    /// Takes all ways out of this region queue.
     pub(crate) fn free(&mut self, alloc: Global) -> Vec<Way>
         ensures still { StillQueue self.old self.new }
         ensures put { (standing self.new).put ≡ (standing self.old).put }
@@ -73,7 +73,7 @@ impl RegionQueue {
         mem::replace(&mut self.ways, Vec::new(alloc))
     }
 
-    /// Takes back a way to the deque of this lot.
+    /// Takes back a way to the deque of this region queue.
     pub(crate) fn absorb(&mut self, way: Way)
         requires { way_deque way ≡ (standing self.old).deque }
         ensures { HasBack self.old self.new way }
@@ -99,7 +99,7 @@ impl RegionQueue {
 
     /// Takes the next region: from the own deque or, if that is empty, from the first of the other deques that has one.
     /// `None` means that each deque was found empty. Retries a steal that loses a race.
-    pub fn next_region(&mut self, rt: &impl Wait) -> Option<u64>
+    pub(crate) fn next_region(&mut self, rt: &impl Wait) -> Option<u64>
         ensures same { SameQueue self.old self.new }
         ensures some { IfSome result (λ q. (x : ℕ) → taken x self.new ≡ taken x self.old + only x q) }
         ensures none { IfNone result ((x : ℕ) → taken x self.new ≡ taken x self.old) }

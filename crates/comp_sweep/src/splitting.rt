@@ -1,4 +1,4 @@
-//! Deals the regions of a heap to the workers.
+//! Distributes the regions of a heap to the workers.
 ghost use Rattle.std.specs.Prelude.{◌≡◌, ℕ, ◌<◌, ◌≤◌, length, vec_capacity, OnOk, IfOk};
 ghost use Rattle.comp_sweep.specs.Queues.{AreDistributed, standings, taken_in};
 
@@ -7,7 +7,7 @@ use crate::queues::RegionQueue;
 use heap_layout::OutOfMemory;
 use std::alloc::Global;
 
-// Makes a lot for each worker, with no region and no way, and with room for `room` regions.
+// Makes a region queue for each worker, with no region and no way, and with room for `room` regions.
 fn empty_queues(alloc: Global, room: usize, workers: usize) -> Result<Vec<RegionQueue>, OutOfMemory>
     ensures count { IfOk result (λ queues. length queues.items ≡ workers) }
     ensures distributed { IfOk result (λ queues. AreDistributed 0 (standings queues.items)) }
@@ -20,8 +20,8 @@ fn empty_queues(alloc: Global, room: usize, workers: usize) -> Result<Vec<Region
     Ok(queues)
 }
 
-// Puts each region below `regions` into one of the lots: region q into lot q modulo the number of lots. No clause
-// promises which.
+// Puts each region below `regions` into one of the region queues: region q into queue q modulo the number of queues. No
+// clause promises which.
 fn put_all(queues: &mut Vec<RegionQueue>, regions: u64) -> Result<(), OutOfMemory>
     requires some { 0 < length queues.old.items }
     requires distributed { AreDistributed 0 (standings queues.old.items) }
@@ -37,8 +37,8 @@ fn put_all(queues: &mut Vec<RegionQueue>, regions: u64) -> Result<(), OutOfMemor
     Ok(())
 }
 
-/// Makes a lot for each worker, with ways to all others, and puts each region below `regions` into one of the lots.
-/// Requires at least one worker.
+/// Makes a region queue for each worker, with ways to all others, and puts each region below `regions` into one of
+/// them. Requires at least one worker.
 pub fn distribute(
     alloc: Global,
     regions: u64,

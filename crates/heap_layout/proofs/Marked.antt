@@ -1,20 +1,17 @@
 -- Marks, roots and references of a heap without faults.
-use Rattle.std.proofs.Common.{◌≡◌, ℕ, zero, suc, ◌+◌, ◌-◌, ◌<◌, ◌≤◌, ◌^◌, Bool, true, false, eqb, List, [], ◌∷◌, ◌++◌, inl, inr, All, length, get_or, slice_range, take, drop, Result, Ok, Err, MatchResult, is_ok, sym, refl, ap, subst, ◌∙◌, arith}
+use Rattle.std.proofs.Common.{◌≡◌, ℕ, zero, suc, ◌+◌, ◌-◌, ◌<◌, ◌≤◌, ◌^◌, Bool, true, List, [], ◌∷◌, ◌++◌, All, length, get_or, slice_range, take, drop, sym, refl, ap, subst, ◌∙◌, arith}
 use Rattle.std.specs.List.{flat_map, enumerate_from}
-use Rattle.std.specs.List.Sorted.{IsStrictlyIncreasing, IsBinarySearchResult}
-use Rattle.std.specs.Ordering.{nat_cmp}
+use Rattle.std.specs.List.Sorted.{IsStrictlyIncreasing}
 use Rattle.std.proofs.lemmas.List.Elements.{All-nil, All-cons}
-use Rattle.std.proofs.lemmas.List.Folds.{list_any_none, list_any_at}
-use Rattle.std.proofs.lemmas.List.Sorted.{searched}
-use Rattle.std.proofs.lemmas.List.{at_drop_more, get_or_default}
-use Rattle.std.proofs.lemmas.Bool.{leb-true, eq-eqb, ne_eqb, or_from, or_right, cases_lt}
+use Rattle.std.proofs.lemmas.List.{at_drop_more}
+use Rattle.std.proofs.lemmas.Bool.{leb-true}
 use Rattle.heap_layout.specs.declared.edition.Edition.{Edition}
 use Rattle.heap_layout.specs.declared.edition.Edition.TheVariants.{One}
 use Rattle.heap_layout.specs.declared.kind.Kind.{Kind}
 use Rattle.heap_layout.specs.declared.kind.Kind.TheVariants.{Header, Reference, Weak, Data}
 use Rattle.heap_layout.specs.Header.{Head, weak_of, data_of}
 use Rattle.heap_layout.specs.Kinds.{count_of, first_of}
-use Rattle.heap_layout.specs.Heap.{Heap, header_at, object_at, fields_of, objects, words_of, starts, is_start, is_target, from_address, IsTarget, IsPlaced, IsClosed}
+use Rattle.heap_layout.specs.Heap.{Heap, header_at, object_at, fields_of, objects, words_of, starts, is_start, is_target, IsTarget, IsPlaced, IsClosed}
 use Rattle.heap_layout.specs.Faults.{unless, size_faults, object_faults, mark_faults, root_faults, target_faults, weak_faults, misled, reference_faults_by, field_faults_by, IsAccepted, IsFirst}
 use Rattle.heap_layout.specs.declared.fault.LayoutFault.{LayoutFault}
 use Rattle.heap_layout.specs.declared.fault.LayoutFault.TheVariants.{BadRoot}
@@ -47,45 +44,6 @@ marks-rising row low (mark ∷ (next ∷ marks)) none (suc k) within =
     let parts = mark-parts row low mark (next ∷ marks) none in
     let index : suc k + 1 ≡ suc (k + 1) = omega arith in
     rw index (marks-rising row (mark + 1) (next ∷ marks) parts.2 k (omega arith))
-
--- of two marks in rising order, the earlier is not above the later
-rising-order : (marks : List ℕ) → IsStrictlyIncreasing marks → (steps i j : ℕ) → i + steps ≡ j → j < length marks → get_or marks i 0 ≤ get_or marks j 0
-rising-order marks rising zero i j same within = let here : i ≡ j = omega arith in rw here (omega arith)
-rising-order marks rising (suc steps) i j same within =
-    let below = rising-order marks rising steps (i + 1) j (omega arith) within in
-    omega (arith, rising i (omega arith))
-
--- a reference is a target exactly if its index was found among the marks
-target-found : (marks : List ℕ) (mark reference : ℕ) (found : Result ℕ ℕ) → reference ≡ 2 ^ 32 + mark
-    → MatchResult found (λ i. (i < length marks) × (get_or marks i 0 ≡ mark))
-    (λ i. (i ≤ length marks) × ((k : ℕ) → k < i → get_or marks k 0 < mark) × ((k : ℕ) → i ≤ k → k < length marks → mark < get_or marks k 0))
-    → is_ok found ≡ is_target marks reference
-target-found marks mark reference (Ok i) same here =
-    sym (or_right _ _ (list_any_at (λ other. eqb (from_address other) reference) marks i 0 here.0 (eq-eqb _ _ (omega (arith, here.1)))))
-target-found marks mark reference (Err i) same nowhere =
-    let other : (k d : ℕ) → k < length marks → from_address (get_or marks k d) ≡ reference → ⊥ = λ k d within q.
-    let at_zero = get_or_default marks k d 0 within in
-    elim (cases_lt k i) [ inl below ↦ omega (arith, nowhere.1 k below) | inr above ↦ omega (arith, nowhere.2 k above within) ] in
-    sym (or_from _ _ (ne_eqb reference 0 (λ q. omega arith))
-    (list_any_none (λ mark. eqb (from_address mark) reference) marks (λ k d within. ne_eqb _ _ (other k d within))))
-
--- a binary search of the marks for the index of a reference finds it exactly if the reference is a target
-pub target-searched : (marks : List ℕ) (mark reference : ℕ) (found : Result ℕ ℕ) → IsStrictlyIncreasing marks → reference ≡ 2 ^ 32 + mark
-    → IsBinarySearchResult (λ other. nat_cmp other mark) marks found → is_ok found ≡ is_target marks reference
-target-searched marks mark reference found rising same answer =
-    target-found marks mark reference found same
-    (searched marks mark found answer (λ i j order within. rising-order marks rising (j - i) i j (omega arith) within))
-
--- a reference below from-space is no target
-pub target-below : (marks : List ℕ) (reference : ℕ) → eqb reference 0 ≡ false → reference < 2 ^ 32 → is_target marks reference ≡ false
-target-below marks reference not_null below =
-    or_from _ _ not_null (list_any_none (λ mark. eqb (from_address mark) reference) marks (λ k d within. ne_eqb _ _ (λ q. omega arith)))
-
--- a reference is no target if it is so far above from-space that its index fits no mark
-pub target-past : (marks : List ℕ) (reference : ℕ) → eqb reference 0 ≡ false → All (λ mark. mark < 2 ^ 32) marks → 2 ^ 33 ≤ reference
-    → is_target marks reference ≡ false
-target-past marks reference not_null small past =
-    or_from _ _ not_null (list_any_none (λ mark. eqb (from_address mark) reference) marks (λ k d within. ne_eqb _ _ (λ q. omega (arith, small k d within))))
 
 -- a fault for each numbered reference that is no target
 abbrev pub numbered_faults : (ℕ → LayoutFault) → List ℕ → ℕ → List ℕ → List LayoutFault
@@ -210,10 +168,6 @@ closed heap accepted =
       references = field-targets Reference heap.edition heap.words heap.marks heap.marks parts.targets;
       weak = field-targets Weak heap.edition heap.words (starts heap.edition heap.words) heap.marks parts.weak;
     }
-
--- the marks of an accepted heap rise
-pub rising : (heap : Heap) → IsAccepted heap → IsStrictlyIncreasing heap.marks
-rising heap accepted = marks-rising (starts heap.edition heap.words) 0 heap.marks (passed heap accepted).marks
 
 -- the words of an accepted heap are those of its objects, object by object
 pub row : (heap : Heap) → IsAccepted heap → heap.words ≡ flat_map words_of (objects heap)

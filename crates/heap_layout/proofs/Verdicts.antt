@@ -248,7 +248,7 @@ refuses_part fault bytes part cause =
     let other : first_of (faults cause.0) ≡ Some TooLarge → ⊥ = λ large. (let same : fault ≡ TooLarge = cc in subst IsOfPart same part) in
     subst (λ (verdict : Option LayoutFault). IsVerdict verdict bytes) first (whole_image cause.0 bytes cause.1 cause.2 other)
 
--- an early end, at any place
+-- an early end, anywhere
 ends_early : (bytes : List ℕ) → Refuses Truncated bytes → IsVerdict (Some Truncated) bytes
 ends_early bytes (inl short) = inl (short, refl)
 ends_early bytes (inr (inl in_version)) = inr (inr (in_version.0, in_version.1, inl (in_version.2, refl)))

@@ -1,6 +1,5 @@
 //! The checks that a heap passes before it is accepted, in the order in which their faults count. None allocates.
 ghost use Rattle.std.specs.Prelude.{◌≡◌, ℕ, ◌+◌, ◌^◌, ◌≤◌, ◌==◌, ◌&&◌, ◌++◌, nat_lt, false, [], All, length, slice_index, IfOk};
-ghost use Rattle.std.specs.List.Sorted.{IsStrictlyIncreasing};
 ghost use Rattle.std.specs.List.{flat_map};
 ghost use Rattle.heap_layout.specs.Heap.{starts, is_start, is_target, IsPlaced};
 ghost use Rattle.heap_layout.specs.Bits.{bit, leads};
@@ -10,7 +9,7 @@ use crate::edition::Edition;
 use crate::fault::LayoutFault;
 use crate::header::Header;
 use crate::kind::Kind;
-use crate::limits::{FROM_SPACE, MAX_MARKS, MAX_OBJECT_WORDS, MAX_ROOTS, MAX_WORDS};
+use crate::limits::{MAX_MARKS, MAX_OBJECT_WORDS, MAX_ROOTS, MAX_WORDS};
 use crate::targets::Targets;
 
 /// Checks a heap made of these parts: Ok if it is accepted, otherwise Err with its first fault.
@@ -135,23 +134,6 @@ fn next_start(edition: Edition, words: &[u64], mut start: usize, low: usize) -> 
         start += Header::from_word_of(edition, words[start]).size() as usize;
     }
     start
-}
-
-/// Whether a word is null or the address of a marked object. The marks must rise.
-pub fn is_target(marks: &[u32], reference: u64) -> bool
-    requires { IsStrictlyIncreasing marks.now }
-    ensures { result ≡ is_target marks.now reference }
-{
-    if reference == 0 {
-        return true;
-    }
-    if reference < FROM_SPACE {
-        return false;
-    }
-    match u32::try_from(reference - FROM_SPACE) {
-        Ok(mark) => marks.binary_search(&mark).is_ok(),
-        Err(_) => false,
-    }
 }
 
 // Checks that each root is null or the address of a marked object.

@@ -16,7 +16,7 @@ impl From<AllocError> for OutOfMemory {
 }
 
 /// Why a heap, or the image of one, is refused. If there are several causes, the first in this order counts: the sizes;
-/// for each object in turn its length and its end; for each mark in turn its order and its place; the roots; the
+/// for each object in turn its length and its end; for each mark in turn its order and its position; the roots; the
 /// references; the weak words. While an image is read, its magic, its length and bytes after its end come before these,
 /// except that the sizes are checked as soon as the counts are read.
 #[derive(Clone, Copy, Debug, PartialEq, Eq, Error)]

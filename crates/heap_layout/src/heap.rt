@@ -1,6 +1,6 @@
 ghost use Rattle.std.specs.Prelude.{◌≡◌, ◌<◌, length, IfOk, IfErr};
 ghost use Rattle.std.specs.List.{flat_map};
-ghost use Rattle.heap_layout.specs.Heap.{header_at, objects, words_of, is_target, IsStored, IsClosed};
+ghost use Rattle.heap_layout.specs.Heap.{header_at, objects, words_of, IsStored, IsClosed};
 ghost use Rattle.heap_layout.specs.Faults.{faults, IsAccepted, IsFirst};
 ghost use Rattle.heap_layout.specs.declared.edition.Edition.TheVariants.{One};
 
@@ -110,13 +110,5 @@ impl MarkedHeap {
         ensures closed { IsClosed self.now }
     {
         &self.roots
-    }
-
-    /// Whether a word is null or the address of a marked object.
-    pub fn is_target(&self, reference: u64) -> bool
-        ensures target { result ≡ is_target self.now.marks reference }
-        ensures closed { IsClosed self.now }
-    {
-        checks::is_target(&self.marks, reference)
     }
 }

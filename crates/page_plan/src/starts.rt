@@ -25,19 +25,19 @@ pub fn start_bits(alloc: Global, heap: &MarkedHeap, tables: &Tables) -> Result<V
     Ok(bits)
 }
 
-/// The number of the live object that has the slid word with the to-space index `new_index`: that of the first object of
-/// its page, and one more for each start from the second word of the page up to this word.
+/// The number of the live object that has the slid word with the to-space index `new_index`: that of the first object
+/// of its page, and one more for each start from the second word of the page up to this word.
 pub fn number_at(plan: &Plan, new_index: u64) -> usize
     requires { new_index < live_words (live plan.now) }
     ensures { Covers (live plan.now) new_index result }
 {
     let page = (new_index / 64) as usize;
-    let behind = starts_behind(plan.starts()[page], new_index % 64);
-    plan.first_objects()[page] as usize + behind as usize
+    let later = later_starts(plan.starts()[page], new_index % 64);
+    plan.first_objects()[page] as usize + later as usize
 }
 
 // How many bits of a block are set from bit 1 up to and including bit `offset`.
-fn starts_behind(block: u64, offset: u64) -> u32
+fn later_starts(block: u64, offset: u64) -> u32
     requires { offset < 64 }
     ensures { result ≡ count_ones (block / 2 % 2 ^ offset) }
 {

@@ -1,6 +1,6 @@
 use Rattle.std.proofs.Common.{subst}
 use Rattle.comp_mutator.specs.Mutators.{setup_of}
-use Rattle.comp_mutator.specs.PageCellsEnds.{lists}
+use Rattle.comp_mutator.specs.CellEnds.{lists}
 use Rattle.comp_sweep.specs.RegionSplits.{regions_of, AreAllOnce}
 use Rattle.comp_sweep.proofs.Resting.{concluded}
 use Rattle.comp_sweep.proofs.SweepAnswers.{none_swept, still_of}

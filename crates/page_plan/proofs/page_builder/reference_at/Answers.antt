@@ -13,7 +13,7 @@ forward_word-requires c =
     let closed : IsClosed heap = rw c.heap.ensures at c.words.ensures.closed in
     let ends = rw c.requires.start at c.requires.ends in
     rw (words, c.requires.start)
-    (reference-target heap closed cursor.number cursor.within c.requires.known (omega (arith, c.requires.behind)) (omega (arith, ends, c.requires.before)))
+    (reference-target heap closed cursor.number cursor.within c.requires.known (omega (arith, c.requires.after)) (omega (arith, ends, c.requires.before)))
 
 pub returns : goal.returns
 returns c =
@@ -23,6 +23,6 @@ returns c =
     let closed : IsClosed heap = rw c.heap.ensures at c.words.ensures.closed in
     let ends = rw c.requires.start at c.requires.ends in
     let led = word-led heap closed cursor.number cursor.within c.args.start cursor.new_index Reference c.requires.known c.requires.start
-    (c.requires.at.at c.requires.known) (cursor.within - 1, omega (arith, c.requires.behind), omega (arith, c.requires.behind, ends, c.requires.before)) refl in
+    (c.requires.at.at c.requires.known) (cursor.within - 1, omega (arith, c.requires.after), omega (arith, c.requires.after, ends, c.requires.before)) refl in
     sym (ap (λ (new_index : Option ℕ). unwrap_or new_index 0) c.forward_word.ensures)
     ∙ ap (λ (ws : List ℕ). forwarded (live heap) (slice_index ws (c.args.start + cursor.within))) words ∙ sym led

@@ -13,8 +13,8 @@ returns c =
     let words : c.words.result.now ≡ heap.words = cc in
     let closed : IsClosed heap = rw c.heap.ensures at c.words.ensures.closed in
     let ends = rw c.requires.start at c.requires.ends in
-    let behind = rw c.requires.start at c.requires.behind in
+    let after = rw c.requires.start at c.requires.after in
     let refs = refs_of (header_at heap.edition heap.words (slice_index heap.marks cursor.number)) in
     let led = word-led heap closed cursor.number cursor.within c.args.start cursor.new_index Weak c.requires.known c.requires.start
-    (c.requires.at.at c.requires.known) (cursor.within - (1 + refs), omega (arith, behind), omega (arith, behind, ends, c.requires.before)) refl in
+    (c.requires.at.at c.requires.known) (cursor.within - (1 + refs), omega (arith, after), omega (arith, after, ends, c.requires.before)) refl in
     c.forward_weak_word.ensures ∙ ap (λ (ws : List ℕ). forwarded (live heap) (slice_index ws (c.args.start + cursor.within))) words ∙ sym led

@@ -13,5 +13,5 @@ returns c =
     let closed : IsClosed heap = rw c.heap.ensures at c.words-words.ensures.closed in
     let more = c.args.end - cursor.new_index in
     written-copied (slid_words (live heap)) c.args.begin cursor.new_index c.args.end c.args.page.now c.copy_in.new.self _ c.requires.written c.requires.begun c.requires.before
-    (omega arith) c.copy_in.ensures.long c.copy_in.ensures.written c.copy_in.ensures.before c.copy_in.ensures.behind
+    (omega arith) c.copy_in.ensures.long c.copy_in.ensures.written c.copy_in.ensures.before c.copy_in.ensures.after
     (rw words (slid-data heap closed cursor.number cursor.within c.args.start cursor.new_index more c.requires.known c.requires.start ((c.requires.at (omega arith)).at c.requires.known) c.requires.inside (c.requires.others (omega arith))))

@@ -13,5 +13,5 @@ returns c =
     let (k, covers) = covered objects n c.requires in
     let first = c.first_objects.ensures.first.each (n / 64) (omega (arith, c.first_objects.ensures.first.long)) in
     let found = number-found objects bits c.starts.ensures.starts n (get_or firsts (n / 64) 0) k first covers in
-    let number : k ≡ get_or firsts (n / 64) 0 + c.starts_behind-behind.result = omega (arith, found, c.starts_behind-behind.ensures) in
+    let number : k ≡ get_or firsts (n / 64) 0 + c.later_starts-later.result = omega (arith, found, c.later_starts-later.ensures) in
     subst (λ (m : ℕ). Covers objects n m) number covers

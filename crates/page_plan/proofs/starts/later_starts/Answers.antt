@@ -1,6 +1,6 @@
 use Rattle.std.proofs.Common.{◌≡◌, ℕ, ◌-◌, ◌*◌, ◌/◌, ◌%◌, ◌^◌, bit_and, count_ones, ap, ◌∙◌, arith}
 use Rattle.std.proofs.lemmas.Nat.{one_shl, and_mask}
-use Rattle.page_plan.proofs.starts.starts_behind.Goals as goal
+use Rattle.page_plan.proofs.starts.later_starts.Goals as goal
 
 pub returns : goal.returns
 returns c =
