@@ -15,7 +15,7 @@ use Rattle.heap_layout.proofs.Rows.{append-none}
 use Rattle.audit_checks.proofs.Reporting.{item_none, none_items}
 use Rattle.audit_checks.proofs.Meanings.{faultless_is_lawful}
 
--- a page that was built has a place
+-- a page that was built is one of the records
 pub built_inside : (records : List (Option BuiltPage)) (p : ℕ) (page : BuiltPage) → get_or records p None ≡ Some page → p < length records
 built_inside records p page at =
     elim (cases_lt p (length records)) [

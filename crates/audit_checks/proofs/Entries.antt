@@ -11,7 +11,7 @@ use Rattle.comp_history.proofs.Pages.{below_in, total_append}
 use Rattle.comp_dump.specs.Dumped.{BuiltPage, HasFewEntries}
 use Rattle.audit_checks.specs.Checks.{above, all_entries, all_stamps, journal_of, journals_in}
 
--- the journal of a place
+-- the journal of a record
 pub journal_here : (records : List (Option BuiltPage)) (p : ℕ) (kept : Option BuiltPage) → p < length records → kept ≡ get_or records p kept
     → journals_in records p ≡ journal_of kept
 journal_here records p kept inside is = ap journal_of (get_or_default records p None kept inside ∙ sym is)

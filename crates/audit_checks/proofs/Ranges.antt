@@ -51,14 +51,14 @@ found s [] i inside is = absurd (omega (arith, inside))
 found s (x ∷ xs) zero inside is = omega (arith, only_same s x is)
 found s (x ∷ xs) (suc i) inside is = omega (arith, found s xs i (omega (arith, inside)) is)
 
--- at two places
+-- at two positions
 twice : (s : ℕ) (xs : List ℕ) (i j : ℕ) → i < j → j < length xs → s ≡ slice_index xs i → s ≡ slice_index xs j → 2 ≤ times s xs
 twice s [] i j lt inside p q = absurd (omega (arith, inside))
 twice s (x ∷ xs) i zero lt inside p q = absurd (omega (arith, lt))
 twice s (x ∷ xs) zero (suc j) lt inside p q = omega (arith, only_same s x p, found s xs j (omega (arith, inside)) q)
 twice s (x ∷ xs) (suc i) (suc j) lt inside p q = omega (arith, twice s xs i j (omega (arith, lt)) (omega (arith, inside)) p q)
 
--- at no two places
+-- at no two positions
 once : (s : ℕ) (xs : List ℕ) → ((i j : ℕ) → i < j → j < length xs → s ≡ slice_index xs i → s ≡ slice_index xs j → ⊥) → times s xs ≤ 1
 once s [] none = omega arith
 once s (x ∷ xs) none =
@@ -68,7 +68,7 @@ once s (x ∷ xs) none =
       | inr other ↦ omega (arith, only_other s x other, others)
     ]
 
--- a number that is counted stands at some place
+-- a number that is counted stands at some position
 pub somewhere : (s : ℕ) (xs : List ℕ) → 1 ≤ times s xs → (i : ℕ) × (i < length xs) × (s ≡ slice_index xs i)
 somewhere s [] h = absurd (omega (arith, h))
 somewhere s (x ∷ xs) h =
@@ -104,7 +104,7 @@ Sorted xs = (i j : ℕ) → i ≤ j → j < length xs → slice_index xs i ≤ s
 abbrev pub RisesBelow : ℕ → List ℕ → Type 0
 RisesBelow n xs = (k : ℕ) → k + 1 < n → slice_index xs k < slice_index xs (k + 1)
 
--- if numbers rise up to place n, of two places below n the later one has the greater number
+-- if numbers rise up to position n, then of two positions below n the later one has the greater number
 apart : (n : ℕ) (xs : List ℕ) (i j : ℕ) → Sorted xs → RisesBelow n xs → i < j → j < n → n ≤ length xs → slice_index xs i < slice_index xs j
 apart n xs i zero sorted rises lt below inside = absurd (omega (arith, lt))
 apart n xs i (suc j) sorted rises lt below inside =
@@ -143,7 +143,7 @@ none_repeat xs sorted rises =
 not_missing : (s : ℕ) (xs : List ℕ) → 1 ≤ times s xs → missing xs s ≡ []
 not_missing s xs h = rw (le-leb _ _ h) refl
 
--- if each number below i stands at its place and i does not, the number at place i is greater
+-- if each number below i stands at the position of that number and i does not, the number at position i is greater
 past : (xs : List ℕ) (i : ℕ) → RisesBelow (length xs) xs → i < length xs → ((k : ℕ) → k < i → slice_index xs k ≡ k) → (slice_index xs i ≡ i → ⊥) → i < slice_index xs i
 past xs zero rises inside below other = elim (cases_lt 0 (slice_index xs 0)) [ inl lt ↦ lt | inr le ↦ absurd (other (omega (arith, le))) ]
 past xs (suc i) rises inside below other =
@@ -151,7 +151,7 @@ past xs (suc i) rises inside below other =
     let last : slice_index xs i < slice_index xs (suc i) = let h = rises i (omega (arith, inside)) in let e : i + 1 ≡ suc i = omega arith in rw e at h in
     elim (cases_lt (suc i) (slice_index xs (suc i))) [ inl lt ↦ lt | inr le ↦ absurd (other (omega (arith, before, last, le))) ]
 
--- the first number that does not stand at its place
+-- the first number that does not stand at the position of that number
 pub first_missing : (xs : List ℕ) (i : ℕ) → i < length xs → Sorted xs → RisesBelow (length xs) xs → ((k : ℕ) → k < i → slice_index xs k ≡ k) → (slice_index xs i ≡ i → ⊥)
     → IsFirst (missing_faults xs) (StampMissing i)
 first_missing xs i inside sorted rises below other =

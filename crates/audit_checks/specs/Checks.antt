@@ -61,7 +61,7 @@ is_edition One One = true
 is_edition Two Two = true
 is_edition edition other = false
 
--- 1. The dump is of the heap's edition, there is one place for each compacted and each fresh page, and the roots are
+-- 1. The dump is of the heap's edition, there is one record for each compacted and each fresh page, and the roots are
 -- those that the plan forwards.
 abbrev pub head_faults : Setup → Edition → List ℕ → List (Option BuiltPage) → List AuditFault
 head_faults u edition roots records =

@@ -1,7 +1,7 @@
 //! The nine checks of a dump, in the order of their faults. Each answers its first fault.
 ghost use Rattle.std.specs.Prelude.{◌≡◌, ◌<◌, ◌≤◌, All, length};
 ghost use Rattle.comp_history.specs.Setup.{pages};
-ghost use Rattle.comp_history.specs.Ends.{lists as items_of};
+ghost use Rattle.comp_history.specs.CellEnds.{lists as items_of};
 ghost use Rattle.comp_history.specs.Objects.{AreLawful};
 ghost use Rattle.comp_dump.specs.Dumped.{IsStoredList, IsStoredRecord};
 ghost use Rattle.audit_checks.specs.Checks.{journals_in};

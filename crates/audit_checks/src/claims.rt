@@ -1,7 +1,7 @@
 //! The second check: the lists of builds name each page that was built, exactly once, and no other page.
 ghost use Rattle.std.specs.Prelude.{◌≡◌, ℕ, List, ◌+◌, ◌<◌, ◌≤◌, All, IfOk, length, min, slice_index};
 ghost use Rattle.comp_history.specs.Lists.{times};
-ghost use Rattle.comp_history.specs.Ends.{lists as items_of};
+ghost use Rattle.comp_history.specs.CellEnds.{lists as items_of};
 ghost use Rattle.comp_history.specs.Builds.{named};
 ghost use Rattle.audit_checks.specs.Checks.{build_faults, is_claimed};
 ghost use Rattle.comp_dump.specs.Dumped.{IsStoredList};

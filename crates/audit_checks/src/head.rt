@@ -11,8 +11,8 @@ use comp_dump::{AuditFault, DumpedPage};
 use heap_layout::Edition;
 use std::alloc::Global;
 
-/// Checks that the dump is of the plan's edition, has one place for each compacted and each fresh page, and that its
-/// roots are those that the plan forwards.
+/// Checks that the dump is of the plan's edition, that it has one record for each compacted and each fresh page, and
+/// that its roots are those that the plan forwards.
 pub fn check_head(
     alloc: Global,
     setting: Setting<'_>,

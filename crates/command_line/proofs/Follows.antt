@@ -20,7 +20,7 @@ use Rattle.command_line.proofs.KindLists.{or_else_in}
 use Rattle.command_line.proofs.Levels.{shape}
 use Rattle.command_line.proofs.Lexed.{bare_read, is_name, no_dashes, value_read}
 use Rattle.command_line.proofs.LevelSteps.{at, behind, dashes_place, dashes_turn, end_from, fault_after, fault_from, joined_place, joined_turn, option_place, option_turn, plain_ends_nothing, plain_place, plain_turn, text_place, text_turn, trailing_place, value_fault, waiting_for}
-use Rattle.command_line.proofs.FormRules.{Ahead, built_option, built_rule, by_id, by_long, place_behind, same_text}
+use Rattle.command_line.proofs.FormRules.{Ahead, built_option, built_rule, by_id, by_long, position_after, same_text}
 use Rattle.command_line.proofs.Uses.{AreKnown, Use, and_then, argument_known, at_end, base, found_at_end, held, is_missing, option_known, pending_kinds, settle_is, settled_is, use_kinds, use_of}
 
 -- each name of an option is one that a flag can have
@@ -56,7 +56,7 @@ module _ (form : Form) where
   rows_then rows None us = refl
   rows_then rows (Some u) us = refl
 
-  -- the place of the walk
+  -- the position of the walk
   abbrev pub now : List Row → Option Use → ℕ → Bool → Walk
   now rows pending position ended = at rows (held pending) position ended
 
@@ -66,12 +66,12 @@ module _ (form : Form) where
       turn_value : value_fault s rows (held pending) position ≡ pending_kinds rows pending
       turn_value = rw (next.0, and_right (is_pending (built_rule position a) (held pending)) false refl) (settle_is form rows pending known)
 
-      place_value : (t : Bool) → behind s rows (held pending) position t word ≡ now (base rows pending) (Some (a, word)) (place_behind position) t
+      place_value : (t : Bool) → behind s rows (held pending) position t word ≡ now (base rows pending) (Some (a, word)) (position_after position) t
       place_value true = rw (next.0, and_right (is_pending (built_rule position a) (held pending)) false refl, settled_is form rows pending known) refl
       place_value false = rw (next.0, and_right (is_pending (built_rule position a) (held pending)) false refl, settled_is form rows pending known) refl
 
       place_after : (t : Bool) → (t ≡ false → is_flag word ≡ false)
-          → walked s.rules [] (now rows pending position t) word ≡ now (base rows pending) (Some (a, word)) (place_behind position) t
+          → walked s.rules [] (now rows pending position t) word ≡ now (base rows pending) (Some (a, word)) (position_after position) t
       place_after true flag = trailing_place s rows (held pending) position word ∙ place_value true
       place_after false flag = plain_place s rows (held pending) position word (plain_ends_nothing word (flag refl)) (flag refl) ∙ place_value false
 
@@ -80,12 +80,12 @@ module _ (form : Form) where
       turn_after false flag = plain_turn s rows (held pending) position word (plain_ends_nothing word (flag refl)) (flag refl) ∙ turn_value
 
       pub value_after : (t : Bool) → (t ≡ false → is_flag word ≡ false) → fault_from s (now rows pending position t) (word ∷ words)
-          ≡ or_else (pending_kinds rows pending) (fault_from s (now (base rows pending) (Some (a, word)) (place_behind position) t) words)
+          ≡ or_else (pending_kinds rows pending) (fault_from s (now (base rows pending) (Some (a, word)) (position_after position) t) words)
       value_after t flag = fault_after s (now rows pending position t) word words
           ∙ ap₂ (λ k w. or_else k (fault_from s w words)) (turn_after t flag) (place_after t flag)
 
       pub value_end : (t : Bool) → (t ≡ false → is_flag word ≡ false) → end_from s (now rows pending position t) (word ∷ words)
-          ≡ end_from s (now (base rows pending) (Some (a, word)) (place_behind position) t) words
+          ≡ end_from s (now (base rows pending) (Some (a, word)) (position_after position) t) words
       value_end t flag = ap (λ w. end_from s w words) (place_after t flag)
 
     -- a first `--`
@@ -167,7 +167,7 @@ module _ (form : Form) where
         rows_are = ap (finished s.rules) (dashes_end rows pending known position word rest dashes) ∙ later.rows_are;
       }
   follows names (to_next {ended} {a} {ahead} {word} {rest} {given} flag more) rows pending known position next =
-      let later = follows names more (base rows pending) (Some (a, word)) (argument_known form position a next.1) (place_behind position) next.2 in
+      let later = follows names more (base rows pending) (Some (a, word)) (argument_known form position a next.1) (position_after position) next.2 in
       record {
         kinds = value_after rows pending known position a ahead next word rest ended flag
             ∙ ap (or_else (pending_kinds rows pending)) later.kinds ∙ sym (kinds_then rows pending ((a, word) ∷ given));

@@ -1,5 +1,5 @@
--- The options and arguments of a built command. Each is found by its name, an argument also by its place. There is one
--- other flag, for help.
+-- The options and arguments of a built command. Each is found by its name, an argument also by its position. There is
+-- one other flag, for help.
 use Rattle.std.proofs.Common.{◌≡◌, ◌==◌, ◌<◌, ◌≤◌, ◌+◌, ◌&&◌, ◌||◌, ℕ, Bool, cond, true, false, not, refl, sym, ap, arith, List, [], ◌∷◌, ◌++◌, Option, Some, None, length, map, eq-eqb}
 use Rattle.std.specs.Prelude.{find, min}
 use Rattle.std.specs.List.{list_all, list_any}
@@ -16,15 +16,15 @@ use Rattle.command_line.specs.Forms.{Choice, Parameter}
 use Rattle.command_line.specs.Parser.{option_rule, rule}
 use Rattle.command_line.proofs.LevelSteps.{built_help}
 
--- an argument of a built command, at its place
+-- an argument of a built command, at its position
 abbrev pub built_rule : ℕ → Parameter → Rule
 built_rule i a = with_index i (filled (rule a))
 
--- the place after a place
-abbrev pub place_behind : ℕ → ℕ
-place_behind i = min (i + 1) usize_max
+-- the position after a position
+abbrev pub position_after : ℕ → ℕ
+position_after i = min (i + 1) usize_max
 
--- the arguments from a place on, and the flag for help
+-- the arguments from a position on, and the flag for help
 abbrev pub rules_from : ℕ → List Parameter → List Rule
 rules_from i arguments = filled_from i (map rule arguments ++ help_rule ∷ [])
 
@@ -69,7 +69,7 @@ by_long [] arguments name = alone 1 arguments
   where
     alone : (i : ℕ) (arguments : List Parameter) → arg_by_long (rules_from i arguments) name ≡ cond (has_long built_help name) (Some built_help) None
     alone i [] = refl
-    alone i (a ∷ rest) = alone (place_behind i) rest
+    alone i (a ∷ rest) = alone (position_after i) rest
 by_long (o ∷ options) arguments name = go (bytes_eq o.takes.id name) (by_long options arguments name)
   where
     other : Option Rule
@@ -88,7 +88,7 @@ by_short [] arguments c = alone 1 arguments
   where
     alone : (i : ℕ) (arguments : List Parameter) → arg_by_short (rules_from i arguments) c ≡ cond (has_short built_help c) (Some built_help) None
     alone i [] = refl
-    alone i (a ∷ rest) = alone (place_behind i) rest
+    alone i (a ∷ rest) = alone (position_after i) rest
 by_short (o ∷ options) arguments c = by_short options arguments c
 
 -- an option is found by its name
@@ -103,10 +103,10 @@ by_id (c ∷ options) arguments o is = go (bytes_eq c.takes.id o.takes.id) is (b
     go true is later = ap (λ x. Some (built_option x)) (same_Some c o is)
     go false is later = later is
 
--- from a place on, these arguments are found by their places and by their names, and then none is
+-- from a position on, these arguments are found by their positions and by their names, and then none is
 abbrev pub Ahead : List Rule → ℕ → List Parameter → Type 0
 Ahead rules i [] = arg_by_index rules i ≡ None
-Ahead rules i (a ∷ rest) = (arg_by_index rules i ≡ Some (built_rule i a)) × (arg_by_id rules a.id ≡ Some (built_rule i a)) × Ahead rules (place_behind i) rest
+Ahead rules i (a ∷ rest) = (arg_by_index rules i ≡ Some (built_rule i a)) × (arg_by_id rules a.id ≡ Some (built_rule i a)) × Ahead rules (position_after i) rest
 
 -- so they are with one more argument before
 ahead_behind : (b : Parameter) (j : ℕ) (rules : List Rule) (i : ℕ) (arguments : List Parameter) → j < i → j < usize_max → is_name_in arguments b.id ≡ false
@@ -117,17 +117,17 @@ ahead_behind b j rules i [] lt few none h =
 ahead_behind b j rules i (a ∷ rest) lt few none h =
     let apart : (j == i) ≡ false = ne_eqb j i (λ e. omega (arith, e)) in
     let named : bytes_eq b.id a.id ≡ false = (or_parts _ _ none).0 in
-    (rw apart h.0, rw named h.1, ahead_behind b j rules (place_behind i) rest (omega arith) few (or_parts _ _ none).1 h.2)
+    (rw apart h.0, rw named h.1, ahead_behind b j rules (position_after i) rest (omega arith) few (or_parts _ _ none).1 h.2)
 
--- the arguments of a built command are ahead of its first place
+-- the arguments of a built command are ahead of its first position
 pub ahead : (i : ℕ) (arguments : List Parameter) → i + length arguments ≤ usize_max → are_distinct arguments ≡ true → Ahead (rules_from i arguments) i arguments
 ahead i [] few distinct = refl
 ahead i (a ∷ rest) few distinct =
     let here : (i == i) ≡ true = eq-eqb i i refl in (
       rw here refl,
       rw (same_text a.id) refl,
-      ahead_behind a i (rules_from (place_behind i) rest) (place_behind i) rest (omega arith) (omega arith) (distinct_parts a rest distinct).0
-          (ahead (place_behind i) rest (omega arith) (distinct_parts a rest distinct).1),
+      ahead_behind a i (rules_from (position_after i) rest) (position_after i) rest (omega arith) (omega arith) (distinct_parts a rest distinct).0
+          (ahead (position_after i) rest (omega arith) (distinct_parts a rest distinct).1),
     )
 
 -- no argument has the name of an option
@@ -141,7 +141,7 @@ ahead_behind_option o rules i [] apart h = h
 ahead_behind_option o rules i (a ∷ rest) apart h =
     let parts = both _ _ apart in
     let named : bytes_eq o.takes.id a.id ≡ false = (or_parts _ _ (not_true _ parts.0)).0 in
-    (h.0, rw named h.1, ahead_behind_option o rules (place_behind i) rest parts.1 h.2)
+    (h.0, rw named h.1, ahead_behind_option o rules (position_after i) rest parts.1 h.2)
 
 -- names apart from several options are apart from the first, and from the others
 apart_parts : (o : Choice) (options : List Choice) (arguments : List Parameter) → are_apart (o ∷ options) arguments ≡ true

@@ -14,7 +14,7 @@ use Rattle.command_line.proofs.KindLists.{or_else_in, or_else_nil}
 use Rattle.command_line.proofs.Levels.{level}
 use Rattle.command_line.proofs.Lexed.{plain_read}
 
--- ---- places of a walk
+-- ---- positions of a walk
 
 -- what is held if no bundle is cut short
 abbrev pub holding : List Row → Option (Text × List Text) → Held
@@ -44,7 +44,7 @@ end_fault s end =
 unfoldable pub fault_from : Shape → Walk → List Text → Kinds
 fault_from s w words = or_else (walk_fault s [] w words) (end_fault s (end_from s w words))
 
--- what is wrong with all the words is what is wrong from the first place on
+-- what is wrong with all the words is what is wrong from the first position on
 pub level_is : (s : Shape) (rest : List Text) → level s rest ≡ fault_from s (at [] None 1 false) rest
 unfolding fault_from
 level_is s rest = refl
@@ -62,17 +62,17 @@ fault_after s w word rest = or_else_in (turn_fault s [] w word) (walk_fault s []
 
 -- ---- what a word that is a value does
 
--- what is wrong with a value at a place
+-- what is wrong with a value at a position
 abbrev pub value_fault : Shape → List Row → Option (Text × List Text) → ℕ → Kinds
 value_fault s rows pending position = step_fault s position (holding rows pending) value
 
--- the place after a value
+-- the position after a value
 abbrev pub behind : Shape → List Row → Option (Text × List Text) → ℕ → Bool → Text → Walk
 behind s rows pending position is_trailing word =
     to_positional s.rules (arg_by_index s.rules position) word (at rows pending position is_trailing) (holding rows pending)
 
 module _ (s : Shape) (rows : List Row) (pending : Option (Text × List Text)) (position : ℕ) where
-  -- after a first `--` each word is a value, and the next place is the one after that value
+  -- after a first `--` each word is a value, and the next position is the one after that value
   pub trailing_place : (word : Text) → walked s.rules [] (at rows pending position true) word ≡ behind s rows pending position true word
   unfolding walked
   trailing_place word = refl
@@ -82,7 +82,7 @@ module _ (s : Shape) (rows : List Row) (pending : Option (Text × List Text)) (p
       → turn_fault s [] (at rows pending position false) word ≡ value_fault s rows pending position
   plain_turn word dashes flag = rw (dashes, (plain_read word flag).0, (plain_read word flag).1)
 
-  -- and the next place is the one after that value
+  -- and the next position is the one after that value
   pub plain_place : (word : Text) → bytes_eq word (codes "--") ≡ false → is_flag word ≡ false
       → walked s.rules [] (at rows pending position false) word ≡ behind s rows pending position false word
   unfolding walked

@@ -15,3 +15,4 @@ pub mod Chosen
 pub mod Parsed
 pub mod Found
 pub mod NextFound
+pub mod RunCounts

@@ -22,7 +22,7 @@ use Rattle.command_line.proofs.KindLists.{NoAnswer, Refuses, refuses_after, refu
 use Rattle.command_line.proofs.Levels.{shape}
 use Rattle.command_line.proofs.Lexed.{IsBundle, IsLong, flag_read, name_with}
 use Rattle.command_line.proofs.LevelSteps.{at, built_help, end_fault, fault_after, fault_at_end, fault_from, holding, plain_turn, plain_ends_nothing, value_fault, waiting_for}
-use Rattle.command_line.proofs.FormRules.{Ahead, built_option, built_rule, by_id, by_long, by_short, option_named, place_behind}
+use Rattle.command_line.proofs.FormRules.{Ahead, built_option, built_rule, by_id, by_long, by_short, option_named, position_after}
 use Rattle.command_line.proofs.Uses.{AreKnown, Use, argument_known, base, held, option_known, pending_kinds, settle_is, use_of}
 use Rattle.command_line.proofs.Follows.{apart_after, dashes_after, joined_after, now, option_after, value_after}
 
@@ -156,12 +156,12 @@ module _ (form : Form) where
 
   -- with one more word that goes to the next argument, or to none
   one_more : (ended : Bool) (word : Text) (words : List Text) → (ended ≡ false → is_flag word ≡ false) → (ahead : List Parameter) (position : ℕ) → Ahead s.rules position ahead
-      → ((rest : List Parameter) → Ahead s.rules (place_behind position) rest → Reading ended rest (place_behind position) words) → Reading ended ahead position (word ∷ words)
+      → ((rest : List Parameter) → Ahead s.rules (position_after position) rest → Reading ended rest (position_after position) words) → Reading ended ahead position (word ∷ words)
   one_more ended word words flag [] position next later =
       inr (λ rows pending known. stray (list_any is_help (word ∷ words)) rows (held pending) position next word words ended flag)
   one_more ended word words flag (a ∷ rest) position next later = go (later rest next.2)
     where
-      go : Reading ended rest (place_behind position) words → Reading ended (a ∷ rest) position (word ∷ words)
+      go : Reading ended rest (position_after position) words → Reading ended (a ∷ rest) position (word ∷ words)
       go (inl (given, g)) = inl ((a, word) ∷ given, to_next flag g)
       go (inr bad) = inr (λ rows pending known.
           subst (Refuses (list_any is_help (word ∷ words))) (sym (value_after form rows pending known position a rest next word words ended flag))
@@ -172,9 +172,9 @@ module _ (form : Form) where
   ended_reading : (words : List Text) (ahead : List Parameter) (position : ℕ) → Ahead s.rules position ahead → Reading true ahead position words
   ended_reading [] ahead position next = inl ([], no_word)
   ended_reading (word ∷ words) ahead position next =
-      one_more true word words (λ e. absurd (true≢false e)) ahead position next (λ rest h. ended_reading words rest (place_behind position) h)
+      one_more true word words (λ e. absurd (true≢false e)) ahead position next (λ rest h. ended_reading words rest (position_after position) h)
 
-  -- the words read so at each place
+  -- the words read so at each position
   abbrev ReadsHere : List Text → Type 0
   ReadsHere words = (ahead : List Parameter) (position : ℕ) → Ahead s.rules position ahead → Reading false ahead position words
 
@@ -308,7 +308,7 @@ module _ (form : Form) where
       go : ReadsHere words × ReadsHere (behind_first words) → (d : Bool) → bytes_eq word (codes "--") ≡ d → (f : Bool) → is_flag word ≡ f → ReadsHere (word ∷ words)
       go more true e f h = dashes_reading word words e
       go more false e true h = flag_reading word words (All-head IsUtf8 word words utf8) (All-tail IsUtf8 word words utf8) e h more.0 more.1
-      go more false e false h = λ ahead position next. one_more false word words (λ _. h) ahead position next (λ rest n. more.0 rest (place_behind position) n)
+      go more false e false h = λ ahead position next. one_more false word words (λ _. h) ahead position next (λ rest n. more.0 rest (position_after position) n)
 
   -- the words after a command's name give texts, or clap refuses them
   pub reading : (words : List Text) → All IsUtf8 words → Ahead s.rules 1 form.arguments → Reading false form.arguments 1 words

@@ -206,7 +206,7 @@ one_of_these forms form command = found_one forms form.name form command.is_one
 
 -- ---- a first word that is a command's name
 
--- the place of the walk after the name, with the words after that
+-- the position of the walk after the name, with the words after that
 abbrev met : Text → List Text → Walk
 met name rest = record start { stopped = Some (name, rest) }
 

@@ -12,7 +12,7 @@ use Rattle.command_line.specs.Forms.{Choice, Form, Parameter}
 use Rattle.command_line.specs.Parser.{rule}
 use Rattle.command_line.proofs.Levels.{shape}
 use Rattle.command_line.proofs.LevelSteps.{at, end_from, fault_at_end, fault_from, holding}
-use Rattle.command_line.proofs.FormRules.{all_rules, built_option, built_rule, place_behind, rules_from}
+use Rattle.command_line.proofs.FormRules.{all_rules, built_option, built_rule, position_after, rules_from}
 
 -- an argument or an option, and the text that it is given
 abbrev pub Use : Type 0
@@ -56,7 +56,7 @@ no_defaults [] arguments = alone 1 arguments
   where
     alone : (i : ℕ) (arguments : List Parameter) → list_all (λ a. is_empty a.defaults) (rules_from i arguments) ≡ true
     alone i [] = refl
-    alone i (a ∷ rest) = alone (place_behind i) rest
+    alone i (a ∷ rest) = alone (position_after i) rest
 no_defaults (o ∷ options) arguments = no_defaults options arguments
 
 -- then none is wrong
@@ -82,7 +82,7 @@ defaults_add_none [] arguments rows = alone 1 arguments rows
   where
     alone : (i : ℕ) (arguments : List Parameter) (rows : List Row) → fold with_default rows (rules_from i arguments) ≡ rows
     alone i [] rows = same_rows (has_row (codes "help") rows) rows
-    alone i (a ∷ rest) rows = ap (λ xs. fold with_default xs (rules_from (place_behind i) rest)) (same_rows (has_row a.id rows) rows) ∙ alone (place_behind i) rest rows
+    alone i (a ∷ rest) rows = ap (λ xs. fold with_default xs (rules_from (position_after i) rest)) (same_rows (has_row a.id rows) rows) ∙ alone (position_after i) rest rows
 defaults_add_none (o ∷ options) arguments rows =
     ap (λ xs. fold with_default xs (all_rules options arguments)) (same_rows (has_row o.takes.id rows) rows) ∙ defaults_add_none options arguments rows
 
@@ -94,7 +94,7 @@ missing_rules [] arguments rows = alone 1 arguments
     alone : (i : ℕ) (arguments : List Parameter)
         → list_any (λ a. a.required && not (is_given a.id rows)) (rules_from i arguments) ≡ list_any (is_missing rows) arguments
     alone i [] = refl
-    alone i (a ∷ rest) = ap (λ b. is_missing rows a || b) (alone (place_behind i) rest)
+    alone i (a ∷ rest) = ap (λ b. is_missing rows a || b) (alone (position_after i) rest)
 missing_rules (o ∷ options) arguments rows = missing_rules options arguments rows
 
 module _ (form : Form) where

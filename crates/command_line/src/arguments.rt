@@ -26,6 +26,7 @@ pub(crate) fn with_argument<'a>(command: Made<'a>, argument: Arg<'a>) -> Made<'a
     command?.arg(argument)
 }
 
+/// The option `--mutators`, which takes a number from 1 to 64.
 pub(crate) fn mutators_option<'a>(alloc: Global) -> Arg<'a>
     ensures rule { rule_of result ≡ option_rule mutators }
     ensures local { result.global ≡ false }
@@ -39,6 +40,7 @@ pub(crate) fn mutators_option<'a>(alloc: Global) -> Arg<'a>
     )
 }
 
+/// The option `--fresh`, which takes a number from 0 to 4,096.
 pub(crate) fn fresh_option<'a>(alloc: Global) -> Arg<'a>
     ensures rule { rule_of result ≡ option_rule fresh }
     ensures local { result.global ≡ false }
@@ -52,6 +54,7 @@ pub(crate) fn fresh_option<'a>(alloc: Global) -> Arg<'a>
     )
 }
 
+/// The option `--workers`, which takes a number from 1 to 64.
 pub(crate) fn workers_option<'a>(alloc: Global) -> Arg<'a>
     ensures rule { rule_of result ≡ option_rule workers }
     ensures local { result.global ≡ false }
@@ -65,6 +68,7 @@ pub(crate) fn workers_option<'a>(alloc: Global) -> Arg<'a>
     )
 }
 
+// An option of this name and help that takes a number from `low` to `high`.
 fn number_option<'a>(alloc: Global, name: &'a str, low: u64, high: u64, help: &'a str) -> Arg<'a>
     ensures rule { rule_of result ≡ optional_rule (number_within name.entry.now low high) }
     ensures local { result.global ≡ false }
@@ -76,6 +80,7 @@ fn number_option<'a>(alloc: Global, name: &'a str, low: u64, high: u64, help: &'
         .help(help)
 }
 
+/// The argument `IMAGE`, a path.
 pub(crate) fn image_argument<'a>(alloc: Global) -> Arg<'a>
     ensures rule { rule_of result ≡ rule (text (codes "IMAGE")) }
     ensures local { result.global ≡ false }
@@ -83,6 +88,7 @@ pub(crate) fn image_argument<'a>(alloc: Global) -> Arg<'a>
     path_argument(alloc, "IMAGE", "The heap's image")
 }
 
+/// The argument `INDEX`, a number of 64 bits.
 pub(crate) fn index_argument<'a>(alloc: Global) -> Arg<'a>
     ensures rule { rule_of result ≡ rule (number (codes "INDEX")) }
     ensures local { result.global ≡ false }
@@ -93,6 +99,7 @@ pub(crate) fn index_argument<'a>(alloc: Global) -> Arg<'a>
         .help("The word's index, from 0")
 }
 
+/// The argument `TRACE`, a path.
 pub(crate) fn trace_argument<'a>(alloc: Global) -> Arg<'a>
     ensures rule { rule_of result ≡ rule (text (codes "TRACE")) }
     ensures local { result.global ≡ false }
@@ -100,6 +107,7 @@ pub(crate) fn trace_argument<'a>(alloc: Global) -> Arg<'a>
     path_argument(alloc, "TRACE", "The trace")
 }
 
+/// The argument `DUMP`, a path.
 pub(crate) fn dump_argument<'a>(alloc: Global) -> Arg<'a>
     ensures rule { rule_of result ≡ rule (text (codes "DUMP")) }
     ensures local { result.global ≡ false }
@@ -107,6 +115,7 @@ pub(crate) fn dump_argument<'a>(alloc: Global) -> Arg<'a>
     path_argument(alloc, "DUMP", "Where the dump is written")
 }
 
+/// An argument of this name and help, a path.
 pub(crate) fn path_argument<'a>(alloc: Global, name: &'a str, help: &'a str) -> Arg<'a>
     ensures rule { rule_of result ≡ rule (text name.entry.now) }
     ensures local { result.global ≡ false }

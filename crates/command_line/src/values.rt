@@ -5,11 +5,13 @@ ghost use Rattle.command_line.specs.Given.{IsNumber, IsNumberOr};
 
 use clap::ArgMatches;
 
-/// The numbers of mutators, of fresh pages and of workers, if the words give none.
+/// The number of mutators, if the words give none.
 pub(crate) const DEFAULT_MUTATORS: u64 = 2;
 
+/// The number of fresh pages, if the words give none.
 pub(crate) const DEFAULT_FRESH: u64 = 64;
 
+/// The number of workers, if the words give none.
 pub(crate) const DEFAULT_WORKERS: u64 = 2;
 
 /// The text of an argument that was found.

@@ -159,6 +159,7 @@ fn answer_task<'a>(alloc: Global, error: Error) -> Result<Task<'a>, Error>
     }
 }
 
+// The program with its commands, as defined for clap.
 fn command<'a>(alloc: Global) -> Made<'a>
     ensures { IfOk result (λ made. app_of made ≡ program standing) }
 {
@@ -179,6 +180,7 @@ fn with_command<'a>(program: Made<'a>, command: Made<'a>) -> Made<'a>
     program?.subcommand(command?)
 }
 
+// The program without commands, as defined for clap.
 fn bare_command<'a>(alloc: Global) -> Made<'a>
     ensures { IfOk result (λ made. app_of made ≡ bare_program) }
 {
@@ -192,6 +194,7 @@ fn bare_command<'a>(alloc: Global) -> Made<'a>
     )
 }
 
+// The command `plan`, as defined for clap.
 fn plan_command<'a>(alloc: Global) -> Made<'a>
     ensures { IfOk result (λ made. app_of made ≡ command_of plan_form) }
 {
@@ -203,6 +206,7 @@ fn plan_command<'a>(alloc: Global) -> Made<'a>
     with_argument(plan, image_argument(alloc))
 }
 
+// The command `word`, as defined for clap.
 fn word_command<'a>(alloc: Global) -> Made<'a>
     ensures { IfOk result (λ made. app_of made ≡ command_of word_form) }
 {
@@ -211,6 +215,7 @@ fn word_command<'a>(alloc: Global) -> Made<'a>
     with_argument(of_image, index_argument(alloc))
 }
 
+// The command `replay`, as defined for clap.
 fn replay_command<'a>(alloc: Global) -> Made<'a>
     ensures { IfOk result (λ made. app_of made ≡ command_of replay_form) }
 {
@@ -221,6 +226,7 @@ fn replay_command<'a>(alloc: Global) -> Made<'a>
     )
 }
 
+// The command `race`, as defined for clap.
 fn race_command<'a>(alloc: Global) -> Made<'a>
     ensures { IfOk result (λ made. app_of made ≡ command_of race_form) }
 {
@@ -231,6 +237,7 @@ fn race_command<'a>(alloc: Global) -> Made<'a>
     )
 }
 
+// A command of this name that runs a trace, with this line of help, as defined for clap.
 fn run_command<'a>(alloc: Global, name: &'a str, about: &'a str) -> Made<'a>
     ensures { IfOk result (λ made. app_of made ≡ command_of (run_form name.entry.now)) }
 {
@@ -242,6 +249,7 @@ fn run_command<'a>(alloc: Global, name: &'a str, about: &'a str) -> Made<'a>
     with_argument(of_trace, dump_argument(alloc))
 }
 
+// The command `compact`, as defined for clap.
 fn compact_command<'a>(alloc: Global) -> Made<'a>
     ensures { IfOk result (λ made. app_of made ≡ command_of compact_form) }
 {
@@ -255,6 +263,7 @@ fn compact_command<'a>(alloc: Global) -> Made<'a>
     with_argument(of_image, dump_argument(alloc))
 }
 
+// The command `audit`, as defined for clap.
 fn audit_command<'a>(alloc: Global) -> Made<'a>
     ensures { IfOk result (λ made. app_of made ≡ command_of audit_form) }
 {

@@ -33,7 +33,7 @@ journals_of dump = journals_in dump.pages
 pub record IsLawfulDump (u : Setup) (dump : Dumped) : Type 0 where
   -- it is of the heap's edition
   pub edition : dump.edition ≡ u.heap.edition
-  -- there is a place for each page
+  -- there is a record for each page
   pub slots : length dump.pages ≡ pages u
   -- the roots lead to where the objects slid
   pub roots : dump.roots ≡ map (forwarded (live u.heap)) u.heap.roots

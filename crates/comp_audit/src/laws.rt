@@ -7,9 +7,9 @@ pub fn faultless_is_lawful()
     ensures { FaultlessIsLawful }
 {}
 
-/// If the heap is accepted, the dump is in range and the audit says yes, then a compaction can have left the dump: its
-/// entries have one history, which a single thread could have written, and each of its references and weak words is
-/// null or the address of an object.
+/// If the heap is accepted, the dump is in range and the audit says yes, then a compaction can have left the dump. Its
+/// entries have one history, which a single thread could have written. Each of its references and weak words is null or
+/// the address of an object.
 pub fn yes_is_sound()
     ensures { YesIsSound }
 {}

@@ -3,11 +3,16 @@
 --     version      4 bytes: 1 in edition one, 2 in edition two
 --     counts       4 bytes each: mutators, fresh pages, all pages, roots
 --     roots        8 bytes each
---     pages        for each a byte 0 if it was never built; else a byte 1, its 64 words of 8 bytes,
---                  the number of its entries in 4 bytes, and the entries
---     builds       for each mutator the number of its pages in 4 bytes, and 4 bytes for each page
+--     pages        1 byte for a page that was never built: 0. Else
+--         built    1 byte: 1
+--         words    8 bytes each: 64 words
+--         count    4 bytes: the number of its entries
+--         entries  19 bytes each
+--     builds       for each mutator
+--         count    4 bytes: the number of the pages that it built
+--         pages    4 bytes each: their numbers
 --     total        8 bytes
--- An entry has 19 bytes: stamp (8), writer (1), kind (1), offset (1), value (8).
+-- An entry has a stamp (8 bytes), a writer (1), a kind (1), an offset (1) and a value (8).
 use Rattle.std.specs.Prelude.{ℕ, List, ◌++◌, length, codes, Option, Some, None}
 use Rattle.std.specs.List.{flat_map}
 use Rattle.byteorder.specs.Endian.{little_bytes}

@@ -1,5 +1,5 @@
 ghost use Rattle.std.specs.Prelude.{◌≡◌};
-ghost use Rattle.comp_cycles.specs.PageCellsEnds.{lists as items_of};
+ghost use Rattle.comp_cycles.specs.CellEnds.{lists as items_of};
 ghost use Rattle.comp_dump.specs.Dumped.{IsStored};
 
 use crate::page::DumpedPage;
@@ -23,7 +23,7 @@ pub struct Dump<'a> {
 }
 
 impl<'a> Model for Dump<'a> {
-    ghost use Rattle.comp_cycles.specs.PageCellsEnds.{lists as items_of};
+    ghost use Rattle.comp_cycles.specs.CellEnds.{lists as items_of};
     ghost use Rattle.comp_dump.specs.Dumped.{Dumped, IsStored};
 
     ghost Value = { Dumped };

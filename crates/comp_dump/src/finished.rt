@@ -1,6 +1,6 @@
 //! Dumps of finished heaps.
 ghost use Rattle.std.specs.Prelude.{◌≡◌, ◌^◌, ◌<◌, All, IfOk, map};
-ghost use Rattle.comp_cycles.specs.PageCellsEnds.{lists as items_of};
+ghost use Rattle.comp_cycles.specs.CellEnds.{lists as items_of};
 ghost use Rattle.comp_cycles.specs.Finishes.{edition_in, builds_in, live_of, pages_of, roots_of, IsOfFlip};
 ghost use Rattle.comp_dump.specs.Lent.{record_of, IsTypedRecord};
 

@@ -3,7 +3,7 @@ ghost use Rattle.std.specs.Prelude.{◌≡◌, ◌-◌, ◌^◌, ◌<◌, ◌≤
 ghost use Rattle.std.specs.Io.KnownBytes.{Consumes};
 ghost use Rattle.std.specs.List.{flat_map};
 ghost use Rattle.heap_layout.specs.Counted.{inner_of, failures_of};
-ghost use Rattle.comp_cycles.specs.PageCellsEnds.{lists as items_of};
+ghost use Rattle.comp_cycles.specs.CellEnds.{lists as items_of};
 ghost use Rattle.comp_dump.specs.Dumped.{AreCounts, IsStored, IsStoredList};
 ghost use Rattle.comp_dump.specs.DumpEncoding.{builds_bytes, dump_bytes, eight_bytes, four_bytes, head};
 ghost use Rattle.comp_dump.specs.DumpReading as reading;

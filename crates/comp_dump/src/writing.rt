@@ -3,7 +3,7 @@ ghost use Rattle.std.specs.Prelude.{◌≡◌, ◌-◌, ◌^◌, ◌<◌, ◌≤
 ghost use Rattle.std.specs.List.{flat_map};
 ghost use Rattle.heap_layout.specs.Counted.{inner_of, failures_of};
 ghost use Rattle.heap_layout.specs.Writing.{Writes, CountsOne};
-ghost use Rattle.comp_cycles.specs.PageCellsEnds.{lists as items_of};
+ghost use Rattle.comp_cycles.specs.CellEnds.{lists as items_of};
 ghost use Rattle.comp_dump.specs.Codes.{kind_code};
 ghost use Rattle.comp_dump.specs.Dumped.{HasFewEntries, IsWritable};
 ghost use Rattle.comp_dump.specs.DumpEncoding.{builds_bytes, dump_bytes, eight_bytes, entry_bytes, one_byte, page_bytes};

@@ -17,4 +17,4 @@ pub use Rattle.trace_replay.specs.Heaps
 pub use Rattle.trace_steps.specs.Rounds
 pub use Rattle.trace_replay.specs.Runs
 pub use Rattle.trace_steps.specs.declared.shown.Shown
-pub use Rattle.trace_steps.specs.Traces as TraceStepsTraces
+pub use Rattle.trace_steps.specs.TraceLines

@@ -6,7 +6,8 @@ use Rattle.trace_race.specs.Races.{numbered, own_lines}
 use Rattle.trace_text.specs.declared.line.Line.{Line}
 use Rattle.trace_race.specs.declared.chains.Chains.{Chains}
 
--- The first line of the mutator from index `start` on is at `position`; if there is none, `position` is the number of lines.
+-- The first line of the mutator from index `start` on is at `position`. If there is none, `position` is the number of
+-- lines.
 pub record IsNextOwn (lines : List Line) (number start position : ℕ) : Type 0 where
   pub above : start ≤ position
   pub inside : position ≤ length lines

@@ -8,7 +8,7 @@ ghost use Rattle.trace_race.specs.Chains.{AreChained};
 ghost use Rattle.trace_race.specs.Races.{HaveRaced};
 ghost use Rattle.trace_steps.specs.AllMutators.{AreAll};
 ghost use Rattle.trace_race.specs.Runners.{mutator_of, room_in, room_of, run_of, RanItsLines, HaveRooms, IsBlank, IsReady};
-ghost use Rattle.trace_steps.specs.Traces.{AllFit, IsParsedFor};
+ghost use Rattle.trace_steps.specs.TraceLines.{AllFit, IsParsedFor};
 ghost use Rattle.trace_text.specs.Traces.{lines_of};
 
 use crate::chains::{Chains, chained};

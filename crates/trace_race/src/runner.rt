@@ -5,7 +5,7 @@ ghost use Rattle.comp_mutator.specs.Orders.{number_of_mutator};
 ghost use Rattle.trace_steps.specs.Acting.{null_registers};
 ghost use Rattle.trace_race.specs.Races.{numbered, own_lines, Ran};
 ghost use Rattle.trace_race.specs.Chains.{AreChained};
-ghost use Rattle.trace_steps.specs.Traces.{AllFit};
+ghost use Rattle.trace_steps.specs.TraceLines.{AllFit};
 
 use crate::chains::Chains;
 use crate::waiting::act_waiting;

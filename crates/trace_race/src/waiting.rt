@@ -13,8 +13,8 @@ use std::sync::ledger::Ledger;
 use trace_steps::act;
 use trace_text::Action;
 
-/// Like `act`, but retries while the page is busy. Requires a mutator of this space, and a line whose registers and root
-/// exist.
+/// Like `act`, but retries while the page is busy. Requires a mutator of this space, and a line whose registers and
+/// root exist.
 pub(crate) fn act_waiting<L: Ledger, B: Builder>(
     alloc: Global,
     rt: &impl Wait,

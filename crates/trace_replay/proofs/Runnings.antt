@@ -23,7 +23,7 @@ use Rattle.comp_mutator.specs.declared.space.Space.{Space}
 use Rattle.trace_steps.specs.AllMutators.{AreAll}
 use Rattle.trace_steps.specs.Builds.{built_by, HaveBuilt}
 use Rattle.trace_steps.specs.WrittenEntries.{written_by_each, DidNothingYet}
-use Rattle.trace_steps.specs.Traces.{AllFit}
+use Rattle.trace_steps.specs.TraceLines.{AllFit}
 use Rattle.trace_steps.specs.declared.shown.Shown.{Shown}
 use Rattle.trace_text.specs.declared.fault.TraceFault.{TraceFault}
 use Rattle.trace_text.specs.declared.line.Line.{Line}

@@ -34,8 +34,8 @@ BuiltTo before after end = HaveBuilt before [] → HaveBuilt after end.built
 abbrev pub SeenTo : {L : Type 0} → Journals → List (Mutator L) → List Line → Moment → Type 0
 SeenTo start after lines end = 0 < length lines → HaveSeen after (with_entries start end.added)
 
--- for all journals that have exactly what the mutators had done before, they ran the lines to some moment, and the lines
--- showed these values
+-- for all journals that have exactly what the mutators had done before, they ran the lines to some moment, and the
+-- lines showed these values
 abbrev pub HaveReplayed : {L : Type 0} → Setup → List (Mutator L) → List (Mutator L) → List Line → List Shown → Type 0
 HaveReplayed u before after lines shown =
     (start : Journals) → HaveAll before start → (end : Moment) × RanTo u (length before) start (written_by_each before) (written_by_each after) lines shown end

@@ -13,8 +13,11 @@ use Rattle.trace_text.specs.declared.line.Line.{Line}
 use Rattle.trace_steps.specs.declared.shown.Shown.{Shown}
 use Rattle.trace_steps.specs.Lines.{with_entries, Acts}
 
--- A moment of a run: the words in the registers of each mutator, the entries that were added since the run began, the
--- values that were shown, each with its line, and the pages that were built, each with the mutator that built it.
+-- A moment of a run.
+--     registers    the words in the registers of each mutator
+--     added        the entries that were added since the run began, each with its page
+--     shown        the values that were shown, each with its line
+--     built        the pages that were built, each with the mutator that built it
 pub record Moment : Type 0 where
   pub registers : ℕ → List ℕ
   pub added : List (ℕ × Entry)
@@ -62,8 +65,9 @@ pub record MayBegin (u : Setup) (lines : List Line) (start : Journals) : Type 0 
   pub lawful : (p : ℕ) → IsLawful u p (start p)
   pub mutators : All (λ (line : Line). line.mutator < u.mutators) lines
 
--- Two runs of the same lines, from journals that are the same except for stamps, show the same values, leave the same
--- words in the registers, build the same pages by the same mutators, and add the same entries except for stamps.
+-- Two runs of the same lines begin with journals that are the same except for stamps. They then show the same values
+-- and leave the same words in the registers. The same mutators build the same pages. The same entries are added, except
+-- for stamps.
 abbrev pub IsDetermined : Setup → List Line → Type 0
 IsDetermined u lines = (start other : Journals) → MayBegin u lines start → ((p : ℕ) → map unstamped (start p) ≡ map unstamped (other p))
     → (a b : Moment) → Runs u start 1 lines beginning a → Runs u other 1 lines beginning b → AreAlike a b

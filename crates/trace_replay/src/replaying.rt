@@ -6,7 +6,7 @@ ghost use Rattle.trace_steps.specs.WrittenEntries.{HaveSeenAll, HaveStart};
 ghost use Rattle.trace_steps.specs.AllMutators.{AreAll};
 ghost use Rattle.trace_replay.specs.Replays.{CannotGoOn, GoesOn, HaveReplayed, HaveStopped, IsRefusal, RanNothing};
 ghost use Rattle.trace_steps.specs.Rounds.{AreLater, DidNothing};
-ghost use Rattle.trace_steps.specs.Traces.{AllFit, IsParsedFor};
+ghost use Rattle.trace_steps.specs.TraceLines.{AllFit, IsParsedFor};
 ghost use Rattle.trace_text.specs.Traces.{lines_of};
 
 use comp_mutator::{Builder, Mutator, Refusal, Space};

@@ -5,7 +5,7 @@ ghost use Rattle.page_plan.specs.Sliding.{pages};
 ghost use Rattle.comp_mutator.specs.CellViews.{steps_of, AreNew};
 ghost use Rattle.comp_mutator.specs.Finishes.{IsOfFlip};
 ghost use Rattle.comp_mutator.specs.Mutators.{cells_of, pass_of, setup_of, AreMutatorsOf};
-ghost use Rattle.trace_steps.specs.Traces.{IsParsedFor};
+ghost use Rattle.trace_steps.specs.TraceLines.{IsParsedFor};
 ghost use Rattle.trace_text.specs.Traces.{lines_of, mutators_of, roots_of};
 ghost use Rattle.trace_replay.specs.Heaps.{HasRunOver, IsHaltOf};
 

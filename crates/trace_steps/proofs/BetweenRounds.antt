@@ -1,4 +1,5 @@
--- A line between two rounds of meetings: its mutator then knows all that the mutators did, before the line and after it.
+-- A line between two rounds of meetings: its mutator then knows all that the mutators did, before the line and after
+-- it.
 use Rattle.std.proofs.Common.{◌≡◌, ◌≢◌, ℕ, ◌<◌, ◌≤◌, List, [], ◌∷◌, ◌++◌, refl, sym, ap, subst, ◌∙◌, arith}
 use Rattle.std.specs.List.{All}
 use Rattle.std.proofs.lemmas.List.{append-nil}

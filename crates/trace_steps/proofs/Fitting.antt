@@ -5,7 +5,7 @@ use Rattle.std.proofs.lemmas.Bool.{leb-false, or_parts}
 use Rattle.std.specs.List.{list_all, list_any}
 use Rattle.comp_mutator.specs.Setup.{Setup}
 use Rattle.trace_steps.specs.Acting.{Fits}
-use Rattle.trace_steps.specs.Traces.{AllFit}
+use Rattle.trace_steps.specs.TraceLines.{AllFit}
 use Rattle.trace_text.specs.Grammar.{is_too_large, is_within, registers_of, roots_of}
 use Rattle.trace_text.specs.declared.fault.TraceFault.{TraceFault}
 use Rattle.trace_text.specs.declared.fault.TraceFault.TheVariants.{NoSuchMutator, NoSuchRegister, NumberTooLarge, NoSuchRoot}

@@ -52,7 +52,7 @@ shown_at n (New to refs weak data_words tag) answer = []
 shown_at n (Nil to) answer = []
 
 -- What the call of a line answers, if it takes the pass from `old` to `new`. A read answers the word that the journals
--- then seen give, a write the stamp of its one entry, an allocation the place of the new object. A root answers its
+-- then seen give, a write the stamp of its one entry, an allocation the address of the new object. A root answers its
 -- forwarding address, and makes no call.
 abbrev pub Answers : Setup → Action → List ℕ → Pass → Pass → ℕ → Type 0
 Answers u (Root to root) registers old new answer = (new ≡ old) × (forward (live u.heap) (slice_index u.heap.roots root) ≡ Some answer)

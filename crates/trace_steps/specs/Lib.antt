@@ -1,5 +1,5 @@
 pub mod Acting
-pub mod Traces
+pub mod TraceLines
 pub mod Builds
 pub mod WrittenEntries
 pub mod Rounds

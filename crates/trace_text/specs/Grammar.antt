@@ -122,8 +122,8 @@ trace_of mutators roots text = read_from mutators roots 1 (parts 10 text)
 -- the answer is what was to be read, unless memory ran out
 abbrev pub IsReadAs : {A B : Type 0} → (A → B) → Result A TraceFault → Result B TraceFault → Type 0
 IsReadAs view (Ok x) read = read ≡ Ok (view x)
-IsReadAs view (Err fault) read = IsTold fault read
+IsReadAs view (Err fault) read = IsReported fault read
   where
-    IsTold : {B : Type 0} → TraceFault → Result B TraceFault → Type 0
-    IsTold OutOfMemory read = Unit {0}
-    IsTold fault read = read ≡ Err fault
+    IsReported : {B : Type 0} → TraceFault → Result B TraceFault → Type 0
+    IsReported OutOfMemory read = Unit {0}
+    IsReported fault read = read ≡ Err fault

@@ -16,6 +16,7 @@ use crate::numbers::{
 // The number of registers of a mutator.
 const REGISTERS: u64 = 16;
 
+// The number of a register, or a fault of line `n` if there is no such register.
 fn register(number: Number, n: u64) -> Result<u8, TraceFault>
     ensures { result ≡ (if nat_le 16 (size number) then Err (faults.NoSuchRegister n) else Ok (size number)) }
 {
@@ -25,6 +26,7 @@ fn register(number: Number, n: u64) -> Result<u8, TraceFault>
     }
 }
 
+// The number of a field, or a fault of line `n` if it is 65,536 or more.
 fn read_field(number: Number, n: u64) -> Result<u16, TraceFault>
     ensures { result ≡ (if nat_le 65536 (size number) then Err (faults.NumberTooLarge n) else Ok (size number)) }
 {
@@ -34,6 +36,7 @@ fn read_field(number: Number, n: u64) -> Result<u16, TraceFault>
     }
 }
 
+// A tag, or a fault of line `n` if the number is 2^32 or more.
 fn read_tag(number: Number, n: u64) -> Result<u32, TraceFault>
     ensures { result ≡ (if nat_le 4294967296 (size number) then Err (faults.NumberTooLarge n) else Ok (size number)) }
 {
@@ -43,6 +46,7 @@ fn read_tag(number: Number, n: u64) -> Result<u32, TraceFault>
     }
 }
 
+// The value of a word, or a fault of line `n` if the number is 2^64 or more.
 fn read_value(number: Number, n: u64) -> Result<u64, TraceFault>
     ensures { result ≡ (if nat_le 18446744073709551616 (size number) then Err (faults.NumberTooLarge n) else Ok (size number)) }
 {
@@ -52,6 +56,7 @@ fn read_value(number: Number, n: u64) -> Result<u64, TraceFault>
     }
 }
 
+// The number of a root, or a fault of line `n` if there is no such root.
 fn root_number(number: Number, roots: u16, n: u64) -> Result<u16, TraceFault>
     ensures { result ≡ (if nat_le roots (size number) then Err (faults.NoSuchRoot n) else Ok (size number)) }
 {
@@ -61,6 +66,7 @@ fn root_number(number: Number, roots: u16, n: u64) -> Result<u16, TraceFault>
     }
 }
 
+// The number of a mutator, or a fault of line `n` if there is no such mutator.
 fn mutator_number(number: Number, mutators: u8, n: u64) -> Result<u8, TraceFault>
     ensures { result ≡ (if nat_le mutators (size number) then Err (faults.NoSuchMutator n) else Ok (size number)) }
 {
@@ -78,6 +84,7 @@ struct Limits {
     n: u64,
 }
 
+// The line that sets register `to` to a root, or its first fault.
 fn root_line(mutator: Number, to: Number, root: Number, by: Limits) -> Result<Line, TraceFault>
     ensures { result ≡ judged by.mutators by.roots by.n (Some (record { mutator = size mutator; action = actions.Root (size to) (size root) })) }
 {
@@ -89,6 +96,7 @@ fn root_line(mutator: Number, to: Number, root: Number, by: Limits) -> Result<Li
     Ok(Line { mutator, action })
 }
 
+// The line that sets register `to` to a reference field, or to a weak field if `weak`, or its first fault.
 fn load_line(
     mutator: Number,
     weak: bool,
@@ -109,6 +117,7 @@ fn load_line(
     Ok(Line { mutator, action })
 }
 
+// The line that shows a data field, or its first fault.
 fn get_line(mutator: Number, object: Number, field: Number, by: Limits) -> Result<Line, TraceFault>
     ensures { result ≡ judged by.mutators by.roots by.n (Some (record { mutator = size mutator; action = actions.Get (size object) (size field) })) }
 {
@@ -120,6 +129,7 @@ fn get_line(mutator: Number, object: Number, field: Number, by: Limits) -> Resul
     Ok(Line { mutator, action })
 }
 
+// The line that writes a register into a reference field, or into a weak field if `weak`, or its first fault.
 fn store_line(
     mutator: Number,
     weak: bool,
@@ -140,6 +150,7 @@ fn store_line(
     Ok(Line { mutator, action })
 }
 
+// The line that writes a value into a data field, or its first fault.
 fn put_line(
     mutator: Number,
     object: Number,
@@ -158,6 +169,7 @@ fn put_line(
     Ok(Line { mutator, action })
 }
 
+// The line that makes an object and sets register `to` to it, or its first fault.
 fn new_line(
     mutator: Number,
     to: Number,
@@ -180,6 +192,7 @@ fn new_line(
     Ok(Line { mutator, action })
 }
 
+// The line that sets register `to` to null, or its first fault.
 fn nil_line(mutator: Number, to: Number, by: Limits) -> Result<Line, TraceFault>
     ensures { result ≡ judged by.mutators by.roots by.n (Some (record { mutator = size mutator; action = actions.Nil (size to) })) }
 {

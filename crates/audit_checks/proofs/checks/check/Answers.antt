@@ -1,4 +1,4 @@
-use Rattle.comp_history.specs.Ends.{lists as items_of}
+use Rattle.comp_history.specs.CellEnds.{lists as items_of}
 use Rattle.audit_checks.specs.Noted.{setup_at}
 use Rattle.audit_checks.proofs.Built.{lawful_pages}
 use Rattle.audit_checks.proofs.checks.check.Goals as goal

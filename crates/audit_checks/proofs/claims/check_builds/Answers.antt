@@ -1,6 +1,6 @@
 use Rattle.std.proofs.Common.{◌≡◌, ◌∙◌, ℕ, Bool, Option, true, false, min, sym, ap, arith}
 use Rattle.std.proofs.lemmas.List.{get_or_default}
-use Rattle.comp_history.specs.Ends.{lists as items_of}
+use Rattle.comp_history.specs.CellEnds.{lists as items_of}
 use Rattle.comp_history.specs.Builds.{named}
 use Rattle.comp_dump.specs.Dumped.{BuiltPage}
 use Rattle.audit_checks.specs.Checks.{unless, is_claimed}

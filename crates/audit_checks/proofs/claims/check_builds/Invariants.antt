@@ -1,6 +1,6 @@
 use Rattle.std.proofs.Common.{◌≡◌, drop}
 use Rattle.std.specs.List.{flat_map, enumerate_from}
-use Rattle.comp_history.specs.Ends.{lists as items_of}
+use Rattle.comp_history.specs.CellEnds.{lists as items_of}
 use Rattle.audit_checks.specs.Checks.{unless, is_claimed, build_faults}
 use Rattle.comp_dump.specs.declared.fault.AuditFault.TheVariants.{BuildUnclaimed}
 use Rattle.audit_checks.proofs.claims.check_builds.Given as goal

@@ -1,6 +1,6 @@
 use Rattle.std.proofs.Common.{ℕ, ◌∙◌, All, ap, sym, subst, drop, length}
 use Rattle.std.proofs.lemmas.List.{take_at}
-use Rattle.comp_history.specs.Ends.{lists as items_of}
+use Rattle.comp_history.specs.CellEnds.{lists as items_of}
 use Rattle.comp_dump.specs.Dumped.{IsStoredList}
 use Rattle.audit_checks.proofs.claims.count_builds.Goals as goal
 

@@ -1,6 +1,6 @@
 use Rattle.std.proofs.Common.{ℕ, List, ◌∙◌, ◌<◌, All, length, subst, sym, arith}
 use Rattle.std.proofs.lemmas.List.{length-map}
-use Rattle.comp_history.specs.Ends.{lists as items_of}
+use Rattle.comp_history.specs.CellEnds.{lists as items_of}
 use Rattle.comp_dump.specs.Dumped.{IsStoredList}
 use Rattle.comp_dump.proofs.Writings.{list_at, item_at}
 use Rattle.audit_checks.proofs.BuildCounts.{list_counted}

@@ -1,5 +1,5 @@
 use Rattle.std.proofs.Common.{ℕ, ◌≡◌, ◌+◌, ◌≤◌, min, drop, length, slice_index}
-use Rattle.comp_history.specs.Ends.{lists as items_of}
+use Rattle.comp_history.specs.CellEnds.{lists as items_of}
 use Rattle.comp_history.specs.Builds.{named}
 use Rattle.audit_checks.proofs.claims.count_lists.Given as goal
 

@@ -1,7 +1,7 @@
 use Rattle.std.proofs.Common.{◌≡◌, ◌∙◌, ℕ, List, Option, Result, Err, ap, sym, subst}
 use Rattle.heap_layout.specs.Heap.{Heap}
 use Rattle.heap_layout.specs.declared.edition.Edition.{Edition}
-use Rattle.comp_dump.specs.Ends.{lists as items_of}
+use Rattle.comp_dump.specs.CellEnds.{lists as items_of}
 use Rattle.audit_checks.specs.Checks.{setup_for}
 use Rattle.comp_dump.specs.Dumped.{BuiltPage, Dumped}
 use Rattle.audit_checks.specs.Reported.{faults_for, IsFirst, Reports}

@@ -2,7 +2,7 @@ use Rattle.std.proofs.Common.{List, length, map, sym, subst, ap, ◌∙◌, arit
 use lib.ListN.{get_elem?}
 use Rattle.comp_mutator.specs.declared.mutator.Mutator.{Mutator}
 use Rattle.trace_race.specs.Races.{HaveRaced}
-use Rattle.trace_steps.specs.Traces.{AllFit}
+use Rattle.trace_steps.specs.TraceLines.{AllFit}
 use Rattle.trace_text.specs.declared.line.Line.{Line}
 use Rattle.trace_race.specs.declared.racing.Run.{Run}
 use Rattle.comp_mutator.specs.Mutators.{setup_of}

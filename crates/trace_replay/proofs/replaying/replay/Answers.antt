@@ -6,7 +6,7 @@ use Rattle.trace_steps.specs.WrittenEntries.{HaveStart}
 use Rattle.trace_steps.specs.AllMutators.{AreAll}
 use Rattle.trace_steps.specs.Rounds.{AreLater}
 use Rattle.trace_replay.specs.Replays.{HaveReplayed, HaveStopped, IsRefusal, RanNothing}
-use Rattle.trace_steps.specs.Traces.{AllFit}
+use Rattle.trace_steps.specs.TraceLines.{AllFit}
 use Rattle.trace_text.specs.declared.line.Line.{Line}
 use Rattle.trace_steps.proofs.Fitting.{lines_fit}
 use Rattle.trace_steps.proofs.Elements.{written_back}
