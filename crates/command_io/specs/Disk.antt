@@ -1,5 +1,5 @@
 -- What is known of the files that a command reads and makes.
-use Rattle.std.specs.Prelude.{◌≡◌, ℕ, List, Option, true}
+use Rattle.std.specs.Prelude.{◌≡◌, ℕ, List, Option, None, true}
 use Rattle.std.specs.Io.KnownBytes.{Appends}
 use Rattle.heap_layout.specs.Counted.{failures_of, inner_of, is_flushed_of}
 use Rattle.heap_layout.specs.declared.counted.Counted.{Counted}
@@ -21,6 +21,16 @@ pub record Disk (W : Type 0) : Type 1 where
   pub bars : Output → List ℕ → Type 0
   -- what a writer has taken, if it is known
   pub contents : W → Option (List ℕ)
+
+-- files of which nothing is known: anything may be read at a path, any writer may be given, and any path may give none
+abbrev pub unknown : {W : Type 0} → Disk W
+unknown = record {
+  holds = λ _ _ _. Unit {0};
+  lacks = λ _ _. Unit {0};
+  makes = λ _ _ _. Unit {0};
+  bars = λ _ _. Unit {0};
+  contents = λ _. None;
+}
 
 -- P holds of the bytes of some file that can be read at the path
 abbrev pub SomeFile : {W : Type 0} → Disk W → Input → List ℕ → (Option (List ℕ) → Type 0) → Type 0

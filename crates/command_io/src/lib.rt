@@ -14,12 +14,10 @@ mod traces;
 
 pub use dumps::write_dump_to;
 pub use images::heap_at;
-pub use marks::{marks_at, marks_in};
+pub use marks::marks_at;
 pub use new_images::write_image_to;
 pub use opening::{Files, RuntimeFiles};
 pub use output_files::OutputFile;
-pub use print::{
-    flush, print_bytes, print_digits, print_help, print_line, print_numbered, print_text,
-};
+pub use print::{flush, print_bytes, print_help, print_line, print_numbered, print_text};
 pub use refusal::{CommandRefusal, Input, Output};
-pub use traces::{trace_at, trace_in};
+pub use traces::trace_at;

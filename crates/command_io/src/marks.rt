@@ -22,9 +22,9 @@ pub fn marks_at<F: Files>(alloc: Global, files: &F, path: &str) -> Result<Vec<u3
     marks_in(alloc, &mut reader)
 }
 
-/// Reads marks to the end of the reader. Refuses if a call of the reader fails, if a line is no mark, with the number
-/// of the first such line, and if memory runs out.
-pub fn marks_in<S: Read>(alloc: Global, r: &mut Counted<S>) -> Result<Vec<u32>, CommandRefusal>
+// Reads marks to the end of the reader. Refuses if a call of the reader fails, if a line is no mark, with the number
+// of the first such line, and if memory runs out.
+fn marks_in<S: Read>(alloc: Global, r: &mut Counted<S>) -> Result<Vec<u32>, CommandRefusal>
     requires read { failures_of r.old < 2 ^ 64 - 1 }
     ensures marks { IfOk result (λ marks. AreMarksOf marks.items (S.remaining (inner_of r.old))) }
     ensures cause { IfErr result (λ refusal. RefusesMarksText refusal (S.remaining (inner_of r.old))) }

@@ -1,6 +1,6 @@
 //! How the program opens the files that it reads, and creates those that it makes.
-ghost use Rattle.std.specs.Prelude.{◌≡◌, ℕ, List, None, refl, IfOk, IfErr};
-ghost use Rattle.command_io.specs.Disk.{Disk, IsOfCreating, IsOfOpening};
+ghost use Rattle.std.specs.Prelude.{◌≡◌, refl, IfOk, IfErr};
+ghost use Rattle.command_io.specs.Disk.{unknown, Disk, IsOfCreating, IsOfOpening};
 
 use crate::output_files::{OutputFile, create_file};
 use crate::refusal::{CommandRefusal, Input, Output};
@@ -43,15 +43,8 @@ impl<'a, R: rt::Files + AllocGlobal> Files for RuntimeFiles<'a, R> {
 
     type Writer = OutputFile<'a, R>;
 
-    // The kit's contracts do not say which file a path leads to, nor what a file holds or takes: anything may be read
-    // at a path, any writer may be given, and any path may give none.
-    ghost disk = { λ _. record {
-      holds = λ _ _ _. Unit {0};
-      lacks = λ _ _. Unit {0};
-      makes = λ _ _ _. Unit {0};
-      bars = λ _ _. Unit {0};
-      contents = λ _. None;
-    } };
+    // The kit's contracts do not say which file a path leads to, nor what a file holds or takes.
+    ghost disk = { λ _. unknown };
 
     ghost contents_are = { λ _ _. refl };
 

@@ -28,8 +28,8 @@ pub fn trace_at<F: Files>(
     trace_in(alloc, &mut reader, mutators, roots)
 }
 
-/// Reads a trace to the end of the reader, for these numbers of mutators and shared roots.
-pub fn trace_in<S: Read>(
+// Reads a trace to the end of the reader, for these numbers of mutators and shared roots.
+fn trace_in<S: Read>(
     alloc: Global,
     r: &mut Counted<S>,
     mutators: u8,

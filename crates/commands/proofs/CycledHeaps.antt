@@ -4,6 +4,7 @@ use Rattle.heap_layout.specs.Heap.{Heap}
 use Rattle.comp_mutator.specs.Cycles.{heap_after, IsCycleOf}
 use Rattle.comp_mutator.specs.Ends.{cycle_of}
 use Rattle.comp_mutator.specs.Finished.{Finished}
+use Rattle.comp_trace.specs.Bytes.{flipped}
 use Rattle.comp_trace.specs.CycleRuns.{IsLastRun}
 use Rattle.comp_trace.proofs.Runs.{marked}
 use Rattle.comp_trace.specs.Shown.{Shown}
@@ -11,7 +12,7 @@ use Rattle.comp_trace.specs.Line.{Line}
 use Rattle.command_io.specs.declared.refusal.CommandRefusal.{CommandRefusal}
 use Rattle.command_io.specs.declared.refusal.CommandRefusal.TheVariants.{Layout, Mutator, Sweep, Trace, Dump, Audit, CannotOpen, CannotCreate, ReadFailed, CannotPrint, NoSuchWord, BadMarks, OutOfMemory}
 use Rattle.commands.specs.Outcomes.{IsHaltedBy}
-use Rattle.commands.proofs.ReplayRuns.{halted_by}
+use Rattle.commands.proofs.ReplayRuns.{cut_by}
 use Rattle.commands.specs.Cycled.{IsChapterOf, IsCycledHeap, IsNextHeap, IsUncycled, IsUnmarked}
 
 -- the heap that follows, of what the plan was made for
@@ -52,7 +53,7 @@ module _ (mutators fresh : ℕ) (lines : List Line) (marks : List ℕ) (heap : H
   halted_cycle shown (Layout fault) h = h.0
   halted_cycle shown (Mutator refused) h = h.1
   halted_cycle shown (Sweep fault) h = absurd h
-  halted_cycle shown (Trace fault) h = halted_by mutators fresh lines heap shown (Trace fault) h
+  halted_cycle shown (Trace fault) h = cut_by (flipped heap mutators fresh) lines shown fault h
   halted_cycle shown (Dump fault) h = absurd h
   halted_cycle shown (Audit fault) h = absurd h
   halted_cycle shown (CannotOpen input) h = absurd h

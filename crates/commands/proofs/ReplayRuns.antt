@@ -1,6 +1,5 @@
 -- What the command `replay` does and refuses, from what its parts do and refuse.
 use Rattle.std.proofs.Common.{◌≡◌, ℕ, ◌+◌, ◌++◌, List, [], Option, Some, None, Result, Ok, Err, IfErr, IfOk, OnErr, OnOk, length, map, inl, inr, refl, sym, subst, ◌∙◌, append-nil}
-use Rattle.std.specs.Bool.{⊤}
 use Rattle.std.proofs.KnownBytes.{Appends-kept, Appends-trans, Keeps-refl}
 use Rattle.std.specs.Io.KnownBytes.{Appends, Keeps}
 use Rattle.heap_layout.specs.Heap.{live, Heap}
@@ -18,24 +17,21 @@ use Rattle.comp_trace.specs.Shown.{Shown}
 use Rattle.comp_dump.specs.Dumped.{Dumped}
 use Rattle.comp_dump.specs.DumpEncoding.{dump_bytes}
 use Rattle.comp_dump.specs.Lent.{record_of}
-use Rattle.comp_dump.specs.declared.fault.DumpFault.TheVariants.{Truncated, TrailingBytes, BadMagic, BadField, Device}
-use Rattle.comp_dump.specs.declared.fault.DumpFault.TheVariants as faults
 use Rattle.command_line.specs.declared.words.TraceRun.{TraceRun}
-use Rattle.command_io.specs.Disk.{Disk, SomeFile, WritesWhole}
+use Rattle.command_io.specs.Disk.{Disk, WritesWhole}
 use Rattle.command_io.specs.Dumps.{IsOfDumping, RefusedUncreated}
-use Rattle.command_io.specs.Images.{IsHeapAt, RefusesAt, RefusesImage, SomeHeapAt}
+use Rattle.command_io.specs.Images.{IsHeapAt, RefusesAt, RefusesImage}
 use Rattle.command_io.specs.Printing.{CountsPrint}
-use Rattle.commands.specs.Replays.{dumped_of, shown_lines, RanOver, IsPrintedHalt, IsOfWritingRun, IsReplayedHeap, PrintsRun, RefusesReplay, RefusesRun, Replays, RefusesTrace, SomeRun, StopsReplay, StopsUnprinted}
-use Rattle.command_io.specs.Texts.{HasLines, HasLinesAt, RefusesText, RefusesTextAt, SomeText}
-use Rattle.command_io.specs.declared.refusal.Input.TheVariants as inputs
+use Rattle.commands.specs.Replays.{dumped_of, replaying, shown_lines, CutsReplay, IsOfWritingRun, IsPrintedHalt, IsReplayedHeap, PrintsRun, RanOver, RefusesReplay, RefusesRun, Replays, SomeRun, StopsUnprinted}
+use Rattle.command_io.specs.Texts.{HasLinesAt, RefusesTextAt}
 use Rattle.command_io.specs.declared.refusal.Output.TheVariants as outputs
 use Rattle.command_io.specs.declared.refusal.CommandRefusal.{CommandRefusal}
 use Rattle.command_io.specs.declared.refusal.CommandRefusal.TheVariants.{Layout, Mutator, Sweep, Trace, Dump, Audit, CannotOpen, CannotCreate, ReadFailed, CannotPrint, NoSuchWord, BadMarks, OutOfMemory}
-use Rattle.command_io.proofs.Imaged.{of_heap}
 use Rattle.command_io.proofs.Outcomes.{same_parts, uncounted_by, uncreated}
 use Rattle.commands.specs.Outcomes.{IsHaltedBy, IsWritten, RefusesInputs, RefusesOutcome}
 use Rattle.commands.specs.declared.replays.PrintedHalt.{PrintedHalt}
 use Rattle.commands.specs.declared.replays.Replayed.{Replayed}
+use Rattle.commands.proofs.TraceRuns as runs
 
 -- a run, and its dump
 abbrev pub has_run : (mutators fresh : ℕ) (lines : List Line) (shown : List Shown) (f : Finished) (heap : Heap) → IsReplayedHeap mutators fresh lines shown f heap → RanOver mutators fresh lines heap
@@ -51,154 +47,20 @@ replays disk asked before after lines shown f heap h written printed = record {
       (subst (PrintsRun before after shown) h.left.after.total printed);
 }
 
--- the lines of a text for the number of the heap's roots
-pub some_text : {W : Type 0} (disk : Disk W) (path : List ℕ) (mutators roots other : ℕ) (lines : List Line) → roots ≡ other → HasLinesAt disk path mutators roots lines → HasLinesAt disk path mutators other lines
-some_text disk path mutators roots other lines e given = subst (λ (r : ℕ). HasLinesAt disk path mutators r lines) e given
+-- What follows from what became of a run.
+module _ {W : Type 0} (disk : Disk W) (asked : TraceRun) (before after : Option (List ℕ)) (heap : Heap) (image : IsHeapAt disk asked.image.now heap)
+    (lines : List Line) (trace : HasLinesAt disk asked.trace.now asked.mutators (length heap.roots) lines)
+    (outcome : Result Replayed PrintedHalt) (ran : IfOk outcome (λ run. IsReplayedHeap asked.mutators asked.fresh lines run.shown.items run.finished heap)) (result : Result (Unit {0}) CommandRefusal) where
+  pub of_outcome_err : IfErr outcome (λ run. IsPrintedHalt asked.mutators asked.fresh lines run.shown.items heap run.refusal)
+      → IfErr result (RefusesOutcome disk asked before after outcome) → IfErr result (RefusesReplay disk asked before after)
+  of_outcome_err halted h =
+      runs.of_outcome_err (replaying asked.mutators asked.fresh) disk asked before after heap image lines trace (λ shown f. IsReplayedHeap asked.mutators asked.fresh lines shown f heap)
+      (λ shown f is. has_run asked.mutators asked.fresh lines shown f heap is) (λ shown f is. refl) outcome ran halted result h
 
-module _ {W : Type 0} (disk : Disk W) (asked : TraceRun) (heap : Heap) (image : IsHeapAt disk asked.image.now heap) where
-  -- of the lines of a trace, and the heap of an image
-  pub some_run : (P : List Line → Heap → Type 0) (lines : List Line) → HasLinesAt disk asked.trace.now asked.mutators (length heap.roots) lines → P lines heap → SomeRun disk asked P
-  some_run P lines trace p = (
-    image.0,
-    image.1,
-    of_heap (λ (h : Heap). SomeFile disk inputs.Trace asked.trace.now (SomeText (λ text. (ls : List Line) × HasLines asked.mutators (length h.roots) ls text × P ls h))) heap image.0
-        (trace.0, trace.1, (trace.2.0, trace.2.1, (lines, trace.2.2, p))) image.2,
-  )
-
-  -- a trace that is refused for the heap
-  pub some_refused : (refusal : CommandRefusal) → SomeFile disk inputs.Trace asked.trace.now (RefusesText asked.mutators (length heap.roots) refusal) → RefusesTrace disk asked refusal
-  some_refused refusal trace =
-      (image.0, image.1, of_heap (λ (h : Heap). SomeFile disk inputs.Trace asked.trace.now (RefusesText asked.mutators (length h.roots) refusal)) heap image.0 trace image.2)
-
-  pub some_heap : SomeHeapAt disk asked.image.now (λ h. ⊤)
-  some_heap = (image.0, image.1, of_heap (λ (h : Heap). ⊤) heap image.0 tt image.2)
-
--- The refusals of the command, from those of its parts.
-module _ {W : Type 0} (disk : Disk W) (asked : TraceRun) (before after : Option (List ℕ)) where
-  abbrev pub IsCause : CommandRefusal → Type 0
-  IsCause refusal = RefusesReplay disk asked before after refusal
-
-  -- there is no heap
-  of_image : (refusal : CommandRefusal) → RefusesAt disk asked.image.now RefusesImage refusal → IsCause refusal
-  of_image (Layout fault) h = h
-  of_image (Mutator refused) h = absurd h.2
-  of_image (Sweep fault) h = absurd h.2
-  of_image (Trace fault) h = absurd h.2
-  of_image (Dump fault) h = absurd h.2
-  of_image (Audit fault) h = absurd h.2
-  of_image (CannotOpen inputs.Image) h = h
-  of_image (CannotOpen inputs.Trace) h = absurd h.2
-  of_image (CannotOpen inputs.Dump) h = absurd h.2
-  of_image (CannotOpen inputs.Marks) h = absurd h.2
-  of_image (CannotCreate output) h = absurd h.2
-  of_image (ReadFailed input) h = absurd h.2
-  of_image CannotPrint h = absurd h.2
-  of_image (NoSuchWord index) h = absurd h.2
-  of_image (BadMarks line) h = absurd h.2
-  of_image OutOfMemory h = tt
-
-  module _ (heap : Heap) (image : IsHeapAt disk asked.image.now heap) where
-    -- there is no trace for it, and nothing was printed
-    by_trace : Keeps before after → (refusal : CommandRefusal) → RefusesTextAt disk asked.trace.now asked.mutators (length heap.roots) refusal → IsCause refusal
-    by_trace kept (Layout fault) h = absurd h.2
-    by_trace kept (Mutator refused) h = absurd h.2
-    by_trace kept (Sweep fault) h = absurd h.2
-    by_trace kept (Trace fault) h = inl (some_refused disk asked heap image (Trace fault) h, kept)
-    by_trace kept (Dump fault) h = absurd h.2
-    by_trace kept (Audit fault) h = absurd h.2
-    by_trace kept (CannotOpen inputs.Image) h = absurd h.2
-    by_trace kept (CannotOpen inputs.Trace) h = (h, some_heap disk asked heap image)
-    by_trace kept (CannotOpen inputs.Dump) h = absurd h.2
-    by_trace kept (CannotOpen inputs.Marks) h = absurd h.2
-    by_trace kept (CannotCreate output) h = absurd h.2
-    by_trace kept (ReadFailed inputs.Image) h = absurd h.2
-    by_trace kept (ReadFailed inputs.Trace) h = some_refused disk asked heap image (ReadFailed inputs.Trace) h
-    by_trace kept (ReadFailed inputs.Dump) h = absurd h.2
-    by_trace kept (ReadFailed inputs.Marks) h = absurd h.2
-    by_trace kept CannotPrint h = absurd h.2
-    by_trace kept (NoSuchWord index) h = absurd h.2
-    by_trace kept (BadMarks line) h = absurd h.2
-    by_trace kept OutOfMemory h = tt
-
-    module _ (lines : List Line) (trace : HasLinesAt disk asked.trace.now asked.mutators (length heap.roots) lines) where
-      by_run : (refusal : CommandRefusal) → RefusesRun disk asked before after refusal lines heap
-          → SomeRun disk asked (RefusesRun disk asked before after refusal)
-      by_run refusal h = some_run disk asked heap image (RefusesRun disk asked before after refusal) lines trace h
-
-      -- its lines did not run to their end, and what they showed was printed
-      of_halt : (shown : List Shown) → Appends before after (shown_lines shown) → (refusal : CommandRefusal) → IsPrintedHalt asked.mutators asked.fresh lines shown heap refusal → IsCause refusal
-      of_halt shown printed (Layout fault) h = absurd h
-      of_halt shown printed (Mutator refused) h = by_run (Mutator refused) h.0
-      of_halt shown printed (Sweep fault) h = absurd h
-      of_halt shown printed (Trace fault) h =
-          inr (some_run disk asked heap image (StopsReplay asked.mutators asked.fresh before after fault) lines trace (shown, h, printed))
-      of_halt shown printed (Dump fault) h = absurd h
-      of_halt shown printed (Audit fault) h = absurd h
-      of_halt shown printed (CannotOpen input) h = absurd h
-      of_halt shown printed (CannotCreate output) h = absurd h
-      of_halt shown printed (ReadFailed input) h = absurd h
-      of_halt shown printed CannotPrint h = absurd h
-      of_halt shown printed (NoSuchWord index) h = absurd h
-      of_halt shown printed (BadMarks line) h = absurd h
-      of_halt shown printed OutOfMemory h = tt
-
-      -- or a call of the output failed
-      of_halt_unprinted : (shown : List Shown) (refusal : CommandRefusal) → IsPrintedHalt asked.mutators asked.fresh lines shown heap refusal → IsCause CannotPrint
-      of_halt_unprinted shown refusal h = by_run CannotPrint (inr (refusal, shown, h))
-
-      module _ (shown : List Shown) (f : Finished) (h : IsReplayedHeap asked.mutators asked.fresh lines shown f heap) where
-        -- they ran, and the dump was not written, or a call of the output failed
-        of_writing : (refusal : CommandRefusal) → IsOfWritingRun disk asked.dump.now (dump_bytes (dumped_of asked.mutators asked.fresh f)) refusal → IsCause refusal
-        of_writing (Layout fault) w = absurd w
-        of_writing (Mutator refused) w = absurd w
-        of_writing (Sweep fault) w = absurd w
-        of_writing (Trace fault) w = absurd w
-        of_writing (Dump Truncated) w = absurd w
-        of_writing (Dump TrailingBytes) w = absurd w
-        of_writing (Dump BadMagic) w = absurd w
-        of_writing (Dump BadField) w = absurd w
-        of_writing (Dump faults.OutOfMemory) w = absurd w
-        of_writing (Dump Device) w = by_run (Dump Device) (has_run asked.mutators asked.fresh lines shown f heap h, w)
-        of_writing (Audit fault) w = absurd w
-        of_writing (CannotOpen input) w = absurd w
-        of_writing (CannotCreate output) w = by_run (CannotCreate output) (w.0, w.1, has_run asked.mutators asked.fresh lines shown f heap h)
-        of_writing (ReadFailed input) w = absurd w
-        of_writing CannotPrint w = by_run CannotPrint (inl (has_run asked.mutators asked.fresh lines shown f heap h, w))
-        of_writing (NoSuchWord index) w = absurd w
-        of_writing (BadMarks line) w = absurd w
-        of_writing OutOfMemory w = tt
-
-        -- the dump was written, and all was printed
-        of_all : WritesWhole disk outputs.Dump asked.dump.now (dump_bytes (dumped_of asked.mutators asked.fresh f)) → PrintsRun before after shown (live_of f)
-            → SomeRun disk asked (Replays disk asked before after)
-        of_all written printed = some_run disk asked heap image (Replays disk asked before after) lines trace
-            (replays disk asked before after lines shown f heap h written printed)
-
-      -- from what became of the run
-      of_outcome : (outcome : Result Replayed PrintedHalt) → IfOk outcome (λ run. IsReplayedHeap asked.mutators asked.fresh lines run.shown.items run.finished heap)
-          → IfErr outcome (λ run. IsPrintedHalt asked.mutators asked.fresh lines run.shown.items heap run.refusal)
-          → (refusal : CommandRefusal) → RefusesOutcome disk asked before after outcome refusal → IsCause refusal
-      of_outcome (Ok run) ran halted refusal h = of_writing run.shown.items run.finished ran refusal h
-      of_outcome (Err run) ran halted refusal (inl (is, printed)) = subst IsCause (sym is) (of_halt run.shown.items printed run.refusal halted)
-      of_outcome (Err run) ran halted refusal (inr is) = subst IsCause (sym is) (of_halt_unprinted run.shown.items run.refusal halted)
-
-      pub of_outcome_err : (outcome : Result Replayed PrintedHalt) → IfOk outcome (λ run. IsReplayedHeap asked.mutators asked.fresh lines run.shown.items run.finished heap)
-          → IfErr outcome (λ run. IsPrintedHalt asked.mutators asked.fresh lines run.shown.items heap run.refusal)
-          → (result : Result (Unit {0}) CommandRefusal) → IfErr result (RefusesOutcome disk asked before after outcome) → IfErr result IsCause
-      of_outcome_err outcome ran halted (Ok _) h = tt
-      of_outcome_err outcome ran halted (Err refusal) h = of_outcome outcome ran halted refusal h
-
-      pub of_outcome_ok : (outcome : Result Replayed PrintedHalt) → IfOk outcome (λ run. IsReplayedHeap asked.mutators asked.fresh lines run.shown.items run.finished heap)
-          → (result : Result (Unit {0}) CommandRefusal) → OnOk result (IsWritten disk asked before after outcome)
-          → OnOk result (SomeRun disk asked (Replays disk asked before after))
-      of_outcome_ok outcome ran (Err refusal) h = tt
-      of_outcome_ok (Ok run) ran (Ok _) h = of_all run.shown.items run.finished ran h.0 h.1
-      of_outcome_ok (Err run) ran (Ok _) h = absurd h
-
-  -- there is no heap, or no trace for it
-  pub of_inputs : Keeps before after → (refusal : CommandRefusal) → RefusesInputs disk asked.image.now asked.trace.now asked.mutators refusal → IsCause refusal
-  of_inputs kept refusal (inl h) = of_image refusal h
-  of_inputs kept refusal (inr (heap, image, h)) = by_trace heap image kept refusal h
+  pub of_outcome_ok : OnOk result (IsWritten disk asked before after outcome) → OnOk result (SomeRun disk asked (Replays disk asked before after))
+  of_outcome_ok h =
+      runs.of_outcome_ok (replaying asked.mutators asked.fresh) disk asked before after heap image lines trace (λ shown f. IsReplayedHeap asked.mutators asked.fresh lines shown f heap) (Replays disk asked before after)
+      (λ shown f is written printed. replays disk asked before after lines shown f heap is written printed) outcome ran result h
 
 -- no refusal of an image or of a trace counts a failed call of the output
 image_uncounted : {W : Type 0} (disk : Disk W) (path : List ℕ) (n : ℕ) (refusal : CommandRefusal) → RefusesAt disk path RefusesImage refusal → CountsPrint {T = Unit {0}} n n (Err refusal)
@@ -247,7 +109,7 @@ pub none_printed : (before after : Option (List ℕ)) (shown : List Shown) → s
 none_printed before after shown none printed = appends_none before after (subst (λ (values : List Shown). Appends before after (shown_lines values)) none printed)
 
 -- why a run was halted determines what it had shown
-cut_by : (u : Setup) (lines : List Line) (shown : List Shown) (fault : TraceFault) → CutsShort u lines shown fault → IsHaltedBy shown (Trace fault)
+pub cut_by : (u : Setup) (lines : List Line) (shown : List Shown) (fault : TraceFault) → CutsShort u lines shown fault → IsHaltedBy shown (Trace fault)
 cut_by u lines shown (BadLine number) h = absurd h
 cut_by u lines shown (NoSuchMutator number) h = absurd h
 cut_by u lines shown (NoSuchRegister number) h = absurd h
@@ -256,20 +118,8 @@ cut_by u lines shown (NoSuchRoot number) h = absurd h
 cut_by u lines shown (Refused number refusal) h = tt
 cut_by u lines shown traces.OutOfMemory h = h
 
-pub halted_by : (mutators fresh : ℕ) (lines : List Line) (heap : Heap) (shown : List Shown) (refusal : CommandRefusal) → IsPrintedHalt mutators fresh lines shown heap refusal → IsHaltedBy shown refusal
-halted_by mutators fresh lines heap shown (Layout fault) h = absurd h
-halted_by mutators fresh lines heap shown (Mutator refused) h = h.1
-halted_by mutators fresh lines heap shown (Sweep fault) h = absurd h
-halted_by mutators fresh lines heap shown (Trace fault) h = cut_by (flipped heap mutators fresh) lines shown fault h
-halted_by mutators fresh lines heap shown (Dump fault) h = absurd h
-halted_by mutators fresh lines heap shown (Audit fault) h = absurd h
-halted_by mutators fresh lines heap shown (CannotOpen input) h = absurd h
-halted_by mutators fresh lines heap shown (CannotCreate output) h = absurd h
-halted_by mutators fresh lines heap shown (ReadFailed input) h = absurd h
-halted_by mutators fresh lines heap shown CannotPrint h = h
-halted_by mutators fresh lines heap shown (NoSuchWord index) h = absurd h
-halted_by mutators fresh lines heap shown (BadMarks line) h = absurd h
-halted_by mutators fresh lines heap shown OutOfMemory h = h
+pub replay_halted_by : (mutators fresh : ℕ) (lines : List Line) (heap : Heap) (shown : List Shown) (refusal : CommandRefusal) → IsPrintedHalt mutators fresh lines shown heap refusal → IsHaltedBy shown refusal
+replay_halted_by mutators fresh lines heap shown = runs.halted_by (CutsReplay mutators fresh) lines heap shown (cut_by (flipped heap mutators fresh) lines shown)
 
 -- what a halted run leaves of the output, if what it had shown was printed
 pub halt_counted : (shown : List Shown) (old new : ℕ) (refusal : CommandRefusal) → new ≡ old → IsHaltedBy shown refusal → CountsPrint {T = Unit {0}} old new (Err refusal)
@@ -387,6 +237,6 @@ module _ {W : Type 0} (disk : Disk W) (asked : TraceRun) (before between after :
   )
 
   pub unflushed_run : SomeRun disk asked (Replays disk asked before between)
-      → SomeRun disk asked (RefusesRun disk asked before after CannotPrint)
+      → SomeRun disk asked (RefusesRun (replaying asked.mutators asked.fresh) disk asked before after CannotPrint)
   unflushed_run (bytes, is_there, (heap, stored, accepted, (known, (more, is_near, (text, is_text, (lines, has_lines, h)))))) =
       (bytes, is_there, (heap, stored, accepted, (known, (more, is_near, (text, is_text, (lines, has_lines, inl (h.run, h.written)))))))

@@ -1,9 +1,7 @@
 -- What the command `race` makes of a heap and of a trace.
-use Rattle.std.specs.Prelude.{◌≡◌, ◌⊎◌, ℕ, List, [], length, Option, IfSome, ⊤}
+use Rattle.std.specs.Prelude.{◌≡◌, ℕ, List, [], length, Option}
 use mathlib.Core.Option.{some}
 use lib.ListN.{get_elem?}
-use Rattle.std.specs.Io.KnownBytes.{Appends, Keeps}
-use Rattle.heap_layout.specs.Encoding.{Refuses}
 use Rattle.heap_layout.specs.Heap.{Heap}
 use Rattle.comp_mutator.specs.Lists.{Each}
 use Rattle.comp_mutator.specs.Setup.{Setup}
@@ -14,7 +12,6 @@ use Rattle.comp_mutator.specs.CellViews.{AreNew}
 use Rattle.comp_mutator.specs.Finishes.{history_of, live_of, IsFinished}
 use Rattle.comp_mutator.specs.Finished.{Finished}
 use Rattle.comp_mutator.specs.Refusal.{Refusal}
-use Rattle.comp_mutator.specs.Refusal.TheVariants as refusals
 use Rattle.comp_trace.specs.Bytes.{flipped}
 use Rattle.comp_trace.specs.Races.{numbered, own_lines, Ran}
 use Rattle.comp_trace.specs.TraceFault.{TraceFault}
@@ -23,17 +20,13 @@ use Rattle.comp_trace.specs.Line.{Line}
 use Rattle.comp_trace.specs.Run.{Run}
 use Rattle.comp_trace.specs.Shown.{Shown}
 use Rattle.comp_dump.specs.DumpEncoding.{dump_bytes}
-use Rattle.comp_dump.specs.declared.fault.DumpFault.TheVariants.{Device}
 use Rattle.commands.specs.ByLine.{AreByLine, HasEnded, IsLeastRefusedLine}
 use Rattle.command_line.specs.declared.words.TraceRun.{TraceRun}
-use Rattle.command_io.specs.Disk.{Disk, SomeFile, WritesBeginning, WritesWhole}
-use Rattle.command_io.specs.Images.{SomeHeapAt}
-use Rattle.commands.specs.Replays.{dumped_of, shown_lines, IsDumpAfter, PrintsRun, RefusesTrace, SomeRun}
+use Rattle.command_io.specs.Disk.{Disk, WritesWhole}
+use Rattle.commands.specs.Replays.{dumped_of, IsDumpAfter, IsHaltedRun, PrintsRun, RefusesTraced, Way}
 use Rattle.command_io.specs.Texts.{HasLines}
-use Rattle.command_io.specs.declared.refusal.Input.TheVariants as inputs
 use Rattle.command_io.specs.declared.refusal.Output.TheVariants as outputs
 use Rattle.command_io.specs.declared.refusal.CommandRefusal.{CommandRefusal}
-use Rattle.command_io.specs.declared.refusal.CommandRefusal.TheVariants.{CannotCreate, CannotOpen, CannotPrint, Dump, Layout, Mutator, OutOfMemory, ReadFailed, Trace}
 
 -- ---- what is left of a race
 
@@ -79,13 +72,9 @@ InterruptsRace mutators fresh lines shown heap (faults.Refused number refusal) =
 InterruptsRace mutators fresh lines shown heap faults.OutOfMemory = shown ≡ []
 InterruptsRace mutators fresh lines shown heap _ = ⊥
 
--- why the lines were not run to their end, or the heap was not finished, and what was shown until then: a line was
--- refused, or memory ran out
+-- why they were not run to their end, or the heap was not finished, and what was shown until then
 abbrev pub IsHaltedRace : ℕ → ℕ → List Line → List Shown → Heap → CommandRefusal → Type 0
-IsHaltedRace mutators fresh lines shown heap (Trace fault) = InterruptsRace mutators fresh lines shown heap fault
-IsHaltedRace mutators fresh lines shown heap (Mutator refusal) = (refusal ≡ refusals.OutOfMemory) × (shown ≡ [])
-IsHaltedRace mutators fresh lines shown heap OutOfMemory = shown ≡ []
-IsHaltedRace mutators fresh lines shown heap _ = ⊥
+IsHaltedRace mutators fresh lines shown heap refusal = IsHaltedRun (InterruptsRace mutators fresh) lines shown heap refusal
 
 -- ---- what the command does, by the lines of its trace and the heap of its image
 
@@ -112,32 +101,9 @@ abbrev pub PrintsRace : ℕ → ℕ → Option (List ℕ) → Option (List ℕ) 
 PrintsRace mutators fresh before after heap = (text : List ℕ) × (lines : List Line) × HasLines mutators (length heap.roots) lines text
     × (race : HasRace mutators fresh lines heap) × PrintsRun before after race.shown (live_of race.left)
 
--- lines were refused, or memory for the values ran out: what was shown was printed
-abbrev pub StopsRace : ℕ → ℕ → Option (List ℕ) → Option (List ℕ) → TraceFault → List Line → Heap → Type 0
-StopsRace mutators fresh before after fault lines heap =
-    (shown : List Shown) × IsHaltedRace mutators fresh lines shown heap (Trace fault) × Appends before after (shown_lines shown)
+-- why the command is refused: as a command that runs a trace is, by the race
+abbrev pub racing : ℕ → ℕ → Way
+racing mutators fresh = record { cuts = InterruptsRace mutators fresh; leaves = HasRace mutators fresh; dump = λ lines heap race. dump_of_race race }
 
--- why the race of a trace over a heap does not come to its end, or is not written or printed
-abbrev pub RefusesRacing : {W : Type 0} → Disk W → TraceRun → Option (List ℕ) → Option (List ℕ) → CommandRefusal → List Line → Heap → Type 0
-RefusesRacing disk asked before after (Trace fault) lines heap = StopsRace asked.mutators asked.fresh before after fault lines heap
-RefusesRacing disk asked before after (Mutator refusal) lines heap = refusal ≡ refusals.OutOfMemory
-RefusesRacing disk asked before after (CannotCreate output) lines heap = (output ≡ outputs.Dump) × disk.bars outputs.Dump asked.dump.now × HasRace asked.mutators asked.fresh lines heap
-RefusesRacing disk asked before after (Dump Device) lines heap =
-    (race : HasRace asked.mutators asked.fresh lines heap) × WritesBeginning disk outputs.Dump asked.dump.now (dump_of_race race)
-RefusesRacing disk asked before after CannotPrint lines heap =
-    ((race : HasRace asked.mutators asked.fresh lines heap) × WritesWhole disk outputs.Dump asked.dump.now (dump_of_race race))
-    ⊎ ((refusal : CommandRefusal) × (shown : List Shown) × IsHaltedRace asked.mutators asked.fresh lines shown heap refusal)
-RefusesRacing disk asked before after OutOfMemory lines heap = Unit {0}
-RefusesRacing disk asked before after _ lines heap = ⊥
-
--- why the command is refused: there is no image, or it is refused; or there is no trace for its heap, or it is
--- refused, and nothing was printed; or the race is refused; or memory ran out
 abbrev pub RefusesRace : {W : Type 0} → Disk W → TraceRun → Option (List ℕ) → Option (List ℕ) → CommandRefusal → Type 0
-RefusesRace disk asked before after (CannotOpen inputs.Image) = disk.lacks inputs.Image asked.image.now
-RefusesRace disk asked before after (CannotOpen inputs.Trace) = disk.lacks inputs.Trace asked.trace.now × SomeHeapAt disk asked.image.now (λ heap. ⊤)
-RefusesRace disk asked before after (Layout fault) = SomeFile disk inputs.Image asked.image.now (λ known. IfSome known (Refuses fault))
-RefusesRace disk asked before after (ReadFailed input) = RefusesTrace disk asked (ReadFailed input)
-RefusesRace disk asked before after (Trace fault) =
-    (RefusesTrace disk asked (Trace fault) × Keeps before after) ⊎ SomeRun disk asked (StopsRace asked.mutators asked.fresh before after fault)
-RefusesRace disk asked before after OutOfMemory = Unit {0}
-RefusesRace disk asked before after refusal = SomeRun disk asked (RefusesRacing disk asked before after refusal)
+RefusesRace disk asked before after refusal = RefusesTraced (racing asked.mutators asked.fresh) disk asked before after refusal

@@ -5,7 +5,7 @@ ghost use Rattle.page_plan.specs.Sliding.{pages};
 ghost use Rattle.comp_mutator.specs.CellViews.{steps_of, AreNew};
 ghost use Rattle.comp_mutator.specs.Finishes.{IsOfFlip};
 ghost use Rattle.comp_mutator.specs.Mutators.{cells_of, pass_of, setup_of, AreMutatorsOf};
-ghost use Rattle.comp_trace.specs.TraceStepsTraces.{IsParsedFor};
+ghost use Rattle.comp_trace.specs.TraceLines.{IsParsedFor};
 ghost use Rattle.comp_trace.specs.Traces.{lines_of, mutators_of, roots_of};
 ghost use Rattle.commands.specs.Races.{IsHaltedRace, IsRacedHeap};
 ghost use Rattle.command_io.specs.Texts.{HasLines};

@@ -3,8 +3,10 @@ use Rattle.std.proofs.lemmas.Result.{err_from_is_err_and, IfErr-weaker}
 use Rattle.heap_layout.specs.Counted.{inner_of, failures_of}
 use Rattle.comp_trace.specs.Traces.{lines_of}
 use Rattle.command_io.proofs.Outcomes.{uncreated}
-use Rattle.commands.proofs.RaceRuns.{of_inputs, of_outcome_err, of_outcome_ok, race_halted_by}
+use Rattle.commands.specs.Races.{racing}
+use Rattle.commands.proofs.RaceRuns.{of_outcome_err, of_outcome_ok, race_halted_by}
 use Rattle.commands.proofs.ReplayRuns.{inputs_uncounted, unprinted_halt}
+use Rattle.commands.proofs.TraceRuns.{of_inputs}
 use Rattle.commands.proofs.race.print_race.Goals as goal
 
 -- There is no heap, or no trace for it.
@@ -12,7 +14,7 @@ pub returns-in_err-inputs-clause-cause : goal.returns-in_err-inputs-clause-cause
 returns-in_err-inputs-clause-cause g c =
     let p = err_from_is_err_and c.from_residual.result c.from_residual.ensures.1 in
     let output = g.O.Write.contents (inner_of c.args.out.now).now in
-    rw (p.1, p.2) (of_inputs (g.F.Files.disk c.args.files.now) c.args.asked output output (Keeps-refl output) _ c.in_err-inputs.ensures.cause)
+    rw (p.1, p.2) (of_inputs (racing c.args.asked.mutators c.args.asked.fresh) (g.F.Files.disk c.args.files.now) c.args.asked output output (Keeps-refl output) _ c.in_err-inputs.ensures.cause)
 
 pub returns-in_err-inputs-clause-counts : goal.returns-in_err-inputs-clause-counts
 returns-in_err-inputs-clause-counts g c =
@@ -54,8 +56,8 @@ pub returns-clause-cause : goal.returns-clause-cause
 returns-clause-cause g c =
     let inputs = c.in_ok-inputs.inputs in
     of_outcome_err (g.F.Files.disk c.args.files.now) c.args.asked (g.O.Write.contents (inner_of c.args.out.now).now) (g.O.Write.contents (inner_of c.write_outcome.new.out).now)
-    inputs.heap c.in_ok-inputs.ensures.heap (lines_of inputs.trace) c.in_ok-inputs.ensures.lines c.race_heap-ran.result c.race_heap-ran.ensures.raced c.race_heap-ran.ensures.halted
-    c.write_outcome.result c.write_outcome.ensures.cause
+    inputs.heap c.in_ok-inputs.ensures.heap (lines_of inputs.trace) c.in_ok-inputs.ensures.lines c.race_heap-ran.result c.race_heap-ran.ensures.raced
+    c.write_outcome.result c.race_heap-ran.ensures.halted c.write_outcome.ensures.cause
 
 pub returns-clause-uncreated : goal.returns-clause-uncreated
 returns-clause-uncreated g c = c.write_outcome.ensures.uncreated

@@ -2,7 +2,7 @@ use Rattle.std.proofs.Common.{ℕ, ap, inl, inr, length, subst, ◌∙◌}
 use Rattle.std.proofs.lemmas.Result.{err_from_is_err_and}
 use Rattle.comp_trace.specs.Traces.{lines_of}
 use Rattle.command_io.specs.Texts.{RefusesTextAt}
-use Rattle.commands.proofs.ReplayRuns.{some_text}
+use Rattle.commands.proofs.TraceRuns.{some_text}
 use Rattle.commands.proofs.replay.inputs_at.Goals as goal
 
 pub returns-in_err-heap-clause-cause : goal.returns-in_err-heap-clause-cause

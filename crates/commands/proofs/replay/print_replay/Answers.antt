@@ -3,7 +3,9 @@ use Rattle.std.proofs.lemmas.Result.{err_from_is_err_and, IfErr-weaker}
 use Rattle.heap_layout.specs.Counted.{inner_of, failures_of}
 use Rattle.comp_trace.specs.Traces.{lines_of}
 use Rattle.command_io.proofs.Outcomes.{uncreated}
-use Rattle.commands.proofs.ReplayRuns.{halted_by, inputs_uncounted, of_inputs, of_outcome_err, of_outcome_ok, unprinted_halt}
+use Rattle.commands.specs.Replays.{replaying}
+use Rattle.commands.proofs.ReplayRuns.{inputs_uncounted, of_outcome_err, of_outcome_ok, replay_halted_by, unprinted_halt}
+use Rattle.commands.proofs.TraceRuns.{of_inputs}
 use Rattle.commands.proofs.replay.print_replay.Goals as goal
 
 -- There is no heap, or no trace for it.
@@ -11,7 +13,7 @@ pub returns-in_err-inputs-clause-cause : goal.returns-in_err-inputs-clause-cause
 returns-in_err-inputs-clause-cause g c =
     let p = err_from_is_err_and c.from_residual.result c.from_residual.ensures.1 in
     let output = g.O.Write.contents (inner_of c.args.out.now).now in
-    rw (p.1, p.2) (of_inputs (g.F.Files.disk c.args.files.now) c.args.asked output output (Keeps-refl output) _ c.in_err-inputs.ensures.cause)
+    rw (p.1, p.2) (of_inputs (replaying c.args.asked.mutators c.args.asked.fresh) (g.F.Files.disk c.args.files.now) c.args.asked output output (Keeps-refl output) _ c.in_err-inputs.ensures.cause)
 
 pub returns-in_err-inputs-clause-counts : goal.returns-in_err-inputs-clause-counts
 returns-in_err-inputs-clause-counts g c =
@@ -32,7 +34,7 @@ returns-in_err-inputs-clause-uncreated g c =
 pub write_outcome-requires-clause-halted : goal.write_outcome-requires-clause-halted
 write_outcome-requires-clause-halted g c =
     let inputs = c.in_ok-inputs.inputs in
-    IfErr-weaker c.replay_heap-ran.result _ _ (λ run h. halted_by c.args.asked.mutators c.args.asked.fresh (lines_of inputs.trace) inputs.heap run.shown.items run.refusal h)
+    IfErr-weaker c.replay_heap-ran.result _ _ (λ run h. replay_halted_by c.args.asked.mutators c.args.asked.fresh (lines_of inputs.trace) inputs.heap run.shown.items run.refusal h)
     c.replay_heap-ran.ensures.halted
 
 -- The run was written and printed, or it was not, or it was halted.
@@ -47,8 +49,8 @@ pub returns-clause-cause : goal.returns-clause-cause
 returns-clause-cause g c =
     let inputs = c.in_ok-inputs.inputs in
     of_outcome_err (g.F.Files.disk c.args.files.now) c.args.asked (g.O.Write.contents (inner_of c.args.out.now).now) (g.O.Write.contents (inner_of c.write_outcome.new.out).now)
-    inputs.heap c.in_ok-inputs.ensures.heap (lines_of inputs.trace) c.in_ok-inputs.ensures.lines c.replay_heap-ran.result c.replay_heap-ran.ensures.replayed c.replay_heap-ran.ensures.halted
-    c.write_outcome.result c.write_outcome.ensures.cause
+    inputs.heap c.in_ok-inputs.ensures.heap (lines_of inputs.trace) c.in_ok-inputs.ensures.lines c.replay_heap-ran.result c.replay_heap-ran.ensures.replayed
+    c.write_outcome.result c.replay_heap-ran.ensures.halted c.write_outcome.ensures.cause
 
 pub returns-clause-uncreated : goal.returns-clause-uncreated
 returns-clause-uncreated g c = c.write_outcome.ensures.uncreated

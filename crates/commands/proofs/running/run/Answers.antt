@@ -2,7 +2,8 @@ use Rattle.std.proofs.Common.{◌≡◌, rules, subst, sym, IfOk, List, String, 
 use Rattle.std.specs.String.{string_bytes}
 use Rattle.heap_layout.specs.Counted.{inner_of}
 use Rattle.command_line.specs.Asked.{Asks, AsksNoCommand}
-use Rattle.commands.proofs.Answered.{answered, misused, unknown}
+use Rattle.command_io.specs.Disk.{unknown}
+use Rattle.commands.proofs.Answered.{answered, misused}
 use Rattle.commands.proofs.running.run.Goals as goal
 
 pub returns-clause-done : goal.returns-clause-done
