@@ -22,7 +22,7 @@ fn main(rt: HostRuntime) {
 }
 
 // Prints how a run went.
-fn tell<R: Print>(rt: &R, name: &str, well: bool) {
+fn report<R: Print>(rt: &R, name: &str, well: bool) {
     let _ = match well {
         true => println!(rt; "{name}: as it has to be"),
         false => println!(rt; "{name}: NOT as it has to be"),
@@ -34,9 +34,9 @@ fn tell<R: Print>(rt: &R, name: &str, well: bool) {
 fn run_all<R: Print + AllocGlobal + Threads + Wait + Sync>(rt: &R) {
     let alloc = rt.alloc();
     for case in tables::cases() {
-        tell(rt, case.name, playing::is_played(rt, alloc, case));
+        report(rt, case.name, playing::is_played(rt, alloc, case));
     }
-    tell(rt, "a ledger", ledgers::is_kept(rt, alloc));
-    tell(rt, "a replay", replaying::is_replayed(rt, alloc));
-    tell(rt, "two cycles", cycling::are_cycled(rt, alloc));
+    report(rt, "a ledger", ledgers::is_kept(rt, alloc));
+    report(rt, "a replay", replaying::is_replayed(rt, alloc));
+    report(rt, "two cycles", cycling::are_cycled(rt, alloc));
 }

@@ -232,7 +232,7 @@ fn expect_row<R: Abort + rt::Files + AllocGlobal>(
         },
         rt.alloc(),
     );
-    let told = write(&device, dump, heap);
+    let found = write(&device, dump, heap);
     let whole = match before {
         None => row.whole.0,
         Some(_) => row.whole.1,
@@ -248,7 +248,7 @@ fn expect_row<R: Abort + rt::Files + AllocGlobal>(
         (None, whole) => !whole && before.is_none(),
     };
     let clean = bytes_at(rt, PART).is_none();
-    assert!(rt; told == wanted && is_left && clean, "lacks {}", row.lacks);
+    assert!(rt; found == wanted && is_left && clean, "lacks {}", row.lacks);
     if left.is_some() {
         fs::remove_file(rt, PATH)
             .ok()

@@ -29,13 +29,13 @@ fn writes<L: Named, B: Builder, R: Abort + Wait>(
     requires of { IsMutatorOf space.now m.old }
     ensures of { IsMutatorOf space.now m.new }
 {
-    let told = match fight.waits {
+    let answer = match fight.waits {
         true => space.write_data(alloc, rt, m, T, 0, value),
         false => space.try_write_data(alloc, m, T, 0, value),
     };
-    let busy = !fight.waits && told == Err(Refusal::Busy(0));
-    expect_so(rt, fight.at(value), told.is_ok() || busy);
-    told.is_ok()
+    let busy = !fight.waits && answer == Err(Refusal::Busy(0));
+    expect_so(rt, fight.at(value), answer.is_ok() || busy);
+    answer.is_ok()
 }
 
 // Writes all values of a mutator. Panics unless it counts as many entries as were written.
@@ -104,8 +104,8 @@ pub fn expect_full<L: Named, B: Builder>(
     assert!(rt; mutators.len() > 0);
     let m = &mut mutators[0];
     let before = m.entries();
-    let told = space.try_write_data(alloc, m, T, 0, 0);
+    let answer = space.try_write_data(alloc, m, T, 0, 0);
     let after = m.entries();
-    expect_eq(rt, fight.at(before), told, Err(Refusal::JournalFull(0)));
+    expect_eq(rt, fight.at(before), answer, Err(Refusal::JournalFull(0)));
     expect_eq(rt, fight.at(before), after, before);
 }

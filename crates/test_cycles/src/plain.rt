@@ -5,7 +5,7 @@ use std::alloc::{AllocError, Global};
 use std::process::Abort;
 use test_support::{At, F};
 
-/// The index of an object that was dropped.
+// The index of an object that was dropped.
 const NOWHERE: u64 = u64::MAX;
 
 /// A field of an object.
@@ -27,7 +27,7 @@ pub struct Plain {
 }
 
 impl Plain {
-    // The place of a field among all fields, or `None` if it does not exist.
+    // The position of a field among all fields, or `None` if it does not exist.
     fn place(&self, field: Field) -> Option<usize> {
         let (first, count, number) = match field {
             Field::Reference(number) => (0, self.header.refs(), number),

@@ -18,7 +18,7 @@ pub const LINKED: &[u8] = b"0 root 0 0\n0 new 1 0 0 9\n0 store 0 0 1\n";
 // The object that it refers to has no data word.
 const PUT: &[u8] = b"0 root 0 0\n0 load 1 0 0\n0 put 1 0 1\n";
 
-/// The words of the next heap that are not 0, each with its index.
+// The words of the next heap that are not 0, each with its index.
 const WORDS: [(usize, u64); 5] = [
     (0, 4_295_032_832),
     (1, 11),

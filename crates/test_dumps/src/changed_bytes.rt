@@ -1,7 +1,7 @@
 //! Dumps with each byte changed to each other value.
 use crate::encoded::{Whole, encoded};
 use crate::expected::expect_eq;
-use crate::judged::{Told, told};
+use crate::judged::{Report, report_on};
 use comp_audit::{AuditFault, DumpFault, Verdict};
 use page_plan::Plan;
 use std::alloc::Global;
@@ -11,7 +11,7 @@ use test_support::At;
 /// What becomes of a dump after a change of one byte.
 pub enum Becomes {
     /// This is reported.
-    Is(Told),
+    Is(Report),
     /// It is no dump: the bytes after the change are read as other fields than they were written for, and these do not
     /// fit.
     Shifted,
@@ -19,12 +19,12 @@ pub enum Becomes {
     WrongWord(u64),
 }
 
-/// The first and the last place of a byte, the least and the most value, and what becomes of the dump.
+/// The first and the last position of a byte, the least and the most value, and what becomes of the dump.
 pub struct Rule(pub usize, pub usize, pub u8, pub u8, pub Becomes);
 
-// The expected report for a byte at a place, by its rule. If the rule allows several, and `found` is one of them, it is
-// `found`.
-fn reckoned(rule: &Rule, at: usize, found: Told) -> Told {
+// The expected report for a byte at a position, by its rule. If the rule allows several, and `found` is one of them, it
+// is `found`.
+fn reckoned(rule: &Rule, at: usize, found: Report) -> Report {
     let Rule(first, _, _, _, becomes) = rule;
     match becomes {
         Becomes::Is(wanted) => *wanted,
@@ -39,22 +39,22 @@ fn reckoned(rule: &Rule, at: usize, found: Told) -> Told {
     }
 }
 
-// Checks the report for this byte at that place.
-fn expect_reckoned(rt: &impl Abort, rules: &[Rule], found: Told, at: usize, byte: u8) {
+// Checks the report for this byte at that position.
+fn expect_reckoned(rt: &impl Abort, rules: &[Rule], found: Report, at: usize, byte: u8) {
     for rule in rules {
         let Rule(first, last, least, most, _) = rule;
         if *first <= at && at <= *last && *least <= byte && byte <= *most {
             let number = at.wrapping_mul(256).wrapping_add(usize::from(byte));
             let wanted = reckoned(rule, at, found);
-            let at = At::new("256 times the place, plus the byte", number);
+            let at = At::new("256 times the position, plus the byte", number);
             return expect_eq(rt, at, found, wanted);
         }
     }
     rt.panic("no rule")
 }
 
-// Checks each other value at each place of a dump with these bytes. The last value at a place is the right one, which
-// stays.
+// Checks each other value at each position of a dump with these bytes. The last value at a position is the right one,
+// which stays.
 fn expect_each(rt: &impl Abort, alloc: Global, plan: &Plan, rules: &[Rule], bytes: &mut [u8]) {
     let mut right = 0;
     let mut byte = 0u8;
@@ -69,7 +69,7 @@ fn expect_each(rt: &impl Abort, alloc: Global, plan: &Plan, rules: &[Rule], byte
             *place = byte;
         }
         if byte != right {
-            expect_reckoned(rt, rules, told(alloc, plan, bytes), at, byte);
+            expect_reckoned(rt, rules, report_on(alloc, plan, bytes), at, byte);
         }
     }
 }
@@ -87,6 +87,6 @@ pub fn expect_bytes(
     let mut bytes = encoded(rt, alloc, dump);
     expect_eq(rt, At::new("bytes", 0), bytes.len(), length);
     expect_each(rt, alloc, plan, rules, &mut bytes);
-    let found = told(alloc, plan, &bytes);
+    let found = report_on(alloc, plan, &bytes);
     expect_eq(rt, At::new("no change", 0), found, Ok(Verdict::Yes));
 }

@@ -1,35 +1,28 @@
 //! Dumps of edition two with some fields changed, dumps of the other edition, and the report on each.
 use crate::encoded::{Change, Whole};
-use crate::judged::{Row, Told};
-use comp_audit::{AuditFault, DumpFault, Verdict};
-use test_support::{F, T};
+use crate::judged::{Report, Row};
+use crate::reports::{
+    BAD_FIELD, BAD_HEADER, BAD_MADE, BAD_MAGIC, BAD_SLID, MISSING_2, REPEATED_0, WRONG_HEAD,
+    WRONG_TOTAL, WRONG_WORD_1, WRONG_WORD_65, YES,
+};
+use comp_audit::{AuditFault, Verdict};
+use test_support::{
+    F, HEADER_STAMP, REFERENCE_KIND, REFERENCE_STAMP, REFERENCE_VALUE, ROOT, SLID_WEAK_WORD, T,
+    VERSION,
+};
 
-// The places of fields of the dump.
-const VERSION: usize = 8;
-
-const ROOT: usize = 28;
-
-const WORD_1: usize = 45;
-
+// The positions of fields of the dump.
 const WORD_2: usize = 53;
 
 const WORD_5: usize = 77;
 
-const STAMP: usize = 553;
-
-const KIND: usize = 562;
-
 const OFFSET: usize = 563;
-
-const VALUE: usize = 564;
 
 const MADE: usize = 573;
 
 const MADE_WEAK: usize = 581;
 
-const MADE_BEHIND: usize = 589;
-
-const HEADER_STAMP: usize = 1_089;
+const MADE_AFTER: usize = 589;
 
 const HEADER: usize = 1_100;
 
@@ -43,53 +36,29 @@ const BUILD: usize = 1_131;
 
 const TOTAL: usize = 1_139;
 
-// The dump is lawful, or has this fault.
-const YES: Told = Ok(Verdict::Yes);
+// Reports that no other file expects.
+const WRONG_WORD_2: Report = Ok(Verdict::No(AuditFault::WrongWord(8_589_934_594)));
 
-const WRONG_HEAD: Told = Ok(Verdict::No(AuditFault::WrongHead));
+const WRONG_WORD_66: Report = Ok(Verdict::No(AuditFault::WrongWord(8_589_934_658)));
 
-const BAD_SLID: Told = Ok(Verdict::No(AuditFault::BadEntry(0, 0)));
+const LOOSE_1: Report = Ok(Verdict::No(AuditFault::LooseReference(8_589_934_593)));
 
-const BAD_HEADER: Told = Ok(Verdict::No(AuditFault::BadEntry(1, 0)));
-
-const BAD_MADE: Told = Ok(Verdict::No(AuditFault::BadEntry(1, 1)));
-
-const WRONG_WORD_1: Told = Ok(Verdict::No(AuditFault::WrongWord(8_589_934_593)));
-
-const WRONG_WORD_2: Told = Ok(Verdict::No(AuditFault::WrongWord(8_589_934_594)));
-
-const WRONG_WORD_65: Told = Ok(Verdict::No(AuditFault::WrongWord(8_589_934_657)));
-
-const WRONG_WORD_66: Told = Ok(Verdict::No(AuditFault::WrongWord(8_589_934_658)));
-
-const LOOSE_1: Told = Ok(Verdict::No(AuditFault::LooseReference(8_589_934_593)));
-
-const LOOSE_65: Told = Ok(Verdict::No(AuditFault::LooseReference(8_589_934_657)));
-
-const REPEATED: Told = Ok(Verdict::No(AuditFault::StampRepeated(0)));
-
-const MISSING: Told = Ok(Verdict::No(AuditFault::StampMissing(2)));
-
-const WRONG_TOTAL: Told = Ok(Verdict::No(AuditFault::WrongTotal));
-
-const NO_FIELD: Told = Err(DumpFault::BadField);
-
-const NO_VERSION: Told = Err(DumpFault::BadMagic);
+const LOOSE_65: Report = Ok(Verdict::No(AuditFault::LooseReference(8_589_934_657)));
 
 /// For the compacted three objects of edition two.
 pub static WEAK_FORGED: [Row; 49] = [
     // No change.
     Row(Whole::WeakLinked, &[], YES),
     // A dump of edition one has no weak word.
-    Row(Whole::WeakLinked, &[Change(VERSION, 4, 4, 1)], NO_FIELD),
+    Row(Whole::WeakLinked, &[Change(VERSION, 4, 4, 1)], BAD_FIELD),
     // A version that does not exist.
-    Row(Whole::WeakLinked, &[Change(VERSION, 4, 4, 3)], NO_VERSION),
+    Row(Whole::WeakLinked, &[Change(VERSION, 4, 4, 3)], BAD_MAGIC),
     // A dump of edition one, with entries of references in place of weak words.
     Row(
         Whole::WeakLinked,
         &[
             Change(VERSION, 4, 4, 1),
-            Change(KIND, 1, 1, 1),
+            Change(REFERENCE_KIND, 1, 1, 1),
             Change(MADE_KIND, 1, 1, 1),
         ],
         WRONG_HEAD,
@@ -99,7 +68,7 @@ pub static WEAK_FORGED: [Row; 49] = [
         Whole::WeakLinked,
         &[
             Change(VERSION, 4, 4, 1),
-            Change(KIND, 1, 1, 1),
+            Change(REFERENCE_KIND, 1, 1, 1),
             Change(MADE_KIND, 1, 1, 1),
             Change(BUILD, 4, 4, 0),
         ],
@@ -109,7 +78,7 @@ pub static WEAK_FORGED: [Row; 49] = [
         Whole::WeakLinked,
         &[
             Change(VERSION, 4, 4, 1),
-            Change(KIND, 1, 1, 1),
+            Change(REFERENCE_KIND, 1, 1, 1),
             Change(MADE_KIND, 1, 1, 1),
             Change(TOTAL, 8, 8, 6),
         ],
@@ -118,9 +87,21 @@ pub static WEAK_FORGED: [Row; 49] = [
     // The root is null.
     Row(Whole::WeakLinked, &[Change(ROOT, 8, 8, 0)], WRONG_HEAD),
     // An entry of a header, of a reference and of data at a weak word.
-    Row(Whole::WeakLinked, &[Change(KIND, 1, 1, 0)], BAD_SLID),
-    Row(Whole::WeakLinked, &[Change(KIND, 1, 1, 1)], BAD_SLID),
-    Row(Whole::WeakLinked, &[Change(KIND, 1, 1, 2)], BAD_SLID),
+    Row(
+        Whole::WeakLinked,
+        &[Change(REFERENCE_KIND, 1, 1, 0)],
+        BAD_SLID,
+    ),
+    Row(
+        Whole::WeakLinked,
+        &[Change(REFERENCE_KIND, 1, 1, 1)],
+        BAD_SLID,
+    ),
+    Row(
+        Whole::WeakLinked,
+        &[Change(REFERENCE_KIND, 1, 1, 2)],
+        BAD_SLID,
+    ),
     // An entry of a weak word at a header, at data, at a reference, and after all objects.
     Row(Whole::WeakLinked, &[Change(OFFSET, 1, 1, 0)], BAD_SLID),
     Row(Whole::WeakLinked, &[Change(OFFSET, 1, 1, 3)], BAD_SLID),
@@ -132,7 +113,7 @@ pub static WEAK_FORGED: [Row; 49] = [
     Row(
         Whole::WeakLinked,
         &[
-            Change(WORD_1, 8, 8, 0),
+            Change(SLID_WEAK_WORD, 8, 8, 0),
             Change(WORD_5, 8, 8, T + 64),
             Change(OFFSET, 1, 1, 5),
         ],
@@ -141,9 +122,9 @@ pub static WEAK_FORGED: [Row; 49] = [
     Row(
         Whole::WeakLinked,
         &[
-            Change(WORD_1, 8, 8, 0),
+            Change(SLID_WEAK_WORD, 8, 8, 0),
             Change(WORD_5, 8, 8, T + 64),
-            Change(KIND, 1, 1, 1),
+            Change(REFERENCE_KIND, 1, 1, 1),
             Change(OFFSET, 1, 1, 5),
         ],
         YES,
@@ -214,7 +195,11 @@ pub static WEAK_FORGED: [Row; 49] = [
         BAD_HEADER,
     ),
     // A weak word that is neither what its entry says nor what slid.
-    Row(Whole::WeakLinked, &[Change(WORD_1, 8, 8, 0)], WRONG_WORD_1),
+    Row(
+        Whole::WeakLinked,
+        &[Change(SLID_WEAK_WORD, 8, 8, 0)],
+        WRONG_WORD_1,
+    ),
     Row(Whole::WeakLinked, &[Change(WORD_2, 8, 8, 0)], WRONG_WORD_2),
     Row(
         Whole::WeakLinked,
@@ -223,29 +208,41 @@ pub static WEAK_FORGED: [Row; 49] = [
     ),
     Row(
         Whole::WeakLinked,
-        &[Change(MADE_BEHIND, 8, 8, 1)],
+        &[Change(MADE_AFTER, 8, 8, 1)],
         WRONG_WORD_66,
     ),
     // A weak word for the inside of an object, after all objects, on a fresh page, and in from-space for an object that
     // did not slide.
     Row(
         Whole::WeakLinked,
-        &[Change(WORD_1, 8, 8, T + 1), Change(VALUE, 8, 8, T + 1)],
+        &[
+            Change(SLID_WEAK_WORD, 8, 8, T + 1),
+            Change(REFERENCE_VALUE, 8, 8, T + 1),
+        ],
         LOOSE_1,
     ),
     Row(
         Whole::WeakLinked,
-        &[Change(WORD_1, 8, 8, T + 6), Change(VALUE, 8, 8, T + 6)],
+        &[
+            Change(SLID_WEAK_WORD, 8, 8, T + 6),
+            Change(REFERENCE_VALUE, 8, 8, T + 6),
+        ],
         LOOSE_1,
     ),
     Row(
         Whole::WeakLinked,
-        &[Change(WORD_1, 8, 8, T + 65), Change(VALUE, 8, 8, T + 65)],
+        &[
+            Change(SLID_WEAK_WORD, 8, 8, T + 65),
+            Change(REFERENCE_VALUE, 8, 8, T + 65),
+        ],
         LOOSE_1,
     ),
     Row(
         Whole::WeakLinked,
-        &[Change(WORD_1, 8, 8, F + 4), Change(VALUE, 8, 8, F + 4)],
+        &[
+            Change(SLID_WEAK_WORD, 8, 8, F + 4),
+            Change(REFERENCE_VALUE, 8, 8, F + 4),
+        ],
         LOOSE_1,
     ),
     // The weak word of the new object for the inside of that object.
@@ -260,17 +257,26 @@ pub static WEAK_FORGED: [Row; 49] = [
     // A weak word that is null or for either object that slid, and that of the new object for itself.
     Row(
         Whole::WeakLinked,
-        &[Change(WORD_1, 8, 8, 0), Change(VALUE, 8, 8, 0)],
+        &[
+            Change(SLID_WEAK_WORD, 8, 8, 0),
+            Change(REFERENCE_VALUE, 8, 8, 0),
+        ],
         YES,
     ),
     Row(
         Whole::WeakLinked,
-        &[Change(WORD_1, 8, 8, T), Change(VALUE, 8, 8, T)],
+        &[
+            Change(SLID_WEAK_WORD, 8, 8, T),
+            Change(REFERENCE_VALUE, 8, 8, T),
+        ],
         YES,
     ),
     Row(
         Whole::WeakLinked,
-        &[Change(WORD_1, 8, 8, T + 4), Change(VALUE, 8, 8, T + 4)],
+        &[
+            Change(SLID_WEAK_WORD, 8, 8, T + 4),
+            Change(REFERENCE_VALUE, 8, 8, T + 4),
+        ],
         YES,
     ),
     Row(
@@ -284,15 +290,25 @@ pub static WEAK_FORGED: [Row; 49] = [
     // A weak word for an object that was made later.
     Row(
         Whole::WeakLinked,
-        &[Change(STAMP, 8, 8, 0), Change(HEADER_STAMP, 8, 8, 1)],
+        &[
+            Change(REFERENCE_STAMP, 8, 8, 0),
+            Change(HEADER_STAMP, 8, 8, 1),
+        ],
         BAD_SLID,
     ),
     // Stamps 0, 0 and 2; 1, 0 and 3; and 2, 0 and 1.
-    Row(Whole::WeakLinked, &[Change(STAMP, 8, 8, 0)], REPEATED),
-    Row(Whole::WeakLinked, &[Change(MADE_STAMP, 8, 8, 3)], MISSING),
     Row(
         Whole::WeakLinked,
-        &[Change(STAMP, 8, 8, 2), Change(MADE_STAMP, 8, 8, 1)],
+        &[Change(REFERENCE_STAMP, 8, 8, 0)],
+        REPEATED_0,
+    ),
+    Row(Whole::WeakLinked, &[Change(MADE_STAMP, 8, 8, 3)], MISSING_2),
+    Row(
+        Whole::WeakLinked,
+        &[
+            Change(REFERENCE_STAMP, 8, 8, 2),
+            Change(MADE_STAMP, 8, 8, 1),
+        ],
         YES,
     ),
     // Total: only the words that slid, and one word more than there are.
@@ -323,7 +339,7 @@ pub static OTHER_EDITION: [Row; 8] = [
     ),
     Row(
         Whole::Linked,
-        &[Change(VERSION, 4, 4, 2), Change(KIND, 1, 1, 3)],
+        &[Change(VERSION, 4, 4, 2), Change(REFERENCE_KIND, 1, 1, 3)],
         WRONG_HEAD,
     ),
     Row(
@@ -332,7 +348,7 @@ pub static OTHER_EDITION: [Row; 8] = [
         WRONG_HEAD,
     ),
     // Edition one has no entry of a weak word.
-    Row(Whole::Linked, &[Change(KIND, 1, 1, 3)], NO_FIELD),
+    Row(Whole::Linked, &[Change(REFERENCE_KIND, 1, 1, 3)], BAD_FIELD),
     // Dumps of other heaps.
     Row(Whole::WeakLinked, &[], WRONG_HEAD),
     Row(Whole::WeakTouched, &[], WRONG_HEAD),

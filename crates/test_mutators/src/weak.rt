@@ -97,7 +97,7 @@ const FIELDS: Case = Case {
         ),
         Row::Page(1, &[1_407_379_178_520_576, 8_589_934_592], &MADE),
     ],
-    end: End::Told(Ending {
+    end: End::Contents(Ending {
         live_words: 8,
         roots: &[8_589_934_596],
         pages: &[true, true],
@@ -124,7 +124,7 @@ const REFUSALS: Case = Case {
         Row::WriteWeak(T, 1, FRESH, Err(Refusal::NotAStart(8_589_934_656))),
         Row::Builds(&[]),
     ],
-    end: End::Told(Ending {
+    end: End::Contents(Ending {
         live_words: 6,
         roots: &[8_589_934_596],
         pages: &[false, false],
@@ -157,7 +157,7 @@ const TAGS: Case = Case {
         Row::Alloc(0, 0, 65_536, Err(Refusal::NotInEdition)),
         Row::Alloc(0, 0, 65_535, Err(Refusal::OutOfPages)),
     ],
-    end: End::Told(Ending {
+    end: End::Contents(Ending {
         live_words: 70,
         roots: &[8_589_934_596],
         pages: &[false, true],
@@ -191,7 +191,7 @@ const NONE: Case = Case {
         Row::AllocWeak(0, 1, 0, 5, Err(Refusal::NotInEdition)),
         Row::AllocWeak(0, 0, 0, 5, Err(Refusal::OutOfPages)),
     ],
-    end: End::Told(Ending {
+    end: End::Contents(Ending {
         live_words: 65,
         roots: &[8_589_934_592],
         pages: &[false, true],
@@ -217,7 +217,7 @@ const AT_ONCE: Case = Case {
         Row::AtLast(&Row::AllocWeak(0, 1, 0, 65_536, Err(Refusal::NotInEdition))),
         Row::AtLast(&Row::Alloc(0, 0, 65_536, Err(Refusal::NotInEdition))),
     ],
-    end: End::Untold,
+    end: End::Unchecked,
 };
 
 /// The cases of this module.

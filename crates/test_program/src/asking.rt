@@ -5,7 +5,7 @@ use test_support::words_of;
 
 // The expected text about a line.
 #[derive(Clone, Copy, Debug)]
-enum Told<'a> {
+enum Answer<'a> {
     // This task, as `Debug` prints it.
     Task(&'a str),
     // The help of the program.
@@ -15,16 +15,16 @@ enum Told<'a> {
 }
 
 // Whether a text is as expected.
-fn tells(text: &str, wanted: Told) -> bool {
+fn is_text_of(text: &str, wanted: Answer) -> bool {
     match wanted {
-        Told::Task(task) => text == task,
-        Told::Help => text.starts_with("Help { text: ") && text.contains("Usage: compressor"),
-        Told::Error => text.starts_with("error: "),
+        Answer::Task(task) => text == task,
+        Answer::Help => text.starts_with("Help { text: ") && text.contains("Usage: compressor"),
+        Answer::Error => text.starts_with("error: "),
     }
 }
 
 // Checks that the words of a line ask for this, or are refused with this.
-fn expect_told(rt: &(impl Abort + AllocGlobal), line: &str, wanted: Told) {
+fn expect_answer(rt: &(impl Abort + AllocGlobal), line: &str, wanted: Answer) {
     let words = words_of(rt.alloc(), line).expect(rt, "memory for words");
     let text = match read_task(rt.alloc(), &words) {
         Ok(task) => format!(in rt.alloc(); "{task:?}"),
@@ -32,15 +32,15 @@ fn expect_told(rt: &(impl Abort + AllocGlobal), line: &str, wanted: Told) {
     };
     let text = text.expect(rt, "memory for a text");
     assert!(rt;
-        tells(&text, wanted),
+        is_text_of(&text, wanted),
         "{line}: found {text}, wanted {wanted:?}"
     );
 }
 
 // Checks each of these lines.
-fn expect_lines(rt: &(impl Abort + AllocGlobal), lines: &[&str], wanted: Told) {
+fn expect_lines(rt: &(impl Abort + AllocGlobal), lines: &[&str], wanted: Answer) {
     for line in lines {
-        expect_told(rt, line, wanted);
+        expect_answer(rt, line, wanted);
     }
 }
 
@@ -50,7 +50,7 @@ type Row = (&'static str, &'static str);
 // Checks the tasks of these lines.
 fn expect_rows(rt: &(impl Abort + AllocGlobal), rows: &[Row]) {
     for (line, task) in rows {
-        expect_told(rt, line, Told::Task(task));
+        expect_answer(rt, line, Answer::Task(task));
     }
 }
 
@@ -171,7 +171,7 @@ static HELPS: [&str; 15] = [
 
 #[test]
 fn help_is_printed_for_these_words(rt: HostRuntime) {
-    expect_lines(&rt, &HELPS, Told::Help);
+    expect_lines(&rt, &HELPS, Answer::Help);
 }
 
 // Lines that ask for the version.
@@ -248,5 +248,5 @@ static NO_COMMANDS: [&str; 54] = [
 
 #[test]
 fn words_that_are_no_command_are_refused(rt: HostRuntime) {
-    expect_lines(&rt, &NO_COMMANDS, Told::Error);
+    expect_lines(&rt, &NO_COMMANDS, Answer::Error);
 }

@@ -52,7 +52,7 @@ fn expect_given(rt: &(impl Abort + AllocGlobal), words: &[&[u8]], wanted: Result
 }
 
 // Checks the status and the text that a kind of error ends with.
-fn expect_told(rt: &(impl Abort + AllocGlobal), kind: ErrorKind, status: u8, text: &str) {
+fn expect_report(rt: &(impl Abort + AllocGlobal), kind: ErrorKind, status: u8, text: &str) {
     let mut err = Vec::new(rt.alloc());
     let found = report_unstarted(kind, &mut err);
     assert_eq!(rt; found, status, "{text}");
@@ -74,8 +74,8 @@ fn runs_begin_only_with_words_in_utf_8(rt: HostRuntime) {
     expect_given(&rt, &[b"compressor"], Ok(""));
     expect_given(&rt, &[b"compressor", b"plan", b"\xff"], no_text);
     expect_given(&rt, &[b"compressor", b"a\xc3", b"--help"], no_text);
-    expect_told(&rt, ErrorKind::InvalidData, 2, NO_TEXT);
-    expect_told(
+    expect_report(&rt, ErrorKind::InvalidData, 2, NO_TEXT);
+    expect_report(
         &rt,
         ErrorKind::OutOfMemory,
         1,

@@ -1,5 +1,5 @@
-//! Changes of files, and the places of fields in the dump after the run that makes a new object and in the files with
-//! weak words.
+//! Changes of files, and the positions of fields in the dump after the run that makes a new object and in the files
+//! with weak words.
 use std::alloc::AllocError;
 
 /// A change of a file.
@@ -7,9 +7,9 @@ use std::alloc::AllocError;
 pub enum Change {
     /// No change.
     None,
-    /// The byte at this place becomes this one.
+    /// The byte at this position becomes this one.
     Byte(usize, u8),
-    /// The word of 8 bytes at this place becomes this one.
+    /// The word of 8 bytes at this position becomes this one.
     Word(usize, u64),
     /// The file is cut to this length.
     Cut(usize),
@@ -19,49 +19,49 @@ pub enum Change {
     Builds(&'static [u32]),
 }
 
-/// The place of its version.
+/// The position of its version.
 pub const VERSION: usize = 8;
 
-/// The place of its root.
+/// The position of its root.
 pub const ROOT: usize = 28;
 
-/// The place of the data word of the first object.
+/// The position of the data word of the first object.
 pub const FIRST_DATA: usize = 45;
 
-/// The place of the reference that was written.
+/// The position of the reference that was written.
 pub const REFERENCE: usize = 61;
 
-/// The place of the last word of page 0.
+/// The position of the last word of page 0.
 pub const LAST_WORD: usize = 541;
 
-/// The place of the stamp of the reference's entry.
+/// The position of the stamp of the reference's entry.
 pub const REFERENCE_STAMP: usize = 553;
 
-/// The place of the kind of the reference's entry.
+/// The position of the kind of the reference's entry.
 pub const REFERENCE_KIND: usize = 562;
 
-/// The place of the value of the reference's entry.
+/// The position of the value of the reference's entry.
 pub const REFERENCE_VALUE: usize = 564;
 
-/// The place of the stamp of the header's entry.
+/// The position of the stamp of the header's entry.
 pub const HEADER_STAMP: usize = 1_089;
 
-/// The place of the offset of the header's entry.
+/// The position of the offset of the header's entry.
 pub const HEADER_OFFSET: usize = 1_099;
 
-/// The place of the record of the last page.
+/// The position of the record of the last page.
 pub const LAST_PAGE: usize = 1_108;
 
-/// The place of its live words.
+/// The position of its live words.
 pub const TOTAL: usize = 1_121;
 
-/// The place of the first weak word in the image of the three objects of edition two.
+/// The position of the first weak word in the image of the three objects of edition two.
 pub const WEAK_WORD: usize = 32;
 
-/// The place of that weak word in a dump of them. The entry of page 0 is at the place of the reference's entry.
+/// The position of that weak word in a dump of them. The entry of page 0 is at the position of the reference's entry.
 pub const SLID_WEAK_WORD: usize = 45;
 
-// The place of the lists of builds.
+// The position of the lists of builds.
 const BUILDS: usize = 1_109;
 
 // Its live words.
@@ -80,7 +80,7 @@ pub fn make_change(bytes: &mut Vec<u8>, change: Change) -> Result<(), AllocError
     Ok(())
 }
 
-// Puts bytes at a place. Bytes past the end are dropped.
+// Puts bytes at a position. Bytes past the end are dropped.
 fn put(bytes: &mut [u8], at: usize, new: &[u8]) {
     for (place, byte) in bytes.iter_mut().skip(at).zip(new) {
         *place = *byte;

@@ -14,6 +14,7 @@ mod images;
 mod larger_heaps;
 mod object;
 mod objects;
+mod pages;
 mod parts;
 mod random;
 mod readers;
@@ -39,6 +40,7 @@ pub use images::{
 };
 pub use object::Object;
 pub use objects::{Objects, Written};
+pub use pages::page_words;
 pub use parts::{Part, bytes_of};
 pub use random::Random;
 pub use readers::Pieces;

@@ -27,7 +27,7 @@ const STOPS: [Refusal; 5] = [
     Refusal::NotInEdition,
 ];
 
-/// The data words of the two live objects and of a new object.
+// The data words of the two live objects and of a new object.
 const FIRST_VALUES: [u64; 4] = [10, 30, 31, 0];
 
 // The number and the run of a mutator, and what all mutators wrote.
@@ -60,7 +60,7 @@ fn write_of(objects: &Objects, action: Action) -> Option<(Kind, u64)> {
 }
 
 // What an entry writes; of a reference or a weak word only the kind.
-fn told(entry: Entry) -> (Kind, u64) {
+fn content(entry: Entry) -> (Kind, u64) {
     match entry.kind {
         Kind::Reference => (Kind::Reference, 0),
         Kind::Weak => (Kind::Weak, 0),
@@ -74,7 +74,7 @@ fn write_at(objects: &Objects, mutator: u8, count: usize) -> Option<(Kind, u64)>
     for written in &objects.written {
         if written.entry.writer == mutator {
             if left == 0 {
-                return Some(told(written.entry));
+                return Some(content(written.entry));
             }
             left = left.wrapping_sub(1);
         }
@@ -119,7 +119,7 @@ fn is_next(
 }
 
 // Whether a mutator showed and wrote what its own lines up to the refused one say, in their order, and nothing else.
-fn is_told(lines: &[Line], deeds: Deeds) -> bool {
+fn showed_and_wrote(lines: &[Line], deeds: Deeds) -> bool {
     let end = match deeds.run.fault {
         Some(stop) => stop.line,
         None => u64::MAX,
@@ -150,7 +150,7 @@ fn is_run(lines: &[Line], deeds: Deeds) -> bool {
             return false;
         }
     }
-    is_told(lines, deeds)
+    showed_and_wrote(lines, deeds)
 }
 
 // Checks that each mutator wrote and showed what its lines say.

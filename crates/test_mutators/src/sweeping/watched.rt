@@ -46,7 +46,7 @@ impl Watch {
     }
 
     /// Checks that no region was held in vain. If regions are counted, each must have begun and ended once.
-    pub fn expect_told(&self, rt: &impl Abort, case: &'static str) {
+    pub fn expect_none_missed(&self, rt: &impl Abort, case: &'static str) {
         let missed = self.missed.load(Ordering::SeqCst);
         expect(rt, case, "no region held in vain", missed == 0);
         if matches!(self.beside, Beside::Counts) {

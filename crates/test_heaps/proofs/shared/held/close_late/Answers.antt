@@ -2,7 +2,7 @@ use Rattle.std.proofs.Common.{◌≡◌, List, [], ◌∷◌, ◌++◌, sym, ap,
 use Rattle.cell_steps.specs.Passes.{Rests}
 use Rattle.cell_steps.specs.declared.pass.Pass.{Pass}
 use Rattle.page_cells.specs.CellViews.{mutators_of, Works}
-use Rattle.page_cells.specs.Ends.{AllRest}
+use Rattle.page_cells.specs.CellEnds.{AllRest}
 use Rattle.cell_steps.proofs.Sums.{each-one, each-append}
 use Rattle.test_heaps.proofs.shared.held.close_late.Goals as goal
 
