@@ -1,15 +1,29 @@
-//! What a caller can conclude from the contracts of the mutators' calls, of the sweep and of replays, and from the
-//! laws, and from nothing else.
+//! What a caller can conclude from the contracts and the laws of these crates, and from nothing else: from the layout of
+//! heaps up to the mutators, the sweep, traces, the audit and the program.
 #![tactic(auto)]
 
 mod alone;
+mod audits;
+mod built;
 mod copied;
+mod counted;
+mod images;
+mod journals;
 mod meetings;
+mod program;
 mod replayed;
+mod states;
 mod swept;
 
 pub use alone::{make_and_read, make_weak_and_read, write_seven_and_read, write_weak_and_read};
+pub use audits::finish_and_audit;
+pub use built::build_twice;
 pub use copied::{read_again, store_made, store_reference, touch_copied};
+pub use counted::post_and_gather;
+pub use images::place_marked;
+pub use journals::write_entry_and_read;
 pub use meetings::read_after_meeting;
+pub use program::run_no_words;
 pub use replayed::read_replay_and_finish;
+pub use states::claim_and_load;
 pub use swept::{flip_and_sweep, sweep_and_finish};

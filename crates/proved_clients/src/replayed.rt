@@ -4,7 +4,7 @@ ghost use Rattle.page_plan.specs.Kind.TheVariants.{Data};
 ghost use Rattle.comp_mutator.specs.Mutators.{setup_of};
 ghost use Rattle.proved_clients.specs.Histories.{StandsInHistory};
 ghost use Rattle.comp_trace.specs.AllMutators.{AreAll};
-ghost use Rattle.comp_trace.specs.TraceStepsTraces.{IsParsedFor};
+ghost use Rattle.comp_trace.specs.TraceLines.{IsParsedFor};
 
 use comp_mutator::{Builder, Finished, Mutator, Space};
 use comp_trace::{Trace, replay};
