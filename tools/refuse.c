@@ -12,7 +12,7 @@ extern int *__errno_location(void);
 /* the library that is loaded next */
 #define NEXT ((void *)-1L)
 
-/* the error that tells want of memory */
+/* the error number of a refused allocation */
 #define OUT_OF_MEMORY 12
 
 static long count;

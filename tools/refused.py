@@ -31,7 +31,7 @@ FRESH = b"0 root 0 0\n0 new 1 0 0 0\n0 store 0 0 1\n"
 KEPT = b"2\n64\n"
 FILES = {"three.img": THREE, "twenty.img": TWENTY, "seen.trace": SEEN, "fresh.trace": FRESH, "kept.marks": KEPT}
 
-# the words of a command, what it prints, and how long its dump or its new image is, where it writes one
+# the words of a command, what it prints, and how long its dump or its new image is, if it writes one
 COMMANDS = [
     ("word three.img 2", ["12884901889\n"], None),
     ("plan three.img", ["live 4\npages 1\npage 0 first 0\nroot 0 8589934594\n"], None),
@@ -98,7 +98,7 @@ class Refusing:
         def prepare():
             dump.write_bytes(BEFORE)
 
-        # What it writes where nothing is refused: the same each time, but where threads run side by side.
+        # What it writes if nothing is refused: the same each time, unless threads run side by side.
         prepare()
         self.run(0, words)
         wanted = dump.read_bytes()
@@ -123,7 +123,7 @@ class Refusing:
             return None if ran.stdout in shown else "printed something else"
 
         if len(wanted) != (len(BEFORE) if length is None else length):
-            self.fault(line, 0, f"{len(wanted)} bytes where nothing is refused")
+            self.fault(line, 0, f"{len(wanted)} bytes if nothing is refused")
         self.each(line, words, judge, prepare)
 
 
@@ -137,7 +137,7 @@ def main():
         subprocess.run([program, *words.split()], cwd=folder, check=True, capture_output=True)
         whole, _ = refusing.run(0, [runs])
         if whole is None or whole.returncode or b"NOT" in whole.stdout:
-            refusing.fault("refused_runs", 0, "not as it has to be where nothing is refused")
+            refusing.fault("refused_runs", 0, "not as it has to be if nothing is refused")
         else:
             refusing.each(
                 "refused_runs",

@@ -32,7 +32,7 @@ def sizes(edition, word):
 
 
 def left(dump):
-    """The roots of a dump, the words of each page, or nothing where it was never built, and the indices at which new objects start."""
+    """The roots of a dump, the words of each page, or nothing if it was never built, and the indices at which new objects start."""
     at = 8
 
     def take(form):
@@ -123,7 +123,7 @@ class Soak:
         print(f"seed {seed}: {told}", flush=True)
 
     def run(self, seed, *words):
-        """What a run printed, or nothing where it was refused by name or is at fault."""
+        """What a run printed, or nothing if it was refused by name or is at fault."""
         self.runs += 1
         try:
             ran = subprocess.run([self.program, *words], cwd=self.folder, capture_output=True, timeout=SECONDS)
@@ -146,7 +146,7 @@ class Soak:
             self.fault(seed, f"{what}: live {live}, and the audit says {judged!r}")
 
     def followed(self, seed, draw, edition, slid, swept, few, printed):
-        """The next cycle behind a replay, by marks that look random: its heap is planned, compacted and audited."""
+        """The next cycle after a replay, by marks that look random: its heap is planned, compacted and audited."""
         roots, pages, made = left((self.folder / "left.dump").read_bytes())
         zeros = (0,) * 64
         words = [word for p, page in enumerate(pages) for word in page or (swept[p] if p < len(swept) else zeros)]
