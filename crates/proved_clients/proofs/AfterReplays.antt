@@ -6,7 +6,7 @@ use Rattle.page_plan.specs.Kind.{Kind}
 use Rattle.page_plan.specs.declared.builder.Builder.{Ghosts}
 use Rattle.comp_journal.specs.declared.entry.Entry.{Entry}
 use Rattle.page_cells.specs.Lists.{StartsWith}
-use Rattle.page_cells.specs.Passes.{number_of, seen}
+use Rattle.page_cells.specs.Passes.{seen}
 use Rattle.page_cells.specs.Setup.{Setup}
 use Rattle.page_cells.proofs.Sums.{there_at}
 use Rattle.page_cells.proofs.Growing.{begins_then}
