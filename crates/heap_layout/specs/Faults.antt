@@ -67,15 +67,15 @@ abbrev pub field_faults_by : Kind → Edition → (ℕ → Bool) → List ℕ �
 field_faults_by kind edition test words marks =
     flat_map (λ mark. reference_faults_by kind test (mark + first_of kind (header_at edition words mark)) (fields_of kind (object_at edition words mark))) marks
 
--- each root is null or the address of a marked object
+-- a fault for each root that is neither null nor the address of a marked object
 abbrev pub root_faults : List ℕ → List ℕ → List LayoutFault
 root_faults marks roots = root_faults_by (is_target marks) roots
 
--- each reference of these marked objects is null or the address of a marked object
+-- a fault for each reference of these marked objects that is neither null nor the address of a marked object
 abbrev pub target_faults : Edition → List ℕ → List ℕ → List ℕ → List LayoutFault
 target_faults edition words all_marks marks = field_faults_by Reference edition (is_target all_marks) words marks
 
--- each weak word of a marked object is null or the address of an object
+-- a fault for each weak word of a marked object that is neither null nor the address of an object
 abbrev pub weak_faults : Edition → List ℕ → List ℕ → List LayoutFault
 weak_faults edition words marks = field_faults_by Weak edition (is_target (starts edition words)) words marks
 

@@ -13,7 +13,7 @@ abbrev pub Writes : {E : Type 0} → Option (List ℕ) → Option (List ℕ) →
 Writes before after part (Ok _) = Appends before after part
 Writes before after part (Err _) = AppendsSome before after part
 
--- one call of the device has failed if the answer is an error, and otherwise none
+-- one more call of the device has failed if the answer is an error, and otherwise none
 abbrev pub CountsOne : {T E : Type 0} → ℕ → ℕ → Result T E → Type 0
 CountsOne before after (Ok _) = after ≡ before
 CountsOne before after (Err _) = after ≡ one_more before

@@ -17,8 +17,8 @@ impl From<AllocError> for OutOfMemory {
 
 /// Why a heap, or the image of one, is refused. If there are several causes, the first in this order counts: the sizes;
 /// for each object in turn its length and its end; for each mark in turn its order and its position; the roots; the
-/// references; the weak words. While an image is read, its magic, its length and bytes after its end come before these,
-/// except that the sizes are checked as soon as the counts are read.
+/// references; the weak words. While an image is read, its magic, its version, its length and bytes after its end come
+/// before these, except that the sizes are checked as soon as the counts are read.
 #[derive(Clone, Copy, Debug, PartialEq, Eq, Error)]
 pub enum LayoutFault {
     /// There are more than 1,048,576 words, 1,048,576 marks or 4,096 roots.

@@ -1,4 +1,4 @@
-//! The limits of heaps, pages, mutators and dumps, and where the two spaces begin: each number stands here alone.
+//! The limits of heaps, pages, mutators and dumps, and where the two spaces begin.
 
 /// How many words a page has.
 pub const PAGE_WORDS: usize = 64;

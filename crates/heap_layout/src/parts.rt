@@ -1,4 +1,4 @@
-//! Reading and writing parts of many bytes whole, by as many calls as the device needs.
+//! Reads and writes whole parts, of many bytes, by as many calls as the device needs.
 ghost use Rattle.std.specs.Prelude.{◌≡◌, ℕ, ◌^◌, ◌-◌, ◌<◌, length, slice_index, IfErr, IfSome, OnOk};
 ghost use Rattle.std.specs.Io.KnownBytes.{Consumes};
 ghost use Rattle.heap_layout.specs.Counted.{inner_of, failures_of};
@@ -19,7 +19,7 @@ pub enum Cut {
 }
 
 /// Fills the buffer. The first call of the reader that fails ends it. After an Err the bytes that were read are lost,
-/// and the buffer holds some of them. Fewer than `u64::MAX` calls of the reader may have failed before.
+/// and the buffer may have changed. Fewer than `u64::MAX` calls of the reader may have failed before.
 pub fn fill<R: Read>(r: &mut Counted<R>, buf: &mut [u8]) -> Result<(), Cut>
     requires { failures_of r.old < 2 ^ 64 - 1 }
     ensures read { OnOk result (Consumes (R.remaining (inner_of r.old)) (R.remaining (inner_of r.new)) buf.new) }

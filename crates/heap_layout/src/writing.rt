@@ -1,5 +1,5 @@
 //! Writes whole images, and the parts that images and dumps share.
-ghost use Rattle.std.specs.Prelude.{◌≡◌, ◌-◌, ◌^◌, ◌<◌, ◌≤◌, ◌++◌, IfErr, length};
+ghost use Rattle.std.specs.Prelude.{◌≡◌, ◌^◌, ◌<◌, ◌≤◌, ◌++◌, IfErr, length};
 ghost use Rattle.std.specs.List.{flat_map};
 ghost use Rattle.heap_layout.specs.Counted.{inner_of, failures_of};
 ghost use Rattle.heap_layout.specs.Encoding.{encoding, eight_bytes, four_bytes, version};
@@ -104,9 +104,9 @@ fn write_heap<W: Write>(
     write_words(w, roots)
 }
 
-/// Writes the image of a heap, without allocating. The first call of the writer that fails ends the writing, even if it
-/// was only interrupted, and also one that takes no byte. What was taken before stays written: it is a beginning of the
-/// image. The image is not flushed: the caller does that.
+/// Writes the image of a heap, without allocating. The only refusal is `Device`: the first call of the writer that
+/// fails ends the writing, even if it was only interrupted, and also one that takes no byte. What was taken before
+/// stays written: it is a beginning of the image. The image is not flushed: the caller does that.
 pub fn write_image<W: Write>(heap: &MarkedHeap, w: &mut Counted<W>) -> Result<(), LayoutFault>
     ensures writes { Writes (W.contents (inner_of w.old)) (W.contents (inner_of w.new)) (encoding heap.now) result }
     ensures counts { CountsOne (failures_of w.old) (failures_of w.new) result }

@@ -11,7 +11,7 @@ use mark_tables::Tables;
 use std::alloc::{AllocError, Global};
 
 /// The object-start bits: the bit of a slid word is set if an object starts there. The tables must be those of the
-/// heap. Err if they can not be allocated.
+/// heap. Err if the bits can not be allocated.
 pub fn start_bits(alloc: Global, heap: &MarkedHeap, tables: &Tables) -> Result<Vec<u64>, AllocError>
     requires { tables.now ≡ live_indices (live heap.now) }
     ensures starts { IfOk result (λ bits. AreStarts (live heap.now) bits.items) }
@@ -26,7 +26,8 @@ pub fn start_bits(alloc: Global, heap: &MarkedHeap, tables: &Tables) -> Result<V
 }
 
 /// The number of the live object that has the slid word with the to-space index `new_index`: that of the first object
-/// of its page, and one more for each start from the second word of the page up to this word.
+/// of its page, and one more for each start from the second word of the page up to this word. There must be such a
+/// word.
 pub fn number_at(plan: &Plan, new_index: u64) -> usize
     requires { new_index < live_words (live plan.now) }
     ensures { Covers (live plan.now) new_index result }
