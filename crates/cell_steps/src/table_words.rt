@@ -7,7 +7,7 @@ const MAX_TABLE_WORDS: usize = 1_335_297;
 
 static ZEROS: [u64; MAX_TABLE_WORDS] = [0; MAX_TABLE_WORDS];
 
-/// `n` zeros, without room of their own. It asks for no more than the largest table has.
+/// `n` zeros, without room of their own. `n` must be at most 1,335,297, the words of the largest table.
 pub fn zeros(n: usize) -> &'static [u64]
     requires { n ≤ 1335297 }
     ensures { result.now ≡ replicate n 0 }

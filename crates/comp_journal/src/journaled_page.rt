@@ -14,8 +14,8 @@ use std::marker::Model;
 #[derive(Debug, Drop)]
 pub struct JournaledPage {
     log: PageLog,
-    // The words of the page. A copy of the base is made when the first entry is reserved. Before that there are no
-    // entries, and the words are the base.
+    // The words of the page. There are none only if there are no entries and no room for one is reserved: the words are
+    // then the base.
     words: Option<PageWords>,
 }
 
@@ -53,7 +53,8 @@ fn keep_words(
 }
 
 impl JournaledPage {
-    /// A page with an empty journal. This does not allocate. The journal will grow by `alloc`.
+    /// A page with these words and an empty journal. This does not allocate. The journal will take its memory from
+    /// `alloc`.
     pub fn new(alloc: Global, words: PageWords) -> JournaledPage
         ensures page { result.page ≡ record { base = words; journal = [] } }
         ensures room { result.room ≡ 0 }

@@ -1,18 +1,15 @@
 //! The starts of objects, and their headers.
-ghost use Rattle.std.specs.Prelude.{◌≡◌, ◌+◌, ◌≤◌, is_some, IfSome, IsTrue};
-ghost use Rattle.heap_layout.specs.Header.{size_of};
+ghost use Rattle.std.specs.Prelude.{◌≡◌, is_some, IfSome, IsTrue};
 ghost use Rattle.heap_layout.specs.Heap.{live};
-ghost use Rattle.page_plan.specs.Sliding.{shape_at, to_address};
-ghost use Rattle.cell_steps.specs.Lawful.{HasHead};
+ghost use Rattle.page_plan.specs.Sliding.{shape_at};
 ghost use Rattle.cell_steps.specs.Locks.{Journals};
-ghost use Rattle.cell_steps.specs.Passes.{builds_of, seen, KnowsStart, Rests};
-ghost use Rattle.page_cells.specs.CellViews.{heap_of, journal_of, page_number, setup_of, Has, IsPassOf};
+ghost use Rattle.cell_steps.specs.Passes.{builds_of, KnowsStart, Rests};
+ghost use Rattle.page_cells.specs.CellViews.{heap_of, setup_of, Has, IsPassOf};
 ghost use Rattle.page_cells.specs.Calls.{Grows, WroteNothing};
 ghost use Rattle.page_cells.specs.declared.taking.Taken.{Taken as Held};
-ghost use Rattle.page_cells.specs.Objects.{offset_at, page_at, HasFields, HasShape};
+ghost use Rattle.page_cells.specs.Objects.{HasFields};
 
 use crate::cells::Cells;
-use crate::taking::Taken;
 use cell_steps::Pass;
 use heap_layout::{Edition, Header};
 use page_plan::{Builder, TO_SPACE};
