@@ -43,7 +43,7 @@ IsAmong numbers n = (i : ℕ) × (get_elem? numbers i ≡ some n)
 abbrev pub IsNullOrAmong : List ℕ → ℕ → Type 0
 IsNullOrAmong numbers n = (n ≡ 0) ⊎ IsAmong numbers n
 
--- the same as a test
+-- this number is in the list, as a test
 abbrev pub is_among : List ℕ → ℕ → Bool
 is_among numbers n = list_any (λ m. m == n) numbers
 

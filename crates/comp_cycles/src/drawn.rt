@@ -18,7 +18,7 @@ pub fn cycle_is_numbered()
     ensures last { words_of_three (lived (first_numbered three_objects) (story_of (drawn_cycle (2 ∷ 64 ∷ [])) (1 ∷ 2 ∷ []) 2)) ≡ (header_word 0 1 1 ∷ 11 ∷ []) ∷ (header_word 1 0 3 ∷ 3 ∷ []) ∷ (header_word 0 0 9 ∷ []) ∷ [] }
 {}
 
-/// The first words of the next heap: references are lowered to from-space addresses.
+/// The first words of pages 0 and 1 of the next heap: references are lowered to from-space addresses.
 pub fn words_are_lowered()
     ensures { map (next_word (drawn_cycle []).setup (drawn_cycle []).journals) (0 ∷ 1 ∷ 2 ∷ 3 ∷ 4 ∷ 64 ∷ 65 ∷ []) ≡ header_word 0 1 1 ∷ 11 ∷ header_word 1 0 3 ∷ from_address 64 ∷ 0 ∷ header_word 0 0 9 ∷ 0 ∷ [] }
 {}

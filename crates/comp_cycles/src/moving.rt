@@ -1,6 +1,5 @@
 //! Makes the to-space words of a finished heap the from-space words of the next heap.
 ghost use Rattle.std.specs.Prelude.{◌≡◌, ℕ, ◌+◌, ◌*◌, ◌^◌, ◌<◌, ◌≤◌, IfOk, OnOk, length, slice_index, slice_index_or, vec_capacity, vec_len, Some, None};
-ghost use Rattle.heap_layout.specs.Bits.{bit};
 ghost use Rattle.comp_history.specs.Lawful.{kind_at};
 ghost use Rattle.comp_history.specs.Locks.{Journals};
 ghost use Rattle.comp_history.specs.Setup.{Setup};

@@ -1,4 +1,4 @@
--- Lists of the pages that were built: one list for each mutator that built some.
+-- Lists of the pages that were built, one list for each mutator.
 use Rattle.std.specs.Prelude.{ℕ, List}
 use Rattle.cell_steps.specs.Lists.{times, total}
 

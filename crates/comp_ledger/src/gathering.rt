@@ -5,7 +5,7 @@ ghost use Rattle.comp_ledger.specs.Shares.{total_posted, NoneMissing};
 use crate::share::Share;
 use std::sync::ledger::{Ledger as Named, Share as Token};
 
-/// The sum of the last words, where they and what the shares posted are at most `room`.
+/// The sum of the last words. None if they and the words posted with the shares together exceed `room`.
 pub(crate) fn last_within<L: Named>(room: u64, shares: &[Share<L>], last: &[u64]) -> Option<u64>
     ensures sum { MatchOption result (room < total_posted shares.now + sum last.now) (λ words. words ≡ sum last.now) }
     ensures within { MatchOption result (room < total_posted shares.now + sum last.now) (λ words. total_posted shares.now + words ≤ room) }

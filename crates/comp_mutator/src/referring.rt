@@ -1,6 +1,6 @@
 //! The calls of a mutator on fields of a kind that refers. Some retry while the page is busy; it is not promised that
 //! those return.
-ghost use Rattle.std.specs.Prelude.{◌≡◌, ℕ, ◌<◌, true, IfErr, IfOk, IsErrOf, OnErr, OnOk};
+ghost use Rattle.std.specs.Prelude.{◌≡◌, ℕ, true, IfErr, IfOk, IsErrOf, OnErr, OnOk};
 ghost use Rattle.heap_layout.specs.Kinds.{refers};
 ghost use Rattle.cell_steps.specs.Starts.{IsForwardingAddress};
 ghost use Rattle.cell_steps.specs.Passes.{did, seen, HasSeenBuilt, MayRefer};

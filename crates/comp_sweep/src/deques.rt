@@ -28,7 +28,7 @@ pub struct Way {
 }
 
 impl Own {
-    ghost use Rattle.std.specs.Prelude.{ℕ, ◌+◌, [], ◌∷◌, ◌++◌, OnOk, IfOk, IfSome, IfNone};
+    ghost use Rattle.std.specs.Prelude.{◌+◌, [], ◌∷◌, ◌++◌, OnOk, IfOk, IfSome, IfNone};
     ghost use Rattle.comp_sweep.specs.Distributed.{hand, AllTaken};
     ghost use Rattle.comp_sweep.specs.Queues.{SameOwn, own_deque, own_view, way_deque, way_view};
 

@@ -17,7 +17,7 @@ pub struct RegionQueue {
 impl RegionQueue {
     ghost use Rattle.std.specs.Prelude.{ℕ, ◌+◌, [], ◌∷◌, ◌++◌, map, OnOk, IfOk, IfSome, IfNone};
     ghost use Rattle.comp_mutator.specs.Lists.{only, times};
-    ghost use Rattle.comp_sweep.specs.Queues.{Gives, HasBack, IsNew, IsOut, SameQueue, StillQueue, own_deque, standing, taken, taken_on, way_deque, way_name, way_view};
+    ghost use Rattle.comp_sweep.specs.Queues.{Gives, HasBack, IsNew, IsOut, SameQueue, StillQueue, standing, taken, taken_on, way_deque, way_name, way_view};
 
     /// Makes a region queue with no region and no way, and with room for `room` regions.
     pub(crate) fn new(alloc: Global, room: usize) -> Result<RegionQueue, OutOfMemory>

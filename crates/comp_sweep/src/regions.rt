@@ -2,7 +2,7 @@
 ghost use Rattle.std.specs.Prelude.{◌≡◌};
 ghost use Rattle.comp_sweep.specs.RegionSplits.{regions_of};
 
-/// The number of compacted pages of a region.
+/// The number of compacted pages of a region. The last region may have fewer.
 pub const REGION_PAGES: u64 = 8;
 
 /// The number of regions of `pages` compacted pages.

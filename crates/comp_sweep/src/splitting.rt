@@ -1,5 +1,5 @@
 //! Distributes the regions of a heap to the workers.
-ghost use Rattle.std.specs.Prelude.{◌≡◌, ℕ, ◌<◌, ◌≤◌, length, vec_capacity, OnOk, IfOk};
+ghost use Rattle.std.specs.Prelude.{◌≡◌, ℕ, ◌<◌, length, OnOk, IfOk};
 ghost use Rattle.comp_sweep.specs.Queues.{AreDistributed, standings, taken_in};
 
 use crate::linking::link;

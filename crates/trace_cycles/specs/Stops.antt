@@ -59,8 +59,8 @@ abbrev pub StopsAt : ℕ → ℕ → Heap → List Line → List (List ℕ × Li
 StopsAt mutators fresh heap lines rest shown zero runs = (last : List Shown) × (shown ≡ last ∷ []) × runs (flipped heap mutators fresh) lines last
 StopsAt mutators fresh heap lines rest shown (suc c) runs = IsStopped mutators fresh heap lines rest shown c runs
 
--- Memory ran out after this number of further cycles had ended: to copy the marks that are handed in after the last of
--- them, or for the next cycle, after its marks were accepted.
+-- Memory ran out after the first cycle and `ended` further ones had ended: to copy the marks that are handed in after
+-- the last of these cycles, or for the next cycle, after its marks were accepted.
 pub record IsCutOff (mutators fresh : ℕ) (heap : Heap) (lines : List Line) (rest : List (List ℕ × List Line)) (shown : List (List Shown)) (c : ℕ) : Type 0 where
   pub ended : ℕ
   pub further : ended < length rest

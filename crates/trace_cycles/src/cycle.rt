@@ -31,7 +31,7 @@ pub struct Ran {
 pub enum CycleHalt {
     /// Out of memory for the plan.
     Unplanned,
-    /// The planned heap did not come to its end.
+    /// The run over the planned heap was halted.
     Halted(Halt),
 }
 

@@ -1,5 +1,5 @@
 //! Runs several cycles, with a trace over each.
-ghost use Rattle.std.specs.Prelude.{◌≡◌, ℕ, ◌+◌, ◌^◌, ◌<◌, ◌≤◌, ◌++◌, All, IfErr, IfOk, List, length, map, vec_capacity};
+ghost use Rattle.std.specs.Prelude.{◌≡◌, ℕ, ◌^◌, ◌<◌, ◌≤◌, ◌++◌, All, IfErr, IfOk, List, length, map, vec_capacity};
 ghost use Rattle.comp_cycles.specs.Ends.{IsEndOf};
 ghost use Rattle.comp_cycles.specs.Finishes.{IsOfFlip};
 ghost use Rattle.heap_layout.specs.Heap.{Heap};
