@@ -23,7 +23,8 @@ use comp_dump::DumpedPage;
 use std::alloc::Global;
 
 /// Checks a dump of edition `setting.edition` with these roots, lists of builds, pages and total. If there are faults,
-/// answers the first of them in the order of the nine checks. It may stop early if memory runs out.
+/// answers the first of them in the order of the nine checks. It may stop early if memory runs out. Requires at least
+/// one mutator, at most 20,480 pages, and pages and lists of builds whose numbers are in the ranges of a dump.
 pub fn check(
     alloc: Global,
     setting: Setting<'_>,

@@ -1,5 +1,5 @@
 //! The eighth check: each reference and weak word that was written is null, or leads to an object that is older.
-ghost use Rattle.std.specs.Prelude.{◌≡◌, ℕ, List, ◌==◌, ◌<◌, ◌≤◌, ◌++◌, not, length, Some};
+ghost use Rattle.std.specs.Prelude.{◌≡◌, ℕ, List, ◌==◌, ◌++◌, not, Some};
 ghost use Rattle.audit_checks.specs.Checks.{is_led, late_faults, late_on, late_with, unless};
 ghost use Rattle.audit_checks.specs.Reported.{Reports};
 ghost use Rattle.audit_checks.specs.Noted.{is_noted_before, IsEarliest};
@@ -13,7 +13,8 @@ use comp_dump::{AuditFault, DumpedPage};
 use comp_journal::Entry;
 use page_plan::Plan;
 
-/// An entry that writes a reference or weak word to an object that is not older: its stamp, page and number there.
+/// An entry that writes a reference or weak word that is neither null nor the address of an older object: its stamp,
+/// its page, and its number there.
 #[derive(Clone, Copy)]
 pub struct Late {
     pub stamp: u64,
@@ -36,7 +37,7 @@ pub fn check_late(
     }
 }
 
-// Of the entries that fail this test, the one with the least stamp.
+// Of the entries that fail the eighth check, the one with the least stamp.
 fn earliest(plan: &Plan, starts: &Starts, records: &[Option<DumpedPage<'_>>]) -> Option<Late>
     ensures { IsEarliest (late_with (is_led plan.now (is_noted_before starts.now)) records.now) result }
 {
@@ -47,7 +48,7 @@ fn earliest(plan: &Plan, starts: &Starts, records: &[Option<DumpedPage<'_>>]) ->
     found
 }
 
-// The earliest of `found` and of the entries on page `p` that fail.
+// The earliest of `found` and of the entries on page `p` that fail it.
 fn earliest_on(
     plan: &Plan,
     starts: &Starts,

@@ -1,5 +1,5 @@
 //! The fourth check: the words of each page are what its journal makes of its base.
-ghost use Rattle.std.specs.Prelude.{◌≡◌, ℕ, ◌<◌, ◌≤◌, All, IfOk, length};
+ghost use Rattle.std.specs.Prelude.{◌≡◌, ◌<◌, ◌≤◌, All, IfOk, length};
 ghost use Rattle.comp_journal.specs.Journal.{replayed};
 ghost use Rattle.comp_history.specs.Setup.{base_of};
 ghost use Rattle.audit_checks.specs.Checks.{each_built, same_words, word_faults};

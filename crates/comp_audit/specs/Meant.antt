@@ -39,7 +39,7 @@ pub record IsLawfulDump (u : Setup) (dump : Dumped) : Type 0 where
   pub roots : dump.roots ≡ map (forwarded (live u.heap)) u.heap.roots
   -- the lists of builds name each page that was built exactly once, and no other page
   pub claims : (p : ℕ) → p < pages u → named p dump.builds ≡ built_count (page_of dump p)
-  -- its words are what its journal makes of the words with which it began
+  -- the words of each page that was built are what its journal makes of its base
   pub words : (p : ℕ) (page : BuiltPage) → page_of dump p ≡ Some page → page.words ≡ replayed (base_of u p) page.journal
   -- the journals can be merged
   pub merges : CanMerge u (journals_of dump)

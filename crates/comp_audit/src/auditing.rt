@@ -11,9 +11,10 @@ use std::alloc::Global;
 
 /// Whether a compaction by this plan can have left the dump: yes, or the first fault.
 ///
-/// Faults count in the order of the checks: the head (edition, pages, roots), the builds, each entry by itself, the
-/// words, the references and weak words, the stamps, the age of their targets, and the total. Within a check the least
-/// page, entry, address or stamp counts first. It fails only if memory runs out.
+/// Faults count in the order of the checks: the head (edition, pages, roots), the builds, each entry after those before
+/// it on its page, the words, the references and weak words, repeated stamps, missing stamps, the age of the objects to
+/// which entries lead, and the total. Within a check the least page, entry, address or stamp counts first. It fails
+/// only if memory runs out.
 pub fn audit(alloc: Global, plan: &Plan, dump: &Dump<'_>) -> Result<Verdict, OutOfMemory>
     ensures { IfOk result (Judges (faults plan.now dump.now)) }
 {

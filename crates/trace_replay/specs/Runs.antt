@@ -45,10 +45,11 @@ Runs u start n (line ∷ lines) before after = (middle : Moment) × Does u start
 
 -- ---- a run is determined
 
--- an entry without its stamp, and also with its page
+-- an entry without its stamp
 abbrev pub unstamped : Entry → Entry
 unstamped e = record e { stamp = 0 }
 
+-- the same of an entry with its page
 abbrev pub unstamped_on : ℕ × Entry → ℕ × Entry
 unstamped_on x = (x.0, unstamped x.1)
 

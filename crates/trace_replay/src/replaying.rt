@@ -129,9 +129,9 @@ fn run_lines<L: Ledger, B: Builder>(
 /// has seen all that was there at the start, and all that the run added. A trace without lines shows nothing, and
 /// leaves the mutators unchanged.
 ///
-/// Room for all values is reserved first. If memory runs out, the fault is `OutOfMemory`, and no line has run. If the
-/// call of a line is refused, the lines before it were run, and the fault is `Refused` with the number of the line,
-/// counted from 1, and the refusal.
+/// Room for all values and for the registers is reserved first. If there is no memory for it, the fault is
+/// `OutOfMemory`, and no line has run. If the call of a line is refused, for memory too, the lines before it were run,
+/// and the fault is `Refused` with the number of the line, counted from 1, and the refusal.
 ///
 /// Requires all mutators of the space, in the order of their numbers, and a trace that was parsed for the numbers of
 /// mutators and roots that there are.

@@ -14,8 +14,8 @@ use trace_text::parse;
 
 /// Reads the text of a trace, and runs it over a space.
 ///
-/// If the text is not a trace, its fault is answered, and nothing is shown. Else the fault is the one that stopped the
-/// replay.
+/// If the text is not a trace, or memory runs out for reading it, that fault is answered, and nothing is shown. Else
+/// the fault is the one that stopped the replay.
 ///
 /// Requires all mutators of the space, in the order of their numbers, which have written nothing yet. `count` is their
 /// number, and `roots` the number of the heap's roots.

@@ -12,7 +12,8 @@ use std::sync::ledger::Ledger;
 use trace_text::Action;
 
 /// Does what a line says, and answers what its call answers; a line `root` answers the forwarded root, and a line `nil`
-/// 0. Does not wait for a busy page. Requires a mutator of this space, and a line whose registers and root exist.
+/// 0. Does not wait for a busy page. If the call is refused, the registers are as before, and the mutator has written
+/// nothing. Requires a mutator of this space, and a line whose registers and root exist.
 pub fn act<L: Ledger, B: Builder>(
     alloc: Global,
     space: &Space<L, B>,

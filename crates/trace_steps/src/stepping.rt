@@ -51,8 +51,9 @@ fn meet_others<L: Ledger, B: Builder>(space: &Space<L, B>, mutators: &mut [Mutat
 }
 
 /// Runs a line by mutator `i`, between two rounds of meetings. So the line acts on all that all mutators did before,
-/// and all mutators have then seen all that was done. Requires all mutators of the space, in order, and a line that
-/// fits.
+/// and all mutators have then seen all that was done. If its call is refused, the registers are as before, no mutator
+/// has written anything, and the second round is held all the same. Requires all mutators of the space, in the order of
+/// their numbers, with mutator `i` among them, and a line whose registers and root exist.
 pub fn step<L: Ledger, B: Builder>(
     alloc: Global,
     space: &Space<L, B>,

@@ -24,7 +24,7 @@ impl<T: Drop> From<AllocFailed<T>> for MarksFault {
 }
 
 /// Reads the text of marks: one index of 32 bits on each line, and each line ended by a line feed. If a line is not a
-/// mark, the first of them is reported (`BadMarks`).
+/// mark, the fault is `BadMarks` with the number of the first such line, counted from 1.
 pub fn read_marks(alloc: Global, text: &[u8]) -> Result<Vec<u32>, MarksFault>
     ensures marks { IfOk result (λ marks. marks_of text.now ≡ Ok marks.items) }
     ensures cause { IfErr result (λ fault. RefusesMarks fault (marks_of text.now)) }

@@ -95,7 +95,8 @@ fn number_in(digits: &[u8], value: u64) -> Option<Number>
     Some(long_number(digits))
 }
 
-/// Reads the number at the front of a text, before this byte. Answers it and the text after the byte.
+/// Reads the number at the front of a text, before this byte, which must not be a digit. Answers the number and the
+/// text after the byte.
 pub(crate) fn number_before(text: &[u8], byte: u8) -> Option<(Number, &[u8])>
     requires { is_ascii_digit byte ≡ false }
     ensures some { IfSome result (λ read. (n : ℕ) × (size read.0 ≡ clipped n) × NumberBefore byte text.now n read.1.now) }

@@ -26,7 +26,7 @@ fn register(number: Number, n: u64) -> Result<u8, TraceFault>
     }
 }
 
-// The number of a field, or a fault of line `n` if it is 65,536 or more.
+// The number of a field or a count of fields, or a fault of line `n` if it is 65,536 or more.
 fn read_field(number: Number, n: u64) -> Result<u16, TraceFault>
     ensures { result ≡ (if nat_le 65536 (size number) then Err (faults.NumberTooLarge n) else Ok (size number)) }
 {
@@ -281,7 +281,8 @@ fn numbered_line(
     }
 }
 
-/// Reads the line at the front of a text. Answers it and the text after it, or the first fault of the line.
+/// Reads the line at the front of a text, which must not be empty. Answers it and the text after it, or the first fault
+/// of the line, as line `n`.
 pub(crate) fn read_line(
     text: &[u8],
     mutators: u8,
