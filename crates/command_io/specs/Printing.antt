@@ -1,4 +1,4 @@
--- What a call prints, and what it leaves of the output. It is refused for the output if and only if a call of it failed.
+-- What is printed, and what a refused call leaves of the output.
 use Rattle.std.specs.Prelude.{◌≡◌, ℕ, ◌+◌, List, [], ◌∷◌, ◌++◌, Option, Result, Ok, Err, codes}
 use Rattle.std.specs.Fmt.{decimal}
 use Rattle.std.specs.Io.KnownBytes.{Keeps}

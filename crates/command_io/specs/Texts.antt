@@ -1,4 +1,4 @@
--- What is known of the trace at a path.
+-- What is known of the trace at a path, and of any text that is read whole.
 use Rattle.std.specs.Prelude.{◌≡◌, ℕ, ◌+◌, List, Option, IfSome, Result, Ok, Err}
 use Rattle.comp_trace.specs.Grammar.{trace_of, IsReadAs}
 use Rattle.comp_trace.specs.Line.{Line}
@@ -48,7 +48,7 @@ CountsText before after (Ok _) = after ≡ before
 CountsText before after (Err (ReadFailed input)) = after ≡ before + 1
 CountsText before after (Err _) = after ≡ before
 
--- the same of `Failed`, for a text of either kind
+-- the same of `Failed`, for the text of a trace or of marks
 abbrev pub CountsUnread : {T : Type 0} → ℕ → ℕ → Result T Unread → Type 0
 CountsUnread before after (Ok _) = after ≡ before
 CountsUnread before after (Err unread.Failed) = after ≡ before + 1

@@ -7,7 +7,8 @@ use crate::refusal::{CommandRefusal, Input};
 use heap_layout::{Counted, MarkedHeap, read_image};
 use std::alloc::Global;
 
-/// Reads the heap whose image is at a path.
+/// Reads the heap whose image is at a path. Refuses if the file cannot be opened or read, if the image is refused, with
+/// its first fault, and if memory runs out.
 pub fn heap_at<F: Files>(alloc: Global, files: &F, path: &str) -> Result<MarkedHeap, CommandRefusal>
     ensures heap { IfOk result (IsHeapAt (F.disk files.now) path.now) }
     ensures cause { IfErr result (RefusesAt (F.disk files.now) path.now RefusesImage) }

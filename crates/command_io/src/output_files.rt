@@ -22,8 +22,8 @@ const MODE_BITS: u32 = 0o777;
 /// The file of a dump or of a new image, written through a buffer.
 ///
 /// If a regular file or nothing is at its path, this is a file beside the path. Its first flush renames it onto the
-/// path. If a call fails, it is removed, what is at the path stays as it was, and each later call fails too. If
-/// anything else is at the path, it is written directly.
+/// path. If that flush or a call before it fails, the file is removed, and what is at the path stays as it was. If
+/// anything else is at the path, that is written directly. After a call that failed each later call fails too.
 #[derive(Drop)]
 pub struct OutputFile<'a, R: Files> {
     rt: &'a R,

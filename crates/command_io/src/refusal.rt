@@ -56,19 +56,19 @@ impl fmt::Display for Output {
 /// Why the program did not do what it was asked.
 #[derive(Clone, Copy, Debug, PartialEq, Eq, Error)]
 pub enum CommandRefusal {
-    /// The image is refused, or the new one was not written whole.
+    /// The image is refused; or no next heap follows with the marks; or the new image was not written whole.
     #[error(transparent)]
     Layout(LayoutFault),
-    /// A call of a mutator is refused.
+    /// A call of a mutator, the flip or the finish is refused. In every command the cause is out of memory.
     #[error(transparent)]
     Mutator(call_refusals::Refusal),
     /// The heap was not swept.
     #[error(transparent)]
     Sweep(SweepFault),
-    /// The text of the trace is refused, or one of its lines.
+    /// The text of the trace is refused, or one of its lines; or memory ran out for the text or for the values.
     #[error(transparent)]
     Trace(TraceFault),
-    /// The dump was not written whole, or the file at its path is no dump.
+    /// The dump was not written whole, or no dump could be read at its path.
     #[error(transparent)]
     Dump(DumpFault),
     /// No compaction of the heap can have left this dump.

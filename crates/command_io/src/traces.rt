@@ -12,7 +12,8 @@ use heap_layout::Counted;
 use std::alloc::Global;
 use std::io::Read;
 
-/// Reads the trace whose text is at a path, for these numbers of mutators and shared roots.
+/// Reads the trace whose text is at a path, for these numbers of mutators and shared roots. Refuses if the file cannot
+/// be opened or read, if its text is no such trace, with its first fault, and if memory runs out.
 pub fn trace_at<F: Files>(
     alloc: Global,
     files: &F,

@@ -12,7 +12,7 @@ rule a = record (new_rule a.id) { required = true; parser = option_map (λ b. Un
 abbrev pub optional_rule : Parameter → Rule
 optional_rule p = record (rule p) { required = false; long = Some p.id; value_names = 1 }
 
--- an option, without a default of clap's
+-- an option; clap is given no default for it
 abbrev pub option_rule : Choice → Rule
 option_rule o = optional_rule o.takes
 

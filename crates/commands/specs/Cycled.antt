@@ -48,8 +48,9 @@ pub record IsNotFollowed (mutators fresh : ℕ) (lines : List Line) (marks : Lis
   pub run : IsLastRun mutators fresh lines shown heap left
   pub refused : IsRefusedFor (next_faults (setup_in heap left) (journals_of left) (heap_after (cycle_of heap left marks))) fault
 
--- why the cycle does not come to its end, and what was shown until then: a line was refused, or the marks were, or
--- memory ran out for a plan, for the flip or for the finish (there a mutator is refused)
+-- why the cycle does not come to its end, and what was shown until then: a line was refused, or the marks were; or
+-- memory ran out, for the values (`Trace`), for the next heap (`Layout`), for a plan (`OutOfMemory`), or for the flip or
+-- the finish (`Mutator`)
 abbrev pub IsUncycled : ℕ → ℕ → List Line → List Shown → List ℕ → Heap → CommandRefusal → Type 0
 IsUncycled mutators fresh lines shown marks heap (Trace fault) = CutsShort (flipped heap mutators fresh) lines shown fault
 IsUncycled mutators fresh lines shown marks heap (Layout fault) = (shown ≡ []) × IsNotFollowed mutators fresh lines marks heap fault

@@ -101,9 +101,10 @@ abbrev pub PrintsRace : ℕ → ℕ → Option (List ℕ) → Option (List ℕ) 
 PrintsRace mutators fresh before after heap = (text : List ℕ) × (lines : List Line) × HasLines mutators (length heap.roots) lines text
     × (race : HasRace mutators fresh lines heap) × PrintsRun before after race.shown (live_of race.left)
 
--- why the command is refused: as a command that runs a trace is, by the race
+-- the way of a race
 abbrev pub racing : ℕ → ℕ → Way
 racing mutators fresh = record { cuts = InterruptsRace mutators fresh; leaves = HasRace mutators fresh; dump = λ lines heap race. dump_of_race race }
 
+-- why the command is refused: as a command that runs a trace is, by the race
 abbrev pub RefusesRace : {W : Type 0} → Disk W → TraceRun → Option (List ℕ) → Option (List ℕ) → CommandRefusal → Type 0
 RefusesRace disk asked before after refusal = RefusesTraced (racing asked.mutators asked.fresh) disk asked before after refusal

@@ -15,7 +15,9 @@ use std::alloc::Global;
 use std::io::Write;
 use std::thread::Threads;
 
-/// Audits the dump at `dump` against the heap image at `image`, and prints the live words if the dump is lawful.
+/// Audits the dump at `dump` against the heap image at `image`, which is read first. If the dump is lawful, prints `ok`
+/// and its live words; else the refusal is its first fault (`Audit`). A refusal other than `CannotPrint` prints
+/// nothing. Fewer than `u64::MAX` calls of the output must have failed before.
 pub fn print_audit<F: Files, O: Write>(
     alloc: Global,
     rt: &(impl Threads + Sync),

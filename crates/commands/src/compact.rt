@@ -1,5 +1,5 @@
 //! The command `compact`.
-ghost use Rattle.std.specs.Prelude.{◌≡◌, ◌-◌, ◌^◌, ◌<◌, ◌≤◌, map, length, IfOk, IfErr, OnOk};
+ghost use Rattle.std.specs.Prelude.{◌≡◌, ◌-◌, ◌^◌, ◌<◌, ◌≤◌, map, IfOk, IfErr, OnOk};
 ghost use Rattle.heap_layout.specs.Counted.{inner_of, failures_of, writer_of};
 ghost use Rattle.heap_layout.specs.Heap.{live};
 ghost use Rattle.page_plan.specs.Sliding.{pages};
@@ -29,7 +29,8 @@ use std::thread::Threads;
 /// words.
 ///
 /// Workers in threads of their own build the pages. The dump is created after the heap is finished, and the line is
-/// printed after the dump is written.
+/// printed after the dump is written. A refusal other than `CannotPrint` prints nothing. Fewer than `u64::MAX` calls of
+/// the output must have failed before.
 pub fn print_compact<R: Threads + Wait + Sync, F: Files, O: Write>(
     alloc: Global,
     rt: &R,

@@ -21,7 +21,8 @@ use std::thread::Threads;
 /// the order of the lines, and the live words.
 ///
 /// If lines are refused, it prints the values that all mutators had shown, refuses with the least of these lines, and
-/// creates no dump.
+/// creates no dump. Any other refusal but `CannotPrint` prints nothing. Fewer than `u64::MAX` calls of the output must
+/// have failed before.
 pub fn print_race<R: Threads + Wait + Sync, F: Files, O: Write>(
     alloc: Global,
     rt: &R,

@@ -25,7 +25,8 @@ use std::sync::{Arc, Wait};
 use std::thread::Threads;
 
 /// Flips a heap, lets the mutators of a trace run their lines concurrently, each in a thread of its own if one can be
-/// started, and finishes the heap. The trace was parsed for these mutators and for the heap's roots.
+/// started, and finishes the heap. There are 1 to 64 mutators and at most 4,096 fresh pages. The trace was parsed for
+/// these mutators and for the heap's roots.
 ///
 /// The values are in the order of their lines. If lines are refused, the refusal is that of the least of them, and the
 /// values are those that each mutator showed until it came to its end. Any other refusal is out of memory, and comes

@@ -27,7 +27,8 @@ use std::thread::Threads;
 /// Runs a trace by one thread over the heap whose image is at a path. Then it writes the dump of the finished heap,
 /// and prints the values that lines showed, and the live words.
 ///
-/// If a line is refused, it prints the values of the lines before it, and creates no dump.
+/// If a line is refused, it prints the values of the lines before it, and creates no dump. Any other refusal but
+/// `CannotPrint` prints nothing. Fewer than `u64::MAX` calls of the output must have failed before.
 pub fn print_replay<F: Files, O: Write>(
     alloc: Global,
     rt: &(impl Threads + Sync),

@@ -37,8 +37,8 @@ pub fn unshown(alloc: Global, refusal: CommandRefusal) -> PrintedHalt
     }
 }
 
-/// Flips a heap, runs a trace over it by one thread, and finishes it. The trace was parsed for these mutators and for
-/// the heap's roots.
+/// Flips a heap, runs a trace over it by one thread, and finishes it. There are 1 to 64 mutators and at most 4,096
+/// fresh pages. The trace was parsed for these mutators and for the heap's roots.
 ///
 /// If a line is refused, the values are those of the lines before it. Any other refusal is out of memory, and comes
 /// with no value.

@@ -33,8 +33,10 @@ pub const REFUSED: u8 = 1;
 /// The status of a run whose words ask for nothing that the program does.
 pub const MISUSED: u8 = 2;
 
-/// Does what the words after the program's name ask for, and answers the status. It opens files and starts threads
-/// through `rt`, and flushes `out` at the end. A refusal prints one line on `err`; so does a call of `out` that fails.
+/// Does what the words after the program's name ask for, and answers the status: `DONE`, `REFUSED` or `MISUSED`. It
+/// opens files and starts threads through `rt`, and flushes `out` at the end. A refusal prints one line on `err`; so
+/// does a call of `out` that fails. If the words ask for nothing that the program does, it prints on `err` what is
+/// wrong with them, and nothing on `out`.
 pub fn run<R: rt::Files + AllocGlobal + Threads + Wait + Sync, O: Write, E: Write>(
     rt: &R,
     words: Vec<String>,
@@ -59,7 +61,7 @@ pub fn run<R: rt::Files + AllocGlobal + Threads + Wait + Sync, O: Write, E: Writ
 }
 
 // Does what is asked for, and answers the status. A refusal prints one line on `err`; so does a call of `out` that
-// fails.
+// fails. If the words are wrong, prints the parser's report on `err`.
 fn respond<R: Threads + Wait + Sync, F: Files, O: Write, E: Write>(
     alloc: Global,
     rt: &R,

@@ -1,5 +1,5 @@
 //! The command `word`.
-ghost use Rattle.std.specs.Prelude.{◌≡◌, ◌*◌, ◌-◌, ◌/◌, ◌^◌, ◌<◌, ◌≤◌, slice_index, IfOk, IfErr, OnOk};
+ghost use Rattle.std.specs.Prelude.{◌≡◌, ◌-◌, ◌/◌, ◌^◌, ◌<◌, slice_index, IfOk, IfErr, OnOk};
 ghost use Rattle.heap_layout.specs.Counted.{inner_of, failures_of, writer_of};
 ghost use Rattle.heap_layout.specs.Heap.{live};
 ghost use Rattle.page_plan.specs.Sliding.{pages, slid_words};
@@ -23,7 +23,9 @@ use std::sync::Arc;
 use std::sync::ledger::{Blank, Ledger};
 use std::thread::Threads;
 
-/// Prints the slid word at an index, of the heap whose image is at a path: its decimal digits and a line feed.
+/// Prints the slid word at an index, of the heap whose image is at a path: its decimal digits and a line feed. After
+/// the last live word it is 0; an index after the last page is refused (`NoSuchWord`). A refusal other than
+/// `CannotPrint` prints nothing. Fewer than `u64::MAX` calls of the output must have failed before.
 pub fn print_word<F: Files, O: Write>(
     alloc: Global,
     rt: &(impl Threads + Sync),
