@@ -1,5 +1,5 @@
 //! A replay. Its heap is dumped and audited.
-ghost use Rattle.std.specs.Prelude.{◌≡◌, length};
+ghost use Rattle.std.specs.Prelude.{◌≡◌};
 ghost use Rattle.comp_mutator.specs.Mutators.{setup_of};
 ghost use Rattle.comp_trace.specs.AllMutators.{AreAll};
 ghost use Rattle.comp_trace.specs.WrittenEntries.{DidNothingYet};

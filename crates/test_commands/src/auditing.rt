@@ -56,7 +56,7 @@ const TRUNCATED: CommandRefusal = CommandRefusal::Dump(DumpFault::Truncated);
 
 // All forged dumps.
 static FORGED: [Forgery; 28] = [
-    // Each dump has a second fault, which is not reported.
+    // Most of these dumps have a second fault, which is not reported.
     (
         "a root",
         Change::Word(ROOT, 0),

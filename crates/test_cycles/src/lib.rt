@@ -1,6 +1,5 @@
 //! Cycles, one after another: the next heap, its image, and refused marks, with expected values from outside; and
 //! chains of pseudorandom cycles, compared with a plain model whose objects never move.
-//! objects that never move.
 #![tactic(auto)]
 
 #[cfg(test)]

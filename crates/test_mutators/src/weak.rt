@@ -16,7 +16,7 @@ const INNER: u64 = T + 2;
 // The start of the first fresh page.
 const FRESH: u64 = T + 64;
 
-// The entries of the slid page after these calls: a weak word was written twice, and its object once more.
+// The entries of the slid page after these calls: both weak words of the first object were written, each once.
 const SLID: [Entry; 2] = [
     Entry {
         stamp: 0,

@@ -8,8 +8,8 @@ use std::test::Fail;
 use std::thread::Threads;
 use test_support::Step;
 
-// All tables. The last one writes the image that the lines print. As a constant they would cost the proof of the test
-// five times as much.
+// All tables. The last one writes the files that `LINES` read. As a constant they would cost the proof of the test five
+// times as much.
 fn tables() -> [&'static [Step]; 16] {
     [
         programs::STEPS,

@@ -18,7 +18,7 @@ pub enum Content {
     /// A trace that makes a new object and stores it in the field of the root's object.
     FreshTrace,
     /// A trace that makes an object with a weak word, writes its address into a weak word of the first object, reads
-    /// that weak word, and shows the data word of the new object.
+    /// that weak word, and shows the data word of the first object.
     WeakTrace,
     /// The image of the empty heap.
     EmptyImage,

@@ -1,5 +1,5 @@
-//! A thousand pseudorandom traces of each edition, replayed by one thread or raced. A replay must do as the plain model
-//! does.
+//! Pseudorandom traces of each edition: a thousand are replayed by one thread, and 1,200 are raced. A replay must do as
+//! the plain model does.
 use crate::drawn::{Drawn, draw_trace};
 use crate::finished::expect_pages;
 use crate::flipped::Case;

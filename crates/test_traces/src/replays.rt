@@ -221,7 +221,7 @@ static WEAK_ROWS: [Row; 4] = [
 ];
 
 /// The text makes an object with a weak word, writes it into a weak word of the first object, reads that, and shows the
-/// data word of the new object.
+/// data word of the first object.
 pub const WEAK_TEXT: &[u8] =
     b"0 root 0 0\n0 load 1 0 0\n0 wnew 2 0 1 0 5\n0 wstore 1 0 2\n0 wload 3 1 0\n0 get 1 0\n";
 
