@@ -11,6 +11,7 @@ pub mod Rows
 pub mod WeakWords
 pub mod Kept
 pub mod Chapters
+pub mod Ended
 pub mod Marks
 pub mod MovedWords
 pub mod Refusals

@@ -1,14 +1,27 @@
 //! Laws of cycles. Each law is the contract of a function that does nothing.
-ghost use Rattle.std.specs.Prelude.{◌≡◌, ℕ, [], List};
+ghost use Rattle.std.specs.Prelude.{◌≡◌, ◌≤◌, ℕ, [], List, length};
 ghost use Rattle.comp_history.specs.Locks.{Journals};
 ghost use Rattle.comp_history.specs.Setup.{Setup};
+ghost use Rattle.comp_history.specs.Pass.{Pass as APass};
 ghost use Rattle.heap_layout.specs.Faults.{mark_faults, weak_faults};
-ghost use Rattle.heap_layout.specs.Heap.{Heap, IsClosed};
+ghost use Rattle.heap_layout.specs.Heap.{live, Heap, IsClosed};
+ghost use Rattle.page_plan.specs.Sliding as sliding;
 ghost use Rattle.comp_history.specs.Merged.{CanMerge};
 ghost use Rattle.comp_cycles.specs.Cycles.{Cycle, Follow, IsChapter, IsCycleOf, IsOneLife, IsWriting};
+ghost use Rattle.comp_cycles.specs.Ends.{setup_in, IsEndOf};
+ghost use Rattle.comp_cycles.specs.Finishes.{IsFinished};
 ghost use Rattle.comp_cycles.specs.NextHeap.{next_heap, object_starts};
+ghost use Rattle.comp_cycles.specs.declared.finished.Finished.{Finished as AFinished};
 ghost use Rattle.comp_cycles.specs.Stable.{StableHeap};
 ghost use Rattle.comp_cycles.specs.Numbered.{first_numbers, first_numbered, IsNumberedAs};
+
+/// A finished heap is the end of the heap that was flipped, so the next cycle may begin with it. `IsFinished` and the
+/// number of mutators are known from `finish`, the counts of pages from `flip`, and `IsClosed` from any plan of the
+/// heap. The setup of the cycle is then that of the flip.
+pub fn finished_is_end()
+    ensures end { (u : Setup) (row : List APass) (f : AFinished) → IsFinished u row f → length row ≡ u.mutators → u.compacted ≡ sliding.pages (live u.heap) → u.fresh ≤ 4096 → IsClosed u.heap → IsEndOf u.heap f }
+    ensures setup { (u : Setup) (row : List APass) (f : AFinished) → IsFinished u row f → length row ≡ u.mutators → u.compacted ≡ sliding.pages (live u.heap) → setup_in u.heap f ≡ u }
+{}
 
 /// The first heap, in object numbers: its marked objects are numbered from 1 by rising address.
 pub fn first_numbering()

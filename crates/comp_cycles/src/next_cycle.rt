@@ -1,7 +1,7 @@
 //! The heap with which the next cycle begins.
 ghost use Rattle.std.specs.Prelude.{◌≡◌, ℕ, ◌*◌, ◌^◌, ◌<◌, ◌&&◌, nat_lt, IfErr, IfOk, List, [], length, map};
 ghost use Rattle.heap_layout.specs.Bits.{bit};
-ghost use Rattle.heap_layout.specs.Faults.{mark_faults, Reports};
+ghost use Rattle.heap_layout.specs.Faults.{mark_faults, IsAccepted, Reports};
 ghost use Rattle.heap_layout.specs.Heap.{is_start, IsStored};
 ghost use Rattle.comp_cycles.specs.Cycles.{heap_after, IsChapter, IsCycleOf};
 ghost use Rattle.comp_cycles.specs.Ends.{cycle_of, setup_in, IsEndOf, IsRefusedFor};
@@ -67,6 +67,7 @@ fn next_heap<B: Builder>(
     requires { IsEndOf (B.heap builder.now) finished.now }
     ensures next { IfOk result (λ heap. heap ≡ heap_after (cycle_of (B.heap builder.now) finished.now marks.items)) }
     ensures stored { IfOk result IsStored }
+    ensures heap_accepted { IfOk result IsAccepted }
     ensures accepted { IfOk result (λ _. next_faults (setup_in (B.heap builder.now) finished.now) (journals_of finished.now) (heap_after (cycle_of (B.heap builder.now) finished.now marks.items)) ≡ []) }
     ensures refused { IfErr result (IsRefusedFor (next_faults (setup_in (B.heap builder.now) finished.now) (journals_of finished.now) (heap_after (cycle_of (B.heap builder.now) finished.now marks.items)))) }
 {
@@ -105,6 +106,7 @@ impl Finished {
         requires { IsEndOf (B.heap builder.now) self }
         ensures next { IfOk result (λ heap. heap ≡ heap_after (cycle_of (B.heap builder.now) self marks.items)) }
         ensures stored { IfOk result IsStored }
+        ensures accepted { IfOk result IsAccepted }
         ensures cycle { IfOk result (λ _. IsCycleOf (B.heap builder.now) (cycle_of (B.heap builder.now) self marks.items)) }
         ensures chapter { IfOk result (λ _. (numbers : List ℕ) (stable : StableHeap) → IsNumberedAs (B.heap builder.now) numbers stable
             → IsChapter (cycle_of (B.heap builder.now) self marks.items) numbers stable) }

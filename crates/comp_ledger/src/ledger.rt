@@ -111,6 +111,20 @@ impl<L: Named> Ledger<L> {
         self.posted.lock(rt).post(self.room, share, words)
     }
 
+    /// Posts the words of objects that the owner of this share made, and is never refused. It waits for the ledger's
+    /// lock.
+    ///
+    /// Requires that these words, those posted with this share and those at the start are within the capacity. What was
+    /// posted with other shares is not looked at: this is for callers that know by other means that all words together
+    /// are within the capacity. `gather` tests it.
+    pub fn post_fitting<R: Wait>(&self, rt: &R, share: &mut Share<L>, words: u64)
+        requires { live_of self.now + posted_of share.old + words ≤ capacity_of self.now }
+        ensures number { number_of share.new ≡ number_of share.old }
+        ensures posted { posted_of share.new ≡ posted_of share.old + words }
+    {
+        self.posted.lock(rt).add(share, words)
+    }
+
     /// Ends the ledger: takes back all shares, posts the last words, one number for each share given, and answers the
     /// total of live words. It owns the ledger, so it does not wait.
     ///

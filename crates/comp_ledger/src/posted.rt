@@ -1,15 +1,15 @@
-ghost use Rattle.std.specs.Prelude.{◌≡◌, ◌↔◌, ◌+◌, ◌^◌, ◌<◌, ◌≤◌, Err, IsErr, OnOk, OnErr};
+ghost use Rattle.std.specs.Prelude.{◌≡◌, ◌↔◌, ◌+◌, ◌-◌, ◌^◌, ◌<◌, ◌≤◌, min, Err, IsErr, OnOk, OnErr};
 
 use crate::fault::LedgerFault;
 use crate::share::Share;
 use std::sync::ledger::{Book, Ledger as Named, Share as Token};
 
-/// The words posted with all shares. The ledger's lock guards it.
+/// The words posted with all shares, or 2^64 - 1 if there are more. The ledger's lock guards it.
 #[derive(Drop)]
 pub(crate) struct Posted<L: Named> {
     words: u64,
     book: Book<L>,
-    ghost counted: { words ≡ book.total },
+    ghost counted: { words ≡ min book.total (2 ^ 64 - 1) },
 }
 
 impl<L: Named> Posted<L> {
@@ -53,14 +53,33 @@ impl<L: Named> Posted<L> {
             posted,
             token,
         } = share;
+        let before = *posted;
         book.audit(token);
         if *all > room || words > room - *all {
             return Err(LedgerFault::OverCapacity);
         }
         book.add(token, words);
         *all += words;
-        *posted += words;
+        *posted = before + words;
         Ok(())
+    }
+
+    /// Posts words with a share, whatever was posted with others. Requires that the words of the share itself fit 64
+    /// bits.
+    pub(crate) fn add(&mut self, share: &mut Share<L>, words: u64)
+        requires { posted_of share.old + words < 2 ^ 64 }
+        ensures number { number_of share.new ≡ number_of share.old }
+        ensures posted { posted_of share.new ≡ posted_of share.old + words }
+    {
+        let Posted { words: all, book } = self;
+        let Share {
+            number: _,
+            posted,
+            token: mine,
+        } = share;
+        book.add(mine, words);
+        *all = all.saturating_add(words);
+        *posted += words;
     }
 
     /// Posts the last words with `all`, the merge of all shares, and answers how many words were posted in all.

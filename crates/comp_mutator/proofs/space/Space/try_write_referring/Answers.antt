@@ -30,4 +30,4 @@ invariant_of-m g c =
     let made = made_nothing c.try_write_referring.result (setup_of c.args.self.now) hand.pass c.try_write_referring.new.pass c.args.kind _ _ _ (no_header c.args.kind c.requires.refers) h.wrote h.did in
     let u = setup_of c.args.self.now in
     let edition = λ (w : Setup). w.heap.edition in
-    record { counted = words_still hand.pass _ u _ (ap edition c.requires.of.of.about) (ap edition h.of.0.of.about) made c.args.m.now.counted; numbered = c.args.m.now.numbered ∙ sym h.grows.number }
+    record { within = c.args.m.now.within; counted = words_still hand.pass _ u _ (ap edition c.requires.of.of.about) (ap edition h.of.0.of.about) made c.args.m.now.counted; numbered = c.args.m.now.numbered ∙ sym h.grows.number }
