@@ -1,5 +1,5 @@
 -- What a worker does, call by call.
-use Rattle.std.proofs.Common.{◌≡◌, ℕ, ◌<◌, [], ◌∷◌, ◌++◌, Option, Result, Ok, refl, sym, ap, ◌∙◌, arith, append_assoc}
+use Rattle.std.proofs.Common.{◌≡◌, ℕ, ◌<◌, [], ◌∷◌, ◌++◌, List, Option, Result, Ok, refl, sym, ap, subst, ◌∙◌, arith, append_assoc}
 use Rattle.std.proofs.lemmas.List.{append-nil}
 use Rattle.std.proofs.lemmas.List.Elements.{All-append, All-cons, All-nil}
 use Rattle.comp_mutator.specs.Builder.{Ghosts}
@@ -21,10 +21,16 @@ use Rattle.comp_mutator.specs.declared.mutator.Mutator.{Mutator}
 use Rattle.comp_mutator.proofs.CompAccessGrowing.{known_more}
 use Rattle.comp_sweep.specs.Regions.{SeesRegion}
 use Rattle.comp_sweep.specs.Sweeps.{BuildsMore, Sweeps}
-use Rattle.comp_sweep.specs.Workers.{WhyStopped}
+use Rattle.comp_sweep.specs.Workers.{IsCauseOf, KnowsAll, WhyStopped, WhyUnbuilt}
 use Rattle.comp_sweep.specs.declared.working.WorkerEnd.{WorkerEnd}
 use Rattle.comp_sweep.specs.declared.working.WorkerEnd.TheVariants.{Full, Reported, Wants}
 use Rattle.heap_layout.specs.declared.edition.Edition.{Edition}
+
+-- the cause of what a worker reports, if its pass knows what all these passes know
+pub cause_met : {A : Type 0} (compacted here : ℕ) (given : List Pass) (pass : Pass) (known : Option A) (why : WorkerEnd) → compacted ≡ here → KnowsAll given pass → WhyStopped here pass known why → IsCauseOf compacted given why
+cause_met compacted here given pass known Reported same knows w = tt
+cause_met compacted here given pass known Full same knows w = tt
+cause_met compacted here given pass known (Wants p) same knows w = (subst (λ n. p < n) (sym same) w.0, λ all. w.1 (knows p all))
 
 -- a page that is refused, but not as busy, was not known to be built
 pub memory_wanted : (p : ℕ) (a b : Pass) (refusal : Refusal) → ((q : ℕ) → refusal ≡ Busy q → ⊥) → PageRefused p a b refusal → KnowsBuilt a p → ⊥
@@ -95,10 +101,16 @@ module _ {L B : Type 0} {g : Ghosts B} (space : Space L B g) where
           );
         }
 
+    -- why a worker stops at the pages of a region, if it made calls before
+    pub unbuilt_then : {A : Type 0} (compacted : ℕ) (known : Option A) (stop : WorkerEnd) → WhyUnbuilt compacted (pass_of b) known stop → WhyUnbuilt compacted (pass_of a) known stop
+    unbuilt_then compacted known Reported w = w
+    unbuilt_then compacted known Full w = absurd w
+    unbuilt_then compacted known (Wants p) w = (w.0, λ k. w.1 (known_more (pass_of a) (pass_of b) h.grows p k))
+
     -- why a worker stops, if it made calls before
-    pub stopped_then : {A : Type 0} (compacted : ℕ) (known : Option A) (stop : WorkerEnd) → WhyStopped compacted (pass_of b) known stop → WhyStopped compacted (pass_of a) known stop
+    pub stopped_then : {A : Type 0} (compacted : ℕ) (known : Option A) (stop : WorkerEnd) → WhyUnbuilt compacted (pass_of b) known stop → WhyStopped compacted (pass_of a) known stop
     stopped_then compacted known Reported w = w
-    stopped_then compacted known Full w = tt
+    stopped_then compacted known Full w = absurd w
     stopped_then compacted known (Wants p) w = (w.0, λ k. w.1 (known_more (pass_of a) (pass_of b) h.grows p k))
 
   module _ (a b : Mutator L) (h : Sweeps space a b) where
