@@ -3,12 +3,14 @@ pub use Rattle.trace_cycles.specs.CycleRuns
 pub use Rattle.trace_text.specs.Grammar
 pub use Rattle.trace_text.specs.declared.line.Line
 pub use Rattle.trace_text.specs.Marks
+pub use Rattle.trace_race.specs.Inventions
 pub use Rattle.trace_race.specs.Races
 pub use Rattle.trace_race.specs.declared.racing.Run
 pub use Rattle.trace_text.specs.declared.fault.RefusedLine
 pub use Rattle.trace_text.specs.declared.fault.TraceFault
 pub use Rattle.trace_text.specs.Traces
 pub use Rattle.trace_steps.specs.Acting
+pub use Rattle.trace_steps.specs.AllMet
 pub use Rattle.trace_steps.specs.AllMutators
 pub use Rattle.trace_steps.specs.Builds
 pub use Rattle.trace_replay.specs.Bytes

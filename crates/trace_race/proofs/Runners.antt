@@ -13,8 +13,9 @@ use Rattle.comp_mutator.specs.Orders.{number_of_mutator}
 use Rattle.comp_mutator.specs.declared.mutator.Mutator.{Mutator}
 use Rattle.comp_mutator.specs.declared.space.Space.{Space}
 use Rattle.trace_race.specs.Races.{numbered, own_lines, HaveRaced, Ran}
+use Rattle.trace_steps.specs.AllMet.{HaveAllMet, HaveOnlyMet}
 use Rattle.trace_steps.specs.AllMutators.{AreAll}
-use Rattle.trace_race.specs.Runners.{lines_for, mutator_of, room_in, room_of, run_of, RanItsLines, HaveRooms, IsBlank, IsReady}
+use Rattle.trace_race.specs.Runners.{lines_for, mutator_of, room_in, room_of, run_of, RanItsLines, HaveRooms, HaveRun, IsBlank, IsReady}
 use Rattle.trace_text.specs.declared.line.Line.{Line}
 use Rattle.trace_race.specs.declared.racing.Run.{Run}
 use Rattle.trace_race.specs.declared.runner.Runner.{Runner}
@@ -72,7 +73,7 @@ moved {L} u k lines x y old new run is becomes told number h =
 pub raced_of : {L : Type 0} {B : Type 0} {g : Ghosts B} (space : Space L B g) (lines : List Line) (mutators : List (Mutator L)) (runners after : List (Runner L)) → map mutator_of runners ≡ mutators
     → length after ≡ length runners → AreAll space mutators
     → ((k : ℕ) (x y : Runner L) → get_elem? runners k ≡ some x → get_elem? after k ≡ some y → RanItsLines space lines x y)
-    → HaveRaced space lines mutators (map mutator_of after) (map run_of after)
+    → HaveRun space lines mutators (map mutator_of after) (map run_of after)
 raced_of {L} {B} {g} space lines mutators runners after are long all ran =
     let u = setup_of space in
     let counts : length after ≡ length mutators = long ∙ sym (length-map runners mutator_of) ∙ ap length are in
@@ -100,6 +101,30 @@ raced_of {L} {B} {g} space lines mutators runners after are long all ran =
           let old_is : mutator_of x.0 ≡ old = some-injective (mutator_of x.0) old (sym (before k x.0 x.1) ∙ at) in
           moved u k lines x.0 y.0 old new run old_is y.2 (ap run_of (sym same) ∙ z.2) (all.numbers k old at) x.2.ran;
     }
+
+-- what they ran, if `items` were lent to be run, became `new`, and were taken apart
+pub have_run : {L : Type 0} {B : Type 0} {g : Ghosts B} (space : Space L B g) (lines given : List Line) (before : List (Mutator L)) (n : ℕ) (items lent new : List (Runner L)) (mutators : List (Mutator L)) (runs : List Run)
+    → lines ≡ given → map mutator_of items ≡ before → n ≡ length items → lent ≡ items → length new ≡ length lent → AreAll space before
+    → ((k : ℕ) (x y : Runner L) → get_elem? lent k ≡ some x → get_elem? new k ≡ some y → RanItsLines space lines x y)
+    → mutators ≡ map mutator_of (take n (new ++ drop (length new) items)) → runs ≡ map run_of (take n (new ++ drop (length new) items)) → HaveRun space given before mutators runs
+have_run {L} space lines given before n items lent new mutators runs read are len same long all ran ms rs =
+    let back = written_back n new items (omega (arith, len, long, ap length same)) in
+    let done = raced_of space lines before items new are (long ∙ ap length same) all (λ k x y at now. ran k x y (ap (λ l. get_elem? l k) same ∙ at) now) in
+    subst (λ (ls : List Line). HaveRun space ls before mutators runs) read
+    (subst (λ (l : List (Mutator L)). HaveRun space lines before l runs) (sym (ms ∙ ap (map mutator_of) back))
+    (subst (λ (l : List Run). HaveRun space lines before (map mutator_of new) l) (sym (rs ∙ ap (map run_of) back)) done))
+
+-- and then they met
+pub met_after : {L : Type 0} {B : Type 0} {g : Ghosts B} (space : Space L B g) (lines : List Line) (before between after : List (Mutator L)) (runs : List Run) → HaveRun space lines before between runs
+    → AreAll space after → HaveAllMet (setup_of space) (map pass_of after) → HaveOnlyMet between after → HaveRaced space lines before after runs
+met_after space lines before between after runs h all met only = record {
+  all = all;
+  met = met;
+  count = h.count;
+  ran = λ k old new run at now told.
+      let m = there_at between k (omega (arith, is_inside after k new now, only.count)) in
+      record { last = pass_of m.0; ran = h.ran k old m.0 run at m.1 told; met = only.each k m.0 new m.1 now };
+}
 
 -- for no mutators, no rooms are enough
 pub no_rooms : {L : Type 0} {A : Type 0} (lines : List Line) (rooms : List (Vec Shown A)) → rooms ≡ [] → HaveRooms {L = L} lines [] rooms

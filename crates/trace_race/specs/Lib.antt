@@ -1,3 +1,4 @@
 pub mod Races
 pub mod Runners
 pub mod Chains
+pub mod Inventions

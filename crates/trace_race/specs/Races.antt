@@ -1,5 +1,5 @@
 -- What it means that each mutator runs its own lines.
-use Rattle.std.specs.Prelude.{◌≡◌, ℕ, ◌+◌, ◌≤◌, ◌==◌, cond, List, [], ◌∷◌, ◌++◌, length, take, Option, None, Some}
+use Rattle.std.specs.Prelude.{◌≡◌, ℕ, ◌+◌, ◌≤◌, ◌==◌, cond, List, [], ◌∷◌, ◌++◌, length, map, take, Option, None, Some}
 use mathlib.Core.Option.{some}
 use lib.ListN.{get_elem?}
 use Rattle.comp_mutator.specs.Builder.{Ghosts}
@@ -16,6 +16,7 @@ use Rattle.trace_text.specs.declared.fault.RefusedLine.{RefusedLine}
 use Rattle.trace_text.specs.declared.line.Line.{Line}
 use Rattle.trace_race.specs.declared.racing.Run.{Run}
 use Rattle.trace_steps.specs.declared.shown.Shown.{Shown}
+use Rattle.trace_steps.specs.AllMet.{HaveAllMet, OnlyMet}
 use Rattle.trace_steps.specs.AllMutators.{AreAll}
 
 -- the lines with their numbers; the first line has number n
@@ -61,9 +62,18 @@ pub record Ran (u : Setup) (lines : List (ℕ × Line)) (old new : Pass) (shown 
   pub went : Went u (take count lines) null_registers old shown registers last
   pub ends : Ends u lines count registers last new fault
 
--- Each mutator ran its own lines of the trace, and is handed back at its index.
+-- A mutator ran its lines. Then it met the other mutators.
+pub record RanAndMet (u : Setup) (lines : List (ℕ × Line)) (old new : Pass) (shown : List Shown) (fault : Option RefusedLine) : Type 0 where
+  pub last : Pass
+  pub ran : Ran u lines old last shown fault
+  pub met : OnlyMet last new
+
+-- Each mutator ran its own lines of the trace. Then all of them met, and are handed back in the order of their numbers.
+-- So what each of them saw of a page while it ran is a beginning of one journal, the same for all, which has exactly
+-- what they did there.
 pub record HaveRaced {L : Type 0} {B : Type 0} {g : Ghosts B} (space : Space L B g) (lines : List Line) (before after : List (Mutator L)) (runs : List Run) : Type 0 where
   pub all : AreAll space after
+  pub met : HaveAllMet (setup_of space) (map pass_of after)
   pub count : length runs ≡ length before
   pub ran : (k : ℕ) (old new : Mutator L) (run : Run) → get_elem? before k ≡ some old → get_elem? after k ≡ some new → get_elem? runs k ≡ some run
-      → Ran (setup_of space) (own_lines k (numbered 1 lines)) (pass_of old) (pass_of new) run.shown.items run.fault
+      → RanAndMet (setup_of space) (own_lines k (numbered 1 lines)) (pass_of old) (pass_of new) run.shown.items run.fault

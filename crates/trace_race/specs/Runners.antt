@@ -8,6 +8,7 @@ use Rattle.comp_mutator.specs.Orders.{number_of_mutator}
 use Rattle.comp_mutator.specs.declared.mutator.Mutator.{Mutator}
 use Rattle.comp_mutator.specs.declared.space.Space.{Space}
 use Rattle.trace_steps.specs.Acting.{null_registers}
+use Rattle.trace_steps.specs.AllMutators.{AreAll}
 use Rattle.trace_race.specs.Races.{numbered, own_lines, Ran}
 use Rattle.trace_text.specs.declared.line.Line.{Line}
 use Rattle.trace_race.specs.declared.racing.Run.{Run}
@@ -30,6 +31,13 @@ pub record IsReady {L : Type 0} {B : Type 0} {g : Ghosts B} (space : Space L B g
 pub record RanItsLines {L : Type 0} {B : Type 0} {g : Ghosts B} (space : Space L B g) (lines : List Line) (before after : Runner L) : Type 0 where
   pub of : IsMutatorOf space after.mutator
   pub ran : Ran (setup_of space) (lines_for lines before.mutator) (pass_of before.mutator) (pass_of after.mutator) after.shown.items after.fault
+
+-- Each mutator ran its own lines of the trace, and they have not met yet.
+pub record HaveRun {L : Type 0} {B : Type 0} {g : Ghosts B} (space : Space L B g) (lines : List Line) (before after : List (Mutator L)) (runs : List Run) : Type 0 where
+  pub all : AreAll space after
+  pub count : length runs ≡ length before
+  pub ran : (k : ℕ) (old new : Mutator L) (run : Run) → get_elem? before k ≡ some old → get_elem? after k ≡ some new → get_elem? runs k ≡ some run
+      → Ran (setup_of space) (own_lines k (numbered 1 lines)) (pass_of old) (pass_of new) run.shown.items run.fault
 
 -- Room for what each mutator's lines may show.
 pub record HaveRooms {L : Type 0} {A : Type 0} (lines : List Line) (mutators : List (Mutator L)) (rooms : List (Vec Shown A)) : Type 0 where

@@ -20,7 +20,7 @@ use std::sync::Wait;
 use std::sync::ledger::Ledger;
 use std::thread;
 use std::thread::Threads;
-use trace_steps::Shown;
+use trace_steps::{Shown, meet_all};
 use trace_text::{Line, RefusedLine, Trace, TraceFault};
 
 /// The values that a mutator's lines showed, and the line that was refused, if there is one.
@@ -148,7 +148,8 @@ fn parted<L: Ledger>(
 }
 
 /// Lets each mutator run its own lines of a trace, in order. Each runs in its own thread, or in the caller's if no
-/// thread can be started, and waits for busy pages. A refused line ends the run of its mutator.
+/// thread can be started, and waits for busy pages. A refused line ends the run of its mutator. When all have run, they
+/// meet: each has then seen all that any of them did.
 ///
 /// Memory for the chains of lines and for all values is reserved first. If it runs out, the fault is `OutOfMemory`, no
 /// line has run, and the mutators come back unchanged.
@@ -186,5 +187,7 @@ pub fn race<L: Ledger + Send + Sync, B: Builder, R: Threads + Wait + Sync>(
     };
     let mut runners = readied(mutators, rooms, runners);
     run_all(alloc, rt, space, lines, &chains, &mut runners);
-    Ok(parted(runners, raced, runs))
+    let mut after = parted(runners, raced, runs);
+    meet_all(space, &mut after.mutators);
+    Ok(after)
 }

@@ -5,3 +5,4 @@ pub mod Bytes
 pub mod Histories
 pub mod Building
 pub mod Runnings
+pub mod Causes

@@ -1,8 +1,8 @@
 -- What a replay over new mutators leaves.
-use Rattle.std.proofs.Common.{◌≡◌, ℕ, zero, suc, ◌<◌, ◌++◌, List, [], ◌∷◌, length, map, refl, sym, ap, subst, ◌∙◌, arith}
+use Rattle.std.proofs.Common.{◌≡◌, ℕ, ◌<◌, ◌++◌, List, [], length, map, refl, sym, ap, subst, ◌∙◌, arith}
 use Rattle.std.specs.List.{range_with_len}
 use Rattle.std.proofs.lemmas.List.{length-map}
-use mathlib.Core.Option.{some, some-injective, some-ne-none}
+use mathlib.Core.Option.{some}
 use lib.ListN.{get_elem?}
 use Rattle.heap_layout.specs.Heap.{live, Heap, IsClosed}
 use Rattle.page_plan.specs.Sliding as sliding
@@ -22,7 +22,7 @@ use Rattle.comp_mutator.specs.declared.mutator.Mutator.{Mutator}
 use Rattle.comp_mutator.specs.declared.space.Space.{Space}
 use Rattle.trace_steps.specs.AllMutators.{AreAll}
 use Rattle.trace_steps.specs.Builds.{built_by, HaveBuilt}
-use Rattle.trace_steps.specs.WrittenEntries.{written_by_each, DidNothingYet}
+use Rattle.trace_steps.specs.WrittenEntries.{DidNothingYet}
 use Rattle.trace_steps.specs.TraceLines.{AllFit}
 use Rattle.trace_steps.specs.declared.shown.Shown.{Shown}
 use Rattle.trace_text.specs.declared.fault.TraceFault.{TraceFault}
@@ -32,7 +32,7 @@ use Rattle.trace_replay.specs.Heaps.{HasRunOver}
 use Rattle.trace_replay.specs.Replays.{HaveReplayed, HaveStopped}
 use Rattle.trace_replay.specs.Runs.{beginning, Runs}
 use Rattle.trace_replay.proofs.Building.{lists_built}
-use Rattle.trace_replay.proofs.Bytes.{cut_of, deeds_none, have_none, AreOf}
+use Rattle.trace_replay.proofs.Bytes.{cut_of, deeds_none, have_none, passes_none, written_at, AreOf}
 use Rattle.trace_replay.proofs.Histories.{all_added, same_history}
 use Rattle.trace_replay.proofs.Inside.{AreInside}
 
@@ -46,12 +46,6 @@ module _ {L B : Type 0} {g : Ghosts B} (space : Space L B g) (back : List (Mutat
       let count = all.count in
       let x = there_at back k (omega (arith, count, lt)) in
       (x.0, (k, x.1), all.numbers k x.0 x.1)
-
--- what the mutator at an index did
-written_at : {L : Type 0} (mutators : List (Mutator L)) (k : ℕ) (m : Mutator L) → get_elem? mutators k ≡ some m → written_by_each mutators k ≡ did (pass_of m)
-written_at [] k m at = absurd (some-ne-none m (sym at))
-written_at {L} (x ∷ xs) zero m at = ap (λ (y : Mutator L). did (pass_of y)) (some-injective x m at)
-written_at (x ∷ xs) (suc k) m at = written_at xs k m at
 
 abbrev setup_with : Heap → ℕ → ℕ → ℕ → Setup
 setup_with heap fresh mutators compacted = record { heap = heap; compacted = compacted; fresh = fresh; mutators = mutators }
@@ -100,7 +94,7 @@ ran_through u before after lines shown compacted none replayed =
 
 -- a replay that stopped is a run that was cut short
 pub cut_over : {L : Type 0} (u : Setup) (before after : List (Mutator L)) (lines : List Line) (shown : List Shown) (fault : TraceFault)
-    → u.compacted ≡ sliding.pages (live u.heap) → DidNothingYet before → AreOf u before → AllFit u lines → HaveStopped u before after lines shown fault
+    → u.compacted ≡ sliding.pages (live u.heap) → DidNothingYet before → AreOf u before → AreOf u after → AllFit u lines → HaveStopped u before after lines shown fault
     → CutsShort (flipped u.heap u.mutators u.fresh) lines shown fault
-cut_over u before after lines shown fault compacted none all fit stopped =
-    subst (λ (w : Setup). CutsShort w lines shown fault) (setup_is u compacted) (cut_of u before after lines shown fault all none (inside_all u u.mutators lines refl fit) stopped)
+cut_over u before after lines shown fault compacted none all all_after fit stopped =
+    subst (λ (w : Setup). CutsShort w lines shown fault) (setup_is u compacted) (cut_of u before after [] lines shown fault all all_after none (passes_none before) (inside_all u u.mutators lines refl fit) stopped)

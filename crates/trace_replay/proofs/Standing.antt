@@ -11,7 +11,9 @@ use Rattle.comp_mutator.specs.Locks.{Journals}
 use Rattle.comp_mutator.specs.Setup.{Setup}
 use Rattle.comp_mutator.specs.Pass.{Pass}
 use Rattle.comp_mutator.proofs.Sums.{is_inside, there_at}
-use Rattle.comp_mutator.proofs.Growing.{grows_none, grows_then}
+use Rattle.comp_mutator.proofs.Growing.{begins_then, grows_none, grows_then}
+use Rattle.comp_mutator.specs.Calls.{Grows, KnowsToo}
+use Rattle.comp_mutator.specs.Passes.{seen}
 use Rattle.comp_mutator.specs.Merged.{written_by}
 use Rattle.comp_mutator.proofs.OwnPages.{on_append}
 use Rattle.comp_mutator.specs.Mutators.{pass_of}
@@ -150,6 +152,21 @@ know_later a b h made j m at =
     let was = there_at a j (omega (arith, is_inside b j m at, h.count)) in
     (h.learn j was.0 m was.1 at).1 (made j was.0 was.1)
 
+-- all have seen built, later on, what they had seen built
+pub seen_built_later : {L : Type 0} (a b : List (Mutator L)) (built : List (ℕ × ℕ)) → AreLater a b → HaveSeenBuilt a built → HaveSeenBuilt b built
+seen_built_later a b built h known p there j m at =
+    let was = there_at a j (omega (arith, is_inside b j m at, h.count)) in
+    (h.learn j was.0 m was.1 at).0.built p (known p there j was.0 was.1)
+
+-- a pass that knows what another one knows knows what that one knew earlier
+knows_since : (a b c : Pass) → Grows a b → KnowsToo b c → KnowsToo a c
+knows_since a b c h k = record {
+  seen = λ p. begins_then (seen a p) (seen b p) (seen c p) (h.seen p) (k.seen p);
+  built = λ p z. k.built p (h.built p z);
+  starts = λ p offset z. k.starts p offset (h.starts p offset z);
+  turns = λ q. let first = h.turns q in let then = k.turns q in omega (arith, first, then);
+}
+
 -- what was refused since a later start was refused since the first; and what held of the pass at the call still holds
 pub refused_since : {L : Type 0} (u : Setup) (i : ℕ) (first before after : List (Mutator L)) (journals : Journals) (action : Action) (registers : List ℕ) (refusal : Refusal) → AreLater first before
     → (h : IsTurnedDown u i before after journals action registers refusal) → (Q : Pass → Type 0) → Q h.old → (t : IsTurnedDown u i first after journals action registers refusal) × Q t.old
@@ -158,9 +175,13 @@ refused_since u i first before after journals action registers refusal later h Q
     old = h.old;
     new = h.new;
     wrote_none = h.wrote_none;
+    saw_none = h.saw_none;
     began = λ m at.
         let now = there_at before i (omega (arith, is_inside first i m at, later.count)) in
         grows_then (pass_of m) (pass_of now.0) h.old (later.learn i m now.0 at now.1).0 (h.began now.0 now.1);
+    met = λ k m at.
+        let now = there_at before k (omega (arith, is_inside first k m at, later.count)) in
+        knows_since (pass_of m) (pass_of now.0) h.old (later.learn k m now.0 at now.1).0 (h.met k now.0 now.1);
     did = h.did;
     knows = h.knows;
     starts = λ made. h.starts (know_later first before later made);

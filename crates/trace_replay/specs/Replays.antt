@@ -8,6 +8,7 @@ use Rattle.comp_mutator.specs.Passes.{HasSeenBuilt}
 use Rattle.comp_mutator.specs.Merged.{written_by}
 use Rattle.comp_mutator.specs.declared.mutator.Mutator.{Mutator}
 use Rattle.comp_mutator.specs.Refusal.{Refusal}
+use Rattle.comp_mutator.specs.Refusal.TheVariants.{Busy}
 use Rattle.trace_steps.specs.Builds.{is_built, HaveBuilt, HaveSeenBuilt}
 use Rattle.trace_steps.specs.WrittenEntries.{written_by_each, AreMerged, WrittenEntries, HaveAll, HaveSeen}
 use Rattle.trace_steps.specs.Rounds.{IsTurnedDown}
@@ -46,8 +47,9 @@ abbrev pub RanNothing : {L : Type 0} → List (Mutator L) → List (Mutator L) �
 RanNothing before after shown = (shown ≡ []) × (after ≡ before)
 
 -- The line after the first `count` was refused, and the lines before it were run. At its call its mutator knew all that
--- the mutators did, and had seen each page built that the run built, and there was a cause. After the line each of the
--- mutators has seen all that was there at the start and all that the run added.
+-- the mutators did and all that any of them knew before the replay, and had seen each page built that the run built,
+-- and there was a cause. After the line each of the mutators has seen all that was there at the start and all that the
+-- run added, and each page built that the run built.
 pub record IsRefused {L : Type 0} (u : Setup) (start : Journals) (before after : List (Mutator L)) (lines : List Line) (shown : List Shown) (number : ℕ) (refusal : Refusal) : Type 0 where
   pub count : ℕ
   pub number_is : number ≡ count + 1
@@ -58,6 +60,9 @@ pub record IsRefused {L : Type 0} (u : Setup) (start : Journals) (before after :
   pub cause : IsTurnedDown u line.mutator before after (with_entries start end.added) line.action (end.registers line.mutator) refusal
   pub built : (p : ℕ) → is_built end.built p ≡ true → HasSeenBuilt cause.old p
   pub seen : HaveSeen after (with_entries start end.added)
+  -- no page was busy: all mutators are in hand
+  pub waited : (p : ℕ) → refusal ≡ Busy p → ⊥
+  pub known : HaveSeenBuilt after end.built
 
 -- Why a replay stopped: memory ran out before its first line, or the call of a line was refused.
 abbrev pub HaveStopped : {L : Type 0} → Setup → List (Mutator L) → List (Mutator L) → List Line → List Shown → TraceFault → Type 0

@@ -2,6 +2,7 @@
 ghost use Rattle.std.specs.Prelude.{List};
 ghost use Rattle.comp_mutator.specs.Setup.{Setup};
 ghost use Rattle.trace_replay.specs.Bytes.{ShowOnce};
+ghost use Rattle.trace_replay.specs.Causes.{AreOfRuns};
 ghost use Rattle.trace_replay.specs.Runs.{IsDetermined};
 ghost use Rattle.trace_text.specs.declared.line.Line.{Line};
 
@@ -21,3 +22,9 @@ pub fn replays_show_once()
 {
     images_differ();
 }
+
+/// A line that cuts a run short has the cause of its refusal in the run before it: the lines before it made an object
+/// without the field, filled the journal of the line's page, or left that page unbuilt.
+pub fn refusals_are_of_runs()
+    ensures { AreOfRuns }
+{}

@@ -6,7 +6,7 @@ mod replaying;
 mod running;
 mod texts;
 
-pub use laws::{replays_show_once, runs_are_determined};
+pub use laws::{refusals_are_of_runs, replays_show_once, runs_are_determined};
 pub use replaying::{Stopped, replay};
 pub use running::{Halt, Run, run_over};
 pub use texts::replay_text;

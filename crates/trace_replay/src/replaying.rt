@@ -1,6 +1,7 @@
 //! Runs a trace by one thread.
-ghost use Rattle.std.specs.Prelude.{◌≡◌, ◌<◌, ◌≤◌, ◌+◌, length, replicate, vec_capacity, IfErr, IfOk, OnErr, OnOk};
+ghost use Rattle.std.specs.Prelude.{◌≡◌, ◌<◌, ◌≤◌, ◌+◌, ℕ, length, replicate, vec_capacity, IfErr, IfOk, IsErrOf, OnErr, OnOk};
 ghost use Rattle.comp_mutator.specs.Mutators.{setup_of};
+ghost use Rattle.comp_mutator.specs.Refusal.TheVariants.{Busy};
 ghost use Rattle.trace_steps.specs.Acting.{null_registers, Fits};
 ghost use Rattle.trace_steps.specs.WrittenEntries.{HaveSeenAll, HaveStart};
 ghost use Rattle.trace_steps.specs.AllMutators.{AreAll};
@@ -44,6 +45,7 @@ fn run_line<L: Ledger, B: Builder>(
     ensures room { (vec_capacity shown.new ≡ vec_capacity shown.old) × (length shown.new.items ≤ length shown.old.items + 1) }
     ensures did { OnErr result (DidNothing mutators.old mutators.new × (shown.new.items ≡ shown.old.items)) }
     ensures refused { IfErr result (CannotGoOn (setup_of space.now) line mutators.old mutators.new registers.old shown.old.items) }
+    ensures busy { (p : ℕ) → IsErrOf result (Busy p) → ⊥ }
 {
     let i = usize::from(line.mutator);
     let own = &mut registers[i];
@@ -131,7 +133,8 @@ fn run_lines<L: Ledger, B: Builder>(
 ///
 /// Room for all values and for the registers is reserved first. If there is no memory for it, the fault is
 /// `OutOfMemory`, and no line has run. If the call of a line is refused, for memory too, the lines before it were run,
-/// and the fault is `Refused` with the number of the line, counted from 1, and the refusal.
+/// and the fault is `Refused` with the number of the line, counted from 1, and the refusal. No page is busy: all
+/// mutators are in hand.
 ///
 /// Requires all mutators of the space, in the order of their numbers, and a trace that was parsed for the numbers of
 /// mutators and roots that there are.

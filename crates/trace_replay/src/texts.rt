@@ -1,6 +1,6 @@
 //! Runs the text of a trace.
-ghost use Rattle.std.specs.Prelude.{◌≡◌, length, IfErr, IfOk};
-ghost use Rattle.comp_mutator.specs.Mutators.{setup_of};
+ghost use Rattle.std.specs.Prelude.{◌≡◌, length, map, IfErr, IfOk};
+ghost use Rattle.comp_mutator.specs.Mutators.{pass_of, setup_of};
 ghost use Rattle.trace_steps.specs.WrittenEntries.{DidNothingYet};
 ghost use Rattle.trace_replay.specs.Bytes.{Shows, StopsShowing};
 ghost use Rattle.trace_steps.specs.AllMutators.{AreAll};
@@ -32,7 +32,7 @@ pub fn replay_text<L: Ledger, B: Builder>(
     requires counts { (count ≡ (setup_of space.now).mutators) × (roots ≡ length (setup_of space.now).heap.roots) }
     ensures all { AreAll space.now mutators.new.items }
     ensures shows { IfOk result (λ shown. Shows (setup_of space.now) text.now shown.items) }
-    ensures stopped { IfErr result (λ stopped. StopsShowing (setup_of space.now) text.now stopped.shown.items stopped.fault) }
+    ensures stopped { IfErr result (λ stopped. StopsShowing (setup_of space.now) (map pass_of mutators.old.items) text.now stopped.shown.items stopped.fault) }
 {
     match parse(alloc, text, count, roots) {
         Ok(trace) => replay(alloc, &trace, space, mutators),

@@ -10,5 +10,7 @@ pub mod LineRuns
 pub mod MeetingRounds
 pub mod MetPairs
 pub mod Building
+pub mod NeverBusy
 pub mod RowLists
 pub mod StepLists
+pub mod AllMeetings

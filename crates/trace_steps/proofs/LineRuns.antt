@@ -14,6 +14,7 @@ use Rattle.comp_mutator.specs.Lists.{on}
 use Rattle.comp_mutator.specs.Locks.{Journals}
 use Rattle.comp_mutator.specs.Passes.{did, number_of, seen, KnowsFresh}
 use Rattle.comp_mutator.specs.Pass.{Pass}
+use Rattle.comp_mutator.specs.Calls.{KnowsToo}
 use Rattle.comp_mutator.specs.Steps.{Steps}
 use Rattle.comp_mutator.specs.Objects.{page_at, offset_at}
 use Rattle.comp_mutator.proofs.Growing.{grows_none, grows_then}
@@ -82,6 +83,20 @@ module _ (table : Steps) (n i : ℕ) (first met acted last : ℕ → Pass) (line
 
   pub knows : (journals : Journals) → AreMerged n (dids first) journals → (p : ℕ) → seen (met i) p ≡ journals p
   knows journals merged p = merged_once n (dids first) p (seen (met i) p) (journals p) (known p) (merged p)
+
+  -- a call that writes nothing sees nothing new
+  pub saw_none : did (acted i) ≡ did (met i) → (journals : Journals) → AreMerged n (dids first) journals → (p : ℕ) → seen (acted i) p ≡ seen (met i) p
+  saw_none same journals merged p =
+      reads_all table n i line.inside first met acted last line.crew line.crew_met line.crew_last line.before line.after line.others line.learns.0.seen journals merged (same_deeds same) p ∙ sym (knows journals merged p)
+
+  -- at its call it knows what each mutator knew before the line
+  pub knows_each : (k : ℕ) → k < n → KnowsToo (first k) (met i)
+  knows_each k lt = record {
+    seen = λ p. line.before.more k p lt;
+    built = λ p. line.before.built k p lt;
+    starts = λ p offset. line.before.starts k p offset lt;
+    turns = λ q. line.before.turns k q lt;
+  }
 
   module _ (u : Setup) (journals : Journals) (merged : AreMerged n (dids first) journals) where
     -- a line that adds nothing

@@ -1,11 +1,11 @@
 -- A round of meetings, one after the other.
-use Rattle.std.proofs.Common.{◌≡◌, ◌≢◌, ℕ, ◌+◌, ◌<◌, ◌≤◌, Bool, true, false, cond, nat_lt, List, [], length, refl, sym, ap, subst, ◌∙◌, arith, inl, inr}
+use Rattle.std.proofs.Common.{◌≡◌, ◌≢◌, ℕ, ◌+◌, ◌%◌, ◌<◌, ◌≤◌, Bool, true, false, cond, nat_lt, List, length, refl, sym, ap, subst, ◌∙◌, arith, inl, inr}
 use Rattle.std.specs.Prelude.{◌⊎◌}
 use native.Mathlib.Decide.{ℕ_discrete}
 use mathlib.Core.Logic.{dite, ⊎_elim}
 use Rattle.comp_mutator.specs.Entry.{Entry}
 use Rattle.comp_mutator.specs.Lists.{StartsWith}
-use Rattle.comp_mutator.specs.Passes.{builds_of, did, seen, HasSeenBuilt, KnowsFresh}
+use Rattle.comp_mutator.specs.Passes.{builds_of, did, number_of, seen, turns_of, HasSeenBuilt, IsNotMade, KnowsFresh, Rests}
 use Rattle.comp_mutator.specs.Pass.{Pass}
 use Rattle.comp_mutator.specs.Calls.{Grows, Meets}
 use Rattle.comp_mutator.proofs.Growing.{begins_then, grows_none, grows_then, same_begins}
@@ -24,6 +24,11 @@ pub record IsMeeting (other_old old other_new new : Pass) : Type 0 where
   pub starts : (p offset : ℕ) → KnowsFresh other_old p offset → KnowsFresh new p offset
   pub built : (p : ℕ) → HasSeenBuilt other_old p → HasSeenBuilt new p
   pub tells_built : (p : ℕ) → HasSeenBuilt old p → HasSeenBuilt other_new p
+  pub turns : (q : ℕ) → turns_of other_old q ≤ turns_of new q
+  pub tells_turns : (q : ℕ) → turns_of old q ≤ turns_of other_new q
+  pub own_turns : turns_of other_new (number_of other_old) ≡ turns_of other_old (number_of other_old)
+  pub even : Rests other_old → turns_of other_old (number_of other_old) % 2 ≡ 0
+  pub strangers : (q : ℕ) → IsNotMade other_old q → turns_of other_new q ≡ 0
 
 one_of : (test : Bool) (j a b : List Entry) → j ≡ cond test b a → (j ≡ b) ⊎ (j ≡ a)
 one_of true j a b e = inl e
@@ -42,6 +47,11 @@ meeting_of other_old old other_new new other m same = record {
   starts = m.knows.starts;
   built = m.knows.built;
   tells_built = other.knows.built;
+  turns = m.knows.turns;
+  tells_turns = other.knows.turns;
+  own_turns = other.own_turns;
+  even = other.even;
+  strangers = other.strangers;
 }
 
 -- Mutator i met those others whose numbers are below j.
@@ -55,6 +65,11 @@ pub record MetBelow (n i j : ℕ) (old new : ℕ → Pass) : Type 0 where
   pub starts : (k p offset : ℕ) → k < n → k < j → KnowsFresh (old k) p offset → KnowsFresh (new i) p offset
   pub built : (k p : ℕ) → k < n → k < j → HasSeenBuilt (old k) p → HasSeenBuilt (new i) p
   pub other_built : (k p : ℕ) → k < n → k < j → HasSeenBuilt (old i) p → HasSeenBuilt (new k) p
+  pub turns : (k q : ℕ) → k < n → k < j → turns_of (old k) q ≤ turns_of (new i) q
+  pub other_turns : (k q : ℕ) → k < n → k < j → turns_of (old i) q ≤ turns_of (new k) q
+  pub own_turns : (k : ℕ) → k < n → k < j → k ≢ i → turns_of (new k) (number_of (old k)) ≡ turns_of (old k) (number_of (old k))
+  pub even : (k : ℕ) → k < n → k < j → k ≢ i → Rests (old k) → turns_of (old k) (number_of (old k)) % 2 ≡ 0
+  pub strangers : (k q : ℕ) → k < n → k < j → k ≢ i → IsNotMade (old k) q → turns_of (new k) q ≡ 0
   pub later : (k : ℕ) → j ≤ k → k ≢ i → new k ≡ old k
   pub longest : (p : ℕ) → (k : ℕ) × (k < n) × (seen (new i) p ≡ seen (old k) p)
 
@@ -69,6 +84,11 @@ met_none n i old inside = record {
   starts = λ k p offset lt no. absurd (omega arith);
   built = λ k p lt no. absurd (omega arith);
   other_built = λ k p lt no. absurd (omega arith);
+  turns = λ k q lt no. absurd (omega arith);
+  other_turns = λ k q lt no. absurd (omega arith);
+  own_turns = λ k lt no. absurd (omega arith);
+  even = λ k lt no. absurd (omega arith);
+  strangers = λ k q lt no. absurd (omega arith);
   later = λ k le not. refl;
   longest = λ p. (i, inside, refl);
 }
@@ -85,6 +105,11 @@ met_all n i old new h = record {
   starts = λ k p offset lt. h.starts k p offset lt lt;
   built = λ k p lt. h.built k p lt lt;
   other_built = λ k p lt. h.other_built k p lt lt;
+  turns = λ k q lt. h.turns k q lt lt;
+  other_turns = λ k q lt. h.other_turns k q lt lt;
+  own_turns = λ k lt. h.own_turns k lt lt;
+  even = λ k lt. h.even k lt lt;
+  strangers = λ k q lt. h.strangers k q lt lt;
   longest = h.longest;
 }
 
@@ -139,6 +164,22 @@ module _ (n i j : ℕ) (inside : i < n) (there : j < n) (unlike : j ≢ i) (old 
       other_built = λ k p lt. below (λ (x : ℕ). HasSeenBuilt (old i) p → HasSeenBuilt (after x) p)
           (λ x low saw. (grown x).built p (h.other_built x p (omega arith) low saw))
           (λ saw. meeting.tells_built p ((h.grows i inside).built p saw)) k;
+      turns = λ k q lt. below (λ (x : ℕ). turns_of (old x) q ≤ turns_of (after i) q)
+          (λ x low. let a = h.turns x q (omega arith) low in let b = meeting.grows.turns q in omega (arith, a, b))
+          (let a = meeting.turns q in let b = ap (λ (x : Pass). turns_of x q) (h.later j (omega arith) unlike) in omega (arith, a, b)) k;
+      other_turns = λ k q lt. below (λ (x : ℕ). turns_of (old i) q ≤ turns_of (after x) q)
+          (λ x low. let a = h.other_turns x q (omega arith) low in let b = (grown x).turns q in omega (arith, a, b))
+          (let a = (h.grows i inside).turns q in let b = meeting.tells_turns q in omega (arith, a, b)) k;
+      own_turns = λ k lt. below (λ (x : ℕ). x ≢ i → turns_of (after x) (number_of (old x)) ≡ turns_of (old x) (number_of (old x)))
+          (λ x low not. ap (λ (y : Pass). turns_of y (number_of (old x))) (rest x not (λ is. absurd (omega (arith, low, is)))) ∙ h.own_turns x (omega arith) low not)
+          (λ not. let same = h.later j (omega arith) unlike in
+          subst (λ (y : Pass). turns_of (after j) (number_of y) ≡ turns_of y (number_of y)) same meeting.own_turns) k;
+      even = λ k lt. below (λ (x : ℕ). x ≢ i → Rests (old x) → turns_of (old x) (number_of (old x)) % 2 ≡ 0)
+          (λ x low. h.even x (omega arith) low)
+          (λ not. subst (λ (y : Pass). Rests y → turns_of y (number_of y) % 2 ≡ 0) (h.later j (omega arith) unlike) meeting.even) k;
+      strangers = λ k q lt. below (λ (x : ℕ). x ≢ i → IsNotMade (old x) q → turns_of (after x) q ≡ 0)
+          (λ x low not none. ap (λ (y : Pass). turns_of y q) (rest x not (λ is. absurd (omega (arith, low, is)))) ∙ h.strangers x q (omega arith) low not none)
+          (λ not. subst (λ (y : Pass). IsNotMade y q → turns_of (after j) q ≡ 0) (h.later j (omega arith) unlike) (meeting.strangers q)) k;
       later = λ k le not. rest k not (λ is. absurd (omega (arith, le, is))) ∙ h.later k (omega arith) not;
       longest = λ p. ⊎_elim
           (λ other. (j, there, other ∙ ap (λ (x : Pass). seen x p) (h.later j (omega arith) unlike)))
@@ -159,5 +200,10 @@ met_itself n i old new inside h = record {
   starts = λ k p offset lt low. dite (ℕ_discrete k i) (λ is knows. (h.grows i inside).starts p offset (subst (λ (x : ℕ). KnowsFresh (old x) p offset) is knows)) (λ no. h.starts k p offset lt (omega arith));
   built = λ k p lt low. dite (ℕ_discrete k i) (λ is saw. (h.grows i inside).built p (subst (λ (x : ℕ). HasSeenBuilt (old x) p) is saw)) (λ no. h.built k p lt (omega arith));
   other_built = λ k p lt low. dite (ℕ_discrete k i) (λ is saw. subst (λ (x : ℕ). HasSeenBuilt (new x) p) (sym is) ((h.grows i inside).built p saw)) (λ no. h.other_built k p lt (omega arith));
+  turns = λ k q lt low. dite (ℕ_discrete k i) (λ is. let a = (h.grows i inside).turns q in omega (arith, a, ap (λ (x : ℕ). turns_of (old x) q) is)) (λ no. h.turns k q lt (omega arith));
+  other_turns = λ k q lt low. dite (ℕ_discrete k i) (λ is. let a = (h.grows i inside).turns q in omega (arith, a, ap (λ (x : ℕ). turns_of (new x) q) is)) (λ no. h.other_turns k q lt (omega arith));
+  own_turns = λ k lt low not. h.own_turns k lt (omega (arith, low, not)) not;
+  even = λ k lt low not. h.even k lt (omega (arith, low, not)) not;
+  strangers = λ k q lt low not. h.strangers k q lt (omega (arith, low, not)) not;
   later = λ k le not. h.later k (omega arith) not;
 }

@@ -10,7 +10,7 @@ use Rattle.comp_mutator.specs.Passes.{did, number_of, seen}
 use Rattle.comp_mutator.specs.Setup.{Setup}
 use Rattle.comp_mutator.specs.Pass.{Pass}
 use Rattle.comp_mutator.proofs.Sums.{is_inside}
-use Rattle.comp_mutator.specs.Calls.{Grows}
+use Rattle.comp_mutator.specs.Calls.{Grows, KnowsToo}
 use Rattle.comp_mutator.specs.CellViews.{steps_of}
 use Rattle.comp_mutator.specs.Mutators.{cells_of, pass_of, setup_of, AreMutatorsOf}
 use Rattle.comp_mutator.specs.declared.mutator.Mutator.{Mutator}
@@ -24,8 +24,10 @@ use Rattle.trace_steps.specs.Rounds.{row, AreLater, DidNothing, HasMetAll, IsTur
 use Rattle.trace_text.specs.declared.line.Action.{Action}
 use Rattle.trace_steps.proofs.BetweenRounds.{dids, IsCrew}
 use Rattle.trace_steps.proofs.Building.{builds_on, see_built_on, BuiltTheirs, HaveStrange, SeeTheirs}
-use Rattle.trace_steps.proofs.LineRuns.{advances, all_seen_last, known, knows, knows_starts, learnt, same_deeds, IsBetween}
+use Rattle.trace_steps.proofs.LineRuns.{advances, all_seen_last, known, knows, knows_each, knows_starts, learnt, same_deeds, saw_none, IsBetween}
 use Rattle.trace_steps.proofs.Elements.{at_or}
+use Rattle.comp_mutator.specs.Refusal.TheVariants.{Busy}
+use Rattle.trace_steps.proofs.NeverBusy.{never_busy}
 use Rattle.trace_steps.proofs.RowLists.{advances_by, all_later, crew_later, crew_of, written_at, have_all, have_built, have_seen_built, later_by, nothing_by, row_at, rows_built, rows_have, rows_seen_built}
 
 module _ {L : Type 0} {B : Type 0} {g : Ghosts B} (space : Space L B g) (i : ℕ) (first met last : List (Mutator L)) (m new : Mutator L)
@@ -126,6 +128,12 @@ module _ {L : Type 0} {B : Type 0} {g : Ghosts B} (space : Space L B g) (i : ℕ
         (subst (λ (x : Pass). BuildsTouched page (row m met i) x) (sym acted_is) touched) built (rows_seen_built first m built have) in
         have_seen_built last m (built_after built i page) (subst (λ (k : ℕ). SeeTheirs k (row m last) (built_after built i page)) (sym long) then)
 
+    -- no page is busy
+    pub never_waits : (action : Action) (registers : List ℕ) (p : ℕ) → Refuses u action registers (pass_of (get_or met i m)) (pass_of new) (Busy p) → ⊥
+    never_waits action registers p h = never_busy (steps_of (cells_of space)) n i inside (row m first) (row m met) (row m acted) (row m last) crew line.crew_met
+        (λ k lt. (get_or met k m).hand.rests) line.before second call.0 others u action registers p
+        (subst (λ (x : Pass). Refuses u action registers (row m met i) x (Busy p)) (sym acted_is) h)
+
     pub was_turned_down : (action : Action) (registers : List ℕ) (refusal : Refusal) → did (pass_of new) ≡ did (pass_of (get_or met i m))
         → Refuses u action registers (pass_of (get_or met i m)) (pass_of new) refusal → (journals : Journals) → HaveAll first journals → IsTurnedDown u i first last journals action registers refusal
     was_turned_down action registers refusal same h journals have =
@@ -134,7 +142,9 @@ module _ {L : Type 0} {B : Type 0} {g : Ghosts B} (space : Space L B g) (i : ℕ
           old = row m met i;
           new = row m acted i;
           began = λ x at. subst (λ (y : Pass). Grows y (row m met i)) (row_at first m x i at) ((before m).grows i inside);
+          met = λ k x at. subst (λ (y : Pass). KnowsToo y (row m met i)) (row_at first m x k at) (knows_each _ n i _ _ _ _ line k (is_inside first k x at));
           wrote_none = did_same same;
+          saw_none = saw_none _ n i _ _ _ _ line (did_same same) journals merged;
           did = sym (did_same same) ∙ sym (second.did i inside) ∙ sym (written_at last m i (omega (arith, inside, long)));
           knows = knows _ n i _ _ _ _ line journals merged;
           starts = λ made p offset at. knows_starts _ n i _ _ _ _ line u journals merged (λ k lt. made k (get_or first k m) (at_or first k m lt)) p offset at;

@@ -5,3 +5,4 @@ pub mod WrittenEntries
 pub mod Rounds
 pub mod AllMutators
 pub mod Lines
+pub mod AllMet

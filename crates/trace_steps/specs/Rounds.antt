@@ -1,15 +1,15 @@
 -- Rounds of meetings, and a line between two of them.
-use Rattle.std.specs.Prelude.{◌≡◌, ◌≢◌, ℕ, ◌<◌, ◌++◌, List, length}
+use Rattle.std.specs.Prelude.{◌≡◌, ◌≢◌, ℕ, ◌%◌, ◌<◌, ◌≤◌, ◌++◌, List, length}
 use mathlib.Core.Option.{some}
 use lib.ListN.{get_elem?, get_or}
 use Rattle.comp_mutator.specs.Entry.{Entry}
 use Rattle.comp_mutator.specs.Setup.{Setup}
 use Rattle.comp_mutator.specs.Lawful.{HasHead}
 use Rattle.comp_mutator.specs.Locks.{Journals}
-use Rattle.comp_mutator.specs.Lists.{StartsWith}
-use Rattle.comp_mutator.specs.Passes.{builds_of, did, seen, HasSeenBuilt, KnowsFresh}
+use Rattle.comp_mutator.specs.Lists.{Each, StartsWith}
+use Rattle.comp_mutator.specs.Passes.{builds_of, did, number_of, seen, turns_of, HasSeenBuilt, IsNotMade, KnowsFresh, Rests}
 use Rattle.comp_mutator.specs.Pass.{Pass}
-use Rattle.comp_mutator.specs.Calls.{Grows, Meets}
+use Rattle.comp_mutator.specs.Calls.{Grows, KnowsToo, Meets, SeesNothingNew}
 use Rattle.comp_mutator.specs.Merged.{written_by}
 use Rattle.comp_mutator.specs.Mutators.{pass_of}
 use Rattle.comp_mutator.specs.declared.mutator.Mutator.{Mutator}
@@ -43,6 +43,14 @@ pub record Met (n i : ℕ) (old new : ℕ → Pass) : Type 0 where
   pub other : (k p : ℕ) → k < n → StartsWith (seen (new k) p) (seen (old i) p)
   pub other_built : (k p : ℕ) → k < n → HasSeenBuilt (old i) p → HasSeenBuilt (new k) p
   pub within : (k p : ℕ) → k < n → StartsWith (seen (new i) p) (seen (new k) p)
+  -- pass i then knows of all turns of which each knew, and each of all of which pass i knew
+  pub turns : (k q : ℕ) → k < n → turns_of (old k) q ≤ turns_of (new i) q
+  pub other_turns : (k q : ℕ) → k < n → turns_of (old i) q ≤ turns_of (new k) q
+  -- each other one made no turn, and the number of its turns is even if it has no page
+  pub own_turns : (k : ℕ) → k < n → k ≢ i → turns_of (new k) (number_of (old k)) ≡ turns_of (old k) (number_of (old k))
+  pub even : (k : ℕ) → k < n → k ≢ i → Rests (old k) → turns_of (old k) (number_of (old k)) % 2 ≡ 0
+  -- passes that do not exist made none
+  pub strangers : (k q : ℕ) → k < n → k ≢ i → IsNotMade (old k) q → turns_of (new k) q ≡ 0
   -- of each page, pass i has then seen what one of them had seen
   pub longest : (p : ℕ) → (k : ℕ) × (k < n) × (seen (new i) p ≡ seen (old k) p)
 
@@ -75,14 +83,18 @@ abbrev pub RanLine : {L : Type 0} → Setup → ℕ → List (Mutator L) → Lis
 RanLine u i before after action registers answer =
     (journals : Journals) → HaveAll before journals → Advances u (length before) i (written_by_each before) (written_by_each after) journals action registers answer
 
--- The call of the mutator at index i was refused, and at the call it knew all that the mutators did. What it knew
--- before the line it knew at the call, and what it knew at the call it knows after the line.
+-- The call of the mutator at index i was refused, and at the call it knew all that the mutators did. What any of them
+-- knew before the line it knew at the call, and what it knew at the call it knows after the line.
 pub record IsTurnedDown {L : Type 0} (u : Setup) (i : ℕ) (before after : List (Mutator L)) (journals : Journals) (action : Action) (registers : List ℕ) (refusal : Refusal) : Type 0 where
   pub old : Pass
   pub new : Pass
   pub began : (m : Mutator L) → get_elem? before i ≡ some m → Grows (pass_of m) old
+  -- it knows what each mutator knew before the line: all that this one had seen, its built pages and its starts
+  pub met : Each before (λ (m : Mutator L). KnowsToo (pass_of m) old)
   -- it wrote nothing in the call, nor since
   pub wrote_none : did new ≡ did old
+  -- it saw nothing new in the call
+  pub saw_none : SeesNothingNew old new
   pub did : did old ≡ written_by_each after i
   pub knows : (p : ℕ) → seen old p ≡ journals p
   -- it knows each object that was made, if each mutator knew what it made

@@ -3,10 +3,12 @@
 #![tactic(auto)]
 
 mod acting;
+mod gathering;
 mod registers;
 mod shown;
 mod stepping;
 
 pub use acting::act;
+pub use gathering::meet_all;
 pub use shown::{Shown, show};
 pub use stepping::step;

@@ -1,6 +1,7 @@
 //! Runs a line between two rounds of meetings.
-ghost use Rattle.std.specs.Prelude.{◌≡◌, ◌≢◌, ◌<◌, length, IfErr, IfOk, OnErr};
+ghost use Rattle.std.specs.Prelude.{◌≡◌, ◌≢◌, ◌<◌, ℕ, length, IfErr, IfOk, IsErrOf, OnErr};
 ghost use Rattle.comp_mutator.specs.Mutators.{setup_of, AreMutatorsOf};
+ghost use Rattle.comp_mutator.specs.Refusal.TheVariants.{Busy};
 ghost use Rattle.trace_steps.specs.Acting.{registers_after, Fits};
 ghost use Rattle.trace_steps.specs.Builds.{touched, BuildOn, SeeBuiltOn};
 ghost use Rattle.trace_steps.specs.WrittenEntries.{HaveSeenAll, HaveStart};
@@ -34,9 +35,13 @@ fn meet_at<L: Ledger, B: Builder>(
     }
 }
 
-// Lets mutator `i` meet each other mutator. Mutator `i` has then seen all that any of them had seen, and each of the
-// others has seen all that mutator `i` had seen before.
-fn meet_others<L: Ledger, B: Builder>(space: &Space<L, B>, mutators: &mut [Mutator<L>], i: usize)
+/// Lets mutator `i` meet each other mutator. Mutator `i` has then seen all that any of them had seen, and each of the
+/// others has seen all that mutator `i` had seen before.
+pub(crate) fn meet_others<L: Ledger, B: Builder>(
+    space: &Space<L, B>,
+    mutators: &mut [Mutator<L>],
+    i: usize,
+)
     requires of { AreMutatorsOf space.now mutators.old }
     requires inside { i < length mutators.old }
     ensures of { AreMutatorsOf space.now mutators.new }
@@ -52,7 +57,8 @@ fn meet_others<L: Ledger, B: Builder>(space: &Space<L, B>, mutators: &mut [Mutat
 
 /// Runs a line by mutator `i`, between two rounds of meetings. So the line acts on all that all mutators did before,
 /// and all mutators have then seen all that was done. If its call is refused, the registers are as before, no mutator
-/// has written anything, and the second round is held all the same. Requires all mutators of the space, in the order of
+/// has written anything, and the second round is held all the same. No page is busy: all mutators are in hand, and rest
+/// during the call. Requires all mutators of the space, in the order of
 /// their numbers, with mutator `i` among them, and a line whose registers and root exist.
 pub fn step<L: Ledger, B: Builder>(
     alloc: Global,
@@ -76,6 +82,7 @@ pub fn step<L: Ledger, B: Builder>(
     ensures built { IfOk result (λ answer. SeeBuiltOn i (touched (setup_of space.now) action registers.old answer) mutators.old mutators.new) }
     ensures ran { IfOk result (RanLine (setup_of space.now) i mutators.old mutators.new action registers.old) }
     ensures refused { IfErr result (WasTurnedDown (setup_of space.now) i mutators.old mutators.new action registers.old) }
+    ensures busy { (p : ℕ) → IsErrOf result (Busy p) → ⊥ }
 {
     meet_others(space, mutators, i);
     let m = &mut mutators[i];

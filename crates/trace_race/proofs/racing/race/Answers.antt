@@ -1,14 +1,15 @@
-use Rattle.std.proofs.Common.{List, length, map, sym, subst, ap, ◌∙◌, arith}
+use Rattle.std.proofs.Common.{List, length, sym, subst, ap, ◌∙◌, arith}
 use lib.ListN.{get_elem?}
 use Rattle.comp_mutator.specs.declared.mutator.Mutator.{Mutator}
-use Rattle.trace_race.specs.Races.{HaveRaced}
+use Rattle.trace_steps.specs.AllMet.{HaveOnlyMet}
+use Rattle.trace_steps.specs.AllMutators.{AreAll}
 use Rattle.trace_steps.specs.TraceLines.{AllFit}
-use Rattle.trace_text.specs.declared.line.Line.{Line}
-use Rattle.trace_race.specs.declared.racing.Run.{Run}
+use Rattle.trace_race.specs.Races.{HaveRaced}
+use Rattle.trace_text.specs.Traces.{lines_of}
 use Rattle.comp_mutator.specs.Mutators.{setup_of}
 use Rattle.trace_steps.proofs.Fitting.{lines_fit}
-use Rattle.trace_race.specs.Runners.{mutator_of, run_of, HaveRooms}
-use Rattle.trace_race.proofs.Runners.{ready_of, raced_of, written_count}
+use Rattle.trace_race.specs.Runners.{mutator_of, HaveRooms}
+use Rattle.trace_race.proofs.Runners.{have_run, met_after, ready_of, written_count}
 use Rattle.trace_steps.proofs.Elements.{written_back}
 use Rattle.trace_race.proofs.racing.race.Goals as goal
 
@@ -26,20 +27,6 @@ run_all-requires-clause-ready g c κs within k runner at =
     ready_of c.args.space.now lines c.args.mutators.items c.in-Ok-rooms.rooms.items r.result.items r.ensures.mutators r.ensures.rooms r.ensures.blank rooms c.requires.all k runner
     (ap (λ l. get_elem? l k) (sym c.deref_mut.ensures.value) ∙ at)
 
-pub returns-clause-raced : goal.returns-clause-raced
-returns-clause-raced g c =
-    let r = c.readied-runners in
-    let space = c.args.space.now in
-    let before = c.args.mutators.items in
-    let new = c.run_all.new.runners in
-    let same = c.deref_mut.ensures.value in
-    let back = written_back r.result.len new r.result.items (omega (arith, c.run_all.ensures.long, ap length same, r.result.ok.0)) in
-    let raced = raced_of space c.lines-lines.result.now before r.result.items new r.ensures.mutators (c.run_all.ensures.long ∙ ap length same) c.requires.all
-    (λ k x y at now. c.run_all.ensures.ran k x y (ap (λ l. get_elem? l k) same ∙ at) now) in
-    subst (λ (ls : List Line). HaveRaced space ls before c.parted.result.mutators.items c.parted.result.runs.items) c.lines-lines.ensures.lines
-    (subst (λ (ms : List (Mutator g.row.L.Denot)). HaveRaced space c.lines-lines.result.now before ms c.parted.result.runs.items) (sym (c.parted.ensures.mutators ∙ ap (map mutator_of) back))
-    (subst (λ (rs : List Run). HaveRaced space c.lines-lines.result.now before (map mutator_of new) rs) (sym (c.parted.ensures.runs ∙ ap (map run_of) back)) raced))
-
 pub readied-runners-requires-clause-rooms : goal.readied-runners-requires-clause-rooms
 readied-runners-requires-clause-rooms g c = c.in-Ok-rooms.ensures.rooms.count ∙ ap length c.deref.ensures.value
 
@@ -48,16 +35,43 @@ readied-runners-requires-clause-empty g c =
     let v = c.in-Ok-with_capacity in
     (v.ensures.items, omega (arith, v.ensures.capacity, c.len.ensures, c.args.mutators.ok.0))
 
-pub parted-requires-clause-mutators : goal.parted-requires-clause-mutators
-parted-requires-clause-mutators g c =
+pub parted-after-requires-clause-mutators : goal.parted-after-requires-clause-mutators
+parted-after-requires-clause-mutators g c =
     let r = c.readied-runners in
     let v = c.in-Ok-with_capacity-2 in
     let count = written_count mutator_of r.result.len c.run_all.new.runners r.result.items c.args.mutators.items r.ensures.mutators (c.run_all.ensures.long ∙ ap length c.deref_mut.ensures.value) r.result.ok.0 in
     (v.ensures.items, omega (arith, count, v.ensures.capacity, c.len-2.ensures, c.args.mutators.ok.0))
 
-pub parted-requires-clause-runs : goal.parted-requires-clause-runs
-parted-requires-clause-runs g c =
+pub parted-after-requires-clause-runs : goal.parted-after-requires-clause-runs
+parted-after-requires-clause-runs g c =
     let r = c.readied-runners in
     let v = c.in-Ok-with_capacity-3 in
     let count = written_count mutator_of r.result.len c.run_all.new.runners r.result.items c.args.mutators.items r.ensures.mutators (c.run_all.ensures.long ∙ ap length c.deref_mut.ensures.value) r.result.ok.0 in
     (v.ensures.items, omega (arith, count, v.ensures.capacity, c.len-3.ensures, c.args.mutators.ok.0))
+
+pub meet_all-requires-after_bounds : goal.meet_all-requires-after_bounds
+meet_all-requires-after_bounds g c κs within =
+    let space = c.args.space.now in
+    let lines = lines_of c.args.trace.now in
+    let before = c.args.mutators.items in
+    let r = c.readied-runners in
+    let raced = c.parted-after.result in
+    let ran = have_run space c.lines-lines.result.now lines before r.result.len r.result.items c.deref_mut.result.now c.run_all.new.runners raced.mutators.items raced.runs.items c.lines-lines.ensures.lines r.ensures.mutators r.result.ok.0
+    c.deref_mut.ensures.value c.run_all.ensures.long c.requires.all c.run_all.ensures.ran c.parted-after.ensures.mutators c.parted-after.ensures.runs in
+    subst (AreAll space) (sym c.deref_mut-2.ensures.value) ran.all
+
+pub returns-clause-raced : goal.returns-clause-raced
+returns-clause-raced g c =
+    let space = c.args.space.now in
+    let lines = lines_of c.args.trace.now in
+    let before = c.args.mutators.items in
+    let r = c.readied-runners in
+    let raced = c.parted-after.result in
+    let e = c.meet_all.ensures in
+    let new = c.meet_all.new.mutators in
+    let ran = have_run space c.lines-lines.result.now lines before r.result.len r.result.items c.deref_mut.result.now c.run_all.new.runners raced.mutators.items raced.runs.items c.lines-lines.ensures.lines r.ensures.mutators r.result.ok.0
+    c.deref_mut.ensures.value c.run_all.ensures.long c.requires.all c.run_all.ensures.ran c.parted-after.ensures.mutators c.parted-after.ensures.runs in
+    let only = subst (λ (ms : List (Mutator g.row.L.Denot)). HaveOnlyMet ms new) c.deref_mut-2.ensures.value e.only in
+    let back = written_back raced.mutators.len new raced.mutators.items (omega (arith, only.count, raced.mutators.ok.0)) in
+    subst (λ (ms : List (Mutator g.row.L.Denot)). HaveRaced space lines before ms raced.runs.items) (sym back)
+    (met_after space lines before raced.mutators.items new raced.runs.items ran e.all e.met only)

@@ -1,4 +1,4 @@
-use Rattle.std.proofs.Common.{◌≡◌, ℕ, ◌<◌, ◌+◌, ◌++◌, ◌∷◌, [], true, List, length, get_or, take, take_all, drop, refl, sym, ap, subst, arith, ◌∙◌}
+use Rattle.std.proofs.Common.{◌≡◌, ℕ, ◌<◌, ◌+◌, ◌++◌, ◌∷◌, [], true, List, length, get_or, take, take_all, drop, Err, refl, sym, ap, subst, arith, ◌∙◌}
 use Rattle.std.proofs.lemmas.List.{take_more, length-take-le, length-replicate}
 use native.Mathlib.Decide.{ℕ_discrete}
 use mathlib.Core.Logic.{dite}
@@ -6,6 +6,7 @@ use Rattle.comp_mutator.specs.Passes.{HasSeenBuilt}
 use Rattle.comp_mutator.specs.Pass.{Pass}
 use Rattle.comp_mutator.proofs.Sums.{there_at}
 use Rattle.comp_mutator.specs.Mutators.{setup_of}
+use Rattle.comp_mutator.specs.Refusal.{Refusal}
 use Rattle.trace_steps.specs.Acting.{null_registers}
 use Rattle.trace_steps.specs.Builds.{is_built}
 use Rattle.trace_steps.specs.WrittenEntries.{written_by_each}
@@ -16,7 +17,7 @@ use Rattle.trace_text.specs.declared.line.Action.TheVariants.{Root}
 use Rattle.trace_text.specs.declared.line.Line.{Line}
 use Rattle.trace_steps.specs.declared.shown.Shown.{Shown}
 use Rattle.trace_steps.proofs.Elements.{at_or, written_back}
-use Rattle.trace_replay.proofs.Standing.{later_none, later_then, ran_to, refused_since, restand, seen_there, stands_first, start_same}
+use Rattle.trace_replay.proofs.Standing.{later_none, later_then, ran_to, refused_since, restand, seen_built_later, seen_there, stands_first, start_same}
 use Rattle.trace_replay.proofs.replaying.run_lines.Goals as goal
 
 -- a line that stands for none
@@ -80,6 +81,8 @@ returns-in-Err-clause-stopped g c = λ start have.
       built = since.1;
       seen = seen_there u start (written_by_each olds) (written_by_each c.loop-j.mutators) (take j lines) c.loop-j.registers.items c.loop-j.shown.items n news h.0 e.seen (e.later.count ∙ i.later.count)
           (λ k le. e.did.0 k (omega (arith, le, i.later.count))) h.1;
+      waited = λ p is. e.busy p (ap (λ (r : Refusal). Err r) is);
+      known = seen_built_later c.loop-j.mutators news h.0.built e.later h.3;
     }
 
 pub returns-in-Err-clause-started : goal.returns-in-Err-clause-started

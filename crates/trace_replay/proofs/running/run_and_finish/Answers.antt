@@ -54,4 +54,4 @@ returns-in-Err-clause-halted g c =
     let fit = lines_fit u trace.mutators trace.roots trace.lines.items c.requires.parsed.0 c.requires.parsed.1 c.lines.ensures.within in
     cut_over u before c.replay.new.mutators.items (lines_of trace) c.in-Err.stopped.shown.items c.in-Err.stopped.fault c.requires.compacted
     (none_done (steps_of (cells_of space)) u.mutators before c.requires.new)
-    (are_of space before (all_of space u.mutators before c.requires.of c.requires.new refl)) fit c.in-Err.ensures.stopped
+    (are_of space before (all_of space u.mutators before c.requires.of c.requires.new refl)) (are_of space c.replay.new.mutators.items c.replay.ensures.all) fit c.in-Err.ensures.stopped

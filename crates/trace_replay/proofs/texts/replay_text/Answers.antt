@@ -21,7 +21,8 @@ returns-in-Ok-clause-stopped g c =
     let u = setup_of c.args.space.now in
     let lines = c.in-Ok.trace.lines.items in
     IfErr-weaker c.replay.result _ _
-    (λ stopped h. inr (interrupts_of u c.args.mutators.now.items c.replay.new.mutators.items c.args.text.now lines stopped.shown.items stopped.fault (are_of c.args.space.now c.args.mutators.now.items c.requires.all) c.requires.new
+    (λ stopped h. inr (interrupts_of u c.args.mutators.now.items c.replay.new.mutators.items c.args.text.now lines stopped.shown.items stopped.fault (are_of c.args.space.now c.args.mutators.now.items c.requires.all)
+    (are_of c.args.space.now c.replay.new.mutators.items c.replay.ensures.all) c.requires.new
     (subst (λ (m : ℕ). trace_of m (length u.heap.roots) c.args.text.now ≡ Ok lines) c.requires.counts.0
     (subst (λ (r : ℕ). trace_of c.args.count r c.args.text.now ≡ Ok lines) c.requires.counts.1 c.in-Ok.ensures.lines)) h))
     c.replay.ensures.stopped

@@ -1,10 +1,10 @@
 use Rattle.std.proofs.Common.{get_or}
-use Rattle.std.proofs.lemmas.Result.{IfOk-weaker, on_err_weaker}
+use Rattle.std.proofs.lemmas.Result.{IfErr-at_err, IfOk-weaker, on_err_weaker}
 use Rattle.comp_mutator.specs.Mutators.{pass_of, setup_of, IsMutatorOf}
 use Rattle.trace_steps.specs.Rounds.{Learns}
 use Rattle.trace_steps.proofs.MadeObjects.{learns_by}
 use Rattle.trace_steps.proofs.MetPairs.{each_set}
-use Rattle.trace_steps.proofs.StepLists.{all_last, builds_last, err_with, has_start, later_last, nothing_done, ran_line, see_built_last, seen_last, was_turned_down}
+use Rattle.trace_steps.proofs.StepLists.{all_last, builds_last, err_with, has_start, later_last, never_waits, nothing_done, ran_line, see_built_last, seen_last, was_turned_down}
 use Rattle.trace_steps.proofs.stepping.step.Given as given
 use Rattle.trace_steps.proofs.stepping.step.Goals as goal
 
@@ -76,3 +76,9 @@ returns-clause-refused g c =
     c.requires.all c.requires.inside c.index-mutators-i.is c.meet_others.ensures.of c.meet_others.auto.mutators c.meet_others.ensures.met (learns g c) c.meet_others-2.ensures.of c.meet_others-2.auto.mutators c.meet_others-2.ensures.met
     c.args.action c.args.registers.now refusal same.0 h)
     c.act-answer.ensures.refused
+
+pub returns-clause-busy : goal.returns-clause-busy
+returns-clause-busy g c = λ p e.
+    never_waits c.args.space.now c.args.i c.args.mutators.now c.meet_others.new.mutators c.meet_others-2.new.mutators c.index-mutators-i.result c.act-answer.new.m
+    c.requires.all c.requires.inside c.index-mutators-i.is c.meet_others.ensures.of c.meet_others.auto.mutators c.meet_others.ensures.met (learns g c) c.meet_others-2.ensures.of c.meet_others-2.auto.mutators c.meet_others-2.ensures.met
+    c.args.action c.args.registers.now p (IfErr-at_err _ e c.act-answer.ensures.refused)
