@@ -13,5 +13,5 @@ pub of_heap : (P : Heap → Type 0) (heap : Heap) (known : Option (List ℕ)) �
 of_heap P heap known p image = of_image (λ other. other ≡ heap) P known (λ other same. subst P (sym same) p) image
 
 -- what holds of the heap that was read at a path
-pub at_heap : {W : Type 0} (disk : Disk W) (path : List ℕ) (heap : Heap) (P : Heap → Type 0) → IsHeapAt disk path heap → P heap → SomeHeapAt disk path P
+pub at_heap : {F W : Type 0} (disk : Disk F W) (path : List ℕ) (heap : Heap) (P : Heap → Type 0) → IsHeapAt disk path heap → P heap → SomeHeapAt disk path P
 at_heap disk path heap P image p = (image.0, image.1, of_heap P heap image.0 p image.2)

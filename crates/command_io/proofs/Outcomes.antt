@@ -3,7 +3,7 @@ use Rattle.std.proofs.Common.{◌≡◌, ℕ, List, Option, Result, Ok, Err, OnE
 use Rattle.std.proofs.KnownBytes.{Keeps-refl}
 use Rattle.heap_layout.specs.declared.edition.Edition.{Edition}
 use Rattle.comp_dump.specs.Dumped.{BuiltPage, Dumped}
-use Rattle.command_io.specs.Disk.{Disk}
+use Rattle.command_io.specs.Disk.{Disk, IsUnkept}
 use Rattle.command_io.specs.Dumps.{IsOfDumping, RefusedUncreated}
 use Rattle.command_io.specs.NewImages.{IsOfWritingImage, RefusedUnmade}
 use Rattle.command_io.specs.Printing.{CountsPrint, RefusedUnprinted}
@@ -27,7 +27,7 @@ uncounted_by old new (BadMarks line) same other = same
 uncounted_by old new OutOfMemory same other = same
 
 -- a refusal for the dump is not one for the output
-pub uncounted_dump : {W : Type 0} (disk : Disk W) (path bytes : List ℕ) (n : ℕ) (refusal : CommandRefusal) → IsOfDumping disk path bytes refusal → CountsPrint {T = Unit {0}} n n (Err refusal)
+pub uncounted_dump : {F W : Type 0} (disk : Disk F W) (path bytes : List ℕ) (n : ℕ) (refusal : CommandRefusal) → IsOfDumping disk path bytes refusal → CountsPrint {T = Unit {0}} n n (Err refusal)
 uncounted_dump disk path bytes n refusal h = uncounted_by n n refusal refl (λ e. subst (IsOfDumping disk path bytes) e h)
 
 -- what was not printed leaves the output as it was
@@ -46,84 +46,90 @@ unprinted before (NoSuchWord index) = Keeps-refl before
 unprinted before (BadMarks line) = Keeps-refl before
 unprinted before OutOfMemory = Keeps-refl before
 
--- what was refused before the dump created none
-pub uncreated : {F : Type 0} (files : F) (refusal : CommandRefusal) → RefusedUncreated {T = Unit {0}} files files (Err refusal)
-uncreated files (Layout fault) = refl
-uncreated files (Mutator refused) = refl
-uncreated files (Sweep fault) = refl
-uncreated files (Trace fault) = refl
-uncreated files (Dump fault) = tt
-uncreated files (Audit fault) = refl
-uncreated files (CannotOpen input) = refl
-uncreated files (CannotCreate output) = tt
-uncreated files (ReadFailed input) = refl
-uncreated files CannotPrint = tt
-uncreated files (NoSuchWord index) = refl
-uncreated files (BadMarks line) = refl
-uncreated files OutOfMemory = tt
+-- what was refused before a file was begun
+pub uncreated : {F W : Type 0} (disk : Disk F W) (files : F) (refusal : CommandRefusal) → RefusedUncreated {T = Unit {0}} disk files files (Err refusal)
+uncreated disk files (Layout fault) = refl
+uncreated disk files (Mutator refused) = refl
+uncreated disk files (Sweep fault) = refl
+uncreated disk files (Trace fault) = refl
+uncreated disk files (Dump fault) = inl refl
+uncreated disk files (Audit fault) = refl
+uncreated disk files (CannotOpen input) = refl
+uncreated disk files (CannotCreate output) = inl refl
+uncreated disk files (ReadFailed input) = refl
+uncreated disk files CannotPrint = tt
+uncreated disk files (NoSuchWord index) = refl
+uncreated disk files (BadMarks line) = refl
+uncreated disk files OutOfMemory = inl refl
 
--- a refusal for the dump is one that may leave one
-pub created : {W F : Type 0} (disk : Disk W) (path bytes : List ℕ) (before after : F) (refusal : CommandRefusal) → IsOfDumping disk path bytes refusal → RefusedUncreated {T = Unit {0}} before after (Err refusal)
-created disk path bytes before after (Layout fault) h = absurd h
-created disk path bytes before after (Mutator refused) h = absurd h
-created disk path bytes before after (Sweep fault) h = absurd h
-created disk path bytes before after (Trace fault) h = absurd h
-created disk path bytes before after (Dump fault) h = tt
-created disk path bytes before after (Audit fault) h = absurd h
-created disk path bytes before after (CannotOpen input) h = absurd h
-created disk path bytes before after (CannotCreate output) h = tt
-created disk path bytes before after (ReadFailed input) h = absurd h
-created disk path bytes before after CannotPrint h = tt
-created disk path bytes before after (NoSuchWord index) h = absurd h
-created disk path bytes before after (BadMarks line) h = absurd h
-created disk path bytes before after OutOfMemory h = tt
+-- a refusal for the dump, which was not kept
+pub uncreated_by : {F W : Type 0} (disk : Disk F W) (path bytes : List ℕ) (from to : F) (refusal : CommandRefusal) → IsUnkept disk from to → IsOfDumping disk path bytes refusal
+    → RefusedUncreated {T = Unit {0}} disk from to (Err refusal)
+uncreated_by disk path bytes from to (Layout fault) unkept h = absurd h
+uncreated_by disk path bytes from to (Mutator refused) unkept h = absurd h
+uncreated_by disk path bytes from to (Sweep fault) unkept h = absurd h
+uncreated_by disk path bytes from to (Trace fault) unkept h = absurd h
+uncreated_by disk path bytes from to (Dump fault) unkept h = unkept
+uncreated_by disk path bytes from to (Audit fault) unkept h = absurd h
+uncreated_by disk path bytes from to (CannotOpen input) unkept h = absurd h
+uncreated_by disk path bytes from to (CannotCreate output) unkept h = unkept
+uncreated_by disk path bytes from to (ReadFailed input) unkept h = absurd h
+uncreated_by disk path bytes from to CannotPrint unkept h = tt
+uncreated_by disk path bytes from to (NoSuchWord index) unkept h = absurd h
+uncreated_by disk path bytes from to (BadMarks line) unkept h = absurd h
+uncreated_by disk path bytes from to OutOfMemory unkept h = unkept
 
-pub created_line : {F : Type 0} (before after : F) (result : Result (Unit {0}) CommandRefusal) → OnErr result (result ≡ Err CannotPrint) → RefusedUncreated before after result
-created_line before after (Ok _) h = tt
-created_line before after (Err refusal) h =
+-- a call of the output failed
+pub created_line : {F W : Type 0} (disk : Disk F W) (from to : F) (result : Result (Unit {0}) CommandRefusal) → OnErr result (result ≡ Err CannotPrint) → RefusedUncreated disk from to result
+created_line disk from to (Ok _) h = tt
+created_line disk from to (Err refusal) h =
     let is : refusal ≡ CannotPrint = cc in
-    subst (λ (r : CommandRefusal). RefusedUncreated {T = Unit {0}} before after (Err r)) (sym is) tt
+    subst (λ (r : CommandRefusal). RefusedUncreated {T = Unit {0}} disk from to (Err r)) (sym is) tt
 
--- what was refused before the new image created none
-pub unmade : {F : Type 0} (files : F) (refusal : CommandRefusal) → RefusedUnmade {T = Unit {0}} files files (Err refusal)
-unmade files (Layout fault) = inr refl
-unmade files (Mutator refused) = refl
-unmade files (Sweep fault) = refl
-unmade files (Trace fault) = refl
-unmade files (Dump fault) = refl
-unmade files (Audit fault) = refl
-unmade files (CannotOpen input) = refl
-unmade files (CannotCreate output) = tt
-unmade files (ReadFailed input) = refl
-unmade files CannotPrint = tt
-unmade files (NoSuchWord index) = refl
-unmade files (BadMarks line) = refl
-unmade files OutOfMemory = tt
+-- a refused dump is refused as a new image may be
+pub unmade_too : {F W : Type 0} (disk : Disk F W) (from to : F) (result : Result (Unit {0}) CommandRefusal) → RefusedUncreated disk from to result → RefusedUnmade disk from to result
+unmade_too disk from to (Ok _) h = tt
+unmade_too disk from to (Err (Layout fault)) h = inl h
+unmade_too disk from to (Err (Mutator refused)) h = h
+unmade_too disk from to (Err (Sweep fault)) h = h
+unmade_too disk from to (Err (Trace fault)) h = h
+unmade_too disk from to (Err (Dump fault)) h = h
+unmade_too disk from to (Err (Audit fault)) h = h
+unmade_too disk from to (Err (CannotOpen input)) h = h
+unmade_too disk from to (Err (CannotCreate output)) h = h
+unmade_too disk from to (Err (ReadFailed input)) h = h
+unmade_too disk from to (Err CannotPrint) h = tt
+unmade_too disk from to (Err (NoSuchWord index)) h = h
+unmade_too disk from to (Err (BadMarks line)) h = h
+unmade_too disk from to (Err OutOfMemory) h = h
 
--- a refusal for the new image is one that may leave one
-pub image_created : {W F : Type 0} (disk : Disk W) (path bytes : List ℕ) (before after : F) (refusal : CommandRefusal) → IsOfWritingImage disk path bytes refusal → RefusedUnmade {T = Unit {0}} before after (Err refusal)
-image_created disk path bytes before after (Layout fault) h = inl h.0
-image_created disk path bytes before after (Mutator refused) h = absurd h
-image_created disk path bytes before after (Sweep fault) h = absurd h
-image_created disk path bytes before after (Trace fault) h = absurd h
-image_created disk path bytes before after (Dump fault) h = absurd h
-image_created disk path bytes before after (Audit fault) h = absurd h
-image_created disk path bytes before after (CannotOpen input) h = absurd h
-image_created disk path bytes before after (CannotCreate output) h = tt
-image_created disk path bytes before after (ReadFailed input) h = absurd h
-image_created disk path bytes before after CannotPrint h = tt
-image_created disk path bytes before after (NoSuchWord index) h = absurd h
-image_created disk path bytes before after (BadMarks line) h = absurd h
-image_created disk path bytes before after OutOfMemory h = tt
+-- what was refused before a new image was begun
+pub unmade : {F W : Type 0} (disk : Disk F W) (files : F) (refusal : CommandRefusal) → RefusedUnmade {T = Unit {0}} disk files files (Err refusal)
+unmade disk files refusal = unmade_too disk files files (Err refusal) (uncreated disk files refusal)
 
-pub image_created_line : {F : Type 0} (before after : F) (result : Result (Unit {0}) CommandRefusal) → OnErr result (result ≡ Err CannotPrint) → RefusedUnmade before after result
-image_created_line before after (Ok _) h = tt
-image_created_line before after (Err refusal) h =
-    let is : refusal ≡ CannotPrint = cc in
-    subst (λ (r : CommandRefusal). RefusedUnmade {T = Unit {0}} before after (Err r)) (sym is) tt
+-- a refusal for the new image, which was not kept
+pub unmade_by : {F W : Type 0} (disk : Disk F W) (path bytes : List ℕ) (from to : F) (refusal : CommandRefusal) → IsUnkept disk from to → IsOfWritingImage disk path bytes refusal
+    → RefusedUnmade {T = Unit {0}} disk from to (Err refusal)
+unmade_by disk path bytes from to (Layout fault) unkept h = inr (h.0, unkept)
+unmade_by disk path bytes from to (Mutator refused) unkept h = absurd h
+unmade_by disk path bytes from to (Sweep fault) unkept h = absurd h
+unmade_by disk path bytes from to (Trace fault) unkept h = absurd h
+unmade_by disk path bytes from to (Dump fault) unkept h = absurd h
+unmade_by disk path bytes from to (Audit fault) unkept h = absurd h
+unmade_by disk path bytes from to (CannotOpen input) unkept h = absurd h
+unmade_by disk path bytes from to (CannotCreate output) unkept h = unkept
+unmade_by disk path bytes from to (ReadFailed input) unkept h = absurd h
+unmade_by disk path bytes from to CannotPrint unkept h = tt
+unmade_by disk path bytes from to (NoSuchWord index) unkept h = absurd h
+unmade_by disk path bytes from to (BadMarks line) unkept h = absurd h
+unmade_by disk path bytes from to OutOfMemory unkept h = unkept
 
--- and counts no failed call of the output
-pub uncounted_image : {W : Type 0} (disk : Disk W) (path bytes : List ℕ) (n : ℕ) (refusal : CommandRefusal) → IsOfWritingImage disk path bytes refusal → CountsPrint {T = Unit {0}} n n (Err refusal)
+-- a call of the output failed
+pub unmade_line : {F W : Type 0} (disk : Disk F W) (from to : F) (result : Result (Unit {0}) CommandRefusal) → OnErr result (result ≡ Err CannotPrint) → RefusedUnmade disk from to result
+unmade_line disk from to result h = unmade_too disk from to result (created_line disk from to result h)
+
+-- a refusal for the new image is not one for the output
+pub uncounted_image : {F W : Type 0} (disk : Disk F W) (path bytes : List ℕ) (n : ℕ) (refusal : CommandRefusal) → IsOfWritingImage disk path bytes refusal → CountsPrint {T = Unit {0}} n n (Err refusal)
 uncounted_image disk path bytes n refusal h = uncounted_by n n refusal refl (λ e. subst (IsOfWritingImage disk path bytes) e h)
 
 -- dumps that have the same parts are the same

@@ -26,7 +26,7 @@ unflushed a b c bytes taken kept = record {
 }
 
 -- What some writer that a path gives took, if the count began around it.
-module _ {W : Type 0} (disk : Disk W) (contents : W → Option (List ℕ)) (same : (w : W) → disk.contents w ≡ contents w) (output : Output) (path bytes : List ℕ)
+module _ {F W : Type 0} (disk : Disk F W) (contents : W → Option (List ℕ)) (same : (w : W) → disk.contents w ≡ contents w) (output : Output) (path bytes : List ℕ)
     (made : W) (old new : Counted W) (given : disk.makes output path made) (inner : inner_of old ≡ made) (none : failures_of old ≡ 0) where
   -- what the writer's own contract says of what it took
   own : (P : Option (List ℕ) → Option (List ℕ) → Type 0) → P (contents (inner_of old)) (contents (inner_of new)) → P (disk.contents made) (disk.contents (inner_of new))
@@ -34,14 +34,16 @@ module _ {W : Type 0} (disk : Disk W) (contents : W → Option (List ℕ)) (same
       (subst (λ (known : Option (List ℕ)). P known (disk.contents (inner_of new))) (sym (same (inner_of old)))
       (subst (λ (known : Option (List ℕ)). P (contents (inner_of old)) known) (sym (same (inner_of new))) h))
 
-  pub whole : Appends (contents (inner_of old)) (contents (inner_of new)) bytes → failures_of new ≡ failures_of old → is_flushed_of new ≡ true → WritesWhole disk output path bytes
-  whole appended counts flushed = record {
+  pub whole : Appends (contents (inner_of old)) (contents (inner_of new)) bytes → failures_of new ≡ failures_of old → is_flushed_of new ≡ true
+      → (taken : W) → taken ≡ inner_of new → (to : F) → disk.puts output path taken to → WritesWhole disk output path bytes to
+  whole appended counts flushed taken is to kept = record {
     made = made;
     given = given;
     written = new;
     appended = own (λ before after. Appends before after bytes) appended;
     flushed = flushed;
     none_failed = counts ∙ none;
+    kept = subst (λ (w : W). disk.puts output path w to) is kept;
   }
 
   pub beginning : AppendsSome (contents (inner_of old)) (contents (inner_of new)) bytes → failures_of new ≡ failures_of old + 1 → WritesBeginning disk output path bytes
@@ -53,7 +55,7 @@ module _ {W : Type 0} (disk : Disk W) (contents : W → Option (List ℕ)) (same
     failed = omega (arith, counts, none);
   }
 
-module _ {W : Type 0} (disk : Disk W) (contents : W → Option (List ℕ)) (same : (w : W) → disk.contents w ≡ contents w) (path bytes : List ℕ) (made : W) (old new : Counted W)
+module _ {F W : Type 0} (disk : Disk F W) (contents : W → Option (List ℕ)) (same : (w : W) → disk.contents w ≡ contents w) (path bytes : List ℕ) (made : W) (old new : Counted W)
     (inner : inner_of old ≡ made) (none : failures_of old ≡ 0) where
   pub cut_off : disk.makes outputs.Dump path made → (fault : DumpFault) → fault ≡ Device → AppendsSome (contents (inner_of old)) (contents (inner_of new)) bytes
       → CountsFailure {T = Unit {0}} (failures_of old) (failures_of new) (Err fault) → IsOfDumping disk path bytes (Dump fault)

@@ -1,5 +1,5 @@
 -- What is known of the files that a command reads and makes.
-use Rattle.std.specs.Prelude.{◌≡◌, ℕ, List, Option, None, true}
+use Rattle.std.specs.Prelude.{◌≡◌, ◌⊎◌, ℕ, List, Option, None, true}
 use Rattle.std.specs.Io.KnownBytes.{Appends}
 use Rattle.heap_layout.specs.Counted.{failures_of, inner_of, is_flushed_of}
 use Rattle.heap_layout.specs.declared.counted.Counted.{Counted}
@@ -9,8 +9,8 @@ use Rattle.command_io.specs.declared.refusal.Output.{Output}
 use Rattle.command_io.specs.declared.refusal.CommandRefusal.{CommandRefusal}
 use Rattle.command_io.specs.declared.refusal.CommandRefusal.TheVariants.{CannotCreate, CannotOpen, OutOfMemory}
 
--- What is known of files of each kind, by their paths. Their writers are of the type W.
-pub record Disk (W : Type 0) : Type 1 where
+-- What is known of files of each kind, by their paths. The files are of the type F, and their writers of the type W.
+pub record Disk (F W : Type 0) : Type 1 where
   -- a file that can be read at this path has these bytes, if they are known
   pub holds : Input → List ℕ → Option (List ℕ) → Type 0
   -- no file can be opened at this path
@@ -21,19 +21,26 @@ pub record Disk (W : Type 0) : Type 1 where
   pub bars : Output → List ℕ → Type 0
   -- what a writer has taken, if it is known
   pub contents : W → Option (List ℕ)
+  -- these are the files once a file was begun that is not kept yet
+  pub begins : F → Type 0
+  -- these are the files once what this writer has taken is kept at this path
+  pub puts : Output → List ℕ → W → F → Type 0
 
--- files of which nothing is known: anything may be read at a path, any writer may be given, and any path may give none
-abbrev pub unknown : {W : Type 0} → Disk W
+-- files of which nothing is known: anything may be read at a path, any writer may be given, any path may give none, and
+-- a file that is begun or kept may change anything
+abbrev pub unknown : {F W : Type 0} → Disk F W
 unknown = record {
   holds = λ _ _ _. Unit {0};
   lacks = λ _ _. Unit {0};
   makes = λ _ _ _. Unit {0};
   bars = λ _ _. Unit {0};
   contents = λ _. None;
+  begins = λ _. Unit {0};
+  puts = λ _ _ _ _. Unit {0};
 }
 
 -- P holds of the bytes of some file that can be read at the path
-abbrev pub SomeFile : {W : Type 0} → Disk W → Input → List ℕ → (Option (List ℕ) → Type 0) → Type 0
+abbrev pub SomeFile : {F W : Type 0} → Disk F W → Input → List ℕ → (Option (List ℕ) → Type 0) → Type 0
 SomeFile disk input path P = (known : Option (List ℕ)) × disk.holds input path known × P known
 
 -- why this file could not be opened: there is none, as `lacks` says, or memory ran out
@@ -48,19 +55,25 @@ IsOfCreating output bars (CannotCreate named) = (named ≡ output) × bars
 IsOfCreating output bars OutOfMemory = Unit {0}
 IsOfCreating output bars _ = ⊥
 
--- some writer that the path gives took all these bytes, no call of it failed, and it was flushed at the end
-pub record WritesWhole {W : Type 0} (disk : Disk W) (output : Output) (path bytes : List ℕ) : Type 0 where
+-- some writer that the path gives took all these bytes, no call of it failed, and it was flushed at the end; what it took
+-- was kept at the path, and these are the files since
+pub record WritesWhole {F W : Type 0} (disk : Disk F W) (output : Output) (path bytes : List ℕ) (to : F) : Type 0 where
   pub made : W
   pub given : disk.makes output path made
   pub written : Counted W
   pub appended : Appends (disk.contents made) (disk.contents (inner_of written)) bytes
   pub flushed : is_flushed_of written ≡ true
   pub none_failed : failures_of written ≡ 0
+  pub kept : disk.puts output path (inner_of written) to
 
 -- some writer that the path gives took a beginning of these bytes, and then one call of it failed
-pub record WritesBeginning {W : Type 0} (disk : Disk W) (output : Output) (path bytes : List ℕ) : Type 0 where
+pub record WritesBeginning {F W : Type 0} (disk : Disk F W) (output : Output) (path bytes : List ℕ) : Type 0 where
   pub made : W
   pub given : disk.makes output path made
   pub written : Counted W
   pub appended : AppendsSome (disk.contents made) (disk.contents (inner_of written)) bytes
   pub failed : failures_of written ≡ 1
+
+-- no file was begun, or one was begun and not kept: `from` are the files before, of which `disk` says what is known
+abbrev pub IsUnkept : {F W : Type 0} → Disk F W → F → F → Type 0
+IsUnkept disk from to = (to ≡ from) ⊎ disk.begins to

@@ -17,16 +17,16 @@ abbrev pub IsImageOf : (Heap → Type 0) → Option (List ℕ) → Type 0
 IsImageOf P known = SomeHeap (λ heap. IfSome known (λ bytes. bytes ≡ encoding heap) × P heap)
 
 -- P holds of the heap of some image that can be read at the path
-abbrev pub SomeHeapAt : {W : Type 0} → Disk W → List ℕ → (Heap → Type 0) → Type 0
+abbrev pub SomeHeapAt : {F W : Type 0} → Disk F W → List ℕ → (Heap → Type 0) → Type 0
 SomeHeapAt disk path P = SomeFile disk Image path (IsImageOf P)
 
 -- this heap is that of some image that can be read at the path
-abbrev pub IsHeapAt : {W : Type 0} → Disk W → List ℕ → Heap → Type 0
+abbrev pub IsHeapAt : {F W : Type 0} → Disk F W → List ℕ → Heap → Type 0
 IsHeapAt disk path heap = SomeHeapAt disk path (λ other. other ≡ heap)
 
 -- why a task on an image is refused: there is none at the path; or memory ran out; or P gives the reason, by the bytes
 -- of some image that can be read at the path
-abbrev pub RefusesAt : {W : Type 0} → Disk W → List ℕ → (CommandRefusal → Option (List ℕ) → Type 0) → CommandRefusal → Type 0
+abbrev pub RefusesAt : {F W : Type 0} → Disk F W → List ℕ → (CommandRefusal → Option (List ℕ) → Type 0) → CommandRefusal → Type 0
 RefusesAt disk path P (CannotOpen Image) = disk.lacks Image path
 RefusesAt disk path P OutOfMemory = Unit {0}
 RefusesAt disk path P refusal = SomeFile disk Image path (P refusal)

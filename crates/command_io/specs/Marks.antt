@@ -12,7 +12,7 @@ abbrev pub AreMarksOf : List ℕ → Option (List ℕ) → Type 0
 AreMarksOf marks known = SomeText (λ text. marks_of text ≡ Ok marks) known
 
 -- some marks that can be read at the path are these
-abbrev pub AreMarksAt : {W : Type 0} → Disk W → List ℕ → List ℕ → Type 0
+abbrev pub AreMarksAt : {F W : Type 0} → Disk F W → List ℕ → List ℕ → Type 0
 AreMarksAt disk path marks = SomeFile disk inputs.Marks path (AreMarksOf marks)
 
 -- why there are no marks: a call of the reader failed, which `CountsText` counts; or this line is the first that is no
@@ -25,7 +25,7 @@ RefusesMarksText _ known = ⊥
 
 -- the same for a path: there are no marks at it, or memory ran out, or the text of some marks that can be read there is
 -- refused
-abbrev pub RefusesMarksAt : {W : Type 0} → Disk W → List ℕ → CommandRefusal → Type 0
+abbrev pub RefusesMarksAt : {F W : Type 0} → Disk F W → List ℕ → CommandRefusal → Type 0
 RefusesMarksAt disk path (CannotOpen inputs.Marks) = disk.lacks inputs.Marks path
 RefusesMarksAt disk path OutOfMemory = Unit {0}
 RefusesMarksAt disk path refusal = SomeFile disk inputs.Marks path (RefusesMarksText refusal)

@@ -28,16 +28,16 @@ RefusesText mutators roots (Trace fault) known = SomeText (λ text. IsReadAs {A 
 RefusesText mutators roots _ known = ⊥
 
 -- P holds of the text of some trace that can be read at the path
-abbrev pub SomeTextAt : {W : Type 0} → Disk W → List ℕ → (List ℕ → Type 0) → Type 0
+abbrev pub SomeTextAt : {F W : Type 0} → Disk F W → List ℕ → (List ℕ → Type 0) → Type 0
 SomeTextAt disk path P = SomeFile disk inputs.Trace path (SomeText P)
 
 -- some trace that can be read at the path has these lines
-abbrev pub HasLinesAt : {W : Type 0} → Disk W → List ℕ → ℕ → ℕ → List Line → Type 0
+abbrev pub HasLinesAt : {F W : Type 0} → Disk F W → List ℕ → ℕ → ℕ → List Line → Type 0
 HasLinesAt disk path mutators roots lines = SomeFile disk inputs.Trace path (IsTextOf mutators roots lines)
 
 -- why there is no trace: there is none at the path, or memory ran out, or the text of some trace that can be read there
 -- is refused
-abbrev pub RefusesTextAt : {W : Type 0} → Disk W → List ℕ → ℕ → ℕ → CommandRefusal → Type 0
+abbrev pub RefusesTextAt : {F W : Type 0} → Disk F W → List ℕ → ℕ → ℕ → CommandRefusal → Type 0
 RefusesTextAt disk path mutators roots (CannotOpen inputs.Trace) = disk.lacks inputs.Trace path
 RefusesTextAt disk path mutators roots OutOfMemory = Unit {0}
 RefusesTextAt disk path mutators roots refusal = SomeFile disk inputs.Trace path (RefusesText mutators roots refusal)

@@ -1,11 +1,11 @@
 //! Writes dumps.
-ghost use Rattle.std.specs.Prelude.{◌≡◌, ◌-◌, ◌^◌, ◌<◌, true, IfErr, OnOk};
+ghost use Rattle.std.specs.Prelude.{◌≡◌, ◌-◌, ◌^◌, ◌<◌, true, IfErr, OnErr, OnOk};
 ghost use Rattle.heap_layout.specs.Counted.{inner_of, failures_of, is_flushed_of};
 ghost use Rattle.comp_dump.specs.DumpEncoding.{dump_bytes};
 ghost use Rattle.comp_dump.specs.DumpReading.{CountsFailure};
 ghost use Rattle.heap_layout.specs.Writing.{Writes};
 ghost use Rattle.comp_dump.specs.declared.fault.DumpFault.TheVariants as fault;
-ghost use Rattle.command_io.specs.Disk.{WritesWhole};
+ghost use Rattle.command_io.specs.Disk.{IsUnkept, WritesWhole};
 ghost use Rattle.command_io.specs.Dumps.{IsOfDumping};
 ghost use Rattle.command_io.specs.declared.refusal.Output.TheVariants as outputs;
 
@@ -15,17 +15,20 @@ use comp_dump::{Dump, DumpFault, write_dump};
 use heap_layout::Counted;
 use std::io::Write;
 
-/// Writes a dump to a path. If a call of its writer fails, the writer has taken a beginning of the dump.
+/// Writes a dump to a path, and keeps it there. If a call of its writer fails, the writer has taken a beginning of the
+/// dump. A refused call keeps nothing: at most a file was begun.
 pub fn write_dump_to<F: Files>(
     files: &mut F,
     path: &str,
     dump: &Dump<'_>,
 ) -> Result<(), CommandRefusal>
-    ensures written { OnOk result (WritesWhole (F.disk files.old) outputs.Dump path.now (dump_bytes dump.now)) }
+    ensures written { OnOk result (WritesWhole (F.disk files.old) outputs.Dump path.now (dump_bytes dump.now) files.new) }
+    ensures unkept { OnErr result (IsUnkept (F.disk files.old) files.old files.new) }
     ensures cause { IfErr result (IsOfDumping (F.disk files.old) path.now (dump_bytes dump.now)) }
 {
     let mut w = Counted::new(files.create(Output::Dump, path)?);
     write_flushed(dump, &mut w)?;
+    files.keep(Output::Dump, path, w.into_inner())?;
     Ok(())
 }
 

@@ -4,6 +4,7 @@
 mod dumps;
 mod images;
 mod marks;
+mod memory;
 mod new_images;
 mod opening;
 mod output_files;
@@ -15,6 +16,7 @@ mod traces;
 pub use dumps::write_dump_to;
 pub use images::heap_at;
 pub use marks::marks_at;
+pub use memory::{MemoryFile, MemoryFiles, written_is_there};
 pub use new_images::write_image_to;
 pub use opening::{Files, RuntimeFiles};
 pub use output_files::OutputFile;

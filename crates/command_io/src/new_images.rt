@@ -1,10 +1,10 @@
 //! Writes new images.
-ghost use Rattle.std.specs.Prelude.{◌≡◌, true, IfErr, OnOk};
+ghost use Rattle.std.specs.Prelude.{◌≡◌, true, IfErr, OnErr, OnOk};
 ghost use Rattle.heap_layout.specs.Counted.{inner_of, failures_of, is_flushed_of};
 ghost use Rattle.heap_layout.specs.Encoding.{encoding};
 ghost use Rattle.heap_layout.specs.Writing.{Writes, CountsOne};
 ghost use Rattle.heap_layout.specs.declared.fault.LayoutFault.TheVariants as fault;
-ghost use Rattle.command_io.specs.Disk.{WritesWhole};
+ghost use Rattle.command_io.specs.Disk.{IsUnkept, WritesWhole};
 ghost use Rattle.command_io.specs.NewImages.{IsOfWritingImage};
 ghost use Rattle.command_io.specs.declared.refusal.Output.TheVariants as outputs;
 
@@ -13,17 +13,20 @@ use crate::refusal::{CommandRefusal, Output};
 use heap_layout::{Counted, LayoutFault, MarkedHeap, write_image};
 use std::io::Write;
 
-/// Writes the image of a heap to a path. If a call of its writer fails, the writer has taken a beginning of the image.
+/// Writes the image of a heap to a path, and keeps it there. If a call of its writer fails, the writer has taken a
+/// beginning of the image. A refused call keeps nothing: at most a file was begun.
 pub fn write_image_to<F: Files>(
     files: &mut F,
     path: &str,
     heap: &MarkedHeap,
 ) -> Result<(), CommandRefusal>
-    ensures written { OnOk result (WritesWhole (F.disk files.old) outputs.New path.now (encoding heap.now)) }
+    ensures written { OnOk result (WritesWhole (F.disk files.old) outputs.New path.now (encoding heap.now) files.new) }
+    ensures unkept { OnErr result (IsUnkept (F.disk files.old) files.old files.new) }
     ensures cause { IfErr result (IsOfWritingImage (F.disk files.old) path.now (encoding heap.now)) }
 {
     let mut w = Counted::new(files.create(Output::New, path)?);
     write_flushed(heap, &mut w)?;
+    files.keep(Output::New, path, w.into_inner())?;
     Ok(())
 }
 

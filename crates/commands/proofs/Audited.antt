@@ -15,7 +15,7 @@ use Rattle.command_io.specs.declared.refusal.CommandRefusal.{CommandRefusal}
 use Rattle.command_io.specs.declared.refusal.CommandRefusal.TheVariants.{CannotPrint}
 use Rattle.command_io.proofs.Imaged.{of_image}
 
-module _ {W : Type 0} (disk : Disk W) (image path : List ℕ) where
+module _ {F W : Type 0} (disk : Disk F W) (image path : List ℕ) where
   -- what holds of the heap and of the dump that were read holds of those of the files
   pub of_both : (heap : Heap) → IsHeapAt disk image heap → (dump : Dumped) → IsDumpAt disk path dump → (P : Heap → Dumped → Type 0) → P heap dump → SomeAudit disk image path P
   of_both heap found dump file P p =

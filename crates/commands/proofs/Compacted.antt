@@ -39,9 +39,9 @@ module _ (workers : ℕ) (f : Finished) (dump : Dumped) (parts : IsDumpOf worker
       dump.pages (slid_records (live heap)) dump.builds (builds_in f)
       (parts.edition ∙ h.edition) parts.mutators parts.fresh (parts.roots ∙ h.roots) (parts.pages ∙ h.pages) parts.builds (parts.total ∙ h.total)
 
-  module _ {W : Type 0} (disk : Disk W) (path : List ℕ) where
-    pub dumps : WritesWhole disk outputs.Dump path (dump_bytes dump) → DumpsHeap disk path workers heap
-    dumps w = (builds_in f, h.builds, subst (λ (d : Dumped). WritesWhole disk outputs.Dump path (dump_bytes d)) same_dump w)
+  module _ {F W : Type 0} (disk : Disk F W) (path : List ℕ) where
+    pub dumps : (to : F) → WritesWhole disk outputs.Dump path (dump_bytes dump) to → DumpsHeap disk path workers to heap
+    dumps to w = (builds_in f, h.builds, subst (λ (d : Dumped). WritesWhole disk outputs.Dump path (dump_bytes d) to) same_dump w)
 
     pub begins : WritesBeginning disk outputs.Dump path (dump_bytes dump) → BeginsDump disk path workers heap
     begins w = (builds_in f, h.builds, subst (λ (d : Dumped). WritesBeginning disk outputs.Dump path (dump_bytes d)) same_dump w)
@@ -50,9 +50,9 @@ module _ (workers : ℕ) (f : Finished) (dump : Dumped) (parts : IsDumpOf worker
   same_total = parts.total ∙ h.total
 
 -- The refusals of a compaction, from those of its parts.
-module _ {W : Type 0} (disk : Disk W) (image path : List ℕ) (workers : ℕ) where
+module _ {F W : Type 0} (disk : Disk F W) (image path : List ℕ) (workers : ℕ) (to : F) where
   abbrev pub Refuses : CommandRefusal → Type 0
-  Refuses refusal = RefusesAt disk image (RefusesCompact disk path workers) refusal
+  Refuses refusal = RefusesAt disk image (RefusesCompact disk path workers to) refusal
 
   -- the heap was not swept
   pub of_sweep : (refusal : CommandRefusal) → RefusesAt disk image RefusesSweep refusal → Refuses refusal
@@ -95,10 +95,10 @@ module _ {W : Type 0} (disk : Disk W) (image path : List ℕ) (workers : ℕ) wh
     of_dumping (BadMarks line) h = absurd h
     of_dumping OutOfMemory h = tt
 
-    module _ (whole : WritesWhole disk outputs.Dump path (dump_bytes dump)) where
+    module _ (whole : WritesWhole disk outputs.Dump path (dump_bytes dump) to) where
       -- its line was not printed
       of_printing : Refuses CannotPrint
-      of_printing = (swept.0, swept.1, of_image (IsSweptHeap workers f) (DumpsHeap disk path workers) swept.0 (λ heap s. dumps workers f dump parts heap s disk path whole) swept.2)
+      of_printing = (swept.0, swept.1, of_image (IsSweptHeap workers f) (DumpsHeap disk path workers to) swept.0 (λ heap s. dumps workers f dump parts heap s disk path to whole) swept.2)
 
       pub of_line : (result : Result (Unit {0}) CommandRefusal) → OnErr result (result ≡ Err CannotPrint) → IfErr result Refuses
       of_line (Ok _) h = tt
@@ -106,16 +106,16 @@ module _ {W : Type 0} (disk : Disk W) (image path : List ℕ) (workers : ℕ) wh
 
       -- its line was printed
       pub of_all : (before after : Option (List ℕ)) (n : ℕ) → n ≡ dump.total → Appends before after (named (codes "live ") n)
-          → SomeHeapAt disk image (Compacts disk path workers before after)
+          → SomeHeapAt disk image (Compacts disk path workers to before after)
       of_all before after n is line = (
         swept.0,
         swept.1,
-        of_image (IsSweptHeap workers f) (Compacts disk path workers before after) swept.0 (λ heap s. record {
-          dump = dumps workers f dump parts heap s disk path whole;
+        of_image (IsSweptHeap workers f) (Compacts disk path workers to before after) swept.0 (λ heap s. record {
+          dump = dumps workers f dump parts heap s disk path to whole;
           line = subst (λ (m : ℕ). Appends before after (named (codes "live ") m)) (is ∙ same_total workers f dump parts heap s) line;
         }) swept.2,
       )
 
 -- a refusal to sweep is none of the output
-pub uncounted : {W : Type 0} (disk : Disk W) (image : List ℕ) (n : ℕ) (refusal : CommandRefusal) → RefusesAt disk image RefusesSweep refusal → CountsPrint {T = Unit {0}} n n (Err refusal)
+pub uncounted : {F W : Type 0} (disk : Disk F W) (image : List ℕ) (n : ℕ) (refusal : CommandRefusal) → RefusesAt disk image RefusesSweep refusal → CountsPrint {T = Unit {0}} n n (Err refusal)
 uncounted disk image n refusal h = uncounted_by n n refusal refl (λ e. (subst (RefusesAt disk image RefusesSweep) e h).2)

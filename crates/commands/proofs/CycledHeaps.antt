@@ -1,6 +1,7 @@
 -- A heap over which a trace was run, and the next heap.
-use Rattle.std.proofs.Common.{◌≡◌, ℕ, List, [], refl, subst, ◌∙◌}
-use Rattle.heap_layout.specs.Heap.{Heap}
+use Rattle.std.proofs.Common.{◌≡◌, ℕ, List, [], refl, subst, sym, ◌∙◌}
+use Rattle.heap_layout.specs.Faults.{IsAccepted}
+use Rattle.heap_layout.specs.Heap.{Heap, IsStored}
 use Rattle.comp_mutator.specs.Cycles.{heap_after, IsCycleOf}
 use Rattle.comp_mutator.specs.Ends.{cycle_of}
 use Rattle.comp_mutator.specs.Finished.{Finished}
@@ -17,9 +18,10 @@ use Rattle.commands.specs.Cycled.{IsChapterOf, IsCycledHeap, IsNextHeap, IsUncyc
 
 -- the heap that follows, of what the plan was made for
 pub next_heap_of : (now heap : Heap) (f : Finished) (marks : List ℕ) (made next : Heap) → now ≡ heap → next ≡ made → IsCycleOf now (cycle_of now f marks) → IsChapterOf now (cycle_of now f marks)
-    → made ≡ heap_after (cycle_of now f marks) → IsNextHeap heap f marks next
-next_heap_of now heap f marks made next same is cycle chapter after =
-    subst (λ (h : Heap). IsNextHeap h f marks next) same (record { cycle = cycle; chapter = chapter; next_is = is ∙ after })
+    → made ≡ heap_after (cycle_of now f marks) → IsStored made → IsAccepted made → IsNextHeap heap f marks next
+next_heap_of now heap f marks made next same is cycle chapter after stored accepted =
+    subst (λ (h : Heap). IsNextHeap h f marks next) same
+    (record { cycle = cycle; chapter = chapter; next_is = is ∙ after; stored = subst IsStored (sym is) stored; accepted = subst IsAccepted (sym is) accepted })
 
 module _ (mutators fresh : ℕ) (lines : List Line) (marks : List ℕ) (heap : Heap) where
   -- the lines ran, and the marks were accepted
@@ -29,6 +31,8 @@ module _ (mutators fresh : ℕ) (lines : List Line) (marks : List ℕ) (heap : H
     part = record { run = marked mutators fresh lines shown heap f marks run.run; cycle = h.cycle; marks_are = refl };
     chapter = h.chapter;
     next_is = h.next_is;
+    stored = h.stored;
+    accepted = h.accepted;
   }
 
   -- the lines ran, and the marks were refused

@@ -8,50 +8,45 @@ use Rattle.command_line.specs.declared.next.NextRun.{NextRun}
 use Rattle.command_io.specs.Disk.{Disk, WritesWhole}
 use Rattle.command_io.specs.Images.{SomeHeap}
 use Rattle.command_io.specs.Marks.{RefusesMarksAt}
-use Rattle.command_io.specs.NewImages.{IsOfWritingImage, RefusedUnmade}
+use Rattle.command_io.specs.NewImages.{IsOfWritingImage}
 use Rattle.command_io.specs.Printing.{CountsPrint}
 use Rattle.command_io.specs.declared.refusal.Output.TheVariants as outputs
 use Rattle.command_io.specs.declared.refusal.CommandRefusal.{CommandRefusal}
 use Rattle.command_io.specs.declared.refusal.CommandRefusal.TheVariants.{Layout, Mutator, Sweep, Trace, Dump, Audit, CannotOpen, CannotCreate, ReadFailed, CannotPrint, NoSuchWord, BadMarks, OutOfMemory}
-use Rattle.command_io.proofs.Outcomes.{uncounted_by, unmade}
+use Rattle.command_io.proofs.Outcomes.{uncounted_by}
 use Rattle.commands.specs.declared.replays.PrintedHalt.{PrintedHalt}
 use Rattle.commands.specs.Cycled.{IsCycledHeap, IsUncycled}
 use Rattle.commands.specs.Nexts.{IsOfWritingNext, IsWrittenNext, MakesNext, Nexts, PrintsNext, RefusesCycle, RefusesNext, RefusesWriting}
 use Rattle.commands.specs.declared.cycling.Cycled.{Cycled}
 
 -- no refusal of marks counts a failed call of the output
-pub marks_uncounted : {W : Type 0} (disk : Disk W) (path : List ℕ) (n : ℕ) (refusal : CommandRefusal) → RefusesMarksAt disk path refusal → CountsPrint {T = Unit {0}} n n (Err refusal)
+pub marks_uncounted : {F W : Type 0} (disk : Disk F W) (path : List ℕ) (n : ℕ) (refusal : CommandRefusal) → RefusesMarksAt disk path refusal → CountsPrint {T = Unit {0}} n n (Err refusal)
 marks_uncounted disk path n refusal h = uncounted_by n n refusal refl (λ e. (subst (RefusesMarksAt disk path) e h).2)
 
--- no image was created, since none was begun
-pub unmade_anyway : {F : Type 0} (files : F) (result : Result (Unit {0}) CommandRefusal) → RefusedUnmade files files result
-unmade_anyway files (Ok _) = tt
-unmade_anyway files (Err refusal) = unmade files refusal
-
 -- a refusal of the image is one of the writing
-pub writing_image : {W : Type 0} (disk : Disk W) (path bytes : List ℕ) (refusal : CommandRefusal) → IsOfWritingImage disk path bytes refusal
-    → IsOfWritingNext disk path bytes refusal
-writing_image disk path bytes (Layout fault) h = h
-writing_image disk path bytes (Mutator refused) h = h
-writing_image disk path bytes (Sweep fault) h = h
-writing_image disk path bytes (Trace fault) h = h
-writing_image disk path bytes (Dump fault) h = h
-writing_image disk path bytes (Audit fault) h = h
-writing_image disk path bytes (CannotOpen input) h = h
-writing_image disk path bytes (CannotCreate output) h = h
-writing_image disk path bytes (ReadFailed input) h = h
-writing_image disk path bytes CannotPrint h = absurd h
-writing_image disk path bytes (NoSuchWord index) h = h
-writing_image disk path bytes (BadMarks line) h = h
-writing_image disk path bytes OutOfMemory h = h
+pub writing_image : {F W : Type 0} (disk : Disk F W) (path bytes : List ℕ) (to : F) (refusal : CommandRefusal) → IsOfWritingImage disk path bytes refusal
+    → IsOfWritingNext disk path bytes to refusal
+writing_image disk path bytes to (Layout fault) h = h
+writing_image disk path bytes to (Mutator refused) h = h
+writing_image disk path bytes to (Sweep fault) h = h
+writing_image disk path bytes to (Trace fault) h = h
+writing_image disk path bytes to (Dump fault) h = h
+writing_image disk path bytes to (Audit fault) h = h
+writing_image disk path bytes to (CannotOpen input) h = h
+writing_image disk path bytes to (CannotCreate output) h = h
+writing_image disk path bytes to (ReadFailed input) h = h
+writing_image disk path bytes to CannotPrint h = absurd h
+writing_image disk path bytes to (NoSuchWord index) h = h
+writing_image disk path bytes to (BadMarks line) h = h
+writing_image disk path bytes to OutOfMemory h = h
 
 -- the image was written, and a call of the output failed
-pub unprinted_next : {W : Type 0} (disk : Disk W) (path bytes : List ℕ) (result : Result (Unit {0}) CommandRefusal) → OnErr result (result ≡ Err CannotPrint)
-    → WritesWhole disk outputs.New path bytes → IfErr result (IsOfWritingNext disk path bytes)
-unprinted_next disk path bytes (Ok _) cause written = tt
-unprinted_next disk path bytes (Err refusal) cause written =
+pub unprinted_next : {F W : Type 0} (disk : Disk F W) (path bytes : List ℕ) (to : F) (result : Result (Unit {0}) CommandRefusal) → OnErr result (result ≡ Err CannotPrint)
+    → WritesWhole disk outputs.New path bytes to → IfErr result (IsOfWritingNext disk path bytes to)
+unprinted_next disk path bytes to (Ok _) cause written = tt
+unprinted_next disk path bytes to (Err refusal) cause written =
     let is : refusal ≡ CannotPrint = cc in
-    subst (IsOfWritingNext disk path bytes) (sym is) written
+    subst (IsOfWritingNext disk path bytes to) (sym is) written
 
 -- what follows from an Ok, and from an Err
 pub ok_then : (P Q : Type 0) → (P → Q) → (result : Result (Unit {0}) CommandRefusal) → OnOk result P → OnOk result Q
@@ -62,10 +57,10 @@ pub err_then : (P Q : CommandRefusal → Type 0) → ((refusal : CommandRefusal)
 err_then P Q f (Ok _) p = tt
 err_then P Q f (Err refusal) p = f refusal p
 
-module _ {W : Type 0} (disk : Disk W) (asked : NextRun) (before after : Option (List ℕ)) (lines : List Line) (marks : List ℕ) (heap : Heap) where
+module _ {F W : Type 0} (disk : Disk F W) (asked : NextRun) (from to : F) (before after : Option (List ℕ)) (lines : List Line) (marks : List ℕ) (heap : Heap) where
   -- the cycle came to its end, and all was written and printed
   pub made_ok : (made : Result Cycled PrintedHalt) → IfOk made (λ cycled. IsCycledHeap asked.mutators asked.fresh lines cycled.shown.items marks heap cycled.plan)
-      → (result : Result (Unit {0}) CommandRefusal) → OnOk result (IsWrittenNext disk asked.new.now before after made) → OnOk result (Nexts disk asked before after lines marks heap)
+      → (result : Result (Unit {0}) CommandRefusal) → OnOk result (IsWrittenNext disk asked.new.now to before after made) → OnOk result (Nexts disk asked to before after lines marks heap)
   made_ok made h (Err refusal) w = tt
   made_ok (Ok cycled) h (Ok _) w = record { shown = cycled.shown.items; next = cycled.plan; cycled = h; written = w.0; printed = w.1 }
   made_ok (Err halted) h (Ok _) w = absurd w
@@ -73,23 +68,23 @@ module _ {W : Type 0} (disk : Disk W) (asked : NextRun) (before after : Option (
   -- or it did not
   pub made_err : (made : Result Cycled PrintedHalt) → IfOk made (λ cycled. IsCycledHeap asked.mutators asked.fresh lines cycled.shown.items marks heap cycled.plan)
       → IfErr made (λ halted. IsUncycled asked.mutators asked.fresh lines halted.shown.items marks heap halted.refusal)
-      → (refusal : CommandRefusal) → RefusesWriting disk asked.new.now before after made refusal → RefusesCycle disk asked before after lines marks heap refusal
+      → (refusal : CommandRefusal) → RefusesWriting disk asked.new.now from to before after made refusal → RefusesCycle disk asked from to before after lines marks heap refusal
   made_err (Ok cycled) h u refusal w = inr (cycled.shown.items, cycled.plan, h, w)
-  made_err (Err halted) h u refusal w = inl (halted, u, w)
+  made_err (Err halted) h u refusal w = inl (halted, u, w.0, w.1)
 
 -- What the command did, whether the output is flushed after it or not.
-module _ {W : Type 0} (disk : Disk W) (asked : NextRun) (before between after : Option (List ℕ)) where
-  pub flushed_next : Keeps between after → MakesNext disk asked before between → MakesNext disk asked before after
+module _ {F W : Type 0} (disk : Disk F W) (asked : NextRun) (to : F) (before between after : Option (List ℕ)) where
+  pub flushed_next : Keeps between after → MakesNext disk asked to before between → MakesNext disk asked to before after
   flushed_next kept (heap, image, (lines, trace, (marks, own, h))) =
       let printed = Appends-kept before between after _ h.printed kept in
       (heap, image, (lines, trace, (marks, own, record { shown = h.shown; next = h.next; cycled = h.cycled; written = h.written; printed = printed })))
 
-  pub unflushed_next : MakesNext disk asked before between
-      → RefusesNext disk asked before after CannotPrint
-  unflushed_next (heap, image, (lines, trace, (marks, own, h))) =
+  pub unflushed_next : (from : F) → MakesNext disk asked to before between
+      → RefusesNext disk asked from to before after CannotPrint
+  unflushed_next from (heap, image, (lines, trace, (marks, own, h))) =
       inr (inr (heap, image, (lines, trace, (marks, own, inr (h.shown, h.next, h.cycled, h.written)))))
 
   -- what was printed of an accepted heap
-  pub printed_next : MakesNext disk asked before after → SomeHeap (PrintsNext asked.mutators asked.fresh before after)
+  pub printed_next : MakesNext disk asked to before after → SomeHeap (PrintsNext asked.mutators asked.fresh before after)
   printed_next (heap, (bytes, is_there, (other, stored, accepted, (known, same))), (lines, (more, is_near, (text, is_text, has_lines)), (marks, own, h))) =
       (other, stored, accepted, subst (PrintsNext asked.mutators asked.fresh before after) (sym same) (text, lines, has_lines, marks, h.shown, h.next, h.cycled, h.printed))

@@ -1,5 +1,5 @@
 -- What a command answers by the heap of an image, from what its parts answer by this heap.
-use Rattle.std.proofs.Common.{◌≡◌, ℕ, ◌*◌, ◌≤◌, List, Option, Result, Ok, Err, IfErr, OnErr, OnOk, subst, sym}
+use Rattle.std.proofs.Common.{◌≡◌, ℕ, ◌*◌, ◌<◌, ◌≤◌, List, Option, Result, Ok, Err, IfErr, OnErr, OnOk, subst, sym}
 use Rattle.std.specs.Bool.{⊤}
 use Rattle.std.specs.Io.KnownBytes.{Appends}
 use Rattle.heap_layout.specs.Heap.{Heap, live}
@@ -15,7 +15,7 @@ use Rattle.commands.specs.Compact.{IsOfSweeping, RefusesSweep}
 use Rattle.commands.specs.Plan.{IsOfPrinting, RefusesPlan}
 use Rattle.commands.specs.Word.{IsPast, IsWordAt, PrintsWordAt, RefusesPrint, RefusesWord}
 
-module _ {W : Type 0} (disk : Disk W) (path : List ℕ) where
+module _ {F W : Type 0} (disk : Disk F W) (path : List ℕ) where
   module _ (heap : Heap) (image : IsHeapAt disk path heap) where
     -- its plan was not printed
     pub of_plan : (refusal : CommandRefusal) → IsOfPrinting refusal → RefusesAt disk path RefusesPlan refusal
@@ -36,7 +36,9 @@ module _ {W : Type 0} (disk : Disk W) (path : List ℕ) where
     -- it has no word at the index
     pub of_past : (index : ℕ) (refusal : CommandRefusal) → IsPast index heap refusal → RefusesAt disk path (RefusesWord index) refusal
     of_past index (Layout fault) h = absurd h
-    of_past index (Mutator refused) h = (image.0, image.1, h)
+    of_past index (Mutator refused) h =
+        let there = at_heap disk path heap (λ other. index < 64 * pages (live other)) image h.1 in
+        (there.0, there.1, (h.0, there.2))
     of_past index (Sweep fault) h = absurd h
     of_past index (Trace fault) h = absurd h
     of_past index (Dump fault) h = absurd h

@@ -40,7 +40,7 @@ tails_are x y xs ys e = cc
 consed : {A : Type 0} (x y : A) (xs ys : List A) → x ≡ y → xs ≡ ys → x ∷ xs ≡ y ∷ ys
 consed x y xs ys e f = cc
 
-same_entries : (xs ys : List (ℕ × Entry)) → map unstamped_on xs ≡ map unstamped_on ys → map stamp_of xs ≡ map stamp_of ys → xs ≡ ys
+pub same_entries : (xs ys : List (ℕ × Entry)) → map unstamped_on xs ≡ map unstamped_on ys → map stamp_of xs ≡ map stamp_of ys → xs ≡ ys
 same_entries [] [] bare stamps = refl
 same_entries [] (y ∷ ys) bare stamps = cc
 same_entries (x ∷ xs) [] bare stamps = cc
@@ -49,7 +49,7 @@ same_entries (x ∷ xs) (y ∷ ys) bare stamps =
     (same_entry x y (heads_are (unstamped_on x) (unstamped_on y) (map unstamped_on xs) (map unstamped_on ys) bare) (heads_are (stamp_of x) (stamp_of y) (map stamp_of xs) (map stamp_of ys) stamps))
     (same_entries xs ys (tails_are (unstamped_on x) (unstamped_on y) (map unstamped_on xs) (map unstamped_on ys) bare) (tails_are (stamp_of x) (stamp_of y) (map stamp_of xs) (map stamp_of ys) stamps))
 
-counted : (xs ys : List (ℕ × Entry)) → map unstamped_on xs ≡ map unstamped_on ys → length xs ≡ length ys
+pub counted : (xs ys : List (ℕ × Entry)) → map unstamped_on xs ≡ map unstamped_on ys → length xs ≡ length ys
 counted [] [] bare = refl
 counted [] (y ∷ ys) bare = cc
 counted (x ∷ xs) [] bare = cc
@@ -115,7 +115,7 @@ of_heap heap mutators fresh text lines more end other dump second text_is more_i
     dumps_agree u end other dump second alike left right
 
 -- an accepted heap has few words, marks and roots
-counted_of : (heap : Heap) → IsAccepted heap → AreCounted heap
+pub counted_of : (heap : Heap) → IsAccepted heap → AreCounted heap
 counted_of heap accepted =
     let few = sizes-few (length heap.words) (length heap.marks) (length heap.roots) (passed heap accepted).sizes in
     record { words = omega (arith, few.0); marks = omega (arith, few.1); roots = omega (arith, few.2) }

@@ -29,25 +29,25 @@ use Rattle.commands.proofs.TraceRuns as runs
 abbrev has_race : (mutators fresh : ℕ) (lines : List Line) (shown : List Shown) (f : Finished) (heap : Heap) → IsRacedHeap mutators fresh lines shown f heap → HasRace mutators fresh lines heap
 has_race mutators fresh lines shown f heap h = record { shown = shown; left = f; raced = h }
 
-races : {W : Type 0} (disk : Disk W) (asked : TraceRun) (before after : Option (List ℕ)) (lines : List Line) (shown : List Shown) (f : Finished) (heap : Heap)
-    → IsRacedHeap asked.mutators asked.fresh lines shown f heap → WritesWhole disk outputs.Dump asked.dump.now (dump_bytes (dumped_of asked.mutators asked.fresh f)) → PrintsRun before after shown (live_of f)
-    → Races disk asked before after lines heap
-races disk asked before after lines shown f heap h written printed = record { race = has_race asked.mutators asked.fresh lines shown f heap h; written = written; printed = printed }
+races : {F W : Type 0} (disk : Disk F W) (asked : TraceRun) (to : F) (before after : Option (List ℕ)) (lines : List Line) (shown : List Shown) (f : Finished) (heap : Heap)
+    → IsRacedHeap asked.mutators asked.fresh lines shown f heap → WritesWhole disk outputs.Dump asked.dump.now (dump_bytes (dumped_of asked.mutators asked.fresh f)) to → PrintsRun before after shown (live_of f)
+    → Races disk asked to before after lines heap
+races disk asked to before after lines shown f heap h written printed = record { race = has_race asked.mutators asked.fresh lines shown f heap h; written = written; printed = printed }
 
 -- What follows from what became of a race.
-module _ {W : Type 0} (disk : Disk W) (asked : TraceRun) (before after : Option (List ℕ)) (heap : Heap) (image : IsHeapAt disk asked.image.now heap)
+module _ {F W : Type 0} (disk : Disk F W) (asked : TraceRun) (from to : F) (before after : Option (List ℕ)) (heap : Heap) (image : IsHeapAt disk asked.image.now heap)
     (lines : List Line) (trace : HasLinesAt disk asked.trace.now asked.mutators (length heap.roots) lines)
     (outcome : Result Replayed PrintedHalt) (ran : IfOk outcome (λ run. IsRacedHeap asked.mutators asked.fresh lines run.shown.items run.finished heap)) (result : Result (Unit {0}) CommandRefusal) where
   pub of_outcome_err : IfErr outcome (λ run. IsHaltedRace asked.mutators asked.fresh lines run.shown.items heap run.refusal)
-      → IfErr result (RefusesOutcome disk asked before after outcome) → IfErr result (RefusesRace disk asked before after)
+      → IfErr result (RefusesOutcome disk asked from to before after outcome) → IfErr result (RefusesRace disk asked from to before after)
   of_outcome_err halted h =
-      runs.of_outcome_err (racing asked.mutators asked.fresh) disk asked before after heap image lines trace (λ shown f. IsRacedHeap asked.mutators asked.fresh lines shown f heap)
+      runs.of_outcome_err (racing asked.mutators asked.fresh) disk asked from to before after heap image lines trace (λ shown f. IsRacedHeap asked.mutators asked.fresh lines shown f heap)
       (λ shown f is. has_race asked.mutators asked.fresh lines shown f heap is) (λ shown f is. refl) outcome ran halted result h
 
-  pub of_outcome_ok : OnOk result (IsWritten disk asked before after outcome) → OnOk result (SomeRun disk asked (Races disk asked before after))
+  pub of_outcome_ok : OnOk result (IsWritten disk asked to before after outcome) → OnOk result (SomeRun disk asked (Races disk asked to before after))
   of_outcome_ok h =
-      runs.of_outcome_ok (racing asked.mutators asked.fresh) disk asked before after heap image lines trace (λ shown f. IsRacedHeap asked.mutators asked.fresh lines shown f heap) (Races disk asked before after)
-      (λ shown f is written printed. races disk asked before after lines shown f heap is written printed) outcome ran result h
+      runs.of_outcome_ok (racing asked.mutators asked.fresh) disk asked from to before after heap image lines trace (λ shown f. IsRacedHeap asked.mutators asked.fresh lines shown f heap) (Races disk asked to before after)
+      (λ shown f is written printed. races disk asked to before after lines shown f heap is written printed) outcome ran result h
 
 -- why a race was halted determines what it had shown
 raced_by : (mutators fresh : ℕ) (lines : List Line) (shown : List Shown) (heap : Heap) (fault : TraceFault) → InterruptsRace mutators fresh lines shown heap fault → IsHaltedBy shown (Trace fault)
@@ -63,9 +63,9 @@ pub race_halted_by : (mutators fresh : ℕ) (lines : List Line) (heap : Heap) (s
 race_halted_by mutators fresh lines heap shown = runs.halted_by (InterruptsRace mutators fresh) lines heap shown (λ fault h. raced_by mutators fresh lines shown heap fault h)
 
 -- What was done of a race, whether the output is flushed after it or not.
-module _ {W : Type 0} (disk : Disk W) (asked : TraceRun) (before between after : Option (List ℕ)) where
-  pub flushed_race : Keeps between after → SomeRun disk asked (Races disk asked before between)
-      → SomeRun disk asked (Races disk asked before after)
+module _ {F W : Type 0} (disk : Disk F W) (asked : TraceRun) (to : F) (before between after : Option (List ℕ)) where
+  pub flushed_race : Keeps between after → SomeRun disk asked (Races disk asked to before between)
+      → SomeRun disk asked (Races disk asked to before after)
   flushed_race kept (bytes, is_there, (heap, stored, accepted, (known, (more, is_near, (text, is_text, (lines, has_lines, h)))))) = (
     bytes,
     is_there,
@@ -96,7 +96,7 @@ module _ {W : Type 0} (disk : Disk W) (asked : TraceRun) (before between after :
     ),
   )
 
-  pub unflushed_race : SomeRun disk asked (Races disk asked before between)
-      → SomeRun disk asked (RefusesRun (racing asked.mutators asked.fresh) disk asked before after CannotPrint)
-  unflushed_race (bytes, is_there, (heap, stored, accepted, (known, (more, is_near, (text, is_text, (lines, has_lines, h)))))) =
+  pub unflushed_race : (from : F) → SomeRun disk asked (Races disk asked to before between)
+      → SomeRun disk asked (RefusesRun (racing asked.mutators asked.fresh) disk asked from to before after CannotPrint)
+  unflushed_race from (bytes, is_there, (heap, stored, accepted, (known, (more, is_near, (text, is_text, (lines, has_lines, h)))))) =
       (bytes, is_there, (heap, stored, accepted, (known, (more, is_near, (text, is_text, (lines, has_lines, inl (h.race, h.written)))))))

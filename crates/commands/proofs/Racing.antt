@@ -1,5 +1,5 @@
 -- What a race over new mutators leaves.
-use Rattle.std.proofs.Common.{◌≡◌, ℕ, ◌<◌, List, All, length, map, refl, sym, subst, ◌∙◌, arith}
+use Rattle.std.proofs.Common.{◌≡◌, ℕ, ◌<◌, List, All, length, map, refl, sym, ap, subst, ◌∙◌, arith}
 use Rattle.std.proofs.lemmas.List.{length-map}
 use Rattle.heap_layout.specs.Heap.{live}
 use Rattle.page_plan.specs.Sliding as sliding
@@ -7,8 +7,9 @@ use Rattle.page_plan.specs.declared.builder.Builder.{Ghosts}
 use Rattle.comp_mutator.specs.Lists.{Each}
 use Rattle.comp_mutator.specs.Setup.{Setup}
 use Rattle.comp_mutator.specs.Pass.{Pass}
-use Rattle.comp_mutator.proofs.Sums.{is_inside, there_at}
-use Rattle.comp_mutator.specs.CellViews.{steps_of, AreNew}
+use Rattle.comp_mutator.specs.Passes.{number_of}
+use Rattle.comp_mutator.proofs.Sums.{is_inside, read_at, there_at}
+use Rattle.comp_mutator.specs.CellViews.{steps_of, AreNew, Works}
 use Rattle.comp_mutator.proofs.Rows.{at_map_back}
 use Rattle.comp_mutator.specs.Finishes.{history_of, IsFinished}
 use Rattle.comp_mutator.specs.Mutators.{cells_of, pass_of, setup_of}
@@ -16,7 +17,7 @@ use Rattle.comp_mutator.specs.Finished.{Finished}
 use Rattle.comp_mutator.specs.declared.mutator.Mutator.{Mutator}
 use Rattle.comp_mutator.specs.declared.space.Space.{Space}
 use Rattle.comp_trace.specs.Grammar.{parts}
-use Rattle.comp_trace.specs.Races.{numbered, own_lines, HaveRaced, Ran}
+use Rattle.comp_trace.specs.Races.{numbered, own_lines, HaveRaced, RanAndMet}
 use Rattle.comp_trace.specs.RefusedLine.{RefusedLine}
 use Rattle.comp_trace.specs.Line.{Line}
 use Rattle.comp_trace.specs.Run.{Run}
@@ -50,7 +51,8 @@ module _ {L B : Type 0} {g : Ghosts B} (space : Space L B g) (lines : List Line)
       let lt = is_inside runs k run at in
       let old = there_at before k (omega (arith, lt, raced.count)) in
       let now = there_at after k (omega (arith, lt, many_runs, raced.all.count)) in
-      of_run (setup_of space) (own_lines k (numbered 1 lines)) (pass_of old.0) (pass_of now.0) run.shown.items run.fault (raced.ran k old.0 now.0 run old.1 now.1 at)
+      let r = raced.ran k old.0 now.0 run old.1 now.1 at in
+      of_run (setup_of space) (own_lines k (numbered 1 lines)) (pass_of old.0) r.last run.shown.items run.fault r.ran
 
   have_run : RanTheirLines (setup_of space) lines (map pass_of after) runs
   have_run = record {
@@ -59,13 +61,20 @@ module _ {L B : Type 0} {g : Ghosts B} (space : Space L B g) (lines : List Line)
     before = map pass_of before;
     new = new;
     crew = length-map after pass_of ∙ raced.all.count;
+    numbers = λ k now at. let n = at_map_back pass_of after k now at in ap number_of (sym n.2) ∙ raced.all.numbers k n.0 n.1;
+    works = λ k now at.
+        let n = at_map_back pass_of after k now at in
+        let works : Works (steps_of (cells_of space)) (setup_of space).mutators (pass_of n.0) =
+        subst (λ (m : Mutator L). Works (steps_of (cells_of space)) (setup_of space).mutators (pass_of m)) (read_at after k n.0 n.0 n.1) (raced.all.of k n.0 (is_inside after k n.0 n.1)) in
+        subst (λ (pass : Pass). Works (steps_of (cells_of space)) (setup_of space).mutators pass) n.2 works;
+    met = raced.met;
     count = many_runs;
     ran = λ k old now run at_old at_now at_run.
         let own = own_lines k (numbered 1 lines) in
         let m = at_map_back pass_of before k old at_old in
         let n = at_map_back pass_of after k now at_now in
-        subst (λ (pass : Pass). Ran (setup_of space) own pass now run.shown.items run.fault) m.2
-        (subst (λ (pass : Pass). Ran (setup_of space) own (pass_of m.0) pass run.shown.items run.fault) n.2 (raced.ran k m.0 n.0 run m.1 n.1 at_run));
+        subst (λ (pass : Pass). RanAndMet (setup_of space) own pass now run.shown.items run.fault) m.2
+        (subst (λ (pass : Pass). RanAndMet (setup_of space) own (pass_of m.0) pass run.shown.items run.fault) n.2 (raced.ran k m.0 n.0 run m.1 n.1 at_run));
   }
 
   module _ (compacted : (setup_of space).compacted ≡ sliding.pages (live (setup_of space).heap)) (shown : List Shown) (in_order : AreByLine runs shown) where

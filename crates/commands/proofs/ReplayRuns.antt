@@ -20,6 +20,7 @@ use Rattle.comp_dump.specs.Lent.{record_of}
 use Rattle.command_line.specs.declared.words.TraceRun.{TraceRun}
 use Rattle.command_io.specs.Disk.{Disk, WritesWhole}
 use Rattle.command_io.specs.Dumps.{IsOfDumping, RefusedUncreated}
+use Rattle.command_io.specs.NewImages.{RefusedUnmade}
 use Rattle.command_io.specs.Images.{IsHeapAt, RefusesAt, RefusesImage}
 use Rattle.command_io.specs.Printing.{CountsPrint}
 use Rattle.commands.specs.Replays.{dumped_of, replaying, shown_lines, CutsReplay, IsOfWritingRun, IsPrintedHalt, IsReplayedHeap, PrintsRun, RanOver, RefusesReplay, RefusesRun, Replays, SomeRun, StopsUnprinted}
@@ -27,7 +28,7 @@ use Rattle.command_io.specs.Texts.{HasLinesAt, RefusesTextAt}
 use Rattle.command_io.specs.declared.refusal.Output.TheVariants as outputs
 use Rattle.command_io.specs.declared.refusal.CommandRefusal.{CommandRefusal}
 use Rattle.command_io.specs.declared.refusal.CommandRefusal.TheVariants.{Layout, Mutator, Sweep, Trace, Dump, Audit, CannotOpen, CannotCreate, ReadFailed, CannotPrint, NoSuchWord, BadMarks, OutOfMemory}
-use Rattle.command_io.proofs.Outcomes.{same_parts, uncounted_by, uncreated}
+use Rattle.command_io.proofs.Outcomes.{same_parts, uncounted_by, uncreated, unmade_too}
 use Rattle.commands.specs.Outcomes.{IsHaltedBy, IsWritten, RefusesInputs, RefusesOutcome}
 use Rattle.commands.specs.declared.replays.PrintedHalt.{PrintedHalt}
 use Rattle.commands.specs.declared.replays.Replayed.{Replayed}
@@ -37,10 +38,10 @@ use Rattle.commands.proofs.TraceRuns as runs
 abbrev pub has_run : (mutators fresh : ℕ) (lines : List Line) (shown : List Shown) (f : Finished) (heap : Heap) → IsReplayedHeap mutators fresh lines shown f heap → RanOver mutators fresh lines heap
 has_run mutators fresh lines shown f heap h = record { end = h.end; runs = h.runs; dump = dumped_of mutators fresh f; left = h.left }
 
-replays : {W : Type 0} (disk : Disk W) (asked : TraceRun) (before after : Option (List ℕ)) (lines : List Line) (shown : List Shown) (f : Finished) (heap : Heap)
-    → IsReplayedHeap asked.mutators asked.fresh lines shown f heap → WritesWhole disk outputs.Dump asked.dump.now (dump_bytes (dumped_of asked.mutators asked.fresh f)) → PrintsRun before after shown (live_of f)
-    → Replays disk asked before after lines heap
-replays disk asked before after lines shown f heap h written printed = record {
+replays : {F W : Type 0} (disk : Disk F W) (asked : TraceRun) (to : F) (before after : Option (List ℕ)) (lines : List Line) (shown : List Shown) (f : Finished) (heap : Heap)
+    → IsReplayedHeap asked.mutators asked.fresh lines shown f heap → WritesWhole disk outputs.Dump asked.dump.now (dump_bytes (dumped_of asked.mutators asked.fresh f)) to → PrintsRun before after shown (live_of f)
+    → Replays disk asked to before after lines heap
+replays disk asked to before after lines shown f heap h written printed = record {
   run = has_run asked.mutators asked.fresh lines shown f heap h;
   written = written;
   printed = subst (λ (values : List Shown). PrintsRun before after values (live_words (live heap) + allocated heap.edition h.end.added)) h.shown_is
@@ -48,28 +49,28 @@ replays disk asked before after lines shown f heap h written printed = record {
 }
 
 -- What follows from what became of a run.
-module _ {W : Type 0} (disk : Disk W) (asked : TraceRun) (before after : Option (List ℕ)) (heap : Heap) (image : IsHeapAt disk asked.image.now heap)
+module _ {F W : Type 0} (disk : Disk F W) (asked : TraceRun) (from to : F) (before after : Option (List ℕ)) (heap : Heap) (image : IsHeapAt disk asked.image.now heap)
     (lines : List Line) (trace : HasLinesAt disk asked.trace.now asked.mutators (length heap.roots) lines)
     (outcome : Result Replayed PrintedHalt) (ran : IfOk outcome (λ run. IsReplayedHeap asked.mutators asked.fresh lines run.shown.items run.finished heap)) (result : Result (Unit {0}) CommandRefusal) where
   pub of_outcome_err : IfErr outcome (λ run. IsPrintedHalt asked.mutators asked.fresh lines run.shown.items heap run.refusal)
-      → IfErr result (RefusesOutcome disk asked before after outcome) → IfErr result (RefusesReplay disk asked before after)
+      → IfErr result (RefusesOutcome disk asked from to before after outcome) → IfErr result (RefusesReplay disk asked from to before after)
   of_outcome_err halted h =
-      runs.of_outcome_err (replaying asked.mutators asked.fresh) disk asked before after heap image lines trace (λ shown f. IsReplayedHeap asked.mutators asked.fresh lines shown f heap)
+      runs.of_outcome_err (replaying asked.mutators asked.fresh) disk asked from to before after heap image lines trace (λ shown f. IsReplayedHeap asked.mutators asked.fresh lines shown f heap)
       (λ shown f is. has_run asked.mutators asked.fresh lines shown f heap is) (λ shown f is. refl) outcome ran halted result h
 
-  pub of_outcome_ok : OnOk result (IsWritten disk asked before after outcome) → OnOk result (SomeRun disk asked (Replays disk asked before after))
+  pub of_outcome_ok : OnOk result (IsWritten disk asked to before after outcome) → OnOk result (SomeRun disk asked (Replays disk asked to before after))
   of_outcome_ok h =
-      runs.of_outcome_ok (replaying asked.mutators asked.fresh) disk asked before after heap image lines trace (λ shown f. IsReplayedHeap asked.mutators asked.fresh lines shown f heap) (Replays disk asked before after)
-      (λ shown f is written printed. replays disk asked before after lines shown f heap is written printed) outcome ran result h
+      runs.of_outcome_ok (replaying asked.mutators asked.fresh) disk asked from to before after heap image lines trace (λ shown f. IsReplayedHeap asked.mutators asked.fresh lines shown f heap) (Replays disk asked to before after)
+      (λ shown f is written printed. replays disk asked to before after lines shown f heap is written printed) outcome ran result h
 
 -- no refusal of an image or of a trace counts a failed call of the output
-image_uncounted : {W : Type 0} (disk : Disk W) (path : List ℕ) (n : ℕ) (refusal : CommandRefusal) → RefusesAt disk path RefusesImage refusal → CountsPrint {T = Unit {0}} n n (Err refusal)
+image_uncounted : {F W : Type 0} (disk : Disk F W) (path : List ℕ) (n : ℕ) (refusal : CommandRefusal) → RefusesAt disk path RefusesImage refusal → CountsPrint {T = Unit {0}} n n (Err refusal)
 image_uncounted disk path n refusal h = uncounted_by n n refusal refl (λ e. (subst (RefusesAt disk path RefusesImage) e h).2)
 
-trace_uncounted : {W : Type 0} (disk : Disk W) (path : List ℕ) (mutators roots n : ℕ) (refusal : CommandRefusal) → RefusesTextAt disk path mutators roots refusal → CountsPrint {T = Unit {0}} n n (Err refusal)
+trace_uncounted : {F W : Type 0} (disk : Disk F W) (path : List ℕ) (mutators roots n : ℕ) (refusal : CommandRefusal) → RefusesTextAt disk path mutators roots refusal → CountsPrint {T = Unit {0}} n n (Err refusal)
 trace_uncounted disk path mutators roots n refusal h = uncounted_by n n refusal refl (λ e. (subst (RefusesTextAt disk path mutators roots) e h).2)
 
-pub inputs_uncounted : {W : Type 0} (disk : Disk W) (image trace : List ℕ) (mutators n : ℕ) (refusal : CommandRefusal) → RefusesInputs disk image trace mutators refusal → CountsPrint {T = Unit {0}} n n (Err refusal)
+pub inputs_uncounted : {F W : Type 0} (disk : Disk F W) (image trace : List ℕ) (mutators n : ℕ) (refusal : CommandRefusal) → RefusesInputs disk image trace mutators refusal → CountsPrint {T = Unit {0}} n n (Err refusal)
 inputs_uncounted disk image trace mutators n refusal (inl h) = image_uncounted disk image n refusal h
 inputs_uncounted disk image trace mutators n refusal (inr (heap, is_heap, h)) = trace_uncounted disk trace mutators (length heap.roots) n refusal h
 
@@ -148,31 +149,39 @@ halt_unprinted before after shown printed (BadMarks line) h = none_printed befor
 halt_unprinted before after shown printed OutOfMemory h = none_printed before after shown h printed
 
 -- and none of the dump
-pub uncreated_anyway : {F : Type 0} (files : F) (result : Result (Unit {0}) CommandRefusal) → RefusedUncreated files files result
-uncreated_anyway files (Ok _) = tt
-uncreated_anyway files (Err refusal) = uncreated files refusal
+pub uncreated_anyway : {F W : Type 0} (disk : Disk F W) (files : F) (result : Result (Unit {0}) CommandRefusal) → RefusedUncreated disk files files result
+uncreated_anyway disk files (Ok _) = tt
+uncreated_anyway disk files (Err refusal) = uncreated disk files refusal
+
+pub unmade_anyway : {F W : Type 0} (disk : Disk F W) (files : F) (result : Result (Unit {0}) CommandRefusal) → RefusedUnmade disk files files result
+unmade_anyway disk files result = unmade_too disk files files result (uncreated_anyway disk files result)
 
 -- what holds of an Ok, of two things
 pub ok_both : (result : Result (Unit {0}) CommandRefusal) (P Q : Type 0) → OnOk result P → OnOk result Q → OnOk result (P × Q)
 ok_both (Ok _) P Q p q = (p, q)
 ok_both (Err refusal) P Q p q = tt
 
+-- what holds of an Err, with a fact that holds anyway
+pub err_with : (result : Result (Unit {0}) CommandRefusal) (P : Type 0) (Q : CommandRefusal → Type 0) → P → IfErr result Q → IfErr result (λ refusal. P × Q refusal)
+err_with (Ok _) P Q p q = tt
+err_with (Err refusal) P Q p q = (p, q)
+
 -- a refusal of the dump is one of the writing
-pub writing_of : {W : Type 0} (disk : Disk W) (path bytes : List ℕ) (refusal : CommandRefusal) → IsOfDumping disk path bytes refusal
-    → IsOfWritingRun disk path bytes refusal
-writing_of disk path bytes (Layout fault) h = h
-writing_of disk path bytes (Mutator refused) h = h
-writing_of disk path bytes (Sweep fault) h = h
-writing_of disk path bytes (Trace fault) h = h
-writing_of disk path bytes (Dump fault) h = h
-writing_of disk path bytes (Audit fault) h = h
-writing_of disk path bytes (CannotOpen input) h = h
-writing_of disk path bytes (CannotCreate output) h = h
-writing_of disk path bytes (ReadFailed input) h = h
-writing_of disk path bytes CannotPrint h = absurd h
-writing_of disk path bytes (NoSuchWord index) h = h
-writing_of disk path bytes (BadMarks line) h = h
-writing_of disk path bytes OutOfMemory h = h
+pub writing_of : {F W : Type 0} (disk : Disk F W) (path bytes : List ℕ) (to : F) (refusal : CommandRefusal) → IsOfDumping disk path bytes refusal
+    → IsOfWritingRun disk path bytes to refusal
+writing_of disk path bytes to (Layout fault) h = h
+writing_of disk path bytes to (Mutator refused) h = h
+writing_of disk path bytes to (Sweep fault) h = h
+writing_of disk path bytes to (Trace fault) h = h
+writing_of disk path bytes to (Dump fault) h = h
+writing_of disk path bytes to (Audit fault) h = h
+writing_of disk path bytes to (CannotOpen input) h = h
+writing_of disk path bytes to (CannotCreate output) h = h
+writing_of disk path bytes to (ReadFailed input) h = h
+writing_of disk path bytes to CannotPrint h = absurd h
+writing_of disk path bytes to (NoSuchWord index) h = h
+writing_of disk path bytes to (BadMarks line) h = h
+writing_of disk path bytes to OutOfMemory h = h
 
 -- the dump of a finished heap has its parts
 pub dumped_same : (mutators fresh : ℕ) (f : Finished) (dump : Dumped) → dump.edition ≡ edition_in f → dump.mutators ≡ mutators → dump.fresh ≡ fresh → dump.roots ≡ roots_of f → dump.pages ≡ map record_of (pages_of f)
@@ -186,12 +195,12 @@ pub printed_run : (before between after : Option (List ℕ)) (values line : List
 printed_run before between after values line (Ok _) printed last = Appends-trans before between after values line printed last
 printed_run before between after values line (Err refusal) printed last = tt
 
-pub unprinted_run : {W : Type 0} (disk : Disk W) (path bytes : List ℕ) (result : Result (Unit {0}) CommandRefusal) → OnErr result (result ≡ Err CannotPrint)
-    → WritesWhole disk outputs.Dump path bytes → IfErr result (IsOfWritingRun disk path bytes)
-unprinted_run disk path bytes (Ok _) cause written = tt
-unprinted_run disk path bytes (Err refusal) cause written =
+pub unprinted_run : {F W : Type 0} (disk : Disk F W) (path bytes : List ℕ) (to : F) (result : Result (Unit {0}) CommandRefusal) → OnErr result (result ≡ Err CannotPrint)
+    → WritesWhole disk outputs.Dump path bytes to → IfErr result (IsOfWritingRun disk path bytes to)
+unprinted_run disk path bytes to (Ok _) cause written = tt
+unprinted_run disk path bytes to (Err refusal) cause written =
     let is : refusal ≡ CannotPrint = cc in
-    subst (IsOfWritingRun disk path bytes) (sym is) written
+    subst (IsOfWritingRun disk path bytes to) (sym is) written
 
 pub unprinted_line : (before after : Option (List ℕ)) (result : Result (Unit {0}) CommandRefusal) → OnErr result (result ≡ Err CannotPrint) → StopsUnprinted before after result
 unprinted_line before after (Ok _) cause = tt
@@ -203,9 +212,9 @@ pub of_unprinted : (result : Result (Unit {0}) CommandRefusal) (refusal : Comman
 of_unprinted result refusal is cause = cc
 
 -- What was done of a run, whether the output is flushed after it or not.
-module _ {W : Type 0} (disk : Disk W) (asked : TraceRun) (before between after : Option (List ℕ)) where
-  pub flushed_run : Keeps between after → SomeRun disk asked (Replays disk asked before between)
-      → SomeRun disk asked (Replays disk asked before after)
+module _ {F W : Type 0} (disk : Disk F W) (asked : TraceRun) (to : F) (before between after : Option (List ℕ)) where
+  pub flushed_run : Keeps between after → SomeRun disk asked (Replays disk asked to before between)
+      → SomeRun disk asked (Replays disk asked to before after)
   flushed_run kept (bytes, is_there, (heap, stored, accepted, (known, (more, is_near, (text, is_text, (lines, has_lines, h)))))) = (
     bytes,
     is_there,
@@ -236,7 +245,7 @@ module _ {W : Type 0} (disk : Disk W) (asked : TraceRun) (before between after :
     ),
   )
 
-  pub unflushed_run : SomeRun disk asked (Replays disk asked before between)
-      → SomeRun disk asked (RefusesRun (replaying asked.mutators asked.fresh) disk asked before after CannotPrint)
-  unflushed_run (bytes, is_there, (heap, stored, accepted, (known, (more, is_near, (text, is_text, (lines, has_lines, h)))))) =
+  pub unflushed_run : (from : F) → SomeRun disk asked (Replays disk asked to before between)
+      → SomeRun disk asked (RefusesRun (replaying asked.mutators asked.fresh) disk asked from to before after CannotPrint)
+  unflushed_run from (bytes, is_there, (heap, stored, accepted, (known, (more, is_near, (text, is_text, (lines, has_lines, h)))))) =
       (bytes, is_there, (heap, stored, accepted, (known, (more, is_near, (text, is_text, (lines, has_lines, inl (h.run, h.written)))))))

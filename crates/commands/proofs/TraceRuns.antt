@@ -26,10 +26,10 @@ use Rattle.commands.specs.declared.replays.PrintedHalt.{PrintedHalt}
 use Rattle.commands.specs.declared.replays.Replayed.{Replayed}
 
 -- the lines of a text for the number of the heap's roots
-pub some_text : {W : Type 0} (disk : Disk W) (path : List ℕ) (mutators roots other : ℕ) (lines : List Line) → roots ≡ other → HasLinesAt disk path mutators roots lines → HasLinesAt disk path mutators other lines
+pub some_text : {F W : Type 0} (disk : Disk F W) (path : List ℕ) (mutators roots other : ℕ) (lines : List Line) → roots ≡ other → HasLinesAt disk path mutators roots lines → HasLinesAt disk path mutators other lines
 some_text disk path mutators roots other lines e given = subst (λ (r : ℕ). HasLinesAt disk path mutators r lines) e given
 
-module _ {W : Type 0} (disk : Disk W) (asked : TraceRun) (heap : Heap) (image : IsHeapAt disk asked.image.now heap) where
+module _ {F W : Type 0} (disk : Disk F W) (asked : TraceRun) (heap : Heap) (image : IsHeapAt disk asked.image.now heap) where
   -- of the lines of a trace, and the heap of an image
   pub some_run : (P : List Line → Heap → Type 0) (lines : List Line) → HasLinesAt disk asked.trace.now asked.mutators (length heap.roots) lines → P lines heap → SomeRun disk asked P
   some_run P lines trace p = (
@@ -48,9 +48,9 @@ module _ {W : Type 0} (disk : Disk W) (asked : TraceRun) (heap : Heap) (image : 
   some_heap = (image.0, image.1, of_heap (λ (h : Heap). ⊤) heap image.0 tt image.2)
 
 -- The refusals of the command, from those of its parts.
-module _ {W : Type 0} (way : Way) (disk : Disk W) (asked : TraceRun) (before after : Option (List ℕ)) where
+module _ {F W : Type 0} (way : Way) (disk : Disk F W) (asked : TraceRun) (from to : F) (before after : Option (List ℕ)) where
   abbrev pub IsCause : CommandRefusal → Type 0
-  IsCause refusal = RefusesTraced way disk asked before after refusal
+  IsCause refusal = RefusesTraced way disk asked from to before after refusal
 
   -- there is no heap
   of_image : (refusal : CommandRefusal) → RefusesAt disk asked.image.now RefusesImage refusal → IsCause refusal
@@ -95,9 +95,9 @@ module _ {W : Type 0} (way : Way) (disk : Disk W) (asked : TraceRun) (before aft
     by_trace kept OutOfMemory h = tt
 
     module _ (lines : List Line) (trace : HasLinesAt disk asked.trace.now asked.mutators (length heap.roots) lines) where
-      by_run : (refusal : CommandRefusal) → RefusesRun way disk asked before after refusal lines heap
-          → SomeRun disk asked (RefusesRun way disk asked before after refusal)
-      by_run refusal h = some_run disk asked heap image (RefusesRun way disk asked before after refusal) lines trace h
+      by_run : (refusal : CommandRefusal) → RefusesRun way disk asked from to before after refusal lines heap
+          → SomeRun disk asked (RefusesRun way disk asked from to before after refusal)
+      by_run refusal h = some_run disk asked heap image (RefusesRun way disk asked from to before after refusal) lines trace h
 
       -- its lines did not run to their end, and what they showed was printed
       of_halt : (shown : List Shown) → Appends before after (shown_lines shown) → (refusal : CommandRefusal) → IsHaltedRun way.cuts lines shown heap refusal → IsCause refusal
@@ -117,11 +117,11 @@ module _ {W : Type 0} (way : Way) (disk : Disk W) (asked : TraceRun) (before aft
       of_halt shown printed OutOfMemory h = tt
 
       -- or a call of the output failed
-      of_halt_unprinted : (shown : List Shown) (refusal : CommandRefusal) → IsHaltedRun way.cuts lines shown heap refusal → IsCause CannotPrint
-      of_halt_unprinted shown refusal h = by_run CannotPrint (inr (refusal, shown, h))
+      of_halt_unprinted : (shown : List Shown) (refusal : CommandRefusal) → to ≡ from → IsHaltedRun way.cuts lines shown heap refusal → IsCause CannotPrint
+      of_halt_unprinted shown refusal same h = by_run CannotPrint (inr (refusal, shown, same, h))
 
       -- they ran, and the dump was not written, or a call of the output failed
-      of_writing : (left : way.leaves lines heap) (refusal : CommandRefusal) → IsOfWritingRun disk asked.dump.now (way.dump lines heap left) refusal → IsCause refusal
+      of_writing : (left : way.leaves lines heap) (refusal : CommandRefusal) → IsOfWritingRun disk asked.dump.now (way.dump lines heap left) to refusal → IsCause refusal
       of_writing left (Layout fault) w = absurd w
       of_writing left (Mutator refused) w = absurd w
       of_writing left (Sweep fault) w = absurd w
@@ -145,22 +145,22 @@ module _ {W : Type 0} (way : Way) (disk : Disk W) (asked : TraceRun) (before aft
       module _ (HasRun : List Shown → Finished → Type 0) (left_of : (shown : List Shown) (f : Finished) → HasRun shown f → way.leaves lines heap)
           (dump_is : (shown : List Shown) (f : Finished) (h : HasRun shown f) → way.dump lines heap (left_of shown f h) ≡ dump_bytes (dumped_of asked.mutators asked.fresh f)) where
         of_outcome : (outcome : Result Replayed PrintedHalt) → IfOk outcome (λ run. HasRun run.shown.items run.finished) → IfErr outcome (λ run. IsHaltedRun way.cuts lines run.shown.items heap run.refusal)
-            → (refusal : CommandRefusal) → RefusesOutcome disk asked before after outcome refusal → IsCause refusal
+            → (refusal : CommandRefusal) → RefusesOutcome disk asked from to before after outcome refusal → IsCause refusal
         of_outcome (Ok run) ran halted refusal h =
             of_writing (left_of run.shown.items run.finished ran) refusal
-            (subst (λ (bytes : List ℕ). IsOfWritingRun disk asked.dump.now bytes refusal) (sym (dump_is run.shown.items run.finished ran)) h)
-        of_outcome (Err run) ran halted refusal (inl (is, printed)) = subst IsCause (sym is) (of_halt run.shown.items printed run.refusal halted)
-        of_outcome (Err run) ran halted refusal (inr is) = subst IsCause (sym is) (of_halt_unprinted run.shown.items run.refusal halted)
+            (subst (λ (bytes : List ℕ). IsOfWritingRun disk asked.dump.now bytes to refusal) (sym (dump_is run.shown.items run.finished ran)) h)
+        of_outcome (Err run) ran halted refusal (same, inl (is, printed)) = subst IsCause (sym is) (of_halt run.shown.items printed run.refusal halted)
+        of_outcome (Err run) ran halted refusal (same, inr is) = subst IsCause (sym is) (of_halt_unprinted run.shown.items run.refusal same halted)
 
         pub of_outcome_err : (outcome : Result Replayed PrintedHalt) → IfOk outcome (λ run. HasRun run.shown.items run.finished) → IfErr outcome (λ run. IsHaltedRun way.cuts lines run.shown.items heap run.refusal)
-            → (result : Result (Unit {0}) CommandRefusal) → IfErr result (RefusesOutcome disk asked before after outcome) → IfErr result IsCause
+            → (result : Result (Unit {0}) CommandRefusal) → IfErr result (RefusesOutcome disk asked from to before after outcome) → IfErr result IsCause
         of_outcome_err outcome ran halted (Ok _) h = tt
         of_outcome_err outcome ran halted (Err refusal) h = of_outcome outcome ran halted refusal h
 
       pub of_outcome_ok : (HasRun : List Shown → Finished → Type 0) (P : List Line → Heap → Type 0)
-          → ((shown : List Shown) (f : Finished) → HasRun shown f → WritesWhole disk outputs.Dump asked.dump.now (dump_bytes (dumped_of asked.mutators asked.fresh f)) → PrintsRun before after shown (live_of f) → P lines heap)
+          → ((shown : List Shown) (f : Finished) → HasRun shown f → WritesWhole disk outputs.Dump asked.dump.now (dump_bytes (dumped_of asked.mutators asked.fresh f)) to → PrintsRun before after shown (live_of f) → P lines heap)
           → (outcome : Result Replayed PrintedHalt) → IfOk outcome (λ run. HasRun run.shown.items run.finished)
-          → (result : Result (Unit {0}) CommandRefusal) → OnOk result (IsWritten disk asked before after outcome) → OnOk result (SomeRun disk asked P)
+          → (result : Result (Unit {0}) CommandRefusal) → OnOk result (IsWritten disk asked to before after outcome) → OnOk result (SomeRun disk asked P)
       of_outcome_ok HasRun P done outcome ran (Err refusal) h = tt
       of_outcome_ok HasRun P done (Ok run) ran (Ok _) h = some_run disk asked heap image P lines trace (done run.shown.items run.finished ran h.0 h.1)
       of_outcome_ok HasRun P done (Err run) ran (Ok _) h = absurd h

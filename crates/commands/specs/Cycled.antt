@@ -1,6 +1,7 @@
 -- A heap over which one thread runs a trace, and the heap with which the next cycle begins.
 use Rattle.std.specs.Prelude.{◌≡◌, ℕ, List, []}
-use Rattle.heap_layout.specs.Heap.{Heap}
+use Rattle.heap_layout.specs.Faults.{IsAccepted}
+use Rattle.heap_layout.specs.Heap.{Heap, IsStored}
 use Rattle.heap_layout.specs.declared.fault.LayoutFault.{LayoutFault}
 use Rattle.comp_mutator.specs.Refusal.TheVariants as refusals
 use Rattle.comp_mutator.specs.Cycles.{Cycle, heap_after, IsChapter, IsCycleOf}
@@ -21,11 +22,13 @@ use Rattle.command_io.specs.declared.refusal.CommandRefusal.TheVariants.{Layout,
 abbrev pub IsChapterOf : Heap → Cycle → Type 0
 IsChapterOf heap c = (numbers : List ℕ) (stable : StableHeap) → IsNumberedAs heap numbers stable → IsChapter c numbers stable
 
--- with these marks, this heap follows what is left of a cycle
+-- With these marks, this heap follows what is left of a cycle. Its image can be read.
 pub record IsNextHeap (heap : Heap) (f : Finished) (marks : List ℕ) (next : Heap) : Type 0 where
   pub cycle : IsCycleOf heap (cycle_of heap f marks)
   pub chapter : IsChapterOf heap (cycle_of heap f marks)
   pub next_is : next ≡ heap_after (cycle_of heap f marks)
+  pub stored : IsStored next
+  pub accepted : IsAccepted next
 
 -- why no heap follows: this is its first fault, or memory ran out
 abbrev pub IsUnmarked : Heap → Finished → List ℕ → CommandRefusal → Type 0
@@ -34,12 +37,14 @@ IsUnmarked heap f marks OutOfMemory = Unit {0}
 IsUnmarked heap f marks _ = ⊥
 
 -- One thread ran these lines over the heap, and they showed these values; with these marks, this heap followed the
--- cycle.
+-- cycle. It is a heap that an image can have, and it is accepted, so its image is read as this heap.
 pub record IsCycledHeap (mutators fresh : ℕ) (lines : List Line) (shown : List Shown) (marks : List ℕ) (heap next : Heap) : Type 0 where
   pub cycle : Cycle
   pub part : IsPart mutators fresh lines shown marks heap cycle
   pub chapter : IsChapterOf heap cycle
   pub next_is : next ≡ heap_after cycle
+  pub stored : IsStored next
+  pub accepted : IsAccepted next
 
 -- One thread ran these lines over the heap; with these marks no heap follows what is left, for this fault.
 pub record IsNotFollowed (mutators fresh : ℕ) (lines : List Line) (marks : List ℕ) (heap : Heap) (fault : LayoutFault) : Type 0 where

@@ -1,5 +1,5 @@
 -- What the command `next` makes of its files.
-use Rattle.std.specs.Prelude.{◌⊎◌, ℕ, List, length, Option, Result, Ok, Err}
+use Rattle.std.specs.Prelude.{◌≡◌, ◌⊎◌, ℕ, List, length, Option, Result, Ok, Err}
 use Rattle.heap_layout.specs.Encoding.{encoding}
 use Rattle.heap_layout.specs.Heap.{live, Heap}
 use Rattle.page_plan.specs.Sliding.{live_words}
@@ -22,41 +22,41 @@ use Rattle.commands.specs.declared.cycling.Cycled.{Cycled}
 
 -- ---- from a heap, lines and marks
 
--- The lines ran, and the image of the next heap was written; then the values of the `get` lines and the live words of
--- that heap were printed.
-pub record Nexts {W : Type 0} (disk : Disk W) (asked : NextRun) (before after : Option (List ℕ)) (lines : List Line) (marks : List ℕ) (heap : Heap) : Type 0 where
+-- The lines ran, and the image of the next heap was written, and these are the files since; then the values of the `get`
+-- lines and the live words of that heap were printed.
+pub record Nexts {F W : Type 0} (disk : Disk F W) (asked : NextRun) (to : F) (before after : Option (List ℕ)) (lines : List Line) (marks : List ℕ) (heap : Heap) : Type 0 where
   pub shown : List Shown
   pub next : Heap
   pub cycled : IsCycledHeap asked.mutators asked.fresh lines shown marks heap next
-  pub written : WritesWhole disk outputs.New asked.new.now (encoding next)
+  pub written : WritesWhole disk outputs.New asked.new.now (encoding next) to
   pub printed : PrintsRun before after shown (live_words (live next))
 
 -- why the image of the next heap was not written, or the lines after it not printed: there is no place for the image;
 -- or a call of its writer failed; or it was written, and a call of the output failed, which `CountsPrint` counts; or
 -- memory ran out
-abbrev pub IsOfWritingNext : {W : Type 0} → Disk W → List ℕ → List ℕ → CommandRefusal → Type 0
-IsOfWritingNext disk path bytes CannotPrint = WritesWhole disk outputs.New path bytes
-IsOfWritingNext disk path bytes refusal = IsOfWritingImage disk path bytes refusal
+abbrev pub IsOfWritingNext : {F W : Type 0} → Disk F W → List ℕ → List ℕ → F → CommandRefusal → Type 0
+IsOfWritingNext disk path bytes to CannotPrint = WritesWhole disk outputs.New path bytes to
+IsOfWritingNext disk path bytes to refusal = IsOfWritingImage disk path bytes refusal
 
--- why the cycle does not come to its end, or is not written or printed: if its lines were halted, what they had shown
--- was printed
-abbrev pub RefusesCycle : {W : Type 0} → Disk W → NextRun → Option (List ℕ) → Option (List ℕ) → List Line → List ℕ → Heap → CommandRefusal → Type 0
-RefusesCycle disk asked before after lines marks heap refusal =
-    ((halted : PrintedHalt) × IsUncycled asked.mutators asked.fresh lines halted.shown.items marks heap halted.refusal × IsOfHalt before after halted refusal)
-    ⊎ ((shown : List Shown) × (next : Heap) × IsCycledHeap asked.mutators asked.fresh lines shown marks heap next × IsOfWritingNext disk asked.new.now (encoding next) refusal)
+-- why the cycle does not come to its end, or is not written or printed: if its lines were halted, the files stayed as
+-- they were, and what the lines had shown was printed
+abbrev pub RefusesCycle : {F W : Type 0} → Disk F W → NextRun → F → F → Option (List ℕ) → Option (List ℕ) → List Line → List ℕ → Heap → CommandRefusal → Type 0
+RefusesCycle disk asked from to before after lines marks heap refusal =
+    ((halted : PrintedHalt) × IsUncycled asked.mutators asked.fresh lines halted.shown.items marks heap halted.refusal × (to ≡ from) × IsOfHalt before after halted refusal)
+    ⊎ ((shown : List Shown) × (next : Heap) × IsCycledHeap asked.mutators asked.fresh lines shown marks heap next × IsOfWritingNext disk asked.new.now (encoding next) to refusal)
 
 -- ---- from the files
 
 -- P holds of the heap of the image, of the lines of the trace for it, and of the marks that are asked for
-abbrev pub SomeCycle : {W : Type 0} → Disk W → NextRun → (List Line → List ℕ → Heap → Type 0) → Type 0
+abbrev pub SomeCycle : {F W : Type 0} → Disk F W → NextRun → (List Line → List ℕ → Heap → Type 0) → Type 0
 SomeCycle disk asked P =
     (heap : Heap) × IsHeapAt disk asked.image.now heap
     × ((lines : List Line) × HasLinesAt disk asked.trace.now asked.mutators (length heap.roots) lines
     × ((marks : List ℕ) × AreMarksAt disk asked.marks.now marks × P lines marks heap))
 
 -- what the command does
-abbrev pub MakesNext : {W : Type 0} → Disk W → NextRun → Option (List ℕ) → Option (List ℕ) → Type 0
-MakesNext disk asked before after = SomeCycle disk asked (Nexts disk asked before after)
+abbrev pub MakesNext : {F W : Type 0} → Disk F W → NextRun → F → Option (List ℕ) → Option (List ℕ) → Type 0
+MakesNext disk asked to before after = SomeCycle disk asked (Nexts disk asked to before after)
 
 -- what was printed, between these two contents of the output, are the values of a trace that was run over the heap,
 -- and the live words of the heap that followed with some marks
@@ -65,27 +65,27 @@ PrintsNext mutators fresh before after heap = (text : List ℕ) × (lines : List
     × (marks : List ℕ) × (shown : List Shown) × (next : Heap) × IsCycledHeap mutators fresh lines shown marks heap next × PrintsRun before after shown (live_words (live next))
 
 -- there are the heap of the image and the lines of the trace for it; the marks are refused, or there are none
-abbrev pub RefusesHanded : {W : Type 0} → Disk W → NextRun → CommandRefusal → Type 0
+abbrev pub RefusesHanded : {F W : Type 0} → Disk F W → NextRun → CommandRefusal → Type 0
 RefusesHanded disk asked refusal =
     (heap : Heap) × IsHeapAt disk asked.image.now heap
     × ((lines : List Line) × HasLinesAt disk asked.trace.now asked.mutators (length heap.roots) lines × RefusesMarksAt disk asked.marks.now refusal)
 
 -- why it is refused: there is no image, or no trace for its heap, or no marks; or one of them is refused; or the cycle
 -- is
-abbrev pub RefusesNext : {W : Type 0} → Disk W → NextRun → Option (List ℕ) → Option (List ℕ) → CommandRefusal → Type 0
-RefusesNext disk asked before after refusal =
+abbrev pub RefusesNext : {F W : Type 0} → Disk F W → NextRun → F → F → Option (List ℕ) → Option (List ℕ) → CommandRefusal → Type 0
+RefusesNext disk asked from to before after refusal =
     RefusesInputs disk asked.image.now asked.trace.now asked.mutators refusal
-    ⊎ (RefusesHanded disk asked refusal ⊎ SomeCycle disk asked (λ lines marks heap. RefusesCycle disk asked before after lines marks heap refusal))
+    ⊎ (RefusesHanded disk asked refusal ⊎ SomeCycle disk asked (λ lines marks heap. RefusesCycle disk asked from to before after lines marks heap refusal))
 
 -- ---- within the command
 
 -- the cycle came to its end: the new image was written, and then what was shown and the live words were printed
-abbrev pub IsWrittenNext : {W : Type 0} → Disk W → List ℕ → Option (List ℕ) → Option (List ℕ) → Result Cycled PrintedHalt → Type 0
-IsWrittenNext disk path before after (Ok cycled) =
-    WritesWhole disk outputs.New path (encoding cycled.plan) × PrintsRun before after cycled.shown.items (live_words (live cycled.plan))
-IsWrittenNext disk path before after (Err halted) = ⊥
+abbrev pub IsWrittenNext : {F W : Type 0} → Disk F W → List ℕ → F → Option (List ℕ) → Option (List ℕ) → Result Cycled PrintedHalt → Type 0
+IsWrittenNext disk path to before after (Ok cycled) =
+    WritesWhole disk outputs.New path (encoding cycled.plan) to × PrintsRun before after cycled.shown.items (live_words (live cycled.plan))
+IsWrittenNext disk path to before after (Err halted) = ⊥
 
--- why it was not written or printed, or was halted
-abbrev pub RefusesWriting : {W : Type 0} → Disk W → List ℕ → Option (List ℕ) → Option (List ℕ) → Result Cycled PrintedHalt → CommandRefusal → Type 0
-RefusesWriting disk path before after (Ok cycled) refusal = IsOfWritingNext disk path (encoding cycled.plan) refusal
-RefusesWriting disk path before after (Err halted) refusal = IsOfHalt before after halted refusal
+-- why it was not written or printed, or was halted, which leaves the files as they were
+abbrev pub RefusesWriting : {F W : Type 0} → Disk F W → List ℕ → F → F → Option (List ℕ) → Option (List ℕ) → Result Cycled PrintedHalt → CommandRefusal → Type 0
+RefusesWriting disk path from to before after (Ok cycled) refusal = IsOfWritingNext disk path (encoding cycled.plan) to refusal
+RefusesWriting disk path from to before after (Err halted) refusal = (to ≡ from) × IsOfHalt before after halted refusal

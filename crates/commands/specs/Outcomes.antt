@@ -19,7 +19,7 @@ use Rattle.commands.specs.declared.replays.Replayed.{Replayed}
 
 -- why there is no heap with a trace: there is no image, or it is refused; or there is no trace for the heap, or it is
 -- refused
-abbrev pub RefusesInputs : {W : Type 0} → Disk W → List ℕ → List ℕ → ℕ → CommandRefusal → Type 0
+abbrev pub RefusesInputs : {F W : Type 0} → Disk F W → List ℕ → List ℕ → ℕ → CommandRefusal → Type 0
 RefusesInputs disk image trace mutators refusal = RefusesAt disk image RefusesImage refusal ⊎ ((heap : Heap) × IsHeapAt disk image heap × RefusesTextAt disk trace mutators (length heap.roots) refusal)
 
 -- what a run had shown that was halted for this refusal: a refused line may come after lines that showed values, any
@@ -35,12 +35,12 @@ abbrev pub IsOfHalt : Option (List ℕ) → Option (List ℕ) → PrintedHalt �
 IsOfHalt before after halted refusal = ((refusal ≡ halted.refusal) × Appends before after (shown_lines halted.shown.items)) ⊎ (refusal ≡ CannotPrint)
 
 -- the run came to its end: its dump was written, and then what it showed and the live words were printed
-abbrev pub IsWritten : {W : Type 0} → Disk W → TraceRun → Option (List ℕ) → Option (List ℕ) → Result Replayed PrintedHalt → Type 0
-IsWritten disk asked before after (Ok run) =
-    WritesWhole disk outputs.Dump asked.dump.now (dump_bytes (dumped_of asked.mutators asked.fresh run.finished)) × PrintsRun before after run.shown.items (live_of run.finished)
-IsWritten disk asked before after (Err halted) = ⊥
+abbrev pub IsWritten : {F W : Type 0} → Disk F W → TraceRun → F → Option (List ℕ) → Option (List ℕ) → Result Replayed PrintedHalt → Type 0
+IsWritten disk asked to before after (Ok run) =
+    WritesWhole disk outputs.Dump asked.dump.now (dump_bytes (dumped_of asked.mutators asked.fresh run.finished)) to × PrintsRun before after run.shown.items (live_of run.finished)
+IsWritten disk asked to before after (Err halted) = ⊥
 
--- why it was not written or printed, or was halted
-abbrev pub RefusesOutcome : {W : Type 0} → Disk W → TraceRun → Option (List ℕ) → Option (List ℕ) → Result Replayed PrintedHalt → CommandRefusal → Type 0
-RefusesOutcome disk asked before after (Ok run) refusal = IsOfWritingRun disk asked.dump.now (dump_bytes (dumped_of asked.mutators asked.fresh run.finished)) refusal
-RefusesOutcome disk asked before after (Err halted) refusal = IsOfHalt before after halted refusal
+-- why it was not written or printed, or was halted, which leaves the files as they were
+abbrev pub RefusesOutcome : {F W : Type 0} → Disk F W → TraceRun → F → F → Option (List ℕ) → Option (List ℕ) → Result Replayed PrintedHalt → CommandRefusal → Type 0
+RefusesOutcome disk asked from to before after (Ok run) refusal = IsOfWritingRun disk asked.dump.now (dump_bytes (dumped_of asked.mutators asked.fresh run.finished)) to refusal
+RefusesOutcome disk asked from to before after (Err halted) refusal = (to ≡ from) × IsOfHalt before after halted refusal

@@ -42,9 +42,9 @@ pub fn print_compact<R: Threads + Wait + Sync, F: Files, O: Write>(
 ) -> Result<(), CommandRefusal>
     requires workers { (1 ≤ workers) × (workers ≤ 64) }
     requires written { failures_of out.old < 2 ^ 64 - 1 }
-    ensures compacted { OnOk result (SomeHeapAt (F.disk files.old) image.now (Compacts (F.disk files.old) dump.now workers (O.contents (inner_of out.old).now) (O.contents (inner_of out.new).now))) }
-    ensures cause { IfErr result (RefusesAt (F.disk files.old) image.now (RefusesCompact (F.disk files.old) dump.now workers)) }
-    ensures uncreated { RefusedUncreated files.old files.new result }
+    ensures compacted { OnOk result (SomeHeapAt (F.disk files.old) image.now (Compacts (F.disk files.old) dump.now workers files.new (O.contents (inner_of out.old).now) (O.contents (inner_of out.new).now))) }
+    ensures cause { IfErr result (RefusesAt (F.disk files.old) image.now (RefusesCompact (F.disk files.old) dump.now workers files.new)) }
+    ensures uncreated { RefusedUncreated (F.disk files.old) files.old files.new result }
     ensures counts { CountsPrint (failures_of out.old) (failures_of out.new) result }
     ensures same_writer { writer_of out.new ≡ writer_of out.old }
     ensures unprinted { RefusedUnprinted (O.contents (inner_of out.old).now) (O.contents (inner_of out.new).now) result }

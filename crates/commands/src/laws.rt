@@ -1,6 +1,9 @@
 //! Laws of the commands. Each is the contract of a function that does nothing.
+ghost use Rattle.commands.specs.Races.{RacesInventNothing};
 ghost use Rattle.commands.specs.Replays.{ReplaysAreOne};
+ghost use Rattle.commands.specs.Successors.{AreOneLife, NextFollows, NextIsOne, TwoAreOneLife};
 
+use comp_cycles::one_life;
 use heap_layout::images_differ;
 
 /// The bytes of the image and of the trace and the numbers of mutators and of fresh pages determine what `replay`
@@ -10,3 +13,29 @@ pub fn replays_are_one()
 {
     images_differ();
 }
+
+/// The bytes of the image, of the trace and of the marks and the numbers of mutators and of fresh pages determine what
+/// `next` shows and writes: the values, and the next heap, so its image and its live words.
+pub fn next_is_one()
+    ensures { NextIsOne }
+{
+    images_differ();
+}
+
+/// Runs of `next`, each over the image that the one before left, are cycles that follow one another, and so one life of
+/// a heap whose objects never move.
+pub fn nexts_are_one_life()
+    ensures follows { NextFollows }
+    ensures life { AreOneLife }
+    ensures two { TwoAreOneLife }
+{
+    images_differ();
+    one_life();
+}
+
+/// A race invents nothing, whether it came to its end or was stopped. There is one journal of each page, the same for
+/// all mutators, and each of its entries is one that a line of its writer wrote. Each value shown is the word that
+/// beginnings of these journals make. A journal for which a line was refused as full has 1,024 entries.
+pub fn races_invent_nothing()
+    ensures { RacesInventNothing }
+{}

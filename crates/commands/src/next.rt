@@ -43,9 +43,9 @@ pub fn print_next<F: Files, O: Write>(
     requires mutators { (1 ≤ asked.mutators) × (asked.mutators ≤ 64) }
     requires fresh { asked.fresh ≤ 4096 }
     requires written { failures_of out.old < 2 ^ 64 - 1 }
-    ensures made { OnOk result (MakesNext (F.disk files.old) asked.entry (O.contents (inner_of out.old).now) (O.contents (inner_of out.new).now)) }
-    ensures cause { IfErr result (RefusesNext (F.disk files.old) asked.entry (O.contents (inner_of out.old).now) (O.contents (inner_of out.new).now)) }
-    ensures unmade { RefusedUnmade files.old files.new result }
+    ensures made { OnOk result (MakesNext (F.disk files.old) asked.entry files.new (O.contents (inner_of out.old).now) (O.contents (inner_of out.new).now)) }
+    ensures cause { IfErr result (RefusesNext (F.disk files.old) asked.entry files.old files.new (O.contents (inner_of out.old).now) (O.contents (inner_of out.new).now)) }
+    ensures unmade { RefusedUnmade (F.disk files.old) files.old files.new result }
     ensures counts { CountsPrint (failures_of out.old) (failures_of out.new) result }
     ensures same_writer { writer_of out.new ≡ writer_of out.old }
     ensures unprinted { StopsUnprinted (O.contents (inner_of out.old).now) (O.contents (inner_of out.new).now) result }
@@ -73,9 +73,9 @@ fn write_made<F: Files, O: Write>(
 ) -> Result<(), CommandRefusal>
     requires halted { IfErr made (λ halted. IsHaltedBy halted.shown.items halted.refusal) }
     requires written { failures_of out.old < 2 ^ 64 - 1 }
-    ensures done { OnOk result (IsWrittenNext (F.disk files.old) path.now (O.contents (inner_of out.old).now) (O.contents (inner_of out.new).now) made) }
-    ensures cause { IfErr result (RefusesWriting (F.disk files.old) path.now (O.contents (inner_of out.old).now) (O.contents (inner_of out.new).now) made) }
-    ensures unmade { RefusedUnmade files.old files.new result }
+    ensures done { OnOk result (IsWrittenNext (F.disk files.old) path.now files.new (O.contents (inner_of out.old).now) (O.contents (inner_of out.new).now) made) }
+    ensures cause { IfErr result (RefusesWriting (F.disk files.old) path.now files.old files.new (O.contents (inner_of out.old).now) (O.contents (inner_of out.new).now) made) }
+    ensures unmade { RefusedUnmade (F.disk files.old) files.old files.new result }
     ensures counts { CountsPrint (failures_of out.old) (failures_of out.new) result }
     ensures same_writer { writer_of out.new ≡ writer_of out.old }
     ensures unprinted { StopsUnprinted (O.contents (inner_of out.old).now) (O.contents (inner_of out.new).now) result }
@@ -94,10 +94,10 @@ fn write_cycled<F: Files, O: Write>(
     out: &mut Counted<&mut O>,
 ) -> Result<(), CommandRefusal>
     requires written { failures_of out.old < 2 ^ 64 - 1 }
-    ensures written { OnOk result (WritesWhole (F.disk files.old) outputs.New path.now (encoding cycled.now.plan)) }
+    ensures written { OnOk result (WritesWhole (F.disk files.old) outputs.New path.now (encoding cycled.now.plan) files.new) }
     ensures printed { OnOk result (PrintsRun (O.contents (inner_of out.old).now) (O.contents (inner_of out.new).now) cycled.now.shown.items (live_words (live cycled.now.plan))) }
-    ensures cause { IfErr result (IsOfWritingNext (F.disk files.old) path.now (encoding cycled.now.plan)) }
-    ensures unmade { RefusedUnmade files.old files.new result }
+    ensures cause { IfErr result (IsOfWritingNext (F.disk files.old) path.now (encoding cycled.now.plan) files.new) }
+    ensures unmade { RefusedUnmade (F.disk files.old) files.old files.new result }
     ensures counts { CountsPrint (failures_of out.old) (failures_of out.new) result }
     ensures same_writer { writer_of out.new ≡ writer_of out.old }
     ensures unprinted { StopsUnprinted (O.contents (inner_of out.old).now) (O.contents (inner_of out.new).now) result }

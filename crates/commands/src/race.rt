@@ -33,9 +33,9 @@ pub fn print_race<R: Threads + Wait + Sync, F: Files, O: Write>(
     requires mutators { (1 ≤ asked.mutators) × (asked.mutators ≤ 64) }
     requires fresh { asked.fresh ≤ 4096 }
     requires written { failures_of out.old < 2 ^ 64 - 1 }
-    ensures raced { OnOk result (SomeRun (F.disk files.old) asked.entry (Races (F.disk files.old) asked.entry (O.contents (inner_of out.old).now) (O.contents (inner_of out.new).now))) }
-    ensures cause { IfErr result (RefusesRace (F.disk files.old) asked.entry (O.contents (inner_of out.old).now) (O.contents (inner_of out.new).now)) }
-    ensures uncreated { RefusedUncreated files.old files.new result }
+    ensures raced { OnOk result (SomeRun (F.disk files.old) asked.entry (Races (F.disk files.old) asked.entry files.new (O.contents (inner_of out.old).now) (O.contents (inner_of out.new).now))) }
+    ensures cause { IfErr result (RefusesRace (F.disk files.old) asked.entry files.old files.new (O.contents (inner_of out.old).now) (O.contents (inner_of out.new).now)) }
+    ensures uncreated { RefusedUncreated (F.disk files.old) files.old files.new result }
     ensures counts { CountsPrint (failures_of out.old) (failures_of out.new) result }
     ensures same_writer { writer_of out.new ≡ writer_of out.old }
     ensures unprinted { StopsUnprinted (O.contents (inner_of out.old).now) (O.contents (inner_of out.new).now) result }

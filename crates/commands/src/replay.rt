@@ -39,9 +39,9 @@ pub fn print_replay<F: Files, O: Write>(
     requires mutators { (1 ≤ asked.mutators) × (asked.mutators ≤ 64) }
     requires fresh { asked.fresh ≤ 4096 }
     requires written { failures_of out.old < 2 ^ 64 - 1 }
-    ensures replayed { OnOk result (SomeRun (F.disk files.old) asked.entry (Replays (F.disk files.old) asked.entry (O.contents (inner_of out.old).now) (O.contents (inner_of out.new).now))) }
-    ensures cause { IfErr result (RefusesReplay (F.disk files.old) asked.entry (O.contents (inner_of out.old).now) (O.contents (inner_of out.new).now)) }
-    ensures uncreated { RefusedUncreated files.old files.new result }
+    ensures replayed { OnOk result (SomeRun (F.disk files.old) asked.entry (Replays (F.disk files.old) asked.entry files.new (O.contents (inner_of out.old).now) (O.contents (inner_of out.new).now))) }
+    ensures cause { IfErr result (RefusesReplay (F.disk files.old) asked.entry files.old files.new (O.contents (inner_of out.old).now) (O.contents (inner_of out.new).now)) }
+    ensures uncreated { RefusedUncreated (F.disk files.old) files.old files.new result }
     ensures counts { CountsPrint (failures_of out.old) (failures_of out.new) result }
     ensures same_writer { writer_of out.new ≡ writer_of out.old }
     ensures unprinted { StopsUnprinted (O.contents (inner_of out.old).now) (O.contents (inner_of out.new).now) result }
@@ -95,9 +95,9 @@ pub(crate) fn write_outcome<F: Files, O: Write>(
     requires flipped { IfOk outcome (λ run. IsOfFlip asked.mutators asked.fresh run.finished) }
     requires halted { IfErr outcome (λ run. IsHaltedBy run.shown.items run.refusal) }
     requires written { failures_of out.old < 2 ^ 64 - 1 }
-    ensures done { OnOk result (IsWritten (F.disk files.old) asked.entry (O.contents (inner_of out.old).now) (O.contents (inner_of out.new).now) outcome) }
-    ensures cause { IfErr result (RefusesOutcome (F.disk files.old) asked.entry (O.contents (inner_of out.old).now) (O.contents (inner_of out.new).now) outcome) }
-    ensures uncreated { RefusedUncreated files.old files.new result }
+    ensures done { OnOk result (IsWritten (F.disk files.old) asked.entry files.new (O.contents (inner_of out.old).now) (O.contents (inner_of out.new).now) outcome) }
+    ensures cause { IfErr result (RefusesOutcome (F.disk files.old) asked.entry files.old files.new (O.contents (inner_of out.old).now) (O.contents (inner_of out.new).now) outcome) }
+    ensures uncreated { RefusedUncreated (F.disk files.old) files.old files.new result }
     ensures counts { CountsPrint (failures_of out.old) (failures_of out.new) result }
     ensures same_writer { writer_of out.new ≡ writer_of out.old }
     ensures unprinted { StopsUnprinted (O.contents (inner_of out.old).now) (O.contents (inner_of out.new).now) result }
@@ -135,10 +135,10 @@ fn write_run<F: Files, O: Write>(
 ) -> Result<(), CommandRefusal>
     requires flipped { IsOfFlip asked.mutators asked.fresh run.now.finished }
     requires written { failures_of out.old < 2 ^ 64 - 1 }
-    ensures written { OnOk result (WritesWhole (F.disk files.old) outputs.Dump asked.entry.dump.now (dump_bytes (dumped_of asked.entry.mutators asked.entry.fresh run.now.finished))) }
+    ensures written { OnOk result (WritesWhole (F.disk files.old) outputs.Dump asked.entry.dump.now (dump_bytes (dumped_of asked.entry.mutators asked.entry.fresh run.now.finished)) files.new) }
     ensures printed { OnOk result (PrintsRun (O.contents (inner_of out.old).now) (O.contents (inner_of out.new).now) run.now.shown.items (live_of run.now.finished)) }
-    ensures cause { IfErr result (IsOfWritingRun (F.disk files.old) asked.entry.dump.now (dump_bytes (dumped_of asked.entry.mutators asked.entry.fresh run.now.finished))) }
-    ensures uncreated { RefusedUncreated files.old files.new result }
+    ensures cause { IfErr result (IsOfWritingRun (F.disk files.old) asked.entry.dump.now (dump_bytes (dumped_of asked.entry.mutators asked.entry.fresh run.now.finished)) files.new) }
+    ensures uncreated { RefusedUncreated (F.disk files.old) files.old files.new result }
     ensures counts { CountsPrint (failures_of out.old) (failures_of out.new) result }
     ensures same_writer { writer_of out.new ≡ writer_of out.old }
     ensures unprinted { StopsUnprinted (O.contents (inner_of out.old).now) (O.contents (inner_of out.new).now) result }

@@ -1,11 +1,13 @@
-ghost use Rattle.std.specs.Prelude.{◌≡◌, ◌-◌, ◌^◌, ◌<◌, ◌≤◌, true, map, IfOk, IfErr, OnOk, OnErr};
+ghost use Rattle.std.specs.Prelude.{◌≡◌, ◌-◌, ◌^◌, ◌<◌, ◌≤◌, true, map, IfErr, OnOk, OnErr};
 ghost use Rattle.std.specs.String.{string_bytes};
 ghost use Rattle.std.specs.Io.KnownBytes.{Keeps};
 ghost use Rattle.heap_layout.specs.Counted.{inner_of, failures_of, is_flushed_of, writer_of};
 ghost use Rattle.command_line.specs.Asked.{AsksNoCommand, HasLawfulCounts};
+ghost use Rattle.command_io.specs.NewImages.{RefusedUnmade};
 ghost use Rattle.command_io.specs.Printing.{CountsPrint};
 ghost use Rattle.commands.specs.Replays.{StopsUnprinted};
-ghost use Rattle.commands.specs.Tasks.{Answers, AreWrong, DoesTask, HasAnswered, IsRefused, RefusesTask};
+ghost use Rattle.commands.specs.Tasks.{DoesTask, HasAnswered, RefusesTask};
+ghost use Rattle.commands.specs.Answers.{status_of, DoesAsked, IsUnanswered};
 
 use crate::audit::print_audit;
 use crate::compact::print_compact;
@@ -49,44 +51,56 @@ pub fn run<R: rt::Files + AllocGlobal + Threads + Wait + Sync, O: Write, E: Writ
     ensures misused { result ≡ 2 → Keeps (O.contents out.old) (O.contents out.new) }
 {
     let mut out = Counted::new(out);
-    let asked = read_task(rt.alloc(), &words);
-    respond(
-        rt.alloc(),
-        rt,
-        &mut RuntimeFiles { rt },
-        asked,
-        &mut out,
-        err,
-    )
+    let answered = answer(rt.alloc(), rt, &mut RuntimeFiles { rt }, &words, &mut out);
+    respond(answered, err)
 }
 
-// Does what is asked for, and answers the status. A refusal prints one line on `err`; so does a call of `out` that
-// fails. If the words are wrong, prints the parser's report on `err`.
-fn respond<R: Threads + Wait + Sync, F: Files, O: Write, E: Write>(
+/// Why words were not answered.
+#[derive(Debug, Drop)]
+pub enum Unanswered {
+    /// What the words ask for was refused, or memory ran out before they were read.
+    Refused(CommandRefusal),
+    /// The words ask for nothing that the program does. The parser says what is wrong with them.
+    Misused(clap::Error),
+}
+
+/// Does what the words after the program's name ask for, with these files, and flushes the output. A refusal is that of
+/// their task, with its cause. If they ask for nothing that the program does, neither the files nor the output are
+/// touched. Fewer than `u64::MAX` calls of the output must have failed before.
+pub fn answer<R: Threads + Wait + Sync, F: Files, O: Write>(
     alloc: Global,
     rt: &R,
     files: &mut F,
-    asked: Result<Task, clap::Error>,
+    words: &[String],
     out: &mut Counted<&mut O>,
-    err: &mut E,
-) -> u8
+) -> Result<(), Unanswered>
     requires written { failures_of out.old < 2 ^ 64 - 1 }
-    requires counts { IfOk asked HasLawfulCounts }
-    ensures status { result ≤ 2 }
-    ensures done { result ≡ 0 → Answers (F.disk files.old) (O.contents (inner_of out.old).now) (O.contents (inner_of out.new).now) asked.entry }
-    ensures flushed { result ≡ 0 → is_flushed_of out.new ≡ true }
-    ensures refused { result ≡ 1 → IsRefused (F.disk files.old) (failures_of out.old) (failures_of out.new) (O.contents (inner_of out.old).now) (O.contents (inner_of out.new).now) asked.entry }
-    ensures wrong { result ≡ 2 → AreWrong asked.entry }
-    ensures misused { result ≡ 2 → Keeps (O.contents (inner_of out.old).now) (O.contents (inner_of out.new).now) }
+    ensures done { OnOk result (DoesAsked (F.disk files.old) files.new (O.contents (inner_of out.old).now) (O.contents (inner_of out.new).now) (map string_bytes words.now)) }
+    ensures flushed { OnOk result (is_flushed_of out.new ≡ true) }
+    ensures counts { OnOk result (failures_of out.new ≡ failures_of out.old) }
+    ensures cause { IfErr result (IsUnanswered (F.disk files.old) files.old files.new (failures_of out.old) (failures_of out.new) (O.contents (inner_of out.old).now) (O.contents (inner_of out.new).now) (map string_bytes words.now)) }
     ensures same_writer { writer_of out.new ≡ writer_of out.old }
 {
-    match asked {
-        Ok(task) => reported(perform(alloc, rt, files, task, out), err),
-        Err(error) if error.kind() == ErrorKind::OutOfMemory => reported(
-            Err(CommandRefusal::OutOfMemory),
-            err,
-        ),
-        Err(error) => {
+    match read_task(alloc, words) {
+        Ok(task) => match perform(alloc, rt, files, task, out) {
+            Ok(()) => Ok(()),
+            Err(refusal) => Err(Unanswered::Refused(refusal)),
+        },
+        Err(error) if error.kind() == ErrorKind::OutOfMemory => {
+            Err(Unanswered::Refused(CommandRefusal::OutOfMemory))
+        }
+        Err(error) => Err(Unanswered::Misused(error)),
+    }
+}
+
+// The status of an answer. A refusal prints one line on `err`; if the words are wrong, it prints the parser's report.
+fn respond<E: Write>(answered: Result<(), Unanswered>, err: &mut E) -> u8
+    ensures { result ≡ status_of answered }
+{
+    match answered {
+        Ok(()) => DONE,
+        Err(Unanswered::Refused(refusal)) => reported(Err(refusal), err),
+        Err(Unanswered::Misused(error)) => {
             let _ = write!(err, "{error}");
             MISUSED
         }
@@ -103,11 +117,12 @@ fn perform<R: Threads + Wait + Sync, F: Files, O: Write>(
 ) -> Result<(), CommandRefusal>
     requires written { failures_of out.old < 2 ^ 64 - 1 }
     requires counts { HasLawfulCounts task }
-    ensures done { OnOk result (DoesTask (F.disk files.old) (O.contents (inner_of out.old).now) (O.contents (inner_of out.new).now) task.entry) }
-    ensures cause { IfErr result (RefusesTask (F.disk files.old) (O.contents (inner_of out.old).now) (O.contents (inner_of out.new).now) task.entry) }
+    ensures done { OnOk result (DoesTask (F.disk files.old) files.new (O.contents (inner_of out.old).now) (O.contents (inner_of out.new).now) task.entry) }
+    ensures cause { IfErr result (RefusesTask (F.disk files.old) files.old files.new (O.contents (inner_of out.old).now) (O.contents (inner_of out.new).now) task.entry) }
     ensures flushed { OnOk result (is_flushed_of out.new ≡ true) }
     ensures counts { CountsPrint (failures_of out.old) (failures_of out.new) result }
     ensures same_writer { writer_of out.new ≡ writer_of out.old }
+    ensures uncreated { RefusedUnmade (F.disk files.old) files.old files.new result }
     ensures unprinted { StopsUnprinted (O.contents (inner_of out.old).now) (O.contents (inner_of out.new).now) result }
 {
     print_task(alloc, rt, files, task, out)?;
@@ -124,10 +139,11 @@ fn print_task<R: Threads + Wait + Sync, F: Files, O: Write>(
 ) -> Result<(), CommandRefusal>
     requires written { failures_of out.old < 2 ^ 64 - 1 }
     requires counts { HasLawfulCounts task }
-    ensures done { OnOk result (DoesTask (F.disk files.old) (O.contents (inner_of out.old).now) (O.contents (inner_of out.new).now) task.entry) }
-    ensures cause { IfErr result (RefusesTask (F.disk files.old) (O.contents (inner_of out.old).now) (O.contents (inner_of out.new).now) task.entry) }
+    ensures done { OnOk result (DoesTask (F.disk files.old) files.new (O.contents (inner_of out.old).now) (O.contents (inner_of out.new).now) task.entry) }
+    ensures cause { IfErr result (RefusesTask (F.disk files.old) files.old files.new (O.contents (inner_of out.old).now) (O.contents (inner_of out.new).now) task.entry) }
     ensures counts { CountsPrint (failures_of out.old) (failures_of out.new) result }
     ensures same_writer { writer_of out.new ≡ writer_of out.old }
+    ensures uncreated { RefusedUnmade (F.disk files.old) files.old files.new result }
     ensures unprinted { StopsUnprinted (O.contents (inner_of out.old).now) (O.contents (inner_of out.new).now) result }
 {
     match task {

@@ -15,4 +15,5 @@ pub returns-clause-written : goal.returns-clause-written
 returns-clause-written g c =
     let done = c.in_ok-write_flushed.ensures in
     whole (g.F.Files.disk c.args.files.now) g.F.Writer.Write.contents (g.met.F.Files.contents_are c.args.files.now) outputs.Dump c.args.path.now (dump_bytes c.args.dump.now)
-    c.in_ok-create.field-0 c.new-w.result c.write_flushed.new.w c.in_ok-create.ensures.given c.new-w.ensures.inner c.new-w.ensures.none done.writes done.counts done.flushed
+    c.in_ok-create.field-0 c.new-w.result c.write_flushed.new.w c.in_ok-create.ensures.given c.new-w.ensures.inner c.new-w.ensures.none done.writes done.counts done.flushed c.into_inner.result c.into_inner.ensures
+    c.keep.new.self (g.met.F.Files.begun_puts c.args.files.now c.create.new.self c.keep.new.self outputs.Dump c.args.path.now _ c.in_ok-create.ensures.begun c.in_ok-keep.ensures.kept)

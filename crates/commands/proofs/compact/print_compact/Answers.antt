@@ -3,14 +3,14 @@ use Rattle.std.proofs.lemmas.Result.{err_from_is_err_and, on_ok_weaker}
 use Rattle.heap_layout.specs.Counted.{inner_of, failures_of}
 use Rattle.comp_dump.specs.DumpEncoding.{dump_bytes}
 use Rattle.commands.proofs.Compacted.{of_all, of_dumping, of_line, of_sweep, uncounted, IsDumpOf}
-use Rattle.command_io.proofs.Outcomes.{created, created_line, uncounted_dump, uncreated, unprinted}
+use Rattle.command_io.proofs.Outcomes.{created_line, uncounted_dump, uncreated, uncreated_by, unprinted}
 use Rattle.commands.proofs.compact.print_compact.Goals as goal
 
 -- The heap was not swept.
 pub returns-in_err-finished-clause-cause : goal.returns-in_err-finished-clause-cause
 returns-in_err-finished-clause-cause g c =
     let p = err_from_is_err_and c.from_residual.result c.from_residual.ensures.1 in
-    rw (p.1, p.2) (of_sweep (g.F.Files.disk c.args.files.now) c.args.image.now c.args.dump.now c.args.workers
+    rw (p.1, p.2) (of_sweep (g.F.Files.disk c.args.files.now) c.args.image.now c.args.dump.now c.args.workers c.args.files.now
     _ c.in_err-finished.ensures.cause)
 
 pub returns-in_err-finished-clause-counts : goal.returns-in_err-finished-clause-counts
@@ -26,7 +26,7 @@ returns-in_err-finished-clause-unprinted g c =
 pub returns-in_err-finished-clause-uncreated : goal.returns-in_err-finished-clause-uncreated
 returns-in_err-finished-clause-uncreated g c =
     let p = err_from_is_err_and c.from_residual.result c.from_residual.ensures.1 in
-    rw (p.1, p.2) (uncreated c.args.files.now _)
+    rw (p.1, p.2) (uncreated (g.F.Files.disk c.args.files.now) c.args.files.now _)
 
 -- Its dump was not written.
 pub returns-in_err-write_dump_to-clause-cause : goal.returns-in_err-write_dump_to-clause-cause
@@ -42,7 +42,7 @@ returns-in_err-write_dump_to-clause-cause g c =
       builds = made.builds;
       total = made.total;
     } in
-    rw (p.1, p.2) (of_dumping (g.F.Files.disk c.args.files.now) c.args.image.now c.args.dump.now c.args.workers
+    rw (p.1, p.2) (of_dumping (g.F.Files.disk c.args.files.now) c.args.image.now c.args.dump.now c.args.workers c.write_dump_to.new.files
     c.in_ok-finished.finished c.in_ok-made.made parts c.in_ok-finished.ensures.swept _ c.in_err-write_dump_to.ensures.cause)
 
 pub returns-in_err-write_dump_to-clause-counts : goal.returns-in_err-write_dump_to-clause-counts
@@ -58,7 +58,7 @@ returns-in_err-write_dump_to-clause-unprinted g c =
 pub returns-in_err-write_dump_to-clause-uncreated : goal.returns-in_err-write_dump_to-clause-uncreated
 returns-in_err-write_dump_to-clause-uncreated g c =
     let p = err_from_is_err_and c.from_residual-in_err-write_dump_to.result c.from_residual-in_err-write_dump_to.ensures.1 in
-    rw (p.1, p.2) (created (g.F.Files.disk c.args.files.now) c.args.dump.now (dump_bytes c.in_ok-made.made) c.args.files.now c.write_dump_to.new.files _ c.in_err-write_dump_to.ensures.cause)
+    rw (p.1, p.2) (uncreated_by (g.F.Files.disk c.args.files.now) c.args.dump.now (dump_bytes c.in_ok-made.made) c.args.files.now c.write_dump_to.new.files _ c.in_err-write_dump_to.ensures.unkept c.in_err-write_dump_to.ensures.cause)
 
 -- Its dump was written.
 pub returns-clause-compacted : goal.returns-clause-compacted
@@ -73,7 +73,7 @@ returns-clause-compacted g c =
       builds = made.builds;
       total = made.total;
     } in
-    on_ok_weaker c.print_line.result (λ line. of_all (g.F.Files.disk c.args.files.now) c.args.image.now c.args.dump.now c.args.workers
+    on_ok_weaker c.print_line.result (λ line. of_all (g.F.Files.disk c.args.files.now) c.args.image.now c.args.dump.now c.args.workers c.write_dump_to.new.files
     c.in_ok-finished.finished c.in_ok-made.made parts c.in_ok-finished.ensures.swept c.in_ok-write_dump_to.ensures.written
     (g.O.Write.contents (inner_of c.args.out.now).now) (g.O.Write.contents (inner_of c.print_line.new.out).now) c.live_words.result c.live_words.ensures.total line)
     c.print_line.ensures.printed
@@ -90,9 +90,9 @@ returns-clause-cause g c =
       builds = made.builds;
       total = made.total;
     } in
-    of_line (g.F.Files.disk c.args.files.now) c.args.image.now c.args.dump.now c.args.workers
+    of_line (g.F.Files.disk c.args.files.now) c.args.image.now c.args.dump.now c.args.workers c.write_dump_to.new.files
     c.in_ok-finished.finished c.in_ok-made.made parts c.in_ok-finished.ensures.swept c.in_ok-write_dump_to.ensures.written
     c.print_line.result c.print_line.ensures.cause
 
 pub returns-clause-uncreated : goal.returns-clause-uncreated
-returns-clause-uncreated g c = created_line c.args.files.now c.write_dump_to.new.files c.print_line.result c.print_line.ensures.cause
+returns-clause-uncreated g c = created_line (g.F.Files.disk c.args.files.now) c.args.files.now c.write_dump_to.new.files c.print_line.result c.print_line.ensures.cause

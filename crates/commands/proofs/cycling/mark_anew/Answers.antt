@@ -8,7 +8,7 @@ use Rattle.commands.proofs.cycling.mark_anew.Goals as goal
 pub returns-in-Ok-clause-next : goal.returns-in-Ok-clause-next
 returns-in-Ok-clause-next g c =
     let made = c.in-Ok.ensures in
-    next_heap_of c.deref.result.now c.args.plan.value c.args.finished c.args.marks.items c.in-Ok.heap c.in_ok-new-in-Ok.field-0 c.deref.ensures c.in_ok-new-in-Ok.ensures made.cycle made.chapter made.next
+    next_heap_of c.deref.result.now c.args.plan.value c.args.finished c.args.marks.items c.in-Ok.heap c.in_ok-new-in-Ok.field-0 c.deref.ensures c.in_ok-new-in-Ok.ensures made.cycle made.chapter made.next made.stored made.accepted
 
 pub returns-clause-refused : goal.returns-clause-refused
 returns-clause-refused g c =

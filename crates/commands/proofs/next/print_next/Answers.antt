@@ -29,7 +29,7 @@ returns-in_err-inputs-clause-unprinted g c =
 pub returns-in_err-inputs-clause-unmade : goal.returns-in_err-inputs-clause-unmade
 returns-in_err-inputs-clause-unmade g c =
     let p = err_from_is_err_and c.from_residual.result c.from_residual.ensures.1 in
-    rw (p.1, p.2) (unmade c.args.files.now _)
+    rw (p.1, p.2) (unmade (g.F.Files.disk c.args.files.now) c.args.files.now _)
 
 -- There are no marks.
 pub returns-in_err-marks-clause-cause : goal.returns-in_err-marks-clause-cause
@@ -52,7 +52,7 @@ returns-in_err-marks-clause-unprinted g c =
 pub returns-in_err-marks-clause-unmade : goal.returns-in_err-marks-clause-unmade
 returns-in_err-marks-clause-unmade g c =
     let p = err_from_is_err_and c.from_residual-in_err-marks.result c.from_residual-in_err-marks.ensures.1 in
-    rw (p.1, p.2) (unmade c.args.files.now _)
+    rw (p.1, p.2) (unmade (g.F.Files.disk c.args.files.now) c.args.files.now _)
 
 -- All files were read.
 pub write_made-requires-clause-halted : goal.write_made-requires-clause-halted
@@ -68,13 +68,14 @@ returns-clause-made g c =
     let read = c.in_ok-inputs.ensures in
     let marks = c.in_ok-marks.marks.items in
     let disk = g.F.Files.disk c.args.files.now in
+    let to = c.write_made.new.files in
     let before = g.O.Write.contents (inner_of c.args.out.now).now in
     let after = g.O.Write.contents (inner_of c.write_made.new.out).now in
-    ok_then (Nexts disk asked before after (lines_of inputs.trace) marks inputs.heap)
-    (MakesNext disk asked before after)
+    ok_then (Nexts disk asked to before after (lines_of inputs.trace) marks inputs.heap)
+    (MakesNext disk asked to before after)
     (λ h. (inputs.heap, read.heap, (lines_of inputs.trace, read.lines, (marks, c.in_ok-marks.ensures.marks, h))))
     c.write_made.result
-    (made_ok disk asked before after (lines_of inputs.trace) marks inputs.heap c.cycle_heap-made.result c.cycle_heap-made.ensures.cycled
+    (made_ok disk asked c.args.files.now to before after (lines_of inputs.trace) marks inputs.heap c.cycle_heap-made.result c.cycle_heap-made.ensures.cycled
     c.write_made.result c.write_made.ensures.done)
 
 pub returns-clause-cause : goal.returns-clause-cause
@@ -84,10 +85,11 @@ returns-clause-cause g c =
     let read = c.in_ok-inputs.ensures in
     let marks = c.in_ok-marks.marks.items in
     let disk = g.F.Files.disk c.args.files.now in
+    let to = c.write_made.new.files in
     let before = g.O.Write.contents (inner_of c.args.out.now).now in
     let after = g.O.Write.contents (inner_of c.write_made.new.out).now in
-    err_then (RefusesWriting disk asked.new.now before after c.cycle_heap-made.result)
-    (RefusesNext disk asked before after)
+    err_then (RefusesWriting disk asked.new.now c.args.files.now to before after c.cycle_heap-made.result)
+    (RefusesNext disk asked c.args.files.now to before after)
     (λ refusal h. inr (inr (
       inputs.heap,
       read.heap,
@@ -97,7 +99,7 @@ returns-clause-cause g c =
         (
           marks,
           c.in_ok-marks.ensures.marks,
-          made_err disk asked before after (lines_of inputs.trace) marks inputs.heap c.cycle_heap-made.result
+          made_err disk asked c.args.files.now to before after (lines_of inputs.trace) marks inputs.heap c.cycle_heap-made.result
               c.cycle_heap-made.ensures.cycled c.cycle_heap-made.ensures.halted refusal h,
         ),
       ),

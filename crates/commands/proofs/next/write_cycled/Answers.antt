@@ -8,7 +8,7 @@ use Rattle.comp_mutator.proofs.Answering.{ok_anyway}
 use Rattle.command_io.specs.Disk.{WritesWhole}
 use Rattle.command_io.specs.NewImages.{IsOfWritingImage}
 use Rattle.command_io.specs.declared.refusal.Output.TheVariants as outputs
-use Rattle.command_io.proofs.Outcomes.{image_created, image_created_line, uncounted_image}
+use Rattle.command_io.proofs.Outcomes.{uncounted_image, unmade_by, unmade_line}
 use Rattle.comp_trace.specs.Shown.{Shown}
 use Rattle.commands.specs.Replays.{PrintsRun}
 use Rattle.commands.proofs.ReplayRuns.{unprinted_halt, unprinted_line}
@@ -20,7 +20,7 @@ pub returns-in_err-write_image_to-clause-cause : goal.returns-in_err-write_image
 returns-in_err-write_image_to-clause-cause g c =
     let p = err_from_is_err_and c.from_residual.result c.from_residual.ensures.1 in
     let disk = g.F.Files.disk c.args.files.now in
-    rw (p.1, p.2) (writing_image disk c.args.path.now _ _
+    rw (p.1, p.2) (writing_image disk c.args.path.now _ c.write_image_to.new.files _
     (subst (λ (heap : Heap). IsOfWritingImage disk c.args.path.now (encoding heap) c.in_err-write_image_to.field-0.0) c.heap.ensures c.in_err-write_image_to.ensures.cause))
 
 pub returns-in_err-write_image_to-clause-counts : goal.returns-in_err-write_image_to-clause-counts
@@ -36,13 +36,13 @@ returns-in_err-write_image_to-clause-unprinted g c =
 pub returns-in_err-write_image_to-clause-unmade : goal.returns-in_err-write_image_to-clause-unmade
 returns-in_err-write_image_to-clause-unmade g c =
     let p = err_from_is_err_and c.from_residual.result c.from_residual.ensures.1 in
-    rw (p.1, p.2) (image_created (g.F.Files.disk c.args.files.now) c.args.path.now (encoding c.heap.result.now) c.args.files.now c.write_image_to.new.files _ c.in_err-write_image_to.ensures.cause)
+    rw (p.1, p.2) (unmade_by (g.F.Files.disk c.args.files.now) c.args.path.now (encoding c.heap.result.now) c.args.files.now c.write_image_to.new.files _ c.in_err-write_image_to.ensures.unkept c.in_err-write_image_to.ensures.cause)
 
 -- The image was written, and all was printed, but perhaps its last line.
 pub returns-clause-written : goal.returns-clause-written
 returns-clause-written g c =
     let disk = g.F.Files.disk c.args.files.now in
-    ok_anyway c.print_run.result _ (subst (λ (heap : Heap). WritesWhole disk outputs.New c.args.path.now (encoding heap)) c.heap.ensures c.in_ok-write_image_to.ensures.written)
+    ok_anyway c.print_run.result _ (subst (λ (heap : Heap). WritesWhole disk outputs.New c.args.path.now (encoding heap) c.write_image_to.new.files) c.heap.ensures c.in_ok-write_image_to.ensures.written)
 
 pub returns-clause-printed : goal.returns-clause-printed
 returns-clause-printed g c =
@@ -54,11 +54,11 @@ returns-clause-printed g c =
 pub returns-clause-cause : goal.returns-clause-cause
 returns-clause-cause g c =
     let disk = g.F.Files.disk c.args.files.now in
-    unprinted_next disk c.args.path.now _ c.print_run.result c.print_run.ensures.cause
-    (subst (λ (heap : Heap). WritesWhole disk outputs.New c.args.path.now (encoding heap)) c.heap.ensures c.in_ok-write_image_to.ensures.written)
+    unprinted_next disk c.args.path.now _ c.write_image_to.new.files c.print_run.result c.print_run.ensures.cause
+    (subst (λ (heap : Heap). WritesWhole disk outputs.New c.args.path.now (encoding heap) c.write_image_to.new.files) c.heap.ensures c.in_ok-write_image_to.ensures.written)
 
 pub returns-clause-unprinted : goal.returns-clause-unprinted
 returns-clause-unprinted g c = unprinted_line _ _ c.print_run.result c.print_run.ensures.cause
 
 pub returns-clause-unmade : goal.returns-clause-unmade
-returns-clause-unmade g c = image_created_line c.args.files.now c.write_image_to.new.files c.print_run.result c.print_run.ensures.cause
+returns-clause-unmade g c = unmade_line (g.F.Files.disk c.args.files.now) c.args.files.now c.write_image_to.new.files c.print_run.result c.print_run.ensures.cause

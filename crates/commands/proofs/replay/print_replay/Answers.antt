@@ -13,7 +13,7 @@ pub returns-in_err-inputs-clause-cause : goal.returns-in_err-inputs-clause-cause
 returns-in_err-inputs-clause-cause g c =
     let p = err_from_is_err_and c.from_residual.result c.from_residual.ensures.1 in
     let output = g.O.Write.contents (inner_of c.args.out.now).now in
-    rw (p.1, p.2) (of_inputs (replaying c.args.asked.mutators c.args.asked.fresh) (g.F.Files.disk c.args.files.now) c.args.asked output output (Keeps-refl output) _ c.in_err-inputs.ensures.cause)
+    rw (p.1, p.2) (of_inputs (replaying c.args.asked.mutators c.args.asked.fresh) (g.F.Files.disk c.args.files.now) c.args.asked c.args.files.now c.args.files.now output output (Keeps-refl output) _ c.in_err-inputs.ensures.cause)
 
 pub returns-in_err-inputs-clause-counts : goal.returns-in_err-inputs-clause-counts
 returns-in_err-inputs-clause-counts g c =
@@ -29,7 +29,7 @@ returns-in_err-inputs-clause-unprinted g c =
 pub returns-in_err-inputs-clause-uncreated : goal.returns-in_err-inputs-clause-uncreated
 returns-in_err-inputs-clause-uncreated g c =
     let p = err_from_is_err_and c.from_residual.result c.from_residual.ensures.1 in
-    rw (p.1, p.2) (uncreated c.args.files.now _)
+    rw (p.1, p.2) (uncreated (g.F.Files.disk c.args.files.now) c.args.files.now _)
 
 pub write_outcome-requires-clause-halted : goal.write_outcome-requires-clause-halted
 write_outcome-requires-clause-halted g c =
@@ -41,14 +41,14 @@ write_outcome-requires-clause-halted g c =
 pub returns-clause-replayed : goal.returns-clause-replayed
 returns-clause-replayed g c =
     let inputs = c.in_ok-inputs.inputs in
-    of_outcome_ok (g.F.Files.disk c.args.files.now) c.args.asked (g.O.Write.contents (inner_of c.args.out.now).now) (g.O.Write.contents (inner_of c.write_outcome.new.out).now)
+    of_outcome_ok (g.F.Files.disk c.args.files.now) c.args.asked c.args.files.now c.write_outcome.new.files (g.O.Write.contents (inner_of c.args.out.now).now) (g.O.Write.contents (inner_of c.write_outcome.new.out).now)
     inputs.heap c.in_ok-inputs.ensures.heap (lines_of inputs.trace) c.in_ok-inputs.ensures.lines c.replay_heap-ran.result c.replay_heap-ran.ensures.replayed
     c.write_outcome.result c.write_outcome.ensures.done
 
 pub returns-clause-cause : goal.returns-clause-cause
 returns-clause-cause g c =
     let inputs = c.in_ok-inputs.inputs in
-    of_outcome_err (g.F.Files.disk c.args.files.now) c.args.asked (g.O.Write.contents (inner_of c.args.out.now).now) (g.O.Write.contents (inner_of c.write_outcome.new.out).now)
+    of_outcome_err (g.F.Files.disk c.args.files.now) c.args.asked c.args.files.now c.write_outcome.new.files (g.O.Write.contents (inner_of c.args.out.now).now) (g.O.Write.contents (inner_of c.write_outcome.new.out).now)
     inputs.heap c.in_ok-inputs.ensures.heap (lines_of inputs.trace) c.in_ok-inputs.ensures.lines c.replay_heap-ran.result c.replay_heap-ran.ensures.replayed
     c.write_outcome.result c.replay_heap-ran.ensures.halted c.write_outcome.ensures.cause
 

@@ -8,7 +8,7 @@ use Rattle.comp_mutator.proofs.Answering.{ok_anyway}
 use Rattle.command_io.specs.Disk.{WritesWhole}
 use Rattle.command_io.specs.Dumps.{IsOfDumping}
 use Rattle.command_io.specs.declared.refusal.Output.TheVariants as outputs
-use Rattle.command_io.proofs.Outcomes.{created, created_line, uncounted_dump}
+use Rattle.command_io.proofs.Outcomes.{created_line, uncounted_dump, uncreated_by}
 use Rattle.comp_trace.specs.Shown.{Shown}
 use Rattle.commands.specs.Replays.{PrintsRun}
 use Rattle.commands.proofs.ReplayRuns.{dumped_same, unprinted_halt, unprinted_line, unprinted_run, writing_of}
@@ -23,7 +23,7 @@ returns-in_err-write_dump_to-clause-cause g c =
     let disk = g.F.Files.disk c.args.files.now in
     let dump = c.in_ok-dump.dump in
     let same = dumped_same asked.mutators asked.fresh c.args.run.now.finished dump made.edition (omega (arith, made.mutators, c.from.ensures)) made.fresh made.roots made.pages made.builds made.total in
-    rw (p.1, p.2) (writing_of disk asked.dump.now _ _
+    rw (p.1, p.2) (writing_of disk asked.dump.now _ c.write_dump_to.new.files _
     (subst (λ (d : Dumped). IsOfDumping disk asked.dump.now (dump_bytes d) c.in_err-write_dump_to.field-0.0) same c.in_err-write_dump_to.ensures.cause))
 
 pub returns-in_err-write_dump_to-clause-counts : goal.returns-in_err-write_dump_to-clause-counts
@@ -40,8 +40,7 @@ returns-in_err-write_dump_to-clause-unprinted g c =
 pub returns-in_err-write_dump_to-clause-uncreated : goal.returns-in_err-write_dump_to-clause-uncreated
 returns-in_err-write_dump_to-clause-uncreated g c =
     let p = err_from_is_err_and c.from_residual-in_err-write_dump_to.result c.from_residual-in_err-write_dump_to.ensures.1 in
-    let path = c.args.asked.dump.now in
-    rw (p.1, p.2) (created (g.F.Files.disk c.args.files.now) path (dump_bytes c.in_ok-dump.dump) c.args.files.now c.write_dump_to.new.files _ c.in_err-write_dump_to.ensures.cause)
+    rw (p.1, p.2) (uncreated_by (g.F.Files.disk c.args.files.now) c.args.asked.dump.now (dump_bytes c.in_ok-dump.dump) c.args.files.now c.write_dump_to.new.files _ c.in_err-write_dump_to.ensures.unkept c.in_err-write_dump_to.ensures.cause)
 
 -- The dump was written, and all was printed, but perhaps its last line.
 pub returns-clause-written : goal.returns-clause-written
@@ -50,7 +49,7 @@ returns-clause-written g c =
     let made = c.in_ok-dump.ensures in
     let disk = g.F.Files.disk c.args.files.now in
     let same = dumped_same asked.mutators asked.fresh c.args.run.now.finished c.in_ok-dump.dump made.edition (omega (arith, made.mutators, c.from.ensures)) made.fresh made.roots made.pages made.builds made.total in
-    ok_anyway c.print_run.result _ (subst (λ (d : Dumped). WritesWhole disk outputs.Dump asked.dump.now (dump_bytes d)) same c.in_ok-write_dump_to.ensures.written)
+    ok_anyway c.print_run.result _ (subst (λ (d : Dumped). WritesWhole disk outputs.Dump asked.dump.now (dump_bytes d) c.write_dump_to.new.files) same c.in_ok-write_dump_to.ensures.written)
 
 pub returns-clause-printed : goal.returns-clause-printed
 returns-clause-printed g c =
@@ -66,11 +65,11 @@ returns-clause-cause g c =
     let made = c.in_ok-dump.ensures in
     let disk = g.F.Files.disk c.args.files.now in
     let same = dumped_same asked.mutators asked.fresh c.args.run.now.finished c.in_ok-dump.dump made.edition (omega (arith, made.mutators, c.from.ensures)) made.fresh made.roots made.pages made.builds made.total in
-    unprinted_run disk asked.dump.now _ c.print_run.result c.print_run.ensures.cause
-    (subst (λ (d : Dumped). WritesWhole disk outputs.Dump asked.dump.now (dump_bytes d)) same c.in_ok-write_dump_to.ensures.written)
+    unprinted_run disk asked.dump.now _ c.write_dump_to.new.files c.print_run.result c.print_run.ensures.cause
+    (subst (λ (d : Dumped). WritesWhole disk outputs.Dump asked.dump.now (dump_bytes d) c.write_dump_to.new.files) same c.in_ok-write_dump_to.ensures.written)
 
 pub returns-clause-unprinted : goal.returns-clause-unprinted
 returns-clause-unprinted g c = unprinted_line _ _ c.print_run.result c.print_run.ensures.cause
 
 pub returns-clause-uncreated : goal.returns-clause-uncreated
-returns-clause-uncreated g c = created_line c.args.files.now c.write_dump_to.new.files c.print_run.result c.print_run.ensures.cause
+returns-clause-uncreated g c = created_line (g.F.Files.disk c.args.files.now) c.args.files.now c.write_dump_to.new.files c.print_run.result c.print_run.ensures.cause

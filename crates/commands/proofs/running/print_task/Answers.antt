@@ -2,71 +2,72 @@ use Rattle.std.proofs.Common.{IfErr, OnOk, refl, subst, sym}
 use Rattle.heap_layout.specs.Counted.{inner_of}
 use Rattle.command_line.specs.declared.words.Task.{Task}
 use Rattle.commands.specs.Tasks.{DoesTask, RefusesTask}
-use Rattle.commands.proofs.ReplayRuns.{unprinted_line}
+use Rattle.command_io.proofs.Outcomes.{unmade_too}
+use Rattle.commands.proofs.ReplayRuns.{unmade_anyway, unprinted_line}
 use Rattle.commands.proofs.Performed.{err_by}
 use Rattle.commands.proofs.running.print_task.Goals as goal
 
 pub returns-in-Plan-clause-done : goal.returns-in-Plan-clause-done
 returns-in-Plan-clause-done g c =
-    subst (λ (task : Task). OnOk c.print_plan.result (DoesTask (g.F.Files.disk c.args.files.now) (g.O.Write.contents (inner_of c.args.out.now).now) (g.O.Write.contents (inner_of c.print_plan.new.out).now) task)) (sym c.in-Plan.is) c.print_plan.ensures.printed
+    subst (λ (task : Task). OnOk c.print_plan.result (DoesTask (g.F.Files.disk c.args.files.now) c.args.files.now (g.O.Write.contents (inner_of c.args.out.now).now) (g.O.Write.contents (inner_of c.print_plan.new.out).now) task)) (sym c.in-Plan.is) c.print_plan.ensures.printed
 
 pub returns-in-Plan-clause-cause : goal.returns-in-Plan-clause-cause
 returns-in-Plan-clause-cause g c =
-    subst (λ (task : Task). IfErr c.print_plan.result (RefusesTask (g.F.Files.disk c.args.files.now) (g.O.Write.contents (inner_of c.args.out.now).now) (g.O.Write.contents (inner_of c.print_plan.new.out).now) task)) (sym c.in-Plan.is) c.print_plan.ensures.cause
+    subst (λ (task : Task). IfErr c.print_plan.result (RefusesTask (g.F.Files.disk c.args.files.now) c.args.files.now c.args.files.now (g.O.Write.contents (inner_of c.args.out.now).now) (g.O.Write.contents (inner_of c.print_plan.new.out).now) task)) (sym c.in-Plan.is) c.print_plan.ensures.cause
 
 pub returns-in-Word-clause-done : goal.returns-in-Word-clause-done
 returns-in-Word-clause-done g c =
-    subst (λ (task : Task). OnOk c.print_word.result (DoesTask (g.F.Files.disk c.args.files.now) (g.O.Write.contents (inner_of c.args.out.now).now) (g.O.Write.contents (inner_of c.print_word.new.out).now) task)) (sym c.in-Word.is) c.print_word.ensures.printed
+    subst (λ (task : Task). OnOk c.print_word.result (DoesTask (g.F.Files.disk c.args.files.now) c.args.files.now (g.O.Write.contents (inner_of c.args.out.now).now) (g.O.Write.contents (inner_of c.print_word.new.out).now) task)) (sym c.in-Word.is) c.print_word.ensures.printed
 
 pub returns-in-Word-clause-cause : goal.returns-in-Word-clause-cause
 returns-in-Word-clause-cause g c =
-    subst (λ (task : Task). IfErr c.print_word.result (RefusesTask (g.F.Files.disk c.args.files.now) (g.O.Write.contents (inner_of c.args.out.now).now) (g.O.Write.contents (inner_of c.print_word.new.out).now) task)) (sym c.in-Word.is) c.print_word.ensures.cause
+    subst (λ (task : Task). IfErr c.print_word.result (RefusesTask (g.F.Files.disk c.args.files.now) c.args.files.now c.args.files.now (g.O.Write.contents (inner_of c.args.out.now).now) (g.O.Write.contents (inner_of c.print_word.new.out).now) task)) (sym c.in-Word.is) c.print_word.ensures.cause
 
 pub returns-in-Replay-clause-done : goal.returns-in-Replay-clause-done
 returns-in-Replay-clause-done g c =
-    subst (λ (task : Task). OnOk c.print_replay.result (DoesTask (g.F.Files.disk c.args.files.now) (g.O.Write.contents (inner_of c.args.out.now).now) (g.O.Write.contents (inner_of c.print_replay.new.out).now) task)) (sym c.in-Replay.is) c.print_replay.ensures.replayed
+    subst (λ (task : Task). OnOk c.print_replay.result (DoesTask (g.F.Files.disk c.args.files.now) c.print_replay.new.files (g.O.Write.contents (inner_of c.args.out.now).now) (g.O.Write.contents (inner_of c.print_replay.new.out).now) task)) (sym c.in-Replay.is) c.print_replay.ensures.replayed
 
 pub returns-in-Replay-clause-cause : goal.returns-in-Replay-clause-cause
 returns-in-Replay-clause-cause g c =
-    subst (λ (task : Task). IfErr c.print_replay.result (RefusesTask (g.F.Files.disk c.args.files.now) (g.O.Write.contents (inner_of c.args.out.now).now) (g.O.Write.contents (inner_of c.print_replay.new.out).now) task)) (sym c.in-Replay.is) c.print_replay.ensures.cause
+    subst (λ (task : Task). IfErr c.print_replay.result (RefusesTask (g.F.Files.disk c.args.files.now) c.args.files.now c.print_replay.new.files (g.O.Write.contents (inner_of c.args.out.now).now) (g.O.Write.contents (inner_of c.print_replay.new.out).now) task)) (sym c.in-Replay.is) c.print_replay.ensures.cause
 
 pub returns-in-Replay-clause-unprinted : goal.returns-in-Replay-clause-unprinted
 returns-in-Replay-clause-unprinted g c = c.print_replay.ensures.unprinted
 
 pub returns-in-Race-clause-done : goal.returns-in-Race-clause-done
 returns-in-Race-clause-done g c =
-    subst (λ (task : Task). OnOk c.print_race.result (DoesTask (g.F.Files.disk c.args.files.now) (g.O.Write.contents (inner_of c.args.out.now).now) (g.O.Write.contents (inner_of c.print_race.new.out).now) task)) (sym c.in-Race.is) c.print_race.ensures.raced
+    subst (λ (task : Task). OnOk c.print_race.result (DoesTask (g.F.Files.disk c.args.files.now) c.print_race.new.files (g.O.Write.contents (inner_of c.args.out.now).now) (g.O.Write.contents (inner_of c.print_race.new.out).now) task)) (sym c.in-Race.is) c.print_race.ensures.raced
 
 pub returns-in-Race-clause-cause : goal.returns-in-Race-clause-cause
 returns-in-Race-clause-cause g c =
-    subst (λ (task : Task). IfErr c.print_race.result (RefusesTask (g.F.Files.disk c.args.files.now) (g.O.Write.contents (inner_of c.args.out.now).now) (g.O.Write.contents (inner_of c.print_race.new.out).now) task)) (sym c.in-Race.is) c.print_race.ensures.cause
+    subst (λ (task : Task). IfErr c.print_race.result (RefusesTask (g.F.Files.disk c.args.files.now) c.args.files.now c.print_race.new.files (g.O.Write.contents (inner_of c.args.out.now).now) (g.O.Write.contents (inner_of c.print_race.new.out).now) task)) (sym c.in-Race.is) c.print_race.ensures.cause
 
 pub returns-in-Race-clause-unprinted : goal.returns-in-Race-clause-unprinted
 returns-in-Race-clause-unprinted g c = c.print_race.ensures.unprinted
 
 pub returns-in-Compact-clause-done : goal.returns-in-Compact-clause-done
 returns-in-Compact-clause-done g c =
-    subst (λ (task : Task). OnOk c.print_compact.result (DoesTask (g.F.Files.disk c.args.files.now) (g.O.Write.contents (inner_of c.args.out.now).now) (g.O.Write.contents (inner_of c.print_compact.new.out).now) task)) (sym c.in-Compact.is) c.print_compact.ensures.compacted
+    subst (λ (task : Task). OnOk c.print_compact.result (DoesTask (g.F.Files.disk c.args.files.now) c.print_compact.new.files (g.O.Write.contents (inner_of c.args.out.now).now) (g.O.Write.contents (inner_of c.print_compact.new.out).now) task)) (sym c.in-Compact.is) c.print_compact.ensures.compacted
 
 pub returns-in-Compact-clause-cause : goal.returns-in-Compact-clause-cause
 returns-in-Compact-clause-cause g c =
-    subst (λ (task : Task). IfErr c.print_compact.result (RefusesTask (g.F.Files.disk c.args.files.now) (g.O.Write.contents (inner_of c.args.out.now).now) (g.O.Write.contents (inner_of c.print_compact.new.out).now) task)) (sym c.in-Compact.is) c.print_compact.ensures.cause
+    subst (λ (task : Task). IfErr c.print_compact.result (RefusesTask (g.F.Files.disk c.args.files.now) c.args.files.now c.print_compact.new.files (g.O.Write.contents (inner_of c.args.out.now).now) (g.O.Write.contents (inner_of c.print_compact.new.out).now) task)) (sym c.in-Compact.is) c.print_compact.ensures.cause
 
 pub returns-in-Audit-clause-done : goal.returns-in-Audit-clause-done
 returns-in-Audit-clause-done g c =
-    subst (λ (task : Task). OnOk c.print_audit.result (DoesTask (g.F.Files.disk c.args.files.now) (g.O.Write.contents (inner_of c.args.out.now).now) (g.O.Write.contents (inner_of c.print_audit.new.out).now) task)) (sym c.in-Audit.is) c.print_audit.ensures.passed
+    subst (λ (task : Task). OnOk c.print_audit.result (DoesTask (g.F.Files.disk c.args.files.now) c.args.files.now (g.O.Write.contents (inner_of c.args.out.now).now) (g.O.Write.contents (inner_of c.print_audit.new.out).now) task)) (sym c.in-Audit.is) c.print_audit.ensures.passed
 
 pub returns-in-Audit-clause-cause : goal.returns-in-Audit-clause-cause
 returns-in-Audit-clause-cause g c =
-    subst (λ (task : Task). IfErr c.print_audit.result (RefusesTask (g.F.Files.disk c.args.files.now) (g.O.Write.contents (inner_of c.args.out.now).now) (g.O.Write.contents (inner_of c.print_audit.new.out).now) task)) (sym c.in-Audit.is) c.print_audit.ensures.cause
+    subst (λ (task : Task). IfErr c.print_audit.result (RefusesTask (g.F.Files.disk c.args.files.now) c.args.files.now c.args.files.now (g.O.Write.contents (inner_of c.args.out.now).now) (g.O.Write.contents (inner_of c.print_audit.new.out).now) task)) (sym c.in-Audit.is) c.print_audit.ensures.cause
 
 pub returns-in-Next-clause-done : goal.returns-in-Next-clause-done
 returns-in-Next-clause-done g c =
-    subst (λ (task : Task). OnOk c.print_next.result (DoesTask (g.F.Files.disk c.args.files.now) (g.O.Write.contents (inner_of c.args.out.now).now) (g.O.Write.contents (inner_of c.print_next.new.out).now) task)) (sym c.in-Next.is) c.print_next.ensures.made
+    subst (λ (task : Task). OnOk c.print_next.result (DoesTask (g.F.Files.disk c.args.files.now) c.print_next.new.files (g.O.Write.contents (inner_of c.args.out.now).now) (g.O.Write.contents (inner_of c.print_next.new.out).now) task)) (sym c.in-Next.is) c.print_next.ensures.made
 
 pub returns-in-Next-clause-cause : goal.returns-in-Next-clause-cause
 returns-in-Next-clause-cause g c =
-    subst (λ (task : Task). IfErr c.print_next.result (RefusesTask (g.F.Files.disk c.args.files.now) (g.O.Write.contents (inner_of c.args.out.now).now) (g.O.Write.contents (inner_of c.print_next.new.out).now) task)) (sym c.in-Next.is) c.print_next.ensures.cause
+    subst (λ (task : Task). IfErr c.print_next.result (RefusesTask (g.F.Files.disk c.args.files.now) c.args.files.now c.print_next.new.files (g.O.Write.contents (inner_of c.args.out.now).now) (g.O.Write.contents (inner_of c.print_next.new.out).now) task)) (sym c.in-Next.is) c.print_next.ensures.cause
 
 pub returns-in-Next-clause-unprinted : goal.returns-in-Next-clause-unprinted
 returns-in-Next-clause-unprinted g c = c.print_next.ensures.unprinted
@@ -79,14 +80,14 @@ returns-in-Next-clause-same_writer g c = c.print_next.ensures.same_writer
 
 pub returns-in-Help-clause-cause : goal.returns-in-Help-clause-cause
 returns-in-Help-clause-cause g c =
-    subst (λ (task : Task). IfErr c.print_help.result (RefusesTask (g.F.Files.disk c.args.files.now) (g.O.Write.contents (inner_of c.args.out.now).now) (g.O.Write.contents (inner_of c.print_help.new.out).now) task)) (sym c.in-Help.is) (err_by _ c.print_help.result c.print_help.ensures.cause refl)
+    subst (λ (task : Task). IfErr c.print_help.result (RefusesTask (g.F.Files.disk c.args.files.now) c.args.files.now c.args.files.now (g.O.Write.contents (inner_of c.args.out.now).now) (g.O.Write.contents (inner_of c.print_help.new.out).now) task)) (sym c.in-Help.is) (err_by _ c.print_help.result c.print_help.ensures.cause refl)
 
 pub returns-in-Help-clause-unprinted : goal.returns-in-Help-clause-unprinted
 returns-in-Help-clause-unprinted g c = unprinted_line _ _ c.print_help.result c.print_help.ensures.cause
 
 pub returns-in-Version-clause-cause : goal.returns-in-Version-clause-cause
 returns-in-Version-clause-cause g c =
-    subst (λ (task : Task). IfErr c.print_text.result (RefusesTask (g.F.Files.disk c.args.files.now) (g.O.Write.contents (inner_of c.args.out.now).now) (g.O.Write.contents (inner_of c.print_text.new.out).now) task)) (sym c.in-Version.is) (err_by _ c.print_text.result c.print_text.ensures.cause refl)
+    subst (λ (task : Task). IfErr c.print_text.result (RefusesTask (g.F.Files.disk c.args.files.now) c.args.files.now c.args.files.now (g.O.Write.contents (inner_of c.args.out.now).now) (g.O.Write.contents (inner_of c.print_text.new.out).now) task)) (sym c.in-Version.is) (err_by _ c.print_text.result c.print_text.ensures.cause refl)
 
 pub returns-in-Version-clause-unprinted : goal.returns-in-Version-clause-unprinted
 returns-in-Version-clause-unprinted g c = unprinted_line _ _ c.print_text.result c.print_text.ensures.cause
@@ -138,3 +139,30 @@ returns-in-Version-clause-counts g c = c.print_text.ensures.counts
 
 pub returns-in-Version-clause-same_writer : goal.returns-in-Version-clause-same_writer
 returns-in-Version-clause-same_writer g c = c.print_text.ensures.same_writer
+
+pub returns-in-Replay-clause-uncreated : goal.returns-in-Replay-clause-uncreated
+returns-in-Replay-clause-uncreated g c = unmade_too (g.F.Files.disk c.args.files.now) c.args.files.now c.print_replay.new.files c.print_replay.result c.print_replay.ensures.uncreated
+
+pub returns-in-Race-clause-uncreated : goal.returns-in-Race-clause-uncreated
+returns-in-Race-clause-uncreated g c = unmade_too (g.F.Files.disk c.args.files.now) c.args.files.now c.print_race.new.files c.print_race.result c.print_race.ensures.uncreated
+
+pub returns-in-Compact-clause-uncreated : goal.returns-in-Compact-clause-uncreated
+returns-in-Compact-clause-uncreated g c = unmade_too (g.F.Files.disk c.args.files.now) c.args.files.now c.print_compact.new.files c.print_compact.result c.print_compact.ensures.uncreated
+
+pub returns-in-Next-clause-uncreated : goal.returns-in-Next-clause-uncreated
+returns-in-Next-clause-uncreated g c = c.print_next.ensures.unmade
+
+pub returns-in-Plan-clause-uncreated : goal.returns-in-Plan-clause-uncreated
+returns-in-Plan-clause-uncreated g c = unmade_anyway (g.F.Files.disk c.args.files.now) c.args.files.now c.print_plan.result
+
+pub returns-in-Word-clause-uncreated : goal.returns-in-Word-clause-uncreated
+returns-in-Word-clause-uncreated g c = unmade_anyway (g.F.Files.disk c.args.files.now) c.args.files.now c.print_word.result
+
+pub returns-in-Audit-clause-uncreated : goal.returns-in-Audit-clause-uncreated
+returns-in-Audit-clause-uncreated g c = unmade_anyway (g.F.Files.disk c.args.files.now) c.args.files.now c.print_audit.result
+
+pub returns-in-Help-clause-uncreated : goal.returns-in-Help-clause-uncreated
+returns-in-Help-clause-uncreated g c = unmade_anyway (g.F.Files.disk c.args.files.now) c.args.files.now c.print_help.result
+
+pub returns-in-Version-clause-uncreated : goal.returns-in-Version-clause-uncreated
+returns-in-Version-clause-uncreated g c = unmade_anyway (g.F.Files.disk c.args.files.now) c.args.files.now c.print_text.result

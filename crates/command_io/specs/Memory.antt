@@ -1,0 +1,45 @@
+-- What is known of files in memory.
+use Rattle.std.specs.Prelude.{◌≡◌, ◌≢◌, ℕ, List, [], ◌∷◌, Option, None, Some, Vec, if◌then◌else◌}
+use Rattle.std.specs.Global.{Global}
+use Rattle.std.proofs.Common.{subst}
+use Rattle.std.specs.Str.{bytes_eq}
+use Rattle.std.specs.String.{string_bytes}
+use Rattle.command_io.specs.Disk.{Disk, WritesWhole}
+use Rattle.command_io.specs.declared.refusal.Output.{Output}
+use Rattle.command_io.specs.declared.memory.MemoryFile.{MemoryFile}
+use Rattle.command_io.specs.declared.memory.MemoryFiles.{MemoryFiles}
+
+-- the bytes of the first of these files that is at the path
+abbrev pub bytes_in : List MemoryFile → List ℕ → Option (List ℕ)
+bytes_in [] path = None
+bytes_in (file ∷ files) path = if bytes_eq (string_bytes file.path) path then Some file.bytes.items else bytes_in files path
+
+-- the bytes of the file at a path
+abbrev pub bytes_at : MemoryFiles → List ℕ → Option (List ℕ)
+bytes_at memory path = bytes_in memory.files path
+
+-- a file of these bytes was put at the path, and each other path has what it had
+pub record HasPut (from : MemoryFiles) (path bytes : List ℕ) (to : MemoryFiles) : Type 0 where
+  pub here : bytes_at to path ≡ Some bytes
+  pub elsewhere : (other : List ℕ) → other ≢ path → bytes_at to other ≡ bytes_at from other
+
+-- A file of any kind at a path has its bytes. Each path gives a writer that is empty, and no path gives none.
+abbrev pub memory_disk : MemoryFiles → Disk MemoryFiles (Vec ℕ Global)
+memory_disk memory = record {
+  holds = λ input path known. (bytes : List ℕ) × (bytes_at memory path ≡ Some bytes) × (known ≡ Some bytes);
+  lacks = λ input path. bytes_at memory path ≡ None;
+  makes = λ output path writer. writer.items ≡ [];
+  bars = λ output path. ⊥;
+  contents = λ writer. Some writer.items;
+  begins = λ to. to ≡ memory;
+  puts = λ output path writer to. HasPut memory path writer.items to;
+}
+
+-- what was written whole to a path is at it, and each other path has what it had
+abbrev pub WrittenIsThere : Type 0
+WrittenIsThere = (from to : MemoryFiles) (output : Output) (path bytes : List ℕ) → WritesWhole (memory_disk from) output path bytes to → HasPut from path bytes to
+
+-- what is kept once a file was begun is kept in the files as they were: beginning one changes nothing
+pub put_after : (from between to : MemoryFiles) (output : Output) (path : List ℕ) (writer : Vec ℕ Global)
+    → (memory_disk from).begins between → (memory_disk between).puts output path writer to → (memory_disk from).puts output path writer to
+put_after from between to output path writer same kept = subst (λ (memory : MemoryFiles). HasPut memory path writer.items to) same kept
