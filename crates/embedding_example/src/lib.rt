@@ -2,5 +2,8 @@
 #![tactic(auto)]
 
 mod cycle;
+mod cycles;
+#[cfg(test)]
+mod lived;
 #[cfg(test)]
 mod three;

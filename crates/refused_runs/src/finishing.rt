@@ -3,9 +3,8 @@ ghost use Rattle.std.specs.Prelude.{◌≡◌, IfSome};
 ghost use Rattle.comp_mutator.specs.Finishes.{IsOfFlip};
 ghost use Rattle.comp_mutator.specs.Mutators.{setup_of, AreMutatorsOf};
 
-use comp_mutator::{FinishFault, Finished, Mutator, Space, Unfinished};
+use comp_mutator::{Builder, FinishFault, Finished, Mutator, Space, Unfinished};
 use comp_sweep::{Open, SweepFault, sweep};
-use page_plan::Plan;
 use std::alloc::Global;
 use std::sync::Wait;
 use std::sync::ledger::Ledger as Named;
@@ -39,9 +38,9 @@ fn wrote_nothing(before: Work, after: Work) -> bool {
 }
 
 // Finishes with what a finish that was refused memory handed back. The mutators must be as they were.
-fn finish_again<L: Named>(
+fn finish_again<L: Named, B: Builder>(
     alloc: Global,
-    left: Unfinished<L, Plan>,
+    left: Unfinished<L, B>,
     before: Work,
 ) -> Option<Finished>
     requires of { AreMutatorsOf left.space left.mutators.items }
@@ -62,9 +61,9 @@ fn finish_again<L: Named>(
 }
 
 /// Finishes the heap with all its mutators.
-pub fn finish<L: Named>(
+pub fn finish<L: Named, B: Builder>(
     alloc: Global,
-    space: Space<L, Plan>,
+    space: Space<L, B>,
     mutators: Vec<Mutator<L>>,
 ) -> Option<Finished>
     requires of { AreMutatorsOf space mutators.items }
@@ -89,10 +88,10 @@ fn is_memory(fault: SweepFault, pages: u64) -> bool {
 
 /// Sweeps the heap with all mutators. If memory is refused, they have written nothing and lost no build, and sweep
 /// again.
-pub fn swept<L: Named + Send, R: Threads + Wait + Sync>(
+pub fn swept<L: Named + Send, B: Builder, R: Threads + Wait + Sync>(
     rt: &R,
     alloc: Global,
-    space: &Space<L, Plan>,
+    space: &Space<L, B>,
     mutators: Vec<Mutator<L>>,
 ) -> Option<Vec<Mutator<L>>>
     requires of { AreMutatorsOf space.now mutators.items }

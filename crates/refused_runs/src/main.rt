@@ -9,6 +9,7 @@ mod finishing;
 mod flipped;
 mod judging;
 mod ledgers;
+mod making;
 mod playing;
 mod replaying;
 mod rows;

@@ -4,9 +4,9 @@ ghost use Rattle.comp_mutator.specs.Mutators.{setup_of, AreMutatorsOf};
 
 use crate::answers::is_answered;
 use crate::finishing::{finish, swept};
+use crate::making::Making;
 use crate::rows::Row;
 use comp_mutator::{Finished, FlipFault, Mutator, Space, flip};
-use page_plan::Plan;
 use std::alloc::Global;
 use std::marker::Brand;
 use std::sync::ledger::{Blank, Ledger as Named};
@@ -34,8 +34,9 @@ pub struct Case {
 // Whether the row of the mutator that it names is answered.
 fn is_done<L: Named>(
     alloc: Global,
-    space: &Space<L, Plan>,
+    space: &Space<L, Making>,
     mutators: &mut Vec<Mutator<L>>,
+    making: &Making,
     row: &Row,
 ) -> bool
     requires of { AreMutatorsOf space.now mutators.old.items }
@@ -45,21 +46,22 @@ fn is_done<L: Named>(
     if number >= mutators.len() {
         return false;
     }
-    is_answered(alloc, space, &mut mutators[number], row)
+    is_answered(alloc, space, &mut mutators[number], making, row)
 }
 
 // Whether the rows of all mutators are answered, one after another.
 fn are_answered<L: Named>(
     alloc: Global,
-    space: &Space<L, Plan>,
+    space: &Space<L, Making>,
     mutators: &mut Vec<Mutator<L>>,
+    making: &Making,
     rows: &[Row],
 ) -> bool
     requires of { AreMutatorsOf space.now mutators.old.items }
     ensures of { AreMutatorsOf space.now mutators.new.items }
 {
     for row in rows {
-        if !is_done(alloc, space, mutators, row) {
+        if !is_done(alloc, space, mutators, making, row) {
             return false;
         }
     }
@@ -69,7 +71,7 @@ fn are_answered<L: Named>(
 // Whether the first mutator settles, which takes no memory.
 fn is_settled<L: Named, R: Wait>(
     rt: &R,
-    space: &Space<L, Plan>,
+    space: &Space<L, Making>,
     mutators: &mut Vec<Mutator<L>>,
 ) -> bool
     requires of { AreMutatorsOf space.now mutators.old.items }
@@ -111,7 +113,7 @@ fn is_end(finished: &Option<Finished>, case: &Case) -> bool {
 fn ends<L: Named + Send, R: Threads + Wait + Sync>(
     rt: &R,
     alloc: Global,
-    space: Space<L, Plan>,
+    space: Space<L, Making>,
     mutators: Vec<Mutator<L>>,
     case: &Case,
 ) -> bool
@@ -132,14 +134,15 @@ fn ends<L: Named + Send, R: Threads + Wait + Sync>(
 fn plays<L: Named + Send, R: Threads + Wait + Sync>(
     rt: &R,
     alloc: Global,
-    space: Space<L, Plan>,
+    space: Space<L, Making>,
     mut mutators: Vec<Mutator<L>>,
+    making: &Making,
     case: &Case,
 ) -> bool
     requires of { AreMutatorsOf space mutators.items }
     requires whole { (setup_of space).mutators ≡ L.parts }
 {
-    let answered = are_answered(alloc, &space, &mut mutators, case.rows);
+    let answered = are_answered(alloc, &space, &mut mutators, making, case.rows);
     let settled = !case.settles || is_settled(rt, &space, &mut mutators);
     ends(rt, alloc, space, mutators, case) && answered && settled
 }
@@ -149,15 +152,16 @@ fn plays_named<L: Named + Send, R: Threads + Wait + Sync>(
     rt: &R,
     alloc: Global,
     blank: Blank,
-    plan: Arc<Plan>,
+    builder: Arc<Making>,
+    making: &Making,
     case: &Case,
 ) -> Option<bool>
     requires name { blank.name ≡ L.name }
     requires parts { blank.parts ≡ L.parts }
     requires count { blank.parts ≡ case.now.mutators }
 {
-    match flip::<L, Plan>(alloc, blank, plan, case.mutators, case.fresh_pages) {
-        Ok((space, mutators)) => Some(plays(rt, alloc, space, mutators, case)),
+    match flip::<L, Making>(alloc, blank, builder, case.mutators, case.fresh_pages) {
+        Ok((space, mutators)) => Some(plays(rt, alloc, space, mutators, making, case)),
         Err(FlipFault::OutOfMemory) => None,
         Err(FlipFault::BadCounts) => Some(false),
     }
@@ -165,9 +169,10 @@ fn plays_named<L: Named + Send, R: Threads + Wait + Sync>(
 
 // The run, or `None` if there is no memory for its heap.
 fn plays_once<R: Threads + Wait + Sync>(rt: &R, alloc: Global, case: &Case) -> Option<bool> {
-    let plan = Arc::new(alloc, plan_of(rt, alloc, case.heap)?).ok()?;
+    let making = Arc::new(alloc, Making::new(plan_of(rt, alloc, case.heap)?)).ok()?;
+    let builder = making.clone().ok()?;
     let blank = Blank::new(u64::from(case.mutators));
-    plays_named::<Brand, R>(rt, alloc, blank, plan, case)
+    plays_named::<Brand, R>(rt, alloc, blank, builder, &making, case)
 }
 
 /// Whether the run is as expected. It begins again if its heap is refused memory.

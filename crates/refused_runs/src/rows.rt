@@ -1,4 +1,5 @@
 //! The calls of a mutator and their answers.
+use comp_journal::Entry;
 use comp_mutator::Refusal;
 use heap_layout::Kind;
 
@@ -13,8 +14,8 @@ pub enum Call {
     Write(Kind, u64, u16, u64),
     /// A new object: its numbers of references and data words, and its tag.
     Alloc(u16, u16, u32),
-    /// A copy of a page. The answer is the number of entries of its journal.
-    Copy(u64),
+    /// A copy of a page: its first words (all others are 0), and the entries of its journal. The answer is their number.
+    Copy(u64, &'static [u64], &'static [Entry]),
 }
 
 /// A call: the number of the mutator, the call, the page that it touches, the number of entries of that page's journal

@@ -1,6 +1,7 @@
 //! The runs of mutators.
 use crate::playing::Case;
 use crate::rows::{Call, Row};
+use comp_journal::Entry;
 use comp_mutator::Refusal;
 use heap_layout::Kind;
 use test_support::{T, Worked};
@@ -78,6 +79,31 @@ const SETTLED: Case = Case {
     builds: &[&[1], &[2]],
 };
 
+// The journal of the first fresh page after objects of two mutators refer to one another.
+const WRITTEN_BY_TWO: &[Entry] = &[
+    Entry {
+        stamp: 0,
+        writer: 0,
+        kind: Kind::Header,
+        offset: 0,
+        value: 17_179_869_185,
+    },
+    Entry {
+        stamp: 1,
+        writer: 0,
+        kind: Kind::Reference,
+        offset: 1,
+        value: T + 2,
+    },
+    Entry {
+        stamp: 3,
+        writer: 1,
+        kind: Kind::Reference,
+        offset: 1,
+        value: 0,
+    },
+];
+
 // Objects of two mutators refer to one another.
 const REFERRED: Case = Case {
     name: "references to new objects",
@@ -104,7 +130,13 @@ const REFERRED: Case = Case {
         Row(1, Call::Read(Kind::Reference, T + 2, 0), 0, 1, Ok(SECOND)),
         Row(1, Call::Write(Kind::Reference, SECOND, 0, 0), 1, 2, Ok(3)),
         Row(1, Call::Alloc(0, 0, 0), 2, 0, Ok(THIRD)),
-        Row(0, Call::Copy(1), 1, 3, Ok(3)),
+        Row(
+            0,
+            Call::Copy(1, &[17_179_869_185], WRITTEN_BY_TWO),
+            1,
+            3,
+            Ok(3),
+        ),
     ],
     settles: false,
     sweeps: false,

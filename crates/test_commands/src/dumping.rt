@@ -157,6 +157,7 @@ fn expect_row<R: Abort + AllocGlobal + Threads + Wait + Sync>(rt: &R, memory: &M
             at_once: usize::MAX,
             failure: row.failure,
         }),
+        kept: false,
     };
     let mut out = Narrow {
         taken: &mut printed,
@@ -166,6 +167,8 @@ fn expect_row<R: Abort + AllocGlobal + Threads + Wait + Sync>(rt: &R, memory: &M
     };
     let answer = write_dump(rt, row, &mut place, &mut out);
     let created = place.writer.is_none();
+    let printing = row.answer.is_ok() || row.answer == Err(CommandRefusal::CannotPrint);
+    assert!(rt; place.kept == (created && printing), "{}: kept", row.name);
     assert!(rt;
         is_so(row, (answer, &printed), created, &dumped, &whole),
         "{}",

@@ -1,5 +1,5 @@
-//! Dumps and new images in files of a device that is soon full, that cannot rename, or that sets no permissions. The
-//! file at the path stays as it was, and no other file is left.
+//! Dumps and new images in files of a device that is soon full, that cannot rename, that sets no permissions, or that
+//! lets no file at the path be written. The file at the path stays as it was, and no other file is left.
 use command_io::{CommandRefusal, Files, Output, RuntimeFiles, write_dump_to, write_image_to};
 use comp_dump::{Dump, DumpFault, read_dump};
 use heap_layout::{Counted, LayoutFault, MarkedHeap, read_image};
@@ -9,14 +9,15 @@ use std::io::{Error, ErrorKind, Read, Result as IoResult, Seek, SeekFrom, Write}
 use std::process::Abort;
 use std::rt;
 
-// A device whose files each have room for a number of bytes, and which may be unable to rename files or to set
-// permissions.
+// A device whose files each have room for a number of bytes, and which may be unable to rename files, to set
+// permissions, or to open the file at the path for writing, whoever asks.
 #[derive(Drop)]
 struct Device<'a, R> {
     rt: &'a R,
     room: usize,
     renames: bool,
     permits: bool,
+    opens: bool,
 }
 
 // A file that has room for a number of bytes, and may refuse permissions.
@@ -86,6 +87,9 @@ impl<R: rt::Files> rt::Files for Device<'_, R> {
     type Dir = R::Dir;
 
     fn open_file(&self, how: &OpenOptions, path: &str) -> IoResult<Small<R::File>> {
+        if !self.opens && path == PATH {
+            return Err(Error::from(ErrorKind::PermissionDenied));
+        }
         let file = self.rt.open_file(how, path)?;
         Ok(Small {
             file,
@@ -145,39 +149,52 @@ struct Row {
     lacks: usize,
     renames: bool,
     permits: bool,
+    opens: bool,
     // Whether the file is written whole if there was none at the path, and if there was one.
     whole: (bool, bool),
 }
 
-static ROWS: [Row; 5] = [
+static ROWS: [Row; 6] = [
     Row {
         lacks: usize::MAX,
         renames: true,
         permits: true,
+        opens: true,
         whole: (false, false),
     },
     Row {
         lacks: 1,
         renames: true,
         permits: true,
+        opens: true,
         whole: (false, false),
     },
     Row {
         lacks: 0,
         renames: false,
         permits: true,
+        opens: true,
         whole: (false, false),
     },
     Row {
         lacks: 0,
         renames: true,
         permits: false,
+        opens: true,
         whole: (true, false),
     },
     Row {
         lacks: 0,
         renames: true,
         permits: true,
+        opens: false,
+        whole: (true, false),
+    },
+    Row {
+        lacks: 0,
+        renames: true,
+        permits: true,
+        opens: true,
         whole: (true, true),
     },
 ];
@@ -229,6 +246,7 @@ fn expect_row<R: Abort + rt::Files + AllocGlobal>(
             room: bytes.len().saturating_sub(row.lacks),
             renames: row.renames,
             permits: row.permits,
+            opens: row.opens,
         },
         rt.alloc(),
     );
@@ -239,7 +257,7 @@ fn expect_row<R: Abort + rt::Files + AllocGlobal>(
     };
     let wanted = match whole {
         true => Ok(()),
-        false => Err(refused(heap, row.permits || before.is_none())),
+        false => Err(refused(heap, (row.permits && row.opens) || before.is_none())),
     };
     let left = bytes_at(rt, PATH);
     let is_left = match (&left, whole) {
@@ -277,6 +295,7 @@ fn expect_given_up<R: Abort + rt::Files + AllocGlobal>(rt: &R) {
             room: usize::MAX,
             renames: false,
             permits: true,
+            opens: true,
         },
         rt.alloc(),
     );

@@ -1,8 +1,10 @@
 //! Cycles on files in memory: the image of the next heap and the printed lines, also with writers that fail.
 use crate::places::{Memory, Place};
+use call_refusals::Refusal;
 use command_io::{CommandRefusal, Input, Output};
 use command_line::NextRun;
 use commands::print_next;
+use comp_trace::TraceFault;
 use heap_layout::{Counted, LayoutFault};
 use std::process::Abort;
 use std::thread::Threads;
@@ -12,6 +14,7 @@ use test_support::{Failure, Narrow, Part, bytes_of};
 #[derive(Clone, Copy)]
 struct Row {
     name: &'static str,
+    trace: &'static str,
     marks: &'static str,
     // The path of the new image. Only `out` exists.
     path: &'static str,
@@ -48,7 +51,7 @@ fn write_next(
 ) -> Result<(), CommandRefusal> {
     let asked = NextRun {
         image: "three.img",
-        trace: "fresh.trace",
+        trace: row.trace,
         marks: row.marks,
         new: row.path,
         mutators: 1,
@@ -71,6 +74,7 @@ fn expect_row(rt: &(impl Abort + AllocGlobal + Threads + Sync), memory: &Memory,
             at_once: usize::MAX,
             failure: row.failure,
         }),
+        kept: false,
     };
     let mut out = Narrow {
         taken: &mut printed,
@@ -87,6 +91,8 @@ fn expect_row(rt: &(impl Abort + AllocGlobal + Threads + Sync), memory: &Memory,
         row.name
     );
     assert!(rt; created == row.created, "{}: created", row.name);
+    let printing = row.answer.is_ok() || row.answer == Err(CommandRefusal::CannotPrint);
+    assert!(rt; place.kept == (created && printing), "{}: kept", row.name);
     assert!(rt;
         written.len() == row.left && whole.starts_with(written.as_slice()),
         "{}: written",
@@ -94,15 +100,33 @@ fn expect_row(rt: &(impl Abort + AllocGlobal + Threads + Sync), memory: &Memory,
     );
 }
 
+// Checks a row whose text finds room for each smaller number of bytes.
+fn expect_cut(rt: &(impl Abort + AllocGlobal + Threads + Sync), memory: &Memory, row: &Row) {
+    for printable in 0..row.printed.len() {
+        let cut = Row {
+            printable,
+            answer: Err(CommandRefusal::CannotPrint),
+            printed: row.printed.get(..printable).unwrap_or(""),
+            ..*row
+        };
+        expect_row(rt, memory, &cut);
+    }
+}
+
 /// Checks cycles of the three objects on files in memory.
 pub fn expect_cycles(rt: &(impl Abort + AllocGlobal + Threads + Sync), memory: &Memory) {
     for row in &ROWS {
         expect_row(rt, memory, row);
     }
+    for row in &PRINTED {
+        expect_row(rt, memory, row);
+        expect_cut(rt, memory, row);
+    }
 }
 
 const WRITTEN: Row = Row {
     name: "room for all",
+    trace: "fresh.trace",
     marks: "fresh.marks",
     path: "out",
     room: 1_576,
@@ -134,8 +158,29 @@ const UNMARKED: Row = Row {
     ..WRITTEN
 };
 
-static ROWS: [Row; 9] = [
+// What is printed: after the image is written, also with a value; and a value alone, since line 4 is refused and no
+// image is created.
+static PRINTED: [Row; 3] = [
     WRITTEN,
+    Row {
+        name: "a value",
+        trace: "shown.trace",
+        printable: 12,
+        printed: "3 11\nlive 3\n",
+        ..WRITTEN
+    },
+    Row {
+        name: "a value, and a refused line",
+        trace: "halted.trace",
+        answer: Err(CommandRefusal::Trace(TraceFault::Refused(4, Refusal::NoSuchField))),
+        printed: "3 11\n",
+        created: false,
+        left: 0,
+        ..WRITTEN
+    },
+];
+
+static ROWS: [Row; 7] = [
     UNFLUSHED,
     Row {
         name: "room for 0 bytes",
@@ -157,13 +202,6 @@ static ROWS: [Row; 9] = [
         failure: Failure::Error,
         left: 1_575,
         ..UNFLUSHED
-    },
-    Row {
-        name: "three bytes of the line",
-        printable: 3,
-        answer: Err(CommandRefusal::CannotPrint),
-        printed: "liv",
-        ..WRITTEN
     },
     UNMARKED,
     // The marks are those of a trace, and there is no place for the image.

@@ -57,7 +57,7 @@ fn expect_cut_off<R: Files + AllocGlobal + Threads + Wait + Sync>(
 }
 
 /// Lines, and the least number of bytes that they print.
-pub const LINES: [(&str, usize); 8] = [
+pub const LINES: [(&str, usize); 10] = [
     ("word print.tests.img 2", 12),
     ("plan print.tests.img", 48),
     (
@@ -67,6 +67,14 @@ pub const LINES: [(&str, usize); 8] = [
     ("race print.tests.img print.tests.trace print.tests.out", 11),
     ("audit print.tests.img print.tests.dump", 5),
     ("compact print.tests.img print.tests.out", 7),
+    (
+        "next --fresh 0 print.tests.img print.tests.trace print.tests.marks print.tests.new",
+        11,
+    ),
+    (
+        "next --fresh 0 print.tests.img print.tests.lines print.tests.marks print.tests.new",
+        7,
+    ),
     ("--help", 1),
     ("--version", 17),
 ];
@@ -86,14 +94,20 @@ pub fn expect_lines<R: Files + AllocGlobal + Threads + Wait + Sync>(
 pub const WRITTEN: &[Step] = &[
     Step::Write("print.tests.img", Content::ThreeImage),
     Step::Write("print.tests.trace", Content::SeenTrace),
+    Step::Write("print.tests.lines", Content::Text("")),
+    Step::Write("print.tests.marks", Content::Text("0\n2\n")),
     Step::Write("print.tests.dump", Content::FreshDump),
 ];
 
-/// The last dump that the lines wrote is whole. Then the files are removed.
+/// The last dump and the last image that the lines wrote are whole. Then the files are removed.
 pub const REMOVED: &[Step] = &[
     Step::Length("print.tests.out", 573),
+    Step::Length("print.tests.new", 552),
     Step::Remove("print.tests.img"),
     Step::Remove("print.tests.trace"),
+    Step::Remove("print.tests.lines"),
+    Step::Remove("print.tests.marks"),
+    Step::Remove("print.tests.new"),
     Step::Remove("print.tests.dump"),
     Step::Remove("print.tests.out"),
 ];

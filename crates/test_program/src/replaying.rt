@@ -108,6 +108,63 @@ pub const PLACED: &[Step] = &[
     Step::RemoveFolder("place.tests"),
 ];
 
+// The run that makes a new object. Its dump goes to the target of a link.
+const TO_LINK: &str =
+    "replay --mutators 1 --fresh 2 link.tests/img link.tests/trace link.tests/out";
+
+// The same run and then the next cycle. Its image goes to the target of a link.
+const TO_NEXT: &str =
+    "next --mutators 1 --fresh 2 link.tests/img link.tests/trace link.tests/marks link.tests/out";
+
+/// Symbolic links at the path of a dump or of a new image. A link stays, and its target is written; or it stays, and
+/// the run is refused.
+pub const LINKED: &[Step] = &[
+    Step::MakeFolder("link.tests"),
+    Step::Write("link.tests/img", Content::ThreeImage),
+    Step::Write("link.tests/trace", Content::FreshTrace),
+    Step::Write("link.tests/marks", Content::Text("2\n64\n")),
+    // To a longer file.
+    Step::Write("link.tests/old", Content::TwentyImage),
+    Step::Link("link.tests/out", "old"),
+    Step::Prints(TO_LINK, "live 5\n"),
+    Step::Leads("link.tests/out", "old"),
+    Step::Holds("link.tests/old", Content::FreshDump),
+    Step::Prints(TO_NEXT, "live 3\n"),
+    Step::Leads("link.tests/out", "old"),
+    Step::Length("link.tests/old", 1_576),
+    // Refused before anything is written.
+    Step::Write("link.tests/trace", HALTED),
+    Step::Refuses(TO_LINK, "3 11\n", "T6 Refused(4, M3 NoSuchField)"),
+    Step::Leads("link.tests/out", "old"),
+    Step::Length("link.tests/old", 1_576),
+    Step::Write("link.tests/trace", Content::FreshTrace),
+    Step::Remove("link.tests/out"),
+    Step::Remove("link.tests/old"),
+    // To nothing.
+    Step::Link("link.tests/out", "new"),
+    Step::Prints(TO_LINK, "live 5\n"),
+    Step::Leads("link.tests/out", "new"),
+    Step::Holds("link.tests/new", Content::FreshDump),
+    Step::Remove("link.tests/out"),
+    Step::Remove("link.tests/new"),
+    // To a folder, and into one that does not exist.
+    Step::Link("link.tests/out", "."),
+    Step::Refuses(TO_LINK, "", "P2 CannotCreate(dump)"),
+    Step::Refuses(TO_NEXT, "", "P2 CannotCreate(new)"),
+    Step::Leads("link.tests/out", "."),
+    Step::Remove("link.tests/out"),
+    Step::Link("link.tests/out", "absent/new"),
+    Step::Refuses(TO_LINK, "", "P2 CannotCreate(dump)"),
+    Step::Refuses(TO_NEXT, "", "P2 CannotCreate(new)"),
+    Step::Leads("link.tests/out", "absent/new"),
+    Step::Remove("link.tests/out"),
+    // No other file is left: the folder can be removed.
+    Step::Remove("link.tests/img"),
+    Step::Remove("link.tests/trace"),
+    Step::Remove("link.tests/marks"),
+    Step::RemoveFolder("link.tests"),
+];
+
 /// Files that do not exist, and folders in place of files.
 pub const WRONG_FILES: &[Step] = &[
     Step::Write("file.tests.img", Content::ThreeImage),

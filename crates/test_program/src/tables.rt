@@ -10,7 +10,7 @@ use test_support::Step;
 
 // All tables. The last one writes the files that `LINES` read. As a constant they would cost the proof of the test five
 // times as much.
-fn tables() -> [&'static [Step]; 16] {
+fn tables() -> [&'static [Step]; 17] {
     [
         programs::STEPS,
         judging::PASSED,
@@ -21,6 +21,7 @@ fn tables() -> [&'static [Step]; 16] {
         replaying::REPLAYED,
         replaying::STOPPED,
         replaying::PLACED,
+        replaying::LINKED,
         replaying::WRONG_FILES,
         cycling::CYCLED,
         cycling::UNMARKED,

@@ -3,6 +3,7 @@ use crate::contents::{Content, bytes_in};
 use crate::runs::{Run, Text};
 use std::fs;
 use std::io::ErrorKind;
+use std::os::unix::fs::symlink;
 use std::rt::Files;
 use std::test::Fail;
 
@@ -12,6 +13,8 @@ pub enum Step {
     Write(&'static str, Content),
     /// Makes a folder.
     MakeFolder(&'static str),
+    /// Makes a symbolic link at this path (the first) that leads to the second one, seen from the folder of the first.
+    Link(&'static str, &'static str),
     /// This run succeeds and prints this text.
     Prints(&'static str, &'static str),
     /// This run succeeds and prints one of these two texts.
@@ -28,6 +31,8 @@ pub enum Step {
     Length(&'static str, usize),
     /// There is no file at this path.
     Absent(&'static str),
+    /// There is a symbolic link at this path (the first), and it leads to the second one.
+    Leads(&'static str, &'static str),
     /// Removes a file.
     Remove(&'static str),
     /// Removes a folder.
@@ -62,9 +67,11 @@ pub fn take_file_step<R: Files + AllocGlobal>(rt: &R, step: &Step) -> Result<(),
     match step {
         Step::Write(path, content) => write_file(rt, path, *content),
         Step::MakeFolder(path) => Ok(fs::create_dir(rt, path)?),
+        Step::Link(path, target) => Ok(symlink(rt, target, path)?),
         Step::Holds(path, content) => expect_file(rt, path, *content),
         Step::Length(path, length) => expect_length(rt, path, *length),
         Step::Absent(path) => expect_absent(rt, path),
+        Step::Leads(path, target) => expect_link(rt, path, target),
         Step::Remove(path) => Ok(fs::remove_file(rt, path)?),
         Step::RemoveFolder(path) => Ok(fs::remove_dir(rt, path)?),
         _ => Err("a run".into()),
@@ -105,4 +112,13 @@ fn expect_absent<R: Files + AllocGlobal>(rt: &R, path: &str) -> Result<(), Fail>
         Err(error) if error.kind() == ErrorKind::NotFound => Ok(()),
         _ => Err(Fail::new(format_args!("{path}: found a file, wanted none"))),
     }
+}
+
+// Fails unless there is a symbolic link at a path that leads to this target.
+fn expect_link<R: Files + AllocGlobal>(rt: &R, path: &str, target: &str) -> Result<(), Fail> {
+    let found = fs::read_link(rt, path)?;
+    if found.as_str() == target {
+        return Ok(());
+    }
+    Err(Fail::new(format_args!("{path}: found another link than the one to {target}")))
 }

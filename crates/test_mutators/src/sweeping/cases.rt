@@ -17,6 +17,9 @@ pub enum Beside {
     /// The last mutator does not sweep. In a thread of its own it reads the last data word of the second object, which
     /// is this.
     Reader(u64),
+    /// The last mutator does not sweep. At each of the gate's calls, it looks in a thread of its own at the pages of the
+    /// region: before the region its first page is not built, after it all its pages are.
+    Looks,
     /// An earlier sweep asks for more memory than there is for page 9.
     Refusal,
 }
@@ -48,7 +51,7 @@ pub struct Case {
     pub live_words: u64,
 }
 
-static CASES: [Case; 9] = [
+static CASES: [Case; 10] = [
     Case {
         name: "three regions, two workers",
         object: Object::Zeros(639),
@@ -132,6 +135,17 @@ static CASES: [Case; 9] = [
         marks: &[0, 640],
         mutators: 3,
         beside: Beside::Reader(639),
+        workers: 2,
+        regions: 3,
+        pages: 20,
+        live_words: 1_280,
+    },
+    Case {
+        name: "looked at, before and after each region",
+        object: Object::Zeros(639),
+        marks: &[0, 640],
+        mutators: 3,
+        beside: Beside::Looks,
         workers: 2,
         regions: 3,
         pages: 20,

@@ -1,0 +1,10 @@
+use Rattle.heap_layout.specs.Counted.{inner_of}
+use Rattle.proved_clients.proofs.TwoRuns.{both_lived}
+use Rattle.proved_clients.proofs.lives.next_twice_in_memory.Goals as goal
+
+pub returns : goal.returns
+returns g c =
+    let first = g.O.Write.contents (inner_of c.print_next.new.out).now in
+    both_lived c.written_is_there.ensures c.nexts_are_one_life.ensures.two c.args.files.now c.print_next.new.files c.print_next-2.new.files c.args.first c.args.second
+    (g.O.Write.contents (inner_of c.args.out.now).now) first first (g.O.Write.contents (inner_of c.print_next-2.new.out).now) c.requires.follows c.in_ok-print_next.ensures.made
+    c.print_next-2.result c.print_next-2.ensures.made

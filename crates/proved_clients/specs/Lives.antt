@@ -1,0 +1,32 @@
+-- What two runs of `next` over files in memory leave there.
+use Rattle.std.specs.Prelude.{◌≡◌, ℕ, List, [], ◌∷◌, Some}
+use Rattle.heap_layout.specs.Encoding.{encoding}
+use Rattle.heap_layout.specs.Heap.{Heap}
+use Rattle.comp_mutator.specs.Cycles.{IsOneLife}
+use Rattle.comp_trace.specs.Shown.{Shown}
+use Rattle.command_line.specs.declared.next.NextRun.{NextRun}
+use Rattle.command_io.specs.Memory.{bytes_at, HasPut}
+use Rattle.command_io.specs.declared.memory.MemoryFiles.{MemoryFiles}
+use Rattle.commands.specs.Successors.{IsNext}
+
+-- A run of `next`, by the bytes at the paths that are asked for: the image of the next heap was put at its path, and
+-- each other path has what it had.
+pub record KeepsNext (from : MemoryFiles) (asked : NextRun) (to : MemoryFiles) : Type 0 where
+  pub image : List ℕ
+  pub image_at : bytes_at from asked.image.now ≡ Some image
+  pub text : List ℕ
+  pub text_at : bytes_at from asked.trace.now ≡ Some text
+  pub listed : List ℕ
+  pub marks_at : bytes_at from asked.marks.now ≡ Some listed
+  pub shown : List Shown
+  pub next : Heap
+  pub run : IsNext asked.mutators asked.fresh image text listed shown next
+  pub kept : HasPut from asked.new.now (encoding next) to
+
+-- Two runs, one after the other. Their cycles are one life of a heap whose objects never move, from the heap of the
+-- first image to the heap of the last.
+pub record LivesOn (from : MemoryFiles) (first second : NextRun) (to : MemoryFiles) : Type 0 where
+  pub between : MemoryFiles
+  pub one : KeepsNext from first between
+  pub two : KeepsNext between second to
+  pub life : IsOneLife one.run.heap (one.run.cycled.cycle ∷ two.run.cycled.cycle ∷ []) two.next

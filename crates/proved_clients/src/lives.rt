@@ -1,0 +1,36 @@
+//! What a caller of `next` can conclude about files in memory.
+ghost use Rattle.std.specs.Prelude.{◌≡◌, ◌-◌, ◌^◌, ◌<◌, ◌≤◌, OnOk};
+ghost use Rattle.heap_layout.specs.Counted.{failures_of};
+ghost use Rattle.proved_clients.specs.Lives.{LivesOn};
+
+use command_io::{CommandRefusal, MemoryFiles, written_is_there};
+use command_line::NextRun;
+use commands::{nexts_are_one_life, print_next};
+use heap_layout::Counted;
+use std::alloc::Global;
+use std::io::Write;
+use std::thread::Threads;
+
+/// Runs `next` twice over files in memory: the second run reads the image that the first one left. The two cycles are
+/// one life of a heap whose objects never move.
+pub fn next_twice_in_memory<O: Write>(
+    alloc: Global,
+    rt: &(impl Threads + Sync),
+    files: &mut MemoryFiles,
+    first: NextRun<'_>,
+    second: NextRun<'_>,
+    out: &mut Counted<&mut O>,
+) -> Result<(), CommandRefusal>
+    requires mutators { (1 ≤ first.mutators) × (first.mutators ≤ 64) }
+    requires fresh { first.fresh ≤ 4096 }
+    requires second_mutators { (1 ≤ second.mutators) × (second.mutators ≤ 64) }
+    requires second_fresh { second.fresh ≤ 4096 }
+    requires follows { second.image.now ≡ first.new.now }
+    requires written { failures_of out.old < 2 ^ 64 - 1 }
+    ensures { OnOk result (LivesOn files.old first.entry second.entry files.new) }
+{
+    written_is_there();
+    nexts_are_one_life();
+    print_next(alloc, rt, files, first, out)?;
+    print_next(alloc, rt, files, second, out)
+}
