@@ -1,13 +1,17 @@
-ghost use Rattle.std.specs.Prelude.{◌≡◌, ◌-◌, ◌^◌, ◌<◌, ◌≤◌, true, map, IfErr, OnOk, OnErr};
+ghost use Rattle.std.specs.Prelude.{◌≡◌, ◌≢◌, ◌-◌, ◌^◌, ◌<◌, ◌≤◌, true, map, IfErr, OnOk, OnErr};
 ghost use Rattle.std.specs.String.{string_bytes};
 ghost use Rattle.std.specs.Io.KnownBytes.{Keeps};
+ghost use Rattle.clap.specs.Words.{kind_of};
+ghost use Rattle.clap.specs.declared.error.kind.ErrorKind.TheVariants as kind;
 ghost use Rattle.heap_layout.specs.Counted.{inner_of, failures_of, is_flushed_of, writer_of};
 ghost use Rattle.command_line.specs.Asked.{AsksNoCommand, HasLawfulCounts};
 ghost use Rattle.command_io.specs.NewImages.{RefusedUnmade};
 ghost use Rattle.command_io.specs.Printing.{CountsPrint};
+ghost use Rattle.command_io.specs.declared.refusal.CommandRefusal.TheVariants.{OutOfMemory};
 ghost use Rattle.commands.specs.Replays.{StopsUnprinted};
 ghost use Rattle.commands.specs.Tasks.{DoesTask, HasAnswered, RefusesTask};
 ghost use Rattle.commands.specs.Answers.{status_of, DoesAsked, IsUnanswered};
+ghost use Rattle.commands.specs.declared.running.Unanswered.TheVariants.{Misused, Refused};
 
 use crate::audit::print_audit;
 use crate::compact::print_compact;
@@ -86,10 +90,19 @@ pub fn answer<R: Threads + Wait + Sync, F: Files, O: Write>(
             Ok(()) => Ok(()),
             Err(refusal) => Err(Unanswered::Refused(refusal)),
         },
-        Err(error) if error.kind() == ErrorKind::OutOfMemory => {
-            Err(Unanswered::Refused(CommandRefusal::OutOfMemory))
-        }
-        Err(error) => Err(Unanswered::Misused(error)),
+        Err(error) => Err(unread(error)),
+    }
+}
+
+// Why words that could not be read are not answered: memory ran out, or they ask for nothing that the program does.
+fn unread(error: clap::Error) -> Unanswered
+    ensures refused { kind_of error ≡ kind.OutOfMemory → result ≡ Refused OutOfMemory }
+    ensures misused { kind_of error ≢ kind.OutOfMemory → result ≡ Misused error }
+{
+    if error.kind() == ErrorKind::OutOfMemory {
+        Unanswered::Refused(CommandRefusal::OutOfMemory)
+    } else {
+        Unanswered::Misused(error)
     }
 }
 
