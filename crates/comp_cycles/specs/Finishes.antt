@@ -27,7 +27,7 @@ edition_in f = f.edition
 
 -- the pages; None for a page that was never built
 abbrev pub pages_of : Finished → List Slot
-pages_of f = f.pages.items
+pages_of f = f.pages
 
 -- the addresses to which the roots lead
 abbrev pub roots_of : Finished → List ℕ
@@ -43,7 +43,7 @@ builds_in f = lists f.builds.items
 
 -- the journal of each page
 abbrev pub journals_of : Finished → Journals
-journals_of f p = journal_at f.pages.items p
+journals_of f p = journal_at f.pages p
 
 -- the merged history of all pages
 abbrev pub history_of : Setup → Finished → List (ℕ × Entry)

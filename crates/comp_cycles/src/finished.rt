@@ -1,7 +1,7 @@
 //! The heap at the end of a cycle.
 ghost use Rattle.std.specs.Prelude.{◌≡◌, length};
 
-use comp_journal::JournaledPage;
+use cell_steps::ClosedPages;
 use heap_layout::Edition;
 
 /// A compacted heap after all its mutators were handed back. `Space::finish` of comp_mutator makes it, and its contract
@@ -11,7 +11,7 @@ pub struct Finished {
     /// The edition of the heap.
     pub edition: Edition,
     /// The pages, the compacted ones first; None for a page that nobody touched.
-    pub pages: Vec<Option<JournaledPage>>,
+    pub pages: ClosedPages,
     /// Where the roots of the heap lead: to-space addresses, or 0.
     pub roots: Vec<u64>,
     /// The number of words of all objects: those that slid, and those that mutators made.
@@ -32,7 +32,7 @@ impl Finished {
     }
 
     /// The pages, the compacted ones first; None for a page that nobody touched.
-    pub fn pages(&self) -> &[Option<JournaledPage>]
+    pub fn pages(&self) -> &ClosedPages
         ensures { result.now ≡ pages_of self.now }
     {
         &self.pages

@@ -71,7 +71,7 @@ fn journal_on(finished: &Finished, p: usize) -> &[Entry]
     requires { p < length (pages_of finished.now) }
     ensures { result.now ≡ journals_of finished.now p }
 {
-    match &finished.pages()[p] {
+    match finished.pages().page(p) {
         Some(page) => page.journal(),
         None => &[],
     }
@@ -103,8 +103,8 @@ fn words_on<B: Builder>(
     requires inside { p < length (pages_of finished.now) }
     ensures { IfOk result (λ words. words ≡ words_at (B.heap builder.now) finished.now p) }
 {
-    match &finished.pages()[p] {
-        Some(page) => Ok(*page.words()),
+    match finished.pages().page(p) {
+        Some(page) => Ok(page.words()),
         None => {
             if (p as u64) < builder.plan().pages() {
                 let page = builder.build(alloc, p as u64)?;

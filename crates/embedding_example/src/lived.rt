@@ -65,9 +65,9 @@ fn word_at(wanted: &Wanted, index: usize) -> u64 {
 
 // The word of a finished heap at an index; 0 on a page that nobody touched.
 fn word_left(left: &Finished, index: usize) -> u64 {
-    match left.pages().get(index / 64) {
-        Some(Some(page)) => page.words()[index % 64],
-        _ => 0,
+    match left.pages().page(index / 64) {
+        Some(page) => page.words()[index % 64],
+        None => 0,
     }
 }
 

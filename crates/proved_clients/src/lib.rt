@@ -4,6 +4,7 @@
 
 mod alone;
 mod audits;
+mod bases;
 mod built;
 mod copied;
 mod counted;
@@ -19,6 +20,7 @@ mod swept;
 
 pub use alone::{make_and_read, make_weak_and_read, write_seven_and_read, write_weak_and_read};
 pub use audits::finish_and_audit;
+pub use bases::finish_and_ask;
 pub use built::build_twice;
 pub use copied::{read_again, store_made, store_reference, touch_copied};
 pub use counted::post_and_gather;

@@ -2,8 +2,8 @@
 use crate::expected::{expect_eq, expect_so};
 use crate::fights::Fight;
 use crate::writing::value_at;
-use comp_journal::{Entry, JournaledPage};
-use comp_mutator::Finished;
+use comp_journal::Entry;
+use comp_mutator::{ClosedPage, Finished};
 use heap_layout::Kind;
 use std::process::Abort;
 
@@ -36,7 +36,7 @@ fn are_of_writer(journal: &[Entry], writer: u8, fight: Fight) -> bool {
 }
 
 // Whether the word is that of the last entry.
-fn has_last(page: &JournaledPage) -> bool {
+fn has_last(page: &ClosedPage<'_>) -> bool {
     match page.journal().last() {
         Some(last) => page.words().as_slice().get(1) == Some(&last.value),
         None => false,
@@ -58,11 +58,10 @@ fn expect_journal(rt: &impl Abort, journal: &[Entry], entries: u64, fight: Fight
 
 /// Panics unless the one page has as many entries as the mutators counted, and its word is that of the last entry.
 pub fn expect_page(rt: &impl Abort, finished: &Finished, entries: u64, fight: Fight) {
-    let page = finished.pages().first().expect(rt, fight.name);
-    match page {
+    match finished.pages().page(0) {
         Some(page) => {
             expect_journal(rt, page.journal(), entries, fight);
-            expect_so(rt, fight.at(entries), has_last(page));
+            expect_so(rt, fight.at(entries), has_last(&page));
         }
         None => rt.panic(fight.name),
     }

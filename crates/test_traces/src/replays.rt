@@ -265,8 +265,8 @@ fn has_only(finished: &Finished, only: &Only) -> bool {
         offset,
         value,
     };
-    match finished.pages().get(page) {
-        Some(Some(page)) => page.journal() == [entry].as_slice(),
+    match finished.pages().page(page) {
+        Some(page) => page.journal() == [entry].as_slice(),
         _ => false,
     }
 }

@@ -17,6 +17,6 @@ loop-p-preserved g c =
 pub returns : goal.returns
 returns g c =
     let i = c.loop-p.invariant in
-    let all = ap length c.pages-p-end.ensures in
+    let all = c.len-p-end.ensures.count ∙ ap length c.pages.ensures in
     let end : 64 * c.loop-p.p ≡ 64 * length (pages_of c.args.finished.now) = omega arith in
     record { moved = subst (λ (n : ℕ). AreMoved (setup_in (g.B.Builder.heap c.args.builder.now) c.args.finished.now) (journals_of c.args.finished.now) n c.loop-p.words.items c.loop-p.starts) end i.moved }

@@ -14,7 +14,7 @@ returns-in-Err-clause-refused g c =
     let heap = g.B.Builder.heap c.args.builder.now in
     let f = c.args.finished.now in
     let given = c.deref-given.ensures.value in
-    let sizes = ap₂ (λ (p m : ℕ). size_faults (64 * p) m (length c.roots.result.now)) (ap length c.pages.ensures) (ap length given)
+    let sizes = ap₂ (λ (p m : ℕ). size_faults (64 * p) m (length c.roots.result.now)) (c.len-words.ensures.count ∙ ap length c.pages.ensures) (ap length given)
     ∙ ap (λ (r : ℕ). size_faults (64 * length (pages_of f)) (length c.args.marks.items) r) (ap length c.roots.ensures) in
     size_refused heap f c.args.marks.items c.requires c.in-Err.fault (subst (λ (l : List LayoutFault). IsFirst l c.in-Err.fault) sizes c.in-Err.ensures)
 
@@ -24,7 +24,7 @@ returns-in-Err-check_marks-clause-refused g c =
     let f = c.args.finished.now in
     let marks = c.args.marks.items in
     let given = c.deref-given.ensures.value in
-    let sizes = ap₂ (λ (p m : ℕ). size_faults (64 * p) m (length c.roots.result.now)) (ap length c.pages.ensures) (ap length given)
+    let sizes = ap₂ (λ (p m : ℕ). size_faults (64 * p) m (length c.roots.result.now)) (c.len-words.ensures.count ∙ ap length c.pages.ensures) (ap length given)
     ∙ ap (λ (r : ℕ). size_faults (64 * length (pages_of f)) (length marks) r) (ap length c.roots.ensures) in
     let row = object_starts (setup_in heap f) (journals_of f) in
     let bits = bits_are heap f marks c.requires c.in-Ok.moved.words.items c.deref.result.now (subst (λ (b : List ℕ). AreMoved (setup_in heap f) (journals_of f) (64 * length (pages_of f)) c.in-Ok.moved.words.items b) (sym c.deref.ensures.value) c.in-Ok.ensures.moved)
@@ -46,7 +46,7 @@ returns-clause-accepted g c =
     let f = c.args.finished.now in
     let marks = c.args.marks.items in
     let given = c.deref-given.ensures.value in
-    let sizes = ap₂ (λ (p m : ℕ). size_faults (64 * p) m (length c.roots.result.now)) (ap length c.pages.ensures) (ap length given)
+    let sizes = ap₂ (λ (p m : ℕ). size_faults (64 * p) m (length c.roots.result.now)) (c.len-words.ensures.count ∙ ap length c.pages.ensures) (ap length given)
     ∙ ap (λ (r : ℕ). size_faults (64 * length (pages_of f)) (length marks) r) (ap length c.roots.ensures) in
     let row = object_starts (setup_in heap f) (journals_of f) in
     let bits = bits_are heap f marks c.requires c.in-Ok.moved.words.items c.deref.result.now (subst (λ (b : List ℕ). AreMoved (setup_in heap f) (journals_of f) (64 * length (pages_of f)) c.in-Ok.moved.words.items b) (sym c.deref.ensures.value) c.in-Ok.ensures.moved)
@@ -61,7 +61,7 @@ returns-clause-refused g c =
     let f = c.args.finished.now in
     let marks = c.args.marks.items in
     let given = c.deref-given.ensures.value in
-    let sizes = ap₂ (λ (p m : ℕ). size_faults (64 * p) m (length c.roots.result.now)) (ap length c.pages.ensures) (ap length given)
+    let sizes = ap₂ (λ (p m : ℕ). size_faults (64 * p) m (length c.roots.result.now)) (c.len-words.ensures.count ∙ ap length c.pages.ensures) (ap length given)
     ∙ ap (λ (r : ℕ). size_faults (64 * length (pages_of f)) (length marks) r) (ap length c.roots.ensures) in
     let row = object_starts (setup_in heap f) (journals_of f) in
     let bits = bits_are heap f marks c.requires c.in-Ok.moved.words.items c.deref.result.now (subst (λ (b : List ℕ). AreMoved (setup_in heap f) (journals_of f) (64 * length (pages_of f)) c.in-Ok.moved.words.items b) (sym c.deref.ensures.value) c.in-Ok.ensures.moved)

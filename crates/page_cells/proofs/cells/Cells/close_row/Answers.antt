@@ -7,8 +7,8 @@ use Rattle.cell_steps.specs.declared.pass.Pass.{Pass}
 use Rattle.page_cells.proofs.Ending.{all_of, end_of, same_row_builds, take_front}
 use Rattle.page_cells.proofs.cells.Cells.close_row.Goals as goal
 
-pub close-pages-requires-clause-all : goal.close-pages-requires-clause-all
-close-pages-requires-clause-all g c =
+pub close-pages-requires : goal.close-pages-requires
+close-pages-requires g c =
     let self = c.args.self in
     let row = c.args.row.items in
     let all = all_of self.steps _ row row (omega (arith, self.some, self.passes)) c.requires.of c.requires.ordered in
@@ -17,8 +17,8 @@ close-pages-requires-clause-all g c =
 pub returns-clause-end : goal.returns-clause-end
 returns-clause-end g c =
     let row = c.args.row.items in
-    let gathered = subst (λ (l : List Pass). Gathered (steps.about c.args.self.steps) c.close-pages.result.items (map known_of l)) c.deref_mut.ensures.value c.close-pages.ensures.pages in
-    end_of (steps.about c.args.self.steps) c.close-pages.result.items row c.requires.ordered.numbers gathered
+    let gathered = subst (λ (l : List Pass). Gathered (steps.about c.args.self.steps) c.close-pages.result (map known_of l)) c.deref_mut.ensures.value c.close-pages.ensures.pages in
+    end_of (steps.about c.args.self.steps) c.close-pages.result row c.requires.ordered.numbers gathered
 
 pub returns-clause-builds : goal.returns-clause-builds
 returns-clause-builds g c =
@@ -28,9 +28,6 @@ returns-clause-builds g c =
     let long : c.args.row.len ≡ length after = omega (arith, ap length known, length-map after known_of, length-map row known_of, c.args.row.ok.0) in
     c.builds_of_all.ensures ∙ ap (λ (l : List Pass). map builds_of l) (take_front after _ c.args.row.len long) ∙ same_row_builds row after known
 
-pub close-pages-requires-clause-room : goal.close-pages-requires-clause-room
-close-pages-requires-clause-room g c = c.requires.room.pages
-
 pub builds_of_all-requires : goal.builds_of_all-requires
 builds_of_all-requires g c =
     let row = c.args.row.items in
@@ -39,4 +36,4 @@ builds_of_all-requires g c =
     let same : length after ≡ length row = omega (arith, ap length known, length-map after known_of, length-map row known_of) in
     let long : c.args.row.len ≡ length after = omega (arith, same, c.args.row.ok.0) in
     let taken = ap (λ (l : List Pass). length l) (take_front after (drop (length after) row) c.args.row.len long) in
-    (c.requires.room.builds.0, omega (arith, taken, same, c.requires.ordered.count, c.requires.room.builds.1))
+    (c.requires.room.0, omega (arith, taken, same, c.requires.ordered.count, c.requires.room.1))
