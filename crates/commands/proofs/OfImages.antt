@@ -1,5 +1,5 @@
 -- What a command answers by the heap of an image, from what its parts answer by this heap.
-use Rattle.std.proofs.Common.{◌≡◌, ℕ, ◌*◌, ◌<◌, ◌≤◌, List, Option, Result, Ok, Err, IfErr, OnErr, OnOk, subst, sym}
+use Rattle.std.proofs.Common.{◌≡◌, ℕ, ◌*◌, ◌≤◌, List, Option, Result, Ok, Err, IfErr, OnErr, OnOk, subst, sym}
 use Rattle.std.specs.Bool.{⊤}
 use Rattle.std.specs.Io.KnownBytes.{Appends}
 use Rattle.heap_layout.specs.Heap.{Heap, live}
@@ -36,9 +36,7 @@ module _ {F W : Type 0} (disk : Disk F W) (path : List ℕ) where
     -- it has no word at the index
     pub of_past : (index : ℕ) (refusal : CommandRefusal) → IsPast index heap refusal → RefusesAt disk path (RefusesWord index) refusal
     of_past index (Layout fault) h = absurd h
-    of_past index (Mutator refused) h =
-        let there = at_heap disk path heap (λ other. index < 64 * pages (live other)) image h.1 in
-        (there.0, there.1, (h.0, there.2))
+    of_past index (Mutator refused) h = absurd h
     of_past index (Sweep fault) h = absurd h
     of_past index (Trace fault) h = absurd h
     of_past index (Dump fault) h = absurd h
@@ -73,7 +71,7 @@ module _ {F W : Type 0} (disk : Disk F W) (path : List ℕ) where
     -- there is no word, so none was printed
     pub of_word : (refusal : CommandRefusal) → RefusesAt disk path (RefusesWord index) refusal → RefusesAt disk path (RefusesPrint index) refusal
     of_word (Layout fault) h = h
-    of_word (Mutator refused) h = h
+    of_word (Mutator refused) h = absurd h.2
     of_word (Sweep fault) h = absurd h.2
     of_word (Trace fault) h = absurd h.2
     of_word (Dump fault) h = absurd h.2
