@@ -18,6 +18,7 @@ pub(crate) enum Name {
 }
 
 // The text after this word and a blank, if the text begins with them.
+#[inline(always)]
 fn behind<'a>(text: &'a [u8], word: &[u8]) -> Option<&'a [u8]>
     ensures some { IfSome result (λ rest. text.now ≡ word.now ++ 32 ∷ rest.now) }
     ensures none { IfNone result ((rest : List ℕ) → text.now ≡ word.now ++ 32 ∷ rest → ⊥) }
@@ -35,6 +36,7 @@ fn behind<'a>(text: &'a [u8], word: &[u8]) -> Option<&'a [u8]>
 }
 
 /// Reads the name at the front of a text, before a blank. Answers it and the text after the blank.
+#[inline(always)]
 pub(crate) fn read_name(text: &[u8]) -> Option<(Name, &[u8])>
     ensures some { IfSome result (λ read. text.now ≡ written read.0 ++ 32 ∷ read.1.now) }
     ensures none { IfNone result ((name : Name) (rest : List ℕ) → text.now ≡ written name ++ 32 ∷ rest → ⊥) }

@@ -35,6 +35,7 @@ struct Digits {
 }
 
 // Reads all digits at the front of a text.
+#[inline(always)]
 fn front_digits(text: &[u8]) -> Digits
     ensures within { result.count ≤ length text.now }
     ensures are { list_all is_ascii_digit (take result.count text.now) ≡ true }
@@ -56,6 +57,7 @@ fn front_digits(text: &[u8]) -> Digits
 }
 
 // Whether digits are a number: the first digit is not 0, or it is the only one.
+#[inline(always)]
 fn is_number(digits: &[u8]) -> bool
     requires { list_all is_ascii_digit digits.now ≡ true }
     ensures { result ≡ grammar.is_number digits.now }
@@ -67,6 +69,7 @@ fn is_number(digits: &[u8]) -> bool
 }
 
 // The number that these digits write, however many there are.
+#[inline(never)]
 fn long_number(digits: &[u8]) -> Number
     requires { grammar.is_number digits.now ≡ true }
     ensures { Some (size result) ≡ option_map clipped (number_of digits.now) }
@@ -81,6 +84,7 @@ fn long_number(digits: &[u8]) -> Number
 }
 
 // The number that these digits write, if they are a number. `value` is its value if there are at most 19 digits.
+#[inline(always)]
 fn number_in(digits: &[u8], value: u64) -> Option<Number>
     requires are { list_all is_ascii_digit digits.now ≡ true }
     requires value { length digits.now ≤ 19 → value ≡ digits_value 10 digits.now }
@@ -97,6 +101,7 @@ fn number_in(digits: &[u8], value: u64) -> Option<Number>
 
 /// Reads the number at the front of a text, before this byte, which must not be a digit. Answers the number and the
 /// text after the byte.
+#[inline(always)]
 pub(crate) fn number_before(text: &[u8], byte: u8) -> Option<(Number, &[u8])>
     requires { is_ascii_digit byte ≡ false }
     ensures some { IfSome result (λ read. (n : ℕ) × (size read.0 ≡ clipped n) × NumberBefore byte text.now n read.1.now) }
@@ -116,6 +121,7 @@ pub(crate) fn number_before(text: &[u8], byte: u8) -> Option<(Number, &[u8])>
 }
 
 /// Reads the one number of a line. Answers it and the text after the line.
+#[inline(always)]
 pub(crate) fn one_number(text: &[u8]) -> Option<(Number, &[u8])>
     ensures some { IfSome result (λ read. ReadsNumbers text.now (size read.0 ∷ []) read.1.now) }
     ensures none { IfNone result (HasNone 1 text.now) }
@@ -127,6 +133,7 @@ pub(crate) fn one_number(text: &[u8]) -> Option<(Number, &[u8])>
 }
 
 /// Reads the two numbers of a line, with a blank between them. Answers them and the text after the line.
+#[inline(always)]
 pub(crate) fn two_numbers(text: &[u8]) -> Option<(Number, Number, &[u8])>
     ensures some { IfSome result (λ read. ReadsNumbers text.now (size read.0 ∷ size read.1 ∷ []) read.2.now) }
     ensures none { IfNone result (HasNone 2 text.now) }
@@ -141,6 +148,7 @@ pub(crate) fn two_numbers(text: &[u8]) -> Option<(Number, Number, &[u8])>
 }
 
 /// Like `two_numbers`, for three numbers.
+#[inline(always)]
 pub(crate) fn three_numbers(text: &[u8]) -> Option<(Number, Number, Number, &[u8])>
     ensures some { IfSome result (λ read. ReadsNumbers text.now (size read.0 ∷ size read.1 ∷ size read.2 ∷ []) read.3.now) }
     ensures none { IfNone result (HasNone 3 text.now) }
@@ -155,6 +163,7 @@ pub(crate) fn three_numbers(text: &[u8]) -> Option<(Number, Number, Number, &[u8
 }
 
 /// Like `two_numbers`, for four numbers.
+#[inline(always)]
 pub(crate) fn four_numbers(text: &[u8]) -> Option<(Number, Number, Number, Number, &[u8])>
     ensures some { IfSome result (λ read. ReadsNumbers text.now (size read.0 ∷ size read.1 ∷ size read.2 ∷ size read.3 ∷ []) read.4.now) }
     ensures none { IfNone result (HasNone 4 text.now) }
@@ -169,6 +178,7 @@ pub(crate) fn four_numbers(text: &[u8]) -> Option<(Number, Number, Number, Numbe
 }
 
 /// Like `two_numbers`, for five numbers.
+#[inline(never)]
 pub(crate) fn five_numbers(text: &[u8]) -> Option<(Number, Number, Number, Number, Number, &[u8])>
     ensures some { IfSome result (λ read. ReadsNumbers text.now (size read.0 ∷ size read.1 ∷ size read.2 ∷ size read.3 ∷ size read.4 ∷ []) read.5.now) }
     ensures none { IfNone result (HasNone 5 text.now) }
