@@ -61,3 +61,9 @@ lawful_pages u builds records none =
     let behind = append-none (build_faults builds records) (each_built (journal_faults u) records ++ each_built (word_faults u) records) none in
     let entries = append-none (each_built (journal_faults u) records) (each_built (word_faults u) records) behind.1 in
     lawful_records u records entries.0
+
+-- and their words are right
+pub right_pages : (u : Setup) (builds : List (List ℕ)) (records : List (Option BuiltPage)) → page_faults u builds records ≡ [] → each_built (word_faults u) records ≡ []
+right_pages u builds records none =
+    let behind = append-none (build_faults builds records) (each_built (journal_faults u) records ++ each_built (word_faults u) records) none in
+    (append-none (each_built (journal_faults u) records) (each_built (word_faults u) records) behind.1).1

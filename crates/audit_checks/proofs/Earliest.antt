@@ -3,14 +3,14 @@ use Rattle.std.proofs.Common.{◌≡◌, ◌≢◌, ℕ, ◌+◌, ◌<◌, ◌�
 use Rattle.std.specs.List.{flat_map, enumerate_from}
 use Rattle.std.proofs.Math.Path.{fun_ext}
 use Rattle.std.proofs.lemmas.Bool.{cases_lt, ne_eqb}
-use Rattle.std.proofs.lemmas.List.{take_all}
+use Rattle.std.proofs.lemmas.List.{take_all, get_or_default}
 use Rattle.comp_journal.specs.declared.entry.Entry.{Entry}
 use Rattle.comp_history.proofs.Sorted.{In}
 use Rattle.comp_dump.specs.Dumped.{BuiltPage}
 use Rattle.comp_dump.specs.declared.fault.AuditFault.{AuditFault}
 use Rattle.comp_dump.specs.declared.fault.AuditFault.TheVariants.{BadEntry}
 use Rattle.audit_checks.specs.declared.late.Late.{Late}
-use Rattle.audit_checks.specs.Checks.{unless, above, all_stamps, journal_of, of_built, late_on, late_with, late_faults}
+use Rattle.audit_checks.specs.Checks.{unless, above, all_stamps, journal_of, journals_in, of_built, late_on, late_with, late_faults}
 use Rattle.audit_checks.specs.Reported.{IsFirst}
 use Rattle.audit_checks.specs.Noted.{IsEarliest}
 use Rattle.audit_checks.proofs.Reporting.{faults_more}
@@ -103,15 +103,18 @@ abbrev pub pages_late : (Entry → Bool) → List (Option BuiltPage) → ℕ →
 pages_late test records p s = flat_map (of_built (λ q page. late_on test s q page.journal)) (enumerate_from 0 (take p records))
 
 -- one more page
-module _ (test : Entry → Bool) (records : List (Option BuiltPage)) (p : ℕ) (kept : Option BuiltPage) (inside : p < length records) (is : kept ≡ get_or records p kept) where
+module _ (test : Entry → Bool) (records : List (Option BuiltPage)) (p : ℕ) (inside : p < length records) where
+  abbrev kept : Option BuiltPage
+  kept = get_or records p None
+
   page_more : (s : ℕ) → pages_late test records (p + 1) s ≡ pages_late test records p s ++ of_built (λ q page. late_on test s q page.journal) (p, kept)
-  page_more s = faults_more (of_built (λ q page. late_on test s q page.journal)) p records kept inside is
+  page_more s = faults_more (of_built (λ q page. late_on test s q page.journal)) p records kept inside (get_or_default records p None kept inside)
 
   late_at : (s : ℕ) (k : Option BuiltPage) → of_built (λ q page. late_on test s q page.journal) (p, k) ≡ late_on test s p (journal_of k)
   late_at s None = refl
   late_at s (Some page) = refl
 
-  pub late_next : (found next : Option Late) (j : List Entry) → j ≡ journal_of kept → IsEarliest (pages_late test records p) found
+  pub late_next : (found next : Option Late) (j : List Entry) → j ≡ journals_in records p → IsEarliest (pages_late test records p) found
       → ((faults : ℕ → List AuditFault) → IsEarliest faults found → IsEarliest (λ s. faults s ++ late_on test s p j) next) → IsEarliest (pages_late test records (p + 1)) next
   late_next found next j same before more =
       same_earliest (λ s. pages_late test records p s ++ late_on test s p j) (pages_late test records (p + 1)) next (λ s.

@@ -1,6 +1,6 @@
 -- All entries of a dump, page by page: what one more page and one more entry add.
 use Rattle.std.proofs.Common.{◌≡◌, ℕ, suc, ◌+◌, ◌<◌, ◌≤◌, ⊎_elim, List, [], ◌∷◌, ◌++◌, length, map, take, get_or, Option, Some, None, refl, sym, ap, subst, ◌∙◌, arith}
-use Rattle.std.proofs.lemmas.List.{map-append, take_more, get_or_default}
+use Rattle.std.proofs.lemmas.List.{map-append, take_more}
 use Rattle.heap_layout.specs.declared.edition.Edition.{Edition}
 use Rattle.comp_journal.specs.declared.entry.Entry.{Entry}
 use Rattle.comp_history.specs.Lists.{total}
@@ -11,22 +11,14 @@ use Rattle.comp_history.proofs.Pages.{below_in, total_append}
 use Rattle.comp_dump.specs.Dumped.{BuiltPage, HasFewEntries}
 use Rattle.audit_checks.specs.Checks.{above, all_entries, all_stamps, journal_of, journals_in}
 
--- the journal of a record
-pub journal_here : (records : List (Option BuiltPage)) (p : ℕ) (kept : Option BuiltPage) → p < length records → kept ≡ get_or records p kept
-    → journals_in records p ≡ journal_of kept
-journal_here records p kept inside is = ap journal_of (get_or_default records p None kept inside ∙ sym is)
-
+-- a page has few entries
 pub few_at : (kept : Option BuiltPage) → HasFewEntries kept → length (journal_of kept) ≤ 1024
 few_at None h = omega arith
 few_at (Some page) h = h
 
 -- one more page
-pub page_more : (records : List (Option BuiltPage)) (p : ℕ) (kept : Option BuiltPage) → p < length records → kept ≡ get_or records p kept
-    → entries_below (journals_in records) (p + 1) ≡ entries_below (journals_in records) p ++ with_page p (journal_of kept)
-page_more records p kept inside is =
-    let next : p + 1 ≡ suc p = omega arith in
-    ap (entries_below (journals_in records)) next
-    ∙ ap (λ (j : List Entry). entries_below (journals_in records) p ++ with_page p j) (journal_here records p kept inside is)
+pub page_more : (records : List (Option BuiltPage)) (p : ℕ) → entries_below (journals_in records) (p + 1) ≡ entries_below (journals_in records) p ++ with_page p (journals_in records p)
+page_more records p = let next : p + 1 ≡ suc p = omega arith in ap (entries_below (journals_in records)) next
 
 -- one more entry of a page
 pub entry_more : (p : ℕ) (j : List Entry) (i : ℕ) (e : Entry) → i < length j → e ≡ get_or j i e → with_page p (take (i + 1) j) ≡ with_page p (take i j) ++ (p, e) ∷ []
@@ -43,15 +35,14 @@ pub stamps_more : (all : List (ℕ × Entry)) (p : ℕ) (j : List Entry) → map
 stamps_more all p j = map-append stamp_of all (with_page p j) ∙ ap (λ (rest : List ℕ). map stamp_of all ++ rest) (stamps_with p j)
 
 -- the stamps and the words of one more page
-pub stamps_next : (records : List (Option BuiltPage)) (p : ℕ) (kept : Option BuiltPage) (j : List Entry) (old new : List ℕ) → p < length records → kept ≡ get_or records p kept
-    → j ≡ journal_of kept → old ≡ map stamp_of (entries_below (journals_in records) p) → new ≡ old ++ map (λ (e : Entry). e.stamp) j
-    → new ≡ map stamp_of (entries_below (journals_in records) (p + 1))
-stamps_next records p kept j old new inside is same before more =
+pub stamps_next : (records : List (Option BuiltPage)) (p : ℕ) (j : List Entry) (old new : List ℕ) → j ≡ journals_in records p
+    → old ≡ map stamp_of (entries_below (journals_in records) p) → new ≡ old ++ map (λ (e : Entry). e.stamp) j → new ≡ map stamp_of (entries_below (journals_in records) (p + 1))
+stamps_next records p j old new same before more =
     more
     ∙ ap (λ (l : List ℕ). l ++ map (λ (e : Entry). e.stamp) j) before
     ∙ sym (stamps_more (entries_below (journals_in records) p) p j)
     ∙ ap (λ (l : List Entry). map stamp_of (entries_below (journals_in records) p ++ with_page p l)) same
-    ∙ ap (map stamp_of) (sym (page_more records p kept inside is))
+    ∙ ap (map stamp_of) (sym (page_more records p))
 
 -- the words of the objects that a page's entries make
 words_with : (edition : Edition) (p : ℕ) (j : List Entry) → allocated edition (with_page p j) ≡ total (λ (e : Entry). words_by edition e.kind e.value) j
@@ -64,15 +55,15 @@ words_more edition all p j =
     let here = words_with edition p j in
     omega (arith, parts, here)
 
-pub words_next : (edition : Edition) (records : List (Option BuiltPage)) (p : ℕ) (kept : Option BuiltPage) (j : List Entry) (old new : ℕ) → p < length records → kept ≡ get_or records p kept
-    → j ≡ journal_of kept → old ≡ allocated edition (entries_below (journals_in records) p) → new ≡ old + total (λ (e : Entry). words_by edition e.kind e.value) j
+pub words_next : (edition : Edition) (records : List (Option BuiltPage)) (p : ℕ) (j : List Entry) (old new : ℕ) → j ≡ journals_in records p
+    → old ≡ allocated edition (entries_below (journals_in records) p) → new ≡ old + total (λ (e : Entry). words_by edition e.kind e.value) j
     → new ≡ allocated edition (entries_below (journals_in records) (p + 1))
-words_next edition records p kept j old new inside is same before more =
+words_next edition records p j old new same before more =
     more
     ∙ ap (λ (n : ℕ). n + total (λ (e : Entry). words_by edition e.kind e.value) j) before
     ∙ sym (words_more edition (entries_below (journals_in records) p) p j)
     ∙ ap (λ (l : List Entry). allocated edition (entries_below (journals_in records) p ++ with_page p l)) same
-    ∙ ap (allocated edition) (sym (page_more records p kept inside is))
+    ∙ ap (allocated edition) (sym (page_more records p))
 
 -- the stamp of an entry of a list is below `above` of the list's stamps
 in_below_all : (all : List (ℕ × Entry)) (x : ℕ × Entry) → In x all → stamp_of x < above (map stamp_of all)

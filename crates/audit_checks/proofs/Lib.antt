@@ -8,3 +8,4 @@ pub mod Entries
 pub mod Noting
 pub mod Earliest
 pub mod Judging
+pub mod Unwritten

@@ -1,7 +1,8 @@
 -- What the tests of entries mean for the cells: a journal without a fault is lawful, and its stamps rise.
-use Rattle.std.proofs.Common.{◌≡◌, ℕ, ◌+◌, ◌-◌, ◌%◌, Bool, true, false, eqb, ltb, leb, ◌&&◌, List, [], ◌∷◌, ◌++◌, Option, Some, refl, sym, ap, ◌∙◌, arith}
+use Rattle.std.proofs.Common.{◌≡◌, ℕ, ◌+◌, ◌-◌, ◌%◌, ◌⊎◌, inl, inr, Bool, true, false, eqb, ltb, leb, ◌&&◌, ◌||◌, List, [], ◌∷◌, ◌++◌, Option, Some, None, refl, sym, ap, ◌∙◌, arith}
 use Rattle.std.proofs.lemmas.Bool.{le-leb, lt-ltb, leb-true, ltb-true, eqb-true, eq-eqb}
 use Rattle.heap_layout.specs.Header.{header_of, size_of}
+use Rattle.heap_layout.specs.Kinds.{refers}
 use Rattle.heap_layout.specs.declared.kind.Kind.{Kind}
 use Rattle.heap_layout.specs.declared.kind.Kind.TheVariants.{Header, Reference, Weak, Data}
 use Rattle.comp_journal.specs.declared.entry.Entry.{Entry}
@@ -10,7 +11,7 @@ use Rattle.comp_history.specs.Setup.{Setup, pages}
 use Rattle.comp_history.specs.Lawful.{filled, kind_at, Fits, IsField, LawfulAfter}
 use Rattle.comp_dump.specs.declared.fault.AuditFault.{AuditFault}
 use Rattle.comp_dump.specs.declared.fault.AuditFault.TheVariants.{BadEntry}
-use Rattle.audit_checks.specs.Checks.{unless, entry_faults, fits, is_kind, is_fresh_of}
+use Rattle.audit_checks.specs.Checks.{unless, entry_faults, fits, is_kind, is_fresh_of, some_refers}
 use Rattle.audit_checks.specs.Faultless.{FaultlessIsLawful}
 
 pub and_true : (a b : Bool) → (a && b) ≡ true → (a ≡ true) × (b ≡ true)
@@ -20,6 +21,25 @@ and_true false b h = absurd cc
 
 pub true_and : (a b : Bool) → a ≡ true → b ≡ true → (a && b) ≡ true
 true_and a b p q = rw (p, q) refl
+
+pub left_holds : (a b : Bool) → a ≡ true → (a || b) ≡ true
+left_holds a b e = rw e refl
+
+pub right_holds : (a b : Bool) → b ≡ true → (a || b) ≡ true
+right_holds true b e = refl
+right_holds false b e = e
+
+pub holds_or_not : (b : Bool) → (b ≡ true) ⊎ (b ≡ false)
+holds_or_not true = inl refl
+holds_or_not false = inr refl
+
+-- a test that passes has no fault
+pub holds : (b : Bool) (fault : AuditFault) → b ≡ true → unless b fault ≡ []
+holds b fault e = rw e refl
+
+pub refers_means : (o : Option Kind) → some_refers o ≡ true → (k : Kind) × (refers k ≡ true) × (o ≡ Some k)
+refers_means None h = absurd cc
+refers_means (Some k) h = (k, h, refl)
 
 pub kind_means : (k : Kind) (o : Option Kind) → is_kind k o ≡ true → o ≡ Some k
 kind_means Header (Some Header) h = refl

@@ -14,7 +14,7 @@ use Rattle.comp_history.proofs.Heads.{all_made}
 use Rattle.comp_history.specs.Merged.{entries_below, stamp_of, with_page}
 use Rattle.comp_history.specs.OneThread.{address_of}
 use Rattle.comp_dump.specs.Dumped.{BuiltPage}
-use Rattle.audit_checks.specs.Checks.{journal_of, journals_in, is_kind, makes, is_made_before}
+use Rattle.audit_checks.specs.Checks.{journals_in, is_kind, makes, is_made_before}
 use Rattle.audit_checks.specs.Noted.{Stamped, stamp_at, is_below, is_noted_before, Notes}
 use Rattle.audit_checks.proofs.Entries.{page_more, entry_more}
 use Rattle.audit_checks.proofs.Meanings.{true_and, kind_tested}
@@ -125,12 +125,11 @@ headers_covered u p journal first count lawful inside begins long = λ k d lt he
     (omega (arith, made.fresh, begins), omega (arith, made.ends, inside, begins, long, offset))
 
 -- one more page
-pub notes_next : (records : List (Option BuiltPage)) (p : ℕ) (kept : Option BuiltPage) (j : List Entry) (old new : Stamped) → p < length records → kept ≡ get_or records p kept
-    → j ≡ journal_of kept → Notes old (entries_below (journals_in records) p) → ((all : List (ℕ × Entry)) → Notes old all → Notes new (all ++ with_page p j))
+pub notes_next : (records : List (Option BuiltPage)) (p : ℕ) (j : List Entry) (old new : Stamped) → j ≡ journals_in records p → Notes old (entries_below (journals_in records) p) → ((all : List (ℕ × Entry)) → Notes old all → Notes new (all ++ with_page p j))
     → Notes new (entries_below (journals_in records) (p + 1))
-notes_next records p kept j old new inside is same before more =
+notes_next records p j old new same before more =
     let parts : entries_below (journals_in records) p ++ with_page p j ≡ entries_below (journals_in records) (p + 1) =
-    ap (λ (l : List Entry). entries_below (journals_in records) p ++ with_page p l) same ∙ sym (page_more records p kept inside is) in
+    ap (λ (l : List Entry). entries_below (journals_in records) p ++ with_page p l) same ∙ sym (page_more records p) in
     subst (Notes new) parts (more (entries_below (journals_in records) p) before)
 
 -- one more entry of a page

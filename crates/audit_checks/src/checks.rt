@@ -1,10 +1,10 @@
 //! The nine checks of a dump, in the order of their faults. Each answers its first fault.
-ghost use Rattle.std.specs.Prelude.{◌≡◌, ◌<◌, ◌≤◌, All, length};
+ghost use Rattle.std.specs.Prelude.{◌≡◌, ◌<◌, ◌≤◌, [], All, length};
 ghost use Rattle.comp_history.specs.Setup.{pages};
 ghost use Rattle.comp_history.specs.CellEnds.{lists as items_of};
 ghost use Rattle.comp_history.specs.Objects.{AreLawful};
 ghost use Rattle.comp_dump.specs.Dumped.{IsStoredList, IsStoredRecord};
-ghost use Rattle.audit_checks.specs.Checks.{journals_in};
+ghost use Rattle.audit_checks.specs.Checks.{each_built, journals_in, word_faults};
 ghost use Rattle.audit_checks.specs.Noted.{setup_at};
 ghost use Rattle.audit_checks.specs.Reported.{faults_for, history_faults, page_faults, Reports};
 
@@ -19,7 +19,7 @@ use crate::setting::Setting;
 use crate::stamps::check_stamps;
 use crate::starts::starts_of;
 use crate::totals::check_total;
-use comp_dump::DumpedPage;
+use comp_dump::DumpedPages;
 use std::alloc::Global;
 
 /// Checks a dump of edition `setting.edition` with these roots, lists of builds, pages and total. If there are faults,
@@ -30,7 +30,7 @@ pub fn check(
     setting: Setting<'_>,
     roots: &[u64],
     builds: &[Vec<u32>],
-    records: &[Option<DumpedPage<'_>>],
+    records: &DumpedPages<'_>,
     total: u64,
 ) -> Result<(), CheckEnd>
     requires some { 0 < setting.mutators }
@@ -50,7 +50,7 @@ fn check_pages(
     alloc: Global,
     setting: Setting<'_>,
     builds: &[Vec<u32>],
-    records: &[Option<DumpedPage<'_>>],
+    records: &DumpedPages<'_>,
 ) -> Result<(), CheckEnd>
     requires some { 0 < setting.mutators }
     requires few { length records.now ≤ 20480 }
@@ -68,12 +68,13 @@ fn check_pages(
 fn check_history(
     alloc: Global,
     setting: Setting<'_>,
-    records: &[Option<DumpedPage<'_>>],
+    records: &DumpedPages<'_>,
 ) -> Result<(), CheckEnd>
     requires few { length records.now ≤ 20480 }
     requires slots { length records.now ≡ pages (setup_at setting) }
     requires pages { All (IsStoredRecord setting.edition setting.mutators) records.now }
     requires lawful { AreLawful (setup_at setting) (journals_in records.now) }
+    requires words { each_built (word_faults (setup_at setting)) records.now ≡ [] }
     ensures { Reports (history_faults (setup_at setting.entry) records.now) result }
 {
     let starts = starts_of(alloc, setting, records)?;

@@ -8,22 +8,22 @@ ghost use Rattle.comp_dump.specs.Dumped.{IsStoredList};
 ghost use Rattle.audit_checks.specs.Reported.{Reports};
 
 use crate::fault::CheckEnd;
-use comp_dump::{AuditFault, DumpedPage};
+use comp_dump::{AuditFault, DumpedPage, DumpedPages};
 use std::alloc::{AllocError, Global};
 
 /// Checks that the lists of builds name each page that was built exactly once, and no other page.
 pub fn check_builds(
     alloc: Global,
     builds: &[Vec<u32>],
-    records: &[Option<DumpedPage<'_>>],
+    records: &DumpedPages<'_>,
 ) -> Result<(), CheckEnd>
     requires few { length records.now ≤ 20480 }
     requires builds { All (IsStoredList (length records.now)) (items_of builds.now) }
     ensures { Reports (build_faults (items_of builds.now) records.now) result }
 {
     let counts = count_builds(alloc, records.len(), builds)?;
-    for (p, slot) in records.iter().enumerate() {
-        if !is_claimed(counts[p], slot) {
+    for p in 0..records.len() {
+        if !is_claimed(counts[p], &records.page(p)) {
             return Err(CheckEnd::Fault(AuditFault::BuildUnclaimed(p as u64)));
         }
     }

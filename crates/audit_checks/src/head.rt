@@ -7,7 +7,7 @@ ghost use Rattle.audit_checks.specs.Noted.{setup_at};
 
 use crate::fault::CheckEnd;
 use crate::setting::Setting;
-use comp_dump::{AuditFault, DumpedPage};
+use comp_dump::{AuditFault, DumpedPages};
 use heap_layout::Edition;
 use std::alloc::Global;
 
@@ -17,7 +17,7 @@ pub fn check_head(
     alloc: Global,
     setting: Setting<'_>,
     roots: &[u64],
-    records: &[Option<DumpedPage<'_>>],
+    records: &DumpedPages<'_>,
 ) -> Result<(), CheckEnd>
     requires { length records.now ≤ 20480 }
     ensures reported { Reports (head_faults (setup_at setting.entry) setting.entry.edition roots.now records.now) result }

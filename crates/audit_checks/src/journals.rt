@@ -13,7 +13,7 @@ ghost use Rattle.audit_checks.specs.Noted.{setup_at};
 use crate::fault::CheckEnd;
 use crate::kinds::{is_of, is_word_of};
 use crate::setting::Setting;
-use comp_dump::{AuditFault, DumpedPage};
+use comp_dump::{AuditFault, DumpedPages};
 use comp_history::add_kinds;
 use comp_journal::Entry;
 use heap_layout::{Edition, Header, Kind};
@@ -23,7 +23,7 @@ use std::alloc::Global;
 pub fn check_journals(
     alloc: Global,
     setting: Setting<'_>,
-    records: &[Option<DumpedPage<'_>>],
+    records: &DumpedPages<'_>,
 ) -> Result<(), CheckEnd>
     requires some { 0 < setting.mutators }
     requires few { length records.now ≤ 20480 }
@@ -31,8 +31,8 @@ pub fn check_journals(
     requires pages { All (IsStoredRecord setting.edition setting.mutators) records.now }
     ensures { Reports (each_built (journal_faults (setup_at setting.entry)) records.now) result }
 {
-    for (p, slot) in records.iter().enumerate() {
-        if let Some(page) = slot {
+    for p in 0..records.len() {
+        if let Some(page) = records.page(p) {
             check_journal(alloc, setting, p as u64, page.journal())?;
         }
     }

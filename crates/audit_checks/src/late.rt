@@ -9,7 +9,7 @@ ghost use Rattle.comp_dump.specs.declared.fault.AuditFault.TheVariants.{BadEntry
 use crate::fault::CheckEnd;
 use crate::record::journal_of;
 use crate::starts::Starts;
-use comp_dump::{AuditFault, DumpedPage};
+use comp_dump::{AuditFault, DumpedPages};
 use comp_journal::Entry;
 use page_plan::Plan;
 
@@ -24,11 +24,7 @@ pub struct Late {
 
 /// Checks that each reference and weak word that was written is null, or leads to a slid object, or to a new object
 /// whose header has a smaller stamp.
-pub fn check_late(
-    plan: &Plan,
-    starts: &Starts,
-    records: &[Option<DumpedPage<'_>>],
-) -> Result<(), CheckEnd>
+pub fn check_late(plan: &Plan, starts: &Starts, records: &DumpedPages<'_>) -> Result<(), CheckEnd>
     ensures { Reports (late_faults (is_led plan.now (is_noted_before starts.now)) records.now) result }
 {
     match earliest(plan, starts, records) {
@@ -38,12 +34,12 @@ pub fn check_late(
 }
 
 // Of the entries that fail the eighth check, the one with the least stamp.
-fn earliest(plan: &Plan, starts: &Starts, records: &[Option<DumpedPage<'_>>]) -> Option<Late>
+fn earliest(plan: &Plan, starts: &Starts, records: &DumpedPages<'_>) -> Option<Late>
     ensures { IsEarliest (late_with (is_led plan.now (is_noted_before starts.now)) records.now) result }
 {
     let mut found = None;
-    for (p, slot) in records.iter().enumerate() {
-        found = earliest_on(plan, starts, p as u64, journal_of(slot), found);
+    for p in 0..records.len() {
+        found = earliest_on(plan, starts, p as u64, journal_of(records, p), found);
     }
     found
 }

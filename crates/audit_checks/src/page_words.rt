@@ -9,7 +9,7 @@ ghost use Rattle.audit_checks.specs.Noted.{setup_at};
 
 use crate::fault::CheckEnd;
 use crate::setting::Setting;
-use comp_dump::{AuditFault, DumpedPage};
+use comp_dump::{AuditFault, DumpedPage, DumpedPages};
 use comp_journal::Entry;
 use heap_layout::{OutOfMemory, PageWords};
 use page_plan::TO_SPACE;
@@ -19,15 +19,15 @@ use std::alloc::Global;
 pub fn check_words(
     alloc: Global,
     setting: Setting<'_>,
-    records: &[Option<DumpedPage<'_>>],
+    records: &DumpedPages<'_>,
 ) -> Result<(), CheckEnd>
     requires few { length records.now ≤ 20480 }
     requires pages { All (IsStoredRecord setting.edition setting.mutators) records.now }
     ensures { Reports (each_built (word_faults (setup_at setting.entry)) records.now) result }
 {
-    for (p, slot) in records.iter().enumerate() {
-        if let Some(page) = slot {
-            check_page(alloc, setting, p as u64, page)?;
+    for p in 0..records.len() {
+        if let Some(page) = records.page(p) {
+            check_page(alloc, setting, p as u64, &page)?;
         }
     }
     Ok(())
@@ -46,7 +46,7 @@ fn check_page(
 {
     let mut right = base(alloc, setting, p)?;
     replay(&mut right, page.journal());
-    check_same(right.as_array(), p, page.words())
+    check_same(right.as_array(), p, &page.words())
 }
 
 // The words with which page `p` began.

@@ -1,14 +1,14 @@
 ghost use Rattle.std.specs.Prelude.{◌≡◌};
-ghost use Rattle.audit_checks.specs.Checks.{journal_of};
+ghost use Rattle.audit_checks.specs.Checks.{journals_in};
 
-use comp_dump::DumpedPage;
+use comp_dump::DumpedPages;
 use comp_journal::Entry;
 
-/// The entries of a page; an empty list if it was never built.
-pub(crate) fn journal_of<'a>(slot: &'a Option<DumpedPage<'_>>) -> &'a [Entry]
-    ensures { result.now ≡ journal_of slot.now }
+/// The entries of page `p`; an empty list if it was never built, or if there is no such page.
+pub(crate) fn journal_of<'a>(records: &'a DumpedPages<'_>, p: usize) -> &'a [Entry]
+    ensures { result.now ≡ journals_in records.now p }
 {
-    match slot {
+    match records.page(p) {
         None => &[],
         Some(page) => page.journal(),
     }

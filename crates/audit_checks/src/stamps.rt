@@ -6,12 +6,12 @@ ghost use Rattle.audit_checks.specs.Reported.{Reports};
 
 use crate::fault::CheckEnd;
 use crate::record::journal_of;
-use comp_dump::{AuditFault, DumpedPage};
+use comp_dump::{AuditFault, DumpedPages};
 use comp_journal::Entry;
 use std::alloc::{AllocError, Global};
 
 /// Checks that the stamps of all n entries are the numbers below n, each once.
-pub fn check_stamps(alloc: Global, records: &[Option<DumpedPage<'_>>]) -> Result<(), CheckEnd>
+pub fn check_stamps(alloc: Global, records: &DumpedPages<'_>) -> Result<(), CheckEnd>
     ensures { Reports (repeat_faults (all_stamps records.now) ++ missing_faults (all_stamps records.now)) result }
 {
     let mut stamps = gather_stamps(alloc, records)?;
@@ -19,12 +19,12 @@ pub fn check_stamps(alloc: Global, records: &[Option<DumpedPage<'_>>]) -> Result
 }
 
 // The stamps of all entries, page by page.
-fn gather_stamps(alloc: Global, records: &[Option<DumpedPage<'_>>]) -> Result<Vec<u64>, AllocError>
+fn gather_stamps(alloc: Global, records: &DumpedPages<'_>) -> Result<Vec<u64>, AllocError>
     ensures { IfOk result (λ stamps. stamps.items ≡ all_stamps records.now) }
 {
     let mut stamps = Vec::new(alloc);
-    for slot in records {
-        add_stamps(&mut stamps, journal_of(slot))?;
+    for p in 0..records.len() {
+        add_stamps(&mut stamps, journal_of(records, p))?;
     }
     Ok(stamps)
 }

@@ -11,7 +11,7 @@ ghost use Rattle.audit_checks.specs.Noted.{is_below, is_noted_before, leads, set
 
 use crate::record::journal_of;
 use crate::setting::Setting;
-use comp_dump::DumpedPage;
+use comp_dump::DumpedPages;
 use comp_journal::Entry;
 use heap_layout::Kind;
 use page_plan::{Plan, TO_SPACE};
@@ -101,7 +101,7 @@ fn lesser(noted: Option<u64>, stamp: u64) -> u64
 pub fn starts_of(
     alloc: Global,
     setting: Setting<'_>,
-    records: &[Option<DumpedPage<'_>>],
+    records: &DumpedPages<'_>,
 ) -> Result<Starts, AllocError>
     requires few { length records.now ≤ 20480 }
     requires slots { length records.now ≡ pages (setup_at setting) }
@@ -111,8 +111,8 @@ pub fn starts_of(
 {
     let first = TO_SPACE + 64 * setting.plan.pages();
     let mut starts = Starts::new(alloc, first, 64 * setting.fresh as usize)?;
-    for (p, slot) in records.iter().enumerate() {
-        note_page(&mut starts, p as u64, journal_of(slot));
+    for p in 0..records.len() {
+        note_page(&mut starts, p as u64, journal_of(records, p));
     }
     Ok(starts)
 }

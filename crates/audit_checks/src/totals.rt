@@ -9,17 +9,13 @@ ghost use Rattle.audit_checks.specs.Reported.{Reports};
 
 use crate::fault::CheckEnd;
 use crate::record::journal_of;
-use comp_dump::{AuditFault, DumpedPage};
+use comp_dump::{AuditFault, DumpedPages};
 use comp_journal::Entry;
 use heap_layout::{Edition, Header, Kind};
 use page_plan::Plan;
 
 /// Checks that the total is the number of words that slid and of words of new objects.
-pub fn check_total(
-    plan: &Plan,
-    total: u64,
-    records: &[Option<DumpedPage<'_>>],
-) -> Result<(), CheckEnd>
+pub fn check_total(plan: &Plan, total: u64, records: &DumpedPages<'_>) -> Result<(), CheckEnd>
     requires few { length records.now ≤ 20480 }
     requires pages { All HasFewEntries records.now }
     ensures { Reports (total_faults plan.now total records.now) result }
@@ -31,15 +27,15 @@ pub fn check_total(
 }
 
 // The words of the objects that all entries make.
-fn all_words(edition: Edition, records: &[Option<DumpedPage<'_>>]) -> u64
+fn all_words(edition: Edition, records: &DumpedPages<'_>) -> u64
     requires few { length records.now ≤ 20480 }
     requires pages { All HasFewEntries records.now }
     ensures words { result ≡ allocated edition (all_entries records.now) }
     ensures few { result ≤ 2 ^ 43 }
 {
     let mut words = 0;
-    for slot in records {
-        words += words_on(edition, journal_of(slot));
+    for p in 0..records.len() {
+        words += words_on(edition, journal_of(records, p));
     }
     words
 }

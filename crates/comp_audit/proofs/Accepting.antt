@@ -1,5 +1,5 @@
 -- The audit finds no fault in a lawful dump.
-use Rattle.std.proofs.Common.{◌≡◌, ℕ, ◌+◌, ◌<◌, ◌≤◌, ◌⊎◌, inl, inr, ⊎_elim, Bool, true, false, eqb, ltb, leb, not, ◌&&◌, ◌||◌, is_some, List, [], ◌∷◌, ◌++◌, length, map, get_or, Option, Some, None, refl, sym, ap, subst, ◌∙◌, arith}
+use Rattle.std.proofs.Common.{◌≡◌, ℕ, ◌+◌, ◌<◌, ◌≤◌, inl, inr, ⊎_elim, Bool, true, false, eqb, ltb, leb, not, ◌&&◌, ◌||◌, is_some, List, [], ◌∷◌, length, map, get_or, Option, Some, None, refl, sym, ap, subst, ◌∙◌, arith}
 use Rattle.std.specs.Prelude.{bytes_eq}
 use Rattle.std.specs.List.{list_any}
 use Rattle.std.proofs.lemmas.Slice.Eq.{bytes_eq-Decides}
@@ -32,21 +32,18 @@ use Rattle.comp_dump.proofs.Sorted.{In, at_in}
 use Rattle.comp_dump.proofs.CompHistoryPages.{below_in}
 use Rattle.comp_dump.specs.Builds.{named}
 use Rattle.comp_dump.specs.Dumped.{BuiltPage, Dumped}
-use Rattle.comp_dump.specs.declared.fault.AuditFault.{AuditFault}
 use Rattle.comp_dump.specs.declared.fault.AuditFault.TheVariants.{WrongHead, WrongWord, WrongTotal, BuildUnclaimed, BadEntry, LooseReference, StampRepeated, StampMissing}
 use Rattle.audit_checks.specs.Checks.{setup_for, unless, all_stamps, journal_of, journals_in, above, is_edition, head_faults, is_claimed, build_faults, journal_faults, same_words, word_faults, each_built, some_refers, makes, is_start, is_made_before, is_led, reference_faults, late_on, late_with, late_faults, repeat_faults, missing_faults, total_faults}
 use Rattle.comp_audit.specs.Meant.{built_count, page_of, IsLawfulDump, LawfulIsYes}
 use Rattle.audit_checks.proofs.Reporting.{both_pass, none_items}
-use Rattle.audit_checks.proofs.Meanings.{true_and, faultless_is_lawful}
+use Rattle.audit_checks.proofs.Meanings.{true_and, faultless_is_lawful, holds, left_holds, right_holds, holds_or_not}
 use Rattle.audit_checks.proofs.Noting.{makes_here}
 use Rattle.audit_checks.proofs.Ranges.{none_in_range}
 use Rattle.audit_checks.proofs.Built.{none_built}
+use Rattle.audit_checks.proofs.Unwritten.{start_tested}
 use Rattle.comp_audit.proofs.Clock.{stamps_counted, stamps_long}
 use Rattle.comp_audit.proofs.Sound.{page_long, total_merged}
 use Rattle.audit_checks.proofs.Earliest.{both_none}
-
-holds : (b : Bool) (fault : AuditFault) → b ≡ true → unless b fault ≡ []
-holds b fault e = rw e refl
 
 claim_tested : (builds : List (List ℕ)) (p : ℕ) (kept : Option BuiltPage) → named p builds ≡ built_count kept → is_claimed builds (p, kept) ≡ true
 claim_tested builds p None e = eq-eqb _ _ e
@@ -68,27 +65,12 @@ no_words right words p same =
     let value : x ≡ get_or right k 0 = is ∙ get_or_default words i x 0 inside ∙ ap (λ (l : List ℕ). get_or l i 0) same ∙ ap (λ (j : ℕ). get_or right j 0) place in
     holds (eqb x (get_or right k 0)) (WrongWord (address p k)) (eq-eqb _ _ value))
 
-left_holds : (a b : Bool) → a ≡ true → (a || b) ≡ true
-left_holds a b e = rw e refl
-
-right_holds : (a b : Bool) → b ≡ true → (a || b) ≡ true
-right_holds true b e = refl
-right_holds false b e = e
-
 any_in : {X : Type 0} (test : X → Bool) (xs : List X) (x : X) → In x xs → test x ≡ true → list_any test xs ≡ true
 any_in test [] x i h = absurd i
 any_in test (y ∷ ys) x i h = ⊎_elim
     (λ (same : y ≡ x). left_holds (test y) (list_any test ys) (ap test same ∙ h))
     (λ t. right_holds (test y) (list_any test ys) (any_in test ys x t h))
     i
-
-holds_or_not : (b : Bool) → (b ≡ true) ⊎ (b ≡ false)
-holds_or_not true = inl refl
-holds_or_not false = inr refl
-
-refers_means : (o : Option Kind) → some_refers o ≡ true → (k : Kind) × (refers k ≡ true) × (o ≡ Some k)
-refers_means None h = absurd cc
-refers_means (Some k) h = (k, h, refl)
 
 edition_same : (e : Edition) → is_edition e e ≡ true
 edition_same One = refl
@@ -135,18 +117,15 @@ module _ (u : Setup) (journals : Journals) where
       (holds_or_not (refers e.kind))
 
   -- a word that is null or leads to an object passes its test, if it is a reference
-  start_tested : (o : Option Kind) (a : ℕ) → ((k : Kind) → refers k ≡ true → o ≡ Some k → LeadsToObject u journals a) → ((not (some_refers o) || eqb a 0) || is_start u.heap all a) ≡ true
-  start_tested o a leads =
+  reference_tested : (o : Option Kind) (a : ℕ) → ((k : Kind) → refers k ≡ true → o ≡ Some k → LeadsToObject u journals a) → ((not (some_refers o) || eqb a 0) || is_start u.heap all a) ≡ true
+  reference_tested o a leads = start_tested (is_start u.heap all) o a (λ k is_ref kind.
       ⊎_elim
-      (λ (reference : some_refers o ≡ true). ⊎_elim
-      (λ (null : a ≡ 0). left_holds _ (is_start u.heap all a) (right_holds (not (some_refers o)) (eqb a 0) (eq-eqb _ _ null)))
-      (λ start. right_holds (not (some_refers o) || eqb a 0) (is_start u.heap all a) (⊎_elim
+      (λ (null : a ≡ 0). inl null)
+      (λ start. inr (⊎_elim
       (λ place. address_found a place)
       (λ made. right_holds _ (list_any (makes a) all) (start_found a made))
       start))
-      (let r = refers_means o reference in leads r.0 r.1 r.2))
-      (λ (other : some_refers o ≡ false). left_holds _ (is_start u.heap all a) (left_holds _ (eqb a 0) (ap not other)))
-      (holds_or_not (some_refers o))
+      (leads k is_ref kind))
 
 -- what a lawful dump has
 module _ (u : Setup) (dump : Dumped) (lawful : IsLawfulDump u dump)
@@ -183,7 +162,7 @@ module _ (u : Setup) (dump : Dumped) (lawful : IsLawfulDump u dump)
       let value : get_or (replayed (base_of u p) (journals p)) k 0 ≡ x =
       ap (λ (j : List Entry). get_or (replayed (base_of u p) j) k 0) same ∙ ap (λ (l : List ℕ). get_or l k 0) (sym (lawful.words p page at))
       ∙ ap (λ (j : ℕ). get_or page.words j 0) (sym place) ∙ get_or_default page.words i 0 x inside ∙ sym is in
-      start_tested u journals (kind_at u p page.journal k) x (λ kind referring reference.
+      reference_tested u journals (kind_at u p page.journal k) x (λ kind referring reference.
       subst (LeadsToObject u journals) value (closed p k kind referring (record {
         inside = few;
         kind_is = ap (λ (j : List Entry). kind_at u p j k) same ∙ reference;

@@ -38,7 +38,7 @@ use Rattle.comp_dump.proofs.CompHistoryPages.{in_below}
 use Rattle.comp_dump.proofs.Legal.{one_history}
 use Rattle.comp_dump.specs.Builds.{named}
 use Rattle.comp_dump.specs.Dumped.{BuiltPage, IsStoredRecord}
-use Rattle.comp_dump.specs.declared.fault.AuditFault.TheVariants.{WrongHead, WrongWord, WrongTotal, BuildUnclaimed, BadEntry}
+use Rattle.comp_dump.specs.declared.fault.AuditFault.TheVariants.{WrongHead, WrongTotal, BuildUnclaimed, BadEntry}
 use Rattle.audit_checks.specs.Checks.{setup_for, unless, all_entries, all_stamps, journal_of, journals_in, above, is_edition, head_faults, is_claimed, build_faults, journal_faults, same_words, word_faults, each_built, is_kind, makes, is_forwarding_address, is_made_before, is_led, late_on, late_with, late_faults, repeat_faults, missing_faults}
 use Rattle.comp_audit.specs.Meant.{built_count, journals_of, IsLawfulDump, YesIsSound}
 use Rattle.heap_layout.proofs.Rows.{append-none, unless-none}
@@ -47,6 +47,7 @@ use Rattle.audit_checks.proofs.Meanings.{and_true, kind_means}
 use Rattle.audit_checks.proofs.Built.{built_none, built_inside, lawful_records, rising_records}
 use Rattle.comp_audit.proofs.Clock.{stamps_counted, stamps_long, stamps_once, stamps_there, stamps_no_more, range_none}
 use Rattle.audit_checks.proofs.Entries.{stamp_below}
+use Rattle.audit_checks.proofs.Unwritten.{word_means}
 
 -- the head
 edition_means : (a b : Edition) → is_edition a b ≡ true → a ≡ b
@@ -76,10 +77,7 @@ claims_mean builds records none p lt =
 
 -- the words of a page
 words_mean : (right words : List ℕ) (p : ℕ) → length right ≡ 64 → length words ≡ 64 → same_words right p words ≡ [] → words ≡ right
-words_mean right words p long as_long none =
-    ext_get_or 0 words right (as_long ∙ sym long) (λ i lt.
-    eqb-true _ _ (unless-none (eqb (get_or words i 0) (get_or right i 0)) (WrongWord (address p i))
-    (item_none (λ word. unless (eqb word.1 (get_or right word.0 0)) (WrongWord (address p word.0))) 0 words i i 0 lt (omega arith) none)))
+words_mean right words p long as_long none = ext_get_or 0 words right (as_long ∙ sym long) (λ i lt. word_means right words p i lt none)
 
 pub page_long : (edition : Edition) (mutators : ℕ) (records : List (Option BuiltPage)) (p : ℕ) (page : BuiltPage) → ((k : ℕ) (d : Option BuiltPage) → k < length records → IsStoredRecord edition mutators (get_or records k d))
     → get_or records p None ≡ Some page → length page.words ≡ 64

@@ -2,7 +2,7 @@ ghost use Rattle.std.specs.Prelude.{◌≡◌};
 ghost use Rattle.comp_cycles.specs.CellEnds.{lists as items_of};
 ghost use Rattle.comp_dump.specs.Dumped.{IsStored};
 
-use crate::page::DumpedPage;
+use crate::kept_pages::DumpedPages;
 use heap_layout::Edition;
 use std::marker::Model;
 
@@ -17,7 +17,7 @@ pub struct Dump<'a> {
     mutators: u8,
     fresh: u32,
     roots: Vec<u64>,
-    pages: Vec<Option<DumpedPage<'a>>>,
+    pages: DumpedPages<'a>,
     builds: Vec<Vec<u32>>,
     total: u64,
 }
@@ -33,7 +33,7 @@ impl<'a> Model for Dump<'a> {
       mutators = dump.mutators;
       fresh = dump.fresh;
       roots = dump.roots.items;
-      pages = dump.pages.items;
+      pages = dump.pages;
       builds = items_of dump.builds.items;
       total = dump.total;
     } };
@@ -43,7 +43,7 @@ impl<'a> Model for Dump<'a> {
       mutators = dump.mutators;
       fresh = dump.fresh;
       roots = dump.roots.items;
-      pages = dump.pages.items;
+      pages = dump.pages;
       builds = items_of dump.builds.items;
       total = dump.total;
     }) };
@@ -56,12 +56,12 @@ impl<'a> Dump<'a> {
         mutators: u8,
         fresh: u32,
         roots: Vec<u64>,
-        pages: Vec<Option<DumpedPage<'a>>>,
+        pages: DumpedPages<'a>,
         builds: Vec<Vec<u32>>,
         total: u64,
     ) -> Dump<'a>
-        requires { IsStored (record { edition = edition; mutators = mutators; fresh = fresh; roots = roots.items; pages = pages.items; builds = items_of builds.items; total = total }) }
-        ensures { result ≡ record { edition = edition; mutators = mutators; fresh = fresh; roots = roots.items; pages = pages.entry.items; builds = items_of builds.items; total = total } }
+        requires { IsStored (record { edition = edition; mutators = mutators; fresh = fresh; roots = roots.items; pages = pages; builds = items_of builds.items; total = total }) }
+        ensures { result ≡ record { edition = edition; mutators = mutators; fresh = fresh; roots = roots.items; pages = pages.entry; builds = items_of builds.items; total = total } }
     {
         Dump {
             edition,
@@ -102,8 +102,8 @@ impl<'a> Dump<'a> {
         &self.roots
     }
 
-    /// All pages, compacted pages first. A page that was never built is None.
-    pub fn pages(&self) -> &[Option<DumpedPage<'a>>]
+    /// All pages, by number, compacted pages first. A page that was never built is None.
+    pub fn pages(&self) -> &DumpedPages<'a>
         ensures { result.now ≡ self.now.pages }
     {
         &self.pages

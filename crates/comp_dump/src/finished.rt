@@ -2,12 +2,12 @@
 ghost use Rattle.std.specs.Prelude.{◌≡◌, ◌^◌, ◌<◌, All, IfOk, map};
 ghost use Rattle.comp_cycles.specs.CellEnds.{lists as items_of};
 ghost use Rattle.comp_cycles.specs.Finishes.{edition_in, builds_in, live_of, pages_of, roots_of, IsOfFlip};
-ghost use Rattle.comp_dump.specs.Lent.{record_of, IsTypedRecord};
+ghost use Rattle.comp_dump.specs.Lent.{record_of};
 
 use crate::dump::Dump;
-use crate::page::{DumpedPage, numbers_are_typed};
+use crate::kept_pages::DumpedPages;
+use crate::page::numbers_are_typed;
 use comp_cycles::Finished;
-use comp_journal::JournaledPage;
 use heap_layout::OutOfMemory;
 use std::alloc::Global;
 
@@ -30,36 +30,17 @@ impl<'a> Dump<'a> {
         ensures total { IfOk result (λ dump. dump.total ≡ live_of finished.now) }
     {
         let roots = copied(alloc, finished.roots())?;
-        let pages = lent(alloc, finished.pages())?;
         let builds = all_shortened(alloc, finished.builds())?;
         Ok(Dump::from_parts(
             finished.edition(),
             mutators as u8,
             fresh_pages,
             roots,
-            pages,
+            DumpedPages::lent(finished.pages()),
             builds,
             finished.live_words(),
         ))
     }
-}
-
-// Each page, borrowed.
-fn lent<'a>(
-    alloc: Global,
-    pages: &'a [Option<JournaledPage>],
-) -> Result<Vec<Option<DumpedPage<'a>>>, OutOfMemory>
-    ensures lent { IfOk result (λ lent. lent.items ≡ map record_of pages.now) }
-    ensures typed { IfOk result (λ lent. All IsTypedRecord lent.items) }
-{
-    let mut lent = Vec::with_capacity(alloc, pages.len())?;
-    for page in pages {
-        lent.push_reserved(match page {
-            None => None,
-            Some(page) => Some(DumpedPage::lent(page)),
-        });
-    }
-    Ok(lent)
 }
 
 // A copy of the roots.

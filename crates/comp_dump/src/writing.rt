@@ -1,5 +1,5 @@
 //! Writes a dump, field by field.
-ghost use Rattle.std.specs.Prelude.{◌≡◌, ◌-◌, ◌^◌, ◌<◌, ◌≤◌, All, IfErr, length, Some};
+ghost use Rattle.std.specs.Prelude.{◌≡◌, ◌-◌, ◌^◌, ◌+◌, ◌*◌, ◌<◌, ◌≤◌, ◌++◌, All, IfErr, length, take, Some};
 ghost use Rattle.std.specs.List.{flat_map};
 ghost use Rattle.heap_layout.specs.Counted.{inner_of, failures_of};
 ghost use Rattle.heap_layout.specs.Writing.{Writes, CountsOne};
@@ -12,6 +12,7 @@ ghost use Rattle.comp_dump.specs.declared.fault.DumpFault.TheVariants as fault;
 
 use crate::dump::Dump;
 use crate::fault::DumpFault;
+use crate::kept_pages::DumpedPages;
 use crate::page::DumpedPage;
 use crate::reading::fields::MAGIC;
 use byteorder::{ByteOrder, LittleEndian};
@@ -62,21 +63,41 @@ fn entry_part(entry: Entry) -> [u8; 19]
     part
 }
 
-// Writes an entry, in one part.
-fn write_entry<W: Write>(w: &mut Counted<W>, entry: Entry) -> std::io::Result<()>
-    ensures writes { Writes (W.contents (inner_of w.old)) (W.contents (inner_of w.new)) (entry_bytes entry) result }
-    ensures counts { CountsOne (failures_of w.old) (failures_of w.new) result }
+// How many entries are written in one part.
+const SOME_ENTRIES: usize = 32;
+
+// Puts the bytes of entry number `i` of a part in their place, and changes no byte before it.
+fn put_entry(part: &mut [u8; 608], i: usize, entry: Entry)
+    requires { i < 32 }
+    ensures { take (19 * (i + 1)) part.new ≡ take (19 * i) part.old ++ entry_bytes entry }
 {
-    write_part(w, &entry_part(entry))
+    let begin = 19 * i;
+    part[begin..begin + 19].copy_from_slice(&entry_part(entry));
 }
 
-// Writes the entries of a page.
+// Writes at most 32 entries, in one part.
+fn write_some_entries<W: Write>(w: &mut Counted<W>, journal: &[Entry]) -> std::io::Result<()>
+    requires { length journal.now ≤ 32 }
+    ensures writes { Writes (W.contents (inner_of w.old)) (W.contents (inner_of w.new)) (flat_map entry_bytes journal.now) result }
+    ensures counts { CountsOne (failures_of w.old) (failures_of w.new) result }
+{
+    let mut part = [0; 19 * SOME_ENTRIES];
+    for i in 0..journal.len() {
+        put_entry(&mut part, i, journal[i]);
+    }
+    write_part(w, &part[..19 * journal.len()])
+}
+
+// Writes the entries of a page, at most 32 in one part.
 fn write_entries<W: Write>(w: &mut Counted<W>, journal: &[Entry]) -> std::io::Result<()>
     ensures writes { Writes (W.contents (inner_of w.old)) (W.contents (inner_of w.new)) (flat_map entry_bytes journal.now) result }
     ensures counts { CountsOne (failures_of w.old) (failures_of w.new) result }
 {
-    for entry in journal {
-        write_entry(w, *entry)?;
+    let mut written = 0;
+    while written < journal.len() {
+        let some = (journal.len() - written).min(SOME_ENTRIES);
+        write_some_entries(w, &journal[written..written + some])?;
+        written += some;
     }
     Ok(())
 }
@@ -105,21 +126,18 @@ fn write_page<W: Write>(w: &mut Counted<W>, page: &Option<DumpedPage<'_>>) -> st
 {
     match page {
         None => write_one(w, 0),
-        Some(page) => write_there(w, page.words(), page.journal()),
+        Some(page) => write_there(w, &page.words(), page.journal()),
     }
 }
 
 // Writes the pages.
-fn write_pages<W: Write>(
-    w: &mut Counted<W>,
-    pages: &[Option<DumpedPage<'_>>],
-) -> std::io::Result<()>
+fn write_pages<W: Write>(w: &mut Counted<W>, pages: &DumpedPages<'_>) -> std::io::Result<()>
     requires { All HasFewEntries pages.now }
     ensures writes { Writes (W.contents (inner_of w.old)) (W.contents (inner_of w.new)) (flat_map page_bytes pages.now) result }
     ensures counts { CountsOne (failures_of w.old) (failures_of w.new) result }
 {
-    for page in pages {
-        write_page(w, page)?;
+    for p in 0..pages.len() {
+        write_page(w, &pages.page(p))?;
     }
     Ok(())
 }
@@ -153,7 +171,7 @@ fn write_parts<W: Write>(
     mutators: u8,
     fresh: u32,
     roots: &[u64],
-    pages: &[Option<DumpedPage<'_>>],
+    pages: &DumpedPages<'_>,
     builds: &[Vec<u32>],
     total: u64,
 ) -> std::io::Result<()>

@@ -26,5 +26,5 @@ returns-clause-reported c =
     let there = ap (bytes_eq c.args.roots.now) (c.as_slice.ensures.value ∙ right) in
     let one : is_edition c.args.setting.edition heap.edition ≡ true =
     ap (λ (e : Edition). is_edition c.args.setting.edition e) (sym (c.edition.ensures ∙ ap (λ (h : Heap). h.edition) c.heap.ensures)) ∙ sym c.is_edition.ensures ∙ c.if-not-is_edition.false in
-    let long : length c.args.records.now ≡ pages (setup_at c.args.setting) = omega (arith, c.if-records-pages.false, c.pages.ensures.pages, c.from.ensures) in
+    let long : length c.args.records.now ≡ pages (setup_at c.args.setting) = omega (arith, c.if-len-pages.false, c.len.ensures, c.pages.ensures.pages, c.from.ensures) in
     both_pass _ _ _ one (true_and _ _ (eq-eqb _ _ long) (sym there ∙ not-false _ (sym c.ne.ensures ∙ c.if-ne.false)))

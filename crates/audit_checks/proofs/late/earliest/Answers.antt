@@ -9,7 +9,7 @@ loop-p-init c = λ s. refl
 
 pub loop-p-preserved : goal.loop-p-preserved
 loop-p-preserved c =
-    late_next (is_led c.args.plan.now (is_noted_before c.args.starts.now)) c.args.records.now c.loop-p.p c.index-records-p.result c.loop-p-test.true c.index-records-p.is
+    late_next (is_led c.args.plan.now (is_noted_before c.args.starts.now)) c.args.records.now c.loop-p.p (omega arith)
     c.loop-p.found c.earliest_on-found.result c.journal_of.result.now c.journal_of.ensures c.loop-p.invariant c.earliest_on-found.ensures
 
 pub returns : goal.returns

@@ -1,7 +1,6 @@
 use Rattle.std.proofs.Common.{◌∙◌, sym, subst, arith}
 use Rattle.comp_history.specs.Lawful.{IsLawful}
 use Rattle.audit_checks.specs.Noted.{setup_at}
-use Rattle.audit_checks.proofs.Entries.{journal_here}
 use Rattle.audit_checks.proofs.Noting.{headers_covered, notes_none, notes_next}
 use Rattle.audit_checks.proofs.starts.starts_of.Goals as goal
 
@@ -16,7 +15,7 @@ note_page-requires-clause-covered c =
     let u = setup_at c.args.setting in
     let p = c.loop-p.p in
     let lawful : IsLawful u p c.journal_of.result.now =
-    subst (IsLawful u p) (journal_here c.args.records.now p c.index-records-p.result c.loop-p-test.true c.index-records-p.is ∙ sym c.journal_of.ensures) (c.requires.lawful p) in
+    subst (IsLawful u p) (sym c.journal_of.ensures) (c.requires.lawful p) in
     headers_covered u p c.journal_of.result.now _ _ lawful (omega (arith, c.requires.slots)) c.loop-p.invariant.covers.0 c.loop-p.invariant.covers.1
 
 pub loop-p-preserved : goal.loop-p-preserved
@@ -24,6 +23,5 @@ loop-p-preserved c =
     let i = c.loop-p.invariant in
     record {
       covers = (c.note_page.ensures.same.0 ∙ i.covers.0, c.note_page.ensures.same.1 ∙ i.covers.1);
-      noted = notes_next c.args.records.now c.loop-p.p c.index-records-p.result c.journal_of.result.now c.loop-p.starts c.note_page.new.starts
-          c.loop-p-test.true c.index-records-p.is c.journal_of.ensures i.noted c.note_page.ensures.noted;
+      noted = notes_next c.args.records.now c.loop-p.p c.journal_of.result.now c.loop-p.starts c.note_page.new.starts c.journal_of.ensures i.noted c.note_page.ensures.noted;
     }

@@ -4,8 +4,8 @@ use Rattle.comp_history.specs.Shares.{allocated}
 use Rattle.audit_checks.specs.Checks.{journals_in}
 use Rattle.audit_checks.proofs.totals.all_words.Given as goal
 
-abbrev pub invariant-loop-slot : goal.invariant-loop-slot
-invariant-loop-slot l = record {
-  words : l.words ≡ allocated l.edition (entries_below (journals_in l.records) l.slot-index);
-  few : l.words ≤ 2 ^ 28 * l.slot-index;
+abbrev pub invariant-loop-p : goal.invariant-loop-p
+invariant-loop-p l = record {
+  words : l.words ≡ allocated l.edition (entries_below (journals_in l.records) l.p);
+  few : l.words ≤ 2 ^ 28 * l.p;
 }
