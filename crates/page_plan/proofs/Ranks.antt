@@ -1,8 +1,8 @@
 -- How many objects start up to a slid word, and so which object has the word: by the object-start bits.
-use Rattle.std.proofs.Common.{◌≡◌, ◌≢◌, ℕ, zero, suc, ◌+◌, ◌-◌, ◌*◌, ◌/◌, ◌%◌, ◌^◌, ◌<◌, ◌≤◌, Bool, true, false, cond, Option, Some, None, List, [], ◌∷◌, ◌++◌, length, get_or, take, replicate, count_ones, refl, sym, ap, subst, ◌∙◌, inl, inr, ⊎_elim, arith, length-append}
-use Rattle.std.proofs.lemmas.Bool.{cases_Bool, cases_lt, cases_order, cases_eq, both_ways, false≢true}
+use Rattle.std.proofs.Common.{◌≡◌, ℕ, zero, suc, ◌+◌, ◌-◌, ◌*◌, ◌/◌, ◌%◌, ◌^◌, ◌<◌, ◌≤◌, Bool, true, false, cond, Option, Some, None, List, [], ◌∷◌, ◌++◌, length, get_or, take, count_ones, refl, sym, ap, subst, ◌∙◌, inl, inr, ⊎_elim, arith, length-append}
+use Rattle.std.proofs.lemmas.Bool.{cases_Bool, cases_lt, cases_order, false≢true}
 use Rattle.std.specs.Option.{is_some}
-use Rattle.std.proofs.lemmas.List.{length-replicate, get_or_append_left, get_or-append_right}
+use Rattle.std.proofs.lemmas.List.{get_or_append_left, get_or-append_right}
 use Rattle.std.proofs.lemmas.List.Sums.{sum_by-take-le}
 use Rattle.std.proofs.lemmas.Nat.{ones_le_self}
 use Rattle.heap_layout.specs.Bits.{bit}
@@ -11,9 +11,8 @@ use Rattle.heap_layout.specs.Heap.{Object}
 use Rattle.mark_tables.specs.Bits.{passing}
 use Rattle.mark_tables.proofs.Counting.{passing-block, ones-halves}
 use Rattle.mark_tables.proofs.Passing.{passing-gap, passing-few}
-use Rattle.mark_tables.proofs.Runs.{zeros-bit}
 use Rattle.page_plan.specs.Planned.{AreFirst, AreStarts, Covers}
-use Rattle.page_plan.specs.Sliding.{live_words, size, pages, shape_at}
+use Rattle.page_plan.specs.Sliding.{live_words, size, shape_at}
 use Rattle.page_plan.proofs.Covering.{live_words-cons}
 use Rattle.page_plan.proofs.References.{address-is, address-only}
 
@@ -135,50 +134,6 @@ module _ (objects : List Object) (bits : List ℕ) (are : AreStarts objects bits
         passing-block bits p (suc o) (omega arith),
         ones-halves block o,
       )
-
--- the start bits of the first k objects are set, and no others
-pub record AreStartsOf (objects : List Object) (k : ℕ) (bits : List ℕ) : Type 0 where
-  pub long : length bits ≡ pages objects
-  pub there : (j : ℕ) → j < k → bit bits (live_words (take j objects)) ≡ true
-  pub only : (i : ℕ) → bit bits i ≡ true → (j : ℕ) × (j < k) × (i ≡ live_words (take j objects))
-
--- no bit of zeros is set
-pub starts-none : (objects : List Object) (n : ℕ) → n ≡ pages objects → AreStartsOf objects 0 (replicate n 0)
-starts-none objects n long = record {
-  long = length-replicate {A = ℕ} n 0 ∙ long;
-  there = λ j lt. absurd (omega (arith, lt));
-  only = λ i holds. absurd (both_ways (bit (replicate n 0) i) (zeros-bit n i) holds);
-}
-
--- one object more
-pub starts-next : (objects : List Object) (k : ℕ) (old new : List ℕ) (new_index : ℕ) → AreStartsOf objects k old → new_index ≡ live_words (take k objects)
-    → length new ≡ length old → bit new new_index ≡ true → ((i : ℕ) → i ≢ new_index → bit new i ≡ bit old i) → AreStartsOf objects (k + 1) new
-starts-next objects k old new new_index are at long here others = record {
-  long = long ∙ are.long;
-  there = λ j lt. elim (cases_lt j k) [
-    | inl before ↦
-        let start = live_words (take j objects) in
-        elim (cases_eq start new_index) [
-          | inl same ↦ ap (bit new) same ∙ here
-          | inr other ↦ others start other ∙ are.there j before
-        ]
-    | inr last ↦
-        let same : j ≡ k = omega (arith, lt, last) in
-        ap (λ (n : ℕ). bit new (live_words (take n objects))) same ∙ ap (bit new) (sym at) ∙ here
-  ];
-  only = λ i holds. elim (cases_eq i new_index) [
-    | inl same ↦ (k, omega arith, same ∙ at)
-    | inr other ↦ let s = are.only i (sym (others i other) ∙ holds) in (s.0, omega (arith, s.1), s.2)
-  ];
-}
-
--- all objects
-pub starts-all : (objects : List Object) (k : ℕ) (bits : List ℕ) → k ≡ length objects → AreStartsOf objects k bits → AreStarts objects bits
-starts-all objects k bits last are = record {
-  long = are.long;
-  there = λ j lt. are.there j (omega (arith, lt, last));
-  only = λ i holds. let s = are.only i holds in (s.0, omega (arith, s.1, last), s.2);
-}
 
 -- the numbers of the objects that have the first words of the first p pages; `before` objects start before page p
 pub record AreFirstTo (bits : List ℕ) (p before : ℕ) (firsts : List ℕ) : Type 0 where

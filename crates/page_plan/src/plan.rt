@@ -42,8 +42,7 @@ impl Plan {
     ) -> Result<Plan, OutOfMemory>
         ensures { IfOk result (λ plan. plan ≡ heap) }
     {
-        let tables = Tables::build(alloc, rt, &heap)?;
-        let starts = starts::start_bits(alloc, &heap, &tables)?;
+        let (tables, starts) = Tables::build_with_starts(alloc, rt, &heap)?;
         let first_objects = first_objects::first_objects(alloc, &starts)?;
         Ok(Plan {
             heap,
