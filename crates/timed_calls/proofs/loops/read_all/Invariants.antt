@@ -1,0 +1,5 @@
+use Rattle.comp_mutator.specs.Mutators.{IsMutatorOf}
+use Rattle.timed_calls.proofs.loops.read_all.Given as goal
+
+abbrev pub invariant-loop : goal.invariant-loop
+invariant-loop g l = IsMutatorOf l.space l.m
