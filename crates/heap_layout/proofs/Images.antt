@@ -1,95 +1,105 @@
 -- Lemmas on the parts of an image that were read, and on what is refused after them.
-use Rattle.std.proofs.Common.{◌≡◌, ℕ, ◌+◌, ◌*◌, ◌≤◌, inl, inr, List, [], ◌++◌, length, Option, IfSome, refl, sym, ap, ◌∙◌, subst, arith, append_assoc, append-nil, length-append}
+use Rattle.std.proofs.Common.{◌≡◌, ℕ, Bool, ◌+◌, ◌*◌, ◌≤◌, inl, inr, List, [], ◌++◌, length, Option, IfSome, refl, sym, ap, ◌∙◌, subst, arith, append_assoc, append-nil, length-append}
 use Rattle.std.specs.Io.KnownBytes.{Consumes}
 use Rattle.std.specs.List.{flat_map}
 use Rattle.std.proofs.KnownBytes.{Consumes-trans}
 use Rattle.heap_layout.specs.declared.edition.Edition.{Edition}
+use Rattle.heap_layout.specs.declared.edition.Edition.TheVariants.{One, Two, Three}
 use Rattle.heap_layout.specs.Heap.{Heap, IsStored}
-use Rattle.heap_layout.specs.Faults.{faults, IsFirst}
-use Rattle.heap_layout.specs.Encoding.{four_bytes, eight_bytes, preamble, counts, head, encoding, body_len, AreWithin, Refuses, RefusesCounts, RefusesEnd, EndsBefore}
+use Rattle.heap_layout.specs.Faults.{faults, IsFirst, IsAnswered, IsRefusedMemory}
+use Rattle.heap_layout.specs.Encoding.{four_bytes, eight_bytes, preamble, counts, head, encoding, body_len, AreWithin, RefusesBy, RefusesCounts, RefusesEnd, EndsBefore}
 use Rattle.heap_layout.specs.declared.fault.LayoutFault.{LayoutFault}
 use Rattle.heap_layout.specs.declared.fault.LayoutFault.TheVariants.{TooLarge, ObjectPastEnd, ObjectTooLong, MarkNotStart, MarksNotRising, BadRoot, UnmarkedTarget, BadWeak, Truncated, TrailingBytes, OutOfMemory, Device}
+use Rattle.heap_layout.specs.Versions.{IsRead}
 use Rattle.heap_layout.proofs.PartFaults.{IsOfPart, first_of_part}
 use Rattle.heap_layout.proofs.Reading.{behind_read}
 
 -- if the bytes after the magic and the version are refused as counts, the whole image is refused
-refused_counts : (edition : Edition) (rest : List ℕ) (fault : LayoutFault) → RefusesCounts fault rest → Refuses fault (preamble edition ++ rest)
-refused_counts edition rest TooLarge (words, marks, roots, over, (more, same, _)) = (
+refused_counts : (large : Bool) (edition : Edition) (rest : List ℕ) (fault : LayoutFault) → IsRead large edition → RefusesCounts edition fault rest → RefusesBy large fault (preamble edition ++ rest)
+refused_counts large edition rest TooLarge read (words, marks, roots, over, (more, same, _)) = (
   edition,
   words,
   marks,
   roots,
   over,
   (more, ap (λ (bytes : List ℕ). preamble edition ++ bytes) same ∙ sym (append_assoc (preamble edition) (counts words marks roots) more), tt),
+  read,
 )
-refused_counts edition rest Truncated short = inr (inr (inl (edition, (rest, refl, short))))
-refused_counts edition rest OutOfMemory short = tt
-refused_counts edition rest Device short = tt
-refused_counts edition rest _ short = absurd short
+refused_counts large edition rest Truncated read short = inr (inr (inl (edition, (rest, refl, short), read)))
+refused_counts large edition rest OutOfMemory read short = tt
+refused_counts large edition rest Device read short = tt
+refused_counts large edition rest _ read short = absurd short
 
 -- the same for a reader that has read the magic and the version
-pub ends_in_counts : (a b : Option (List ℕ)) (edition : Edition) (fault : LayoutFault) → Consumes a b (preamble edition) → IfSome b (RefusesCounts fault) → IfSome a (Refuses fault)
-ends_in_counts a b edition fault read cut =
-    behind_read a b (preamble edition) (RefusesCounts fault) (Refuses fault) read cut (λ rest why. refused_counts edition rest fault why)
+pub ends_in_counts : (large : Bool) (a b : Option (List ℕ)) (edition : Edition) (fault : LayoutFault) → IsRead large edition → Consumes a b (preamble edition) → IfSome b (RefusesCounts edition fault) → IfSome a (RefusesBy large fault)
+ends_in_counts large a b edition fault known read cut =
+    behind_read a b (preamble edition) (RefusesCounts edition fault) (RefusesBy large fault) read cut (λ rest why. refused_counts large edition rest fault known why)
 
 -- if the bytes end early among the numbers, after `front`, the whole image is refused
-refused_in_body : (edition : Edition) (words marks roots n : ℕ) (front rest : List ℕ) (fault : LayoutFault) → AreWithin words marks roots
+refused_in_body : (large : Bool) (edition : Edition) (words marks roots n : ℕ) (front rest : List ℕ) (fault : LayoutFault) → IsRead large edition → AreWithin edition words marks roots
     → length front + n ≤ body_len words marks roots → EndsBefore n fault rest
-    → Refuses fault (head edition words marks roots ++ front ++ rest)
-refused_in_body edition words marks roots n front rest Truncated within room short =
-    inr (inr (inr (edition, words, marks, roots, within, (front ++ rest, append_assoc (head edition words marks roots) front rest, simp length-append (omega arith)))))
-refused_in_body edition words marks roots n front rest OutOfMemory within room short = tt
-refused_in_body edition words marks roots n front rest Device within room short = tt
-refused_in_body edition words marks roots n front rest _ within room short = absurd short
+    → RefusesBy large fault (head edition words marks roots ++ front ++ rest)
+refused_in_body large edition words marks roots n front rest Truncated known within room short =
+    inr (inr (inr (edition, words, marks, roots, within, (front ++ rest, append_assoc (head edition words marks roots) front rest, simp length-append (omega arith)), known)))
+refused_in_body large edition words marks roots n front rest OutOfMemory known within room short = tt
+refused_in_body large edition words marks roots n front rest Device known within room short = tt
+refused_in_body large edition words marks roots n front rest _ known within room short = absurd short
 
 -- the same for a reader that has read the head and `front`
-pub ends_in_body : (a b : Option (List ℕ)) (edition : Edition) (words marks roots n : ℕ) (front all : List ℕ) (fault : LayoutFault)
-    → all ≡ head edition words marks roots ++ front → Consumes a b all → AreWithin words marks roots
-    → length front + n ≤ body_len words marks roots → IfSome b (EndsBefore n fault) → IfSome a (Refuses fault)
-ends_in_body a b edition words marks roots n front all fault same read within room cut =
-    behind_read a b (head edition words marks roots ++ front) (EndsBefore n fault) (Refuses fault) (subst (Consumes a b) same read) cut
-    (λ rest short. refused_in_body edition words marks roots n front rest fault within room short)
+pub ends_in_body : (large : Bool) (a b : Option (List ℕ)) (edition : Edition) (words marks roots n : ℕ) (front all : List ℕ) (fault : LayoutFault)
+    → IsRead large edition → all ≡ head edition words marks roots ++ front → Consumes a b all → AreWithin edition words marks roots
+    → length front + n ≤ body_len words marks roots → IfSome b (EndsBefore n fault) → IfSome a (RefusesBy large fault)
+ends_in_body large a b edition words marks roots n front all fault known same read within room cut =
+    behind_read a b (head edition words marks roots ++ front) (EndsBefore n fault) (RefusesBy large fault) (subst (Consumes a b) same read) cut
+    (λ rest short. refused_in_body large edition words marks roots n front rest fault known within room short)
 
 -- the same for a reader that has read only the head
-pub ends_in_words : (start behind_magic behind_counts : Option (List ℕ)) (edition : Edition) (words marks roots : ℕ) (fault : LayoutFault) → Consumes start behind_magic (preamble edition)
-    → Consumes behind_magic behind_counts (counts words marks roots) → AreWithin words marks roots
-    → IfSome behind_counts (EndsBefore (8 * words) fault) → IfSome start (Refuses fault)
-ends_in_words start behind_magic behind_counts edition words marks roots fault magic_read counts_read within cut =
+pub ends_in_words : (large : Bool) (start behind_magic behind_counts : Option (List ℕ)) (edition : Edition) (words marks roots : ℕ) (fault : LayoutFault) → IsRead large edition → Consumes start behind_magic (preamble edition)
+    → Consumes behind_magic behind_counts (counts words marks roots) → AreWithin edition words marks roots
+    → IfSome behind_counts (EndsBefore (8 * words) fault) → IfSome start (RefusesBy large fault)
+ends_in_words large start behind_magic behind_counts edition words marks roots fault known magic_read counts_read within cut =
     let read = Consumes-trans start behind_magic behind_counts (preamble edition) (counts words marks roots) magic_read counts_read in
     let front = head edition words marks roots in
-    ends_in_body start behind_counts edition words marks roots (8 * words) [] front fault (sym (append-nil front)) read within (omega arith) cut
+    ends_in_body large start behind_counts edition words marks roots (8 * words) [] front fault known (sym (append-nil front)) read within (omega arith) cut
 
 -- if the bytes after an image are refused, the whole is refused
-refused_end : (heap : Heap) (rest : List ℕ) (fault : LayoutFault) → IsStored heap
-    → AreWithin (length heap.words) (length heap.marks) (length heap.roots)
-    → RefusesEnd fault rest → Refuses fault (encoding heap ++ rest)
-refused_end heap rest TrailingBytes stored within more = (heap, stored, within, (rest, refl, more))
-refused_end heap rest Device stored within more = tt
-refused_end heap rest _ stored within more = absurd more
+refused_end : (large : Bool) (heap : Heap) (rest : List ℕ) (fault : LayoutFault) → IsRead large heap.edition → IsStored heap
+    → AreWithin heap.edition (length heap.words) (length heap.marks) (length heap.roots)
+    → RefusesEnd fault rest → RefusesBy large fault (encoding heap ++ rest)
+refused_end large heap rest TrailingBytes known stored within more = (heap, stored, within, (rest, refl, more), known)
+refused_end large heap rest Device known stored within more = tt
+refused_end large heap rest _ known stored within more = absurd more
 
 -- the same for a reader that has read the image
-pub more_behind : (a b : Option (List ℕ)) (heap : Heap) (fault : LayoutFault) → IsStored heap
-    → AreWithin (length heap.words) (length heap.marks) (length heap.roots)
-    → Consumes a b (encoding heap) → IfSome b (RefusesEnd fault) → IfSome a (Refuses fault)
-more_behind a b heap fault stored within read cut =
-    behind_read a b (encoding heap) (RefusesEnd fault) (Refuses fault) read cut (λ rest more. refused_end heap rest fault stored within more)
+pub more_behind : (large : Bool) (a b : Option (List ℕ)) (heap : Heap) (fault : LayoutFault) → IsRead large heap.edition → IsStored heap
+    → AreWithin heap.edition (length heap.words) (length heap.marks) (length heap.roots)
+    → Consumes a b (encoding heap) → IfSome b (RefusesEnd fault) → IfSome a (RefusesBy large fault)
+more_behind large a b heap fault known stored within read cut =
+    behind_read a b (encoding heap) (RefusesEnd fault) (RefusesBy large fault) read cut (λ rest more. refused_end large heap rest fault known stored within more)
 
 -- the image of a heap is refused for its first fault, if that is the fault of a part
-refused_part : (heap : Heap) (fault : LayoutFault) → IsStored heap → IsOfPart fault → IsFirst (faults heap) fault → Refuses fault (encoding heap)
-refused_part heap (ObjectPastEnd i) stored part first = (heap, stored, refl, first)
-refused_part heap (ObjectTooLong i) stored part first = (heap, stored, refl, first)
-refused_part heap (MarkNotStart i) stored part first = (heap, stored, refl, first)
-refused_part heap (MarksNotRising i) stored part first = (heap, stored, refl, first)
-refused_part heap (BadRoot k) stored part first = (heap, stored, refl, first)
-refused_part heap (UnmarkedTarget i) stored part first = (heap, stored, refl, first)
-refused_part heap (BadWeak i) stored part first = (heap, stored, refl, first)
-refused_part heap _ stored part first = absurd part
+refused_part : (large : Bool) (heap : Heap) (fault : LayoutFault) → IsRead large heap.edition → IsStored heap → IsOfPart fault → IsFirst (faults heap) fault → RefusesBy large fault (encoding heap)
+refused_part large heap (ObjectPastEnd i) known stored part first = (heap, stored, refl, first, known)
+refused_part large heap (ObjectTooLong i) known stored part first = (heap, stored, refl, first, known)
+refused_part large heap (MarkNotStart i) known stored part first = (heap, stored, refl, first, known)
+refused_part large heap (MarksNotRising i) known stored part first = (heap, stored, refl, first, known)
+refused_part large heap (BadRoot k) known stored part first = (heap, stored, refl, first, known)
+refused_part large heap (UnmarkedTarget i) known stored part first = (heap, stored, refl, first, known)
+refused_part large heap (BadWeak i) known stored part first = (heap, stored, refl, first, known)
+refused_part large heap _ known stored part first = absurd part
 
--- the image of a heap within the limits is refused for the first fault of the heap
-pub refused_heap : (heap : Heap) (fault : LayoutFault) → IsStored heap
-    → AreWithin (length heap.words) (length heap.marks) (length heap.roots)
-    → IsFirst (faults heap) fault → Refuses fault (encoding heap)
-refused_heap heap fault stored within first = refused_part heap fault stored (first_of_part heap fault within first) first
+-- a refusal of memory is that fault
+pub refused_memory : (edition : Edition) (fault : LayoutFault) → IsRefusedMemory edition fault → fault ≡ OutOfMemory
+refused_memory One fault memory = absurd memory
+refused_memory Two fault memory = absurd memory
+refused_memory Three fault memory = memory
+
+-- the image of a heap within the limits is refused for the first fault of the heap, or for want of memory
+pub refused_heap : (large : Bool) (heap : Heap) (fault : LayoutFault) → IsRead large heap.edition → IsStored heap
+    → AreWithin heap.edition (length heap.words) (length heap.marks) (length heap.roots)
+    → IsAnswered heap.edition (faults heap) fault → RefusesBy large fault (encoding heap)
+refused_heap large heap fault known stored within (inl first) = refused_part large heap fault known stored (first_of_part heap fault within first) first
+refused_heap large heap fault known stored within (inr memory) = subst (λ (f : LayoutFault). RefusesBy large f (encoding heap)) (sym (refused_memory heap.edition fault memory)) tt
 
 -- the head and the words were read
 pub words_read : (start behind_magic behind_counts now : Option (List ℕ)) (edition : Edition) (words marks roots : ℕ) (numbers : List ℕ) → Consumes start behind_magic (preamble edition)

@@ -1,5 +1,5 @@
 -- Marks, roots and references of a heap without faults.
-use Rattle.std.proofs.Common.{◌≡◌, ℕ, zero, suc, ◌+◌, ◌-◌, ◌<◌, ◌≤◌, ◌^◌, Bool, true, List, [], ◌∷◌, ◌++◌, All, length, get_or, slice_range, take, drop, sym, refl, ap, subst, ◌∙◌, arith}
+use Rattle.std.proofs.Common.{◌≡◌, ℕ, zero, suc, ◌+◌, ◌-◌, ◌<◌, ◌≤◌, Bool, true, List, [], ◌∷◌, ◌++◌, All, length, get_or, slice_range, take, drop, sym, refl, ap, subst, ◌∙◌, arith}
 use Rattle.std.specs.List.{flat_map, enumerate_from}
 use Rattle.std.specs.List.Sorted.{IsStrictlyIncreasing}
 use Rattle.std.proofs.lemmas.List.Elements.{All-nil, All-cons}
@@ -9,10 +9,11 @@ use Rattle.heap_layout.specs.declared.edition.Edition.{Edition}
 use Rattle.heap_layout.specs.declared.edition.Edition.TheVariants.{One}
 use Rattle.heap_layout.specs.declared.kind.Kind.{Kind}
 use Rattle.heap_layout.specs.declared.kind.Kind.TheVariants.{Header, Reference, Weak, Data}
+use Rattle.heap_layout.specs.Limits.{most_words, most_roots}
 use Rattle.heap_layout.specs.Header.{Head, weak_of, data_of}
 use Rattle.heap_layout.specs.Kinds.{count_of, first_of}
 use Rattle.heap_layout.specs.Heap.{Heap, header_at, object_at, fields_of, objects, words_of, starts, is_start, is_target, IsTarget, IsPlaced, IsClosed}
-use Rattle.heap_layout.specs.Faults.{unless, size_faults, object_faults, mark_faults, root_faults, target_faults, weak_faults, misled, reference_faults_by, field_faults_by, IsAccepted, IsFirst}
+use Rattle.heap_layout.specs.Faults.{unless, size_faults, object_faults, mark_faults, root_faults, target_faults, weak_faults, part_faults, misled, reference_faults_by, field_faults_by, IsAccepted, IsFirst}
 use Rattle.heap_layout.specs.declared.fault.LayoutFault.{LayoutFault}
 use Rattle.heap_layout.specs.declared.fault.LayoutFault.TheVariants.{BadRoot}
 use Rattle.heap_layout.proofs.Rows.{append-none, unless-none, placed-start, reached-first, starts-apart, words-from}
@@ -102,13 +103,12 @@ first-reported (x ∷ some) more whole fault same first = subst (λ (list : List
 pub first-behind : (some more : List LayoutFault) (fault : LayoutFault) → some ≡ [] → IsFirst more fault → IsFirst (some ++ more) fault
 first-behind some more fault none first = rw none first
 
--- if the sizes have no fault, the first fault of the row and its marks is the first of all
-pub first-object : (sizes row marks roots targets weak : List LayoutFault) (fault : LayoutFault) → sizes ≡ [] → IsFirst (row ++ marks) fault
-    → IsFirst (sizes ++ row ++ marks ++ roots ++ targets ++ weak) fault
-first-object sizes row marks roots targets weak fault none first =
-    rw none
-    (first-reported ((row ++ marks) ++ roots ++ targets) weak _ fault refl
-    (first-reported ((row ++ marks) ++ roots) targets _ fault refl (first-reported (row ++ marks) roots _ fault refl first)))
+-- the first fault of the row and its marks is the first of all parts
+pub first-object : (row marks roots targets weak : List LayoutFault) (fault : LayoutFault) → IsFirst (row ++ marks) fault
+    → IsFirst (row ++ marks ++ roots ++ targets ++ weak) fault
+first-object row marks roots targets weak fault first =
+    first-reported ((row ++ marks) ++ roots ++ targets) weak _ fault refl
+    (first-reported ((row ++ marks) ++ roots) targets _ fault refl (first-reported (row ++ marks) roots _ fault refl first))
 
 -- if the first list is empty, both joined are the second
 pub rest-reported : (some more whole : List LayoutFault) → some ++ more ≡ whole → some ≡ [] → more ≡ whole
@@ -116,7 +116,7 @@ rest-reported some more whole same none = sym (ap (λ (list : List LayoutFault).
 
 -- an accepted heap passes each test
 pub record Passed (heap : Heap) : Type 0 where
-  pub sizes : size_faults (length heap.words) (length heap.marks) (length heap.roots) ≡ []
+  pub sizes : size_faults heap.edition (length heap.words) (length heap.marks) (length heap.roots) ≡ []
   pub row : flat_map (object_faults heap.edition heap.words) (starts heap.edition heap.words) ≡ []
   pub marks : mark_faults (starts heap.edition heap.words) 0 heap.marks ≡ []
   pub roots : root_faults heap.marks heap.roots ≡ []
@@ -125,21 +125,22 @@ pub record Passed (heap : Heap) : Type 0 where
 
 pub passed : (heap : Heap) → IsAccepted heap → Passed heap
 passed heap accepted =
-    let sizes = size_faults (length heap.words) (length heap.marks) (length heap.roots) in
+    let sizes = size_faults heap.edition (length heap.words) (length heap.marks) (length heap.roots) in
     let row = flat_map (object_faults heap.edition heap.words) (starts heap.edition heap.words) in
     let marks = mark_faults (starts heap.edition heap.words) 0 heap.marks in
     let roots = root_faults heap.marks heap.roots in
     let targets = target_faults heap.edition heap.words heap.marks heap.marks in
-    let five = append-none (sizes ++ row ++ marks ++ roots ++ targets) (weak_faults heap.edition heap.words heap.marks) accepted in
-    let four = append-none (sizes ++ row ++ marks ++ roots) targets five.0 in
-    let three = append-none (sizes ++ row ++ marks) roots four.0 in
-    let two = append-none (sizes ++ row) marks three.0 in
-    let one = append-none sizes row two.0 in
-    record { sizes = one.0; row = one.1; marks = two.1; roots = three.1; targets = four.1; weak = five.1 }
+    let five = append-none sizes (part_faults heap) accepted in
+    let four = append-none (row ++ marks ++ roots ++ targets) (weak_faults heap.edition heap.words heap.marks) five.1 in
+    let three = append-none (row ++ marks ++ roots) targets four.0 in
+    let two = append-none (row ++ marks) roots three.0 in
+    let one = append-none row marks two.0 in
+    record { sizes = five.0; row = one.0; marks = one.1; roots = two.1; targets = three.1; weak = four.1 }
 
 -- sizes without a fault are within the limits
-pub sizes-few : (words marks roots : ℕ) → size_faults words marks roots ≡ [] → (words ≤ 2 ^ 20) × (marks ≤ 2 ^ 20) × (roots ≤ 2 ^ 12)
-sizes-few words marks roots none =
+pub sizes-few : (edition : Edition) (words marks roots : ℕ) → size_faults edition words marks roots ≡ []
+    → (words ≤ most_words edition) × (marks ≤ most_words edition) × (roots ≤ most_roots edition)
+sizes-few edition words marks roots none =
     let two = append-none (unless _ _ ++ unless _ _) (unless _ _) none in
     let one = append-none (unless _ _) (unless _ _) two.0 in
     (leb-true _ _ (unless-none _ _ one.0), leb-true _ _ (unless-none _ _ one.1), leb-true _ _ (unless-none _ _ two.1))
@@ -153,7 +154,7 @@ marks-placed edition words marks row none k d within = placed-start edition word
 pub closed : (heap : Heap) → IsAccepted heap → IsClosed heap
 closed heap accepted =
     let parts = passed heap accepted in
-    let few = sizes-few _ _ _ parts.sizes in
+    let few = sizes-few _ _ _ _ parts.sizes in
     let started = marks-started (starts heap.edition heap.words) 0 heap.marks parts.marks in
     let rising = marks-rising (starts heap.edition heap.words) 0 heap.marks parts.marks in
     record {

@@ -1,17 +1,19 @@
 -- Lemmas on the first fault of a heap: it is the fault of a part of the heap, unless the heap is too large.
-use Rattle.std.proofs.Common.{◌≡◌, ℕ, ◌+◌, ◌^◌, Bool, true, false, leb, List, [], ◌∷◌, ◌++◌, length, All, Result, Ok, Err, IfErr, refl, sym, subst}
+use Rattle.std.proofs.Common.{◌≡◌, ℕ, ◌+◌, Bool, true, false, leb, List, [], ◌∷◌, ◌++◌, length, All, Result, Ok, Err, IfErr, inl, inr, refl, sym, subst}
 use Rattle.std.specs.List.{flat_map, enumerate_from}
 use Rattle.std.proofs.lemmas.Bool.{le-leb}
-use Rattle.std.proofs.lemmas.List.Elements.{All-nil, All-cons, All-append, All-head, All-same}
+use Rattle.std.proofs.lemmas.List.Elements.{All-nil, All-cons, All-append, All-head}
 use Rattle.heap_layout.specs.Counted.{CountsFailure}
 use Rattle.heap_layout.specs.Encoding.{AreWithin}
 use Rattle.heap_layout.specs.declared.edition.Edition.{Edition}
+use Rattle.heap_layout.specs.declared.edition.Edition.TheVariants.{One, Two, Three}
 use Rattle.heap_layout.specs.declared.kind.Kind.{Kind}
 use Rattle.heap_layout.specs.declared.kind.Kind.TheVariants.{Header, Reference, Weak, Data}
+use Rattle.heap_layout.specs.Limits.{most_words, most_roots, most_object_words}
 use Rattle.heap_layout.specs.Header.{size_of}
 use Rattle.heap_layout.specs.Kinds.{first_of}
 use Rattle.heap_layout.specs.Heap.{Heap, starts, is_start, is_target, header_at, object_at, fields_of}
-use Rattle.heap_layout.specs.Faults.{unless, size_faults, object_faults, mark_faults, root_faults, misled, reference_faults_by, field_faults_by, target_faults, weak_faults, faults, IsFirst}
+use Rattle.heap_layout.specs.Faults.{unless, size_faults, object_faults, mark_faults, root_faults, misled, reference_faults_by, field_faults_by, target_faults, weak_faults, part_faults, faults, IsFirst, IsAnswered, IsRefusedMemory}
 use Rattle.heap_layout.specs.declared.fault.LayoutFault.{LayoutFault}
 use Rattle.heap_layout.specs.declared.fault.LayoutFault.TheVariants.{ObjectPastEnd, ObjectTooLong, MarkNotStart, MarksNotRising, BadRoot, UnmarkedTarget, BadWeak, Device}
 
@@ -46,7 +48,7 @@ both_of_part one_holds other_holds one other of_one of_other =
 objects_of_part : (edition : Edition) (words : List ℕ) (i : ℕ) → All IsOfPart (object_faults edition words i)
 objects_of_part edition words i =
     let size = size_of (header_at edition words i) in
-    both_of_part (leb size 1024) (leb (i + size) (length words)) (ObjectTooLong i) (ObjectPastEnd i) tt tt
+    both_of_part (leb size (most_object_words edition)) (leb (i + size) (length words)) (ObjectTooLong i) (ObjectPastEnd i) tt tt
 
 marks_of_part : (row : List ℕ) (low : ℕ) (marks : List ℕ) → All IsOfPart (mark_faults row low marks)
 marks_of_part row low [] = All-nil IsOfPart
@@ -74,11 +76,11 @@ fields_of_part kind edition test words marks =
     (λ mark. references_of_part kind test (mark + first_of kind (header_at edition words mark)) (fields_of kind (object_at edition words mark))) marks
 
 -- counts within their limits have no fault
-pub no_size_fault : (words marks roots : ℕ) → AreWithin words marks roots → size_faults words marks roots ≡ []
-no_size_fault words marks roots within =
-    let w : leb words (2 ^ 20) ≡ true = le-leb words (2 ^ 20) within.few_words in
-    let m : leb marks (2 ^ 20) ≡ true = le-leb marks (2 ^ 20) within.few_marks in
-    let r : leb roots (2 ^ 12) ≡ true = le-leb roots (2 ^ 12) within.few_roots in
+pub no_size_fault : (edition : Edition) (words marks roots : ℕ) → AreWithin edition words marks roots → size_faults edition words marks roots ≡ []
+no_size_fault edition words marks roots within =
+    let w : leb words (most_words edition) ≡ true = le-leb words (most_words edition) within.few_words in
+    let m : leb marks (most_words edition) ≡ true = le-leb marks (most_words edition) within.few_marks in
+    let r : leb roots (most_roots edition) ≡ true = le-leb roots (most_roots edition) within.few_roots in
     rw (w, m, r) refl
 
 -- what holds for all faults of a list holds for its first
@@ -86,35 +88,54 @@ first_all : (P : LayoutFault → Type 0) (list : List LayoutFault) (fault : Layo
 first_all P [] fault all first = absurd first
 first_all P (one ∷ others) fault all first = subst P (sym first) (All-head P one others all)
 
--- what holds for all faults of six lists holds for those of the joined list
-all_six : (P : LayoutFault → Type 0) (a b c d e f : List LayoutFault) → All P a → All P b → All P c → All P d → All P e → All P f
-    → All P (a ++ b ++ c ++ d ++ e ++ f)
-all_six P a b c d e f of_a of_b of_c of_d of_e of_f =
-    All-append P (a ++ b ++ c ++ d ++ e) f
-    (All-append P (a ++ b ++ c ++ d) e (All-append P (a ++ b ++ c) d (All-append P (a ++ b) c (All-append P a b of_a of_b) of_c) of_d) of_e) of_f
+-- what holds for all faults of five lists holds for those of the joined list
+all_five : (P : LayoutFault → Type 0) (a b c d e : List LayoutFault) → All P a → All P b → All P c → All P d → All P e → All P (a ++ b ++ c ++ d ++ e)
+all_five P a b c d e of_a of_b of_c of_d of_e =
+    All-append P (a ++ b ++ c ++ d) e (All-append P (a ++ b ++ c) d (All-append P (a ++ b) c (All-append P a b of_a of_b) of_c) of_d) of_e
 
--- the first fault of a heap within the limits is the fault of a part
-pub first_of_part : (heap : Heap) (fault : LayoutFault) → AreWithin (length heap.words) (length heap.marks) (length heap.roots)
-    → IsFirst (faults heap) fault → IsOfPart fault
-first_of_part heap fault within first =
-    let sizes = size_faults (length heap.words) (length heap.marks) (length heap.roots) in
+-- the faults of the parts of a heap are faults of parts
+parts_of_part : (heap : Heap) → All IsOfPart (part_faults heap)
+parts_of_part heap =
     let row = flat_map (object_faults heap.edition heap.words) (starts heap.edition heap.words) in
     let marks = mark_faults (starts heap.edition heap.words) 0 heap.marks in
     let roots = root_faults heap.marks heap.roots in
     let targets = target_faults heap.edition heap.words heap.marks heap.marks in
     let weak = weak_faults heap.edition heap.words heap.marks in
-    first_all IsOfPart (faults heap) fault
-    (all_six IsOfPart sizes row marks roots targets weak
-    (All-same IsOfPart sizes [] (no_size_fault (length heap.words) (length heap.marks) (length heap.roots) within) (All-nil IsOfPart))
+    all_five IsOfPart row marks roots targets weak
     (each_of_part (object_faults heap.edition heap.words) (objects_of_part heap.edition heap.words) (starts heap.edition heap.words))
     (marks_of_part (starts heap.edition heap.words) 0 heap.marks)
     (roots_of_part heap.marks heap.roots)
     (fields_of_part Reference heap.edition (is_target heap.marks) heap.words heap.marks)
-    (fields_of_part Weak heap.edition (is_target (starts heap.edition heap.words)) heap.words heap.marks))
-    first
+    (fields_of_part Weak heap.edition (is_target (starts heap.edition heap.words)) heap.words heap.marks)
 
--- the fault of a part of the heap is no failure of the device
-pub counts_kept : (T : Type 0) (before after : ℕ) (result : Result T LayoutFault) → IfErr result IsOfPart → after ≡ before → CountsFailure before after result
+-- the first fault of a heap within the limits is the fault of a part
+pub first_of_part : (heap : Heap) (fault : LayoutFault) → AreWithin heap.edition (length heap.words) (length heap.marks) (length heap.roots)
+    → IsFirst (faults heap) fault → IsOfPart fault
+first_of_part heap fault within first =
+    let none = no_size_fault heap.edition (length heap.words) (length heap.marks) (length heap.roots) within in
+    first_all IsOfPart (part_faults heap) fault (parts_of_part heap) (subst (λ (sizes : List LayoutFault). IsFirst (sizes ++ part_faults heap) fault) none first)
+
+-- the fault is no failure of the device
+abbrev pub IsNoDevice : LayoutFault → Type 0
+IsNoDevice Device = ⊥
+IsNoDevice _ = Unit {0}
+
+part_no_device : (fault : LayoutFault) → IsOfPart fault → IsNoDevice fault
+part_no_device Device part = absurd part
+part_no_device _ part = tt
+
+memory_no_device : (edition : Edition) (fault : LayoutFault) → IsRefusedMemory edition fault → IsNoDevice fault
+memory_no_device One fault memory = absurd memory
+memory_no_device Two fault memory = absurd memory
+memory_no_device Three fault memory = subst IsNoDevice (sym memory) tt
+
+-- the answer for a heap within the limits is no failure of the device
+pub no_device : (heap : Heap) (fault : LayoutFault) → AreWithin heap.edition (length heap.words) (length heap.marks) (length heap.roots)
+    → IsAnswered heap.edition (faults heap) fault → IsNoDevice fault
+no_device heap fault within (inl first) = part_no_device fault (first_of_part heap fault within first)
+no_device heap fault within (inr memory) = memory_no_device heap.edition fault memory
+
+pub counts_kept : (T : Type 0) (before after : ℕ) (result : Result T LayoutFault) → IfErr result IsNoDevice → after ≡ before → CountsFailure before after result
 counts_kept T before after (Ok _) part same = same
 counts_kept T before after (Err Device) part same = absurd part
 counts_kept T before after (Err _) part same = same

@@ -7,8 +7,10 @@ use Rattle.std.specs.Result.{IsErrAnd}
 use Rattle.std.specs.Io.KnownBytes.{Consumes}
 use Rattle.heap_layout.specs.Counted.{CountsFailure}
 use Rattle.heap_layout.specs.declared.edition.Edition.{Edition}
+use Rattle.heap_layout.specs.Limits.{most_words, most_roots}
+use Rattle.heap_layout.specs.Versions.{IsRead}
 use Rattle.heap_layout.specs.Faults.{size_faults, unless, IsFirst}
-use Rattle.heap_layout.specs.Encoding.{magic, version, counts, IsOver, Refuses, RefusesCounts, EndsBefore}
+use Rattle.heap_layout.specs.Encoding.{magic, version, counts, IsOver, RefusesBy, RefusesCounts, EndsBefore}
 use Rattle.heap_layout.specs.declared.fault.LayoutFault.{LayoutFault}
 use Rattle.heap_layout.specs.declared.fault.LayoutFault.TheVariants.{TooLarge, BadMagic, Truncated, OutOfMemory, Device}
 use borrow.Rule.Slice.PartMut.{put_mid, post_of}
@@ -36,44 +38,44 @@ with_front (Some xs) None front Q read f = absurd read
 with_front (Some xs) (Some ys) front Q read f = subst Q (sym read) (f ys)
 
 -- the bytes end within the magic
-pub cut_in_magic : (a : Option (List ℕ)) (fault : LayoutFault) → IfSome a (EndsBefore 8 fault) → IfSome a (Refuses fault)
-cut_in_magic None fault cut = tt
-cut_in_magic (Some bytes) Truncated cut = inl cut
-cut_in_magic (Some bytes) OutOfMemory cut = tt
-cut_in_magic (Some bytes) Device cut = tt
-cut_in_magic (Some bytes) _ cut = absurd cut
+pub cut_in_magic : (large : Bool) (a : Option (List ℕ)) (fault : LayoutFault) → IfSome a (EndsBefore 8 fault) → IfSome a (RefusesBy large fault)
+cut_in_magic large None fault cut = tt
+cut_in_magic large (Some bytes) Truncated cut = inl cut
+cut_in_magic large (Some bytes) OutOfMemory cut = tt
+cut_in_magic large (Some bytes) Device cut = tt
+cut_in_magic large (Some bytes) _ cut = absurd cut
 
 -- the bytes end within the version, after the magic
-ends_in_version : (rest : List ℕ) (fault : LayoutFault) → EndsBefore 4 fault rest → Refuses fault (magic ++ rest)
-ends_in_version rest Truncated short = inr (inl (rest, refl, short))
-ends_in_version rest OutOfMemory short = tt
-ends_in_version rest Device short = tt
-ends_in_version rest _ short = absurd short
+ends_in_version : (large : Bool) (rest : List ℕ) (fault : LayoutFault) → EndsBefore 4 fault rest → RefusesBy large fault (magic ++ rest)
+ends_in_version large rest Truncated short = inr (inl (rest, refl, short))
+ends_in_version large rest OutOfMemory short = tt
+ends_in_version large rest Device short = tt
+ends_in_version large rest _ short = absurd short
 
 -- the same for a reader that has read the magic
-pub cut_in_version : (a b : Option (List ℕ)) (fault : LayoutFault) → Consumes a b magic → IfSome b (EndsBefore 4 fault) → IfSome a (Refuses fault)
-cut_in_version a b fault read cut = behind_read a b magic (EndsBefore 4 fault) (Refuses fault) read cut (λ rest short. ends_in_version rest fault short)
+pub cut_in_version : (large : Bool) (a b : Option (List ℕ)) (fault : LayoutFault) → Consumes a b magic → IfSome b (EndsBefore 4 fault) → IfSome a (RefusesBy large fault)
+cut_in_version large a b fault read cut = behind_read a b magic (EndsBefore 4 fault) (RefusesBy large fault) read cut (λ rest short. ends_in_version large rest fault short)
 
 -- 8 bytes were read that are not the magic
-pub other_magic : (a b : Option (List ℕ)) (front : List ℕ) → Consumes a b front → length front ≡ 8 → front ≢ magic → IfSome a (Refuses BadMagic)
-other_magic a b front read long other =
-    with_front a b front (Refuses BadMagic) read
+pub other_magic : (large : Bool) (a b : Option (List ℕ)) (front : List ℕ) → Consumes a b front → length front ≡ 8 → front ≢ magic → IfSome a (RefusesBy large BadMagic)
+other_magic large a b front read long other =
+    with_front a b front (RefusesBy large BadMagic) read
     (λ rest. inl (simp length-append (omega arith), λ same. other (sym (take_at front rest 8 long) ∙ same)))
 
 -- the magic was read, and then 4 bytes that are no version
-pub other_version : (a b c : Option (List ℕ)) (front : List ℕ) → Consumes a b magic → Consumes b c front
-    → length front ≡ 4 → ((edition : Edition) → front ≢ version edition) → IfSome a (Refuses BadMagic)
-other_version a b c front first read long other =
-    let P : List ℕ → Type 0 = λ rest. (4 ≤ length rest) × ((edition : Edition) → take 4 rest ≢ version edition) in
-    behind_read a b magic P (Refuses BadMagic) first
-    (with_front b c front P read (λ rest. (simp length-append (omega arith), λ edition same. other edition (sym (take_at front rest 4 long) ∙ same))))
+pub other_version : (large : Bool) (a b c : Option (List ℕ)) (front : List ℕ) → Consumes a b magic → Consumes b c front
+    → length front ≡ 4 → ((edition : Edition) → IsRead large edition → front ≢ version edition) → IfSome a (RefusesBy large BadMagic)
+other_version large a b c front first read long other =
+    let P : List ℕ → Type 0 = λ rest. (4 ≤ length rest) × ((edition : Edition) → IsRead large edition → take 4 rest ≢ version edition) in
+    behind_read a b magic P (RefusesBy large BadMagic) first
+    (with_front b c front P read (λ rest. (simp length-append (omega arith), λ edition read same. other edition read (sym (take_at front rest 4 long) ∙ same))))
     (λ rest is. inr (rest, refl, is))
 
 -- three counts were read, and one of them is above its limit
-pub over_limit : (a b : Option (List ℕ)) (words marks roots : ℕ) → Consumes a b (counts words marks roots)
-    → IsOver words marks roots → IfSome a (RefusesCounts TooLarge)
-over_limit a b words marks roots read over =
-    with_front a b (counts words marks roots) (RefusesCounts TooLarge) read (λ rest. (words, marks, roots, over, (rest, refl, tt)))
+pub over_limit : (a b : Option (List ℕ)) (edition : Edition) (words marks roots : ℕ) → Consumes a b (counts words marks roots)
+    → IsOver edition words marks roots → IfSome a (RefusesCounts edition TooLarge)
+over_limit a b edition words marks roots read over =
+    with_front a b (counts words marks roots) (RefusesCounts edition TooLarge) read (λ rest. (words, marks, roots, over, (rest, refl, tt)))
 
 -- the first fault of the three size tests is that of a test that failed
 first_of_sizes : (words marks roots : Bool) (fault : LayoutFault)
@@ -84,14 +86,15 @@ first_of_sizes true true false fault first = (first, inr (inr refl))
 first_of_sizes true true true fault first = absurd first
 
 -- if the sizes have a fault, one of them is above its limit
-pub size_fault : (words marks roots : ℕ) (fault : LayoutFault) → IsFirst (size_faults words marks roots) fault
-    → (fault ≡ TooLarge) × ((2 ^ 20 < words) ⊎ (2 ^ 20 < marks) ⊎ (2 ^ 12 < roots))
-size_fault words marks roots fault first =
-    let found = first_of_sizes (leb words (2 ^ 20)) (leb marks (2 ^ 20)) (leb roots (2 ^ 12)) fault first in (
+pub size_fault : (edition : Edition) (words marks roots : ℕ) (fault : LayoutFault) → IsFirst (size_faults edition words marks roots) fault
+    → (fault ≡ TooLarge) × ((most_words edition < words) ⊎ (most_words edition < marks) ⊎ (most_roots edition < roots))
+size_fault edition words marks roots fault first =
+    let most = most_words edition in
+    let found = first_of_sizes (leb words most) (leb marks most) (leb roots (most_roots edition)) fault first in (
       found.0,
       elim found.1 [
-        | inl w ↦ inl (leb-false words (2 ^ 20) w)
-        | inr rest ↦ elim rest [ inl m ↦ inr (inl (leb-false marks (2 ^ 20) m)) | inr r ↦ inr (inr (leb-false roots (2 ^ 12) r)) ]
+        | inl w ↦ inl (leb-false words most w)
+        | inr rest ↦ elim rest [ inl m ↦ inr (inl (leb-false marks most m)) | inr r ↦ inr (inr (leb-false roots (most_roots edition) r)) ]
       ],
     )
 

@@ -1,31 +1,33 @@
 -- Why a heap is refused. All faults of a heap stand in one list, in the order in which they count. The heap is accepted
 -- if the list is empty. Otherwise the first fault of the list is the answer.
-use Rattle.std.specs.Prelude.{◌≡◌, ℕ, ◌+◌, ◌^◌, ◌≤◌, Bool, ◌==◌, nat_le, List, [], ◌∷◌, ◌++◌, length, take, drop, if◌then◌else◌, Result, Ok, Err}
+use Rattle.std.specs.Prelude.{◌≡◌, ℕ, ◌+◌, ◌≤◌, ◌⊎◌, Bool, ◌==◌, nat_le, List, [], ◌∷◌, ◌++◌, length, take, drop, if◌then◌else◌, Result, Ok, Err}
 use Rattle.std.specs.List.{flat_map, enumerate_from, list_any}
+use Rattle.heap_layout.specs.Limits.{most_words, most_roots, most_object_words}
 use Rattle.heap_layout.specs.Header.{size_of}
 use Rattle.heap_layout.specs.Bits.{bit}
 use Rattle.heap_layout.specs.Kinds.{first_of}
 use Rattle.heap_layout.specs.Heap.{Heap, header_at, object_at, fields_of, starts, starts_at, is_start, is_target}
 use Rattle.heap_layout.specs.declared.edition.Edition.{Edition}
+use Rattle.heap_layout.specs.declared.edition.Edition.TheVariants.{One, Two, Three}
 use Rattle.heap_layout.specs.declared.kind.Kind.{Kind}
 use Rattle.heap_layout.specs.declared.kind.Kind.TheVariants.{Reference, Weak}
 use Rattle.heap_layout.specs.declared.fault.LayoutFault.{LayoutFault}
-use Rattle.heap_layout.specs.declared.fault.LayoutFault.TheVariants.{TooLarge, ObjectPastEnd, ObjectTooLong, MarkNotStart, MarksNotRising, BadRoot, UnmarkedTarget, BadWeak}
+use Rattle.heap_layout.specs.declared.fault.LayoutFault.TheVariants.{TooLarge, ObjectPastEnd, ObjectTooLong, MarkNotStart, MarksNotRising, BadRoot, UnmarkedTarget, BadWeak, OutOfMemory}
 
 -- the fault, if the test fails
 abbrev pub unless : {F : Type 0} → Bool → F → List F
 unless holds fault = if holds then [] else fault ∷ []
 
--- the numbers of words, marks or roots that are above the limits of an image
-abbrev pub size_faults : ℕ → ℕ → ℕ → List LayoutFault
-size_faults words marks roots =
-    unless (nat_le words (2 ^ 20)) TooLarge ++ unless (nat_le marks (2 ^ 20)) TooLarge ++ unless (nat_le roots (2 ^ 12)) TooLarge
+-- the numbers of words, marks or roots that are above the limits of the edition
+abbrev pub size_faults : Edition → ℕ → ℕ → ℕ → List LayoutFault
+size_faults edition words marks roots =
+    unless (nat_le words (most_words edition)) TooLarge ++ unless (nat_le marks (most_words edition)) TooLarge ++ unless (nat_le roots (most_roots edition)) TooLarge
 
 -- the object at index i is too long, or ends past the words
 abbrev pub object_faults : Edition → List ℕ → ℕ → List LayoutFault
 object_faults edition words i =
     let size = size_of (header_at edition words i) in
-    unless (nat_le size 1024) (ObjectTooLong i) ++ unless (nat_le (i + size) (length words)) (ObjectPastEnd i)
+    unless (nat_le size (most_object_words edition)) (ObjectTooLong i) ++ unless (nat_le (i + size) (length words)) (ObjectPastEnd i)
 
 -- a walk object by object comes to index i: the objects from there on have no fault, and they are those of the whole
 -- row from there on
@@ -79,14 +81,17 @@ target_faults edition words all_marks marks = field_faults_by Reference edition 
 abbrev pub weak_faults : Edition → List ℕ → List ℕ → List LayoutFault
 weak_faults edition words marks = field_faults_by Weak edition (is_target (starts edition words)) words marks
 
-abbrev pub faults : Heap → List LayoutFault
-faults heap =
-    size_faults (length heap.words) (length heap.marks) (length heap.roots)
-    ++ flat_map (object_faults heap.edition heap.words) (starts heap.edition heap.words)
+-- the faults of the objects, the marks, the roots, the references and the weak words
+abbrev pub part_faults : Heap → List LayoutFault
+part_faults heap =
+    flat_map (object_faults heap.edition heap.words) (starts heap.edition heap.words)
     ++ mark_faults (starts heap.edition heap.words) 0 heap.marks
     ++ root_faults heap.marks heap.roots
     ++ target_faults heap.edition heap.words heap.marks heap.marks
     ++ weak_faults heap.edition heap.words heap.marks
+
+abbrev pub faults : Heap → List LayoutFault
+faults heap = size_faults heap.edition (length heap.words) (length heap.marks) (length heap.roots) ++ part_faults heap
 
 abbrev pub IsAccepted : Heap → Type 0
 IsAccepted heap = faults heap ≡ []
@@ -96,7 +101,22 @@ abbrev pub IsFirst : {F : Type 0} → List F → F → Type 0
 IsFirst [] fault = ⊥
 IsFirst (first ∷ others) fault = fault ≡ first
 
+-- an allocation was refused, of which only the checks of edition three make one
+abbrev pub IsRefusedMemory : Edition → LayoutFault → Type 0
+IsRefusedMemory One fault = ⊥
+IsRefusedMemory Two fault = ⊥
+IsRefusedMemory Three fault = fault ≡ OutOfMemory
+
+-- the fault that is answered for a heap of this edition with this list of faults
+abbrev pub IsAnswered : Edition → List LayoutFault → LayoutFault → Type 0
+IsAnswered edition list fault = IsFirst list fault ⊎ IsRefusedMemory edition fault
+
 -- the answer for this list of faults: Ok if it is empty, otherwise its first fault
 abbrev pub Reports : {F T : Type 0} → List F → Result T F → Type 0
 Reports list (Ok _) = list ≡ []
 Reports list (Err fault) = IsFirst list fault
+
+-- the same for a heap of this edition, if the answer may be that memory was refused
+abbrev pub ReportsOf : {T : Type 0} → Edition → List LayoutFault → Result T LayoutFault → Type 0
+ReportsOf edition list (Ok _) = list ≡ []
+ReportsOf edition list (Err fault) = IsAnswered edition list fault

@@ -5,6 +5,7 @@ use Rattle.std.specs.List.{list_any}
 use Rattle.heap_layout.specs.declared.edition.Edition.{Edition}
 use Rattle.heap_layout.specs.declared.kind.Kind.{Kind}
 use Rattle.heap_layout.specs.declared.kind.Kind.TheVariants.{Header, Reference, Weak, Data}
+use Rattle.heap_layout.specs.Limits.{most_words, most_roots, most_object_words}
 use Rattle.heap_layout.specs.Header.{Head, header_of, refs_of, weak_of, data_of, size_of}
 
 pub record Heap : Type 0 where
@@ -85,10 +86,10 @@ is_target marks reference = (reference == 0) || list_any (λ mark. from_address 
 abbrev pub IsTarget : List ℕ → ℕ → Type 0
 IsTarget marks reference = is_target marks reference ≡ true
 
--- the object at index i ends within the words, and has at most 1,024 words
+-- the object at index i ends within the words, and is no longer than an object of the edition may be
 pub record IsPlaced (edition : Edition) (words : List ℕ) (i : ℕ) : Type 0 where
   pub within : i + size_of (header_at edition words i) ≤ length words
-  pub short : size_of (header_at edition words i) ≤ 1024
+  pub short : size_of (header_at edition words i) ≤ most_object_words edition
 
 -- the numbers fit the fields in which an image stores them
 pub record IsStored (heap : Heap) : Type 0 where
@@ -100,9 +101,9 @@ pub record IsStored (heap : Heap) : Type 0 where
 -- of a marked object is null or the address of a marked object. Every weak word of a marked object is null or the
 -- address of an object.
 pub record IsClosed (heap : Heap) : Type 0 where
-  pub few_words : length heap.words ≤ 2 ^ 20
-  pub few_marks : length heap.marks ≤ 2 ^ 20
-  pub few_roots : length heap.roots ≤ 2 ^ 12
+  pub few_words : length heap.words ≤ most_words heap.edition
+  pub few_marks : length heap.marks ≤ most_words heap.edition
+  pub few_roots : length heap.roots ≤ most_roots heap.edition
   pub started : All (λ mark. is_start (starts heap.edition heap.words) mark ≡ true) heap.marks
   pub placed : All (IsPlaced heap.edition heap.words) heap.marks
   pub apart : (k : ℕ) → k + 1 < length heap.marks

@@ -1,39 +1,110 @@
-//! The checks that a heap passes before it is accepted, in the order in which their faults count. None allocates.
-ghost use Rattle.std.specs.Prelude.{◌≡◌, ℕ, ◌+◌, ◌^◌, ◌≤◌, ◌==◌, ◌&&◌, ◌++◌, nat_lt, false, [], All, length, slice_index, IfOk};
+//! The checks that a heap passes before it is accepted, in the order in which their faults count. Only in edition three
+//! they allocate.
+ghost use Rattle.std.specs.Prelude.{◌≡◌, ℕ, ◌+◌, ◌*◌, ◌^◌, ◌<◌, ◌≤◌, ◌==◌, ◌&&◌, ◌++◌, nat_lt, false, [], All, length, slice_index, IfOk};
 ghost use Rattle.std.specs.List.{flat_map};
+ghost use Rattle.heap_layout.specs.declared.edition.Edition.TheVariants.{Three};
 ghost use Rattle.heap_layout.specs.Heap.{starts, is_start, is_target, IsPlaced};
 ghost use Rattle.heap_layout.specs.Bits.{bit, leads};
-ghost use Rattle.heap_layout.specs.Faults.{IsReached, Meets, size_faults, object_faults, mark_faults, root_faults_by, misled, reference_faults_by, field_faults_by, weak_faults, faults, Reports};
+ghost use Rattle.heap_layout.specs.Faults.{IsReached, Meets, size_faults, object_faults, mark_faults, root_faults_by, misled, reference_faults_by, field_faults_by, weak_faults, part_faults, faults, Reports, ReportsOf};
 
+use crate::bits::set_if;
 use crate::edition::Edition;
 use crate::fault::LayoutFault;
 use crate::header::Header;
 use crate::kind::Kind;
-use crate::limits::{MAX_MARKS, MAX_OBJECT_WORDS, MAX_ROOTS, MAX_WORDS};
-use crate::targets::Targets;
+use crate::limits::MAX_WORDS;
+use crate::targets::{has, put_marks, put_row};
+use std::alloc::Global;
 
-/// Checks a heap made of these parts: Ok if it is accepted, otherwise Err with its first fault.
+// The number of blocks of 64 bits that have one bit for each word of the largest heap of edition one or two.
+const BLOCKS: usize = MAX_WORDS / 64;
+
+/// Checks a heap made of these parts: Ok if it is accepted, otherwise Err with its first fault. In edition three it
+/// allocates a bit for each word, and `OutOfMemory` may replace any other answer but `TooLarge`.
 pub fn check(
+    alloc: Global,
     edition: Edition,
     words: &[u64],
     marks: &[u32],
     roots: &[u64],
 ) -> Result<(), LayoutFault>
-    ensures { Reports (faults (record { edition = edition; words = words.now; marks = marks.now; roots = roots.now })) result }
+    ensures { ReportsOf edition (faults (record { edition = edition; words = words.now; marks = marks.now; roots = roots.now })) result }
 {
-    check_sizes(words.len(), marks.len(), roots.len())?;
-    let mut targets = Targets::none();
-    check_objects(edition, words, marks, &mut targets)?;
-    check_roots(&targets, roots)?;
-    check_fields(&targets, Kind::Reference, edition, words, marks)?;
-    check_weak(edition, words, marks, &mut targets)
+    check_sizes(edition, words.len(), marks.len(), roots.len())?;
+    match edition {
+        Edition::One | Edition::Two => check_small(edition, words, marks, roots),
+        Edition::Three => check_large(alloc, edition, words, marks, roots),
+    }
 }
 
-/// Checks the numbers of words, marks and roots against their limits: Err with `TooLarge` if one is exceeded.
-pub fn check_sizes(words: usize, marks: usize, roots: usize) -> Result<(), LayoutFault>
-    ensures { Reports (size_faults words marks roots) result }
+// Blocks with no bit set.
+fn zeros<const N: usize>() -> [u64; N]
+    ensures { (i : ℕ) → bit result i ≡ false }
 {
-    if words > MAX_WORDS || marks > MAX_MARKS || roots > MAX_ROOTS {
+    [0; N]
+}
+
+// The checks after that of the sizes, with bits on the stack.
+fn check_small(
+    edition: Edition,
+    words: &[u64],
+    marks: &[u32],
+    roots: &[u64],
+) -> Result<(), LayoutFault>
+    requires few { length words.now ≤ 2 ^ 20 }
+    ensures { Reports (part_faults (record { edition = edition; words = words.now; marks = marks.now; roots = roots.now })) result }
+{
+    let mut bits = zeros::<BLOCKS>();
+    check_parts(&mut bits, edition, words, marks, roots)
+}
+
+// The same with bits that are allocated.
+fn check_large(
+    alloc: Global,
+    edition: Edition,
+    words: &[u64],
+    marks: &[u32],
+    roots: &[u64],
+) -> Result<(), LayoutFault>
+    requires few { length words.now ≤ 2 ^ 31 }
+    ensures { ReportsOf Three (part_faults (record { edition = edition; words = words.now; marks = marks.now; roots = roots.now })) result }
+{
+    let mut bits = vec![in alloc; 0; words.len() / 64 + 1]?;
+    check_parts(&mut bits, edition, words, marks, roots)
+}
+
+// The same with these bits, which must be none, and enough for all words.
+fn check_parts(
+    bits: &mut [u64],
+    edition: Edition,
+    words: &[u64],
+    marks: &[u32],
+    roots: &[u64],
+) -> Result<(), LayoutFault>
+    requires few { length words.now ≤ 2 ^ 31 }
+    requires some { 0 < length bits.old }
+    requires fits { length bits.old ≤ 2 ^ 26 }
+    requires room { length words.now ≤ 64 * length bits.old }
+    requires none { (i : ℕ) → bit bits.old i ≡ false }
+    ensures { Reports (part_faults (record { edition = edition; words = words.now; marks = marks.now; roots = roots.now })) result }
+{
+    check_objects(bits, edition, words, marks)?;
+    check_roots(bits, roots)?;
+    check_fields(bits, Kind::Reference, edition, words, marks)?;
+    check_weak(bits, edition, words, marks)
+}
+
+/// Checks the numbers of words, marks and roots against the limits of the edition: Err with `TooLarge` if one is
+/// exceeded.
+pub fn check_sizes(
+    edition: Edition,
+    words: usize,
+    marks: usize,
+    roots: usize,
+) -> Result<(), LayoutFault>
+    ensures { Reports (size_faults edition words marks roots) result }
+{
+    if words > edition.max_words() || marks > edition.max_marks() || roots > edition.max_roots() {
         Err(LayoutFault::TooLarge)
     } else {
         Ok(())
@@ -41,52 +112,56 @@ pub fn check_sizes(words: usize, marks: usize, roots: usize) -> Result<(), Layou
 }
 
 // Checks the objects, then the marks. No object may be too long or end past the words. Each mark must be above the one
-// before it and be the start of an object. `targets` must be empty; after an Ok it holds the marked objects.
+// before it and be the start of an object. No bit must be set; after an Ok the bits are those of the marked objects.
 fn check_objects(
+    bits: &mut [u64],
     edition: Edition,
     words: &[u64],
     marks: &[u32],
-    targets: &mut Targets,
 ) -> Result<(), LayoutFault>
-    requires few { length words.now ≤ 2 ^ 20 }
-    requires none { (i : ℕ) → bit targets.old i ≡ false }
+    requires few { length words.now ≤ 2 ^ 31 }
+    requires room { length words.now ≤ 64 * length bits.old }
+    requires none { (i : ℕ) → bit bits.old i ≡ false }
+    ensures length { length bits.new ≡ length bits.old }
     ensures reported { Reports (flat_map (object_faults edition words.now) (starts edition words.now) ++ mark_faults (starts edition words.now) 0 marks.now) result }
-    ensures targets { IfOk result (λ _. leads targets.new ≡ is_target marks.now) }
+    ensures targets { IfOk result (λ _. leads bits.new ≡ is_target marks.now) }
 {
-    let met = check_row(edition, words, marks, targets)?;
+    let met = check_row(bits, edition, words, marks)?;
     if met == marks.len() {
         return Ok(());
     }
     check_marks(edition, words, marks)?;
-    targets.put_marks(marks);
+    put_marks(bits, marks);
     Ok(())
 }
 
 // Checks that no object is too long or ends past the words. Answers how many marks, from the first on, were met in
-// order at starts of objects. These are then in `targets`, which must be empty before.
+// order at starts of objects. Their bits are then set, and no others; no bit must be set before.
 fn check_row(
+    bits: &mut [u64],
     edition: Edition,
     words: &[u64],
     marks: &[u32],
-    targets: &mut Targets,
 ) -> Result<usize, LayoutFault>
-    requires few { length words.now ≤ 2 ^ 20 }
-    requires none { (i : ℕ) → bit targets.old i ≡ false }
+    requires few { length words.now ≤ 2 ^ 31 }
+    requires room { length words.now ≤ 64 * length bits.old }
+    requires none { (i : ℕ) → bit bits.old i ≡ false }
+    ensures length { length bits.new ≡ length bits.old }
     ensures reported { Reports (flat_map (object_faults edition words.now) (starts edition words.now)) result }
-    ensures met { IfOk result (λ met. Meets (starts edition words.now) marks.now met targets.new) }
+    ensures met { IfOk result (λ met. Meets (starts edition words.now) marks.now met bits.new) }
 {
     let mut met = 0;
     let mut start = 0;
     while start < words.len() {
         let size = Header::from_word_of(edition, words[start]).size() as usize;
-        if size > MAX_OBJECT_WORDS {
+        if size > edition.max_object_words() {
             return Err(LayoutFault::ObjectTooLong(start as u64));
         }
         if size > words.len() - start {
             return Err(LayoutFault::ObjectPastEnd(start as u64));
         }
         let marked = is_mark(marks, met, start);
-        targets.add_if(marked, start);
+        set_if(bits, marked, start);
         met += usize::from(marked);
         start += size;
     }
@@ -102,7 +177,7 @@ fn is_mark(marks: &[u32], number: usize, i: usize) -> bool
 
 // Checks that each mark is above the one before it and is the start of an object.
 fn check_marks(edition: Edition, words: &[u64], marks: &[u32]) -> Result<(), LayoutFault>
-    requires few { length words.now ≤ 2 ^ 20 }
+    requires few { length words.now ≤ 2 ^ 31 }
     requires row { flat_map (object_faults edition words.now) (starts edition words.now) ≡ [] }
     ensures { Reports (mark_faults (starts edition words.now) 0 marks.now) result }
 {
@@ -124,7 +199,7 @@ fn check_marks(edition: Edition, words: &[u64], marks: &[u32]) -> Result<(), Lay
 
 // The first object start at or above `low`, or the end of the words. The walk begins with the object at `start`.
 fn next_start(edition: Edition, words: &[u64], mut start: usize, low: usize) -> usize
-    requires few { length words.now ≤ 2 ^ 20 }
+    requires few { length words.now ≤ 2 ^ 31 }
     requires reached { IsReached edition words.now start }
     requires order { start ≤ low }
     ensures reached { IsReached edition words.now result }
@@ -137,56 +212,63 @@ fn next_start(edition: Edition, words: &[u64], mut start: usize, low: usize) -> 
 }
 
 // Checks that each root is null or the address of a marked object.
-fn check_roots(targets: &Targets, roots: &[u64]) -> Result<(), LayoutFault>
-    ensures { Reports (root_faults_by (leads targets.now) roots.now) result }
+fn check_roots(bits: &[u64], roots: &[u64]) -> Result<(), LayoutFault>
+    requires some { 0 < length bits.now }
+    requires fits { length bits.now ≤ 2 ^ 26 }
+    ensures { Reports (root_faults_by (leads bits.now) roots.now) result }
 {
     for (number, &root) in roots.iter().enumerate() {
-        if !targets.has(root) {
+        if !has(bits, root) {
             return Err(LayoutFault::BadRoot(number as u64));
         }
     }
     Ok(())
 }
 
-// Checks that each weak word of each marked object is null or the address of an object, marked or not. Of a row of
-// edition two the targets are then all objects.
+// Checks that each weak word of each marked object is null or the address of an object, marked or not. Of a row with
+// weak words the bits are then those of all objects.
 fn check_weak(
+    bits: &mut [u64],
     edition: Edition,
     words: &[u64],
     marks: &[u32],
-    targets: &mut Targets,
 ) -> Result<(), LayoutFault>
-    requires few { length words.now ≤ 2 ^ 20 }
+    requires few { length words.now ≤ 2 ^ 31 }
+    requires some { 0 < length bits.old }
+    requires fits { length bits.old ≤ 2 ^ 26 }
+    requires room { length words.now ≤ 64 * length bits.old }
     requires row { flat_map (object_faults edition words.now) (starts edition words.now) ≡ [] }
     requires placed { All (IsPlaced edition words.now) marks.now }
     ensures { Reports (weak_faults edition words.now marks.now) result }
 {
     match edition {
         Edition::One => Ok(()),
-        Edition::Two => {
-            targets.put_row(edition, words);
-            check_fields(targets, Kind::Weak, edition, words, marks)
+        Edition::Two | Edition::Three => {
+            put_row(bits, edition, words);
+            check_fields(bits, Kind::Weak, edition, words, marks)
         }
     }
 }
 
 // Checks that each field of this kind of each marked object is null or leads to one of the targets.
 fn check_fields(
-    targets: &Targets,
+    bits: &[u64],
     kind: Kind,
     edition: Edition,
     words: &[u64],
     marks: &[u32],
 ) -> Result<(), LayoutFault>
-    requires few { length words.now ≤ 2 ^ 20 }
+    requires few { length words.now ≤ 2 ^ 31 }
+    requires some { 0 < length bits.now }
+    requires fits { length bits.now ≤ 2 ^ 26 }
     requires placed { All (IsPlaced edition words.now) marks.now }
-    ensures { Reports (field_faults_by kind edition (leads targets.now) words.now marks.now) result }
+    ensures { Reports (field_faults_by kind edition (leads bits.now) words.now marks.now) result }
 {
     for &mark in marks {
         let header = Header::from_word_of(edition, words[mark as usize]);
         let first = mark as usize + header.first(kind) as usize;
         let count = header.count(kind) as usize;
-        check_references(targets, kind, first as u64, &words[first..first + count])?;
+        check_references(bits, kind, first as u64, &words[first..first + count])?;
     }
     Ok(())
 }
@@ -194,16 +276,18 @@ fn check_fields(
 // Checks that each of these words is null or leads to one of the targets. They are of one kind; the first has index
 // `first`.
 fn check_references(
-    targets: &Targets,
+    bits: &[u64],
     kind: Kind,
     first: u64,
     references: &[u64],
 ) -> Result<(), LayoutFault>
-    requires { first + length references.now ≤ 2 ^ 32 }
-    ensures { Reports (reference_faults_by kind (leads targets.now) first references.now) result }
+    requires some { 0 < length bits.now }
+    requires fits { length bits.now ≤ 2 ^ 26 }
+    requires few { first + length references.now ≤ 2 ^ 32 }
+    ensures { Reports (reference_faults_by kind (leads bits.now) first references.now) result }
 {
     for (i, &reference) in references.iter().enumerate() {
-        if !targets.has(reference) {
+        if !has(bits, reference) {
             return Err(misled(kind, first + i as u64));
         }
     }

@@ -21,13 +21,13 @@ impl From<AllocError> for OutOfMemory {
 /// before these, except that the sizes are checked as soon as the counts are read.
 #[derive(Clone, Copy, Debug, PartialEq, Eq, Error)]
 pub enum LayoutFault {
-    /// There are more than 1,048,576 words, 1,048,576 marks or 4,096 roots.
+    /// There are more words, marks or roots than the edition allows.
     #[error("H1 TooLarge")]
     TooLarge,
     /// The object at this index ends past the words.
     #[error("H2 ObjectPastEnd({0})")]
     ObjectPastEnd(u64),
-    /// The object at this index has more than 1,024 words.
+    /// The object at this index has more words than the edition allows.
     #[error("H3 ObjectTooLong({0})")]
     ObjectTooLong(u64),
     /// No object starts at the index that this mark gives.

@@ -1,7 +1,7 @@
 ghost use Rattle.std.specs.Prelude.{◌≡◌, ◌<◌, length, IfOk, IfErr};
 ghost use Rattle.std.specs.List.{flat_map};
 ghost use Rattle.heap_layout.specs.Heap.{header_at, objects, words_of, IsStored, IsClosed};
-ghost use Rattle.heap_layout.specs.Faults.{faults, IsAccepted, IsFirst};
+ghost use Rattle.heap_layout.specs.Faults.{faults, IsAccepted, IsAnswered, IsFirst};
 ghost use Rattle.heap_layout.specs.declared.edition.Edition.TheVariants.{One};
 
 use crate::checks;
@@ -50,7 +50,8 @@ impl MarkedHeap {
     }
 
     /// Makes a heap of this edition from words, marks and roots. Err with the first fault if the heap is not accepted.
-    /// It does not allocate.
+    /// In editions one and two it does not allocate. In edition three it allocates a bit for each word, and
+    /// `OutOfMemory` may replace any other answer but `TooLarge`.
     pub fn from_parts_of(
         edition: Edition,
         words: Vec<u64>,
@@ -61,9 +62,10 @@ impl MarkedHeap {
         ensures accepted { IfOk result IsAccepted }
         ensures stored { IfOk result IsStored }
         ensures fault { IfErr result
-            (IsFirst (faults (record { edition = edition; words = words.items; marks = marks.items; roots = roots.items }))) }
+            (IsAnswered edition (faults (record { edition = edition; words = words.items; marks = marks.items; roots = roots.items }))) }
     {
-        checks::check(edition, &words, &marks, &roots)?;
+        let alloc = *words.allocator();
+        checks::check(alloc, edition, &words, &marks, &roots)?;
         Ok(MarkedHeap {
             edition,
             words,

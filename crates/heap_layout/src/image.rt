@@ -1,11 +1,12 @@
 //! Reads an image, in pieces of bounded size.
-ghost use Rattle.std.specs.Prelude.{◌≡◌, ℕ, ◌+◌, ◌-◌, ◌*◌, ◌/◌, ◌%◌, ◌^◌, ◌<◌, ◌≤◌, ◌++◌, All, IfOk, IfErr, IfSome, OnOk, length, slice_index, vec_len, vec_capacity};
+ghost use Rattle.std.specs.Prelude.{◌≡◌, ℕ, ◌+◌, ◌-◌, ◌*◌, ◌/◌, ◌%◌, ◌^◌, ◌<◌, ◌≤◌, ◌++◌, true, false, All, IfOk, IfErr, IfSome, OnOk, length, slice_index, vec_len, vec_capacity};
 ghost use Rattle.std.specs.Io.KnownBytes.{Consumes, IsAtEnd};
 ghost use Rattle.std.specs.List.{flat_map};
 ghost use Rattle.heap_layout.specs.Counted.{inner_of, failures_of, CountsFailure};
-ghost use Rattle.heap_layout.specs.Encoding.{encoding, preamble, counts, eight_bytes, four_bytes, AreWithin, Refuses, RefusesCounts, RefusesEnd, EndsBefore};
+ghost use Rattle.heap_layout.specs.Encoding.{encoding, preamble, counts, eight_bytes, four_bytes, AreWithin, Refuses, RefusesBy, RefusesCounts, RefusesEnd, EndsBefore};
 ghost use Rattle.heap_layout.specs.Faults.{IsAccepted};
 ghost use Rattle.heap_layout.specs.Heap.{IsStored};
+ghost use Rattle.heap_layout.specs.Versions.{IsRead};
 
 use crate::checks::check_sizes;
 use crate::counted::Counted;
@@ -24,7 +25,12 @@ pub const MAGIC: [u8; 8] = *b"COMPHEAP";
 // How many numbers are read in one piece.
 const PIECE: usize = 8_192;
 
-/// Reads an image from all bytes that the reader has left. Answers its heap, or why it is refused.
+// How many numbers there is room for before the first is read. Room for more is asked for as they come, so that a few
+// bytes that announce many numbers take little memory.
+const FIRST_ROOM: usize = 1_048_576;
+
+/// Reads an image of edition one or two from all bytes that the reader has left. Answers its heap, or why it is
+/// refused.
 ///
 /// The magic is checked as soon as its 8 bytes are read, the version after its 4 bytes, and the three counts after
 /// theirs, whatever follows. Then the numbers are read, then one byte more is asked for, and then the heap is checked
@@ -33,13 +39,46 @@ const PIECE: usize = 8_192;
 pub fn read_image<R: Read>(alloc: Global, r: &mut Counted<R>) -> Result<MarkedHeap, LayoutFault>
     requires { failures_of r.old < 2 ^ 64 - 1 }
     ensures image { IfOk result (λ heap. IfSome (R.remaining (inner_of r.old)) (λ bytes. bytes ≡ encoding heap)) }
+    ensures edition { IfOk result (λ heap. IsRead false heap.edition) }
     ensures accepted { IfOk result IsAccepted }
     ensures stored { IfOk result IsStored }
     ensures cause { IfErr result (λ fault. IfSome (R.remaining (inner_of r.old)) (Refuses fault)) }
     ensures counts { CountsFailure (failures_of r.old) (failures_of r.new) result }
 {
-    let edition = read_magic(r)?;
-    let counts = read_counts(r)?;
+    read_image_by(alloc, r, false)
+}
+
+/// Reads an image of any edition, otherwise as `read_image` does.
+pub fn read_large_image<R: Read>(
+    alloc: Global,
+    r: &mut Counted<R>,
+) -> Result<MarkedHeap, LayoutFault>
+    requires { failures_of r.old < 2 ^ 64 - 1 }
+    ensures image { IfOk result (λ heap. IfSome (R.remaining (inner_of r.old)) (λ bytes. bytes ≡ encoding heap)) }
+    ensures accepted { IfOk result IsAccepted }
+    ensures stored { IfOk result IsStored }
+    ensures cause { IfErr result (λ fault. IfSome (R.remaining (inner_of r.old)) (RefusesBy true fault)) }
+    ensures counts { CountsFailure (failures_of r.old) (failures_of r.new) result }
+{
+    read_image_by(alloc, r, true)
+}
+
+// Reads an image, of edition three only if `large`.
+fn read_image_by<R: Read>(
+    alloc: Global,
+    r: &mut Counted<R>,
+    large: bool,
+) -> Result<MarkedHeap, LayoutFault>
+    requires { failures_of r.old < 2 ^ 64 - 1 }
+    ensures image { IfOk result (λ heap. IfSome (R.remaining (inner_of r.old)) (λ bytes. bytes ≡ encoding heap)) }
+    ensures edition { IfOk result (λ heap. IsRead large heap.edition) }
+    ensures accepted { IfOk result IsAccepted }
+    ensures stored { IfOk result IsStored }
+    ensures cause { IfErr result (λ fault. IfSome (R.remaining (inner_of r.old)) (RefusesBy large fault)) }
+    ensures counts { CountsFailure (failures_of r.old) (failures_of r.new) result }
+{
+    let edition = read_magic(r, large)?;
+    let counts = read_counts(r, edition)?;
     let words = read_words(alloc, r, counts.words as usize)?;
     let marks = read_marks(alloc, r, counts.marks as usize)?;
     let roots = read_words(alloc, r, counts.roots as usize)?;
@@ -70,11 +109,12 @@ fn read_part<R: Read>(r: &mut Counted<R>, buf: &mut [u8]) -> Result<(), LayoutFa
     }
 }
 
-// Reads the magic and the version, and answers the edition of that version.
-fn read_magic<R: Read>(r: &mut Counted<R>) -> Result<Edition, LayoutFault>
+// Reads the magic and the version, and answers the edition of that version: three only if `large`.
+fn read_magic<R: Read>(r: &mut Counted<R>, large: bool) -> Result<Edition, LayoutFault>
     requires { failures_of r.old < 2 ^ 64 - 1 }
     ensures read { IfOk result (λ edition. Consumes (R.remaining (inner_of r.old)) (R.remaining (inner_of r.new)) (preamble edition)) }
-    ensures cause { IfErr result (λ fault. IfSome (R.remaining (inner_of r.old)) (Refuses fault)) }
+    ensures edition { IfOk result (IsRead large) }
+    ensures cause { IfErr result (λ fault. IfSome (R.remaining (inner_of r.old)) (RefusesBy large fault)) }
     ensures counts { CountsFailure (failures_of r.old) (failures_of r.new) result }
 {
     let mut magic = [0; 8];
@@ -84,19 +124,19 @@ fn read_magic<R: Read>(r: &mut Counted<R>) -> Result<Edition, LayoutFault>
     }
     let mut version = [0; 4];
     read_part(r, &mut version)?;
-    match edition_of(LittleEndian::read_u32(&version)) {
+    match edition_of(LittleEndian::read_u32(&version), large) {
         Some(edition) => Ok(edition),
         None => Err(LayoutFault::BadMagic),
     }
 }
 
-// Reads the three counts. Err with `TooLarge` if one is above its limit.
-fn read_counts<R: Read>(r: &mut Counted<R>) -> Result<Counts, LayoutFault>
+// Reads the three counts. Err with `TooLarge` if one is above its limit in this edition.
+fn read_counts<R: Read>(r: &mut Counted<R>, edition: Edition) -> Result<Counts, LayoutFault>
     requires { failures_of r.old < 2 ^ 64 - 1 }
     ensures read { IfOk result (λ found. Consumes (R.remaining (inner_of r.old)) (R.remaining (inner_of r.new))
         (counts found.words found.marks found.roots)) }
-    ensures within { IfOk result (λ found. AreWithin found.words found.marks found.roots) }
-    ensures cause { IfErr result (λ fault. IfSome (R.remaining (inner_of r.old)) (RefusesCounts fault)) }
+    ensures within { IfOk result (λ found. AreWithin edition found.words found.marks found.roots) }
+    ensures cause { IfErr result (λ fault. IfSome (R.remaining (inner_of r.old)) (RefusesCounts edition fault)) }
     ensures counts { CountsFailure (failures_of r.old) (failures_of r.new) result }
 {
     let mut bytes = [0; 12];
@@ -104,7 +144,7 @@ fn read_counts<R: Read>(r: &mut Counted<R>) -> Result<Counts, LayoutFault>
     let words = LittleEndian::read_u32(&bytes);
     let marks = LittleEndian::read_u32(&bytes[4..]);
     let roots = LittleEndian::read_u32(&bytes[8..]);
-    check_sizes(words as usize, marks as usize, roots as usize)?;
+    check_sizes(edition, words as usize, marks as usize, roots as usize)?;
     Ok(Counts {
         words,
         marks,
@@ -118,7 +158,7 @@ fn read_words<R: Read>(
     r: &mut Counted<R>,
     count: usize,
 ) -> Result<Vec<u64>, LayoutFault>
-    requires few { count ≤ 2 ^ 20 }
+    requires few { count ≤ 2 ^ 31 }
     requires room { failures_of r.old < 2 ^ 64 - 1 }
     ensures long { IfOk result (λ words. length words.items ≡ count) }
     ensures small { IfOk result (λ words. All (λ n. n < 2 ^ 64) words.items) }
@@ -127,12 +167,13 @@ fn read_words<R: Read>(
     ensures cut { IfErr result (λ fault. IfSome (R.remaining (inner_of r.old)) (EndsBefore (8 * count) fault)) }
     ensures counts { CountsFailure (failures_of r.old) (failures_of r.new) result }
 {
-    let mut words = Vec::with_capacity(alloc, count)?;
+    let mut words = Vec::with_capacity(alloc, count.min(FIRST_ROOM))?;
     let mut piece = vec![in alloc; 0u8; 8 * count.min(PIECE)]?;
     while words.len() < count {
         let n = (count - words.len()).min(PIECE);
         let bytes = &mut piece[..8 * n];
         read_part(r, bytes)?;
+        words.reserve(n)?;
         push_words(&mut words, bytes);
     }
     Ok(words)
@@ -144,7 +185,7 @@ fn read_marks<R: Read>(
     r: &mut Counted<R>,
     count: usize,
 ) -> Result<Vec<u32>, LayoutFault>
-    requires few { count ≤ 2 ^ 20 }
+    requires few { count ≤ 2 ^ 31 }
     requires room { failures_of r.old < 2 ^ 64 - 1 }
     ensures long { IfOk result (λ marks. length marks.items ≡ count) }
     ensures small { IfOk result (λ marks. All (λ n. n < 2 ^ 32) marks.items) }
@@ -153,12 +194,13 @@ fn read_marks<R: Read>(
     ensures cut { IfErr result (λ fault. IfSome (R.remaining (inner_of r.old)) (EndsBefore (4 * count) fault)) }
     ensures counts { CountsFailure (failures_of r.old) (failures_of r.new) result }
 {
-    let mut marks = Vec::with_capacity(alloc, count)?;
+    let mut marks = Vec::with_capacity(alloc, count.min(FIRST_ROOM))?;
     let mut piece = vec![in alloc; 0u8; 4 * count.min(PIECE)]?;
     while marks.len() < count {
         let n = (count - marks.len()).min(PIECE);
         let bytes = &mut piece[..4 * n];
         read_part(r, bytes)?;
+        marks.reserve(n)?;
         push_marks(&mut marks, bytes);
     }
     Ok(marks)

@@ -3,17 +3,23 @@
 /// How many words a page has.
 pub const PAGE_WORDS: usize = 64;
 
-/// The most words of a heap.
+/// The most words of a heap of edition one or two.
 pub const MAX_WORDS: usize = 1_048_576;
 
-/// The most marks of a heap.
+/// The most marks of a heap of edition one or two.
 pub const MAX_MARKS: usize = 1_048_576;
 
-/// The most roots of a heap.
+/// The most roots of a heap of edition one or two.
 pub const MAX_ROOTS: usize = 4_096;
 
-/// The most words of an object in from-space.
+/// The most words of an object in from-space, in edition one or two.
 pub const MAX_OBJECT_WORDS: usize = 1_024;
+
+/// The most words of a heap of edition three, and the most words of an object there, and the most marks.
+pub const MAX_LARGE_WORDS: usize = 2_147_483_648;
+
+/// The most roots of a heap of edition three.
+pub const MAX_LARGE_ROOTS: usize = 1_048_576;
 
 /// The most words of an object that is made, its header among them.
 pub const MAX_FRESH_OBJECT_WORDS: u32 = 64;
@@ -24,11 +30,17 @@ pub const MAX_ENTRIES: usize = 1_024;
 /// The most mutators of a space.
 pub const MAX_MUTATORS: u32 = 64;
 
-/// The most fresh pages of a space.
+/// The most fresh pages of a space of edition one or two.
 pub const MAX_FRESH_PAGES: u32 = 4_096;
 
-/// The most pages of a space: 16,384 compacted ones, and the fresh ones.
+/// The most fresh pages of a space of edition three.
+pub const MAX_LARGE_FRESH_PAGES: u32 = 1_048_576;
+
+/// The most pages of a space of edition one or two: 16,384 compacted ones, and the fresh ones.
 pub const MAX_PAGES: u32 = 20_480;
+
+/// The most pages of a space of edition three: 33,554,432 compacted ones, and the fresh ones.
+pub const MAX_LARGE_PAGES: u32 = 34_603_008;
 
 /// The address of from-space word 0.
 pub const FROM_SPACE: u64 = 4_294_967_296;

@@ -1,6 +1,6 @@
 //! The version numbers in images and dumps.
 ghost use Rattle.std.specs.Prelude.{◌≡◌, ◌≢◌, IfNone, IfSome};
-ghost use Rattle.heap_layout.specs.Versions.{version_of};
+ghost use Rattle.heap_layout.specs.Versions.{version_of, IsRead};
 ghost use Rattle.heap_layout.specs.declared.edition.Edition.{Edition as Editions};
 
 use crate::edition::Edition;
@@ -12,18 +12,23 @@ pub fn version_of(edition: Edition) -> u32
     match edition {
         Edition::One => 1,
         Edition::Two => 2,
+        Edition::Three => 3,
     }
 }
 
-/// The edition that has this version number. None if no edition has it.
-pub fn edition_of(version: u32) -> Option<Edition>
+/// The edition that has this version number, if images and dumps of it are read: those of edition three only if
+/// `large`. None if no such edition has it.
+pub fn edition_of(version: u32, large: bool) -> Option<Edition>
     ensures found { IfSome result (λ edition. version_of edition ≡ version) }
-    ensures none { IfNone result ((edition : Editions) → version_of edition ≢ version) }
+    ensures read { IfSome result (IsRead large) }
+    ensures none { IfNone result ((edition : Editions) → IsRead large edition → version_of edition ≢ version) }
 {
     if version == version_of(Edition::One) {
         Some(Edition::One)
     } else if version == version_of(Edition::Two) {
         Some(Edition::Two)
+    } else if large && version == version_of(Edition::Three) {
+        Some(Edition::Three)
     } else {
         None
     }

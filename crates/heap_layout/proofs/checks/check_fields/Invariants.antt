@@ -6,4 +6,4 @@ use Rattle.heap_layout.proofs.checks.check_fields.Given as goal
 -- the remaining marked objects have the faults of all
 abbrev pub invariant-loop-mark : goal.invariant-loop-mark
 invariant-loop-mark l =
-    field_faults_by l.kind l.edition (leads l.targets) l.words (drop l.mark-index l.marks) ≡ field_faults_by l.kind l.edition (leads l.targets) l.words l.marks
+    field_faults_by l.kind l.edition (leads l.bits) l.words (drop l.mark-index l.marks) ≡ field_faults_by l.kind l.edition (leads l.bits) l.words l.marks

@@ -36,4 +36,4 @@ returns-clause-reported c =
     ap (λ (l : List LayoutFault). l ++ marks) c.in_ok-met.ensures.reported ∙ c.in_ok-check_marks.ensures
 
 pub returns-clause-targets : goal.returns-clause-targets
-returns-clause-targets c = c.put_marks.ensures
+returns-clause-targets c = c.put_marks.ensures.marks

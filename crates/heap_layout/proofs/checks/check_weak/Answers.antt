@@ -9,4 +9,4 @@ returns-in-One c = rw c.in-One.is (weak-none c.args.words.now c.args.marks.now)
 
 pub returns-in-Two : goal.returns-in-Two
 returns-in-Two c =
-    subst (λ (test : ℕ → Bool). Reports (field_faults_by Weak c.args.edition test c.args.words.now c.args.marks.now) c.check_fields.result) c.put_row.ensures c.check_fields.ensures
+    subst (λ (test : ℕ → Bool). Reports (field_faults_by Weak c.args.edition test c.args.words.now c.args.marks.now) c.check_fields.result) c.put_row.ensures.row c.check_fields.ensures

@@ -13,9 +13,9 @@ returns-in_err-check_sizes-clause-cause g c =
     let roots = c.read_u32-roots.result in
     let same = counts_read c.read_part.new.buf 8 4 words marks roots c.read_part.ensures.small (omega arith) (omega arith) (omega arith)
     c.read_u32-words.ensures c.read_u32-marks.ensures c.read_u32-roots.ensures in
-    let large = size_fault words marks roots _ c.in_err-check_sizes.ensures in
+    let large = size_fault c.args.edition words marks roots _ c.in_err-check_sizes.ensures in
     rw (p.1, p.2, large.0)
-    (over_limit _ _ words marks roots (subst (Consumes _ _) (sym same) c.in_ok-read_part.ensures.read)
+    (over_limit _ _ c.args.edition words marks roots (subst (Consumes _ _) (sym same) c.in_ok-read_part.ensures.read)
     (record { words_fit = omega arith; marks_fit = omega arith; roots_fit = omega arith; over = large.1 }))
 
 pub returns-clause-read : goal.returns-clause-read

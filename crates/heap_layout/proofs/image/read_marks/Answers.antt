@@ -1,4 +1,4 @@
-use Rattle.std.proofs.Common.{◌≡◌, ◌+◌, ◌*◌, ◌^◌, ◌<◌, ◌≤◌, ℕ, List, All, length, sym, refl, ap, subst, ◌∙◌, arith, length-take}
+use Rattle.std.proofs.Common.{◌≡◌, ◌+◌, ◌++◌, ◌*◌, ◌^◌, ◌<◌, ◌≤◌, ℕ, List, All, length, sym, refl, ap, subst, ◌∙◌, arith, length-take}
 use Rattle.std.proofs.lemmas.List.Elements.{All-nil}
 use Rattle.std.specs.Io.KnownBytes.{Consumes}
 use Rattle.std.specs.List.{flat_map}
@@ -16,7 +16,6 @@ loop-marks-init g c =
     let bytes = g.R.Read.remaining (inner_of c.args.r.now) in
     record {
       few = omega (arith, c.in_ok-marks.ensures.len);
-      room = omega (arith, c.in_ok-marks.ensures.capacity);
       piece = omega (arith, c.in_ok-piece.ensures.len, c.min.ensures);
       small = subst (λ (numbers : List ℕ). All (λ n. n < 2 ^ 32) numbers) none (All-nil _);
       read = subst (Consumes bytes bytes) (ap (flat_map four_bytes) none) (Consumes-nil bytes);
@@ -48,16 +47,20 @@ pub returns-in_err-read_part-clause-counts : goal.returns-in_err-read_part-claus
 returns-in_err-read_part-clause-counts g c =
     failure_handed_on _ _ _ _ _ c.from_residual-in_err-read_part.ensures.1 c.loop-marks.invariant.none_failed c.in_err-read_part.ensures.counts
 
+pub returns-in_err-reserve-clause-cut : goal.returns-in_err-reserve-clause-cut
+returns-in_err-reserve-clause-cut g c =
+    handed_on _ _ OutOfMemory c.from_residual-in_err-reserve.ensures.1 (cut_for_memory _ (4 * c.args.count))
+
 pub loop-marks-preserved : goal.loop-marks-preserved
 loop-marks-preserved g c =
     let read = c.read_part.new.buf in
     let long : length read ≡ 4 * c.min-n.result = omega (arith, length-take {A = ℕ}) in
+    let items = c.in_ok-reserve.ensures.items in
     record {
       few = omega arith;
-      room = omega arith;
       piece = c.loop-marks.invariant.piece;
-      small = c.push_marks.ensures.small c.loop-marks.invariant.small;
-      read = subst (Consumes _ _) (sym c.push_marks.ensures.bytes)
+      small = c.push_marks.ensures.small (subst (λ (numbers : List ℕ). All (λ n. n < 2 ^ 32) numbers) (sym items) c.loop-marks.invariant.small);
+      read = subst (Consumes _ _) (sym (c.push_marks.ensures.bytes ∙ ap (λ (numbers : List ℕ). flat_map four_bytes numbers ++ read) items))
           (Consumes-trans _ _ _ (flat_map four_bytes c.loop-marks.marks.items) read c.loop-marks.invariant.read c.in_ok-read_part.ensures.read);
       none_failed = c.in_ok-read_part.ensures.counts ∙ c.loop-marks.invariant.none_failed;
     }

@@ -1,4 +1,4 @@
-use Rattle.std.proofs.Common.{◌≡◌, ◌-◌, ◌*◌, ◌^◌, ◌<◌, ◌≤◌, min, All, vec_len, vec_capacity}
+use Rattle.std.proofs.Common.{◌≡◌, ◌-◌, ◌*◌, ◌^◌, ◌<◌, ◌≤◌, min, All, vec_len}
 use Rattle.std.specs.Io.KnownBytes.{Consumes}
 use Rattle.std.specs.List.{flat_map}
 use Rattle.heap_layout.specs.Counted.{inner_of, failures_of}
@@ -8,7 +8,6 @@ use Rattle.heap_layout.proofs.image.read_marks.Given as goal
 abbrev pub invariant-loop-marks : goal.invariant-loop-marks
 invariant-loop-marks g l = record {
   few : vec_len l.marks ≤ l.count;
-  room : l.count ≤ vec_capacity l.marks;
   piece : vec_len l.piece ≡ 4 * min l.count 8192;
   small : All (λ n. n < 2 ^ 32) l.marks.items;
   read : Consumes (g.R.Read.remaining (inner_of l.fn.r)) (g.R.Read.remaining (inner_of l.r)) (flat_map four_bytes l.marks.items);

@@ -1,4 +1,4 @@
-use Rattle.std.proofs.Common.{◌≡◌, ◌+◌, ◌*◌, ◌^◌, ◌<◌, ◌≤◌, ℕ, List, All, length, sym, refl, ap, subst, ◌∙◌, arith, length-take}
+use Rattle.std.proofs.Common.{◌≡◌, ◌+◌, ◌++◌, ◌*◌, ◌^◌, ◌<◌, ◌≤◌, ℕ, List, All, length, sym, refl, ap, subst, ◌∙◌, arith, length-take}
 use Rattle.std.proofs.lemmas.List.Elements.{All-nil}
 use Rattle.std.specs.Io.KnownBytes.{Consumes}
 use Rattle.std.specs.List.{flat_map}
@@ -16,7 +16,6 @@ loop-words-init g c =
     let bytes = g.R.Read.remaining (inner_of c.args.r.now) in
     record {
       few = omega (arith, c.in_ok-words.ensures.len);
-      room = omega (arith, c.in_ok-words.ensures.capacity);
       piece = omega (arith, c.in_ok-piece.ensures.len, c.min.ensures);
       small = subst (λ (numbers : List ℕ). All (λ n. n < 2 ^ 64) numbers) none (All-nil _);
       read = subst (Consumes bytes bytes) (ap (flat_map eight_bytes) none) (Consumes-nil bytes);
@@ -48,16 +47,20 @@ pub returns-in_err-read_part-clause-counts : goal.returns-in_err-read_part-claus
 returns-in_err-read_part-clause-counts g c =
     failure_handed_on _ _ _ _ _ c.from_residual-in_err-read_part.ensures.1 c.loop-words.invariant.none_failed c.in_err-read_part.ensures.counts
 
+pub returns-in_err-reserve-clause-cut : goal.returns-in_err-reserve-clause-cut
+returns-in_err-reserve-clause-cut g c =
+    handed_on _ _ OutOfMemory c.from_residual-in_err-reserve.ensures.1 (cut_for_memory _ (8 * c.args.count))
+
 pub loop-words-preserved : goal.loop-words-preserved
 loop-words-preserved g c =
     let read = c.read_part.new.buf in
     let long : length read ≡ 8 * c.min-n.result = omega (arith, length-take {A = ℕ}) in
+    let items = c.in_ok-reserve.ensures.items in
     record {
       few = omega arith;
-      room = omega arith;
       piece = c.loop-words.invariant.piece;
-      small = c.push_words.ensures.small c.loop-words.invariant.small;
-      read = subst (Consumes _ _) (sym c.push_words.ensures.bytes)
+      small = c.push_words.ensures.small (subst (λ (numbers : List ℕ). All (λ n. n < 2 ^ 64) numbers) (sym items) c.loop-words.invariant.small);
+      read = subst (Consumes _ _) (sym (c.push_words.ensures.bytes ∙ ap (λ (numbers : List ℕ). flat_map eight_bytes numbers ++ read) items))
           (Consumes-trans _ _ _ (flat_map eight_bytes c.loop-words.words.items) read c.loop-words.invariant.read c.in_ok-read_part.ensures.read);
       none_failed = c.in_ok-read_part.ensures.counts ∙ c.loop-words.invariant.none_failed;
     }

@@ -1,4 +1,4 @@
-use Rattle.std.proofs.Common.{◌≡◌, ◌-◌, ◌*◌, ◌^◌, ◌<◌, ◌≤◌, min, All, vec_len, vec_capacity}
+use Rattle.std.proofs.Common.{◌≡◌, ◌-◌, ◌*◌, ◌^◌, ◌<◌, ◌≤◌, min, All, vec_len}
 use Rattle.std.specs.Io.KnownBytes.{Consumes}
 use Rattle.std.specs.List.{flat_map}
 use Rattle.heap_layout.specs.Counted.{inner_of, failures_of}
@@ -8,7 +8,6 @@ use Rattle.heap_layout.proofs.image.read_words.Given as goal
 abbrev pub invariant-loop-words : goal.invariant-loop-words
 invariant-loop-words g l = record {
   few : vec_len l.words ≤ l.count;
-  room : l.count ≤ vec_capacity l.words;
   piece : vec_len l.piece ≡ 8 * min l.count 8192;
   small : All (λ n. n < 2 ^ 64) l.words.items;
   read : Consumes (g.R.Read.remaining (inner_of l.fn.r)) (g.R.Read.remaining (inner_of l.r)) (flat_map eight_bytes l.words.items);

@@ -4,11 +4,11 @@ use Rattle.heap_layout.proofs.Verdicts.{verdicts_agree, refusal_is_verdict, acce
 use Rattle.heap_layout.proofs.laws.causes_exclude.Goals as goal
 
 pub returns-clause-one_cause : goal.returns-clause-one_cause
-returns-clause-one_cause c = λ bytes one other of_one of_other refuses_one refuses_other.
-    let same = verdicts_agree bytes (Some one) (Some other) (refusal_is_verdict one bytes of_one refuses_one) (refusal_is_verdict other bytes of_other refuses_other) in
+returns-clause-one_cause c = λ large bytes one other of_one of_other refuses_one refuses_other.
+    let same = verdicts_agree large bytes (Some one) (Some other) (refusal_is_verdict large one bytes of_one refuses_one) (refusal_is_verdict large other bytes of_other refuses_other) in
     cc
 
 pub returns-clause-none_where_accepted : goal.returns-clause-none_where_accepted
-returns-clause-none_where_accepted c = λ heap fault stored accepted of_bytes refuses.
-    let same = verdicts_agree (encoding heap) None (Some fault) (accepted_is_verdict heap stored accepted) (refusal_is_verdict fault (encoding heap) of_bytes refuses) in
+returns-clause-none_where_accepted c = λ large heap fault read stored accepted of_bytes refuses.
+    let same = verdicts_agree large (encoding heap) None (Some fault) (accepted_is_verdict large heap read stored accepted) (refusal_is_verdict large fault (encoding heap) of_bytes refuses) in
     cc

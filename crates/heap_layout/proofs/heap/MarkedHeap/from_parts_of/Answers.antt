@@ -1,0 +1,10 @@
+use Rattle.heap_layout.specs.Heap.{Heap}
+use Rattle.heap_layout.specs.Faults.{faults, IsAnswered}
+use Rattle.heap_layout.proofs.Reading.{handed_on}
+use Rattle.heap_layout.proofs.heap.MarkedHeap.from_parts_of.Goals as goal
+
+pub returns-in_err-check-clause-fault : goal.returns-in_err-check-clause-fault
+returns-in_err-check-clause-fault c =
+    let heap : Heap = record { edition = c.args.edition; words = c.args.words.items; marks = c.args.marks.items; roots = c.args.roots.items } in
+    let answered = rw (c.deref.ensures.value, c.deref-2.ensures.value, c.deref-3.ensures.value) at c.in_err-check.ensures in
+    handed_on _ (IsAnswered c.args.edition (faults heap)) _ c.from_residual.ensures.1 answered
