@@ -1,13 +1,13 @@
 //! The words of a new table, which are lent and never written.
 ghost use Rattle.std.specs.Prelude.{◌≡◌, ◌≤◌, replicate};
 
-// The words of the largest table: 16,384 compacted pages and 4,096 fresh ones, each with a state word and 64 words; the
-// start bits of the fresh ones; the clock.
-const MAX_TABLE_WORDS: usize = 1_335_297;
+/// The words of the largest table of edition one or two: 16,384 compacted pages and 4,096 fresh ones, each with a state
+/// word and 64 words; the start bits of the fresh ones; the clock.
+pub const MAX_TABLE_WORDS: usize = 1_335_297;
 
 static ZEROS: [u64; MAX_TABLE_WORDS] = [0; MAX_TABLE_WORDS];
 
-/// `n` zeros, without room of their own. `n` must be at most 1,335,297, the words of the largest table.
+/// `n` zeros, without room of their own. `n` must be at most 1,335,297, the words of that table.
 pub fn zeros(n: usize) -> &'static [u64]
     requires { n ≤ 1335297 }
     ensures { result.now ≡ replicate n 0 }

@@ -1,5 +1,6 @@
-ghost use Rattle.std.specs.Prelude.{◌≡◌, ℕ, ◌+◌, ◌-◌, ◌<◌, ◌≤◌, None, Some, is_some, map, slice_index_or, IfOk, IfSome, ◌*◌, ◌^◌};
+ghost use Rattle.std.specs.Prelude.{◌≡◌, ℕ, ◌+◌, ◌-◌, ◌<◌, ◌≤◌, None, Some, is_some, map, slice_index_or, IfOk, IfSome, ◌*◌};
 ghost use Rattle.heap_layout.specs.Heap.{live, IsClosed};
+ghost use Rattle.heap_layout.specs.Limits.{most_words, most_pages};
 ghost use Rattle.mark_tables.specs.LiveWords.{live_indices};
 ghost use Rattle.page_plan.specs.Planned.{AreFirst, AreStarts};
 ghost use Rattle.page_plan.specs.Sliding.{first_object, forward, kind, live_words, page, pages, shape_at, to_address, HasObject, slid_words, IsPartFrom};
@@ -87,7 +88,7 @@ impl Plan {
     /// How many words the live objects have.
     pub fn live_words(&self) -> u64
         ensures words { result ≡ live_words (live self.now) }
-        ensures few { result ≤ 2 ^ 20 }
+        ensures few { result ≤ most_words self.now.edition }
     {
         self.tables().live_words()
     }
@@ -95,7 +96,7 @@ impl Plan {
     /// How many pages of 64 words the slid words fill. The last page may be filled in part.
     pub fn pages(&self) -> u64
         ensures pages { result ≡ pages (live self.now) }
-        ensures few { result ≤ 2 ^ 14 }
+        ensures few { result ≤ most_pages self.now.edition }
     {
         self.live_words().div_ceil(64)
     }

@@ -3,6 +3,7 @@ use Rattle.std.proofs.lemmas.List.{take_at}
 use Rattle.heap_layout.specs.Bits.{bit}
 use Rattle.heap_layout.specs.Header.{size_of}
 use Rattle.heap_layout.specs.Heap.{header_at}
+use Rattle.heap_layout.proofs.Bounds.{words_most}
 use Rattle.mark_tables.proofs.Runs.{marked-next, marked-all, IsRunSet}
 use Rattle.mark_tables.proofs.Starts.{start-room, starts-next, starts-all}
 use Rattle.mark_tables.proofs.bits.bits_of.Goals as goal
@@ -62,3 +63,6 @@ returns-clause-starts c =
     let last : k ≡ length heap.marks = omega (arith, ap length c.marks-mark-items.ensures.marks) in
     let cut = starts-all heap c.marks-mark-items.ensures.closed k new_index c.div_ceil.result last (omega (arith, c.div_ceil.ensures)) c.loop-mark.starts.items c.loop-mark.invariant.1 in
     rw c.truncate.ensures.items cut
+
+pub returns-clause-few : goal.returns-clause-few
+returns-clause-few c = omega (arith, words_most c.args.heap.now.edition)
