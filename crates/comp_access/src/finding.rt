@@ -24,7 +24,7 @@ use std::alloc::Global;
 #[derive(Clone, Copy)]
 pub(crate) struct FieldName {
     pub(crate) object: u64,
-    pub(crate) field: u16,
+    pub(crate) field: u32,
     pub(crate) kind: Kind,
 }
 

@@ -1,6 +1,7 @@
 -- A finished heap is the end of the heap that was flipped.
 use Rattle.std.proofs.Common.{◌≡◌, ℕ, ◌-◌, ◌≤◌, List, length, sym, ap, subst, ◌∙◌, arith}
 use Rattle.std.proofs.lemmas.List.{length-map}
+use Rattle.heap_layout.specs.Limits.{most_fresh_pages}
 use Rattle.heap_layout.specs.Heap.{live, Heap, IsClosed}
 use Rattle.page_plan.specs.Sliding as sliding
 use Rattle.comp_history.specs.Passes.{builds_of}
@@ -23,7 +24,7 @@ module _ (u : Setup) (row : List Pass) (f : Finished) (finished : IsFinished u r
       ∙ ap (setup_with u.heap (sliding.pages (live u.heap)) u.fresh) many
       ∙ ap (λ (n : ℕ). setup_with u.heap n u.fresh u.mutators) (sym slid)
 
-  pub is_end : u.fresh ≤ 4096 → IsClosed u.heap → IsEndOf u.heap f
+  pub is_end : u.fresh ≤ most_fresh_pages u.heap.edition → IsClosed u.heap → IsEndOf u.heap f
   is_end few closed =
       let slots = finished.pages.count in
       record { row = row; finished = subst (λ (v : Setup). IsFinished v row f) (sym same_setup) finished; closed = closed; few_fresh = omega (arith, slots, slid, few) }

@@ -5,6 +5,8 @@ use Rattle.std.proofs.lemmas.Bool.{cases_lt}
 use Rattle.std.proofs.lemmas.List.{length-map, get_or-replicate}
 use mathlib.Core.Option as maybe
 use lib.ListN.{get_elem?}
+use Rattle.heap_layout.specs.Limits.{most_object_words}
+use Rattle.heap_layout.proofs.Bounds.{object_least}
 use Rattle.heap_layout.specs.Header.{Head, header_of, size_of}
 use Rattle.heap_layout.specs.Kinds.{count_of, first_of}
 use Rattle.heap_layout.specs.Heap.{Object, header_at, object_at, live, IsClosed}
@@ -83,7 +85,7 @@ head_in u journals i = header_of u.heap.edition (word_in u journals i)
 pub record IsWholeAt (u : Setup) (journals : Journals) (i : ℕ) : Type 0 where
   pub first : kind_in u journals i ≡ Some Header
   pub ends : i + size_of (head_in u journals i) ≤ 64 * pages u
-  pub short : size_of (head_in u journals i) ≤ 1024
+  pub short : size_of (head_in u journals i) ≤ most_object_words u.heap.edition
   pub fields : (k : Kind) (f : ℕ) → f < count_of k (head_in u journals i) → kind_in u journals (i + first_of k (head_in u journals i) + f) ≡ Some k
 
 -- The word at this index is in an object that starts at another index.
@@ -143,11 +145,11 @@ module _ (u : Setup) (journals : Journals) (closed : IsClosed u.heap) (can : Can
       let known : k.0 < length u.heap.marks = let n = length-map u.heap.marks (object_at u.heap.edition u.heap.words) in omega (arith, k.1, n) in
       let mark_head : header_at u.heap.edition u.heap.words (get_or u.heap.marks k.0 0) ≡ header = let found = shape-found u.heap k.0 (to_address i) known k.2 in let both = sym found ∙ is.1 in cc in
       let placed = closed.placed k.0 0 known in
-      let short : size_of header ≤ 1024 = subst (λ h. size_of h ≤ 1024) mark_head placed.short in
+      let short : size_of header ≤ most_object_words u.heap.edition = subst (λ h. size_of h ≤ most_object_words u.heap.edition) mark_head placed.short in
       record {
         first = slid_kind i (slid_few i (let ends = o.ends in omega (arith, ends))) ∙ o.first;
         ends = subst (λ h. i + size_of h ≤ 64 * pages u) (sym word) (let ends = o.ends in omega (arith, ends, slid));
-        short = subst (λ h. size_of h ≤ 1024) (sym word) short;
+        short = subst (λ h. size_of h ≤ most_object_words u.heap.edition) (sym word) short;
         fields = subst (λ h. (c : Kind) (f : ℕ) → f < count_of c h → kind_in u journals (i + first_of c h + f) ≡ Some c) (sym word)
             (λ c f lt.
             let inside = field-inside c header f lt in
@@ -166,7 +168,7 @@ module _ (u : Setup) (journals : Journals) (closed : IsClosed u.heap) (can : Can
         record {
           first = kind_on p e.offset i at (omega (arith, ends)) ∙ ap (kind_at u p (journals p)) (let z : e.offset ≡ e.offset + 0 = omega arith in z) ∙ made.kinds 0 Header refl;
           ends = subst (λ h. i + size_of h ≤ 64 * pages u) (sym word) (omega (arith, ends, at, inside));
-          short = subst (λ h. size_of h ≤ 1024) (sym word) (omega (arith, ends));
+          short = subst (λ h. size_of h ≤ most_object_words u.heap.edition) (sym word) (omega (arith, ends, object_least u.heap.edition));
           fields = subst (λ h. (c : Kind) (f : ℕ) → f < count_of c h → kind_in u journals (i + first_of c h + f) ≡ Some c) (sym word)
               (λ c f lt.
               let within = field-inside c header f lt in

@@ -1,14 +1,16 @@
 -- Why `next_cycle` is refused, and what it makes if it is not.
-use Rattle.std.proofs.Common.{◌≡◌, ℕ, ◌*◌, ◌<◌, ◌&&◌, ltb, List, [], ◌∷◌, ◌++◌, length, map, Result, Ok, Err, IfOk, sym, ap, ap₂, ◌∙◌, subst, arith}
+use Rattle.std.proofs.Common.{◌≡◌, ℕ, ◌*◌, ◌<◌, ◌&&◌, ltb, List, [], ◌∷◌, ◌++◌, length, map, Result, Ok, Err, IfOk, inl, inr, sym, ap, ap₂, ◌∙◌, subst, arith}
 use Rattle.std.specs.List.{range_with_len}
 use Rattle.std.proofs.lemmas.List.{length-map}
 use Rattle.heap_layout.specs.Bits.{bit}
 use Rattle.heap_layout.specs.Heap.{Heap, is_start}
-use Rattle.heap_layout.specs.Faults.{size_faults, mark_faults, root_faults, target_faults, weak_faults, faults, IsFirst, IsAccepted}
+use Rattle.heap_layout.specs.Faults.{size_faults, mark_faults, root_faults, target_faults, weak_faults, faults, IsFirst, IsAccepted, IsAnswered}
 use Rattle.heap_layout.proofs.Rows.{first-part}
 use Rattle.heap_layout.specs.declared.edition.Edition.{Edition}
+use Rattle.heap_layout.specs.declared.edition.Edition.TheVariants.{One, Two, Three}
 use Rattle.heap_layout.specs.declared.fault.LayoutFault.{LayoutFault}
 use Rattle.heap_layout.specs.declared.fault.LayoutFault.TheVariants.{TooLarge, ObjectPastEnd, ObjectTooLong, MarkNotStart, MarksNotRising, BadRoot, UnmarkedTarget, Truncated, TrailingBytes, BadMagic, OutOfMemory, Device, BadWeak}
+use Rattle.heap_layout.proofs.Bounds.{fresh_pages_most}
 use Rattle.page_plan.proofs.Objects.{live_words-few}
 use Rattle.comp_history.specs.Setup.{Setup, pages}
 use Rattle.comp_history.specs.Locks.{Journals}
@@ -35,6 +37,13 @@ refused_first list BadMagic h = h
 refused_first list Device h = h
 refused_first list (BadWeak i) h = h
 
+-- the answer that `from_parts_of` gives is one for which `next_cycle` may be refused
+pub refused_answer : (edition : Edition) (list : List LayoutFault) (fault : LayoutFault) → IsAnswered edition list fault → IsRefusedFor list fault
+refused_answer edition list fault (inl first) = refused_first list fault first
+refused_answer One list fault (inr memory) = absurd memory
+refused_answer Two list fault (inr memory) = absurd memory
+refused_answer Three list fault (inr memory) = subst (IsRefusedFor list) (sym memory) tt
+
 abbrev heap_of : Edition → List ℕ → List ℕ → List ℕ → Heap
 heap_of edition marks words roots = record { edition = edition; words = words; marks = marks; roots = roots }
 
@@ -59,10 +68,10 @@ module _ (heap : Heap) (f : Finished) (marks : List ℕ) (e : IsEndOf heap f) wh
 
   -- the next heap has fewer than 2^32 words
   pub few_pages : 64 * length (pages_of f) < 4294967296
-  few_pages = let few = live_words-few heap e.closed in let fresh = e.few_fresh in omega (arith, few, fresh)
+  few_pages = let few = live_words-few heap e.closed in let fresh = e.few_fresh in omega (arith, few, fresh, fresh_pages_most heap.edition)
 
   abbrev sizes : List LayoutFault
-  sizes = size_faults (64 * length (pages_of f)) (length marks) (length roots)
+  sizes = size_faults heap.edition (64 * length (pages_of f)) (length marks) (length roots)
 
   abbrev others : List LayoutFault
   others = root_faults marks next.roots
@@ -73,15 +82,15 @@ module _ (heap : Heap) (f : Finished) (marks : List ℕ) (e : IsEndOf heap f) wh
   abbrev last : List LayoutFault
   last = weak_faults heap.edition next.words marks
 
-  sizes_are : sizes ≡ size_faults (length next.words) (length marks) (length next.roots)
+  sizes_are : sizes ≡ size_faults heap.edition (length next.words) (length marks) (length next.roots)
   sizes_are =
-      ap₂ (λ w r. size_faults w (length marks) r) (ap (λ n. 64 * n) pages_are ∙ sym (next_long u journals e.closed can roots marks)) (sym (length-map roots lowered))
+      ap₂ (λ w r. size_faults heap.edition w (length marks) r) (ap (λ n. 64 * n) pages_are ∙ sym (next_long u journals e.closed can roots marks)) (sym (length-map roots lowered))
 
   pub size_refused : (fault : LayoutFault) → IsFirst sizes fault → IsRefusedFor (next_faults u journals next) fault
   size_refused fault first =
-      let here : IsFirst (size_faults (length next.words) (length marks) (length next.roots)) fault = subst (λ l. IsFirst l fault) sizes_are first in
+      let here : IsFirst (size_faults heap.edition (length next.words) (length marks) (length next.roots)) fault = subst (λ l. IsFirst l fault) sizes_are first in
       let marked = mark_faults (object_starts u journals) 0 marks in
-      let own = size_faults (length next.words) (length marks) (length next.roots) in
+      let own = size_faults heap.edition (length next.words) (length marks) (length next.roots) in
       refused_first (next_faults u journals next) fault
       (first-part (((own ++ marked) ++ others) ++ targets) last fault
       (first-part ((own ++ marked) ++ others) targets fault (first-part (own ++ marked) others fault (first-part own marked fault here))))

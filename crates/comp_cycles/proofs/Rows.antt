@@ -3,11 +3,13 @@ use Rattle.std.proofs.Common.{◌≡◌, ◌≢◌, ℕ, zero, suc, ◌+◌, ◌
 use Rattle.std.specs.List.{flat_map, range_with_len}
 use Rattle.std.proofs.lemmas.Bool.{cases_lt, cases_Bool, or_cases, or_left, or_right, both_ways}
 use Rattle.std.proofs.lemmas.List.{length-map}
+use Rattle.heap_layout.specs.Limits.{most_object_words}
+use Rattle.heap_layout.proofs.Bounds.{object_least}
 use Rattle.heap_layout.specs.Header.{header_of, size_of}
 use Rattle.heap_layout.specs.Heap.{Heap, header_at, starts, starts_at, is_start, IsPlaced, IsClosed}
 use Rattle.heap_layout.specs.Faults.{unless, size_faults, object_faults, mark_faults, root_faults, target_faults, weak_faults, faults, IsAccepted}
 use Rattle.heap_layout.specs.declared.edition.Edition.{Edition}
-use Rattle.heap_layout.specs.declared.edition.Edition.TheVariants.{One, Two}
+use Rattle.heap_layout.specs.declared.edition.Edition.TheVariants.{One, Two, Three}
 use Rattle.heap_layout.specs.declared.fault.LayoutFault.{LayoutFault}
 use Rattle.heap_layout.specs.declared.fault.LayoutFault.TheVariants.{MarkNotStart}
 use Rattle.heap_layout.specs.declared.kind.Kind.{Kind}
@@ -48,6 +50,7 @@ not_both o (inr a) field = let both : Some field.0 ≡ None = sym field.2 ∙ a 
 empty_size : (edition : Edition) → size_of (header_of edition 0) ≡ 1
 empty_size One = refl
 empty_size Two = refl
+empty_size Three = refl
 
 -- Words of these kinds: objects, and zeros between them.
 pub record IsObjectRow (edition : Edition) (words : List ℕ) (kind : ℕ → Option Kind) : Type 0 where
@@ -72,7 +75,7 @@ module _ (edition : Edition) (words : List ℕ) (kind : ℕ → Option Kind) (ro
       (λ head. row.placed i lt head)
       (λ none.
       let one = empty_here i lt none in
-      record { within = omega (arith, one, lt); short = omega (arith, one) })
+      record { within = omega (arith, one, lt); short = omega (arith, one, object_least edition) })
       b
 
   -- another object begins after it
@@ -197,7 +200,7 @@ module _ (u : Setup) (journals : Journals) (closed_before : IsClosed u.heap) (ca
         let head = next_head i inside e in
         record {
           within = subst (λ h. i + size_of h ≤ length next.words) (sym head) (let ends = s.ends in omega (arith, ends, next_long));
-          short = subst (λ h. size_of h ≤ 1024) (sym head) s.short;
+          short = subst (λ h. size_of h ≤ most_object_words u.heap.edition) (sym head) s.short;
         };
     inside = λ i j lt e after before.
         let inside : i < 64 * pages u = omega (arith, lt, next_long) in
@@ -227,7 +230,7 @@ module _ (u : Setup) (journals : Journals) (closed_before : IsClosed u.heap) (ca
   has_start m found = let is = mark_is m found in start_found u.heap.edition next.words (kind_in u journals) next_row m (let lt = is.0 in omega (arith, lt, next_long)) is.1
 
   abbrev size_list : List LayoutFault
-  size_list = size_faults (length next.words) (length marks) (length next.roots)
+  size_list = size_faults u.heap.edition (length next.words) (length marks) (length next.roots)
 
   abbrev marks_list : List LayoutFault
   marks_list = mark_faults (object_starts u journals) 0 marks
@@ -246,9 +249,9 @@ module _ (u : Setup) (journals : Journals) (closed_before : IsClosed u.heap) (ca
   same_faults sizes none =
       let row = sound_row u.heap.edition next.words (kind_in u journals) next_row in
       let in_row = marks_in (object_starts u journals) (starts u.heap.edition next.words) 0 marks has_start none in
-      ap (λ (l : List LayoutFault). ((((size_list ++ l) ++ mark_faults (starts u.heap.edition next.words) 0 marks) ++ roots_list) ++ targets_list) ++ weak_list) row
-      ∙ ap (λ (l : List LayoutFault). ((((size_list ++ []) ++ l) ++ roots_list) ++ targets_list) ++ weak_list) in_row
-      ∙ ap (λ (l : List LayoutFault). ((((l ++ []) ++ []) ++ roots_list) ++ targets_list) ++ weak_list) sizes
+      ap (λ (l : List LayoutFault). size_list ++ ((((l ++ mark_faults (starts u.heap.edition next.words) 0 marks) ++ roots_list) ++ targets_list) ++ weak_list)) row
+      ∙ ap (λ (l : List LayoutFault). size_list ++ (((l ++ roots_list) ++ targets_list) ++ weak_list)) in_row
+      ∙ ap (λ (l : List LayoutFault). l ++ ((roots_list ++ targets_list) ++ weak_list)) sizes
       ∙ sym (ap (λ (l : List LayoutFault). (((size_list ++ l) ++ roots_list) ++ targets_list) ++ weak_list) none
       ∙ ap (λ (l : List LayoutFault). (((l ++ []) ++ roots_list) ++ targets_list) ++ weak_list) sizes)
 

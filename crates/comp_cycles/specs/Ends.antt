@@ -1,5 +1,6 @@
 -- What is known of a heap at the end of a cycle, given the heap that was compacted.
 use Rattle.std.specs.Prelude.{◌≡◌, ℕ, ◌+◌, ◌-◌, ◌<◌, ◌≤◌, false, List, length, slice_index}
+use Rattle.heap_layout.specs.Limits.{most_fresh_pages}
 use Rattle.heap_layout.specs.Bits.{bit}
 use Rattle.heap_layout.specs.Heap.{Heap, live, IsClosed}
 use Rattle.heap_layout.specs.Faults.{IsFirst}
@@ -29,7 +30,7 @@ pub record IsEndOf (heap : Heap) (f : Finished) : Type 0 where
   pub row : List Pass
   pub finished : IsFinished (setup_in heap f) row f
   pub closed : IsClosed heap
-  pub few_fresh : length (pages_of f) ≤ sliding.pages (live heap) + 4096
+  pub few_fresh : length (pages_of f) ≤ sliding.pages (live heap) + most_fresh_pages heap.edition
 
 -- the cycle, with the marks that are handed in at the end
 abbrev pub cycle_of : Heap → Finished → List ℕ → Cycle

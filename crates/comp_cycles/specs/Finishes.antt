@@ -2,6 +2,7 @@
 use Rattle.std.specs.Prelude.{◌≡◌, ℕ, ◌+◌, ◌<◌, ◌≤◌, List, [], length, map, IsSome, Some, None}
 use mathlib.Core.Option.{some}
 use lib.ListN.{get_elem?}
+use Rattle.heap_layout.specs.Limits.{most_fresh_pages}
 use Rattle.heap_layout.specs.Heap.{live, IsClosed}
 use Rattle.heap_layout.specs.declared.edition.Edition.{Edition}
 use Rattle.page_plan.specs.Sliding.{live_words}
@@ -118,4 +119,4 @@ pub record IsOfFlip (mutators fresh : ℕ) (f : Finished) : Type 0 where
   pub some_mutators : 1 ≤ mutators
   pub few_mutators : mutators ≤ 64
   pub fresh_are : setup.fresh ≡ fresh
-  pub few_fresh : fresh ≤ 4096
+  pub few_fresh : fresh ≤ most_fresh_pages setup.heap.edition

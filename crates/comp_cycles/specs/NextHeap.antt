@@ -57,7 +57,7 @@ object_starts u journals = filter (λ i. is_header (kind_in u journals i)) (rang
 -- the faults for which the next heap is refused: the first one counts
 abbrev pub next_faults : Setup → Journals → Heap → List LayoutFault
 next_faults u journals heap =
-    size_faults (length heap.words) (length heap.marks) (length heap.roots)
+    size_faults heap.edition (length heap.words) (length heap.marks) (length heap.roots)
     ++ mark_faults (object_starts u journals) 0 heap.marks
     ++ root_faults heap.marks heap.roots
     ++ target_faults heap.edition heap.words heap.marks heap.marks

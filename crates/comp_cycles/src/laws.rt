@@ -5,6 +5,7 @@ ghost use Rattle.comp_history.specs.Setup.{Setup};
 ghost use Rattle.comp_history.specs.Pass.{Pass as APass};
 ghost use Rattle.heap_layout.specs.Faults.{mark_faults, weak_faults};
 ghost use Rattle.heap_layout.specs.Heap.{live, Heap, IsClosed};
+ghost use Rattle.heap_layout.specs.Limits.{most_fresh_pages};
 ghost use Rattle.page_plan.specs.Sliding as sliding;
 ghost use Rattle.comp_history.specs.Merged.{CanMerge};
 ghost use Rattle.comp_cycles.specs.Cycles.{Cycle, Follow, IsChapter, IsCycleOf, IsOneLife, IsWriting};
@@ -19,7 +20,7 @@ ghost use Rattle.comp_cycles.specs.Numbered.{first_numbers, first_numbered, IsNu
 /// number of mutators are known from `finish`, the counts of pages from `flip`, and `IsClosed` from any plan of the
 /// heap. The setup of the cycle is then that of the flip.
 pub fn finished_is_end()
-    ensures end { (u : Setup) (row : List APass) (f : AFinished) → IsFinished u row f → length row ≡ u.mutators → u.compacted ≡ sliding.pages (live u.heap) → u.fresh ≤ 4096 → IsClosed u.heap → IsEndOf u.heap f }
+    ensures end { (u : Setup) (row : List APass) (f : AFinished) → IsFinished u row f → length row ≡ u.mutators → u.compacted ≡ sliding.pages (live u.heap) → u.fresh ≤ most_fresh_pages u.heap.edition → IsClosed u.heap → IsEndOf u.heap f }
     ensures setup { (u : Setup) (row : List APass) (f : AFinished) → IsFinished u row f → length row ≡ u.mutators → u.compacted ≡ sliding.pages (live u.heap) → setup_in u.heap f ≡ u }
 {}
 

@@ -73,7 +73,12 @@ fn next_heap<B: Builder>(
 {
     let words = 64 * finished.pages().len();
     let given: &[u32] = &marks;
-    if let Err(fault) = check_sizes(words, given.len(), finished.roots().len()) {
+    if let Err(fault) = check_sizes(
+        finished.edition(),
+        words,
+        given.len(),
+        finished.roots().len(),
+    ) {
         return Err(fault);
     }
     let Ok(moved) = moved_words(alloc, builder, finished) else {

@@ -1,12 +1,12 @@
 -- Weak words are written only in heaps of edition two.
-use Rattle.std.proofs.Common.{◌≡◌, ℕ, zero, suc, ◌+◌, ◌*◌, ◌<◌, ◌≤◌, List, [], ◌∷◌, ◌++◌, refl, sym, ap, ◌∙◌, ⊎_elim, subst, arith}
+use Rattle.std.proofs.Common.{◌≡◌, ◌≢◌, ℕ, zero, suc, ◌+◌, ◌*◌, ◌<◌, ◌≤◌, List, [], ◌∷◌, ◌++◌, refl, sym, ap, ◌∙◌, ⊎_elim, subst, arith}
 use Rattle.std.proofs.lemmas.Bool.{cases_lt}
 use mathlib.Core.Option.{some, some-injective, some-ne-none}
 use lib.ListN.{get_elem?}
 use Rattle.heap_layout.specs.Header.{Head, header_of, weak_of}
 use Rattle.heap_layout.specs.Heap.{IsClosed}
 use Rattle.heap_layout.specs.declared.edition.Edition.{Edition}
-use Rattle.heap_layout.specs.declared.edition.Edition.TheVariants.{One, Two}
+use Rattle.heap_layout.specs.declared.edition.Edition.TheVariants.{One, Two, Three}
 use Rattle.heap_layout.specs.declared.kind.Kind.{Kind}
 use Rattle.heap_layout.specs.declared.kind.Kind.TheVariants.{Weak}
 use Rattle.page_plan.proofs.Owners.{objects_stand}
@@ -18,13 +18,14 @@ use Rattle.page_cells.proofs.Fields.{compacted_kind}
 use Rattle.comp_history.proofs.Sorted.{In}
 use Rattle.comp_history.proofs.Words.{owner, field_of}
 
--- a header with weak words is of edition two
-has_weak : (edition : Edition) (word f : ℕ) → f < weak_of (header_of edition word) → edition ≡ Two
+-- a header with weak words is not of edition one
+has_weak : (edition : Edition) (word f : ℕ) → f < weak_of (header_of edition word) → edition ≢ One
 has_weak One word f lt = absurd (omega (arith, lt))
-has_weak Two word f lt = refl
+has_weak Two word f lt = λ same. cc
+has_weak Three word f lt = λ same. cc
 
 module _ (u : Setup) (closed : IsClosed u.heap) (p : ℕ) where
-  weak_word : (before : List Entry) (o : ℕ) → LawfulAfter u p [] before → IsField u p before Weak o → u.heap.edition ≡ Two
+  weak_word : (before : List Entry) (o : ℕ) → LawfulAfter u p [] before → IsField u p before Weak o → u.heap.edition ≢ One
   weak_word before o lawful field = ⊎_elim
       (λ (lt : p < u.compacted).
       let stand = objects_stand u.heap closed in
@@ -38,19 +39,19 @@ module _ (u : Setup) (closed : IsClosed u.heap) (p : ℕ) where
       (cases_lt p u.compacted)
 
   -- an entry that writes a weak word and fits its page
-  weak_fits : (before : List Entry) (k : Kind) (writer offset value : ℕ) → k ≡ Weak → LawfulAfter u p [] before → Fits u p before k writer offset value → u.heap.edition ≡ Two
+  weak_fits : (before : List Entry) (k : Kind) (writer offset value : ℕ) → k ≡ Weak → LawfulAfter u p [] before → Fits u p before k writer offset value → u.heap.edition ≢ One
   weak_fits before k writer offset value is lawful fits = weak_word before offset lawful (subst (λ (c : Kind). Fits u p before c writer offset value) is fits)
 
   -- each entry of a lawful journal that writes a weak word
   pub weak_entry : (after before : List Entry) → LawfulAfter u p [] before → LawfulAfter u p before after
-      → (i : ℕ) (e : Entry) → get_elem? after i ≡ some e → e.kind ≡ Weak → u.heap.edition ≡ Two
+      → (i : ℕ) (e : Entry) → get_elem? after i ≡ some e → e.kind ≡ Weak → u.heap.edition ≢ One
   weak_entry [] before done h i e at is = absurd (some-ne-none e (sym at))
   weak_entry (x ∷ es) before done h zero e at is =
       weak_fits before x.kind x.writer x.offset x.value (ap (λ (y : Entry). y.kind) (some-injective x e at) ∙ is) done h.0
   weak_entry (x ∷ es) before done h (suc i) e at is = weak_entry es (before ++ x ∷ []) (lawful_more u p before [] x done h.0) h.1 i e at is
 
   -- the same for an entry given as a member of the journal
-  pub weak_in : (after before : List Entry) → LawfulAfter u p [] before → LawfulAfter u p before after → (e : Entry) → In e after → e.kind ≡ Weak → u.heap.edition ≡ Two
+  pub weak_in : (after before : List Entry) → LawfulAfter u p [] before → LawfulAfter u p before after → (e : Entry) → In e after → e.kind ≡ Weak → u.heap.edition ≢ One
   weak_in [] before done h e i is = absurd i
   weak_in (x ∷ es) before done h e i is = ⊎_elim
       (λ (same : x ≡ e). weak_fits before x.kind x.writer x.offset x.value (ap (λ (y : Entry). y.kind) same ∙ is) done h.0)

@@ -81,7 +81,7 @@ fn push_object(kinds: &mut Vec<Kind>, header: Header)
 }
 
 // Adds `count` words of a kind. Requires room for them.
-fn push_kinds(kinds: &mut Vec<Kind>, count: u16, kind: Kind)
+fn push_kinds(kinds: &mut Vec<Kind>, count: u32, kind: Kind)
     requires { vec_len kinds.old + count ≤ vec_capacity kinds.old }
     ensures items { kinds.new.items ≡ kinds.old.items ++ replicate count kind }
     ensures capacity { vec_capacity kinds.new ≡ vec_capacity kinds.old }

@@ -1,7 +1,7 @@
 //! Laws of the merged history. Each law is the contract of a function that does nothing.
-ghost use Rattle.std.specs.Prelude.{◌≡◌, ℕ, ◌*◌, ◌<◌, ◌≤◌, List, []};
+ghost use Rattle.std.specs.Prelude.{◌≡◌, ◌≢◌, ℕ, ◌*◌, ◌<◌, ◌≤◌, List, []};
 ghost use Rattle.heap_layout.specs.Heap.{IsClosed};
-ghost use Rattle.heap_layout.specs.declared.edition.Edition.TheVariants.{Two};
+ghost use Rattle.heap_layout.specs.declared.edition.Edition.TheVariants.{One};
 ghost use Rattle.heap_layout.specs.declared.kind.Kind.TheVariants.{Weak};
 ghost use Rattle.comp_journal.specs.declared.entry.Entry.{Entry as Written};
 ghost use Rattle.cell_steps.specs.Lists.{below, by, total, StartsWith};
@@ -56,7 +56,7 @@ pub fn merged_references_are_starts()
 {}
 
 /// In an accepted heap of edition one, no entry of a lawful journal writes a weak word.
-pub fn weak_entries_are_of_edition_two()
+pub fn weak_entries_are_not_of_edition_one()
     ensures { (u : Setup) (journals : Journals) → IsClosed u.heap → AreLawful u journals
-        → (p i : ℕ) (e : Written) → get_elem? (journals p) i ≡ some e → e.kind ≡ Weak → u.heap.edition ≡ Two }
+        → (p i : ℕ) (e : Written) → get_elem? (journals p) i ≡ some e → e.kind ≡ Weak → u.heap.edition ≢ One }
 {}

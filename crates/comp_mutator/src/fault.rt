@@ -10,7 +10,7 @@ pub enum FlipFault {
     /// Out of memory.
     #[error("M8 OutOfMemory")]
     OutOfMemory,
-    /// The number of mutators is not 1 to 64, or the number of fresh pages is above 4,096.
+    /// The number of mutators is not 1 to 64, or there are more fresh pages than the edition of the heap allows.
     #[error("M10 BadCounts")]
     BadCounts,
 }

@@ -29,7 +29,7 @@ impl<L: Named, B: Builder> Space<L, B> {
         m: &mut Mutator<L>,
         kind: Kind,
         object: u64,
-        field: u16,
+        field: u32,
     ) -> Result<u64, Refusal>
         requires of { IsMutatorOf self.now m.old }
         requires refers { refers kind ≡ true }
@@ -56,14 +56,14 @@ impl<L: Named, B: Builder> Space<L, B> {
     }
 
     /// Like `try_read_referring`, but retries while the page is busy. The requirements are the same.
-    pub(crate) fn read_referring(
+    pub fn read_referring(
         &self,
         alloc: Global,
         rt: &impl Wait,
         m: &mut Mutator<L>,
         kind: Kind,
         object: u64,
-        field: u16,
+        field: u32,
     ) -> Result<u64, Refusal>
         requires of { IsMutatorOf self.now m.old }
         requires refers { refers kind ≡ true }
@@ -88,7 +88,7 @@ impl<L: Named, B: Builder> Space<L, B> {
         m: &mut Mutator<L>,
         kind: Kind,
         object: u64,
-        field: u16,
+        field: u32,
         value: u64,
     ) -> Result<u64, Refusal>
         requires of { IsMutatorOf self.now m.old }
@@ -114,14 +114,14 @@ impl<L: Named, B: Builder> Space<L, B> {
     }
 
     /// Like `try_write_referring`, but retries while the page is busy. The requirements are the same.
-    pub(crate) fn write_referring(
+    pub fn write_referring(
         &self,
         alloc: Global,
         rt: &impl Wait,
         m: &mut Mutator<L>,
         kind: Kind,
         object: u64,
-        field: u16,
+        field: u32,
         value: u64,
     ) -> Result<u64, Refusal>
         requires of { IsMutatorOf self.now m.old }

@@ -1,6 +1,7 @@
 -- A heap over which a trace was run is the last of several cycles.
 use Rattle.std.proofs.Common.{◌≡◌, ℕ, ◌-◌, ◌≤◌, List, length, sym, ap, subst, ◌∙◌, arith}
 use Rattle.std.proofs.lemmas.List.{length-map}
+use Rattle.heap_layout.proofs.Bounds.{fresh_pages_least}
 use Rattle.heap_layout.specs.Heap.{live, Heap}
 use Rattle.page_plan.specs.Sliding as sliding
 use Rattle.comp_cycles.specs.Passes.{builds_of}
@@ -37,6 +38,6 @@ last_run mutators fresh lines shown heap f few h =
         row = h.row;
         finished = subst (λ (u : Setup). IsFinished u h.row f) (sym same) h.finished;
         closed = h.closed;
-        few_fresh = omega (arith, slots, few);
+        few_fresh = omega (arith, slots, few, fresh_pages_least heap.edition);
       };
     }

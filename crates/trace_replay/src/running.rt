@@ -67,6 +67,7 @@ pub fn run_over(
 }
 
 // Like `run_over`, for the ledger that `L` names.
+#[tactic(auto, using(heap_layout::proofs::Bounds::fresh_pages_least))]
 fn flipped_and_run<L: Ledger>(
     alloc: Global,
     blank: Blank,

@@ -23,7 +23,7 @@ pub fn replay_text<L: Ledger, B: Builder>(
     alloc: Global,
     text: &[u8],
     count: u8,
-    roots: u16,
+    roots: u32,
     space: &Space<L, B>,
     mutators: &mut Vec<Mutator<L>>,
 ) -> Result<Vec<Shown>, Stopped>

@@ -43,7 +43,13 @@ pub fn act<L: Ledger, B: Builder>(
             field,
         } => {
             let kind = kind_if(weak);
-            let answer = space.try_read_referring(alloc, m, kind, held(registers, object), field);
+            let answer = space.try_read_referring(
+                alloc,
+                m,
+                kind,
+                held(registers, object),
+                field as u32,
+            );
             if let Ok(word) = answer {
                 registers[usize::from(to)] = word;
             }
@@ -60,7 +66,7 @@ pub fn act<L: Ledger, B: Builder>(
         } => {
             let value = held(registers, value);
             let kind = kind_if(weak);
-            space.try_write_referring(alloc, m, kind, held(registers, object), field, value)
+            space.try_write_referring(alloc, m, kind, held(registers, object), field as u32, value)
         }
         Action::Put {
             object,

@@ -19,11 +19,11 @@ pub(crate) fn held(registers: &[u64; 16], register: u8) -> u64
 }
 
 /// The forwarded root of this number. Requires that the heap has it.
-pub(crate) fn root_at<L: Ledger, B: Builder>(space: &Space<L, B>, root: u16) -> u64
+pub(crate) fn root_at<L: Ledger, B: Builder>(space: &Space<L, B>, root: u32) -> u64
     requires { root < length (setup_of space.now).heap.roots }
     ensures { forward (live (setup_of space.now).heap) (slice_index (setup_of space.now).heap.roots root) ≡ Some result }
 {
-    space.roots()[usize::from(root)]
+    space.roots()[root as usize]
 }
 
 /// The kind of the field that a load or a store names: weak if `weak`, and else a reference. Both kinds refer.

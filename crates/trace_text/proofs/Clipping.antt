@@ -101,7 +101,7 @@ other_name ms rs n m true a b c d p q = p
 other_name ms rs n m false a b c d p q = q
 
 -- a line with clipped numbers is judged like the line with the numbers themselves
-pub told_apart : (ms rs n m : ℕ) (name : List ℕ) (ns : List ℕ) → ms < 2 ^ 8 → rs < 2 ^ 16 → judged ms rs n (line_with (clipped m) name (map clipped ns)) ≡ judged ms rs n (line_with m name ns)
+pub told_apart : (ms rs n m : ℕ) (name : List ℕ) (ns : List ℕ) → ms < 2 ^ 8 → rs < 2 ^ 32 → judged ms rs n (line_with (clipped m) name (map clipped ns)) ≡ judged ms rs n (line_with m name ns)
 told_apart ms rs n m name [] x y = refl
 told_apart ms rs n m name (a ∷ []) x y =
     one_name ms rs n m (bytes_eq name (codes "nil")) (Nil (clipped a)) (Nil a) (nil ms rs n m a (omega arith))

@@ -152,7 +152,7 @@ pub record IsRead (ms rs n : ℕ) (text : List ℕ) (line : Result Line TraceFau
   pub within : (l : Line) → line ≡ Ok l → is_within ms rs l ≡ true
   pub less : length rest < length text
 
-pub line_read : (ms rs n : ℕ) (text : List ℕ) (k m : ℕ) (behind : List ℕ) (name : Name) (numbers : List ℕ) (line : Result Line TraceFault) (rest : List ℕ) → ms < 2 ^ 8 → rs < 2 ^ 16
+pub line_read : (ms rs n : ℕ) (text : List ℕ) (k m : ℕ) (behind : List ℕ) (name : Name) (numbers : List ℕ) (line : Result Line TraceFault) (rest : List ℕ) → ms < 2 ^ 8 → rs < 2 ^ 32
     → k ≡ clipped m → NumberBefore 32 text m behind → behind ≡ written name ++ 32 ∷ numbers → ReadsLine ms rs n k (written name) numbers line rest → IsRead ms rs n text line rest
 line_read ms rs n text k m behind name numbers line rest ms-small rs-small e p is h =
     let ns = h.0 in

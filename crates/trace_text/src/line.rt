@@ -4,7 +4,7 @@ pub enum Action {
     /// Sets register `to` to a shared root.
     Root {
         to: u8,
-        root: u16,
+        root: u32,
     },
     /// Sets register `to` to a reference field, or to a weak field if `weak`, of the object in register `object`.
     Load {

@@ -23,7 +23,7 @@ impl Trace {
 /// Reads the text of a trace for `mutators` mutators and `roots` shared roots. Answers its lines, or the first fault.
 ///
 /// A fault has the number of its line, counted from 1; only `OutOfMemory` has none.
-pub fn parse(alloc: Global, text: &[u8], mutators: u8, roots: u16) -> Result<Trace, TraceFault>
+pub fn parse(alloc: Global, text: &[u8], mutators: u8, roots: u32) -> Result<Trace, TraceFault>
     ensures lines { IsReadAs lines_of result (trace_of mutators roots text.now) }
     ensures bounds { IfOk result (λ trace. (mutators_of trace ≡ mutators) × (roots_of trace ≡ roots)) }
 {

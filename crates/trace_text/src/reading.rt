@@ -57,11 +57,11 @@ fn read_value(number: Number, n: u64) -> Result<u64, TraceFault>
 }
 
 // The number of a root, or a fault of line `n` if there is no such root.
-fn root_number(number: Number, roots: u16, n: u64) -> Result<u16, TraceFault>
+fn root_number(number: Number, roots: u32, n: u64) -> Result<u32, TraceFault>
     ensures { result ≡ (if nat_le roots (size number) then Err (faults.NoSuchRoot n) else Ok (size number)) }
 {
     match below(number, u64::from(roots)) {
-        Some(root) => Ok(root as u16),
+        Some(root) => Ok(root as u32),
         None => Err(TraceFault::NoSuchRoot(n)),
     }
 }
@@ -80,7 +80,7 @@ fn mutator_number(number: Number, mutators: u8, n: u64) -> Result<u8, TraceFault
 #[derive(Clone, Copy)]
 struct Limits {
     mutators: u8,
-    roots: u16,
+    roots: u32,
     n: u64,
 }
 
@@ -286,7 +286,7 @@ fn numbered_line(
 pub(crate) fn read_line(
     text: &[u8],
     mutators: u8,
-    roots: u16,
+    roots: u32,
     n: u64,
 ) -> Result<(Line, &[u8]), TraceFault>
     requires { 0 < length text.now }

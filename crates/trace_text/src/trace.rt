@@ -10,6 +10,6 @@ use crate::line::Line;
 pub struct Trace {
     pub(crate) lines: Vec<Line>,
     pub(crate) mutators: u8,
-    pub(crate) roots: u16,
+    pub(crate) roots: u32,
     ghost within: { IsTrue (list_all (is_within mutators roots) lines.items) },
 }

@@ -1,0 +1,127 @@
+//! The calls of a mutator on data fields of any number. Some retry while the page is busy; it is not promised that
+//! those return.
+ghost use Rattle.std.specs.Prelude.{◌≡◌, ℕ, IfErr, IfOk, IsErrOf, OnErr, OnOk};
+ghost use Rattle.heap_layout.specs.declared.kind.Kind.TheVariants as kinds;
+ghost use Rattle.cell_steps.specs.Starts.{IsForwardingAddress};
+ghost use Rattle.cell_steps.specs.Passes.{did, seen, HasSeenBuilt};
+ghost use Rattle.page_cells.specs.Calls.{Grows};
+ghost use Rattle.comp_mutator.specs.Mutators.{pass_of, setup_of, unposted_of, IsMutatorOf};
+ghost use Rattle.comp_access.specs.Reads.{FieldRefused, KnowsBuilt, MayBuildTouched, Reads};
+ghost use Rattle.comp_access.specs.Writes.{DataRefused, Writes};
+ghost use Rattle.call_refusals.specs.declared.refusal.Refusal.TheVariants.{Busy};
+
+use crate::mutator::{Hand, Mutator};
+use crate::retried;
+use crate::space::Space;
+use call_refusals::Refusal;
+use page_plan::Builder;
+use std::alloc::Global;
+use std::sync::Wait;
+use std::sync::ledger::Ledger as Named;
+
+impl<L: Named, B: Builder> Space<L, B> {
+    /// Reads a data field, whatever its number: `try_read_data` names the first 65,536 fields of an object. Requires a
+    /// mutator of this space.
+    pub fn try_read_data_at(
+        &self,
+        alloc: Global,
+        m: &mut Mutator<L>,
+        object: u64,
+        field: u32,
+    ) -> Result<u64, Refusal>
+        requires { IsMutatorOf self.now m.old }
+        ensures of { IsMutatorOf self.now m.new }
+        ensures grows { Grows (pass_of m.old) (pass_of m.new) × (did (pass_of m.new) ≡ did (pass_of m.old)) }
+        ensures unposted { unposted_of m.new ≡ unposted_of m.old }
+        ensures alone { (setup_of self.now).mutators ≡ 1 → (q : ℕ) → IsErrOf result (Busy q) → ⊥ }
+        ensures read { IfOk result (Reads (setup_of self.now) (seen (pass_of m.new)) kinds.Data object field) }
+        ensures builds { OnOk result (MayBuildTouched (setup_of self.now) (pass_of m.old) (pass_of m.new) kinds.Data object field) }
+        ensures free { (q : ℕ) → IsErrOf result (Busy q) → KnowsBuilt (pass_of m.old) q → ⊥ }
+        ensures slid { (q : ℕ) → IsErrOf result (Busy q) → IsForwardingAddress (setup_of self.now).heap object }
+        ensures unseen { (q : ℕ) → IsErrOf result (Busy q) → HasSeenBuilt (pass_of m.new) q → ⊥ }
+        ensures refused { IfErr result (FieldRefused (setup_of self.now) (pass_of m.old) (pass_of m.new) kinds.Data object field) }
+    {
+        let Mutator { hand, share: _ } = m;
+        let Hand {
+            pass,
+            fills: _,
+            lows: _,
+            unposted: _,
+        } = hand;
+        comp_access::try_read_data(alloc, &self.cells, pass, object, field)
+    }
+
+    /// Like `try_read_data_at`, but retries while the page is busy. The requirements are the same.
+    pub fn read_data_at(
+        &self,
+        alloc: Global,
+        rt: &impl Wait,
+        m: &mut Mutator<L>,
+        object: u64,
+        field: u32,
+    ) -> Result<u64, Refusal>
+        requires { IsMutatorOf self.now m.old }
+        ensures of { IsMutatorOf self.now m.new }
+        ensures grows { Grows (pass_of m.old) (pass_of m.new) × (did (pass_of m.new) ≡ did (pass_of m.old)) }
+        ensures unposted { unposted_of m.new ≡ unposted_of m.old }
+        ensures busy { (q : ℕ) → IsErrOf result (Busy q) → ⊥ }
+        ensures read { IfOk result (Reads (setup_of self.now) (seen (pass_of m.new)) kinds.Data object field) }
+        ensures builds { OnOk result (MayBuildTouched (setup_of self.now) (pass_of m.old) (pass_of m.new) kinds.Data object field) }
+        ensures refused { IfErr result (FieldRefused (setup_of self.now) (pass_of m.old) (pass_of m.new) kinds.Data object field) }
+    {
+        retried!(rt, self.try_read_data_at(alloc, m, object, field))
+    }
+
+    /// Writes `value` into a data field, whatever its number, and answers the stamp of the entry: `try_write_data`
+    /// names the first 65,536 fields of an object. Requires a mutator of this space.
+    pub fn try_write_data_at(
+        &self,
+        alloc: Global,
+        m: &mut Mutator<L>,
+        object: u64,
+        field: u32,
+        value: u64,
+    ) -> Result<u64, Refusal>
+        requires { IsMutatorOf self.now m.old }
+        ensures of { IsMutatorOf self.now m.new }
+        ensures grows { Grows (pass_of m.old) (pass_of m.new) }
+        ensures unposted { unposted_of m.new ≡ unposted_of m.old }
+        ensures alone { (setup_of self.now).mutators ≡ 1 → (q : ℕ) → IsErrOf result (Busy q) → ⊥ }
+        ensures wrote { IfOk result (Writes (setup_of self.now) (pass_of m.old) (pass_of m.new) kinds.Data object field value) }
+        ensures builds { OnOk result (MayBuildTouched (setup_of self.now) (pass_of m.old) (pass_of m.new) kinds.Data object field) }
+        ensures did { OnErr result (did (pass_of m.new) ≡ did (pass_of m.old)) }
+        ensures refused { IfErr result (DataRefused (setup_of self.now) (pass_of m.old) (pass_of m.new) kinds.Data object field) }
+    {
+        let Mutator { hand, share: _ } = m;
+        let Hand {
+            pass,
+            fills: _,
+            lows: _,
+            unposted: _,
+        } = hand;
+        comp_access::try_write_data(alloc, &self.cells, pass, object, field, value)
+    }
+
+    /// Like `try_write_data_at`, but retries while the page is busy. The requirements are the same.
+    pub fn write_data_at(
+        &self,
+        alloc: Global,
+        rt: &impl Wait,
+        m: &mut Mutator<L>,
+        object: u64,
+        field: u32,
+        value: u64,
+    ) -> Result<u64, Refusal>
+        requires { IsMutatorOf self.now m.old }
+        ensures of { IsMutatorOf self.now m.new }
+        ensures grows { Grows (pass_of m.old) (pass_of m.new) }
+        ensures unposted { unposted_of m.new ≡ unposted_of m.old }
+        ensures busy { (q : ℕ) → IsErrOf result (Busy q) → ⊥ }
+        ensures wrote { IfOk result (Writes (setup_of self.now) (pass_of m.old) (pass_of m.new) kinds.Data object field value) }
+        ensures builds { OnOk result (MayBuildTouched (setup_of self.now) (pass_of m.old) (pass_of m.new) kinds.Data object field) }
+        ensures did { OnErr result (did (pass_of m.new) ≡ did (pass_of m.old)) }
+        ensures refused { IfErr result (DataRefused (setup_of self.now) (pass_of m.old) (pass_of m.new) kinds.Data object field) }
+    {
+        retried!(rt, self.try_write_data_at(alloc, m, object, field, value))
+    }
+}
