@@ -7,7 +7,7 @@ use Rattle.heap_layout.specs.Header.{header_of, size_of}
 use Rattle.heap_layout.specs.Kinds.{refers}
 use Rattle.heap_layout.specs.Heap.{Heap, live}
 use Rattle.heap_layout.specs.declared.edition.Edition.{Edition}
-use Rattle.heap_layout.specs.declared.edition.Edition.TheVariants.{One, Two}
+use Rattle.heap_layout.specs.declared.edition.Edition.TheVariants.{One, Two, Three}
 use Rattle.heap_layout.specs.declared.kind.Kind.{Kind}
 use Rattle.heap_layout.specs.declared.kind.Kind.TheVariants.{Header, Reference, Weak, Data}
 use Rattle.page_plan.specs.Sliding as sliding
@@ -59,6 +59,7 @@ each_built faults records = flat_map (of_built faults) (enumerate_from 0 records
 abbrev pub is_edition : Edition → Edition → Bool
 is_edition One One = true
 is_edition Two Two = true
+is_edition Three Three = true
 is_edition edition other = false
 
 -- 1. The dump is of the heap's edition, there is one record for each compacted and each fresh page, and the roots are

@@ -1,5 +1,5 @@
 //! The nine checks of a dump, in the order of their faults. Each answers its first fault.
-ghost use Rattle.std.specs.Prelude.{◌≡◌, ◌<◌, ◌≤◌, [], All, length};
+ghost use Rattle.std.specs.Prelude.{◌≡◌, ◌^◌, ◌<◌, ◌≤◌, [], All, length};
 ghost use Rattle.comp_history.specs.Setup.{pages};
 ghost use Rattle.comp_history.specs.CellEnds.{lists as items_of};
 ghost use Rattle.comp_history.specs.Objects.{AreLawful};
@@ -24,7 +24,7 @@ use std::alloc::Global;
 
 /// Checks a dump of edition `setting.edition` with these roots, lists of builds, pages and total. If there are faults,
 /// answers the first of them in the order of the nine checks. It may stop early if memory runs out. Requires at least
-/// one mutator, at most 20,480 pages, and pages and lists of builds whose numbers are in the ranges of a dump.
+/// one mutator, at most 2^26 pages, and pages and lists of builds whose numbers are in the ranges of a dump.
 pub fn check(
     alloc: Global,
     setting: Setting<'_>,
@@ -34,7 +34,7 @@ pub fn check(
     total: u64,
 ) -> Result<(), CheckEnd>
     requires some { 0 < setting.mutators }
-    requires few { length records.now ≤ 20480 }
+    requires few { length records.now ≤ 2 ^ 26 }
     requires pages { All (IsStoredRecord setting.edition setting.mutators) records.now }
     requires builds { All (IsStoredList (length records.now)) (items_of builds.now) }
     ensures { Reports (faults_for (setup_at setting.entry) setting.entry.edition roots.now (items_of builds.now) records.now total) result }
@@ -53,7 +53,7 @@ fn check_pages(
     records: &DumpedPages<'_>,
 ) -> Result<(), CheckEnd>
     requires some { 0 < setting.mutators }
-    requires few { length records.now ≤ 20480 }
+    requires few { length records.now ≤ 2 ^ 26 }
     requires slots { length records.now ≡ pages (setup_at setting) }
     requires pages { All (IsStoredRecord setting.edition setting.mutators) records.now }
     requires builds { All (IsStoredList (length records.now)) (items_of builds.now) }
@@ -70,7 +70,7 @@ fn check_history(
     setting: Setting<'_>,
     records: &DumpedPages<'_>,
 ) -> Result<(), CheckEnd>
-    requires few { length records.now ≤ 20480 }
+    requires few { length records.now ≤ 2 ^ 26 }
     requires slots { length records.now ≡ pages (setup_at setting) }
     requires pages { All (IsStoredRecord setting.edition setting.mutators) records.now }
     requires lawful { AreLawful (setup_at setting) (journals_in records.now) }

@@ -1,5 +1,5 @@
 //! The second check: the lists of builds name each page that was built, exactly once, and no other page.
-ghost use Rattle.std.specs.Prelude.{◌≡◌, ℕ, List, ◌+◌, ◌<◌, ◌≤◌, All, IfOk, length, min, slice_index};
+ghost use Rattle.std.specs.Prelude.{◌≡◌, ◌^◌, ℕ, List, ◌+◌, ◌<◌, ◌≤◌, All, IfOk, length, min, slice_index};
 ghost use Rattle.comp_history.specs.Lists.{times};
 ghost use Rattle.comp_history.specs.CellEnds.{lists as items_of};
 ghost use Rattle.comp_history.specs.Builds.{named};
@@ -17,7 +17,7 @@ pub fn check_builds(
     builds: &[Vec<u32>],
     records: &DumpedPages<'_>,
 ) -> Result<(), CheckEnd>
-    requires few { length records.now ≤ 20480 }
+    requires few { length records.now ≤ 2 ^ 26 }
     requires builds { All (IsStoredList (length records.now)) (items_of builds.now) }
     ensures { Reports (build_faults (items_of builds.now) records.now) result }
 {

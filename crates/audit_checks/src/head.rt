@@ -1,5 +1,5 @@
 //! The first check: the edition, the number of pages, and the roots.
-ghost use Rattle.std.specs.Prelude.{◌≡◌, ◌≤◌, OnOk, length};
+ghost use Rattle.std.specs.Prelude.{◌≡◌, ◌^◌, ◌≤◌, OnOk, length};
 ghost use Rattle.comp_history.specs.Setup.{pages};
 ghost use Rattle.audit_checks.specs.Checks.{head_faults, is_edition};
 ghost use Rattle.audit_checks.specs.Reported.{Reports};
@@ -19,7 +19,7 @@ pub fn check_head(
     roots: &[u64],
     records: &DumpedPages<'_>,
 ) -> Result<(), CheckEnd>
-    requires { length records.now ≤ 20480 }
+    requires { length records.now ≤ 2 ^ 26 }
     ensures reported { Reports (head_faults (setup_at setting.entry) setting.entry.edition roots.now records.now) result }
     ensures slots { OnOk result (length records.now ≡ pages (setup_at setting.entry)) }
 {
@@ -43,6 +43,8 @@ fn is_edition(edition: Edition, other: Edition) -> bool
 {
     matches!(
         (edition, other),
-        (Edition::One, Edition::One) | (Edition::Two, Edition::Two)
+        (Edition::One, Edition::One)
+            | (Edition::Two, Edition::Two)
+            | (Edition::Three, Edition::Three)
     )
 }

@@ -1,5 +1,5 @@
 //! The third check: each entry of a page fits the entries before it.
-ghost use Rattle.std.specs.Prelude.{◌≡◌, ℕ, List, ◌+◌, ◌*◌, ◌<◌, ◌≤◌, [], All, None, length, slice_index_or, true};
+ghost use Rattle.std.specs.Prelude.{◌≡◌, ◌^◌, ℕ, List, ◌+◌, ◌*◌, ◌<◌, ◌≤◌, [], All, None, length, slice_index_or, true};
 ghost use Rattle.heap_layout.specs.Heap.{Heap, live};
 ghost use Rattle.page_plan.specs.Sliding.{kind};
 ghost use Rattle.comp_journal.specs.declared.entry.Entry.{Entry};
@@ -26,7 +26,7 @@ pub fn check_journals(
     records: &DumpedPages<'_>,
 ) -> Result<(), CheckEnd>
     requires some { 0 < setting.mutators }
-    requires few { length records.now ≤ 20480 }
+    requires few { length records.now ≤ 2 ^ 26 }
     requires slots { length records.now ≡ pages (setup_at setting) }
     requires pages { All (IsStoredRecord setting.edition setting.mutators) records.now }
     ensures { Reports (each_built (journal_faults (setup_at setting.entry)) records.now) result }

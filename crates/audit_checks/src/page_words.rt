@@ -1,5 +1,5 @@
 //! The fourth check: the words of each page are what its journal makes of its base.
-ghost use Rattle.std.specs.Prelude.{◌≡◌, ◌<◌, ◌≤◌, All, IfOk, length};
+ghost use Rattle.std.specs.Prelude.{◌≡◌, ◌^◌, ◌<◌, ◌≤◌, All, IfOk, length};
 ghost use Rattle.comp_journal.specs.Journal.{replayed};
 ghost use Rattle.comp_history.specs.Setup.{base_of};
 ghost use Rattle.audit_checks.specs.Checks.{each_built, same_words, word_faults};
@@ -21,7 +21,7 @@ pub fn check_words(
     setting: Setting<'_>,
     records: &DumpedPages<'_>,
 ) -> Result<(), CheckEnd>
-    requires few { length records.now ≤ 20480 }
+    requires few { length records.now ≤ 2 ^ 26 }
     requires pages { All (IsStoredRecord setting.edition setting.mutators) records.now }
     ensures { Reports (each_built (word_faults (setup_at setting.entry)) records.now) result }
 {
@@ -40,7 +40,7 @@ fn check_page(
     p: u64,
     page: &DumpedPage<'_>,
 ) -> Result<(), CheckEnd>
-    requires inside { p < 20480 }
+    requires inside { p < 2 ^ 26 }
     requires stored { IsStoredPage setting.edition setting.mutators page.now }
     ensures { Reports (word_faults (setup_at setting.entry) p page.now) result }
 {
@@ -72,7 +72,7 @@ fn replay(words: &mut PageWords, journal: &[Entry])
 
 // Checks that the words of page `p` are equal to `right`.
 fn check_same(right: &[u64], p: u64, words: &[u64]) -> Result<(), CheckEnd>
-    requires inside { p < 20480 }
+    requires inside { p < 2 ^ 26 }
     requires long { length right.now ≡ 64 }
     requires as_long { length words.now ≡ 64 }
     ensures { Reports (same_words right.now p words.now) result }

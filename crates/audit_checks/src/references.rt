@@ -1,5 +1,5 @@
 //! The fifth check: each reference and weak word is null, or the address of an object.
-ghost use Rattle.std.specs.Prelude.{◌≡◌, ◌<◌, ◌≤◌, [], All, length, slice_index_or, None};
+ghost use Rattle.std.specs.Prelude.{◌≡◌, ◌^◌, ◌<◌, ◌≤◌, [], All, length, slice_index_or, None};
 ghost use Rattle.comp_history.specs.Lawful.{IsLawful};
 ghost use Rattle.comp_history.specs.Setup.{pages};
 ghost use Rattle.comp_history.specs.Objects.{AreLawful};
@@ -26,7 +26,7 @@ pub fn check_references(
     starts: &Starts,
     records: &DumpedPages<'_>,
 ) -> Result<(), CheckEnd>
-    requires few { length records.now ≤ 20480 }
+    requires few { length records.now ≤ 2 ^ 26 }
     requires slots { length records.now ≡ pages (setup_at setting) }
     requires pages { All (IsStoredRecord setting.edition setting.mutators) records.now }
     requires lawful { AreLawful (setup_at setting) (journals_in records.now) }
@@ -50,7 +50,7 @@ fn check_page(
     p: u64,
     page: &DumpedPage<'_>,
 ) -> Result<(), CheckEnd>
-    requires few { p < 20480 }
+    requires few { p < 2 ^ 26 }
     requires inside { p < pages (setup_at setting) }
     requires stored { IsStoredPage setting.edition setting.mutators page.now }
     requires lawful { IsLawful (setup_at setting) p page.now.journal }
@@ -74,7 +74,7 @@ fn check_loose(
     p: u64,
     words: &[u64],
 ) -> Result<(), CheckEnd>
-    requires inside { p < 20480 }
+    requires inside { p < 2 ^ 26 }
     requires long { length words.now ≡ 64 }
     ensures { Reports (loose_faults (λ offset. some_refers (slice_index_or kinds.now offset None)) (leads plan.now starts.now) p words.now) result }
 {

@@ -1,5 +1,5 @@
 //! Where new objects start: the address of each header that was written, with the least stamp of a header there.
-ghost use Rattle.std.specs.Prelude.{◌≡◌, ◌≢◌, ℕ, List, ◌+◌, ◌<◌, ◌≤◌, [], ◌∷◌, ◌++◌, ◌||◌, IfOk, All, length, nat_lt, is_some, true, Some, None};
+ghost use Rattle.std.specs.Prelude.{◌≡◌, ◌^◌, ◌≢◌, ℕ, List, ◌+◌, ◌<◌, ◌≤◌, [], ◌∷◌, ◌++◌, ◌||◌, IfOk, All, length, nat_lt, is_some, true, Some, None};
 ghost use Rattle.heap_layout.specs.declared.kind.Kind.TheVariants as sorts;
 ghost use Rattle.comp_journal.specs.declared.entry.Entry.{Entry};
 ghost use Rattle.comp_history.specs.Setup.{address, pages};
@@ -103,7 +103,7 @@ pub fn starts_of(
     setting: Setting<'_>,
     records: &DumpedPages<'_>,
 ) -> Result<Starts, AllocError>
-    requires few { length records.now ≤ 20480 }
+    requires few { length records.now ≤ 2 ^ 26 }
     requires slots { length records.now ≡ pages (setup_at setting) }
     requires pages { All (IsStoredRecord setting.edition setting.mutators) records.now }
     requires lawful { AreLawful (setup_at setting) (journals_in records.now) }
@@ -119,7 +119,7 @@ pub fn starts_of(
 
 // Notes the headers of page `p`.
 fn note_page(starts: &mut Starts, p: u64, journal: &[Entry])
-    requires inside { p < 20480 }
+    requires inside { p < 2 ^ 26 }
     requires covered { All (λ (e : Entry). e.kind ≡ sorts.Header → (starts.old.first ≤ address p e.offset) × (address p e.offset < starts.old.first + length starts.old.stamps)) journal.now }
     ensures same { (starts.new.first ≡ starts.old.first) × (length starts.new.stamps ≡ length starts.old.stamps) }
     ensures noted { (all : List (ℕ × Entry)) → Notes starts.old all → Notes starts.new (all ++ with_page p journal.now) }
@@ -131,7 +131,7 @@ fn note_page(starts: &mut Starts, p: u64, journal: &[Entry])
 
 // Notes an entry of page `p`, if it writes a header.
 fn note_entry(starts: &mut Starts, p: u64, entry: Entry)
-    requires inside { p < 20480 }
+    requires inside { p < 2 ^ 26 }
     requires covered { entry.kind ≡ sorts.Header → (starts.old.first ≤ address p entry.offset) × (address p entry.offset < starts.old.first + length starts.old.stamps) }
     ensures same { (starts.new.first ≡ starts.old.first) × (length starts.new.stamps ≡ length starts.old.stamps) }
     ensures noted { (all : List (ℕ × Entry)) → Notes starts.old all → Notes starts.new (all ++ (p, entry) ∷ []) }

@@ -16,26 +16,28 @@ use page_plan::Plan;
 
 /// Checks that the total is the number of words that slid and of words of new objects.
 pub fn check_total(plan: &Plan, total: u64, records: &DumpedPages<'_>) -> Result<(), CheckEnd>
-    requires few { length records.now ≤ 20480 }
+    requires few { length records.now ≤ 2 ^ 26 }
     requires pages { All HasFewEntries records.now }
     ensures { Reports (total_faults plan.now total records.now) result }
 {
-    if total != plan.live_words() + all_words(plan.heap().edition(), records) {
+    if u128::from(total)
+        != u128::from(plan.live_words()) + all_words(plan.heap().edition(), records)
+    {
         return Err(CheckEnd::Fault(AuditFault::WrongTotal));
     }
     Ok(())
 }
 
 // The words of the objects that all entries make.
-fn all_words(edition: Edition, records: &DumpedPages<'_>) -> u64
-    requires few { length records.now ≤ 20480 }
+fn all_words(edition: Edition, records: &DumpedPages<'_>) -> u128
+    requires few { length records.now ≤ 2 ^ 26 }
     requires pages { All HasFewEntries records.now }
     ensures words { result ≡ allocated edition (all_entries records.now) }
-    ensures few { result ≤ 2 ^ 43 }
+    ensures few { result ≤ 2 ^ 68 }
 {
     let mut words = 0;
     for p in 0..records.len() {
-        words += words_on(edition, journal_of(records, p));
+        words += u128::from(words_on(edition, journal_of(records, p)));
     }
     words
 }
@@ -44,7 +46,7 @@ fn all_words(edition: Edition, records: &DumpedPages<'_>) -> u64
 fn words_on(edition: Edition, journal: &[Entry]) -> u64
     requires { length journal.now ≤ 1024 }
     ensures words { result ≡ added (λ (e : Entry). words_by edition e.kind e.value) journal.now }
-    ensures few { result ≤ 2 ^ 28 }
+    ensures few { result ≤ 2 ^ 42 }
 {
     let mut words = 0;
     for entry in journal {
@@ -56,7 +58,7 @@ fn words_on(edition: Edition, journal: &[Entry]) -> u64
 // The words of the object that an entry makes, 0 if it makes none.
 fn words_made(edition: Edition, entry: Entry) -> u64
     ensures words { result ≡ words_by edition entry.kind entry.value }
-    ensures few { result < 2 ^ 18 }
+    ensures few { result < 2 ^ 32 }
 {
     match entry.kind {
         Kind::Header => u64::from(Header::from_word_of(edition, entry.value).size()),

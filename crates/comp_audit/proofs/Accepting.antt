@@ -9,7 +9,7 @@ use mathlib.Core.Option as maybe
 use lib.ListN.{get_elem?}
 use Rattle.heap_layout.specs.Heap.{live}
 use Rattle.heap_layout.specs.declared.edition.Edition.{Edition}
-use Rattle.heap_layout.specs.declared.edition.Edition.TheVariants.{One, Two}
+use Rattle.heap_layout.specs.declared.edition.Edition.TheVariants.{One, Two, Three}
 use Rattle.heap_layout.specs.Kinds.{refers}
 use Rattle.heap_layout.specs.declared.kind.Kind.{Kind}
 use Rattle.page_plan.specs.Sliding.{forwarded, live_words}
@@ -75,6 +75,7 @@ any_in test (y ∷ ys) x i h = ⊎_elim
 edition_same : (e : Edition) → is_edition e e ≡ true
 edition_same One = refl
 edition_same Two = refl
+edition_same Three = refl
 
 module _ (u : Setup) (journals : Journals) where
   abbrev all : List (ℕ × Entry)

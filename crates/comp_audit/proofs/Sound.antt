@@ -11,7 +11,7 @@ use mathlib.Core.Option.{some-ne-none}
 use lib.ListN.{get_elem?}
 use Rattle.heap_layout.specs.Heap.{live}
 use Rattle.heap_layout.specs.declared.edition.Edition.{Edition}
-use Rattle.heap_layout.specs.declared.edition.Edition.TheVariants.{One, Two}
+use Rattle.heap_layout.specs.declared.edition.Edition.TheVariants.{One, Two, Three}
 use Rattle.heap_layout.specs.Header.{Head}
 use Rattle.heap_layout.specs.Kinds.{refers}
 use Rattle.heap_layout.specs.declared.kind.Kind.{Kind}
@@ -55,6 +55,11 @@ edition_means One One h = refl
 edition_means One Two h = absurd cc
 edition_means Two One h = absurd cc
 edition_means Two Two h = refl
+edition_means One Three h = absurd cc
+edition_means Two Three h = absurd cc
+edition_means Three One h = absurd cc
+edition_means Three Two h = absurd cc
+edition_means Three Three h = refl
 
 head_means : (u : Setup) (edition : Edition) (roots : List ℕ) (records : List (Option BuiltPage)) → head_faults u edition roots records ≡ []
     → (edition ≡ u.heap.edition) × (length records ≡ pages u) × (roots ≡ map (forwarded (live u.heap)) u.heap.roots)

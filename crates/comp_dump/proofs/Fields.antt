@@ -1,5 +1,5 @@
 -- Lemmas on the numbers of a dump: how they are read, and why they are not.
-use Rattle.std.proofs.Common.{◌≡◌, ◌≢◌, ℕ, ◌-◌, ◌^◌, ◌<◌, ◌≤◌, ◌⊎◌, inl, inr, ◌==◌, Bool, true, false, ltb, ◌||◌, List, [], ◌∷◌, ◌++◌, length, slice_index, drop, Option, Some, None, IfSome, Err, refl, sym, ap, subst, ◌∙◌, arith, ne_eqb, length-append, All}
+use Rattle.std.proofs.Common.{◌≡◌, ◌≢◌, ℕ, ◌-◌, ◌^◌, ◌<◌, ◌≤◌, ◌⊎◌, inl, inr, ◌==◌, Bool, true, false, ltb, ◌||◌, ◌&&◌, List, [], ◌∷◌, ◌++◌, length, slice_index, drop, Option, Some, None, IfSome, Err, refl, sym, ap, subst, ◌∙◌, arith, ne_eqb, length-append, All}
 use Rattle.std.specs.Io.KnownBytes.{Consumes}
 use Rattle.std.proofs.lemmas.Bool.{le-ltb, lt-ltb}
 use Rattle.std.proofs.lemmas.List.{drop_at}
@@ -7,12 +7,12 @@ use Rattle.std.proofs.lemmas.Nat.{le_bytes_4, le_bytes_8}
 use Rattle.byteorder.specs.Endian.{little_number, little_bytes}
 use Rattle.byteorder.specs.Numbers.{little_number-reads_back, length-bytes_low_first, little_from-append}
 use Rattle.heap_layout.specs.declared.edition.Edition.{Edition}
-use Rattle.heap_layout.specs.declared.edition.Edition.TheVariants.{One, Two}
+use Rattle.heap_layout.specs.declared.edition.Edition.TheVariants.{One, Two, Three}
 use Rattle.heap_layout.specs.declared.kind.Kind.{Kind}
 use Rattle.heap_layout.specs.declared.kind.Kind.TheVariants.{Header, Reference, Weak, Data}
 use Rattle.comp_journal.specs.declared.entry.Entry.{Entry}
 use Rattle.comp_dump.specs.Dumped.{BuiltPage, IsStoredEntry, IsStoredPage, IsStoredRecord, IsStoredList}
-use Rattle.heap_layout.specs.Versions.{version_of}
+use Rattle.heap_layout.specs.Versions.{version_of, IsRead}
 use Rattle.comp_dump.specs.Codes.{kind_code, last_code}
 use Rattle.comp_dump.specs.DumpEncoding.{one_byte, four_bytes, eight_bytes, entry_bytes, built_bytes, page_bytes, builds_bytes}
 use Rattle.comp_dump.specs.declared.fault.DumpFault.{DumpFault}
@@ -99,46 +99,58 @@ spells_kind edition Data h = spells_code edition 2 Data (omega arith) h refl
 spells_kind edition Weak h = spells_code edition 3 Weak (omega arith) h refl
 
 -- the version is read again
-pub spells_edition : (e : Edition) → Spells reading.edition (four_bytes (version_of e)) e
+pub spells_edition : (large : Bool) (e : Edition) → IsRead large e → Spells (reading.edition large) (four_bytes (version_of e)) e
 unfolding reading.edition
-spells_edition One = record {
+spells_edition large One known = record {
   again = λ rest.
       let front = four_bytes (version_of One) in
       let whole : ltb (length (front ++ rest)) 4 ≡ false = le-ltb _ _ (omega (arith, length-append front rest)) in
       rw whole refl;
 }
-spells_edition Two = record {
+spells_edition large Two known = record {
   again = λ rest.
       let front = four_bytes (version_of Two) in
       let whole : ltb (length (front ++ rest)) 4 ≡ false = le-ltb _ _ (omega (arith, length-append front rest)) in
       rw whole refl;
 }
+spells_edition false Three known = absurd known
+spells_edition true Three known = record {
+  again = λ rest.
+      let front = four_bytes (version_of Three) in
+      let whole : ltb (length (front ++ rest)) 4 ≡ false = le-ltb _ _ (omega (arith, length-append front rest)) in
+      rw whole refl;
+}
 
-edition_short : (bytes : List ℕ) (fault : DumpFault) → EndsBefore 4 fault bytes → Fails fault (reading.edition bytes)
+edition_short : (large : Bool) (bytes : List ℕ) (fault : DumpFault) → EndsBefore 4 fault bytes → Fails fault (reading.edition large bytes)
 unfolding reading.edition
-edition_short bytes Truncated h = rw (lt-ltb _ _ h) refl
-edition_short bytes Device h = tt
-edition_short bytes _ h = absurd h
+edition_short large bytes Truncated h = rw (lt-ltb _ _ h) refl
+edition_short large bytes Device h = tt
+edition_short large bytes _ h = absurd h
 
-pub stops_edition : (a : Option (List ℕ)) (fault : DumpFault) → IfSome a (EndsBefore 4 fault) → Stops reading.edition a fault
-stops_edition None fault h = tt
-stops_edition (Some bytes) fault h = edition_short bytes fault h
+pub stops_edition : (large : Bool) (a : Option (List ℕ)) (fault : DumpFault) → IfSome a (EndsBefore 4 fault) → Stops (reading.edition large) a fault
+stops_edition large None fault h = tt
+stops_edition large (Some bytes) fault h = edition_short large bytes fault h
+
+-- a number that is not version 3, or a reading that does not take version 3
+third_refused : (large : Bool) (n : ℕ) → (IsRead large Three → (n == version_of Three) ≡ false) → (large && (n == version_of Three)) ≡ false
+third_refused true n differs = differs tt
+third_refused false n differs = refl
 
 -- the bytes begin with a number that is no edition's version
-other_version : (front rest : List ℕ) → length front ≡ 4 → ((e : Edition) → version_of e ≢ little_number 4 front) → reading.edition (front ++ rest) ≡ Err BadMagic
+other_version : (large : Bool) (front rest : List ℕ) → length front ≡ 4 → ((e : Edition) → IsRead large e → version_of e ≢ little_number 4 front) → reading.edition large (front ++ rest) ≡ Err BadMagic
 unfolding reading.edition
-other_version front rest long none =
+other_version large front rest long none =
     let whole : ltb (length (front ++ rest)) 4 ≡ false = le-ltb _ _ (omega (arith, length-append front rest)) in
     let same : little_number 4 (front ++ rest) ≡ little_number 4 front = little_from-append 4 front rest (omega arith) in
-    let test : (e : Edition) → (little_number 4 front == version_of e) ≡ false = λ e. ne_eqb _ _ (λ is. none e (sym is)) in
-    rw (whole, same, test One, test Two) refl
+    let test : (e : Edition) → IsRead large e → (little_number 4 front == version_of e) ≡ false = λ e known. ne_eqb _ _ (λ is. none e known (sym is)) in
+    rw (whole, same, test One tt, test Two tt, third_refused large (little_number 4 front) (test Three)) refl
 
-pub stops_version : (n : ℕ) (a b : Option (List ℕ)) (front : List ℕ) → Consumes a b front → length front ≡ 4 → n ≡ little_number 4 front
-    → ((e : Edition) → version_of e ≢ n) → Stops reading.edition a BadMagic
-stops_version n None b front read long is none = tt
-stops_version n (Some xs) None front read long is none = absurd read
-stops_version n (Some xs) (Some ys) front read long is none =
-    ap reading.edition read ∙ other_version front ys long (subst (λ (k : ℕ). (e : Edition) → version_of e ≢ k) is none)
+pub stops_version : (large : Bool) (n : ℕ) (a b : Option (List ℕ)) (front : List ℕ) → Consumes a b front → length front ≡ 4 → n ≡ little_number 4 front
+    → ((e : Edition) → IsRead large e → version_of e ≢ n) → Stops (reading.edition large) a BadMagic
+stops_version large n None b front read long is none = tt
+stops_version large n (Some xs) None front read long is none = absurd read
+stops_version large n (Some xs) (Some ys) front read long is none =
+    ap (reading.edition large) read ∙ other_version large front ys long (subst (λ (k : ℕ). (e : Edition) → IsRead large e → version_of e ≢ k) is none)
 
 pub spells_entry : (edition : Edition) (mutators : ℕ) (e : Entry) → mutators ≤ 256 → IsStoredEntry edition mutators e → Spells (entry edition mutators) (entry_bytes e) e
 unfolding entry entry_bytes

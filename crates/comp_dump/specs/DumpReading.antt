@@ -1,12 +1,13 @@
 -- How a dump is read: field by field, from left to right. If the bytes end within a field, the fault is `Truncated`.
 -- If a number is outside its range, the fault is `BadField`, whatever follows it.
-use Rattle.std.specs.Prelude.{◌≡◌, ℕ, zero, suc, ◌+◌, ◌-◌, ◌^◌, ◌<◌, ◌||◌, ◌==◌, nat_lt, bytes_eq, List, [], ◌∷◌, length, take, drop, Option, Some, None, Result, Ok, Err, if◌then◌else◌}
+use Rattle.std.specs.Prelude.{◌≡◌, ℕ, zero, suc, ◌+◌, ◌-◌, ◌^◌, ◌<◌, ◌||◌, ◌==◌, nat_lt, bytes_eq, Bool, false, ◌&&◌, List, [], ◌∷◌, length, take, drop, Option, Some, None, Result, Ok, Err, if◌then◌else◌}
 use Rattle.byteorder.specs.Endian.{little_number}
 use Rattle.heap_layout.specs.declared.edition.Edition.{Edition}
-use Rattle.heap_layout.specs.declared.edition.Edition.TheVariants.{One, Two}
+use Rattle.heap_layout.specs.declared.edition.Edition.TheVariants.{One, Two, Three}
 use Rattle.heap_layout.specs.declared.kind.Kind.{Kind}
 use Rattle.heap_layout.specs.declared.kind.Kind.TheVariants.{Header, Reference, Weak, Data}
 use Rattle.comp_journal.specs.declared.entry.Entry.{Entry}
+use Rattle.heap_layout.specs.Limits.{most_pages, most_fresh_pages, most_roots}
 use Rattle.heap_layout.specs.Versions.{version_of}
 use Rattle.comp_dump.specs.Dumped.{Dumped, BuiltPage}
 use Rattle.comp_dump.specs.Codes.{last_code}
@@ -98,12 +99,13 @@ expected wanted bytes =
     else if bytes_eq (take (length wanted) bytes) wanted then Ok (wanted, drop (length wanted) bytes)
     else Err BadMagic
 
--- the version, read as the edition that it gives
-unfoldable pub edition : Reading Edition
-edition bytes =
+-- the version, read as the edition that it gives; version 3 only if `large`
+unfoldable pub edition : Bool → Reading Edition
+edition large bytes =
     if nat_lt (length bytes) 4 then Err Truncated
     else if little_number 4 bytes == version_of One then Ok (One, drop 4 bytes)
     else if little_number 4 bytes == version_of Two then Ok (Two, drop 4 bytes)
+    else if large && (little_number 4 bytes == version_of Three) then Ok (Three, drop 4 bytes)
     else Err BadMagic
 
 -- the edition, and the numbers of mutators, fresh pages, pages and roots
@@ -115,20 +117,20 @@ pub record Counts : Type 0 where
   pub roots : ℕ
 
 -- all that precedes the roots
-unfoldable pub head : Reading Counts
-head = do
+unfoldable pub head : Bool → Reading Counts
+head large = do
   magic_bytes ← expected magic
-  its_edition ← edition
+  its_edition ← edition large
   mutators ← number 4 1 64
-  fresh ← number 4 0 4096
-  pages ← number 4 fresh 20480
-  roots ← number 4 0 4096
+  fresh ← number 4 0 (most_fresh_pages its_edition)
+  pages ← number 4 fresh (most_pages its_edition + most_fresh_pages its_edition)
+  roots ← number 4 0 (most_roots its_edition)
   done (record { edition = its_edition; mutators = mutators; fresh = fresh; pages = pages; roots = roots })
 
 -- a dump, and the bytes after it
-unfoldable pub dump : Reading Dumped
-dump = do
-  counts ← head
+unfoldable pub dump : Bool → Reading Dumped
+dump large = do
+  counts ← head large
   roots ← times_read counts.roots word
   pages ← times_read counts.pages (page counts.edition counts.mutators)
   lists ← times_read counts.mutators (builds counts.pages)
@@ -144,9 +146,13 @@ abbrev pub whole : {A : Type 0} → Result (A × List ℕ) DumpFault → Result 
 whole (Ok x) = ended x.0 x.1
 whole (Err fault) = Err fault
 
--- all bytes, read as a dump
+-- all bytes, read as a dump, of edition three only if `large`
+abbrev pub read_whole_by : Bool → List ℕ → Result Dumped DumpFault
+read_whole_by large bytes = whole (dump large bytes)
+
+-- all bytes, read as a dump of edition one or two
 abbrev pub read_whole : List ℕ → Result Dumped DumpFault
-read_whole bytes = whole (dump bytes)
+read_whole bytes = read_whole_by false bytes
 
 -- The fault is the one that reading answers. Bytes do not say when memory runs out or the device fails.
 abbrev pub Fails : {A : Type 0} → DumpFault → Result A DumpFault → Type 0

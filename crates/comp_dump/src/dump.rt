@@ -88,7 +88,7 @@ impl<'a> Dump<'a> {
         self.mutators
     }
 
-    /// The number of fresh pages, at most 4,096.
+    /// The number of fresh pages, at most as many as the edition allows.
     pub fn fresh_pages(&self) -> u32
         ensures { result ≡ self.now.fresh }
     {

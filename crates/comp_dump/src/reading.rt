@@ -1,13 +1,15 @@
 //! Reads a dump, field by field, and checks each field as soon as it is read.
-ghost use Rattle.std.specs.Prelude.{◌≡◌, ◌-◌, ◌^◌, ◌<◌, ◌≤◌, IfOk, IfErr, IfSome, All, length};
+ghost use Rattle.std.specs.Prelude.{◌≡◌, true, false, ◌+◌, ◌-◌, ◌^◌, ◌<◌, ◌≤◌, IfOk, IfErr, IfSome, All, length};
 ghost use Rattle.std.specs.Io.KnownBytes.{Consumes};
 ghost use Rattle.std.specs.List.{flat_map};
+ghost use Rattle.heap_layout.specs.Limits.{most_pages, most_fresh_pages, most_roots};
+ghost use Rattle.heap_layout.specs.Versions.{IsRead};
 ghost use Rattle.heap_layout.specs.Counted.{inner_of, failures_of};
 ghost use Rattle.comp_cycles.specs.CellEnds.{lists as items_of};
 ghost use Rattle.comp_dump.specs.Dumped.{AreCounts, IsStored, IsStoredList};
 ghost use Rattle.comp_dump.specs.DumpEncoding.{builds_bytes, dump_bytes, eight_bytes, four_bytes, head};
 ghost use Rattle.comp_dump.specs.DumpReading as reading;
-ghost use Rattle.comp_dump.specs.DumpReading.{number, read_whole, times_read, word, CountsFailure, Fails, Stops};
+ghost use Rattle.comp_dump.specs.DumpReading.{number, read_whole, read_whole_by, times_read, word, CountsFailure, Fails, Stops};
 
 pub(crate) mod fields;
 mod pages;
@@ -16,11 +18,11 @@ use crate::dump::Dump;
 use crate::fault::DumpFault;
 use crate::reading::fields::{MAGIC, expect, expect_end, read_edition, read_eight, read_four};
 use crate::reading::pages::read_pages;
-use heap_layout::{Counted, Edition, MAX_FRESH_PAGES, MAX_MUTATORS, MAX_PAGES, MAX_ROOTS};
+use heap_layout::{Counted, Edition, MAX_MUTATORS};
 use std::alloc::Global;
 use std::io::Read;
 
-/// Reads a dump, to the end of the reader.
+/// Reads a dump of edition one or two, to the end of the reader.
 ///
 /// Each field is checked as soon as it is read, whatever follows it. The version gives the edition, and the edition
 /// gives the kinds that an entry may have. A call of the reader that returns an error ends the reading, an
@@ -29,24 +31,60 @@ use std::io::Read;
 pub fn read_dump<R: Read>(alloc: Global, r: &mut Counted<R>) -> Result<Dump<'static>, DumpFault>
     requires { failures_of r.old < 2 ^ 64 - 1 }
     ensures read { IfOk result (λ dump. IfSome (R.remaining (inner_of r.old)) (λ bytes. bytes ≡ dump_bytes dump)) }
+    ensures edition { IfOk result (λ dump. IsRead false dump.edition) }
     ensures stored { IfOk result IsStored }
     ensures cause { IfErr result (λ fault. IfSome (R.remaining (inner_of r.old)) (λ bytes. Fails fault (read_whole bytes))) }
     ensures counts { CountsFailure (failures_of r.old) (failures_of r.new) result }
 {
-    let dump = read_parts(alloc, r)?;
+    read_dump_by(alloc, r, false)
+}
+
+/// Reads a dump of any edition, otherwise as `read_dump` does.
+pub fn read_large_dump<R: Read>(
+    alloc: Global,
+    r: &mut Counted<R>,
+) -> Result<Dump<'static>, DumpFault>
+    requires { failures_of r.old < 2 ^ 64 - 1 }
+    ensures read { IfOk result (λ dump. IfSome (R.remaining (inner_of r.old)) (λ bytes. bytes ≡ dump_bytes dump)) }
+    ensures stored { IfOk result IsStored }
+    ensures cause { IfErr result (λ fault. IfSome (R.remaining (inner_of r.old)) (λ bytes. Fails fault (read_whole_by true bytes))) }
+    ensures counts { CountsFailure (failures_of r.old) (failures_of r.new) result }
+{
+    read_dump_by(alloc, r, true)
+}
+
+// Reads a dump, of edition three only if `large`, to the end of the reader.
+fn read_dump_by<R: Read>(
+    alloc: Global,
+    r: &mut Counted<R>,
+    large: bool,
+) -> Result<Dump<'static>, DumpFault>
+    requires { failures_of r.old < 2 ^ 64 - 1 }
+    ensures read { IfOk result (λ dump. IfSome (R.remaining (inner_of r.old)) (λ bytes. bytes ≡ dump_bytes dump)) }
+    ensures edition { IfOk result (λ dump. IsRead large dump.edition) }
+    ensures stored { IfOk result IsStored }
+    ensures cause { IfErr result (λ fault. IfSome (R.remaining (inner_of r.old)) (λ bytes. Fails fault (read_whole_by large bytes))) }
+    ensures counts { CountsFailure (failures_of r.old) (failures_of r.new) result }
+{
+    let dump = read_parts(alloc, r, large)?;
     expect_end(r)?;
     Ok(dump)
 }
 
 // Reads a dump. More bytes may follow it.
-fn read_parts<R: Read>(alloc: Global, r: &mut Counted<R>) -> Result<Dump<'static>, DumpFault>
+fn read_parts<R: Read>(
+    alloc: Global,
+    r: &mut Counted<R>,
+    large: bool,
+) -> Result<Dump<'static>, DumpFault>
     requires { failures_of r.old < 2 ^ 64 - 1 }
     ensures read { IfOk result (λ dump. Consumes (R.remaining (inner_of r.old)) (R.remaining (inner_of r.new)) (dump_bytes dump)) }
+    ensures edition { IfOk result (λ dump. IsRead large dump.edition) }
     ensures stored { IfOk result IsStored }
-    ensures cause { IfErr result (Stops reading.dump (R.remaining (inner_of r.old))) }
+    ensures cause { IfErr result (Stops (reading.dump large) (R.remaining (inner_of r.old))) }
     ensures counts { CountsFailure (failures_of r.old) (failures_of r.new) result }
 {
-    let head = read_head(r)?;
+    let head = read_head(r, large)?;
     let roots = read_roots(alloc, r, head.roots)?;
     let pages = read_pages(alloc, r, head.edition, head.mutators, head.pages)?;
     let builds = read_all_builds(alloc, r, head.pages, head.mutators)?;
@@ -72,21 +110,60 @@ struct Head {
     roots: u32,
 }
 
+// Reads the number of fresh pages: at most as many as a heap of the edition may have.
+fn read_fresh<R: Read>(r: &mut Counted<R>, edition: Edition) -> Result<u32, DumpFault>
+    requires { failures_of r.old < 2 ^ 64 - 1 }
+    ensures read { IfOk result (λ n. Consumes (R.remaining (inner_of r.old)) (R.remaining (inner_of r.new)) (four_bytes n)) }
+    ensures within { IfOk result (λ n. (0 ≤ n) × (n ≤ most_fresh_pages edition)) }
+    ensures cause { IfErr result (Stops (number 4 0 (most_fresh_pages edition)) (R.remaining (inner_of r.old))) }
+    ensures counts { CountsFailure (failures_of r.old) (failures_of r.new) result }
+{
+    read_four(r, 0, edition.max_fresh_pages())
+}
+
+// Reads the number of all pages: at most as many as a heap of the edition may have, and no fewer than the fresh ones.
+fn read_page_count<R: Read>(
+    r: &mut Counted<R>,
+    edition: Edition,
+    fresh: u32,
+) -> Result<u32, DumpFault>
+    requires { failures_of r.old < 2 ^ 64 - 1 }
+    ensures read { IfOk result (λ n. Consumes (R.remaining (inner_of r.old)) (R.remaining (inner_of r.new)) (four_bytes n)) }
+    ensures within { IfOk result (λ n. (fresh ≤ n) × (n ≤ most_pages edition + most_fresh_pages edition)) }
+    ensures cause { IfErr result (Stops (number 4 fresh (most_pages edition + most_fresh_pages edition)) (R.remaining (inner_of r.old))) }
+    ensures counts { CountsFailure (failures_of r.old) (failures_of r.new) result }
+{
+    read_four(r, fresh, edition.max_pages())
+}
+
+// Reads the number of roots: at most as many as a heap of the edition may have.
+#[tactic(auto, using(heap_layout::proofs::Bounds::roots_most))]
+fn read_root_count<R: Read>(r: &mut Counted<R>, edition: Edition) -> Result<u32, DumpFault>
+    requires { failures_of r.old < 2 ^ 64 - 1 }
+    ensures read { IfOk result (λ n. Consumes (R.remaining (inner_of r.old)) (R.remaining (inner_of r.new)) (four_bytes n)) }
+    ensures within { IfOk result (λ n. (0 ≤ n) × (n ≤ most_roots edition)) }
+    ensures cause { IfErr result (Stops (number 4 0 (most_roots edition)) (R.remaining (inner_of r.old))) }
+    ensures counts { CountsFailure (failures_of r.old) (failures_of r.new) result }
+{
+    read_four(r, 0, edition.max_roots() as u32)
+}
+
 // Reads all that precedes the roots.
-fn read_head<R: Read>(r: &mut Counted<R>) -> Result<Head, DumpFault>
+fn read_head<R: Read>(r: &mut Counted<R>, large: bool) -> Result<Head, DumpFault>
     requires { failures_of r.old < 2 ^ 64 - 1 }
     ensures read { IfOk result (λ found. Consumes (R.remaining (inner_of r.old)) (R.remaining (inner_of r.new))
         (head found.edition found.mutators found.fresh found.pages found.roots)) }
-    ensures within { IfOk result (λ found. AreCounts found.mutators found.fresh found.pages found.roots) }
-    ensures cause { IfErr result (Stops reading.head (R.remaining (inner_of r.old))) }
+    ensures edition { IfOk result (λ found. IsRead large found.edition) }
+    ensures within { IfOk result (λ found. AreCounts found.edition found.mutators found.fresh found.pages found.roots) }
+    ensures cause { IfErr result (Stops (reading.head large) (R.remaining (inner_of r.old))) }
     ensures counts { CountsFailure (failures_of r.old) (failures_of r.new) result }
 {
     expect(r, &MAGIC)?;
-    let edition = read_edition(r)?;
+    let edition = read_edition(r, large)?;
     let mutators = read_four(r, 1, MAX_MUTATORS)?;
-    let fresh = read_four(r, 0, MAX_FRESH_PAGES)?;
-    let pages = read_four(r, fresh, MAX_PAGES)?;
-    let roots = read_four(r, 0, MAX_ROOTS as u32)?;
+    let fresh = read_fresh(r, edition)?;
+    let pages = read_page_count(r, edition, fresh)?;
+    let roots = read_root_count(r, edition)?;
     Ok(Head {
         edition,
         mutators: mutators as u8,

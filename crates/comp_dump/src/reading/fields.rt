@@ -3,7 +3,7 @@ ghost use Rattle.std.specs.Prelude.{◌≡◌, ℕ, ◌-◌, ◌^◌, ◌<◌, �
 ghost use Rattle.std.specs.Io.KnownBytes.{Consumes, IsAtEnd};
 ghost use Rattle.byteorder.specs.Endian.{little_bytes};
 ghost use Rattle.heap_layout.specs.Counted.{inner_of, failures_of};
-ghost use Rattle.heap_layout.specs.Versions.{version_of};
+ghost use Rattle.heap_layout.specs.Versions.{version_of, IsRead};
 ghost use Rattle.comp_dump.specs.DumpEncoding.{four_bytes};
 ghost use Rattle.comp_dump.specs.DumpReading as reading;
 ghost use Rattle.comp_dump.specs.DumpReading.{expected, number, word, CountsFailure, EndsBefore, RefusesEnd, Stops};
@@ -96,16 +96,17 @@ pub(crate) fn expect<R: Read>(r: &mut Counted<R>, wanted: &[u8]) -> Result<(), D
     Ok(())
 }
 
-/// Reads the version, and answers its edition.
-pub(crate) fn read_edition<R: Read>(r: &mut Counted<R>) -> Result<Edition, DumpFault>
+/// Reads the version, and answers its edition: three only if `large`.
+pub(crate) fn read_edition<R: Read>(r: &mut Counted<R>, large: bool) -> Result<Edition, DumpFault>
     requires { failures_of r.old < 2 ^ 64 - 1 }
     ensures read { IfOk result (λ edition. Consumes (R.remaining (inner_of r.old)) (R.remaining (inner_of r.new)) (four_bytes (version_of edition))) }
-    ensures cause { IfErr result (Stops reading.edition (R.remaining (inner_of r.old))) }
+    ensures edition { IfOk result (IsRead large) }
+    ensures cause { IfErr result (Stops (reading.edition large) (R.remaining (inner_of r.old))) }
     ensures counts { CountsFailure (failures_of r.old) (failures_of r.new) result }
 {
     let mut bytes = [0; 4];
     read_part(r, &mut bytes)?;
-    match edition_of(LittleEndian::read_u32(&bytes)) {
+    match edition_of(LittleEndian::read_u32(&bytes), large) {
         Some(edition) => Ok(edition),
         None => Err(DumpFault::BadMagic),
     }

@@ -7,5 +7,5 @@ use Rattle.audit_checks.proofs.totals.all_words.Given as goal
 abbrev pub invariant-loop-p : goal.invariant-loop-p
 invariant-loop-p l = record {
   words : l.words ≡ allocated l.edition (entries_below (journals_in l.records) l.p);
-  few : l.words ≤ 2 ^ 28 * l.p;
+  few : l.words ≤ 2 ^ 42 * l.p;
 }

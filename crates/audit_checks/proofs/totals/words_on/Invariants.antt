@@ -7,5 +7,5 @@ use Rattle.audit_checks.proofs.totals.words_on.Given as goal
 abbrev pub invariant-loop-entry : goal.invariant-loop-entry
 invariant-loop-entry l = record {
   words : l.words + total (λ (e : Entry). words_by l.edition e.kind e.value) (drop l.entry-index l.journal) ≡ total (λ (e : Entry). words_by l.edition e.kind e.value) l.journal;
-  few : l.words ≤ 2 ^ 18 * l.entry-index;
+  few : l.words ≤ 2 ^ 32 * l.entry-index;
 }

@@ -8,7 +8,7 @@ use Rattle.comp_dump.proofs.reading.fields.read_edition.Goals as goal
 pub returns-in_err-read_part-clause-cause : goal.returns-in_err-read_part-clause-cause
 returns-in_err-read_part-clause-cause g c =
     let p = err_from_is_err_and c.from_residual.result c.from_residual.ensures.1 in
-    rw (p.1, p.2) (stops_edition _ _ c.in_err-read_part.ensures.cut)
+    rw (p.1, p.2) (stops_edition c.args.large _ _ c.in_err-read_part.ensures.cut)
 
 pub returns-in-Some-clause-read : goal.returns-in-Some-clause-read
 returns-in-Some-clause-read g c =
@@ -17,4 +17,4 @@ returns-in-Some-clause-read g c =
 
 pub returns-in-None-clause-cause : goal.returns-in-None-clause-cause
 returns-in-None-clause-cause g c =
-    stops_version c.read_u32.result _ _ _ c.in_ok-read_part.ensures.read (omega arith) c.read_u32.ensures c.in-None.ensures.none
+    stops_version c.args.large c.read_u32.result _ _ _ c.in_ok-read_part.ensures.read (omega arith) c.read_u32.ensures c.in-None.ensures.none
