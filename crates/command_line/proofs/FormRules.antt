@@ -1,5 +1,5 @@
--- The options and arguments of a built command. Each is found by its name, an argument also by its position. There is
--- one other flag, for help.
+-- The options, switches and arguments of a built command. Each is found by its name, an argument also by its position.
+-- There is one other flag, for help.
 use Rattle.std.proofs.Common.{◌≡◌, ◌==◌, ◌<◌, ◌≤◌, ◌+◌, ◌&&◌, ◌||◌, ℕ, Bool, cond, true, false, not, refl, sym, ap, arith, List, [], ◌∷◌, ◌++◌, Option, Some, None, length, map, eq-eqb}
 use Rattle.std.specs.Prelude.{find, min}
 use Rattle.std.specs.List.{list_all, list_any}
@@ -13,7 +13,7 @@ use Rattle.clap.specs.Walk.{Rule, Text, arg_by_id, arg_by_index, arg_by_long, ar
 use Rattle.clap.specs.Simple.{filled, filled_from, help_rule, with_index}
 use Rattle.clap.proofs.WalkLemmas.{both}
 use Rattle.command_line.specs.Forms.{Choice, Parameter}
-use Rattle.command_line.specs.Parser.{option_rule, rule}
+use Rattle.command_line.specs.Parser.{option_rule, rule, switch_rule}
 use Rattle.command_line.proofs.LevelSteps.{built_help}
 
 -- an argument of a built command, at its position
@@ -54,52 +54,81 @@ same_text id = (bytes_eq-Decides id id).1 refl
 abbrev pub built_option : Choice → Rule
 built_option o = filled (option_rule o)
 
--- all that a built command has: its options, its arguments and the flag for help
-abbrev pub all_rules : List Choice → List Parameter → List Rule
-all_rules options arguments = filled_from 1 ((map option_rule options ++ map rule arguments) ++ help_rule ∷ [])
+-- a switch of a built command
+abbrev pub built_switch : Parameter → Rule
+built_switch w = filled (switch_rule w)
+
+-- all that a built command has: its options, its switches, its arguments and the flag for help
+abbrev pub all_rules : List Choice → List Parameter → List Parameter → List Rule
+all_rules options switches arguments = filled_from 1 ((map option_rule options ++ (map switch_rule switches ++ map rule arguments)) ++ help_rule ∷ [])
 
 -- the option of a name
 abbrev pub option_named : List Choice → Text → Option Choice
 option_named options name = find (λ (o : Choice). bytes_eq o.takes.id name) options
 
--- a long name finds the option of that name, or else the flag for help, or nothing
-pub by_long : (options : List Choice) (arguments : List Parameter) (name : Text) → arg_by_long (all_rules options arguments) name
-    ≡ option_map_or (λ o. Some (built_option o)) (option_named options name) (cond (has_long built_help name) (Some built_help) None)
-by_long [] arguments name = alone 1 arguments
+-- the switch of a name
+abbrev pub switch_named : List Parameter → Text → Option Parameter
+switch_named switches name = find (λ (w : Parameter). bytes_eq w.id name) switches
+
+-- the flag of a name that is no option: a switch, or else the flag for help
+abbrev pub flag_named : List Parameter → Text → Option Rule
+flag_named switches name = option_map_or (λ w. Some (built_switch w)) (switch_named switches name) (cond (has_long built_help name) (Some built_help) None)
+
+-- a long name finds the option of that name, or else the switch, or else the flag for help, or nothing
+pub by_long : (options : List Choice) (switches arguments : List Parameter) (name : Text) → arg_by_long (all_rules options switches arguments) name
+    ≡ option_map_or (λ o. Some (built_option o)) (option_named options name) (flag_named switches name)
+by_long [] switches arguments name = among switches
   where
     alone : (i : ℕ) (arguments : List Parameter) → arg_by_long (rules_from i arguments) name ≡ cond (has_long built_help name) (Some built_help) None
     alone i [] = refl
     alone i (a ∷ rest) = alone (position_after i) rest
-by_long (o ∷ options) arguments name = go (bytes_eq o.takes.id name) (by_long options arguments name)
+
+    among : (switches : List Parameter) → arg_by_long (all_rules [] switches arguments) name ≡ flag_named switches name
+    among [] = alone 1 arguments
+    among (w ∷ ws) = go (bytes_eq w.id name) (among ws)
+      where
+        other : Option Rule
+        other = cond (has_long built_help name) (Some built_help) None
+
+        go : (t : Bool) → arg_by_long (all_rules [] ws arguments) name ≡ option_map_or (λ x. Some (built_switch x)) (switch_named ws name) other
+            → cond (t || false) (Some (built_switch w)) (arg_by_long (all_rules [] ws arguments) name)
+            ≡ option_map_or (λ x. Some (built_switch x)) (cond t (Some w) (switch_named ws name)) other
+        go true later = refl
+        go false later = later
+by_long (o ∷ options) switches arguments name = go (bytes_eq o.takes.id name) (by_long options switches arguments name)
   where
     other : Option Rule
-    other = cond (has_long built_help name) (Some built_help) None
+    other = flag_named switches name
 
-    go : (t : Bool) → arg_by_long (all_rules options arguments) name ≡ option_map_or (λ c. Some (built_option c)) (option_named options name) other
-        → cond (t || false) (Some (built_option o)) (arg_by_long (all_rules options arguments) name)
+    go : (t : Bool) → arg_by_long (all_rules options switches arguments) name ≡ option_map_or (λ c. Some (built_option c)) (option_named options name) other
+        → cond (t || false) (Some (built_option o)) (arg_by_long (all_rules options switches arguments) name)
         ≡ option_map_or (λ c. Some (built_option c)) (cond t (Some o) (option_named options name)) other
     go true later = refl
     go false later = later
 
 -- a short name finds the flag for help, or nothing
-pub by_short : (options : List Choice) (arguments : List Parameter) (c : ℕ)
-    → arg_by_short (all_rules options arguments) c ≡ cond (has_short built_help c) (Some built_help) None
-by_short [] arguments c = alone 1 arguments
+pub by_short : (options : List Choice) (switches arguments : List Parameter) (c : ℕ)
+    → arg_by_short (all_rules options switches arguments) c ≡ cond (has_short built_help c) (Some built_help) None
+by_short [] switches arguments c = among switches
   where
     alone : (i : ℕ) (arguments : List Parameter) → arg_by_short (rules_from i arguments) c ≡ cond (has_short built_help c) (Some built_help) None
     alone i [] = refl
     alone i (a ∷ rest) = alone (position_after i) rest
-by_short (o ∷ options) arguments c = by_short options arguments c
+
+    among : (switches : List Parameter) → arg_by_short (all_rules [] switches arguments) c ≡ cond (has_short built_help c) (Some built_help) None
+    among [] = alone 1 arguments
+    among (w ∷ ws) = among ws
+by_short (o ∷ options) switches arguments c = by_short options switches arguments c
 
 -- an option is found by its name
-pub by_id : (options : List Choice) (arguments : List Parameter) (o : Choice) → option_named options o.takes.id ≡ Some o
-    → arg_by_id (all_rules options arguments) o.takes.id ≡ Some (built_option o)
-by_id [] arguments o is = absurd cc
-by_id (c ∷ options) arguments o is = go (bytes_eq c.takes.id o.takes.id) is (by_id options arguments o)
+pub by_id : (options : List Choice) (switches arguments : List Parameter) (o : Choice) → option_named options o.takes.id ≡ Some o
+    → arg_by_id (all_rules options switches arguments) o.takes.id ≡ Some (built_option o)
+by_id [] switches arguments o is = absurd cc
+by_id (c ∷ options) switches arguments o is = go (bytes_eq c.takes.id o.takes.id) is (by_id options switches arguments o)
   where
     go : (t : Bool) → cond t (Some c) (option_named options o.takes.id) ≡ Some o
-        → (option_named options o.takes.id ≡ Some o → arg_by_id (all_rules options arguments) o.takes.id ≡ Some (built_option o))
-        → cond t (Some (built_option c)) (arg_by_id (all_rules options arguments) o.takes.id) ≡ Some (built_option o)
+        → (option_named options o.takes.id ≡ Some o → arg_by_id (all_rules options switches arguments) o.takes.id ≡ Some (built_option o))
+        → cond t (Some (built_option c)) (arg_by_id (all_rules options switches arguments) o.takes.id) ≡ Some (built_option o)
     go true is later = ap (λ x. Some (built_option x)) (same_Some c o is)
     go false is later = later is
 
@@ -155,10 +184,47 @@ apart_parts o options (a ∷ rest) h =
     let later = apart_parts o options rest parts.1 in
     (rw named later.0, rw others later.1)
 
--- so they are after all options
-pub all_ahead : (options : List Choice) (arguments : List Parameter) → 1 + length arguments ≤ usize_max → are_distinct arguments ≡ true → are_apart options arguments ≡ true
-    → Ahead (all_rules options arguments) 1 arguments
-all_ahead [] arguments few distinct apart = ahead 1 arguments few distinct
-all_ahead (o ∷ options) arguments few distinct apart =
+-- one of the switches has this name
+abbrev pub is_switch : List Parameter → Text → Bool
+is_switch switches name = list_any (λ (w : Parameter). bytes_eq w.id name) switches
+
+-- no argument has the name of a switch
+abbrev pub are_clear : List Parameter → List Parameter → Bool
+are_clear switches arguments = list_all (λ (a : Parameter). not (is_switch switches a.id)) arguments
+
+-- with one more switch before, the arguments are ahead still
+ahead_behind_switch : (w : Parameter) (rules : List Rule) (i : ℕ) (arguments : List Parameter) → are_clear (w ∷ []) arguments ≡ true
+    → Ahead rules i arguments → Ahead (built_switch w ∷ rules) i arguments
+ahead_behind_switch w rules i [] clear h = h
+ahead_behind_switch w rules i (a ∷ rest) clear h =
+    let parts = both _ _ clear in
+    let named : bytes_eq w.id a.id ≡ false = (or_parts _ _ (not_true _ parts.0)).0 in
+    (h.0, rw named h.1, ahead_behind_switch w rules (position_after i) rest parts.1 h.2)
+
+-- names clear of several switches are clear of the first, and of the others
+clear_parts : (w : Parameter) (switches : List Parameter) (arguments : List Parameter) → are_clear (w ∷ switches) arguments ≡ true
+    → (are_clear (w ∷ []) arguments ≡ true) × (are_clear switches arguments ≡ true)
+clear_parts w switches [] h = (refl, refl)
+clear_parts w switches (a ∷ rest) h =
+    let parts = both _ _ h in
+    let two = or_parts (bytes_eq w.id a.id) (is_switch switches a.id) (not_true _ parts.0) in
+    let named : bytes_eq w.id a.id ≡ false = two.0 in
+    let others : is_switch switches a.id ≡ false = two.1 in
+    let later = clear_parts w switches rest parts.1 in
+    (rw named later.0, rw others later.1)
+
+-- so they are after all switches
+switches_ahead : (switches arguments : List Parameter) → 1 + length arguments ≤ usize_max → are_distinct arguments ≡ true → are_clear switches arguments ≡ true
+    → Ahead (all_rules [] switches arguments) 1 arguments
+switches_ahead [] arguments few distinct clear = ahead 1 arguments few distinct
+switches_ahead (w ∷ switches) arguments few distinct clear =
+    let parts = clear_parts w switches arguments clear in
+    ahead_behind_switch w (all_rules [] switches arguments) 1 arguments parts.0 (switches_ahead switches arguments few distinct parts.1)
+
+-- and after all options
+pub all_ahead : (options : List Choice) (switches arguments : List Parameter) → 1 + length arguments ≤ usize_max → are_distinct arguments ≡ true
+    → are_clear switches arguments ≡ true → are_apart options arguments ≡ true → Ahead (all_rules options switches arguments) 1 arguments
+all_ahead [] switches arguments few distinct clear apart = switches_ahead switches arguments few distinct clear
+all_ahead (o ∷ options) switches arguments few distinct clear apart =
     let parts = apart_parts o options arguments apart in
-    ahead_behind_option o (all_rules options arguments) 1 arguments parts.0 (all_ahead options arguments few distinct parts.1)
+    ahead_behind_option o (all_rules options switches arguments) 1 arguments parts.0 (all_ahead options switches arguments few distinct clear parts.1)

@@ -1,12 +1,12 @@
 -- From what the parser found to what the words ask.
 use Rattle.std.proofs.Common.{◌≡◌, ◌≢◌, ◌⊎◌, ◌∙◌, ◌∷◌, ◌≤◌, ℕ, List, Option, Some, IfOk, IfErr, Result, Ok, Err}
-use Rattle.std.proofs.Common.{[], None, arith, sym, ap, ap₂, subst, inl, inr, codes, is_some, map, unwrap_or, refl, true, true≢false}
-use Rattle.std.specs.Prelude.{option_map}
-use Rattle.std.specs.Prelude.{IsUtf8, IfSome}
+use Rattle.std.proofs.Common.{[], None, Bool, cond, arith, sym, ap, ap₂, subst, inl, inr, codes, is_some, map, unwrap_or, refl, true, false, true≢false}
+use Rattle.std.specs.Prelude.{find, option_map, IsSomeAnd, IsUtf8, IfSome}
+use Rattle.std.specs.Str.{bytes_eq}
 use Rattle.std.specs.String.{string_bytes}
 use Rattle.std.specs.declared.string.String.{String}
-use Rattle.std.specs.List.{All, list_all, slice_index_or}
-use Rattle.std.proofs.lemmas.List.Elements.{All-head, All-map, All-tail}
+use Rattle.std.specs.List.{All, slice_index_or}
+use Rattle.std.proofs.lemmas.List.Elements.{All-map}
 use Rattle.std.proofs.lemmas.Option.{IfSome_then, same_Some}
 use Rattle.std.proofs.lemmas.Str.{IsUtf8-string_bytes}
 use Rattle.clap.specs.Words.{App, IsAmong, HasKind, HasMatchesOf, Row, fault_of, first_of, first_value, is_simple, is_simple_and_free, kind_of, one_of, one_text, rows_of, subcommand_name_of, subcommand_of, subcommand_rows_of}
@@ -17,23 +17,23 @@ use Rattle.clap.specs.declared.parser.matches.ArgMatches.{ArgMatches}
 use Rattle.clap.specs.declared.parser.matches.ArgMatches.TheViews.{out-ArgMatches}
 use Rattle.clap.specs.declared.parser.matches.Found.{Found}
 use Rattle.clap.proofs.WalkLemmas.{both, first_value-rows, one_text-rows}
-use Rattle.command_line.specs.Asked.{given as given_values}
 use Rattle.command_line.specs.Asked.{Asks, AsksAudit, AsksCompact, AsksHelp, AsksNoCommand, AsksPlan, AsksVersion, AsksWord, HasLawfulCounts, IsAnswerOf}
-use Rattle.command_line.specs.Forms.{Choice, Form, Parameter, audit_form, compact_form, fresh, mutators, next_form, number, plan_form, race_form, replay_form, run_form, standing, text, word_form, workers}
-use Rattle.command_line.specs.Given.{HasOption, IsCommandWith, IsNumber, IsNumberOr, Takes, text_given}
+use Rattle.command_line.specs.Forms.{Choice, Form, Parameter, audit_form, compact_form, fresh, large, mutators, next_form, number, plan_form, race_form, replay_form, run_form, standing, text, word_form, workers}
+use Rattle.command_line.specs.Given.{HasOption, HasSwitch, IsChosen, IsCommandWith, IsFlag, IsNumber, IsNumberOr, Takes, Use, is_among, text_given}
 use Rattle.command_line.specs.Finds.{IsRunRequest, IsRunFound}
 use Rattle.command_line.specs.Parser.{program}
 use Rattle.command_line.specs.Runs.{AsksRun, Run}
 use Rattle.command_line.specs.declared.words.Task.{Task}
 use Rattle.command_line.specs.declared.words.Task.TheVariants.{Plan, Word, Replay, Race, Compact, Audit, Next, Help, Version}
-use Rattle.command_line.proofs.Chosen.{chosen_fits}
-use Rattle.command_line.proofs.FormRules.{are_apart}
+use Rattle.command_line.proofs.Chosen.{HasArgument, among_used, argument_fits, argument_off, first_found, one_found, option_fits, option_off, switch_found}
+use Rattle.command_line.proofs.Firsts.{found_holds}
+use Rattle.command_line.proofs.FormLevel.{IsReadable}
+use Rattle.command_line.proofs.FormRules.{is_switch, same_text}
 use Rattle.command_line.proofs.KindLists.{some_kind}
 use Rattle.command_line.proofs.Parsed.{HasCommands, parsed, faulty, helped, standing_commands, versioned}
-use Rattle.command_line.proofs.Plain.{Pairs, plain_values, values_of}
-use Rattle.command_line.proofs.Settled.{first_found, is_whole, one_found, row}
+use Rattle.command_line.proofs.Settled.{is_used, row}
+use Rattle.command_line.proofs.SwitchRows.{with_switches}
 use Rattle.command_line.proofs.TopLevel.{IsCommand, IsOneOf, IsProgram, one_of_these, same_form, standing_program}
-use Rattle.command_line.proofs.Uses.{Use}
 
 -- the bytes of texts are UTF-8
 pub texts_utf8 : {Z : Type 0} (xs : List (String Z)) → All IsUtf8 (map string_bytes xs)
@@ -70,78 +70,123 @@ pub none_entered : (m : ArgMatches) (o : Entered) → subcommand_rows_of m ≡ o
 none_entered m o is none = sym is ∙ no_parts (out-ArgMatches m).subcommand _ _ none
 
 -- the command was asked with what was given, and its rows were found
-abbrev pub CommandAsked : List (List ℕ) → Found → Form → Type 0
-CommandAsked words f form = (given : List Use) × (rows_of f ≡ map row given) × IsCommandWith form words given
+pub record CommandAsked (words : List (List ℕ)) (f : Found) (form : Form) : Type 0 where
+  pub readable : IsReadable form
+  pub given : List Use
+  pub rows : rows_of f ≡ with_switches form.switches (map row given)
+  pub is_command : IsCommandWith form words given
 
 -- if a command was entered, it was asked with what was given
 pub command_asked : (forms : List Form) → IsProgram forms → (form : Form) → IsCommand forms form → (words : List (List ℕ)) (f : Found) → All IsUtf8 words
     → fault_of (program forms) words ≡ [] → subcommand_of (program forms) words ≡ Some (form.name, rows_of f) → CommandAsked words f form
 command_asked forms is form command words f utf8 taken found =
     let p = parsed forms is words utf8 taken in
-    let same : p.form ≡ form = same_form forms p.form form p.is_command command (same_name _ p.form.name form.name (map row p.given) (rows_of f) p.found found) in
-    let read : CommandAsked words f p.form = (p.given, same_rows _ form.name p.form.name (rows_of f) (map row p.given) found p.found, p.are_command) in
+    let mine : List Row = with_switches p.form.switches (map row p.given) in
+    let same : p.form ≡ form = same_form forms p.form form p.is_command command (same_name _ p.form.name form.name mine (rows_of f) p.found found) in
+    let read : CommandAsked words f p.form = record {
+      readable = p.is_command.is_readable;
+      given = p.given;
+      rows = same_rows _ form.name p.form.name (rows_of f) mine found p.found;
+      is_command = p.are_command;
+    } in
     subst (CommandAsked words f) same read
 
-module _ (f : Found) (given : List Use) (rows : rows_of f ≡ map row given) where
-  -- what is read of a name is what is given to it
-  pub text_is : (id : List ℕ) → first_value f id ≡ text_given id given
-  text_is id = first_value-rows f id ∙ ap (first_of id) rows ∙ first_found id given
+-- ---- what was found of a command
 
-  pub number_is : (id : List ℕ) → one_text f id ≡ text_given id given
-  number_is id = one_text-rows f id ∙ ap (one_of id) rows ∙ one_found id given
+module _ (words : List (List ℕ)) (f : Found) (form : Form) (asked : CommandAsked words f form) where
+  -- what is read under a name that no switch has is what is given under it
+  text_is : (id : List ℕ) → is_switch form.switches id ≡ false → first_value f id ≡ text_given id asked.given
+  text_is id none = first_value-rows f id ∙ ap (first_of id) asked.rows ∙ first_found form asked.is_command.gives id none
 
-  -- there is one if it is given
-  pub text_there : (id : List ℕ) → is_some (text_given id given) ≡ true → is_some (first_value f id) ≡ true
-  text_there id there = ap (λ (o : Option (List ℕ)). is_some o) (text_is id) ∙ there
+  number_is : (id : List ℕ) → is_switch form.switches id ≡ false → one_text f id ≡ text_given id asked.given
+  number_is id none = one_text-rows f id ∙ ap (one_of id) asked.rows ∙ one_found form asked.is_command.gives id none
+
+  -- each argument was found
+  pub argument_there : (a : Parameter) → HasArgument form a → is_some (first_value f a.id) ≡ true
+  argument_there a has = ap (λ (o : Option (List ℕ)). is_some o) (text_is a.id (argument_off form asked.readable a has))
+      ∙ found_holds (λ (x : Parameter). bytes_eq x.id a.id) (λ (x : Parameter). is_some (text_given x.id asked.given)) form.arguments a asked.is_command.whole has
+
+  -- and it is the one that was given
+  pub argument_reported : (a : Parameter) → HasArgument form a → (path : List ℕ) → Some path ≡ first_value f a.id → text_given a.id asked.given ≡ Some path
+  argument_reported a has path h = sym (h ∙ text_is a.id (argument_off form asked.readable a has))
+
+  -- so is a number, which is one that the argument takes
+  pub number_reported : (a : Parameter) → HasArgument form a → one_text f a.id ≡ text_given a.id asked.given
+  number_reported a has = number_is a.id (argument_off form asked.readable a has)
+
+  pub number_fits : (a : Parameter) → HasArgument form a → IfSome (text_given a.id asked.given) (Takes a)
+  number_fits a has = argument_fits form asked.readable asked.is_command.gives a has asked.is_command.fit
+
+  pub number_there : (a : Parameter) → HasArgument form a → is_some (text_given a.id asked.given) ≡ true
+  number_there a has = found_holds (λ (x : Parameter). bytes_eq x.id a.id) (λ (x : Parameter). is_some (text_given x.id asked.given)) form.arguments a asked.is_command.whole has
+
+  -- the text that is given to an option is one that it takes
+  pub choice_fits : (o : Choice) → HasOption form o → IfSome (one_text f o.takes.id) (Takes o.takes)
+  choice_fits o has = subst (λ (r : Option (List ℕ)). IfSome r (Takes o.takes)) (sym (number_is o.takes.id (option_off form asked.readable asked.is_command.gives o has)))
+      (option_fits form asked.readable asked.is_command.gives o has asked.is_command.fit)
+
+  -- its number is the one that was read
+  pub choice_reported : (o : Choice) → HasOption form o → (n : ℕ) → IsNumberOr o.default (one_text f o.takes.id) n → IsChosen o asked.given n
+  choice_reported o has n h = subst (λ (r : Option (List ℕ)). IsNumberOr o.default r n) (number_is o.takes.id (option_off form asked.readable asked.is_command.gives o has)) h
+
+  -- a switch is true if and only if it is given
+  pub switch_reported : (w : Parameter) → form.switches ≡ w ∷ [] → (b : Bool) → IsFlag (one_text f w.id) b → b ≡ is_among w.id asked.given
+  switch_reported w is b flag = go (is_used w.id asked.given) refl ∙ sym (among_used w.id asked.given)
+    where
+      has : HasSwitch form w
+      has = ap (λ (ws : List Parameter). find (λ (x : Parameter). bytes_eq x.id w.id) ws) is ∙ rw (same_text w.id) refl
+
+      found : one_text f w.id ≡ Some (cond (is_used w.id asked.given) (codes "true") (codes "false"))
+      found = one_text-rows f w.id ∙ ap (one_of w.id) (asked.rows ∙ ap (λ (ws : List Parameter). with_switches ws (map row asked.given)) is)
+          ∙ switch_found form asked.readable asked.is_command.gives w has
+
+      go : (t : Bool) → is_used w.id asked.given ≡ t → b ≡ is_used w.id asked.given
+      go true e = flag.0 (found ∙ rw e refl) ∙ sym e
+      go false e = flag.1 (found ∙ rw e refl) ∙ sym e
 
 -- ---- `plan` and `word`
 
--- what was found if the words are `plan`: a path, which they ask for
-abbrev pub PlanAsked : List (List ℕ) → Found → Type 0
-PlanAsked words f = (path : List ℕ) × (first_value f (codes "IMAGE") ≡ Some path) × AsksPlan words path
+-- the words are `plan`, with the path that was found
+pub plan_asked : (words : List (List ℕ)) (f : Found) → CommandAsked words f plan_form → (image : List ℕ) (b : Bool) → Some image ≡ first_value f (codes "IMAGE")
+    → IsFlag (one_text f (codes "large")) b → AsksPlan words image b
+plan_asked words f asked image b at_image flag = record {
+  uses = asked.given;
+  is_command = asked.is_command;
+  with_image = argument_reported words f plan_form asked (text (codes "IMAGE")) refl image at_image;
+  with_large = switch_reported words f plan_form asked large refl b flag;
+}
 
-pub plan_asked : (words : List (List ℕ)) (f : Found) → CommandAsked words f plan_form → PlanAsked words f
-plan_asked words f (given, rows, asks) =
-    let plain = plain_values plan_form refl asks.gives in
-    go given rows asks.rest asks.begin plain.0 plain.1 asks.whole
-  where
-    go : (us : List Use) → rows_of f ≡ map row us → (rest : List (List ℕ)) → words ≡ codes "plan" ∷ rest → given_values rest ≡ Some (values_of plan_form us)
-        → Pairs (text (codes "IMAGE") ∷ []) (values_of plan_form us) us → is_whole plan_form us ≡ true → PlanAsked words f
-    go [] rows rest is values pairs whole = absurd (true≢false (sym whole))
-    go (u ∷ []) rows rest is values pairs whole =
-        (u.1, text_is f (u ∷ []) rows (codes "IMAGE") ∙ ap (λ (x : Use). text_given (codes "IMAGE") (x ∷ [])) pairs.0, (rest, is, values))
-    go (u ∷ v ∷ us) rows rest is values pairs whole = absurd pairs.1
+module _ (words : List (List ℕ)) (f : Found) (asked : CommandAsked words f word_form) where
+  -- a number was found as the index
+  pub index_there : IsSomeAnd (one_text f (codes "INDEX")) (λ digits. (n : ℕ) × IsNumber digits n)
+  index_there = go (text_given (codes "INDEX") asked.given) (number_reported words f word_form asked (number (codes "INDEX")) refl)
+      (number_there words f word_form asked (number (codes "INDEX")) refl) (number_fits words f word_form asked (number (codes "INDEX")) refl)
+    where
+      go : (o : Option (List ℕ)) → one_text f (codes "INDEX") ≡ o → is_some o ≡ true → IfSome o (Takes (number (codes "INDEX")))
+          → IsSomeAnd (one_text f (codes "INDEX")) (λ digits. (n : ℕ) × IsNumber digits n)
+      go None is there fits = absurd (true≢false (sym there))
+      go (Some digits) is there fits = rw is (fits.0, fits.1)
 
--- what was found if the words are `word`: a path and an index, which they ask for
-abbrev pub WordAsked : List (List ℕ) → Found → Type 0
-WordAsked words f = (path : List ℕ) × (digits : List ℕ) × (first_value f (codes "IMAGE") ≡ Some path) × (one_text f (codes "INDEX") ≡ Some digits)
-    × ((n : ℕ) × IsNumber digits n) × ((n : ℕ) → IsNumber digits n → AsksWord words path n)
+  -- the words are `word`, with the path and the index that were found
+  pub word_asked : (image : List ℕ) (index : ℕ) (b : Bool) → Some image ≡ first_value f (codes "IMAGE") → IfSome (one_text f (codes "INDEX")) (λ digits. IsNumber digits index)
+      → IsFlag (one_text f (codes "large")) b → AsksWord words image index b
+  word_asked image index b at_image at_index flag = go (text_given (codes "INDEX") asked.given) refl (number_there words f word_form asked (number (codes "INDEX")) refl)
+    where
+      go : (o : Option (List ℕ)) → text_given (codes "INDEX") asked.given ≡ o → is_some o ≡ true → AsksWord words image index b
+      go None is there = absurd (true≢false (sym there))
+      go (Some digits) is there =
+          let read : one_text f (codes "INDEX") ≡ Some digits = number_reported words f word_form asked (number (codes "INDEX")) refl ∙ is in
+          record {
+            uses = asked.given;
+            is_command = asked.is_command;
+            with_image = argument_reported words f word_form asked (text (codes "IMAGE")) refl image at_image;
+            digits = digits;
+            with_digits = is;
+            with_index = subst (λ (r : Option (List ℕ)). IfSome r (λ text. IsNumber text index)) read at_index;
+            with_large = switch_reported words f word_form asked large refl b flag;
+          }
 
-pub word_asked : (words : List (List ℕ)) (f : Found) → CommandAsked words f word_form → WordAsked words f
-word_asked words f (given, rows, asks) =
-    let plain = plain_values word_form refl asks.gives in
-    go given rows asks.rest asks.begin plain.0 plain.1 asks.whole asks.fit
-  where
-    go : (us : List Use) → rows_of f ≡ map row us → (rest : List (List ℕ)) → words ≡ codes "word" ∷ rest → given_values rest ≡ Some (values_of word_form us)
-        → Pairs (text (codes "IMAGE") ∷ number (codes "INDEX") ∷ []) (values_of word_form us) us → is_whole word_form us ≡ true → All (λ (g : Use). Takes g.0 g.1) us → WordAsked words f
-    go [] rows rest is values pairs whole fit = absurd (true≢false (sym whole))
-    go (u ∷ []) rows rest is values pairs whole fit =
-        absurd (true≢false (sym whole ∙ ap (λ (x : Use). is_whole word_form (x ∷ [])) pairs.0))
-    go (u ∷ v ∷ []) rows rest is values pairs whole fit =
-        let takes : Takes (number (codes "INDEX")) v.1 =
-        subst (λ (x : Use). Takes x.0 x.1) pairs.1.0 (All-head (λ (g : Use). Takes g.0 g.1) v [] (All-tail (λ (g : Use). Takes g.0 g.1) u (v ∷ []) fit)) in
-        let both : List Use = (text (codes "IMAGE"), u.1) ∷ (number (codes "INDEX"), v.1) ∷ [] in
-        let same : u ∷ v ∷ [] ≡ both = ap (λ (x : Use). x ∷ v ∷ []) pairs.0 ∙ ap (λ (x : Use). (text (codes "IMAGE"), u.1) ∷ x ∷ []) pairs.1.0 in (
-          u.1,
-          v.1,
-          text_is f (u ∷ v ∷ []) rows (codes "IMAGE") ∙ ap (text_given (codes "IMAGE")) same,
-          number_is f (u ∷ v ∷ []) rows (codes "INDEX") ∙ ap (text_given (codes "INDEX")) same,
-          (takes.0, takes.1),
-          λ n h. (v.1, h, (rest, is, values)),
-        )
-    go (u ∷ v ∷ w ∷ us) rows rest is values pairs whole fit = absurd pairs.1.1
-
--- ---- commands with options
+-- ---- numbers of options
 
 -- the number of an option is within the bounds of the texts that it takes, if its default is
 pub within_bounds : (text : Option (List ℕ)) (default low high n : ℕ) → low ≤ default → default ≤ high
@@ -150,36 +195,6 @@ within_bounds None default low high n least most takes is = (subst (λ k. low �
 within_bounds (Some digits) default low high n least most (m, number, above, below) is =
     let same : m ≡ n = number.value ∙ sym is.value in
     (subst (λ k. low ≤ k) same above, subst (λ k. k ≤ high) same below)
-
-module _ (words : List (List ℕ)) (f : Found) (form : Form) (asked : CommandAsked words f form) where
-  -- the text that is given to an option is one that it takes
-  pub choice_fits : (o : Choice) → HasOption form o → are_apart form.options form.arguments ≡ true → IfSome (one_text f o.takes.id) (Takes o.takes)
-  choice_fits o has apart =
-      subst (λ (r : Option (List ℕ)). IfSome r (Takes o.takes)) (sym (number_is f asked.0 asked.1 o.takes.id)) (chosen_fits form o has asked.2.gives apart asked.2.fit)
-
-  -- its number is the one that was read
-  pub choice_reported : (id : List ℕ) (default n : ℕ) → IsNumberOr default (one_text f id) n → IsNumberOr default (text_given id asked.0) n
-  choice_reported id default n h = subst (λ (r : Option (List ℕ)). IsNumberOr default r n) (number_is f asked.0 asked.1 id) h
-
-  -- and so is a path
-  pub path_reported : (id path : List ℕ) → Some path ≡ first_value f id → text_given id asked.0 ≡ Some path
-  path_reported id path h = sym (h ∙ text_is f asked.0 asked.1 id)
-
--- each of three paths, or of two, was found
-pub three_paths : (words : List (List ℕ)) (f : Found) (form : Form) → (asked : CommandAsked words f form) → (a b c : Parameter) → form.arguments ≡ a ∷ b ∷ c ∷ []
-    → (is_some (first_value f a.id) ≡ true) × (is_some (first_value f b.id) ≡ true) × (is_some (first_value f c.id) ≡ true)
-three_paths words f form (given, rows, asks) a b c is =
-    let one = both _ _ (ap (λ (ps : List Parameter). list_all (λ (p : Parameter). is_some (text_given p.id given)) ps) (sym is) ∙ asks.whole) in
-    let two = both _ _ one.1 in
-    let three = both _ _ two.1 in
-    (text_there f given rows a.id one.0, text_there f given rows b.id two.0, text_there f given rows c.id three.0)
-
-pub two_paths : (words : List (List ℕ)) (f : Found) (form : Form) → (asked : CommandAsked words f form) → (a b : Parameter) → form.arguments ≡ a ∷ b ∷ []
-    → (is_some (first_value f a.id) ≡ true) × (is_some (first_value f b.id) ≡ true)
-two_paths words f form (given, rows, asks) a b is =
-    let one = both _ _ (ap (λ (ps : List Parameter). list_all (λ (p : Parameter). is_some (text_given p.id given)) ps) (sym is) ∙ asks.whole) in
-    let two = both _ _ one.1 in
-    (text_there f given rows a.id one.0, text_there f given rows b.id two.0)
 
 -- a text that an option takes is a number
 pub bounded_number : (low high : ℕ) (o : Option (List ℕ)) → IfSome o (λ text. (n : ℕ) × IsNumber text n × (low ≤ n) × (n ≤ high))
@@ -191,26 +206,25 @@ bounded_number low high o h = IfSome_then o h (λ text takes. (takes.0, takes.1)
 module _ (words : List (List ℕ)) (f : Found) (name : List ℕ) (asked : CommandAsked words f (run_form name)) where
   -- a run is found if this command is asked for
   pub run_found : IsRunRequest f
-  run_found =
-      let paths = three_paths words f (run_form name) asked (text (codes "IMAGE")) (text (codes "TRACE")) (text (codes "DUMP")) refl in
-      record {
-        has_image = paths.0;
-        has_trace = paths.1;
-        has_dump = paths.2;
-        fits_mutators = choice_fits words f (run_form name) asked mutators refl refl;
-        fits_fresh = choice_fits words f (run_form name) asked fresh refl refl;
-      }
+  run_found = record {
+    has_image = argument_there words f (run_form name) asked (text (codes "IMAGE")) refl;
+    has_trace = argument_there words f (run_form name) asked (text (codes "TRACE")) refl;
+    has_dump = argument_there words f (run_form name) asked (text (codes "DUMP")) refl;
+    fits_mutators = choice_fits words f (run_form name) asked mutators refl;
+    fits_fresh = choice_fits words f (run_form name) asked fresh refl;
+  }
 
   -- and it is what the words ask
   pub run_asked : (run : Run) → IsRunFound f run → AsksRun name words run
   run_asked run is = record {
-    texts = asked.0;
-    is_command = asked.2;
-    with_image = path_reported words f (run_form name) asked (codes "IMAGE") run.image is.image_is;
-    with_trace = path_reported words f (run_form name) asked (codes "TRACE") run.trace is.trace_is;
-    with_dump = path_reported words f (run_form name) asked (codes "DUMP") run.dump is.dump_is;
-    with_mutators = choice_reported words f (run_form name) asked (codes "mutators") 2 run.count is.mutators_are;
-    with_fresh = choice_reported words f (run_form name) asked (codes "fresh") 64 run.pages is.fresh_are;
+    uses = asked.given;
+    is_command = asked.is_command;
+    with_image = argument_reported words f (run_form name) asked (text (codes "IMAGE")) refl run.image is.image_is;
+    with_trace = argument_reported words f (run_form name) asked (text (codes "TRACE")) refl run.trace is.trace_is;
+    with_dump = argument_reported words f (run_form name) asked (text (codes "DUMP")) refl run.dump is.dump_is;
+    with_mutators = choice_reported words f (run_form name) asked mutators refl run.count is.mutators_are;
+    with_fresh = choice_reported words f (run_form name) asked fresh refl run.pages is.fresh_are;
+    with_large = switch_reported words f (run_form name) asked large refl run.large is.large_is;
   }
 
 -- ---- `compact`
@@ -218,44 +232,36 @@ module _ (words : List (List ℕ)) (f : Found) (name : List ℕ) (asked : Comman
 module _ (words : List (List ℕ)) (f : Found) (asked : CommandAsked words f compact_form) where
   -- what `--workers` takes was found, if anything
   pub workers_fit : IfSome (one_text f (codes "workers")) (Takes workers.takes)
-  workers_fit = choice_fits words f compact_form asked workers refl refl
+  workers_fit = choice_fits words f compact_form asked workers refl
 
   -- the number that was read is within the bounds
   pub workers_within : (n : ℕ) → IsNumberOr 2 (one_text f (codes "workers")) n → (1 ≤ n) × (n ≤ 64)
   workers_within n h = within_bounds (one_text f (codes "workers")) 2 1 64 n (omega arith) (omega arith) workers_fit h
 
   -- and the words are `compact`, with these paths and this number
-  pub compact_asked : (image dump : List ℕ) (n : ℕ) → Some image ≡ first_value f (codes "IMAGE") → Some dump ≡ first_value f (codes "DUMP")
-      → IsNumberOr 2 (one_text f (codes "workers")) n → AsksCompact words image dump n
-  compact_asked image dump n at_image at_dump h = (
-    asked.0,
-    asked.2,
-    path_reported words f compact_form asked (codes "IMAGE") image at_image,
-    path_reported words f compact_form asked (codes "DUMP") dump at_dump,
-    choice_reported words f compact_form asked (codes "workers") 2 n h,
-  )
+  pub compact_asked : (image dump : List ℕ) (n : ℕ) (b : Bool) → Some image ≡ first_value f (codes "IMAGE") → Some dump ≡ first_value f (codes "DUMP")
+      → IsNumberOr 2 (one_text f (codes "workers")) n → IsFlag (one_text f (codes "large")) b → AsksCompact words image dump n b
+  compact_asked image dump n b at_image at_dump h flag = record {
+    uses = asked.given;
+    is_command = asked.is_command;
+    with_image = argument_reported words f compact_form asked (text (codes "IMAGE")) refl image at_image;
+    with_dump = argument_reported words f compact_form asked (text (codes "DUMP")) refl dump at_dump;
+    with_workers = choice_reported words f compact_form asked workers refl n h;
+    with_large = switch_reported words f compact_form asked large refl b flag;
+  }
 
 -- ---- `audit`
 
 -- the words are `audit`, with the paths that were found
-pub audit_asked : (words : List (List ℕ)) (f : Found) → CommandAsked words f audit_form → (image dump : List ℕ) → Some image ≡ first_value f (codes "IMAGE")
-    → Some dump ≡ first_value f (codes "DUMP") → AsksAudit words image dump
-audit_asked words f (given, rows, asks) image dump at_image at_dump =
-    let plain = plain_values audit_form refl asks.gives in
-    go given rows asks.rest asks.begin plain.0 plain.1 asks.whole
-  where
-    go : (us : List Use) → rows_of f ≡ map row us → (rest : List (List ℕ)) → words ≡ codes "audit" ∷ rest → given_values rest ≡ Some (values_of audit_form us)
-        → Pairs (text (codes "IMAGE") ∷ text (codes "DUMP") ∷ []) (values_of audit_form us) us → is_whole audit_form us ≡ true → AsksAudit words image dump
-    go [] rows rest is values pairs whole = absurd (true≢false (sym whole))
-    go (u ∷ []) rows rest is values pairs whole =
-        absurd (true≢false (sym whole ∙ ap (λ (x : Use). is_whole audit_form (x ∷ [])) pairs.0))
-    go (u ∷ v ∷ []) rows rest is values pairs whole =
-        let both : List Use = (text (codes "IMAGE"), u.1) ∷ (text (codes "DUMP"), v.1) ∷ [] in
-        let same : u ∷ v ∷ [] ≡ both = ap (λ (x : Use). x ∷ v ∷ []) pairs.0 ∙ ap (λ (x : Use). (text (codes "IMAGE"), u.1) ∷ x ∷ []) pairs.1.0 in
-        let image_is : image ≡ u.1 = same_Some _ _ (at_image ∙ text_is f (u ∷ v ∷ []) rows (codes "IMAGE") ∙ ap (text_given (codes "IMAGE")) same) in
-        let dump_is : dump ≡ v.1 = same_Some _ _ (at_dump ∙ text_is f (u ∷ v ∷ []) rows (codes "DUMP") ∙ ap (text_given (codes "DUMP")) same) in
-        (rest, is, values ∙ ap₂ (λ (a b : List ℕ). Some (a ∷ b ∷ [])) (sym image_is) (sym dump_is))
-    go (u ∷ v ∷ w ∷ us) rows rest is values pairs whole = absurd pairs.1.1
+pub audit_asked : (words : List (List ℕ)) (f : Found) → CommandAsked words f audit_form → (image dump : List ℕ) (b : Bool) → Some image ≡ first_value f (codes "IMAGE")
+    → Some dump ≡ first_value f (codes "DUMP") → IsFlag (one_text f (codes "large")) b → AsksAudit words image dump b
+audit_asked words f asked image dump b at_image at_dump flag = record {
+  uses = asked.given;
+  is_command = asked.is_command;
+  with_image = argument_reported words f audit_form asked (text (codes "IMAGE")) refl image at_image;
+  with_dump = argument_reported words f audit_form asked (text (codes "DUMP")) refl dump at_dump;
+  with_large = switch_reported words f audit_form asked large refl b flag;
+}
 
 -- ---- nothing else is found
 
@@ -264,7 +270,7 @@ pub entered_one : (forms : List Form) → IsProgram forms → (words : List (Lis
     → (form : Form) × (rows : List Row) × IsOneOf forms form × (o ≡ Some (form.name, rows))
 entered_one forms is words o utf8 taken found =
     let p = parsed forms is words utf8 taken in
-    (p.form, map row p.given, one_of_these forms p.form p.is_command, sym found ∙ p.found)
+    (p.form, with_switches p.form.switches (map row p.given), one_of_these forms p.form p.is_command, sym found ∙ p.found)
 
 -- each row, by its name
 abbrev pub EnteredAs : Entered → Form → Type 0
@@ -319,12 +325,12 @@ found_at forms is a words m e h =
 
 -- an answer in place of a command has no counts
 pub answer_counts : (error : Error) (r : Result Task Error) → IfOk r (IsAnswerOf (kind_of error)) → IfOk r HasLawfulCounts
-answer_counts error (Ok (Plan image)) answer = _
-answer_counts error (Ok (Word image index)) answer = _
+answer_counts error (Ok (Plan image b)) answer = _
+answer_counts error (Ok (Word image index b)) answer = _
 answer_counts error (Ok (Replay run)) answer = absurd answer
 answer_counts error (Ok (Race run)) answer = absurd answer
-answer_counts error (Ok (Compact image dump n)) answer = absurd answer
-answer_counts error (Ok (Audit image dump)) answer = _
+answer_counts error (Ok (Compact image dump n b)) answer = absurd answer
+answer_counts error (Ok (Audit image dump b)) answer = _
 answer_counts error (Ok (Next next)) answer = absurd answer
 answer_counts error (Ok (Help text)) answer = _
 answer_counts error (Ok Version) answer = _
@@ -341,12 +347,12 @@ module _ (forms : List Form) (is : IsProgram forms) (has : HasCommands forms) (w
 
   -- a text of help, and the version, is what the words ask
   pub answer_reported : (error : Error) (r : Result Task Error) → HasKind (fault_of (program forms) words) error → IfOk r (IsAnswerOf (kind_of error)) → IfOk r (Asks words)
-  answer_reported error (Ok (Plan image)) kind answer = absurd answer
-  answer_reported error (Ok (Word image index)) kind answer = absurd answer
+  answer_reported error (Ok (Plan image b)) kind answer = absurd answer
+  answer_reported error (Ok (Word image index b)) kind answer = absurd answer
   answer_reported error (Ok (Replay run)) kind answer = absurd answer
   answer_reported error (Ok (Race run)) kind answer = absurd answer
-  answer_reported error (Ok (Compact image dump n)) kind answer = absurd answer
-  answer_reported error (Ok (Audit image dump)) kind answer = absurd answer
+  answer_reported error (Ok (Compact image dump n b)) kind answer = absurd answer
+  answer_reported error (Ok (Audit image dump b)) kind answer = absurd answer
   answer_reported error (Ok (Next next)) kind answer = absurd answer
   answer_reported error (Ok (Help text)) kind answer = help_asked (among_kinds _ error DisplayHelp kind answer (λ e. cc))
   answer_reported error (Ok Version) kind answer = version_asked (among_kinds _ error DisplayVersion kind answer (λ e. cc))

@@ -142,7 +142,18 @@ module _ (s : Shape) (rows : List Row) (pending : Option (Text × List Text)) (p
   unfolding walked
   option_place name read found takes = rw (dashes, read, found, takes) refl
 
--- the word after it is its text, if it is no flag
+  -- a switch is used at once, after what is pending
+  pub switch_turn : (name : Text) → long_of word ≡ Some (name, None) → arg_by_long s.rules name ≡ Some a → takes_values a ≡ false
+      → turn_fault s [] (at rows pending position false) word
+      ≡ or_else (settle_fault s.rules s.args_override_self (holding rows pending)) (use_fault s.args_override_self a [] (settled_rows s.rules pending rows))
+  switch_turn name read found takes = rw (dashes, read, found, takes) (or_else_nil _)
+
+  pub switch_place : (name : Text) → long_of word ≡ Some (name, None) → arg_by_long s.rules name ≡ Some a → takes_values a ≡ false
+      → walked s.rules [] (at rows pending position false) word ≡ at (used a [] (settled_rows s.rules pending rows)) None position false
+  unfolding walked
+  switch_place name read found takes = rw (dashes, read, found, takes) refl
+
+-- the word after an option is its text, if it is no flag
 module _ (s : Shape) (rows : List Row) (id : Text) (position : ℕ) (word : Text) (flag : is_flag word ≡ false) where
   pub text_turn : turn_fault s [] (waiting_for rows id position) word ≡ []
   text_turn = let none = plain_read word flag in rw (plain_ends_nothing word flag, none.0, none.1) refl

@@ -1,19 +1,18 @@
 -- What the words ask, by what clap makes of them.
-use Rattle.std.proofs.Common.{◌≡◌, ◌∙◌, ◌≤◌, ◌<◌, ◌^◌, ℕ, suc, true, List, [], ◌∷◌, Some, All, Any, IsUtf8, arith, ap, codes, inl, inr, map, refl, subst, sym, zero-le}
+use Rattle.std.proofs.Common.{◌≡◌, ◌∙◌, suc, true, List, [], ◌∷◌, Some, All, Any, IsUtf8, arith, ap, inl, inr, map, refl, subst, sym}
 use Rattle.std.proofs.lemmas.List.Elements.{All-tail}
 use Rattle.clap.specs.Words.{IsAmong, Text, fault_of, subcommand_of}
 use Rattle.clap.specs.declared.error.kind.ErrorKind.TheVariants.{DisplayHelp, DisplayVersion}
-use Rattle.command_line.specs.Asked.{AreCommand, AsksNoCommand, is_help, is_version}
-use Rattle.command_line.specs.Forms.{Form, audit_form, compact_form, next_form, number, plan_form, race_form, replay_form, standing, text, word_form}
-use Rattle.command_line.specs.Given.{IsCommandWith, IsNumber, Takes}
+use Rattle.command_line.specs.Asked.{AsksNoCommand, is_help, is_version}
+use Rattle.command_line.specs.Forms.{Form, audit_form, compact_form, next_form, plan_form, race_form, replay_form, standing, word_form}
+use Rattle.command_line.specs.Given.{IsCommandWith, Use}
 use Rattle.command_line.specs.Parser.{program}
-use Rattle.std.proofs.lemmas.List.Elements.{All-cons, All-nil}
+use Rattle.command_line.proofs.Chosen.{texts_used}
 use Rattle.command_line.proofs.FormLevel.{FormTaken, form_help, form_no_version, form_taken, form_takes}
 use Rattle.command_line.proofs.Levels.{level, shape}
-use Rattle.command_line.proofs.Plain.{pairs_give}
 use Rattle.command_line.proofs.Settled.{AreFresh, row}
 use Rattle.command_line.proofs.TopLevel.{BeginWith, Decided, IsCommand, IsProgram, command_first, command_found, first_decides, standing_audit, standing_compact, standing_next, standing_plan, standing_race, standing_replay, standing_word}
-use Rattle.command_line.proofs.Uses.{Use}
+use Rattle.command_line.proofs.SwitchRows.{with_switches}
 
 -- ---- words
 
@@ -22,7 +21,7 @@ pub record FoundCommand (forms : List Form) (words : List Text) : Type 0 where
   pub form : Form
   pub is_command : IsCommand forms form
   pub given : List Use
-  pub found : subcommand_of (program forms) words ≡ Some (form.name, map row given)
+  pub found : subcommand_of (program forms) words ≡ Some (form.name, with_switches form.switches (map row given))
   pub are_command : IsCommandWith form words given
 
 -- the words after the first are texts too
@@ -52,7 +51,14 @@ module _ (forms : List Form) (form : Form) (command : IsCommand forms form) (wor
         is_command = command;
         given = taken.given;
         found = ap (subcommand_of (program forms)) is ∙ command_found forms form command rest ∙ ap (λ rows. Some (form.name, rows)) taken.found;
-        are_command = record { rest = rest; begin = is; gives = taken.gives; once = taken.well.once; fit = taken.well.fit; whole = taken.well.whole };
+        are_command = record {
+          rest = rest;
+          begin = is;
+          gives = taken.gives;
+          once = taken.well.once;
+          fit = taken.well.fit;
+          whole = texts_used form taken.gives form.arguments command.is_readable.clear ∙ taken.well.whole;
+        };
       }
 
   -- and the answer is help only if one of them asks for it
@@ -69,55 +75,6 @@ module _ (forms : List Form) (form : Form) (command : IsCommand forms form) (wor
 none_before : (us : List Use) → AreFresh [] us
 none_before [] = tt
 none_before (u ∷ us) = (refl, none_before us)
-
--- a path is any text
-any_path : (id path : Text) → Takes (text id) path
-any_path id path = _
-
--- a number of 64 bits is at most the greatest
-within_u64 : (n : ℕ) → n < 2 ^ 64 → n ≤ 18446744073709551615
-within_u64 n h = omega arith
-
--- a number takes its digits
-number_taken : (id digits : Text) (n : ℕ) → IsNumber digits n → Takes (number id) digits
-number_taken id digits n h = (n, h, zero-le, within_u64 n h.fits)
-
--- `plan IMAGE`, `word IMAGE INDEX` and `audit IMAGE DUMP` are their commands, with what is given
-plan_given : (words : List Text) (path : Text) → AreCommand (codes "plan") (path ∷ []) words → IsCommandWith plan_form words ((text (codes "IMAGE"), path) ∷ [])
-plan_given words path (rest, is, given) = record {
-  rest = rest;
-  begin = is;
-  gives = pairs_give plan_form rest (path ∷ []) given (text (codes "IMAGE") ∷ []) ((text (codes "IMAGE"), path) ∷ []) (refl, refl);
-  once = refl;
-  fit = All-cons (λ (g : Use). Takes g.0 g.1) (text (codes "IMAGE"), path) [] (any_path (codes "IMAGE") path) (All-nil (λ (g : Use). Takes g.0 g.1));
-  whole = refl;
-}
-
-word_given : (words : List Text) (path digits : Text) (n : ℕ) → IsNumber digits n → AreCommand (codes "word") (path ∷ digits ∷ []) words
-    → IsCommandWith word_form words ((text (codes "IMAGE"), path) ∷ (number (codes "INDEX"), digits) ∷ [])
-word_given words path digits n h (rest, is, given) = record {
-  rest = rest;
-  begin = is;
-  gives = pairs_give word_form rest (path ∷ digits ∷ []) given (text (codes "IMAGE") ∷ number (codes "INDEX") ∷ [])
-      ((text (codes "IMAGE"), path) ∷ (number (codes "INDEX"), digits) ∷ []) (refl, (refl, refl));
-  once = refl;
-  fit = All-cons (λ (g : Use). Takes g.0 g.1) (text (codes "IMAGE"), path) ((number (codes "INDEX"), digits) ∷ []) (any_path (codes "IMAGE") path)
-      (All-cons (λ (g : Use). Takes g.0 g.1) (number (codes "INDEX"), digits) [] (number_taken (codes "INDEX") digits n h) (All-nil (λ (g : Use). Takes g.0 g.1)));
-  whole = refl;
-}
-
-audit_given : (words : List Text) (image dump : Text) → AreCommand (codes "audit") (image ∷ dump ∷ []) words
-    → IsCommandWith audit_form words ((text (codes "IMAGE"), image) ∷ (text (codes "DUMP"), dump) ∷ [])
-audit_given words image dump (rest, is, given) = record {
-  rest = rest;
-  begin = is;
-  gives = pairs_give audit_form rest (image ∷ dump ∷ []) given (text (codes "IMAGE") ∷ text (codes "DUMP") ∷ [])
-      ((text (codes "IMAGE"), image) ∷ (text (codes "DUMP"), dump) ∷ []) (refl, (refl, refl));
-  once = refl;
-  fit = All-cons (λ (g : Use). Takes g.0 g.1) (text (codes "IMAGE"), image) ((text (codes "DUMP"), dump) ∷ []) (any_path (codes "IMAGE") image)
-      (All-cons (λ (g : Use). Takes g.0 g.1) (text (codes "DUMP"), dump) [] (any_path (codes "DUMP") dump) (All-nil (λ (g : Use). Takes g.0 g.1)));
-  whole = refl;
-}
 
 -- the commands are among those of the program
 pub record HasCommands (forms : List Form) : Type 0 where
@@ -146,7 +103,7 @@ module _ (forms : List Form) (program_is : IsProgram forms) (words : List Text) 
   pub refused_command : (form : Form) → IsCommand forms form → (fault_of (program forms) words ≡ [] → ⊥) → (given : List Use) → IsCommandWith form words given → ⊥
   refused_command form command fails given asks =
       fails (kinds_behind forms form command words asks.rest asks.begin ∙ form_takes form command.is_readable asks.rest given asks.gives
-      (record { fresh = none_before given; once = asks.once; fit = asks.fit; whole = asks.whole }))
+      (record { fresh = none_before given; once = asks.once; fit = asks.fit; whole = sym (texts_used form asks.gives form.arguments command.is_readable.clear) ∙ asks.whole }))
 
   -- the answer is help only if a word asks for it
   pub helped : All IsUtf8 words → IsAmong DisplayHelp (fault_of (program forms) words) → Any (λ word. is_help word ≡ true) words
@@ -167,11 +124,11 @@ module _ (forms : List Form) (program_is : IsProgram forms) (words : List Text) 
   -- words that clap refuses are none of the commands
   pub faulty : HasCommands forms → (fault_of (program forms) words ≡ [] → ⊥) → AsksNoCommand words
   faulty has fails = record {
-    no_plan = λ path asks. refused_command plan_form has.plan fails _ (plan_given words path asks);
-    no_word = λ path index (digits, number, asks). refused_command word_form has.word fails _ (word_given words path digits index number asks);
-    no_replay = λ run asks. refused_command replay_form has.replay fails asks.texts asks.is_command;
-    no_race = λ run asks. refused_command race_form has.race fails asks.texts asks.is_command;
-    no_compact = λ image dump n asks. refused_command compact_form has.compact fails asks.0 asks.1;
-    no_audit = λ image dump asks. refused_command audit_form has.audit fails _ (audit_given words image dump asks);
-    no_next = λ next asks. refused_command next_form has.next fails asks.texts asks.is_command;
+    no_plan = λ image large asks. refused_command plan_form has.plan fails asks.uses asks.is_command;
+    no_word = λ image index large asks. refused_command word_form has.word fails asks.uses asks.is_command;
+    no_replay = λ run asks. refused_command replay_form has.replay fails asks.uses asks.is_command;
+    no_race = λ run asks. refused_command race_form has.race fails asks.uses asks.is_command;
+    no_compact = λ image dump n large asks. refused_command compact_form has.compact fails asks.uses asks.is_command;
+    no_audit = λ image dump large asks. refused_command audit_form has.audit fails asks.uses asks.is_command;
+    no_next = λ next asks. refused_command next_form has.next fails asks.uses asks.is_command;
   }

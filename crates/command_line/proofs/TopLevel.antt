@@ -113,25 +113,25 @@ pub record IsProgram (forms : List Form) : Type 0 where
 -- ---- the rows, each readable
 
 plan_readable : IsReadable plan_form
-plan_readable = record { distinct = refl; apart = refl; names = refl; few = omega arith }
+plan_readable = record { distinct = refl; apart = refl; clear = refl; flags = record { options = refl; switches = refl; apart = refl }; few = omega arith }
 
 word_readable : IsReadable word_form
-word_readable = record { distinct = refl; apart = refl; names = refl; few = omega arith }
+word_readable = record { distinct = refl; apart = refl; clear = refl; flags = record { options = refl; switches = refl; apart = refl }; few = omega arith }
 
 replay_readable : IsReadable replay_form
-replay_readable = record { distinct = refl; apart = refl; names = refl; few = omega arith }
+replay_readable = record { distinct = refl; apart = refl; clear = refl; flags = record { options = refl; switches = refl; apart = refl }; few = omega arith }
 
 race_readable : IsReadable race_form
-race_readable = record { distinct = refl; apart = refl; names = refl; few = omega arith }
+race_readable = record { distinct = refl; apart = refl; clear = refl; flags = record { options = refl; switches = refl; apart = refl }; few = omega arith }
 
 compact_readable : IsReadable compact_form
-compact_readable = record { distinct = refl; apart = refl; names = refl; few = omega arith }
+compact_readable = record { distinct = refl; apart = refl; clear = refl; flags = record { options = refl; switches = refl; apart = refl }; few = omega arith }
 
 audit_readable : IsReadable audit_form
-audit_readable = record { distinct = refl; apart = refl; names = refl; few = omega arith }
+audit_readable = record { distinct = refl; apart = refl; clear = refl; flags = record { options = refl; switches = refl; apart = refl }; few = omega arith }
 
 next_readable : IsReadable next_form
-next_readable = record { distinct = refl; apart = refl; names = refl; few = omega arith }
+next_readable = record { distinct = refl; apart = refl; clear = refl; flags = record { options = refl; switches = refl; apart = refl }; few = omega arith }
 
 -- ---- the program as it stands
 

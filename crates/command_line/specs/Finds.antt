@@ -3,7 +3,7 @@ use Rattle.std.specs.Prelude.{◌≡◌, true, Some, codes, is_some, IfSome}
 use Rattle.clap.specs.Words.{first_value, one_text}
 use Rattle.clap.specs.declared.parser.matches.Found.{Found}
 use Rattle.command_line.specs.Forms.{fresh, mutators}
-use Rattle.command_line.specs.Given.{IsNumberOr, Takes}
+use Rattle.command_line.specs.Given.{IsFlag, IsNumberOr, Takes}
 use Rattle.command_line.specs.Runs.{Run}
 
 -- a run was found: each of its paths, and for each option that was given a text that it takes
@@ -21,3 +21,4 @@ pub record IsRunFound (found : Found) (run : Run) : Type 0 where
   pub dump_is : Some run.dump ≡ first_value found (codes "DUMP")
   pub mutators_are : IsNumberOr mutators.default (one_text found (codes "mutators")) run.count
   pub fresh_are : IsNumberOr fresh.default (one_text found (codes "fresh")) run.pages
+  pub large_is : IsFlag (one_text found (codes "large")) run.large

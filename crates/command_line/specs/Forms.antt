@@ -1,7 +1,8 @@
--- The commands of the program: the name of each, its options and its arguments.
+-- The commands of the program: the name of each, its options, its switches and its arguments.
 use Rattle.std.specs.Prelude.{ℕ, List, [], ◌∷◌, Option, Some, None, codes}
 
--- an argument or an option, by its name: it takes any text, or a number from the first bound to the second
+-- An argument, an option or a switch, by its name. An argument or an option takes any text, or a number from the first
+-- bound to the second. A switch takes no text.
 pub record Parameter : Type 0 where
   pub id : List ℕ
   pub bounds : Option (ℕ × ℕ)
@@ -11,12 +12,14 @@ pub record Choice : Type 0 where
   pub takes : Parameter
   pub default : ℕ
 
--- a command: its name, its options, and its arguments in their order, all of them required
+-- a command: its name, its options, its switches, and its arguments in their order, all of them required
 pub record Form : Type 0 where
   pub name : List ℕ
   pub options : List Choice
+  pub switches : List Parameter
   pub arguments : List Parameter
 
+-- any text
 abbrev pub text : List ℕ → Parameter
 text id = record { id = id; bounds = None }
 
@@ -28,17 +31,13 @@ number_within id low high = record { id = id; bounds = Some (low, high) }
 abbrev pub number : List ℕ → Parameter
 number id = number_within id 0 18446744073709551615
 
+-- a switch, by its name
+abbrev pub switch : List ℕ → Parameter
+switch id = record { id = id; bounds = None }
+
 -- a number from `low` to `high`, and the default if it is left out
 abbrev pub option : List ℕ → ℕ → ℕ → ℕ → Choice
 option id low high default = record { takes = number_within id low high; default = default }
-
--- `plan IMAGE`
-abbrev pub plan_form : Form
-plan_form = record { name = codes "plan"; options = []; arguments = text (codes "IMAGE") ∷ [] }
-
--- `word IMAGE INDEX`
-abbrev pub word_form : Form
-word_form = record { name = codes "word"; options = []; arguments = text (codes "IMAGE") ∷ number (codes "INDEX") ∷ [] }
 
 -- `--mutators N`
 abbrev pub mutators : Choice
@@ -52,35 +51,53 @@ fresh = option (codes "fresh") 0 4096 64
 abbrev pub workers : Choice
 workers = option (codes "workers") 1 64 2
 
+-- `--large`, which each command has
+abbrev pub large : Parameter
+large = switch (codes "large")
+
+-- `plan [--large] IMAGE`
+abbrev pub plan_form : Form
+plan_form = record { name = codes "plan"; options = []; switches = large ∷ []; arguments = text (codes "IMAGE") ∷ [] }
+
+-- `word [--large] IMAGE INDEX`
+abbrev pub word_form : Form
+word_form = record { name = codes "word"; options = []; switches = large ∷ []; arguments = text (codes "IMAGE") ∷ number (codes "INDEX") ∷ [] }
+
 -- three paths: of an image, of a trace, and of the dump that is written
 abbrev pub run_paths : List Parameter
 run_paths = text (codes "IMAGE") ∷ text (codes "TRACE") ∷ text (codes "DUMP") ∷ []
 
--- `NAME [--mutators N] [--fresh N] IMAGE TRACE DUMP`, for this name
+-- `NAME [--mutators N] [--fresh N] [--large] IMAGE TRACE DUMP`, for this name
 abbrev pub run_form : List ℕ → Form
-run_form name = record { name = name; options = mutators ∷ fresh ∷ []; arguments = run_paths }
+run_form name = record { name = name; options = mutators ∷ fresh ∷ []; switches = large ∷ []; arguments = run_paths }
 
--- `replay [--mutators N] [--fresh N] IMAGE TRACE DUMP`
+-- `replay [--mutators N] [--fresh N] [--large] IMAGE TRACE DUMP`
 abbrev pub replay_form : Form
 replay_form = run_form (codes "replay")
 
--- `race [--mutators N] [--fresh N] IMAGE TRACE DUMP`
+-- `race [--mutators N] [--fresh N] [--large] IMAGE TRACE DUMP`
 abbrev pub race_form : Form
 race_form = run_form (codes "race")
 
--- `compact [--workers N] IMAGE DUMP`
+-- `compact [--workers N] [--large] IMAGE DUMP`
 abbrev pub compact_form : Form
-compact_form = record { name = codes "compact"; options = workers ∷ []; arguments = text (codes "IMAGE") ∷ text (codes "DUMP") ∷ [] }
+compact_form = record {
+  name = codes "compact";
+  options = workers ∷ [];
+  switches = large ∷ [];
+  arguments = text (codes "IMAGE") ∷ text (codes "DUMP") ∷ [];
+}
 
--- `audit IMAGE DUMP`
+-- `audit [--large] IMAGE DUMP`
 abbrev pub audit_form : Form
-audit_form = record { name = codes "audit"; options = []; arguments = text (codes "IMAGE") ∷ text (codes "DUMP") ∷ [] }
+audit_form = record { name = codes "audit"; options = []; switches = large ∷ []; arguments = text (codes "IMAGE") ∷ text (codes "DUMP") ∷ [] }
 
--- `next [--mutators N] [--fresh N] IMAGE TRACE MARKS NEW`
+-- `next [--mutators N] [--fresh N] [--large] IMAGE TRACE MARKS NEW`
 abbrev pub next_form : Form
 next_form = record {
   name = codes "next";
   options = mutators ∷ fresh ∷ [];
+  switches = large ∷ [];
   arguments = text (codes "IMAGE") ∷ text (codes "TRACE") ∷ text (codes "MARKS") ∷ text (codes "NEW") ∷ [];
 }
 

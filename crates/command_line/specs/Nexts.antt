@@ -1,13 +1,13 @@
 -- The arguments of `next`, and what the parser finds for it.
-use Rattle.std.specs.Prelude.{◌≡◌, ℕ, ◌≤◌, List, Some, codes, true, is_some, IfSome}
+use Rattle.std.specs.Prelude.{◌≡◌, ℕ, ◌≤◌, Bool, List, Some, codes, true, is_some, IfSome}
 use Rattle.clap.specs.Words.{first_value, one_text}
 use Rattle.clap.specs.declared.parser.matches.Found.{Found}
-use Rattle.command_line.specs.Forms.{Parameter, fresh, mutators, next_form}
-use Rattle.command_line.specs.Given.{IsChosen, IsCommandWith, IsNumberOr, Takes, text_given}
+use Rattle.command_line.specs.Forms.{fresh, mutators, next_form}
+use Rattle.command_line.specs.Given.{IsChosen, IsCommandWith, IsFlag, IsNumberOr, Takes, Use, is_among, text_given}
 use Rattle.command_line.specs.declared.next.NextRun.{NextRun}
 
 -- the paths of an image, of a trace, of marks, and of the new image that is written; the numbers of mutators and of
--- fresh pages
+-- fresh pages; and whether heaps of edition three are read as well
 pub record Next : Type 0 where
   pub image : List ℕ
   pub trace : List ℕ
@@ -15,21 +15,31 @@ pub record Next : Type 0 where
   pub new : List ℕ
   pub count : ℕ
   pub pages : ℕ
+  pub large : Bool
 
 -- the arguments in a task
 abbrev pub next_of : NextRun → Next
-next_of t = record { image = t.image.now; trace = t.trace.now; marks = t.marks.now; new = t.new.now; count = t.mutators; pages = t.fresh }
+next_of t = record {
+  image = t.image.now;
+  trace = t.trace.now;
+  marks = t.marks.now;
+  new = t.new.now;
+  count = t.mutators;
+  pages = t.fresh;
+  large = t.large;
+}
 
--- the words are `next [--mutators N] [--fresh N] IMAGE TRACE MARKS NEW`, with these arguments
+-- the words are `next [--mutators N] [--fresh N] [--large] IMAGE TRACE MARKS NEW`, with these arguments
 pub record AsksNext (words : List (List ℕ)) (next : Next) : Type 0 where
-  pub texts : List (Parameter × List ℕ)
-  pub is_command : IsCommandWith next_form words texts
-  pub with_image : text_given (codes "IMAGE") texts ≡ Some next.image
-  pub with_trace : text_given (codes "TRACE") texts ≡ Some next.trace
-  pub with_marks : text_given (codes "MARKS") texts ≡ Some next.marks
-  pub with_new : text_given (codes "NEW") texts ≡ Some next.new
-  pub with_mutators : IsChosen mutators texts next.count
-  pub with_fresh : IsChosen fresh texts next.pages
+  pub uses : List Use
+  pub is_command : IsCommandWith next_form words uses
+  pub with_image : text_given (codes "IMAGE") uses ≡ Some next.image
+  pub with_trace : text_given (codes "TRACE") uses ≡ Some next.trace
+  pub with_marks : text_given (codes "MARKS") uses ≡ Some next.marks
+  pub with_new : text_given (codes "NEW") uses ≡ Some next.new
+  pub with_mutators : IsChosen mutators uses next.count
+  pub with_fresh : IsChosen fresh uses next.pages
+  pub with_large : next.large ≡ is_among (codes "large") uses
 
 -- there are 1 to 64 mutators, and at most 4096 fresh pages
 pub record IsLawfulNext (next : Next) : Type 0 where
@@ -54,3 +64,4 @@ pub record IsNextFound (found : Found) (next : Next) : Type 0 where
   pub new_is : Some next.new ≡ first_value found (codes "NEW")
   pub mutators_are : IsNumberOr mutators.default (one_text found (codes "mutators")) next.count
   pub fresh_are : IsNumberOr fresh.default (one_text found (codes "fresh")) next.pages
+  pub large_is : IsFlag (one_text found (codes "large")) next.large

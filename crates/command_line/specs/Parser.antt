@@ -1,6 +1,7 @@
 -- The command line as it is defined for clap.
 use Rattle.std.specs.Prelude.{Some, List, codes, true, false, map, ◌++◌, option_map}
 use Rattle.clap.specs.Words.{App, Rule, Shape, new_app, new_rule}
+use Rattle.clap.specs.declared.builder.action.ArgAction.TheVariants.{SetTrue}
 use Rattle.clap.specs.declared.builder.value_parser.ValueParser.TheVariants.{Unsigned}
 use Rattle.command_line.specs.Forms.{Choice, Form, Parameter}
 
@@ -16,9 +17,17 @@ optional_rule p = record (rule p) { required = false; long = Some p.id; value_na
 abbrev pub option_rule : Choice → Rule
 option_rule o = optional_rule o.takes
 
--- a command, with its options and arguments
+-- a switch: its long name is its name, and it takes no value, but is true if it is given
+abbrev pub switch_rule : Parameter → Rule
+switch_rule s = record (new_rule s.id) { long = Some s.id; action = Some SetTrue }
+
+-- the options, the switches and the arguments of a command
+abbrev pub rules_of_form : Form → List Rule
+rules_of_form form = map option_rule form.options ++ (map switch_rule form.switches ++ map rule form.arguments)
+
+-- a command, with what it takes
 abbrev pub command : Form → App
-command form = record (new_app form.name) { top = record (new_app form.name).top { rules = map option_rule form.options ++ map rule form.arguments } }
+command form = record (new_app form.name) { top = record (new_app form.name).top { rules = rules_of_form form } }
 
 -- one of the commands is required, the words do not begin with the program's name, and the program has a version
 abbrev pub asked_of_all : Shape → Shape

@@ -1,11 +1,11 @@
 //! The options and arguments of the commands.
 ghost use Rattle.std.specs.Prelude.{◌≡◌, false, codes, IfOk};
 ghost use Rattle.clap.specs.Words.{app_of, new_app, rule_of, with_rule, App, Rule};
-ghost use Rattle.command_line.specs.Forms.{fresh, mutators, number, number_within, text, workers};
-ghost use Rattle.command_line.specs.Parser.{option_rule, optional_rule, rule};
+ghost use Rattle.command_line.specs.Forms.{fresh, large, mutators, number, number_within, text, workers};
+ghost use Rattle.command_line.specs.Parser.{option_rule, optional_rule, rule, switch_rule};
 
 use clap::builder::ValueParser;
-use clap::{Arg, Command, value_parser};
+use clap::{Arg, ArgAction, Command, value_parser};
 use std::alloc::{AllocError, Global};
 
 /// A command, or out of memory.
@@ -78,6 +78,17 @@ fn number_option<'a>(alloc: Global, name: &'a str, low: u64, high: u64, help: &'
         .value_name("N")
         .value_parser(ValueParser::unsigned(low, high))
         .help(help)
+}
+
+/// The switch `--large`, which takes no value.
+pub(crate) fn large_switch<'a>(alloc: Global) -> Arg<'a>
+    ensures rule { rule_of result ≡ switch_rule large }
+    ensures local { result.global ≡ false }
+{
+    Arg::new(alloc, "large")
+        .long("large")
+        .action(ArgAction::SetTrue)
+        .help("Reads heaps of edition three as well, of up to 2^31 words")
 }
 
 /// The argument `IMAGE`, a path.

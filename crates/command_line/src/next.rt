@@ -6,10 +6,10 @@ ghost use Rattle.command_line.specs.Nexts.{next_of, HasNext, IsLawfulNext, IsNex
 ghost use Rattle.command_line.specs.Parser.{command as command_of};
 
 use crate::arguments::{
-    Made, fresh_option, image_argument, mutators_option, named_command, path_argument,
-    trace_argument, with_argument,
+    Made, fresh_option, image_argument, large_switch, mutators_option, named_command,
+    path_argument, trace_argument, with_argument,
 };
-use crate::values::{DEFAULT_FRESH, DEFAULT_MUTATORS, count_of, text_of};
+use crate::values::{DEFAULT_FRESH, DEFAULT_MUTATORS, count_of, is_large, text_of};
 use clap::ArgMatches;
 use std::alloc::Global;
 
@@ -28,6 +28,8 @@ pub struct NextRun<'a> {
     pub mutators: u8,
     /// The number of fresh pages, at most 4,096.
     pub fresh: u32,
+    /// Whether heaps of edition three are read as well.
+    pub large: bool,
 }
 
 /// The arguments of `next` in what the parser found.
@@ -43,6 +45,7 @@ pub(crate) fn next_run<'a>(found: &ArgMatches<'a>) -> NextRun<'a>
         new: text_of(found, "NEW"),
         mutators: count_of(found, "mutators", DEFAULT_MUTATORS) as u8,
         fresh: count_of(found, "fresh", DEFAULT_FRESH) as u32,
+        large: is_large(found),
     }
 }
 
@@ -57,7 +60,8 @@ pub(crate) fn next_command<'a>(alloc: Global) -> Made<'a>
     );
     let of_mutators = with_argument(next, mutators_option(alloc));
     let of_counts = with_argument(of_mutators, fresh_option(alloc));
-    let of_image = with_argument(of_counts, image_argument(alloc));
+    let of_switch = with_argument(of_counts, large_switch(alloc));
+    let of_image = with_argument(of_switch, image_argument(alloc));
     let of_trace = with_argument(of_image, trace_argument(alloc));
     let of_marks = with_argument(of_trace, path_argument(alloc, "MARKS", "The new marks"));
     with_argument(

@@ -1,7 +1,7 @@
 //! The values that the parser found for a command.
-ghost use Rattle.std.specs.Prelude.{◌≡◌, ℕ, true, is_some, Some, IsSomeAnd, IfSome};
+ghost use Rattle.std.specs.Prelude.{◌≡◌, ℕ, true, codes, is_some, Some, IsSomeAnd, IfSome};
 ghost use Rattle.clap.specs.Words.{first_value, found_of, one_text};
-ghost use Rattle.command_line.specs.Given.{IsNumber, IsNumberOr};
+ghost use Rattle.command_line.specs.Given.{IsFlag, IsNumber, IsNumberOr};
 
 use clap::ArgMatches;
 
@@ -45,4 +45,11 @@ pub(crate) fn count_of(found: &ArgMatches, id: &str, default: u64) -> u64
         Some(count) => count,
         None => default,
     }
+}
+
+/// Whether the switch `--large` was given.
+pub(crate) fn is_large(found: &ArgMatches) -> bool
+    ensures { IsFlag (one_text (found_of found.now) (codes "large")) result }
+{
+    found.get_flag("large")
 }

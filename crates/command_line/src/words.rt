@@ -10,12 +10,12 @@ ghost use Rattle.command_line.specs.Parser.{bare_program, command as command_of,
 ghost use Rattle.command_line.specs.Runs.{IsLawfulRun, run_of};
 
 use crate::arguments::{
-    Made, dump_argument, fresh_option, image_argument, index_argument, mutators_option,
-    named_command, path_argument, trace_argument, with_argument, workers_option,
+    Made, dump_argument, fresh_option, image_argument, index_argument, large_switch,
+    mutators_option, named_command, path_argument, trace_argument, with_argument, workers_option,
 };
 use crate::next::{NextRun, next_command, next_run};
 use crate::values::{
-    DEFAULT_FRESH, DEFAULT_MUTATORS, DEFAULT_WORKERS, count_of, number_of, text_of,
+    DEFAULT_FRESH, DEFAULT_MUTATORS, DEFAULT_WORKERS, count_of, is_large, number_of, text_of,
 };
 use clap::error::ErrorKind;
 use clap::{ArgMatches, Command, Error};
@@ -27,11 +27,15 @@ pub enum Task<'a> {
     /// Print the plan of the heap in an image.
     Plan {
         image: &'a str,
+        /// Whether heaps of edition three are read as well.
+        large: bool,
     },
     /// Print the slid word at an index, of the heap in an image.
     Word {
         image: &'a str,
         index: u64,
+        /// Whether heaps of edition three are read as well.
+        large: bool,
     },
     /// Run all lines of a trace in one thread, in their order.
     Replay(TraceRun<'a>),
@@ -42,11 +46,15 @@ pub enum Task<'a> {
         image: &'a str,
         dump: &'a str,
         workers: u8,
+        /// Whether heaps of edition three are read as well.
+        large: bool,
     },
     /// Audit the dump at a path against the heap in an image.
     Audit {
         image: &'a str,
         dump: &'a str,
+        /// Whether heaps of edition three are read as well.
+        large: bool,
     },
     /// Run a trace as `replay` does, then make the next heap with the new marks, and write its image to a path.
     Next(NextRun<'a>),
@@ -71,6 +79,8 @@ pub struct TraceRun<'a> {
     pub mutators: u8,
     /// The number of fresh pages, at most 4,096.
     pub fresh: u32,
+    /// Whether heaps of edition three are read as well.
+    pub large: bool,
 }
 
 /// The program's name and version, as a line.
@@ -107,10 +117,12 @@ fn task_of<'a>(words: &'a [String], matches: &ArgMatches<'a>) -> Task<'a>
     match name {
         "plan" => Task::Plan {
             image: text_of(found, "IMAGE"),
+            large: is_large(found),
         },
         "word" => Task::Word {
             image: text_of(found, "IMAGE"),
             index: number_of(found, "INDEX"),
+            large: is_large(found),
         },
         "replay" => Task::Replay(trace_run(found)),
         "race" => Task::Race(trace_run(found)),
@@ -118,10 +130,12 @@ fn task_of<'a>(words: &'a [String], matches: &ArgMatches<'a>) -> Task<'a>
             image: text_of(found, "IMAGE"),
             dump: text_of(found, "DUMP"),
             workers: count_of(found, "workers", DEFAULT_WORKERS) as u8,
+            large: is_large(found),
         },
         "audit" => Task::Audit {
             image: text_of(found, "IMAGE"),
             dump: text_of(found, "DUMP"),
+            large: is_large(found),
         },
         "next" => Task::Next(next_run(found)),
         _ => unreachable!(),
@@ -140,6 +154,7 @@ fn trace_run<'a>(found: &ArgMatches<'a>) -> TraceRun<'a>
         dump: text_of(found, "DUMP"),
         mutators: count_of(found, "mutators", DEFAULT_MUTATORS) as u8,
         fresh: count_of(found, "fresh", DEFAULT_FRESH) as u32,
+        large: is_large(found),
     }
 }
 
@@ -203,7 +218,8 @@ fn plan_command<'a>(alloc: Global) -> Made<'a>
         "plan",
         "Prints where the live objects of a heap slide",
     );
-    with_argument(plan, image_argument(alloc))
+    let of_switch = with_argument(plan, large_switch(alloc));
+    with_argument(of_switch, image_argument(alloc))
 }
 
 // The command `word`, as defined for clap.
@@ -211,7 +227,8 @@ fn word_command<'a>(alloc: Global) -> Made<'a>
     ensures { IfOk result (λ made. app_of made ≡ command_of word_form) }
 {
     let word = named_command(alloc, "word", "Prints the to-space word at an index");
-    let of_image = with_argument(word, image_argument(alloc));
+    let of_switch = with_argument(word, large_switch(alloc));
+    let of_image = with_argument(of_switch, image_argument(alloc));
     with_argument(of_image, index_argument(alloc))
 }
 
@@ -244,7 +261,8 @@ fn run_command<'a>(alloc: Global, name: &'a str, about: &'a str) -> Made<'a>
     let run = named_command(alloc, name, about);
     let of_mutators = with_argument(run, mutators_option(alloc));
     let of_counts = with_argument(of_mutators, fresh_option(alloc));
-    let of_image = with_argument(of_counts, image_argument(alloc));
+    let of_switch = with_argument(of_counts, large_switch(alloc));
+    let of_image = with_argument(of_switch, image_argument(alloc));
     let of_trace = with_argument(of_image, trace_argument(alloc));
     with_argument(of_trace, dump_argument(alloc))
 }
@@ -259,7 +277,8 @@ fn compact_command<'a>(alloc: Global) -> Made<'a>
         "Compacts a heap by several workers, and writes its dump",
     );
     let of_workers = with_argument(compact, workers_option(alloc));
-    let of_image = with_argument(of_workers, image_argument(alloc));
+    let of_switch = with_argument(of_workers, large_switch(alloc));
+    let of_image = with_argument(of_switch, image_argument(alloc));
     with_argument(of_image, dump_argument(alloc))
 }
 
@@ -268,6 +287,7 @@ fn audit_command<'a>(alloc: Global) -> Made<'a>
     ensures { IfOk result (λ made. app_of made ≡ command_of audit_form) }
 {
     let audit = named_command(alloc, "audit", "Judges the dump of a compaction of a heap");
-    let of_image = with_argument(audit, image_argument(alloc));
+    let of_switch = with_argument(audit, large_switch(alloc));
+    let of_image = with_argument(of_switch, image_argument(alloc));
     with_argument(of_image, path_argument(alloc, "DUMP", "The dump"))
 }

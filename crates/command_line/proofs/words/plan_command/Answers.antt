@@ -1,4 +1,6 @@
 use Rattle.command_line.proofs.words.plan_command.Goals as goal
 
 pub returns : goal.returns
-returns c = c.with_argument.ensures _ _ c.named_command-plan.ensures c.image_argument.ensures.rule c.image_argument.ensures.local
+returns c =
+    let one = c.with_argument-of_switch.ensures _ _ c.named_command-plan.ensures c.large_switch.ensures.rule c.large_switch.ensures.local in
+    c.with_argument.ensures _ _ one c.image_argument.ensures.rule c.image_argument.ensures.local

@@ -1,18 +1,15 @@
-use Rattle.std.proofs.Common.{arith, [], ◌≡◌, ◌∙◌, codes, is_some, ap, Global, IfSome, IsSomeAnd, List, map, None, Option, ℕ, refl, Some, String, subst, sym}
+use Rattle.std.proofs.Common.{arith, [], ◌≡◌, ◌∙◌, codes, ap, Global, List, map, None, ℕ, refl, Some, String}
 use Rattle.std.specs.Prelude.{option_map}
 use Rattle.std.specs.String.{string_bytes}
-use Rattle.std.proofs.lemmas.Option.{same_Some}
 use Rattle.clap.specs.Words.{fault_of, found_of, one_text, rows_of, subcommand_name_of, subcommand_of, subcommand_rows_of, Row}
 use Rattle.clap.specs.declared.parser.matches.ArgMatches.{ArgMatches}
 use Rattle.clap.specs.declared.parser.matches.Found.{Found}
-use Rattle.command_line.specs.Asked.{AsksPlan, AsksWord}
-use Rattle.command_line.specs.Given.{IsNumber}
 use Rattle.command_line.specs.Parser.{program}
 use Rattle.command_line.specs.Forms.{Form, audit_form, compact_form, next_form, plan_form, race_form, replay_form, standing, text, word_form}
 use Rattle.command_line.specs.Nexts.{next_of}
 use Rattle.command_line.specs.Runs.{run_of}
 use Rattle.command_line.proofs.TopLevel.{IsCommand, standing_audit, standing_compact, standing_next, standing_plan, standing_program, standing_race, standing_replay, standing_word}
-use Rattle.command_line.proofs.Found.{CommandAsked, audit_asked, bounded_number, command_asked, compact_asked, entered_as, none_entered, none_of_standing, plan_asked, run_asked, run_found, same_name, texts_utf8, two_paths, word_asked, workers_fit, workers_within}
+use Rattle.command_line.proofs.Found.{CommandAsked, argument_there, audit_asked, bounded_number, command_asked, compact_asked, entered_as, index_there, none_entered, none_of_standing, plan_asked, run_asked, run_found, same_name, texts_utf8, word_asked, workers_fit, workers_within}
 use Rattle.command_line.proofs.NextFound.{next_asked, next_found}
 use Rattle.command_line.proofs.words.task_of.Goals as goal
 
@@ -28,37 +25,32 @@ pub text_of-requires : goal.text_of-requires
 text_of-requires c =
     let f = found_of c.in-Some.found.now in
     let given = given_to plan_form standing_plan c.args.words.now c.args.matches.now c.in-Some.name.now f c.in-plan.is c.requires.taken c.requires.found c.in-Some.ensures.name c.in-Some.ensures.rows in
-    ap (λ (o : Option (List ℕ)). is_some o) (plan_asked (map string_bytes c.args.words.now) f given).1
+    argument_there (map string_bytes c.args.words.now) f plan_form given (text (codes "IMAGE")) refl
 
 pub returns-in-plan-clause-asked : goal.returns-in-plan-clause-asked
 returns-in-plan-clause-asked c =
-    let words = map string_bytes c.args.words.now in
     let f = found_of c.in-Some.found.now in
     let given = given_to plan_form standing_plan c.args.words.now c.args.matches.now c.in-Some.name.now f c.in-plan.is c.requires.taken c.requires.found c.in-Some.ensures.name c.in-Some.ensures.rows in
-    let got = plan_asked words f given in
-    subst (AsksPlan words) (sym (same_Some _ _ (c.text_of.ensures ∙ got.1))) got.2
+    plan_asked (map string_bytes c.args.words.now) f given c.text_of.result.now c.is_large.result c.text_of.ensures c.is_large.ensures
 
 pub text_of-requires-in-word : goal.text_of-requires-in-word
 text_of-requires-in-word c =
     let f = found_of c.in-Some.found.now in
     let given = given_to word_form standing_word c.args.words.now c.args.matches.now c.in-Some.name.now f c.in-word.is c.requires.taken c.requires.found c.in-Some.ensures.name c.in-Some.ensures.rows in
-    ap (λ (o : Option (List ℕ)). is_some o) (word_asked (map string_bytes c.args.words.now) f given).2
+    argument_there (map string_bytes c.args.words.now) f word_form given (text (codes "IMAGE")) refl
 
 pub number_of-requires : goal.number_of-requires
 number_of-requires c =
     let f = found_of c.in-Some.found.now in
     let given = given_to word_form standing_word c.args.words.now c.args.matches.now c.in-Some.name.now f c.in-word.is c.requires.taken c.requires.found c.in-Some.ensures.name c.in-Some.ensures.rows in
-    let got = word_asked (map string_bytes c.args.words.now) f given in
-    subst (λ (o : Option (List ℕ)). IsSomeAnd o (λ text. (n : ℕ) × IsNumber text n)) (sym got.3) got.4
+    index_there (map string_bytes c.args.words.now) f given
 
 pub returns-in-word-clause-asked : goal.returns-in-word-clause-asked
 returns-in-word-clause-asked c =
-    let words = map string_bytes c.args.words.now in
     let f = found_of c.in-Some.found.now in
     let given = given_to word_form standing_word c.args.words.now c.args.matches.now c.in-Some.name.now f c.in-word.is c.requires.taken c.requires.found c.in-Some.ensures.name c.in-Some.ensures.rows in
-    let got = word_asked words f given in
-    let number : IsNumber got.1 c.number_of.result = subst (λ (o : Option (List ℕ)). IfSome o (λ text. IsNumber text c.number_of.result)) got.3 c.number_of.ensures in
-    subst (λ (path : List ℕ). AsksWord words path c.number_of.result) (sym (same_Some _ _ (c.text_of-in-word.ensures ∙ got.2))) (got.5 c.number_of.result number)
+    word_asked (map string_bytes c.args.words.now) f given c.text_of-in-word.result.now c.number_of.result c.is_large-in-word.result c.text_of-in-word.ensures c.number_of.ensures
+    c.is_large-in-word.ensures
 
 pub trace_run-requires : goal.trace_run-requires
 trace_run-requires c =
@@ -94,25 +86,25 @@ pub text_of-requires-in-compact : goal.text_of-requires-in-compact
 text_of-requires-in-compact c =
     let f = found_of c.in-Some.found.now in
     let given = given_to compact_form standing_compact c.args.words.now c.args.matches.now c.in-Some.name.now f c.in-compact.is c.requires.taken c.requires.found c.in-Some.ensures.name c.in-Some.ensures.rows in
-    (two_paths (map string_bytes c.args.words.now) f compact_form given (text (codes "IMAGE")) (text (codes "DUMP")) refl).0
+    argument_there (map string_bytes c.args.words.now) f compact_form given (text (codes "IMAGE")) refl
 
 pub text_of-requires-in-compact-2 : goal.text_of-requires-in-compact-2
 text_of-requires-in-compact-2 c =
     let f = found_of c.in-Some.found.now in
     let given = given_to compact_form standing_compact c.args.words.now c.args.matches.now c.in-Some.name.now f c.in-compact.is c.requires.taken c.requires.found c.in-Some.ensures.name c.in-Some.ensures.rows in
-    (two_paths (map string_bytes c.args.words.now) f compact_form given (text (codes "IMAGE")) (text (codes "DUMP")) refl).1
+    argument_there (map string_bytes c.args.words.now) f compact_form given (text (codes "DUMP")) refl
 
 pub text_of-requires-in-audit : goal.text_of-requires-in-audit
 text_of-requires-in-audit c =
     let f = found_of c.in-Some.found.now in
     let given = given_to audit_form standing_audit c.args.words.now c.args.matches.now c.in-Some.name.now f c.in-audit.is c.requires.taken c.requires.found c.in-Some.ensures.name c.in-Some.ensures.rows in
-    (two_paths (map string_bytes c.args.words.now) f audit_form given (text (codes "IMAGE")) (text (codes "DUMP")) refl).0
+    argument_there (map string_bytes c.args.words.now) f audit_form given (text (codes "IMAGE")) refl
 
 pub text_of-requires-in-audit-2 : goal.text_of-requires-in-audit-2
 text_of-requires-in-audit-2 c =
     let f = found_of c.in-Some.found.now in
     let given = given_to audit_form standing_audit c.args.words.now c.args.matches.now c.in-Some.name.now f c.in-audit.is c.requires.taken c.requires.found c.in-Some.ensures.name c.in-Some.ensures.rows in
-    (two_paths (map string_bytes c.args.words.now) f audit_form given (text (codes "IMAGE")) (text (codes "DUMP")) refl).1
+    argument_there (map string_bytes c.args.words.now) f audit_form given (text (codes "DUMP")) refl
 
 pub count_of-requires : goal.count_of-requires
 count_of-requires c =
@@ -130,8 +122,8 @@ pub returns-in-compact-clause-asked : goal.returns-in-compact-clause-asked
 returns-in-compact-clause-asked c =
     let f = found_of c.in-Some.found.now in
     let given = given_to compact_form standing_compact c.args.words.now c.args.matches.now c.in-Some.name.now f c.in-compact.is c.requires.taken c.requires.found c.in-Some.ensures.name c.in-Some.ensures.rows in
-    compact_asked (map string_bytes c.args.words.now) f given c.text_of-in-compact.result.now c.text_of-in-compact-2.result.now c.count_of.result
-    c.text_of-in-compact.ensures c.text_of-in-compact-2.ensures c.count_of.ensures
+    compact_asked (map string_bytes c.args.words.now) f given c.text_of-in-compact.result.now c.text_of-in-compact-2.result.now c.count_of.result c.is_large-in-compact.result
+    c.text_of-in-compact.ensures c.text_of-in-compact-2.ensures c.count_of.ensures c.is_large-in-compact.ensures
 
 pub returns-in-compact-clause-counts : goal.returns-in-compact-clause-counts
 returns-in-compact-clause-counts c =
@@ -143,8 +135,8 @@ pub returns-in-audit-clause-asked : goal.returns-in-audit-clause-asked
 returns-in-audit-clause-asked c =
     let f = found_of c.in-Some.found.now in
     let given = given_to audit_form standing_audit c.args.words.now c.args.matches.now c.in-Some.name.now f c.in-audit.is c.requires.taken c.requires.found c.in-Some.ensures.name c.in-Some.ensures.rows in
-    audit_asked (map string_bytes c.args.words.now) f given c.text_of-in-audit.result.now c.text_of-in-audit-2.result.now
-    c.text_of-in-audit.ensures c.text_of-in-audit-2.ensures
+    audit_asked (map string_bytes c.args.words.now) f given c.text_of-in-audit.result.now c.text_of-in-audit-2.result.now c.is_large-in-audit.result
+    c.text_of-in-audit.ensures c.text_of-in-audit-2.ensures c.is_large-in-audit.ensures
 
 pub next_run-requires : goal.next_run-requires
 next_run-requires c =

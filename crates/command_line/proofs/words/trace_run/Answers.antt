@@ -22,6 +22,7 @@ returns-clause-run c = record {
   dump_is = c.text_of-3.ensures;
   mutators_are = c.count_of.ensures;
   fresh_are = c.count_of-2.ensures;
+  large_is = c.is_large.ensures;
 }
 
 pub returns-clause-counts : goal.returns-clause-counts

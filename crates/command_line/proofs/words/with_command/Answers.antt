@@ -1,4 +1,4 @@
-use Rattle.std.proofs.Common.{◌≡◌, ◌∙◌, Result, Ok, IfOk, ap, ap₂, subst, rules, true}
+use Rattle.std.proofs.Common.{◌≡◌, ◌∙◌, Result, Ok, IfOk, ap, ap₂, subst, rules}
 use Rattle.std.proofs.lemmas.Result.{IfOk-weaker}
 use Rattle.std.specs.declared.alloc.AllocError.{AllocError}
 use Rattle.clap.specs.Words.{App, app_of, with_subcommand}

@@ -2,5 +2,6 @@ use Rattle.command_line.proofs.words.word_command.Goals as goal
 
 pub returns : goal.returns
 returns c =
-    let one = c.with_argument-of_image.ensures _ _ c.named_command-word.ensures c.image_argument.ensures.rule c.image_argument.ensures.local in
-    c.with_argument.ensures _ _ one c.index_argument.ensures.rule c.index_argument.ensures.local
+    let one = c.with_argument-of_switch.ensures _ _ c.named_command-word.ensures c.large_switch.ensures.rule c.large_switch.ensures.local in
+    let two = c.with_argument-of_image.ensures _ _ one c.image_argument.ensures.rule c.image_argument.ensures.local in
+    c.with_argument.ensures _ _ two c.index_argument.ensures.rule c.index_argument.ensures.local
