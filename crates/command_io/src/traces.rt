@@ -19,7 +19,7 @@ pub fn trace_at<F: Files>(
     files: &F,
     path: &str,
     mutators: u8,
-    roots: u16,
+    roots: u32,
 ) -> Result<Trace, CommandRefusal>
     ensures lines { IfOk result (λ trace. HasLinesAt (F.disk files.now) path.now mutators roots (lines_of trace)) }
     ensures counts { IfOk result (λ trace. (mutators_of trace ≡ mutators) × (roots_of trace ≡ roots)) }
@@ -34,7 +34,7 @@ fn trace_in<S: Read>(
     alloc: Global,
     r: &mut Counted<S>,
     mutators: u8,
-    roots: u16,
+    roots: u32,
 ) -> Result<Trace, CommandRefusal>
     requires read { failures_of r.old < 2 ^ 64 - 1 }
     ensures lines { IfOk result (λ trace. IsTextOf mutators roots (lines_of trace) (S.remaining (inner_of r.old))) }

@@ -1,5 +1,5 @@
 -- The dump of a swept heap, and what was written and printed of it.
-use Rattle.std.proofs.Common.{◌≡◌, ℕ, List, Option, Result, Ok, Err, IfErr, OnErr, map, codes, refl, sym, subst, ◌∙◌}
+use Rattle.std.proofs.Common.{◌≡◌, ℕ, Bool, List, Option, Result, Ok, Err, IfErr, OnErr, map, codes, refl, sym, subst, ◌∙◌}
 use Rattle.std.specs.Io.KnownBytes.{Appends}
 use Rattle.heap_layout.specs.Heap.{Heap, live}
 use Rattle.page_plan.specs.Sliding.{forwarded, live_words}
@@ -50,12 +50,12 @@ module _ (workers : ℕ) (f : Finished) (dump : Dumped) (parts : IsDumpOf worker
   same_total = parts.total ∙ h.total
 
 -- The refusals of a compaction, from those of its parts.
-module _ {F W : Type 0} (disk : Disk F W) (image path : List ℕ) (workers : ℕ) (to : F) where
+module _ {F W : Type 0} (disk : Disk F W) (large : Bool) (image path : List ℕ) (workers : ℕ) (to : F) where
   abbrev pub Refuses : CommandRefusal → Type 0
-  Refuses refusal = RefusesAt disk image (RefusesCompact disk path workers to) refusal
+  Refuses refusal = RefusesAt disk large image (RefusesCompact disk path workers to) refusal
 
   -- the heap was not swept
-  pub of_sweep : (refusal : CommandRefusal) → RefusesAt disk image RefusesSweep refusal → Refuses refusal
+  pub of_sweep : (refusal : CommandRefusal) → RefusesAt disk large image RefusesSweep refusal → Refuses refusal
   of_sweep (Layout fault) h = h
   of_sweep (Mutator refused) h = h
   of_sweep (Sweep fault) h = h
@@ -73,7 +73,7 @@ module _ {F W : Type 0} (disk : Disk F W) (image path : List ℕ) (workers : ℕ
   of_sweep (BadMarks line) h = absurd h.2
   of_sweep OutOfMemory h = tt
 
-  module _ (f : Finished) (dump : Dumped) (parts : IsDumpOf workers f dump) (swept : SomeHeapAt disk image (IsSweptHeap workers f)) where
+  module _ (f : Finished) (dump : Dumped) (parts : IsDumpOf workers f dump) (swept : SomeHeapAt disk large image (IsSweptHeap workers f)) where
     -- its dump was not written
     pub of_dumping : (refusal : CommandRefusal) → IsOfDumping disk path (dump_bytes dump) refusal → Refuses refusal
     of_dumping (Layout fault) h = absurd h
@@ -85,10 +85,10 @@ module _ {F W : Type 0} (disk : Disk F W) (image path : List ℕ) (workers : ℕ
     of_dumping (Dump BadMagic) h = absurd h
     of_dumping (Dump BadField) h = absurd h
     of_dumping (Dump faults.OutOfMemory) h = absurd h
-    of_dumping (Dump Device) h = (swept.0, swept.1, of_image (IsSweptHeap workers f) (BeginsDump disk path workers) swept.0 (λ heap s. begins workers f dump parts heap s disk path h) swept.2)
+    of_dumping (Dump Device) h = (swept.0, swept.1, of_image large (IsSweptHeap workers f) (BeginsDump disk path workers) swept.0 (λ heap s. begins workers f dump parts heap s disk path h) swept.2)
     of_dumping (Audit fault) h = absurd h
     of_dumping (CannotOpen input) h = absurd h
-    of_dumping (CannotCreate output) h = (swept.0, swept.1, (h.0, h.1, of_image (IsSweptHeap workers f) (WasSwept workers) swept.0 (λ heap s. (f, s)) swept.2))
+    of_dumping (CannotCreate output) h = (swept.0, swept.1, (h.0, h.1, of_image large (IsSweptHeap workers f) (WasSwept workers) swept.0 (λ heap s. (f, s)) swept.2))
     of_dumping (ReadFailed input) h = absurd h
     of_dumping CannotPrint h = absurd h
     of_dumping (NoSuchWord index) h = absurd h
@@ -98,7 +98,7 @@ module _ {F W : Type 0} (disk : Disk F W) (image path : List ℕ) (workers : ℕ
     module _ (whole : WritesWhole disk outputs.Dump path (dump_bytes dump) to) where
       -- its line was not printed
       of_printing : Refuses CannotPrint
-      of_printing = (swept.0, swept.1, of_image (IsSweptHeap workers f) (DumpsHeap disk path workers to) swept.0 (λ heap s. dumps workers f dump parts heap s disk path to whole) swept.2)
+      of_printing = (swept.0, swept.1, of_image large (IsSweptHeap workers f) (DumpsHeap disk path workers to) swept.0 (λ heap s. dumps workers f dump parts heap s disk path to whole) swept.2)
 
       pub of_line : (result : Result (Unit {0}) CommandRefusal) → OnErr result (result ≡ Err CannotPrint) → IfErr result Refuses
       of_line (Ok _) h = tt
@@ -106,16 +106,16 @@ module _ {F W : Type 0} (disk : Disk F W) (image path : List ℕ) (workers : ℕ
 
       -- its line was printed
       pub of_all : (before after : Option (List ℕ)) (n : ℕ) → n ≡ dump.total → Appends before after (named (codes "live ") n)
-          → SomeHeapAt disk image (Compacts disk path workers to before after)
+          → SomeHeapAt disk large image (Compacts disk path workers to before after)
       of_all before after n is line = (
         swept.0,
         swept.1,
-        of_image (IsSweptHeap workers f) (Compacts disk path workers to before after) swept.0 (λ heap s. record {
+        of_image large (IsSweptHeap workers f) (Compacts disk path workers to before after) swept.0 (λ heap s. record {
           dump = dumps workers f dump parts heap s disk path to whole;
           line = subst (λ (m : ℕ). Appends before after (named (codes "live ") m)) (is ∙ same_total workers f dump parts heap s) line;
         }) swept.2,
       )
 
 -- a refusal to sweep is none of the output
-pub uncounted : {F W : Type 0} (disk : Disk F W) (image : List ℕ) (n : ℕ) (refusal : CommandRefusal) → RefusesAt disk image RefusesSweep refusal → CountsPrint {T = Unit {0}} n n (Err refusal)
-uncounted disk image n refusal h = uncounted_by n n refusal refl (λ e. (subst (RefusesAt disk image RefusesSweep) e h).2)
+pub uncounted : {F W : Type 0} (disk : Disk F W) (large : Bool) (image : List ℕ) (n : ℕ) (refusal : CommandRefusal) → RefusesAt disk large image RefusesSweep refusal → CountsPrint {T = Unit {0}} n n (Err refusal)
+uncounted disk large image n refusal h = uncounted_by n n refusal refl (λ e. (subst (RefusesAt disk large image RefusesSweep) e h).2)

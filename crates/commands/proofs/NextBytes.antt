@@ -30,7 +30,7 @@ module _ {F W : Type 0} (disk : Disk F W) (asked : NextRun) (to : F) (before aft
       → ((known : Option (List ℕ)) → disk.holds inputs.Marks asked.marks.now known → known ≡ Some marks_text)
       → MakesNext disk asked to before after → MadeNext
   known_next images traces listed (heap, (bytes, holds, (other, stored, accepted, (known, same))), (lines, (more, near, (own, is_text, has_lines)), (marks, (third, there, (mine, is_marks, has_marks)), h))) =
-      let image_is : image ≡ encoding other = subst (λ (o : Option (List ℕ)). IfSome o (λ bytes. bytes ≡ encoding other)) (images bytes holds) known in
+      let image_is : image ≡ encoding other = subst (λ (o : Option (List ℕ)). IfSome o (λ bytes. bytes ≡ encoding other)) (images bytes holds) known.0 in
       let text_is : text ≡ own = subst (λ (o : Option (List ℕ)). IfSome o (λ bytes. bytes ≡ own)) (traces more near) is_text in
       let marks_are : marks_text ≡ mine = subst (λ (o : Option (List ℕ)). IfSome o (λ bytes. bytes ≡ mine)) (listed third there) is_marks in
       record {

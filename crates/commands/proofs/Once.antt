@@ -2,6 +2,7 @@
 use Rattle.std.proofs.Common.{◌≡◌, ℕ, ◌∙◌, ◌<◌, List, [], ◌∷◌, Option, None, Some, length, map, refl, sym, ap, subst, arith}
 use Rattle.std.specs.List.{range_with_len}
 use Rattle.std.proofs.lemmas.List.{get_or_default, same_lists}
+use Rattle.heap_layout.proofs.Bounds.{words_most, roots_most}
 use Rattle.heap_layout.specs.Encoding.{AreCounted, ImagesDiffer}
 use Rattle.heap_layout.specs.Faults.{IsAccepted}
 use Rattle.heap_layout.specs.Heap.{Heap}
@@ -117,8 +118,8 @@ of_heap heap mutators fresh text lines more end other dump second text_is more_i
 -- an accepted heap has few words, marks and roots
 pub counted_of : (heap : Heap) → IsAccepted heap → AreCounted heap
 counted_of heap accepted =
-    let few = sizes-few (length heap.words) (length heap.marks) (length heap.roots) (passed heap accepted).sizes in
-    record { words = omega (arith, few.0); marks = omega (arith, few.1); roots = omega (arith, few.2) }
+    let few = sizes-few heap.edition (length heap.words) (length heap.marks) (length heap.roots) (passed heap accepted).sizes in
+    record { words = omega (arith, few.0, words_most heap.edition); marks = omega (arith, few.1, words_most heap.edition); roots = omega (arith, few.2, roots_most heap.edition) }
 
 -- what is known of a replay, of its heap alone
 record Over (mutators fresh : ℕ) (text : List ℕ) (end : Moment) (dump : Dumped) (heap : Heap) : Type 0 where

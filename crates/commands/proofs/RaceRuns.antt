@@ -35,7 +35,7 @@ races : {F W : Type 0} (disk : Disk F W) (asked : TraceRun) (to : F) (before aft
 races disk asked to before after lines shown f heap h written printed = record { race = has_race asked.mutators asked.fresh lines shown f heap h; written = written; printed = printed }
 
 -- What follows from what became of a race.
-module _ {F W : Type 0} (disk : Disk F W) (asked : TraceRun) (from to : F) (before after : Option (List ℕ)) (heap : Heap) (image : IsHeapAt disk asked.image.now heap)
+module _ {F W : Type 0} (disk : Disk F W) (asked : TraceRun) (from to : F) (before after : Option (List ℕ)) (heap : Heap) (image : IsHeapAt disk asked.large asked.image.now heap)
     (lines : List Line) (trace : HasLinesAt disk asked.trace.now asked.mutators (length heap.roots) lines)
     (outcome : Result Replayed PrintedHalt) (ran : IfOk outcome (λ run. IsRacedHeap asked.mutators asked.fresh lines run.shown.items run.finished heap)) (result : Result (Unit {0}) CommandRefusal) where
   pub of_outcome_err : IfErr outcome (λ run. IsHaltedRace asked.mutators asked.fresh lines run.shown.items heap run.refusal)

@@ -1,5 +1,5 @@
 -- What the command `replay` does and refuses, from what its parts do and refuse.
-use Rattle.std.proofs.Common.{◌≡◌, ℕ, ◌+◌, ◌++◌, List, [], Option, Some, None, Result, Ok, Err, IfErr, IfOk, OnErr, OnOk, length, map, inl, inr, refl, sym, subst, ◌∙◌, append-nil}
+use Rattle.std.proofs.Common.{◌≡◌, ℕ, Bool, ◌+◌, ◌++◌, List, [], Option, Some, None, Result, Ok, Err, IfErr, IfOk, OnErr, OnOk, length, map, inl, inr, refl, sym, subst, ◌∙◌, append-nil}
 use Rattle.std.proofs.KnownBytes.{Appends-kept, Appends-trans, Keeps-refl}
 use Rattle.std.specs.Io.KnownBytes.{Appends, Keeps}
 use Rattle.heap_layout.specs.Heap.{live, Heap}
@@ -49,7 +49,7 @@ replays disk asked to before after lines shown f heap h written printed = record
 }
 
 -- What follows from what became of a run.
-module _ {F W : Type 0} (disk : Disk F W) (asked : TraceRun) (from to : F) (before after : Option (List ℕ)) (heap : Heap) (image : IsHeapAt disk asked.image.now heap)
+module _ {F W : Type 0} (disk : Disk F W) (asked : TraceRun) (from to : F) (before after : Option (List ℕ)) (heap : Heap) (image : IsHeapAt disk asked.large asked.image.now heap)
     (lines : List Line) (trace : HasLinesAt disk asked.trace.now asked.mutators (length heap.roots) lines)
     (outcome : Result Replayed PrintedHalt) (ran : IfOk outcome (λ run. IsReplayedHeap asked.mutators asked.fresh lines run.shown.items run.finished heap)) (result : Result (Unit {0}) CommandRefusal) where
   pub of_outcome_err : IfErr outcome (λ run. IsPrintedHalt asked.mutators asked.fresh lines run.shown.items heap run.refusal)
@@ -64,15 +64,15 @@ module _ {F W : Type 0} (disk : Disk F W) (asked : TraceRun) (from to : F) (befo
       (λ shown f is written printed. replays disk asked to before after lines shown f heap is written printed) outcome ran result h
 
 -- no refusal of an image or of a trace counts a failed call of the output
-image_uncounted : {F W : Type 0} (disk : Disk F W) (path : List ℕ) (n : ℕ) (refusal : CommandRefusal) → RefusesAt disk path RefusesImage refusal → CountsPrint {T = Unit {0}} n n (Err refusal)
-image_uncounted disk path n refusal h = uncounted_by n n refusal refl (λ e. (subst (RefusesAt disk path RefusesImage) e h).2)
+image_uncounted : {F W : Type 0} (disk : Disk F W) (large : Bool) (path : List ℕ) (n : ℕ) (refusal : CommandRefusal) → RefusesAt disk large path RefusesImage refusal → CountsPrint {T = Unit {0}} n n (Err refusal)
+image_uncounted disk large path n refusal h = uncounted_by n n refusal refl (λ e. (subst (RefusesAt disk large path RefusesImage) e h).2)
 
 trace_uncounted : {F W : Type 0} (disk : Disk F W) (path : List ℕ) (mutators roots n : ℕ) (refusal : CommandRefusal) → RefusesTextAt disk path mutators roots refusal → CountsPrint {T = Unit {0}} n n (Err refusal)
 trace_uncounted disk path mutators roots n refusal h = uncounted_by n n refusal refl (λ e. (subst (RefusesTextAt disk path mutators roots) e h).2)
 
-pub inputs_uncounted : {F W : Type 0} (disk : Disk F W) (image trace : List ℕ) (mutators n : ℕ) (refusal : CommandRefusal) → RefusesInputs disk image trace mutators refusal → CountsPrint {T = Unit {0}} n n (Err refusal)
-inputs_uncounted disk image trace mutators n refusal (inl h) = image_uncounted disk image n refusal h
-inputs_uncounted disk image trace mutators n refusal (inr (heap, is_heap, h)) = trace_uncounted disk trace mutators (length heap.roots) n refusal h
+pub inputs_uncounted : {F W : Type 0} (disk : Disk F W) (large : Bool) (image trace : List ℕ) (mutators n : ℕ) (refusal : CommandRefusal) → RefusesInputs disk large image trace mutators refusal → CountsPrint {T = Unit {0}} n n (Err refusal)
+inputs_uncounted disk large image trace mutators n refusal (inl h) = image_uncounted disk large image n refusal h
+inputs_uncounted disk large image trace mutators n refusal (inr (heap, is_heap, h)) = trace_uncounted disk trace mutators (length heap.roots) n refusal h
 
 -- what a trace that is refused before anything is printed leaves of the output
 unprinted_trace : (before : Option (List ℕ)) (fault : TraceFault) → StopsUnprinted {T = Unit {0}} before before (Err (Trace fault))

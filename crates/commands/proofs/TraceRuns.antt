@@ -29,23 +29,23 @@ use Rattle.commands.specs.declared.replays.Replayed.{Replayed}
 pub some_text : {F W : Type 0} (disk : Disk F W) (path : List ℕ) (mutators roots other : ℕ) (lines : List Line) → roots ≡ other → HasLinesAt disk path mutators roots lines → HasLinesAt disk path mutators other lines
 some_text disk path mutators roots other lines e given = subst (λ (r : ℕ). HasLinesAt disk path mutators r lines) e given
 
-module _ {F W : Type 0} (disk : Disk F W) (asked : TraceRun) (heap : Heap) (image : IsHeapAt disk asked.image.now heap) where
+module _ {F W : Type 0} (disk : Disk F W) (asked : TraceRun) (heap : Heap) (image : IsHeapAt disk asked.large asked.image.now heap) where
   -- of the lines of a trace, and the heap of an image
   pub some_run : (P : List Line → Heap → Type 0) (lines : List Line) → HasLinesAt disk asked.trace.now asked.mutators (length heap.roots) lines → P lines heap → SomeRun disk asked P
   some_run P lines trace p = (
     image.0,
     image.1,
-    of_heap (λ (h : Heap). SomeFile disk inputs.Trace asked.trace.now (SomeText (λ text. (ls : List Line) × HasLines asked.mutators (length h.roots) ls text × P ls h))) heap image.0
+    of_heap asked.large (λ (h : Heap). SomeFile disk inputs.Trace asked.trace.now (SomeText (λ text. (ls : List Line) × HasLines asked.mutators (length h.roots) ls text × P ls h))) heap image.0
         (trace.0, trace.1, (trace.2.0, trace.2.1, (lines, trace.2.2, p))) image.2,
   )
 
   -- a trace that is refused for the heap
   pub some_refused : (refusal : CommandRefusal) → SomeFile disk inputs.Trace asked.trace.now (RefusesText asked.mutators (length heap.roots) refusal) → RefusesTrace disk asked refusal
   some_refused refusal trace =
-      (image.0, image.1, of_heap (λ (h : Heap). SomeFile disk inputs.Trace asked.trace.now (RefusesText asked.mutators (length h.roots) refusal)) heap image.0 trace image.2)
+      (image.0, image.1, of_heap asked.large (λ (h : Heap). SomeFile disk inputs.Trace asked.trace.now (RefusesText asked.mutators (length h.roots) refusal)) heap image.0 trace image.2)
 
-  pub some_heap : SomeHeapAt disk asked.image.now (λ h. ⊤)
-  some_heap = (image.0, image.1, of_heap (λ (h : Heap). ⊤) heap image.0 tt image.2)
+  pub some_heap : SomeHeapAt disk asked.large asked.image.now (λ h. ⊤)
+  some_heap = (image.0, image.1, of_heap asked.large (λ (h : Heap). ⊤) heap image.0 tt image.2)
 
 -- The refusals of the command, from those of its parts.
 module _ {F W : Type 0} (way : Way) (disk : Disk F W) (asked : TraceRun) (from to : F) (before after : Option (List ℕ)) where
@@ -53,7 +53,7 @@ module _ {F W : Type 0} (way : Way) (disk : Disk F W) (asked : TraceRun) (from t
   IsCause refusal = RefusesTraced way disk asked from to before after refusal
 
   -- there is no heap
-  of_image : (refusal : CommandRefusal) → RefusesAt disk asked.image.now RefusesImage refusal → IsCause refusal
+  of_image : (refusal : CommandRefusal) → RefusesAt disk asked.large asked.image.now RefusesImage refusal → IsCause refusal
   of_image (Layout fault) h = h
   of_image (Mutator refused) h = absurd h.2
   of_image (Sweep fault) h = absurd h.2
@@ -71,7 +71,7 @@ module _ {F W : Type 0} (way : Way) (disk : Disk F W) (asked : TraceRun) (from t
   of_image (BadMarks line) h = absurd h.2
   of_image OutOfMemory h = tt
 
-  module _ (heap : Heap) (image : IsHeapAt disk asked.image.now heap) where
+  module _ (heap : Heap) (image : IsHeapAt disk asked.large asked.image.now heap) where
     -- there is no trace for it, and nothing was printed
     by_trace : Keeps before after → (refusal : CommandRefusal) → RefusesTextAt disk asked.trace.now asked.mutators (length heap.roots) refusal → IsCause refusal
     by_trace kept (Layout fault) h = absurd h.2
@@ -166,7 +166,7 @@ module _ {F W : Type 0} (way : Way) (disk : Disk F W) (asked : TraceRun) (from t
       of_outcome_ok HasRun P done (Err run) ran (Ok _) h = absurd h
 
   -- there is no heap, or no trace for it
-  pub of_inputs : Keeps before after → (refusal : CommandRefusal) → RefusesInputs disk asked.image.now asked.trace.now asked.mutators refusal → IsCause refusal
+  pub of_inputs : Keeps before after → (refusal : CommandRefusal) → RefusesInputs disk asked.large asked.image.now asked.trace.now asked.mutators refusal → IsCause refusal
   of_inputs kept refusal (inl h) = of_image refusal h
   of_inputs kept refusal (inr (heap, image, h)) = by_trace heap image kept refusal h
 

@@ -50,7 +50,7 @@ RefusesCycle disk asked from to before after lines marks heap refusal =
 -- P holds of the heap of the image, of the lines of the trace for it, and of the marks that are asked for
 abbrev pub SomeCycle : {F W : Type 0} → Disk F W → NextRun → (List Line → List ℕ → Heap → Type 0) → Type 0
 SomeCycle disk asked P =
-    (heap : Heap) × IsHeapAt disk asked.image.now heap
+    (heap : Heap) × IsHeapAt disk asked.large asked.image.now heap
     × ((lines : List Line) × HasLinesAt disk asked.trace.now asked.mutators (length heap.roots) lines
     × ((marks : List ℕ) × AreMarksAt disk asked.marks.now marks × P lines marks heap))
 
@@ -67,14 +67,14 @@ PrintsNext mutators fresh before after heap = (text : List ℕ) × (lines : List
 -- there are the heap of the image and the lines of the trace for it; the marks are refused, or there are none
 abbrev pub RefusesHanded : {F W : Type 0} → Disk F W → NextRun → CommandRefusal → Type 0
 RefusesHanded disk asked refusal =
-    (heap : Heap) × IsHeapAt disk asked.image.now heap
+    (heap : Heap) × IsHeapAt disk asked.large asked.image.now heap
     × ((lines : List Line) × HasLinesAt disk asked.trace.now asked.mutators (length heap.roots) lines × RefusesMarksAt disk asked.marks.now refusal)
 
 -- why it is refused: there is no image, or no trace for its heap, or no marks; or one of them is refused; or the cycle
 -- is
 abbrev pub RefusesNext : {F W : Type 0} → Disk F W → NextRun → F → F → Option (List ℕ) → Option (List ℕ) → CommandRefusal → Type 0
 RefusesNext disk asked from to before after refusal =
-    RefusesInputs disk asked.image.now asked.trace.now asked.mutators refusal
+    RefusesInputs disk asked.large asked.image.now asked.trace.now asked.mutators refusal
     ⊎ (RefusesHanded disk asked refusal ⊎ SomeCycle disk asked (λ lines marks heap. RefusesCycle disk asked from to before after lines marks heap refusal))
 
 -- ---- within the command

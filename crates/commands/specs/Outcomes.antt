@@ -1,5 +1,5 @@
 -- What is read for a run, and what is written and printed of it, if it ends or if it is halted.
-use Rattle.std.specs.Prelude.{◌≡◌, ◌⊎◌, ℕ, List, [], length, Option, Result, Ok, Err}
+use Rattle.std.specs.Prelude.{◌≡◌, ◌⊎◌, ℕ, Bool, List, [], length, Option, Result, Ok, Err}
 use Rattle.std.specs.Io.KnownBytes.{Appends}
 use Rattle.heap_layout.specs.Heap.{Heap}
 use Rattle.comp_mutator.specs.Finishes.{live_of}
@@ -19,8 +19,8 @@ use Rattle.commands.specs.declared.replays.Replayed.{Replayed}
 
 -- why there is no heap with a trace: there is no image, or it is refused; or there is no trace for the heap, or it is
 -- refused
-abbrev pub RefusesInputs : {F W : Type 0} → Disk F W → List ℕ → List ℕ → ℕ → CommandRefusal → Type 0
-RefusesInputs disk image trace mutators refusal = RefusesAt disk image RefusesImage refusal ⊎ ((heap : Heap) × IsHeapAt disk image heap × RefusesTextAt disk trace mutators (length heap.roots) refusal)
+abbrev pub RefusesInputs : {F W : Type 0} → Disk F W → Bool → List ℕ → List ℕ → ℕ → CommandRefusal → Type 0
+RefusesInputs disk large image trace mutators refusal = RefusesAt disk large image RefusesImage refusal ⊎ ((heap : Heap) × IsHeapAt disk large image heap × RefusesTextAt disk trace mutators (length heap.roots) refusal)
 
 -- what a run had shown that was halted for this refusal: a refused line may come after lines that showed values, any
 -- other refusal comes with no value

@@ -25,7 +25,7 @@ use std::sync::ledger::{Blank, Ledger};
 use std::sync::{Arc, Wait};
 use std::thread::Threads;
 
-/// Compacts the heap whose image is at `image` with 1 to 64 workers, writes its dump to `dump`, and prints the live
+/// Compacts the heap whose image is at `image`, of edition three only if `large`, with 1 to 64 workers, writes its dump to `dump`, and prints the live
 /// words.
 ///
 /// Workers in threads of their own build the pages. The dump is created after the heap is finished, and the line is
@@ -38,18 +38,19 @@ pub fn print_compact<R: Threads + Wait + Sync, F: Files, O: Write>(
     image: &str,
     dump: &str,
     workers: u8,
+    large: bool,
     out: &mut Counted<&mut O>,
 ) -> Result<(), CommandRefusal>
     requires workers { (1 ≤ workers) × (workers ≤ 64) }
     requires written { failures_of out.old < 2 ^ 64 - 1 }
-    ensures compacted { OnOk result (SomeHeapAt (F.disk files.old) image.now (Compacts (F.disk files.old) dump.now workers files.new (O.contents (inner_of out.old).now) (O.contents (inner_of out.new).now))) }
-    ensures cause { IfErr result (RefusesAt (F.disk files.old) image.now (RefusesCompact (F.disk files.old) dump.now workers files.new)) }
+    ensures compacted { OnOk result (SomeHeapAt (F.disk files.old) large image.now (Compacts (F.disk files.old) dump.now workers files.new (O.contents (inner_of out.old).now) (O.contents (inner_of out.new).now))) }
+    ensures cause { IfErr result (RefusesAt (F.disk files.old) large image.now (RefusesCompact (F.disk files.old) dump.now workers files.new)) }
     ensures uncreated { RefusedUncreated (F.disk files.old) files.old files.new result }
     ensures counts { CountsPrint (failures_of out.old) (failures_of out.new) result }
     ensures same_writer { writer_of out.new ≡ writer_of out.old }
     ensures unprinted { RefusedUnprinted (O.contents (inner_of out.old).now) (O.contents (inner_of out.new).now) result }
 {
-    let finished = swept_heap(alloc, rt, &*files, image, workers)?;
+    let finished = swept_heap(alloc, rt, &*files, image, workers, large)?;
     let made = Dump::of(alloc, &finished, u32::from(workers), 0)?;
     write_dump_to(files, dump, &made)?;
     print_line("live ", made.live_words(), out)
@@ -62,13 +63,14 @@ fn swept_heap<R: Threads + Wait + Sync, F: Files>(
     files: &F,
     path: &str,
     workers: u8,
+    large: bool,
 ) -> Result<Finished, CommandRefusal>
     requires workers { (1 ≤ workers) × (workers ≤ 64) }
-    ensures swept { IfOk result (λ f. SomeHeapAt (F.disk files.now) path.now (IsSweptHeap workers f)) }
+    ensures swept { IfOk result (λ f. SomeHeapAt (F.disk files.now) large path.now (IsSweptHeap workers f)) }
     ensures flipped { IfOk result (IsOfFlip workers 0) }
-    ensures cause { IfErr result (RefusesAt (F.disk files.now) path.now RefusesSweep) }
+    ensures cause { IfErr result (RefusesAt (F.disk files.now) large path.now RefusesSweep) }
 {
-    let heap = heap_at(alloc, files, path)?;
+    let heap = heap_at(alloc, files, path, large)?;
     let plan = plan_heap(alloc, rt, heap)?;
     flipped_and_swept::<Brand, R>(alloc, rt, Blank::new(u64::from(workers)), plan, workers)
 }

@@ -35,6 +35,7 @@ pub fn plan_heap(
 }
 
 /// Flips the heap of a plan for 1 to 64 mutators and at most 4,096 fresh pages.
+#[tactic(auto, using(heap_layout::proofs::Bounds::fresh_pages_least))]
 pub fn flip_plan<L: Ledger>(
     alloc: Global,
     blank: Blank,

@@ -50,7 +50,14 @@ pub fn print_next<F: Files, O: Write>(
     ensures same_writer { writer_of out.new ≡ writer_of out.old }
     ensures unprinted { StopsUnprinted (O.contents (inner_of out.old).now) (O.contents (inner_of out.new).now) result }
 {
-    let inputs = inputs_at(alloc, &*files, asked.image, asked.trace, asked.mutators)?;
+    let inputs = inputs_at(
+        alloc,
+        &*files,
+        asked.image,
+        asked.trace,
+        asked.mutators,
+        asked.large,
+    )?;
     let marks = marks_at(alloc, &*files, asked.marks)?;
     let made = cycle_heap(
         alloc,

@@ -14,7 +14,7 @@ use std::alloc::Global;
 use std::io::Write;
 use std::thread::Threads;
 
-/// Prints the plan of the heap whose image is at a path, a line each for: the live words, the pages, the first object
+/// Prints the plan of the heap whose image is at a path, of edition three only if `large`, a line each for: the live words, the pages, the first object
 /// of each page, and the address of each root after the flip. A refusal other than `CannotPrint` prints nothing. Fewer
 /// than `u64::MAX` calls of the output must have failed before.
 pub fn print_plan<F: Files, O: Write>(
@@ -22,16 +22,17 @@ pub fn print_plan<F: Files, O: Write>(
     rt: &(impl Threads + Sync),
     files: &F,
     path: &str,
+    large: bool,
     out: &mut Counted<&mut O>,
 ) -> Result<(), CommandRefusal>
     requires { failures_of out.old < 2 ^ 64 - 1 }
-    ensures printed { OnOk result (SomeHeapAt (F.disk files.now) path.now (PrintsPlan (O.contents (inner_of out.old).now) (O.contents (inner_of out.new).now))) }
-    ensures cause { IfErr result (RefusesAt (F.disk files.now) path.now RefusesPlan) }
+    ensures printed { OnOk result (SomeHeapAt (F.disk files.now) large path.now (PrintsPlan (O.contents (inner_of out.old).now) (O.contents (inner_of out.new).now))) }
+    ensures cause { IfErr result (RefusesAt (F.disk files.now) large path.now RefusesPlan) }
     ensures counts { CountsPrint (failures_of out.old) (failures_of out.new) result }
     ensures same_writer { writer_of out.new ≡ writer_of out.old }
     ensures unprinted { RefusedUnprinted (O.contents (inner_of out.old).now) (O.contents (inner_of out.new).now) result }
 {
-    let heap = heap_at(alloc, files, path)?;
+    let heap = heap_at(alloc, files, path, large)?;
     let plan = Plan::new(alloc, rt, heap)?;
     write_plan(alloc, &plan, out)
 }

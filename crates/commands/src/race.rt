@@ -40,7 +40,14 @@ pub fn print_race<R: Threads + Wait + Sync, F: Files, O: Write>(
     ensures same_writer { writer_of out.new ≡ writer_of out.old }
     ensures unprinted { StopsUnprinted (O.contents (inner_of out.old).now) (O.contents (inner_of out.new).now) result }
 {
-    let inputs = inputs_at(alloc, &*files, asked.image, asked.trace, asked.mutators)?;
+    let inputs = inputs_at(
+        alloc,
+        &*files,
+        asked.image,
+        asked.trace,
+        asked.mutators,
+        asked.large,
+    )?;
     let ran = race_heap(
         alloc,
         rt,

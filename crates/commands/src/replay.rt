@@ -46,7 +46,14 @@ pub fn print_replay<F: Files, O: Write>(
     ensures same_writer { writer_of out.new ≡ writer_of out.old }
     ensures unprinted { StopsUnprinted (O.contents (inner_of out.old).now) (O.contents (inner_of out.new).now) result }
 {
-    let inputs = inputs_at(alloc, &*files, asked.image, asked.trace, asked.mutators)?;
+    let inputs = inputs_at(
+        alloc,
+        &*files,
+        asked.image,
+        asked.trace,
+        asked.mutators,
+        asked.large,
+    )?;
     let ran = replay_heap(
         alloc,
         rt,
@@ -65,21 +72,22 @@ pub struct Inputs {
     pub trace: Trace,
 }
 
-/// Reads the heap whose image is at a path, and then the trace for it at another path.
+/// Reads the heap whose image is at a path, of edition three only if `large`, and then the trace for it at another path.
 pub fn inputs_at<F: Files>(
     alloc: Global,
     files: &F,
     image: &str,
     trace: &str,
     mutators: u8,
+    large: bool,
 ) -> Result<Inputs, CommandRefusal>
-    ensures heap { IfOk result (λ inputs. IsHeapAt (F.disk files.now) image.now inputs.heap) }
+    ensures heap { IfOk result (λ inputs. IsHeapAt (F.disk files.now) large image.now inputs.heap) }
     ensures lines { IfOk result (λ inputs. HasLinesAt (F.disk files.now) trace.now mutators (length inputs.heap.roots) (lines_of inputs.trace)) }
     ensures counts { IfOk result (λ inputs. (mutators_of inputs.trace ≡ mutators) × (roots_of inputs.trace ≡ length inputs.heap.roots)) }
-    ensures cause { IfErr result (RefusesInputs (F.disk files.now) image.now trace.now mutators) }
+    ensures cause { IfErr result (RefusesInputs (F.disk files.now) large image.now trace.now mutators) }
 {
-    let heap = heap_at(alloc, files, image)?;
-    let roots = heap.roots().len() as u16;
+    let heap = heap_at(alloc, files, image, large)?;
+    let roots = heap.roots().len() as u32;
     let trace = trace_at(alloc, files, trace, mutators, roots)?;
     Ok(Inputs { heap, trace })
 }

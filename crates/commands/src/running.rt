@@ -160,16 +160,23 @@ fn print_task<R: Threads + Wait + Sync, F: Files, O: Write>(
     ensures unprinted { StopsUnprinted (O.contents (inner_of out.old).now) (O.contents (inner_of out.new).now) result }
 {
     match task {
-        Task::Plan { image } => print_plan(alloc, rt, &*files, image, out),
-        Task::Word { image, index } => print_word(alloc, rt, &*files, image, index, out),
+        Task::Plan { image, large } => print_plan(alloc, rt, &*files, image, large, out),
+        Task::Word {
+            image,
+            index,
+            large,
+        } => print_word(alloc, rt, &*files, image, large, index, out),
         Task::Replay(run) => print_replay(alloc, rt, files, run, out),
         Task::Race(run) => print_race(alloc, rt, files, run, out),
         Task::Compact {
             image,
             dump,
             workers,
-        } => print_compact(alloc, rt, files, image, dump, workers, out),
-        Task::Audit { image, dump } => print_audit(alloc, rt, &*files, image, dump, out),
+            large,
+        } => print_compact(alloc, rt, files, image, dump, workers, large, out),
+        Task::Audit { image, dump, large } => {
+            print_audit(alloc, rt, &*files, image, dump, large, out)
+        }
         Task::Next(run) => print_next(alloc, rt, files, run, out),
         Task::Help { text } => print_help(&text, out),
         Task::Version => print_text(VERSION_LINE, out),

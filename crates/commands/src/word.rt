@@ -14,7 +14,7 @@ use std::io::Write;
 use std::sync::Arc;
 use std::thread::Threads;
 
-/// Prints the slid word at an index, of the heap whose image is at a path: its decimal digits and a line feed. After
+/// Prints the slid word at an index, of the heap whose image is at a path, of edition three only if `large`: its decimal digits and a line feed. After
 /// the last live word it is 0; an index after the last page is refused (`NoSuchWord`). A refusal other than
 /// `CannotPrint` prints nothing. Fewer than `u64::MAX` calls of the output must have failed before.
 pub fn print_word<F: Files, O: Write>(
@@ -22,17 +22,18 @@ pub fn print_word<F: Files, O: Write>(
     rt: &(impl Threads + Sync),
     files: &F,
     path: &str,
+    large: bool,
     index: u64,
     out: &mut Counted<&mut O>,
 ) -> Result<(), CommandRefusal>
     requires { failures_of out.old < 2 ^ 64 - 1 }
-    ensures printed { OnOk result (SomeHeapAt (F.disk files.now) path.now (PrintsWordAt index (O.contents (inner_of out.old).now) (O.contents (inner_of out.new).now))) }
-    ensures cause { IfErr result (RefusesAt (F.disk files.now) path.now (RefusesPrint index)) }
+    ensures printed { OnOk result (SomeHeapAt (F.disk files.now) large path.now (PrintsWordAt index (O.contents (inner_of out.old).now) (O.contents (inner_of out.new).now))) }
+    ensures cause { IfErr result (RefusesAt (F.disk files.now) large path.now (RefusesPrint index)) }
     ensures counts { CountsPrint (failures_of out.old) (failures_of out.new) result }
     ensures same_writer { writer_of out.new ≡ writer_of out.old }
     ensures unprinted { RefusedUnprinted (O.contents (inner_of out.old).now) (O.contents (inner_of out.new).now) result }
 {
-    let word = word_at(alloc, rt, files, path, index)?;
+    let word = word_at(alloc, rt, files, path, large, index)?;
     print_line("", word, out)
 }
 
@@ -42,12 +43,13 @@ fn word_at<F: Files>(
     rt: &(impl Threads + Sync),
     files: &F,
     path: &str,
+    large: bool,
     index: u64,
 ) -> Result<u64, CommandRefusal>
-    ensures word { IfOk result (λ word. SomeHeapAt (F.disk files.now) path.now (IsWordAt index word)) }
-    ensures cause { IfErr result (RefusesAt (F.disk files.now) path.now (RefusesWord index)) }
+    ensures word { IfOk result (λ word. SomeHeapAt (F.disk files.now) large path.now (IsWordAt index word)) }
+    ensures cause { IfErr result (RefusesAt (F.disk files.now) large path.now (RefusesWord index)) }
 {
-    let heap = heap_at(alloc, files, path)?;
+    let heap = heap_at(alloc, files, path, large)?;
     let plan = plan_heap(alloc, rt, heap)?;
     word_of(alloc, plan, index)
 }

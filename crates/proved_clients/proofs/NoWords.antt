@@ -8,12 +8,12 @@ not_empty same = cc
 
 -- nothing is answered to no words
 unanswered : (before after : Option (List ℕ)) → HasAnswered [] before after → ⊥
-unanswered before after (inl plan) = not_empty plan.1.1
-unanswered before after (inr (inl word)) = not_empty word.2.2.1
+unanswered before after (inl plan) = not_empty plan.2.is_command.begin
+unanswered before after (inr (inl word)) = not_empty word.3.is_command.begin
 unanswered before after (inr (inr (inl replay))) = not_empty replay.1.is_command.begin
 unanswered before after (inr (inr (inr (inl race)))) = not_empty race.1.is_command.begin
-unanswered before after (inr (inr (inr (inr (inl compact))))) = not_empty compact.3.1.begin
-unanswered before after (inr (inr (inr (inr (inr (inl audit)))))) = not_empty audit.2.1
+unanswered before after (inr (inr (inr (inr (inl compact))))) = not_empty compact.4.is_command.begin
+unanswered before after (inr (inr (inr (inr (inr (inl audit)))))) = not_empty audit.3.is_command.begin
 unanswered before after (inr (inr (inr (inr (inr (inr (inl next))))))) = not_empty next.1.is_command.begin
 unanswered before after (inr (inr (inr (inr (inr (inr (inr (inl help)))))))) = omega (arith, help.0.1.2)
 unanswered before after (inr (inr (inr (inr (inr (inr (inr (inr version)))))))) = not_empty version.0.1.2

@@ -8,4 +8,4 @@ pub returns-in_err-open-clause-cause : goal.returns-in_err-open-clause-cause
 returns-in_err-open-clause-cause g c =
     let p = err_from_is_err_and c.from_residual.result c.from_residual.ensures.1 in
     let disk = g.F.Files.disk c.args.files.now in
-    rw (p.1, p.2) (opened Image (disk.lacks Image c.args.path.now) (RefusesAt disk c.args.path.now RefusesImage) (λ h. h) tt _ c.in_err-open.ensures.cause)
+    rw (p.1, p.2) (opened Image (disk.lacks Image c.args.path.now) (RefusesAt disk c.args.large c.args.path.now RefusesImage) (λ h. h) tt _ c.in_err-open.ensures.cause)

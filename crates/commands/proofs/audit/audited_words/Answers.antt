@@ -11,7 +11,7 @@ returns-in-Yes-clause-passed g c =
     let heap = c.in_ok-heap.heap in
     let dump = c.in_ok-judged.judged in
     let yes = subst (λ (v : Verdict). Judges (faults heap dump) v) c.in-Yes.is c.in_ok-verdict_of.ensures.verdict in
-    of_both (g.F.Files.disk c.args.files.now) c.args.image.now c.args.dump.now heap c.in_ok-heap.ensures.heap dump c.in_ok-judged.ensures.dump (HasPassed c.live_words.result)
+    of_both (g.F.Files.disk c.args.files.now) c.args.large c.args.image.now c.args.dump.now heap c.in_ok-heap.ensures.heap dump c.in_ok-judged.ensures.dump (HasPassed c.live_words.result)
     (record { judged = yes; total = c.live_words.ensures.total })
 
 pub returns-clause-cause : goal.returns-clause-cause
@@ -19,4 +19,4 @@ returns-clause-cause g c =
     let heap = c.in_ok-heap.heap in
     let dump = c.in_ok-judged.judged in
     let no = subst (λ (v : Verdict). Judges (faults heap dump) v) c.in-No.is c.in_ok-verdict_of.ensures.verdict in
-    of_both (g.F.Files.disk c.args.files.now) c.args.image.now c.args.dump.now heap c.in_ok-heap.ensures.heap dump c.in_ok-judged.ensures.dump (λ h d. Judges (faults h d) (No c.in-No.fault)) no
+    of_both (g.F.Files.disk c.args.files.now) c.args.large c.args.image.now c.args.dump.now heap c.in_ok-heap.ensures.heap dump c.in_ok-judged.ensures.dump (λ h d. Judges (faults h d) (No c.in-No.fault)) no

@@ -10,13 +10,13 @@ use Rattle.commands.proofs.compact.print_compact.Goals as goal
 pub returns-in_err-finished-clause-cause : goal.returns-in_err-finished-clause-cause
 returns-in_err-finished-clause-cause g c =
     let p = err_from_is_err_and c.from_residual.result c.from_residual.ensures.1 in
-    rw (p.1, p.2) (of_sweep (g.F.Files.disk c.args.files.now) c.args.image.now c.args.dump.now c.args.workers c.args.files.now
+    rw (p.1, p.2) (of_sweep (g.F.Files.disk c.args.files.now) c.args.large c.args.image.now c.args.dump.now c.args.workers c.args.files.now
     _ c.in_err-finished.ensures.cause)
 
 pub returns-in_err-finished-clause-counts : goal.returns-in_err-finished-clause-counts
 returns-in_err-finished-clause-counts g c =
     let p = err_from_is_err_and c.from_residual.result c.from_residual.ensures.1 in
-    rw (p.1, p.2) (uncounted (g.F.Files.disk c.args.files.now) c.args.image.now (failures_of c.args.out.now) _ c.in_err-finished.ensures.cause)
+    rw (p.1, p.2) (uncounted (g.F.Files.disk c.args.files.now) c.args.large c.args.image.now (failures_of c.args.out.now) _ c.in_err-finished.ensures.cause)
 
 pub returns-in_err-finished-clause-unprinted : goal.returns-in_err-finished-clause-unprinted
 returns-in_err-finished-clause-unprinted g c =
@@ -42,7 +42,7 @@ returns-in_err-write_dump_to-clause-cause g c =
       builds = made.builds;
       total = made.total;
     } in
-    rw (p.1, p.2) (of_dumping (g.F.Files.disk c.args.files.now) c.args.image.now c.args.dump.now c.args.workers c.write_dump_to.new.files
+    rw (p.1, p.2) (of_dumping (g.F.Files.disk c.args.files.now) c.args.large c.args.image.now c.args.dump.now c.args.workers c.write_dump_to.new.files
     c.in_ok-finished.finished c.in_ok-made.made parts c.in_ok-finished.ensures.swept _ c.in_err-write_dump_to.ensures.cause)
 
 pub returns-in_err-write_dump_to-clause-counts : goal.returns-in_err-write_dump_to-clause-counts
@@ -73,7 +73,7 @@ returns-clause-compacted g c =
       builds = made.builds;
       total = made.total;
     } in
-    on_ok_weaker c.print_line.result (λ line. of_all (g.F.Files.disk c.args.files.now) c.args.image.now c.args.dump.now c.args.workers c.write_dump_to.new.files
+    on_ok_weaker c.print_line.result (λ line. of_all (g.F.Files.disk c.args.files.now) c.args.large c.args.image.now c.args.dump.now c.args.workers c.write_dump_to.new.files
     c.in_ok-finished.finished c.in_ok-made.made parts c.in_ok-finished.ensures.swept c.in_ok-write_dump_to.ensures.written
     (g.O.Write.contents (inner_of c.args.out.now).now) (g.O.Write.contents (inner_of c.print_line.new.out).now) c.live_words.result c.live_words.ensures.total line)
     c.print_line.ensures.printed
@@ -90,7 +90,7 @@ returns-clause-cause g c =
       builds = made.builds;
       total = made.total;
     } in
-    of_line (g.F.Files.disk c.args.files.now) c.args.image.now c.args.dump.now c.args.workers c.write_dump_to.new.files
+    of_line (g.F.Files.disk c.args.files.now) c.args.large c.args.image.now c.args.dump.now c.args.workers c.write_dump_to.new.files
     c.in_ok-finished.finished c.in_ok-made.made parts c.in_ok-finished.ensures.swept c.in_ok-write_dump_to.ensures.written
     c.print_line.result c.print_line.ensures.cause
 

@@ -10,13 +10,13 @@ pub returns-clause-swept : goal.returns-clause-swept
 returns-clause-swept g c =
     let workers = c.args.workers in
     IfOk-weaker c.flipped_and_swept.result _ _
-    (λ f h. at_heap (g.F.Files.disk c.args.files.now) c.args.path.now c.in_ok-heap.heap (IsSweptHeap workers f) c.in_ok-heap.ensures.heap
+    (λ f h. at_heap (g.F.Files.disk c.args.files.now) c.args.large c.args.path.now c.in_ok-heap.heap (IsSweptHeap workers f) c.in_ok-heap.ensures.heap
     (subst (λ (heap : Heap). IsSweptHeap workers f heap) c.in_ok-plan.ensures.plan h))
     c.flipped_and_swept.ensures.swept
 
 pub returns-clause-cause : goal.returns-clause-cause
 returns-clause-cause g c =
     IfErr-weaker c.flipped_and_swept.result _ _
-    (λ refusal h. of_sweeping (g.F.Files.disk c.args.files.now) c.args.path.now c.in_ok-heap.heap c.in_ok-heap.ensures.heap refusal
+    (λ refusal h. of_sweeping (g.F.Files.disk c.args.files.now) c.args.large c.args.path.now c.in_ok-heap.heap c.in_ok-heap.ensures.heap refusal
     (subst (λ (heap : Heap). IsOfSweeping heap refusal) c.in_ok-plan.ensures.plan h))
     c.flipped_and_swept.ensures.cause

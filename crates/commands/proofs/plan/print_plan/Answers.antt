@@ -12,10 +12,10 @@ returns-clause-printed g c =
     let before = g.O.Write.contents (inner_of c.args.out.now).now in
     let after = g.O.Write.contents (inner_of c.write_plan.new.out).now in
     on_ok_weaker c.write_plan.result
-    (λ printed. at_heap (g.F.Files.disk c.args.files.now) c.args.path.now c.in_ok-heap.heap (PrintsPlan before after) c.in_ok-heap.ensures.heap
+    (λ printed. at_heap (g.F.Files.disk c.args.files.now) c.args.large c.args.path.now c.in_ok-heap.heap (PrintsPlan before after) c.in_ok-heap.ensures.heap
     (subst (λ (heap : Heap). PrintsPlan before after heap) c.in_ok-plan.ensures printed))
     c.write_plan.ensures.printed
 
 pub returns-clause-cause : goal.returns-clause-cause
 returns-clause-cause g c =
-    IfErr-weaker c.write_plan.result _ _ (λ refusal h. of_plan (g.F.Files.disk c.args.files.now) c.args.path.now c.in_ok-heap.heap c.in_ok-heap.ensures.heap refusal h) c.write_plan.ensures.cause
+    IfErr-weaker c.write_plan.result _ _ (λ refusal h. of_plan (g.F.Files.disk c.args.files.now) c.args.large c.args.path.now c.in_ok-heap.heap c.in_ok-heap.ensures.heap refusal h) c.write_plan.ensures.cause

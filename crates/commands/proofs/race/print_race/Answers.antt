@@ -20,7 +20,7 @@ pub returns-in_err-inputs-clause-counts : goal.returns-in_err-inputs-clause-coun
 returns-in_err-inputs-clause-counts g c =
     let p = err_from_is_err_and c.from_residual.result c.from_residual.ensures.1 in
     let paths = c.args.asked in
-    rw (p.1, p.2) (inputs_uncounted (g.F.Files.disk c.args.files.now) paths.image.now paths.trace.now paths.mutators (failures_of c.args.out.now) _ c.in_err-inputs.ensures.cause)
+    rw (p.1, p.2) (inputs_uncounted (g.F.Files.disk c.args.files.now) paths.large paths.image.now paths.trace.now paths.mutators (failures_of c.args.out.now) _ c.in_err-inputs.ensures.cause)
 
 pub returns-in_err-inputs-clause-unprinted : goal.returns-in_err-inputs-clause-unprinted
 returns-in_err-inputs-clause-unprinted g c =

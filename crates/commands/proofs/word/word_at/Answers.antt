@@ -10,7 +10,7 @@ pub returns-clause-word : goal.returns-clause-word
 returns-clause-word g c =
     let index = c.args.index in
     IfOk-weaker c.word_of.result _ _
-    (λ word h. at_heap (g.F.Files.disk c.args.files.now) c.args.path.now c.in_ok-heap.heap (IsWordAt index word) c.in_ok-heap.ensures.heap
+    (λ word h. at_heap (g.F.Files.disk c.args.files.now) c.args.large c.args.path.now c.in_ok-heap.heap (IsWordAt index word) c.in_ok-heap.ensures.heap
     (subst (λ (heap : Heap). IsWordAt index word heap) c.in_ok-plan.ensures.plan h))
     c.word_of.ensures.word
 
@@ -18,6 +18,6 @@ pub returns-clause-cause : goal.returns-clause-cause
 returns-clause-cause g c =
     let index = c.args.index in
     IfErr-weaker c.word_of.result _ _
-    (λ refusal h. of_past (g.F.Files.disk c.args.files.now) c.args.path.now c.in_ok-heap.heap c.in_ok-heap.ensures.heap index refusal
+    (λ refusal h. of_past (g.F.Files.disk c.args.files.now) c.args.large c.args.path.now c.in_ok-heap.heap c.in_ok-heap.ensures.heap index refusal
     (subst (λ (heap : Heap). IsPast index heap refusal) c.in_ok-plan.ensures.plan h))
     c.word_of.ensures.cause

@@ -1,4 +1,4 @@
-use Rattle.std.proofs.Common.{◌≡◌, ◌∙◌, ◌≤◌, ℕ, [], map, subst, sym}
+use Rattle.std.proofs.Common.{◌≡◌, ◌∙◌, ◌≤◌, ℕ, [], map, subst, sym, arith}
 use Rattle.std.proofs.lemmas.List.{length-map}
 use Rattle.heap_layout.specs.Heap.{Heap, IsClosed}
 use Rattle.comp_mutator.specs.Finishes.{IsOfFlip}
@@ -31,7 +31,7 @@ returns-in-Ok-audit g c =
       some_mutators = subst (λ (n : ℕ). 1 ≤ n) c.requires.count flipped.some_mutators;
       few_mutators = subst (λ (n : ℕ). n ≤ 64) c.requires.count flipped.few_mutators;
       fresh_are = c.requires.fresh;
-      few_fresh = subst (λ (n : ℕ). n ≤ 4096) c.requires.fresh flipped.few_fresh;
+      few_fresh = omega (arith, flipped.few_fresh, c.requires.fresh);
     } in
     let none : faults u.heap dump ≡ [] = c.lawful_is_yes.ensures.finished c.args.count c.args.fresh f of dump c.live_words-words.ensures.stored
     (record { edition_is = made.edition; mutators_are = made.mutators; fresh_are = made.fresh; roots = made.roots; pages = made.pages; builds = made.builds; total = made.total }) in
