@@ -1,6 +1,5 @@
 //! The heap of the three objects through two cycles, with values worked out by hand: in each cycle the mutator makes an
 //! object on page 3, its first fresh page, writes 9 into it, and stores it in the object of the root.
-ghost use Rattle.comp_mutator.specs.Ends.{IsEndOf};
 ghost use Rattle.comp_mutator.specs.Finishes.{IsOfFlip};
 
 use crate::cycles::{compacted, followed, live_twice, planned};
@@ -105,46 +104,6 @@ fn expect_left(
     assert_eq!(rt; verdict, Verdict::Yes, "{}", At::new(case, 0));
 }
 
-// Checks page `p` with the words that it began with: its first four words then and now, of which the others are 0.
-fn expect_journaled(
-    rt: &impl Abort,
-    alloc: Global,
-    plan: &Plan,
-    left: &Finished,
-    p: usize,
-    wanted: Option<([u64; 4], [u64; 4])>,
-)
-    requires { IsEndOf plan.now left.now }
-{
-    let page = left.pages().journaled(alloc, plan, p).expect(rt, "memory");
-    let found = match &page {
-        Some(page) => Some((first_four(rt, page.base()), first_four(rt, page.words()))),
-        None => None,
-    };
-    assert_eq!(rt; found, wanted, "{}", At::new("page with its base", p));
-}
-
-// The first four words of a page whose others are 0.
-fn first_four(rt: &impl Abort, words: &[u64; 64]) -> [u64; 4] {
-    for offset in 4..64 {
-        assert_eq!(rt; words[offset], 0, "{}", At::new("word", offset));
-    }
-    [words[0], words[1], words[2], words[3]]
-}
-
-// Checks the compacted page, the fresh page with the object that was made, one that nobody touched, and one past the
-// last.
-fn expect_bases(rt: &impl Abort, alloc: Global, plan: &Plan, left: &Finished)
-    requires { IsEndOf plan.now left.now }
-{
-    let slid = ([FIRST, 11, LAST, T], [FIRST, 11, LAST, T + 192]);
-    let fresh = ([0; 4], [MADE, 9, 0, 0]);
-    expect_journaled(rt, alloc, plan, left, 0, Some(slid));
-    expect_journaled(rt, alloc, plan, left, 3, Some(fresh));
-    expect_journaled(rt, alloc, plan, left, 4, None);
-    expect_journaled(rt, alloc, plan, left, 9, None);
-}
-
 // Checks the heap with which the next cycle begins.
 fn expect_next(rt: &impl Abort, case: &str, heap: &MarkedHeap, marks: &[u32], wanted: &Wanted) {
     assert_eq!(rt; heap.words().len(), 576, "{}", At::new(case, 0));
@@ -173,7 +132,6 @@ fn expect_two_cycles<R: Abort + Threads + Wait + Sync>(rt: &R, alloc: Global) {
         &left,
         &after_first(T + 192, T + 2),
     );
-    expect_bases(rt, alloc, &plan, &left);
     let kept = [2u32, 192].to_vec(alloc).expect(rt, "marks");
     let next = followed(alloc, &plan, left, kept).expect(rt, "the next heap");
     expect_next(

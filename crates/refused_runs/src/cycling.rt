@@ -64,7 +64,7 @@ fn is_memory(stopped: &CyclesStopped) -> bool {
 // The cycles, or `None` if memory was refused before they began.
 fn cycles_once(rt: &(impl Threads + Sync), alloc: Global) -> Option<bool> {
     let heap = worked_heap(alloc, Worked::Three)?;
-    let roots = heap.roots().len() as u16;
+    let roots = heap.roots().len() as u32;
     let first = parse(alloc, FIRST, 1, roots).ok()?;
     let second = parse(alloc, SECOND, 1, roots).ok()?;
     let rest = [([0, 2, 64].to_vec(alloc).ok()?, second)];

@@ -144,6 +144,19 @@ const REFERRED: Case = Case {
     builds: &[&[1, 0], &[2]],
 };
 
+// A heap of edition three, whose check allocates, with so many fresh pages that the zeros of its table do too.
+const LARGE: Case = Case {
+    name: "a large table",
+    heap: Worked::Mixed,
+    mutators: 1,
+    fresh_pages: 21_000,
+    rows: &[Row(0, Call::Touch(0), 0, 0, Ok(1))],
+    settles: false,
+    sweeps: false,
+    live_words: 6,
+    builds: &[&[0]],
+};
+
 // One worker sweeps the twenty pages.
 const SWEPT: Case = Case {
     name: "a sweep",
@@ -159,7 +172,7 @@ const SWEPT: Case = Case {
     ]],
 };
 
-static CASES: [Case; 6] = [WRITTEN, ALLOCATED, TOUCHED, SETTLED, REFERRED, SWEPT];
+static CASES: [Case; 7] = [WRITTEN, ALLOCATED, TOUCHED, SETTLED, REFERRED, SWEPT, LARGE];
 
 /// All of them.
 pub fn cases() -> &'static [Case] {

@@ -60,6 +60,7 @@ fn write_dump<R: Abort + AllocGlobal + Threads + Wait + Sync>(
                 row.image,
                 row.path,
                 workers,
+                false,
                 &mut counted,
             )
         }
@@ -71,6 +72,7 @@ fn write_dump<R: Abort + AllocGlobal + Threads + Wait + Sync>(
                 dump: row.path,
                 mutators: 1,
                 fresh,
+                large: false,
             };
             print_replay(rt.alloc(), rt, place, asked, &mut counted)
         }

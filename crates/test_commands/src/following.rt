@@ -56,6 +56,7 @@ fn write_next(
         new: row.path,
         mutators: 1,
         fresh: 2,
+        large: false,
     };
     let mut counted = Counted::new(&mut *out);
     print_next(rt.alloc(), rt, place, asked, &mut counted)

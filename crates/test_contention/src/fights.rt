@@ -1,4 +1,4 @@
-//! The fights: how many mutators write into the first data word of the three objects, how often, and what is left.
+//! The fights: how many mutators write into the first data word of a heap, how often, and what is left.
 use crate::judged::fight_named;
 use std::alloc::Global;
 use std::marker::Brand;
@@ -13,6 +13,9 @@ use test_support::{At, Worked, plan_of};
 pub struct Fight {
     /// The name that a failing test prints.
     pub name: &'static str,
+    pub heap: Worked,
+    /// The offset on page 0 of the first data word of the first object.
+    pub offset: u8,
     pub mutators: u8,
     /// How often each mutator writes, or tries to.
     pub writes: u64,
@@ -32,9 +35,11 @@ impl Fight {
     }
 }
 
-static FIGHTS: [Fight; 3] = [
+static FIGHTS: [Fight; 4] = [
     Fight {
         name: "sixty-four mutators fill a journal",
+        heap: Worked::Three,
+        offset: 1,
         mutators: 64,
         writes: 16,
         waits: true,
@@ -42,6 +47,8 @@ static FIGHTS: [Fight; 3] = [
     },
     Fight {
         name: "eight mutators try a hundred times",
+        heap: Worked::Three,
+        offset: 1,
         mutators: 8,
         writes: 100,
         waits: false,
@@ -49,17 +56,28 @@ static FIGHTS: [Fight; 3] = [
     },
     Fight {
         name: "sixty-four mutators try ten times",
+        heap: Worked::Three,
+        offset: 1,
         mutators: 64,
         writes: 10,
         waits: false,
         fills: false,
     },
+    Fight {
+        name: "sixteen mutators fill a journal of edition three",
+        heap: Worked::Mixed,
+        offset: 3,
+        mutators: 16,
+        writes: 64,
+        waits: true,
+        fills: true,
+    },
 ];
 
-// Runs a fight on the heap of the three objects.
+// Runs a fight on its heap.
 fn fight_out<R: Abort + Threads + Wait + Sync>(rt: &R, alloc: Global, fight: &Fight) {
-    let plan = plan_of(rt, alloc, Worked::Three).expect(rt, "a plan");
-    let shared = plan_of(rt, alloc, Worked::Three).expect(rt, "a plan");
+    let plan = plan_of(rt, alloc, fight.heap).expect(rt, "a plan");
+    let shared = plan_of(rt, alloc, fight.heap).expect(rt, "a plan");
     let builder = Arc::new(alloc, shared).expect(rt, "memory for the builder");
     let blank = Blank::new(u64::from(fight.mutators));
     fight_named::<Brand, R>(rt, alloc, blank, builder, &plan, *fight);

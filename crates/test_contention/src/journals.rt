@@ -12,7 +12,7 @@ fn is_entry(entry: &Entry, stamp: u64, fight: Fight) -> bool {
     entry.stamp == stamp
         && entry.writer < fight.mutators
         && entry.kind == Kind::Data
-        && entry.offset == 1
+        && entry.offset == fight.offset
 }
 
 // Whether the values of a writer rise and are among those that it wrote. If no write may be refused, they must be all
@@ -36,9 +36,10 @@ fn are_of_writer(journal: &[Entry], writer: u8, fight: Fight) -> bool {
 }
 
 // Whether the word is that of the last entry.
-fn has_last(page: &ClosedPage<'_>) -> bool {
+fn has_last(page: &ClosedPage<'_>, fight: Fight) -> bool {
+    let offset = usize::from(fight.offset);
     match page.journal().last() {
-        Some(last) => page.words().as_slice().get(1) == Some(&last.value),
+        Some(last) => page.words().as_slice().get(offset) == Some(&last.value),
         None => false,
     }
 }
@@ -61,7 +62,7 @@ pub fn expect_page(rt: &impl Abort, finished: &Finished, entries: u64, fight: Fi
     match finished.pages().page(0) {
         Some(page) => {
             expect_journal(rt, page.journal(), entries, fight);
-            expect_so(rt, fight.at(entries), has_last(&page));
+            expect_so(rt, fight.at(entries), has_last(&page, fight));
         }
         None => rt.panic(fight.name),
     }

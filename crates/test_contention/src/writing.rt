@@ -1,4 +1,4 @@
-//! Writes of many threads at once into the first data word of the three objects.
+//! Writes of many threads at once into the first data word of a heap.
 ghost use Rattle.comp_mutator.specs.Mutators.{AreMutatorsOf, IsMutatorOf};
 
 use crate::expected::{expect_eq, expect_so};

@@ -29,7 +29,7 @@ pub fn ran(
     requires fresh { fresh ≤ 4096 }
     ensures { IsEndOf result.plan.value result.finished }
 {
-    let roots = heap.roots().len() as u16;
+    let roots = heap.roots().len() as u32;
     let trace = parse(alloc, text, mutators, roots).expect(rt, "a trace");
     match run_cycle(alloc, rt, heap, &trace, mutators, fresh) {
         Ok(ran) => ran,

@@ -2,7 +2,7 @@
 use crate::chains::follow;
 use crate::expected::{expect_eq, expect_so};
 use crate::rows::linked;
-use heap_layout::{Counted, Edition, MarkedHeap, read_image, write_image};
+use heap_layout::{Counted, Edition, MarkedHeap, read_large_image, write_image};
 use std::alloc::Global;
 use std::process::Abort;
 use test_support::At;
@@ -12,7 +12,7 @@ pub fn image(rt: &impl Abort, alloc: Global, heap: &MarkedHeap) -> Vec<u8> {
     let mut writer = Counted::new(Vec::new(alloc));
     write_image(heap, &mut writer).expect(rt, "writing into memory");
     let bytes = writer.into_inner();
-    let again = read_image(alloc, &mut Counted::new(&bytes[..])).expect(rt, "a heap");
+    let again = read_large_image(alloc, &mut Counted::new(&bytes[..])).expect(rt, "a heap");
     expect_eq(rt, At::new("words", 0), again.words(), heap.words());
     expect_eq(rt, At::new("marks", 0), again.marks(), heap.marks());
     expect_eq(rt, At::new("roots", 0), again.roots(), heap.roots());

@@ -85,7 +85,7 @@ fn cycles(rt: &(impl Abort + Threads + Sync), alloc: Global) -> Option<Result<u6
     let marks = [0, 5].to_vec(alloc).ok()?;
     let roots = [F + 5].to_vec(alloc).ok()?;
     let heap = MarkedHeap::from_parts_of(Edition::One, words, marks, roots).ok()?;
-    let roots = heap.roots().len() as u16;
+    let roots = heap.roots().len() as u32;
     let first = parse(alloc, FIRST, 1, roots).ok()?;
     let second = parse(alloc, SECOND, 1, roots).ok()?;
     let rest = [([0, 2, 64].to_vec(alloc).ok()?, second)];

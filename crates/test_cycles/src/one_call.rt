@@ -37,7 +37,7 @@ pub fn expect_values(rt: &impl Abort, shown: &[Shown], wanted: &[u64], name: &st
 }
 
 // The traces of these cycles, each with its marks.
-fn further(rt: &impl Abort, alloc: Global, past: &[Past], roots: u16) -> Vec<(Vec<u32>, Trace)>
+fn further(rt: &impl Abort, alloc: Global, past: &[Past], roots: u32) -> Vec<(Vec<u32>, Trace)>
     ensures { All (λ one. IsParsedFor 2 roots one.1) result.items }
 {
     let mut further = Vec::new(alloc);
@@ -62,7 +62,7 @@ pub fn expect_past(
     let (Some(first), Some(others)) = (past.first(), past.get(1..)) else {
         return;
     };
-    let roots = heap.roots().len() as u16;
+    let roots = heap.roots().len() as u32;
     let trace = parse(alloc, first.text.as_bytes(), MUTATORS, roots).expect(rt, "a trace");
     let rest = further(rt, alloc, others, roots);
     match replay_cycles(alloc, rt, heap, &trace, &rest, MUTATORS, FRESH) {

@@ -31,10 +31,10 @@ impl Plain {
     fn place(&self, field: Field) -> Option<usize> {
         let (first, count, number) = match field {
             Field::Reference(number) => (0, self.header.refs(), number),
-            Field::Weak(number) => (usize::from(self.header.refs()), self.header.weak(), number),
+            Field::Weak(number) => (self.header.refs() as usize, self.header.weak(), number),
             Field::Data(number) => (self.references(), self.header.data_words(), number),
         };
-        if number < count {
+        if u32::from(number) < count {
             return Some(first.wrapping_add(usize::from(number)));
         }
         None
@@ -42,7 +42,7 @@ impl Plain {
 
     // The number of its references and weak words. They come before the data words.
     fn references(&self) -> usize {
-        usize::from(self.header.refs()) + usize::from(self.header.weak())
+        self.header.refs() as usize + self.header.weak() as usize
     }
 }
 
@@ -155,7 +155,7 @@ impl Life {
             Some(one) if one.kept => one.header.refs(),
             _ => 0,
         };
-        for field in 0..count {
+        for field in 0..(count % 65_536) as u16 {
             let number = (object as u64).wrapping_add(1);
             if let Some(target) = self.get(number, Field::Reference(field)) {
                 self.keep(target);
@@ -266,7 +266,7 @@ impl Life {
                 Some(one) => one.header.weak(),
                 None => 0,
             };
-            for field in 0..weak {
+            for field in 0..(weak % 65_536) as u16 {
                 let target = self.get(number, Field::Weak(field)).unwrap_or(0);
                 if self.is_dropped(target) {
                     self.set(number, Field::Weak(field), 0);

@@ -1,4 +1,4 @@
-//! Pseudorandom chains of ten cycles of two mutators, in both editions. Each cycle shows what the plain model shows,
+//! Pseudorandom chains of ten cycles of two mutators, in each edition. Each cycle shows what the plain model shows,
 //! whose objects never move, and the next heap has the words of the model. All cycles of a chain by one call show the
 //! same.
 use crate::chains::{follow, ran};
@@ -11,8 +11,11 @@ use std::process::Abort;
 use std::thread::Threads;
 use test_support::{F, Random, heap_of};
 
-// The number of chains of each edition, of cycles of a chain, and of lines drawn for a cycle.
+// The numbers of chains of each of editions one and two, of chains of edition three, of cycles of a chain, and of lines
+// drawn for a cycle.
 const CHAINS: u64 = 40;
+
+const LARGE_CHAINS: u64 = 10;
 
 const CYCLES: u32 = 10;
 
@@ -41,6 +44,7 @@ fn header(edition: Edition, refs: u16, weak: u16, data_words: u16, tag: u16) -> 
     match edition {
         Edition::One => Header::new(refs, data_words, u32::from(tag)),
         Edition::Two => Header::new_weak(refs, weak, data_words, tag),
+        Edition::Three => Header::new_mixed(refs, weak, data_words, tag % 16_384),
     }
 }
 
@@ -53,7 +57,7 @@ fn plain(alloc: Global, header: Header, fields: &[u64], at: u64) -> Result<Plain
     })
 }
 
-// Two objects that refer to one another. In edition two each has a weak word for itself.
+// Two objects that refer to one another. Except in edition one each has a weak word for itself.
 fn opening(alloc: Global, edition: Edition) -> Result<Life, AllocError> {
     let (first, second) = (header(edition, 2, 1, 1, 1), header(edition, 1, 1, 1, 2));
     let objects = match edition {
@@ -61,7 +65,7 @@ fn opening(alloc: Global, edition: Edition) -> Result<Life, AllocError> {
             plain(alloc, first, &[2, 0, 10], 0)?,
             plain(alloc, second, &[1, 20], 4)?,
         ]?,
-        Edition::Two => vec![in alloc;
+        Edition::Two | Edition::Three => vec![in alloc;
             plain(alloc, first, &[2, 0, 1, 10], 0)?,
             plain(alloc, second, &[1, 2, 20], 5)?,
         ]?,
@@ -85,7 +89,7 @@ fn opening_heap(rt: &impl Abort, alloc: Global, edition: Edition) -> MarkedHeap 
             let words = [first, F + 4, 0, 10, second, F, 20];
             heap_of(alloc, edition, &words, &[0, 4], &[F, 0, F + 4])
         }
-        Edition::Two => {
+        Edition::Two | Edition::Three => {
             let words = [first, F + 5, 0, F, 10, second, F, F + 5, 20];
             heap_of(alloc, edition, &words, &[0, 5], &[F, 0, F + 5])
         }
@@ -125,7 +129,9 @@ impl Chain {
     fn field(&self, random: &mut Random) -> (u16, Field, &'static str) {
         let number = random.small(3);
         match self.life.edition {
-            Edition::Two if random.below(2) == 0 => (number, Field::Weak(number), "w"),
+            Edition::Two | Edition::Three if random.below(2) == 0 => {
+                (number, Field::Weak(number), "w")
+            }
             _ => (number, Field::Reference(number), ""),
         }
     }
@@ -182,14 +188,16 @@ impl Chain {
         let (refs, data, tag) = (random.small(4), random.small(20), random.small(100));
         let weak = match self.life.edition {
             Edition::One => 0,
-            Edition::Two => random.small(3),
+            Edition::Two | Edition::Three => random.small(3),
         };
         let asked = header(self.life.edition, refs, weak, data, tag);
         if let Some(number) = self.life.add(alloc, by, asked)? {
             self.hold(to, number);
             match self.life.edition {
                 Edition::One => write!(self.text, "{by} new {to} {refs} {data} {tag}\n")?,
-                Edition::Two => write!(self.text, "{by} wnew {to} {refs} {weak} {data} {tag}\n")?,
+                Edition::Two | Edition::Three => {
+                    write!(self.text, "{by} wnew {to} {refs} {weak} {data} {tag}\n")?
+                }
             }
         }
         Ok(())
@@ -298,8 +306,11 @@ fn random_cycles_agree_with_the_plain_model(rt: HostRuntime) {
 }
 
 #[test]
-fn random_cycles_of_edition_two_agree_with_the_plain_model(rt: HostRuntime) {
+fn random_cycles_of_editions_two_and_three_agree_with_the_plain_model(rt: HostRuntime) {
     for seed in 0..CHAINS {
         run_chain(&rt, rt.alloc(), Edition::Two, seed);
+    }
+    for seed in 0..LARGE_CHAINS {
+        run_chain(&rt, rt.alloc(), Edition::Three, seed);
     }
 }

@@ -107,7 +107,7 @@ fn stop(
     marks: &[u32],
 ) -> Option<(CycleFault, usize)> {
     let heap = three(rt, alloc);
-    let roots = heap.roots().len() as u16;
+    let roots = heap.roots().len() as u32;
     let first = parse(alloc, LINKED, 1, roots).expect(rt, "a trace");
     let more = parse(alloc, PUT, 1, roots).expect(rt, "a trace");
     let rest = [(marks.to_vec(alloc).expect(rt, "marks"), more)];

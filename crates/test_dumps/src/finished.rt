@@ -7,6 +7,7 @@ use crate::encoded::{Whole, encoded};
 use crate::expected::expect_eq;
 use comp_audit::Dump;
 use comp_mutator::{Mutator, Refusal, Space, Touched, flip};
+use heap_layout::Kind;
 use page_plan::Plan;
 use std::alloc::Global;
 use std::marker::Brand;
@@ -38,6 +39,13 @@ pub enum Call {
     WriteWeak(u64, u16, u64),
     /// A new object of one weak word with tag 5. The answer is its address.
     AllocWeak,
+    /// A read of a field of any number: its kind, the object and the field.
+    ReadAt(Kind, u64, u32),
+    /// A write of a field of any number: its kind, the object, the field and the value. The answer is the stamp of the
+    /// entry.
+    WriteAt(Kind, u64, u32, u64),
+    /// A touch of each page, in order. The answer is the number of pages that it built.
+    TouchAll,
 }
 
 /// The number of a mutator, its call, and the answer.
@@ -56,6 +64,65 @@ pub struct Run {
     pub length: usize,
     /// The dump.
     pub parts: Whole,
+}
+
+// The answer of a read of a field of any number.
+fn read_at<L: Named>(
+    alloc: Global,
+    space: &Space<L, Plan>,
+    m: &mut Mutator<L>,
+    kind: Kind,
+    object: u64,
+    field: u32,
+) -> Result<u64, Refusal>
+    requires of { IsMutatorOf space.now m.old }
+    ensures of { IsMutatorOf space.now m.new }
+{
+    match kind {
+        Kind::Reference => space.try_read_referring(alloc, m, Kind::Reference, object, field),
+        Kind::Weak => space.try_read_referring(alloc, m, Kind::Weak, object, field),
+        _ => space.try_read_data_at(alloc, m, object, field),
+    }
+}
+
+// The answer of a write of a field of any number.
+fn write_at<L: Named>(
+    alloc: Global,
+    space: &Space<L, Plan>,
+    m: &mut Mutator<L>,
+    kind: Kind,
+    object: u64,
+    field: u32,
+    value: u64,
+) -> Result<u64, Refusal>
+    requires of { IsMutatorOf space.now m.old }
+    ensures of { IsMutatorOf space.now m.new }
+{
+    match kind {
+        Kind::Reference => {
+            space.try_write_referring(alloc, m, Kind::Reference, object, field, value)
+        }
+        Kind::Weak => space.try_write_referring(alloc, m, Kind::Weak, object, field, value),
+        _ => space.try_write_data_at(alloc, m, object, field, value),
+    }
+}
+
+// The answer of touches of all pages.
+fn touch_all<L: Named>(
+    alloc: Global,
+    space: &Space<L, Plan>,
+    m: &mut Mutator<L>,
+) -> Result<u64, Refusal>
+    requires of { IsMutatorOf space.now m.old }
+    ensures of { IsMutatorOf space.now m.new }
+{
+    let mut built = 0u64;
+    for p in 0..space.pages() {
+        if space.try_touch(alloc, m, p)? == Touched::Built {
+            built = built.wrapping_add(1);
+        }
+    }
+    Ok(built)
 }
 
 // The answer of a call.
@@ -90,6 +157,11 @@ fn answer<L: Named>(
             space.try_write_weak(alloc, m, *object, *field, *value)
         }
         Call::AllocWeak => space.try_alloc_weak(alloc, m, 0, 1, 0, 5),
+        Call::ReadAt(kind, object, field) => read_at(alloc, space, m, *kind, *object, *field),
+        Call::WriteAt(kind, object, field, value) => {
+            write_at(alloc, space, m, *kind, *object, *field, *value)
+        }
+        Call::TouchAll => touch_all(alloc, space, m),
     }
 }
 

@@ -55,93 +55,131 @@ fn expect_rows(rt: &(impl Abort + AllocGlobal), rows: &[Row]) {
 }
 
 // Lines and the tasks that they ask for.
-static TASKS: [Row; 24] = [
-    ("plan three.img", "Plan { image: \"three.img\" }"),
-    ("plan -- --help", "Plan { image: \"--help\" }"),
+static TASKS: [Row; 32] = [
+    (
+        "plan three.img",
+        "Plan { image: \"three.img\", large: false }",
+    ),
+    ("plan -- --help", "Plan { image: \"--help\", large: false }"),
     (
         "word three.img 2",
-        "Word { image: \"three.img\", index: 2 }",
+        "Word { image: \"three.img\", index: 2, large: false }",
     ),
     (
         "word three.img +02 --",
-        "Word { image: \"three.img\", index: 2 }",
+        "Word { image: \"three.img\", index: 2, large: false }",
     ),
     (
         "word -- -x.img 18446744073709551615",
-        "Word { image: \"-x.img\", index: 18446744073709551615 }",
+        "Word { image: \"-x.img\", index: 18446744073709551615, large: false }",
     ),
     (
         "replay three.img t19 out",
-        "Replay(TraceRun { image: \"three.img\", trace: \"t19\", dump: \"out\", mutators: 2, fresh: 64 })",
+        "Replay(TraceRun { image: \"three.img\", trace: \"t19\", dump: \"out\", mutators: 2, fresh: 64, large: false })",
     ),
     (
         "replay a t --fresh=4096 d --mutators 64",
-        "Replay(TraceRun { image: \"a\", trace: \"t\", dump: \"d\", mutators: 64, fresh: 4096 })",
+        "Replay(TraceRun { image: \"a\", trace: \"t\", dump: \"d\", mutators: 64, fresh: 4096, large: false })",
     ),
     (
         "replay -- --fresh 0 1",
-        "Replay(TraceRun { image: \"--fresh\", trace: \"0\", dump: \"1\", mutators: 2, fresh: 64 })",
+        "Replay(TraceRun { image: \"--fresh\", trace: \"0\", dump: \"1\", mutators: 2, fresh: 64, large: false })",
     ),
     (
         "race three.img t19 out",
-        "Race(TraceRun { image: \"three.img\", trace: \"t19\", dump: \"out\", mutators: 2, fresh: 64 })",
+        "Race(TraceRun { image: \"three.img\", trace: \"t19\", dump: \"out\", mutators: 2, fresh: 64, large: false })",
     ),
     (
         "race --mutators 1 --fresh 2 three.img t18 out",
-        "Race(TraceRun { image: \"three.img\", trace: \"t18\", dump: \"out\", mutators: 1, fresh: 2 })",
+        "Race(TraceRun { image: \"three.img\", trace: \"t18\", dump: \"out\", mutators: 1, fresh: 2, large: false })",
     ),
     (
         "race --fresh 0 three.img t18 out",
-        "Race(TraceRun { image: \"three.img\", trace: \"t18\", dump: \"out\", mutators: 2, fresh: 0 })",
+        "Race(TraceRun { image: \"three.img\", trace: \"t18\", dump: \"out\", mutators: 2, fresh: 0, large: false })",
     ),
     (
         "race a --mutators=7 -- -t -d",
-        "Race(TraceRun { image: \"a\", trace: \"-t\", dump: \"-d\", mutators: 7, fresh: 64 })",
+        "Race(TraceRun { image: \"a\", trace: \"-t\", dump: \"-d\", mutators: 7, fresh: 64, large: false })",
     ),
     (
         "compact a.img out.dump",
-        "Compact { image: \"a.img\", dump: \"out.dump\", workers: 2 }",
+        "Compact { image: \"a.img\", dump: \"out.dump\", workers: 2, large: false }",
     ),
     (
         "compact --workers 64 a b",
-        "Compact { image: \"a\", dump: \"b\", workers: 64 }",
+        "Compact { image: \"a\", dump: \"b\", workers: 64, large: false }",
     ),
     (
         "compact a --workers=3 b",
-        "Compact { image: \"a\", dump: \"b\", workers: 3 }",
+        "Compact { image: \"a\", dump: \"b\", workers: 3, large: false }",
     ),
     (
         "compact a b --workers +01",
-        "Compact { image: \"a\", dump: \"b\", workers: 1 }",
+        "Compact { image: \"a\", dump: \"b\", workers: 1, large: false }",
     ),
     (
         "compact -- --workers 3",
-        "Compact { image: \"--workers\", dump: \"3\", workers: 2 }",
+        "Compact { image: \"--workers\", dump: \"3\", workers: 2, large: false }",
     ),
     (
         "compact --workers 5 -- a -b",
-        "Compact { image: \"a\", dump: \"-b\", workers: 5 }",
+        "Compact { image: \"a\", dump: \"-b\", workers: 5, large: false }",
     ),
     (
         "audit three.img forged.dump",
-        "Audit { image: \"three.img\", dump: \"forged.dump\" }",
+        "Audit { image: \"three.img\", dump: \"forged.dump\", large: false }",
     ),
-    ("audit a -- -b", "Audit { image: \"a\", dump: \"-b\" }"),
+    (
+        "audit a -- -b",
+        "Audit { image: \"a\", dump: \"-b\", large: false }",
+    ),
     (
         "audit -- --help --",
-        "Audit { image: \"--help\", dump: \"--\" }",
+        "Audit { image: \"--help\", dump: \"--\", large: false }",
     ),
     (
         "next three.img t18 m new",
-        "Next(NextRun { image: \"three.img\", trace: \"t18\", marks: \"m\", new: \"new\", mutators: 2, fresh: 64 })",
+        "Next(NextRun { image: \"three.img\", trace: \"t18\", marks: \"m\", new: \"new\", mutators: 2, fresh: 64, large: false })",
     ),
     (
         "next --mutators 1 --fresh=2 three.img t18 m new",
-        "Next(NextRun { image: \"three.img\", trace: \"t18\", marks: \"m\", new: \"new\", mutators: 1, fresh: 2 })",
+        "Next(NextRun { image: \"three.img\", trace: \"t18\", marks: \"m\", new: \"new\", mutators: 1, fresh: 2, large: false })",
     ),
     (
         "next a --mutators=64 t -- -m --fresh",
-        "Next(NextRun { image: \"a\", trace: \"t\", marks: \"-m\", new: \"--fresh\", mutators: 64, fresh: 64 })",
+        "Next(NextRun { image: \"a\", trace: \"t\", marks: \"-m\", new: \"--fresh\", mutators: 64, fresh: 64, large: false })",
+    ),
+    (
+        "plan --large three.img",
+        "Plan { image: \"three.img\", large: true }",
+    ),
+    (
+        "plan -- --large",
+        "Plan { image: \"--large\", large: false }",
+    ),
+    (
+        "word three.img --large 2",
+        "Word { image: \"three.img\", index: 2, large: true }",
+    ),
+    (
+        "replay --large --fresh 2 a t d",
+        "Replay(TraceRun { image: \"a\", trace: \"t\", dump: \"d\", mutators: 2, fresh: 2, large: true })",
+    ),
+    (
+        "race a t d --large",
+        "Race(TraceRun { image: \"a\", trace: \"t\", dump: \"d\", mutators: 2, fresh: 64, large: true })",
+    ),
+    (
+        "compact --large --workers 3 a b",
+        "Compact { image: \"a\", dump: \"b\", workers: 3, large: true }",
+    ),
+    (
+        "audit a --large b",
+        "Audit { image: \"a\", dump: \"b\", large: true }",
+    ),
+    (
+        "next --large a t m n",
+        "Next(NextRun { image: \"a\", trace: \"t\", marks: \"m\", new: \"n\", mutators: 2, fresh: 64, large: true })",
     ),
 ];
 
@@ -189,7 +227,11 @@ fn version_is_printed_for_these_words(rt: HostRuntime) {
 }
 
 // Lines that are no command.
-static NO_COMMANDS: [&str; 54] = [
+static NO_COMMANDS: [&str; 58] = [
+    "plan --large",
+    "plan --large --large a",
+    "audit --large=1 a b",
+    "word --large a",
     "",
     "--",
     "-- word three.img 2",

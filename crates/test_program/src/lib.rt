@@ -9,6 +9,8 @@ mod cycling;
 #[cfg(test)]
 mod judging;
 #[cfg(test)]
+mod large;
+#[cfg(test)]
 mod launching;
 #[cfg(test)]
 mod printing;

@@ -1,6 +1,6 @@
 //! What the files of tests hold, by name. A table that names a content costs a test's proof less than one that holds
 //! it.
-use crate::changes::{Change, WEAK_WORD, make_change};
+use crate::changes::{Change, VERSION, WEAK_WORD, make_change};
 use crate::images::{
     BAD_ROOT_IMAGE, EMPTY_IMAGE, FRESH_DUMP, THREE_IMAGE, TWENTY_IMAGE, WEAK_DUMP, WEAK_IMAGE,
     WEAK_SWEPT_DUMP,
@@ -42,6 +42,10 @@ pub enum Content {
     ForgedWeakDump(Change, Change),
     /// The dump of the three objects of edition two after a sweep by one worker.
     WeakSweptDump,
+    /// The image of the same three objects in edition three, whose words are the same.
+    LargeImage,
+    /// The dump after the same run in edition three.
+    LargeDump,
 }
 
 const SEEN_TRACE: &[u8] =
@@ -77,6 +81,10 @@ pub fn bytes_in(alloc: Global, content: Content) -> Result<Vec<u8>, AllocError> 
         Content::WeakDump => bytes_of(alloc, &WEAK_DUMP),
         Content::ForgedWeakDump(first, second) => changed(alloc, &WEAK_DUMP, first, second),
         Content::WeakSweptDump => bytes_of(alloc, &WEAK_SWEPT_DUMP),
+        Content::LargeImage => {
+            changed(alloc, &WEAK_IMAGE, Change::Byte(VERSION, 3), Change::None)
+        }
+        Content::LargeDump => changed(alloc, &WEAK_DUMP, Change::Byte(VERSION, 3), Change::None),
     }
 }
 

@@ -81,18 +81,19 @@ impl Drawn {
         Ok(state)
     }
 
-    // Appends an object of up to 3 references, all to one target, up to 4 data words, and in edition two up to 2 weak
-    // words, which are null.
+    // Appends an object of up to 3 references, all to one target, up to 4 data words, and except in edition one up to 2
+    // weak words, which are null.
     fn push(&mut self, state: u64, target: u64) -> Result<(), AllocError> {
         let refs = ((state >> 33) % 4) as u16;
         let data_words = ((state >> 40) % 5) as u16;
         let weak = match self.edition {
             Edition::One => 0,
-            Edition::Two => ((state >> 47) % 3) as u16,
+            Edition::Two | Edition::Three => ((state >> 47) % 3) as u16,
         };
         let header = match self.edition {
             Edition::One => Header::new(refs, data_words, 7),
             Edition::Two => Header::new_weak(refs, weak, data_words, 7),
+            Edition::Three => Header::new_mixed(refs, weak, data_words, 7),
         };
         self.words.push(header.word())?;
         for _ in 0..refs {

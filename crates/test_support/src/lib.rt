@@ -12,6 +12,7 @@ mod contents;
 mod heaps;
 mod images;
 mod larger_heaps;
+mod many_fields;
 mod object;
 mod objects;
 mod pages;
@@ -38,6 +39,7 @@ pub use images::{
     ALL, BAD_ROOT_IMAGE, EMPTY_IMAGE, FRESH_DUMP, THREE_IMAGE, THREE_OBJECTS, TWENTY_IMAGE,
     WEAK_DUMP, WEAK_IMAGE, WEAK_SWEPT_DUMP,
 };
+pub use many_fields::{MANY_DATA, MANY_REFERENCES, MANY_WEAK};
 pub use object::Object;
 pub use objects::{Objects, Written};
 pub use pages::page_words;

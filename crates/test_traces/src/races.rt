@@ -3,7 +3,7 @@
 use crate::expected::{expect_eq, expect_so};
 use crate::flipped::Case;
 use crate::ran::raced;
-use crate::replays::{WEAK_TEXT, replay_rows, replay_weak_rows};
+use crate::replays::{WEAK_TEXT, replay_root_rows, replay_rows, replay_weak_rows};
 use comp_mutator::{Builder, Finished, Refusal};
 use comp_trace::{RefusedLine, Run};
 use heap_layout::Header;
@@ -124,6 +124,19 @@ static WEAK_ROWS: [Row; 3] = [
     },
 ];
 
+// On the three objects of edition two in edition three, with 70,000 roots, of which number 65,536 and the last refer to
+// the last object and all others are null.
+static ROOT_ROWS: [Row; 1] = [Row {
+    case: Case {
+        name: "reads roots far from the first beside one another",
+        mutators: 2,
+        fresh_pages: 0,
+        text: b"0 root 0 65536\n0 load 1 0 0\n0 get 1 0\n1 root 0 69999\n1 load 1 0 0\n1 get 1 0\n1 root 0 65535\n",
+    },
+    runs: &[Wanted::Shows(3, 9, 9), Wanted::Shows(6, 9, 9)],
+    live_words: 6,
+}];
+
 // On an object of four pages. Two of them are only built at the same time.
 static SIDE_BY_SIDE: Row = Row {
     case: Case {
@@ -208,6 +221,14 @@ fn race_weak_rows<R: Abort + Threads + Wait + Sync>(rt: &R, alloc: Global, plan:
     }
 }
 
+// All rows on the objects with many roots, which have this plan.
+fn race_root_rows<R: Abort + Threads + Wait + Sync>(rt: &R, alloc: Global, plan: &Plan) {
+    for row in &ROOT_ROWS {
+        let builder = plan_of(rt, alloc, Worked::ManyRoots(70_000)).expect(rt, "a plan");
+        race_row(rt, alloc, builder, plan, row);
+    }
+}
+
 // The row on the object of four pages.
 fn race_side_by_side<R: Abort + Threads + Wait + Sync>(rt: &R, alloc: Global) {
     let plan = zeros(rt, alloc);
@@ -225,4 +246,7 @@ fn replays_and_races_show_and_leave_what_was_worked_by_hand(rt: HostRuntime) {
     let plan = plan_of(&rt, alloc, Worked::Weak).expect(&rt, "a plan");
     replay_weak_rows(&rt, alloc, &plan);
     race_weak_rows(&rt, alloc, &plan);
+    let plan = plan_of(&rt, alloc, Worked::ManyRoots(70_000)).expect(&rt, "a plan");
+    replay_root_rows(&rt, alloc, &plan);
+    race_root_rows(&rt, alloc, &plan);
 }

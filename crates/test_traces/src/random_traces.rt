@@ -1,5 +1,5 @@
-//! Pseudorandom traces of each edition: a thousand are replayed by one thread, and 1,200 are raced. A replay must do as
-//! the plain model does.
+//! Pseudorandom traces: of editions one and two a thousand each are replayed by one thread, and 1,200 each are raced; of
+//! edition three 100 and 100. A replay must do as the plain model does.
 use crate::drawn::{Drawn, draw_trace};
 use crate::finished::expect_pages;
 use crate::flipped::Case;
@@ -37,6 +37,14 @@ static DRAWS: [Draws; 7] = [
     Draws(1, 1_000, Way::Raced),
     Draws(2, 100, Way::Raced),
     Draws(4, 100, Way::Raced),
+];
+
+// The traces of edition three.
+static LARGE_DRAWS: [Draws; 4] = [
+    Draws(1, 50, Way::Replayed),
+    Draws(4, 50, Way::Replayed),
+    Draws(1, 50, Way::Raced),
+    Draws(4, 50, Way::Raced),
 ];
 
 /// The case of a trace for `n` mutators.
@@ -109,10 +117,15 @@ fn run_seed<R: Abort + Threads + Wait + Sync>(
     run_drawn(rt, alloc, plan, n, &drawn, way);
 }
 
-// All traces on the two live objects of an edition.
-fn run_all<R: Abort + Threads + Wait + Sync>(rt: &R, alloc: Global, edition: Edition) {
+// These traces on the two live objects of an edition.
+fn run_all<R: Abort + Threads + Wait + Sync>(
+    rt: &R,
+    alloc: Global,
+    edition: Edition,
+    draws: &[Draws],
+) {
     let plan = two_live(alloc, rt, edition).expect(rt, "a plan");
-    for Draws(n, count, way) in &DRAWS {
+    for Draws(n, count, way) in draws {
         for seed in 0..*count {
             run_seed(rt, alloc, &plan, edition, *n, seed, *way);
         }
@@ -122,6 +135,7 @@ fn run_all<R: Abort + Threads + Wait + Sync>(rt: &R, alloc: Global, edition: Edi
 #[test]
 fn random_replays_agree_with_the_plain_model_and_races_have_one_history(rt: HostRuntime) {
     let alloc = rt.alloc();
-    run_all(&rt, alloc, Edition::One);
-    run_all(&rt, alloc, Edition::Two);
+    run_all(&rt, alloc, Edition::One, &DRAWS);
+    run_all(&rt, alloc, Edition::Two, &DRAWS);
+    run_all(&rt, alloc, Edition::Three, &LARGE_DRAWS);
 }

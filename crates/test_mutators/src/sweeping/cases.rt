@@ -31,6 +31,8 @@ pub enum Object {
     Zeros(u16),
     /// Its data words count from 1.
     Counting(u16),
+    /// In place of equal objects, those of edition three with many fields.
+    ManyFields,
 }
 
 /// A sweep of a heap of equal objects. Afterwards the heap is swept again without workers, and finished.
@@ -51,7 +53,7 @@ pub struct Case {
     pub live_words: u64,
 }
 
-static CASES: [Case; 10] = [
+static CASES: [Case; 11] = [
     Case {
         name: "three regions, two workers",
         object: Object::Zeros(639),
@@ -161,6 +163,17 @@ static CASES: [Case; 10] = [
         regions: 3,
         pages: 20,
         live_words: 1_280,
+    },
+    Case {
+        name: "objects over a thousand pages each, two workers",
+        object: Object::ManyFields,
+        marks: &[],
+        mutators: 2,
+        beside: Beside::Nothing,
+        workers: 2,
+        regions: 411,
+        pages: 3_282,
+        live_words: 210_007,
     },
 ];
 

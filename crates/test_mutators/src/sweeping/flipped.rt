@@ -3,18 +3,20 @@ ghost use Rattle.comp_mutator.specs.Mutators.{AreMutatorsOf, IsMutatorOf};
 
 use crate::sweeping::cases::{Case, Object};
 use comp_mutator::{Builder, Mutator, Space};
+use heap_layout::MarkedHeap;
 use page_plan::Plan;
 use std::alloc::Global;
 use std::process::Abort;
 use std::sync::ledger::Ledger as Named;
 use std::thread::Threads;
-use test_support::{counting_object, heap, zeros_object};
+use test_support::{Worked, counting_object, heap, worked_heap, zeros_object};
 
 // The words of equal objects, one after another.
 fn equal_objects(rt: &impl Abort, alloc: Global, object: Object, objects: usize) -> Vec<u64> {
     let words = match object {
         Object::Zeros(data_words) => zeros_object(alloc, data_words),
         Object::Counting(data_words) => counting_object(alloc, data_words),
+        Object::ManyFields => zeros_object(alloc, 0),
     };
     words
         .expect(rt, "memory for an object")
@@ -22,11 +24,21 @@ fn equal_objects(rt: &impl Abort, alloc: Global, object: Object, objects: usize)
         .expect(rt, "memory for a heap")
 }
 
+// The heap of the case.
+fn heap_of(rt: &impl Abort, alloc: Global, case: &Case) -> MarkedHeap {
+    let made = match case.object {
+        Object::ManyFields => worked_heap(alloc, Worked::ManyFields),
+        _ => {
+            let words = equal_objects(rt, alloc, case.object, case.marks.len());
+            heap(alloc, &words, case.marks, &[])
+        }
+    };
+    made.expect(rt, "a heap")
+}
+
 /// The plan of the heap of the case.
 pub fn plan_of(rt: &(impl Abort + Threads + Sync), alloc: Global, case: &Case) -> Plan {
-    let words = equal_objects(rt, alloc, case.object, case.marks.len());
-    let heap = heap(alloc, &words, case.marks, &[]).expect(rt, "a heap");
-    Plan::new(alloc, rt, heap).expect(rt, "a plan")
+    Plan::new(alloc, rt, heap_of(rt, alloc, case)).expect(rt, "a plan")
 }
 
 /// The last of these mutators, and the others.
