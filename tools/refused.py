@@ -25,11 +25,12 @@ def image(words, marks, roots, version=1):
 
 
 THREE = image([65536 + FROM, 11, 65537 + 2 * FROM, 0, 22, 1 + 3 * FROM, FROM], [0, 5], [FROM + 5])
+LARGE = image([65536 + (1 << 48), 11, 65537 + (2 << 48), 0, 22, 1 + (3 << 48), FROM], [0, 5], [FROM + 5], version=3)
 TWENTY = image(([639 << 16] + [0] * 639) * 2, [0, 640], [])
 SEEN = b"0 root 0 0\n0 load 1 0 0\n0 put 1 0 7\n1 root 0 0\n1 load 1 0 0\n1 get 1 0\n"
 FRESH = b"0 root 0 0\n0 new 1 0 0 0\n0 store 0 0 1\n"
 KEPT = b"2\n64\n"
-FILES = {"three.img": THREE, "twenty.img": TWENTY, "seen.trace": SEEN, "fresh.trace": FRESH, "kept.marks": KEPT}
+FILES = {"three.img": THREE, "large.img": LARGE, "twenty.img": TWENTY, "seen.trace": SEEN, "fresh.trace": FRESH, "kept.marks": KEPT}
 
 # the words of a command, what it prints, and how long its dump or its new image is, if it writes one
 COMMANDS = [
@@ -42,6 +43,8 @@ COMMANDS = [
     ("race three.img seen.trace left.dump", ["6 7\nlive 4\n", "6 11\nlive 4\n"], 656),
     ("audit three.img fresh.dump", ["ok 5\n"], None),
     ("next --mutators 1 --fresh 2 three.img fresh.trace kept.marks left.dump", ["live 3\n"], 1576),
+    ("word --large large.img 2", ["844424930131969\n"], None),
+    ("compact --large --workers 1 large.img left.dump", ["live 4\n"], 569),
     ("--help", None, None),
 ]
 

@@ -19,8 +19,16 @@ REFUSED = re.compile(r"compressor: T6 Refused\(\d+, M(1 Null|3 NoSuchField|4 Obj
 
 
 def header(edition, refs, weak, data, tag):
+    """A header; in edition three the tag says which form it has, unless there are too many data words for the mixed one."""
     if edition == 1:
         return refs + (data << 16) + (tag << 32)
+    if edition == 3 and weak == 0:
+        if data > 65535 or tag % 4 == 1:
+            return data + (refs << 31) + (tag << 48) + (1 << 63)
+        if tag % 4 == 2:
+            return refs + (data << 31) + (tag << 48) + (1 << 62)
+    if edition == 3 and refs == 0 and tag % 4 == 3:
+        return weak + (data << 31) + (tag << 48) + (3 << 62)
     return refs + (data << 16) + (weak << 32) + (tag << 48)
 
 
@@ -28,6 +36,9 @@ def sizes(edition, word):
     """How many references and how many words the object of a header has."""
     if edition == 1:
         return word & 65535, 1 + (word & 65535) + (word >> 16 & 65535)
+    if edition == 3 and word >> 62:
+        many, few = word & 0x7FFFFFFF, word >> 31 & 0x1FFFF
+        return (0, many, few, 0)[word >> 62], 1 + many + few
     return word & 65535, 1 + (word & 65535) + (word >> 16 & 65535) + (word >> 32 & 65535)
 
 
@@ -57,11 +68,14 @@ def left(dump):
 
 def heap(draw):
     """The bytes of an image, its edition, how many roots and live words it has, and where its marked objects start once they slid."""
-    edition = draw.choice((1, 2))
+    edition = draw.choice((1, 2, 3))
     shapes = []
     for _ in range(draw.randint(0, 40)):
-        weak = draw.randint(0, 2) if edition == 2 else 0
-        shapes.append((draw.randint(0, 3), weak, draw.choice((0, 1, 2, 5, 60, 200)), draw.randint(0, 65535)))
+        weak = draw.randint(0, 2) if edition > 1 else 0
+        data = draw.choice((0, 1, 2, 5, 60, 200))
+        if edition == 3 and weak == 0 and draw.random() < 0.05:
+            data = draw.choice((2000, 70000))
+        shapes.append((draw.randint(0, 3), weak, data, draw.randint(0, 16383 if edition == 3 else 65535)))
     starts, at = [], 0
     for refs, weak, data, _ in shapes:
         starts.append(at)
@@ -96,7 +110,7 @@ def trace(draw, edition, mutators, roots):
     for _ in range(draw.randint(0, 400)):
         m, d, s, v = draw.randrange(mutators), *(draw.randrange(4) for _ in range(3))
         kind = draw.random()
-        weak = "w" if edition == 2 and draw.random() < 0.3 else ""
+        weak = "w" if edition > 1 and draw.random() < 0.3 else ""
         if kind < 0.15:
             lines.append(f"{m} root {d} {draw.randrange(roots)}")
         elif kind < 0.4:
@@ -116,6 +130,7 @@ def trace(draw, edition, mutators, roots):
 class Soak:
     def __init__(self, program, folder):
         self.program, self.folder = program, Path(folder)
+        self.large = ()
         self.runs = self.refused = self.faults = 0
 
     def fault(self, seed, told):
@@ -126,7 +141,8 @@ class Soak:
         """What a run printed, or nothing if it was refused by name or is at fault."""
         self.runs += 1
         try:
-            ran = subprocess.run([self.program, *words], cwd=self.folder, capture_output=True, timeout=SECONDS)
+            asked = [self.program, words[0], *self.large, *words[1:]]
+            ran = subprocess.run(asked, cwd=self.folder, capture_output=True, timeout=SECONDS)
         except subprocess.TimeoutExpired:
             return self.fault(seed, f"{' '.join(words)}: no end within {SECONDS} seconds")
         # What is no text stays visible, and is what no run was to print.
@@ -177,6 +193,7 @@ class Soak:
     def step(self, seed):
         draw = random.Random(seed)
         image, edition, roots, live, slid = heap(draw)
+        self.large = ("--large",) if edition == 3 else ()
         (self.folder / "heap.img").write_bytes(image)
         workers = draw.choice((1, 2, 3, 4, 8, 64))
         printed = self.run(seed, "compact", "--workers", str(workers), "heap.img", "left.dump")
