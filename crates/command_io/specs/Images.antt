@@ -13,6 +13,10 @@ use Rattle.command_io.specs.declared.refusal.CommandRefusal.TheVariants.{CannotO
 abbrev pub SomeHeap : (Heap → Type 0) → Type 0
 SomeHeap P = (heap : Heap) × IsStored heap × IsAccepted heap × P heap
 
+-- P holds of some accepted heap of an edition that is read: of edition three only if `large`
+abbrev pub SomeHeapOf : Bool → (Heap → Type 0) → Type 0
+SomeHeapOf large P = SomeHeap (λ heap. IsRead large heap.edition × P heap)
+
 -- the bytes of the image, if they are known, are the heap's encoding; and images of its edition are read: those of
 -- edition three only if `large`
 abbrev pub IsReadAs : Bool → Option (List ℕ) → Heap → Type 0

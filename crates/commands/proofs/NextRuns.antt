@@ -6,7 +6,7 @@ use Rattle.heap_layout.specs.Heap.{Heap}
 use Rattle.comp_trace.specs.Line.{Line}
 use Rattle.command_line.specs.declared.next.NextRun.{NextRun}
 use Rattle.command_io.specs.Disk.{Disk, WritesWhole}
-use Rattle.command_io.specs.Images.{SomeHeap}
+use Rattle.command_io.specs.Images.{SomeHeapOf}
 use Rattle.command_io.specs.Marks.{RefusesMarksAt}
 use Rattle.command_io.specs.NewImages.{IsOfWritingImage}
 use Rattle.command_io.specs.Printing.{CountsPrint}
@@ -85,6 +85,6 @@ module _ {F W : Type 0} (disk : Disk F W) (asked : NextRun) (to : F) (before bet
       inr (inr (heap, image, (lines, trace, (marks, own, inr (h.shown, h.next, h.cycled, h.written)))))
 
   -- what was printed of an accepted heap
-  pub printed_next : MakesNext disk asked to before after → SomeHeap (PrintsNext asked.mutators asked.fresh before after)
-  printed_next (heap, (bytes, is_there, (other, stored, accepted, (known, same))), (lines, (more, is_near, (text, is_text, has_lines)), (marks, own, h))) =
-      (other, stored, accepted, subst (PrintsNext asked.mutators asked.fresh before after) (sym same) (text, lines, has_lines, marks, h.shown, h.next, h.cycled, h.printed))
+  pub printed_next : MakesNext disk asked to before after → SomeHeapOf asked.large (PrintsNext asked.mutators asked.fresh before after)
+  printed_next (heap, (bytes, is_there, (other, stored, accepted, ((known, read), same))), (lines, (more, is_near, (text, is_text, has_lines)), (marks, own, h))) =
+      (other, stored, accepted, (read, subst (PrintsNext asked.mutators asked.fresh before after) (sym same) (text, lines, has_lines, marks, h.shown, h.next, h.cycled, h.printed)))

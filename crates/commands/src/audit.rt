@@ -7,8 +7,8 @@ ghost use Rattle.command_io.specs.Printing.{CountsPrint, RefusedUnprinted};
 ghost use Rattle.command_io.specs.declared.refusal.CommandRefusal.TheVariants as refusals;
 
 use command_io::{CommandRefusal, Files, Input, heap_at, print_line};
-use comp_audit::{Dump, Verdict, audit, read_dump};
-use comp_dump::{dump_is_read_again, read_large_dump};
+use comp_audit::{Dump, Verdict, audit, read_dump, read_large_dump};
+use comp_dump::dump_is_read_again;
 use heap_layout::{Counted, MarkedHeap};
 use page_plan::Plan;
 use std::alloc::Global;

@@ -42,7 +42,7 @@ pub refused_answer : (edition : Edition) (list : List LayoutFault) (fault : Layo
 refused_answer edition list fault (inl first) = refused_first list fault first
 refused_answer One list fault (inr memory) = absurd memory
 refused_answer Two list fault (inr memory) = absurd memory
-refused_answer Three list fault (inr memory) = subst (IsRefusedFor list) (sym memory) tt
+refused_answer Three list fault (inr memory) = subst (IsRefusedFor list) (sym memory.0) tt
 
 abbrev heap_of : Edition → List ℕ → List ℕ → List ℕ → Heap
 heap_of edition marks words roots = record { edition = edition; words = words; marks = marks; roots = roots }

@@ -1,5 +1,5 @@
 -- Lemmas on the parts of an image that were read, and on what is refused after them.
-use Rattle.std.proofs.Common.{◌≡◌, ℕ, Bool, ◌+◌, ◌*◌, ◌≤◌, inl, inr, List, [], ◌++◌, length, Option, IfSome, refl, sym, ap, ◌∙◌, subst, arith, append_assoc, append-nil, length-append}
+use Rattle.std.proofs.Common.{◌≡◌, ℕ, Bool, ◌+◌, ◌*◌, ◌≤◌, inl, inr, List, [], ◌++◌, length, Option, None, Some, IfSome, refl, sym, ap, ◌∙◌, subst, arith, append_assoc, append-nil, length-append}
 use Rattle.std.specs.Io.KnownBytes.{Consumes}
 use Rattle.std.specs.List.{flat_map}
 use Rattle.std.proofs.KnownBytes.{Consumes-trans}
@@ -7,15 +7,15 @@ use Rattle.heap_layout.specs.declared.edition.Edition.{Edition}
 use Rattle.heap_layout.specs.declared.edition.Edition.TheVariants.{One, Two, Three}
 use Rattle.heap_layout.specs.Heap.{Heap, IsStored}
 use Rattle.heap_layout.specs.Faults.{faults, IsFirst, IsAnswered, IsRefusedMemory}
-use Rattle.heap_layout.specs.Encoding.{four_bytes, eight_bytes, preamble, counts, head, encoding, body_len, AreWithin, RefusesBy, RefusesCounts, RefusesEnd, EndsBefore}
+use Rattle.heap_layout.specs.Encoding.{four_bytes, eight_bytes, preamble, counts, head, encoding, body_len, AreWithin, RefusesBy, RefusesCounts, RefusesParts, RefusesEnd, EndsBefore}
 use Rattle.heap_layout.specs.declared.fault.LayoutFault.{LayoutFault}
-use Rattle.heap_layout.specs.declared.fault.LayoutFault.TheVariants.{TooLarge, ObjectPastEnd, ObjectTooLong, MarkNotStart, MarksNotRising, BadRoot, UnmarkedTarget, BadWeak, Truncated, TrailingBytes, OutOfMemory, Device}
+use Rattle.heap_layout.specs.declared.fault.LayoutFault.TheVariants.{TooLarge, ObjectPastEnd, ObjectTooLong, MarkNotStart, MarksNotRising, BadRoot, UnmarkedTarget, BadWeak, Truncated, TrailingBytes, BadMagic, OutOfMemory, Device}
 use Rattle.heap_layout.specs.Versions.{IsRead}
 use Rattle.heap_layout.proofs.PartFaults.{IsOfPart, first_of_part}
 use Rattle.heap_layout.proofs.Reading.{behind_read}
 
 -- if the bytes after the magic and the version are refused as counts, the whole image is refused
-refused_counts : (large : Bool) (edition : Edition) (rest : List ℕ) (fault : LayoutFault) → IsRead large edition → RefusesCounts edition fault rest → RefusesBy large fault (preamble edition ++ rest)
+refused_counts : (large : Bool) (edition : Edition) (rest : List ℕ) (fault : LayoutFault) → IsRead large edition → RefusesCounts edition fault rest → RefusesParts large fault (preamble edition ++ rest)
 refused_counts large edition rest TooLarge read (words, marks, roots, over, (more, same, _)) = (
   edition,
   words,
@@ -31,14 +31,14 @@ refused_counts large edition rest Device read short = tt
 refused_counts large edition rest _ read short = absurd short
 
 -- the same for a reader that has read the magic and the version
-pub ends_in_counts : (large : Bool) (a b : Option (List ℕ)) (edition : Edition) (fault : LayoutFault) → IsRead large edition → Consumes a b (preamble edition) → IfSome b (RefusesCounts edition fault) → IfSome a (RefusesBy large fault)
+pub ends_in_counts : (large : Bool) (a b : Option (List ℕ)) (edition : Edition) (fault : LayoutFault) → IsRead large edition → Consumes a b (preamble edition) → IfSome b (RefusesCounts edition fault) → IfSome a (RefusesParts large fault)
 ends_in_counts large a b edition fault known read cut =
-    behind_read a b (preamble edition) (RefusesCounts edition fault) (RefusesBy large fault) read cut (λ rest why. refused_counts large edition rest fault known why)
+    behind_read a b (preamble edition) (RefusesCounts edition fault) (RefusesParts large fault) read cut (λ rest why. refused_counts large edition rest fault known why)
 
 -- if the bytes end early among the numbers, after `front`, the whole image is refused
 refused_in_body : (large : Bool) (edition : Edition) (words marks roots n : ℕ) (front rest : List ℕ) (fault : LayoutFault) → IsRead large edition → AreWithin edition words marks roots
     → length front + n ≤ body_len words marks roots → EndsBefore n fault rest
-    → RefusesBy large fault (head edition words marks roots ++ front ++ rest)
+    → RefusesParts large fault (head edition words marks roots ++ front ++ rest)
 refused_in_body large edition words marks roots n front rest Truncated known within room short =
     inr (inr (inr (edition, words, marks, roots, within, (front ++ rest, append_assoc (head edition words marks roots) front rest, simp length-append (omega arith)), known)))
 refused_in_body large edition words marks roots n front rest OutOfMemory known within room short = tt
@@ -48,15 +48,15 @@ refused_in_body large edition words marks roots n front rest _ known within room
 -- the same for a reader that has read the head and `front`
 pub ends_in_body : (large : Bool) (a b : Option (List ℕ)) (edition : Edition) (words marks roots n : ℕ) (front all : List ℕ) (fault : LayoutFault)
     → IsRead large edition → all ≡ head edition words marks roots ++ front → Consumes a b all → AreWithin edition words marks roots
-    → length front + n ≤ body_len words marks roots → IfSome b (EndsBefore n fault) → IfSome a (RefusesBy large fault)
+    → length front + n ≤ body_len words marks roots → IfSome b (EndsBefore n fault) → IfSome a (RefusesParts large fault)
 ends_in_body large a b edition words marks roots n front all fault known same read within room cut =
-    behind_read a b (head edition words marks roots ++ front) (EndsBefore n fault) (RefusesBy large fault) (subst (Consumes a b) same read) cut
+    behind_read a b (head edition words marks roots ++ front) (EndsBefore n fault) (RefusesParts large fault) (subst (Consumes a b) same read) cut
     (λ rest short. refused_in_body large edition words marks roots n front rest fault known within room short)
 
 -- the same for a reader that has read only the head
 pub ends_in_words : (large : Bool) (start behind_magic behind_counts : Option (List ℕ)) (edition : Edition) (words marks roots : ℕ) (fault : LayoutFault) → IsRead large edition → Consumes start behind_magic (preamble edition)
     → Consumes behind_magic behind_counts (counts words marks roots) → AreWithin edition words marks roots
-    → IfSome behind_counts (EndsBefore (8 * words) fault) → IfSome start (RefusesBy large fault)
+    → IfSome behind_counts (EndsBefore (8 * words) fault) → IfSome start (RefusesParts large fault)
 ends_in_words large start behind_magic behind_counts edition words marks roots fault known magic_read counts_read within cut =
     let read = Consumes-trans start behind_magic behind_counts (preamble edition) (counts words marks roots) magic_read counts_read in
     let front = head edition words marks roots in
@@ -65,7 +65,7 @@ ends_in_words large start behind_magic behind_counts edition words marks roots f
 -- if the bytes after an image are refused, the whole is refused
 refused_end : (large : Bool) (heap : Heap) (rest : List ℕ) (fault : LayoutFault) → IsRead large heap.edition → IsStored heap
     → AreWithin heap.edition (length heap.words) (length heap.marks) (length heap.roots)
-    → RefusesEnd fault rest → RefusesBy large fault (encoding heap ++ rest)
+    → RefusesEnd fault rest → RefusesParts large fault (encoding heap ++ rest)
 refused_end large heap rest TrailingBytes known stored within more = (heap, stored, within, (rest, refl, more), known)
 refused_end large heap rest Device known stored within more = tt
 refused_end large heap rest _ known stored within more = absurd more
@@ -73,9 +73,19 @@ refused_end large heap rest _ known stored within more = absurd more
 -- the same for a reader that has read the image
 pub more_behind : (large : Bool) (a b : Option (List ℕ)) (heap : Heap) (fault : LayoutFault) → IsRead large heap.edition → IsStored heap
     → AreWithin heap.edition (length heap.words) (length heap.marks) (length heap.roots)
-    → Consumes a b (encoding heap) → IfSome b (RefusesEnd fault) → IfSome a (RefusesBy large fault)
+    → Consumes a b (encoding heap) → IfSome b (RefusesEnd fault) → IfSome a (RefusesParts large fault)
 more_behind large a b heap fault known stored within read cut =
-    behind_read a b (encoding heap) (RefusesEnd fault) (RefusesBy large fault) read cut (λ rest more. refused_end large heap rest fault known stored within more)
+    behind_read a b (encoding heap) (RefusesEnd fault) (RefusesParts large fault) read cut (λ rest more. refused_end large heap rest fault known stored within more)
+
+-- if the parts of an image are refused, the image is
+parts_refused : (large : Bool) (fault : LayoutFault) (bytes : List ℕ) → RefusesParts large fault bytes → RefusesBy large fault bytes
+parts_refused large TooLarge bytes why = why
+parts_refused large Truncated bytes why = why
+parts_refused large TrailingBytes bytes why = why
+parts_refused large BadMagic bytes why = why
+parts_refused large OutOfMemory bytes why = tt
+parts_refused large Device bytes why = tt
+parts_refused large _ bytes why = absurd why
 
 -- the image of a heap is refused for its first fault, if that is the fault of a part
 refused_part : (large : Bool) (heap : Heap) (fault : LayoutFault) → IsRead large heap.edition → IsStored heap → IsOfPart fault → IsFirst (faults heap) fault → RefusesBy large fault (encoding heap)
@@ -89,17 +99,33 @@ refused_part large heap (BadWeak i) known stored part first = (heap, stored, ref
 refused_part large heap _ known stored part first = absurd part
 
 -- a refusal of memory is that fault
-pub refused_memory : (edition : Edition) (fault : LayoutFault) → IsRefusedMemory edition fault → fault ≡ OutOfMemory
-refused_memory One fault memory = absurd memory
-refused_memory Two fault memory = absurd memory
-refused_memory Three fault memory = memory
+pub refused_memory : (edition : Edition) (list : List LayoutFault) (fault : LayoutFault) → IsRefusedMemory edition list fault → fault ≡ OutOfMemory
+refused_memory One list fault memory = absurd memory
+refused_memory Two list fault memory = absurd memory
+refused_memory Three list fault memory = memory.0
 
 -- the image of a heap within the limits is refused for the first fault of the heap, or for want of memory
-pub refused_heap : (large : Bool) (heap : Heap) (fault : LayoutFault) → IsRead large heap.edition → IsStored heap
+refused_heap : (large : Bool) (heap : Heap) (fault : LayoutFault) → IsRead large heap.edition → IsStored heap
     → AreWithin heap.edition (length heap.words) (length heap.marks) (length heap.roots)
     → IsAnswered heap.edition (faults heap) fault → RefusesBy large fault (encoding heap)
 refused_heap large heap fault known stored within (inl first) = refused_part large heap fault known stored (first_of_part heap fault within first) first
-refused_heap large heap fault known stored within (inr memory) = subst (λ (f : LayoutFault). RefusesBy large f (encoding heap)) (sym (refused_memory heap.edition fault memory)) tt
+refused_heap large heap fault known stored within (inr memory) = subst (λ (f : LayoutFault). RefusesBy large f (encoding heap)) (sym (refused_memory heap.edition (faults heap) fault memory)) tt
+
+-- the same by the bytes of a reader, if they are known
+pub refused_as_parts : (large : Bool) (a : Option (List ℕ)) (fault : LayoutFault) → IfSome a (RefusesParts large fault) → IfSome a (RefusesBy large fault)
+refused_as_parts large None fault why = tt
+refused_as_parts large (Some bytes) fault why = parts_refused large fault bytes why
+
+pub same_image : (a : Option (List ℕ)) (heap made : Heap) → IfSome a (λ bytes. bytes ≡ encoding heap) → made ≡ heap → IfSome a (λ bytes. bytes ≡ encoding made)
+same_image None heap made image same = tt
+same_image (Some bytes) heap made image same = image ∙ ap encoding (sym same)
+
+pub refused_as_heap : (large : Bool) (a : Option (List ℕ)) (heap : Heap) (fault : LayoutFault) → IfSome a (λ bytes. bytes ≡ encoding heap) → IsRead large heap.edition → IsStored heap
+    → AreWithin heap.edition (length heap.words) (length heap.marks) (length heap.roots)
+    → IsAnswered heap.edition (faults heap) fault → IfSome a (RefusesBy large fault)
+refused_as_heap large None heap fault image known stored within answered = tt
+refused_as_heap large (Some bytes) heap fault image known stored within answered =
+    subst (RefusesBy large fault) (sym image) (refused_heap large heap fault known stored within answered)
 
 -- the head and the words were read
 pub words_read : (start behind_magic behind_counts now : Option (List ℕ)) (edition : Edition) (words marks roots : ℕ) (numbers : List ℕ) → Consumes start behind_magic (preamble edition)

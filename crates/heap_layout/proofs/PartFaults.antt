@@ -3,6 +3,7 @@ use Rattle.std.proofs.Common.{◌≡◌, ℕ, ◌+◌, Bool, true, false, leb, L
 use Rattle.std.specs.List.{flat_map, enumerate_from}
 use Rattle.std.proofs.lemmas.Bool.{le-leb}
 use Rattle.std.proofs.lemmas.List.Elements.{All-nil, All-cons, All-append, All-head}
+use Rattle.std.specs.Result.{IsErrAnd}
 use Rattle.heap_layout.specs.Counted.{CountsFailure}
 use Rattle.heap_layout.specs.Encoding.{AreWithin}
 use Rattle.heap_layout.specs.declared.edition.Edition.{Edition}
@@ -13,9 +14,9 @@ use Rattle.heap_layout.specs.Limits.{most_words, most_roots, most_object_words}
 use Rattle.heap_layout.specs.Header.{size_of}
 use Rattle.heap_layout.specs.Kinds.{first_of}
 use Rattle.heap_layout.specs.Heap.{Heap, starts, is_start, is_target, header_at, object_at, fields_of}
-use Rattle.heap_layout.specs.Faults.{unless, size_faults, object_faults, mark_faults, root_faults, misled, reference_faults_by, field_faults_by, target_faults, weak_faults, part_faults, faults, IsFirst, IsAnswered, IsRefusedMemory}
+use Rattle.heap_layout.specs.Faults.{unless, size_faults, object_faults, mark_faults, root_faults, misled, reference_faults_by, field_faults_by, target_faults, weak_faults, part_faults, faults, IsFirst, IsAnswered, IsRefusedMemory, ReportsOf}
 use Rattle.heap_layout.specs.declared.fault.LayoutFault.{LayoutFault}
-use Rattle.heap_layout.specs.declared.fault.LayoutFault.TheVariants.{ObjectPastEnd, ObjectTooLong, MarkNotStart, MarksNotRising, BadRoot, UnmarkedTarget, BadWeak, Device}
+use Rattle.heap_layout.specs.declared.fault.LayoutFault.TheVariants.{TooLarge, ObjectPastEnd, ObjectTooLong, MarkNotStart, MarksNotRising, BadRoot, UnmarkedTarget, BadWeak, OutOfMemory, Device}
 
 -- the fault is one of an object, a mark, a root, a reference or a weak word
 abbrev pub IsOfPart : LayoutFault → Type 0
@@ -108,6 +109,15 @@ parts_of_part heap =
     (fields_of_part Reference heap.edition (is_target heap.marks) heap.words heap.marks)
     (fields_of_part Weak heap.edition (is_target (starts heap.edition heap.words)) heap.words heap.marks)
 
+-- none of the faults of parts is that of the sizes
+pub parts_not_too_large : (heap : Heap) → IsFirst (part_faults heap) TooLarge → ⊥
+parts_not_too_large heap first = first_all IsOfPart (part_faults heap) TooLarge (parts_of_part heap) first
+
+-- a refusal of memory is an answer of the checks of edition three after that of the sizes
+pub memory_reported : {T : Type 0} (heap : Heap) (r : Result T LayoutFault) → IsErrAnd r (λ fault. fault ≡ OutOfMemory) → ReportsOf Three (part_faults heap) r
+memory_reported heap (Ok x) is = absurd is
+memory_reported heap (Err fault) is = inr (is, parts_not_too_large heap)
+
 -- the first fault of a heap within the limits is the fault of a part
 pub first_of_part : (heap : Heap) (fault : LayoutFault) → AreWithin heap.edition (length heap.words) (length heap.marks) (length heap.roots)
     → IsFirst (faults heap) fault → IsOfPart fault
@@ -124,16 +134,16 @@ part_no_device : (fault : LayoutFault) → IsOfPart fault → IsNoDevice fault
 part_no_device Device part = absurd part
 part_no_device _ part = tt
 
-memory_no_device : (edition : Edition) (fault : LayoutFault) → IsRefusedMemory edition fault → IsNoDevice fault
-memory_no_device One fault memory = absurd memory
-memory_no_device Two fault memory = absurd memory
-memory_no_device Three fault memory = subst IsNoDevice (sym memory) tt
+memory_no_device : (edition : Edition) (list : List LayoutFault) (fault : LayoutFault) → IsRefusedMemory edition list fault → IsNoDevice fault
+memory_no_device One list fault memory = absurd memory
+memory_no_device Two list fault memory = absurd memory
+memory_no_device Three list fault memory = subst IsNoDevice (sym memory.0) tt
 
 -- the answer for a heap within the limits is no failure of the device
 pub no_device : (heap : Heap) (fault : LayoutFault) → AreWithin heap.edition (length heap.words) (length heap.marks) (length heap.roots)
     → IsAnswered heap.edition (faults heap) fault → IsNoDevice fault
 no_device heap fault within (inl first) = part_no_device fault (first_of_part heap fault within first)
-no_device heap fault within (inr memory) = memory_no_device heap.edition fault memory
+no_device heap fault within (inr memory) = memory_no_device heap.edition (faults heap) fault memory
 
 pub counts_kept : (T : Type 0) (before after : ℕ) (result : Result T LayoutFault) → IfErr result IsNoDevice → after ≡ before → CountsFailure before after result
 counts_kept T before after (Ok _) part same = same

@@ -10,7 +10,7 @@ use Rattle.heap_layout.specs.declared.edition.Edition.{Edition}
 use Rattle.heap_layout.specs.Limits.{most_words, most_roots}
 use Rattle.heap_layout.specs.Versions.{IsRead}
 use Rattle.heap_layout.specs.Faults.{size_faults, unless, IsFirst}
-use Rattle.heap_layout.specs.Encoding.{magic, version, counts, IsOver, RefusesBy, RefusesCounts, EndsBefore}
+use Rattle.heap_layout.specs.Encoding.{magic, version, counts, IsOver, RefusesParts, RefusesCounts, EndsBefore}
 use Rattle.heap_layout.specs.declared.fault.LayoutFault.{LayoutFault}
 use Rattle.heap_layout.specs.declared.fault.LayoutFault.TheVariants.{TooLarge, BadMagic, Truncated, OutOfMemory, Device}
 use borrow.Rule.Slice.PartMut.{put_mid, post_of}
@@ -38,7 +38,7 @@ with_front (Some xs) None front Q read f = absurd read
 with_front (Some xs) (Some ys) front Q read f = subst Q (sym read) (f ys)
 
 -- the bytes end within the magic
-pub cut_in_magic : (large : Bool) (a : Option (List ℕ)) (fault : LayoutFault) → IfSome a (EndsBefore 8 fault) → IfSome a (RefusesBy large fault)
+pub cut_in_magic : (large : Bool) (a : Option (List ℕ)) (fault : LayoutFault) → IfSome a (EndsBefore 8 fault) → IfSome a (RefusesParts large fault)
 cut_in_magic large None fault cut = tt
 cut_in_magic large (Some bytes) Truncated cut = inl cut
 cut_in_magic large (Some bytes) OutOfMemory cut = tt
@@ -46,28 +46,28 @@ cut_in_magic large (Some bytes) Device cut = tt
 cut_in_magic large (Some bytes) _ cut = absurd cut
 
 -- the bytes end within the version, after the magic
-ends_in_version : (large : Bool) (rest : List ℕ) (fault : LayoutFault) → EndsBefore 4 fault rest → RefusesBy large fault (magic ++ rest)
+ends_in_version : (large : Bool) (rest : List ℕ) (fault : LayoutFault) → EndsBefore 4 fault rest → RefusesParts large fault (magic ++ rest)
 ends_in_version large rest Truncated short = inr (inl (rest, refl, short))
 ends_in_version large rest OutOfMemory short = tt
 ends_in_version large rest Device short = tt
 ends_in_version large rest _ short = absurd short
 
 -- the same for a reader that has read the magic
-pub cut_in_version : (large : Bool) (a b : Option (List ℕ)) (fault : LayoutFault) → Consumes a b magic → IfSome b (EndsBefore 4 fault) → IfSome a (RefusesBy large fault)
-cut_in_version large a b fault read cut = behind_read a b magic (EndsBefore 4 fault) (RefusesBy large fault) read cut (λ rest short. ends_in_version large rest fault short)
+pub cut_in_version : (large : Bool) (a b : Option (List ℕ)) (fault : LayoutFault) → Consumes a b magic → IfSome b (EndsBefore 4 fault) → IfSome a (RefusesParts large fault)
+cut_in_version large a b fault read cut = behind_read a b magic (EndsBefore 4 fault) (RefusesParts large fault) read cut (λ rest short. ends_in_version large rest fault short)
 
 -- 8 bytes were read that are not the magic
-pub other_magic : (large : Bool) (a b : Option (List ℕ)) (front : List ℕ) → Consumes a b front → length front ≡ 8 → front ≢ magic → IfSome a (RefusesBy large BadMagic)
+pub other_magic : (large : Bool) (a b : Option (List ℕ)) (front : List ℕ) → Consumes a b front → length front ≡ 8 → front ≢ magic → IfSome a (RefusesParts large BadMagic)
 other_magic large a b front read long other =
-    with_front a b front (RefusesBy large BadMagic) read
+    with_front a b front (RefusesParts large BadMagic) read
     (λ rest. inl (simp length-append (omega arith), λ same. other (sym (take_at front rest 8 long) ∙ same)))
 
 -- the magic was read, and then 4 bytes that are no version
 pub other_version : (large : Bool) (a b c : Option (List ℕ)) (front : List ℕ) → Consumes a b magic → Consumes b c front
-    → length front ≡ 4 → ((edition : Edition) → IsRead large edition → front ≢ version edition) → IfSome a (RefusesBy large BadMagic)
+    → length front ≡ 4 → ((edition : Edition) → IsRead large edition → front ≢ version edition) → IfSome a (RefusesParts large BadMagic)
 other_version large a b c front first read long other =
     let P : List ℕ → Type 0 = λ rest. (4 ≤ length rest) × ((edition : Edition) → IsRead large edition → take 4 rest ≢ version edition) in
-    behind_read a b magic P (RefusesBy large BadMagic) first
+    behind_read a b magic P (RefusesParts large BadMagic) first
     (with_front b c front P read (λ rest. (simp length-append (omega arith), λ edition read same. other edition read (sym (take_at front rest 4 long) ∙ same))))
     (λ rest is. inr (rest, refl, is))
 

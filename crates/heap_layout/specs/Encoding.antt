@@ -109,10 +109,20 @@ HasMore large bytes =
 abbrev pub HasHeapWith : Bool → LayoutFault → List ℕ → Type 0
 HasHeapWith large fault bytes = (heap : Heap) × IsStored heap × (bytes ≡ encoding heap) × IsFirst (faults heap) fault × IsRead large heap.edition
 
--- for each fault, the images that are refused with it; running out of memory and a failing device do not depend on the
--- bytes
+-- for each fault of reading, the images whose parts are refused with it; running out of memory and a failing device do
+-- not depend on the bytes
+abbrev pub RefusesParts : Bool → LayoutFault → List ℕ → Type 0
+RefusesParts large TooLarge bytes = HasLargeCount large bytes
+RefusesParts large Truncated bytes = EndsInMagic bytes ⊎ EndsInVersion bytes ⊎ EndsInCounts large bytes ⊎ EndsInBody large bytes
+RefusesParts large TrailingBytes bytes = HasMore large bytes
+RefusesParts large BadMagic bytes = HasOtherMagic bytes ⊎ HasOtherVersion large bytes
+RefusesParts large OutOfMemory bytes = Unit {0}
+RefusesParts large Device bytes = Unit {0}
+RefusesParts large _ bytes = ⊥
+
+-- for each fault, the images that are refused with it: their parts are, or the heap of their parts is
 abbrev pub RefusesBy : Bool → LayoutFault → List ℕ → Type 0
-RefusesBy large TooLarge bytes = HasLargeCount large bytes
+RefusesBy large TooLarge bytes = RefusesParts large TooLarge bytes
 RefusesBy large (ObjectPastEnd i) bytes = HasHeapWith large (ObjectPastEnd i) bytes
 RefusesBy large (ObjectTooLong i) bytes = HasHeapWith large (ObjectTooLong i) bytes
 RefusesBy large (MarkNotStart i) bytes = HasHeapWith large (MarkNotStart i) bytes
@@ -120,9 +130,9 @@ RefusesBy large (MarksNotRising i) bytes = HasHeapWith large (MarksNotRising i) 
 RefusesBy large (BadRoot k) bytes = HasHeapWith large (BadRoot k) bytes
 RefusesBy large (UnmarkedTarget i) bytes = HasHeapWith large (UnmarkedTarget i) bytes
 RefusesBy large (BadWeak i) bytes = HasHeapWith large (BadWeak i) bytes
-RefusesBy large Truncated bytes = EndsInMagic bytes ⊎ EndsInVersion bytes ⊎ EndsInCounts large bytes ⊎ EndsInBody large bytes
-RefusesBy large TrailingBytes bytes = HasMore large bytes
-RefusesBy large BadMagic bytes = HasOtherMagic bytes ⊎ HasOtherVersion large bytes
+RefusesBy large Truncated bytes = RefusesParts large Truncated bytes
+RefusesBy large TrailingBytes bytes = RefusesParts large TrailingBytes bytes
+RefusesBy large BadMagic bytes = RefusesParts large BadMagic bytes
 RefusesBy large OutOfMemory bytes = Unit {0}
 RefusesBy large Device bytes = Unit {0}
 

@@ -101,15 +101,15 @@ abbrev pub IsFirst : {F : Type 0} → List F → F → Type 0
 IsFirst [] fault = ⊥
 IsFirst (first ∷ others) fault = fault ≡ first
 
--- an allocation was refused, of which only the checks of edition three make one
-abbrev pub IsRefusedMemory : Edition → LayoutFault → Type 0
-IsRefusedMemory One fault = ⊥
-IsRefusedMemory Two fault = ⊥
-IsRefusedMemory Three fault = fault ≡ OutOfMemory
+-- an allocation was refused: only the checks of edition three make one, and only after that of the sizes
+abbrev pub IsRefusedMemory : Edition → List LayoutFault → LayoutFault → Type 0
+IsRefusedMemory One list fault = ⊥
+IsRefusedMemory Two list fault = ⊥
+IsRefusedMemory Three list fault = (fault ≡ OutOfMemory) × (IsFirst list TooLarge → ⊥)
 
 -- the fault that is answered for a heap of this edition with this list of faults
 abbrev pub IsAnswered : Edition → List LayoutFault → LayoutFault → Type 0
-IsAnswered edition list fault = IsFirst list fault ⊎ IsRefusedMemory edition fault
+IsAnswered edition list fault = IsFirst list fault ⊎ IsRefusedMemory edition list fault
 
 -- the answer for this list of faults: Ok if it is empty, otherwise its first fault
 abbrev pub Reports : {F T : Type 0} → List F → Result T F → Type 0

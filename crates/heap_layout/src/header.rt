@@ -156,9 +156,10 @@ impl Header {
     }
 
     /// The header, in edition three, of an object with `refs` references, `weak` weak words and `data_words` data
-    /// words, and with this tag: the mixed one if all three counts are below 2^16. None if no header of edition three
-    /// says these. One kind alone may have 2^16 fields or more, up to 2^31 - 1; then there are fewer than 2^17 data
-    /// words beside references or weak words, or references beside data words, and none of the third kind.
+    /// words, and with this tag. None if no header of edition three says these. One kind alone may have 2^16 fields or
+    /// more, up to 2^31 - 1; then there are fewer than 2^17 data words beside references or weak words, or references
+    /// beside data words, and none of the third kind. Of the forms that say them it is the mixed one if all three
+    /// counts are below 2^16, and that of many references before that of many data words.
     pub fn of_large_counts(refs: u32, weak: u32, data_words: u32, tag: u32) -> Option<Header>
         ensures says { IfSome result (λ header. Says header refs weak data_words tag) }
         ensures none { IfNone result ((word : ℕ) → Says (header_of Three word) refs weak data_words tag → ⊥) }

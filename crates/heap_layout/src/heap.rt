@@ -84,6 +84,7 @@ impl MarkedHeap {
     /// The from-space words, from index 0 on: the words of all objects, one object after the other.
     pub fn words(&self) -> &[u64]
         ensures words { result.now ≡ self.now.words }
+        ensures accepted { IsAccepted self.now }
         ensures row { self.now.words ≡ flat_map words_of (objects self.now) }
         ensures closed { IsClosed self.now }
     {

@@ -3,9 +3,10 @@ ghost use Rattle.std.specs.Prelude.{◌≡◌, ℕ, ◌+◌, ◌-◌, ◌*◌, �
 ghost use Rattle.std.specs.Io.KnownBytes.{Consumes, IsAtEnd};
 ghost use Rattle.std.specs.List.{flat_map};
 ghost use Rattle.heap_layout.specs.Counted.{inner_of, failures_of, CountsFailure};
-ghost use Rattle.heap_layout.specs.Encoding.{encoding, preamble, counts, eight_bytes, four_bytes, AreWithin, Refuses, RefusesBy, RefusesCounts, RefusesEnd, EndsBefore};
+ghost use Rattle.heap_layout.specs.Encoding.{encoding, preamble, counts, eight_bytes, four_bytes, AreWithin, Refuses, RefusesBy, RefusesCounts, RefusesParts, RefusesEnd, EndsBefore};
 ghost use Rattle.heap_layout.specs.Faults.{IsAccepted};
 ghost use Rattle.heap_layout.specs.Heap.{IsStored};
+ghost use Rattle.heap_layout.specs.ImageParts.{heap_in};
 ghost use Rattle.heap_layout.specs.Versions.{IsRead};
 
 use crate::checks::check_sizes;
@@ -77,13 +78,50 @@ fn read_image_by<R: Read>(
     ensures cause { IfErr result (λ fault. IfSome (R.remaining (inner_of r.old)) (RefusesBy large fault)) }
     ensures counts { CountsFailure (failures_of r.old) (failures_of r.new) result }
 {
+    let parts = read_parts(alloc, r, large)?;
+    MarkedHeap::from_parts_of(parts.edition, parts.words, parts.marks, parts.roots)
+}
+
+/// What an image says of a heap. Only the counts are checked: no more than the limits of the edition.
+#[derive(Drop)]
+pub struct ImageParts {
+    /// The layout by which the objects are read.
+    pub edition: Edition,
+    /// The from-space words, from index 0 on.
+    pub words: Vec<u64>,
+    /// The indices that are marked.
+    pub marks: Vec<u32>,
+    /// The roots.
+    pub roots: Vec<u64>,
+}
+
+/// Reads the parts of an image from all bytes that the reader has left, as `read_image` does before the heap is
+/// checked; those of an image of edition three only if `large`.
+pub fn read_parts<R: Read>(
+    alloc: Global,
+    r: &mut Counted<R>,
+    large: bool,
+) -> Result<ImageParts, LayoutFault>
+    requires { failures_of r.old < 2 ^ 64 - 1 }
+    ensures image { IfOk result (λ parts. IfSome (R.remaining (inner_of r.old)) (λ bytes. bytes ≡ encoding (heap_in parts))) }
+    ensures edition { IfOk result (λ parts. IsRead large parts.edition) }
+    ensures within { IfOk result (λ parts. AreWithin parts.edition (length parts.words.items) (length parts.marks.items) (length parts.roots.items)) }
+    ensures stored { IfOk result (λ parts. IsStored (heap_in parts)) }
+    ensures cause { IfErr result (λ fault. IfSome (R.remaining (inner_of r.old)) (RefusesParts large fault)) }
+    ensures counts { CountsFailure (failures_of r.old) (failures_of r.new) result }
+{
     let edition = read_magic(r, large)?;
     let counts = read_counts(r, edition)?;
     let words = read_words(alloc, r, counts.words as usize)?;
     let marks = read_marks(alloc, r, counts.marks as usize)?;
     let roots = read_words(alloc, r, counts.roots as usize)?;
     expect_end(r)?;
-    MarkedHeap::from_parts_of(edition, words, marks, roots)
+    Ok(ImageParts {
+        edition,
+        words,
+        marks,
+        roots,
+    })
 }
 
 // How many words, marks and roots an image has.
@@ -114,7 +152,7 @@ fn read_magic<R: Read>(r: &mut Counted<R>, large: bool) -> Result<Edition, Layou
     requires { failures_of r.old < 2 ^ 64 - 1 }
     ensures read { IfOk result (λ edition. Consumes (R.remaining (inner_of r.old)) (R.remaining (inner_of r.new)) (preamble edition)) }
     ensures edition { IfOk result (IsRead large) }
-    ensures cause { IfErr result (λ fault. IfSome (R.remaining (inner_of r.old)) (RefusesBy large fault)) }
+    ensures cause { IfErr result (λ fault. IfSome (R.remaining (inner_of r.old)) (RefusesParts large fault)) }
     ensures counts { CountsFailure (failures_of r.old) (failures_of r.new) result }
 {
     let mut magic = [0; 8];

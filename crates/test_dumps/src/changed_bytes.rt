@@ -1,7 +1,7 @@
 //! Dumps with each byte changed to each other value.
-use crate::encoded::{Whole, encoded};
+use crate::encoded::{Change, Whole, changed};
 use crate::expected::expect_eq;
-use crate::judged::{Report, report_on};
+use crate::judged::{Report, report_on, report_on_large};
 use comp_audit::{AuditFault, DumpFault, Verdict};
 use page_plan::Plan;
 use std::alloc::Global;
@@ -39,23 +39,49 @@ fn reckoned(rule: &Rule, at: usize, found: Report) -> Report {
     }
 }
 
-// Checks the report for this byte at that position.
-fn expect_reckoned(rt: &impl Abort, rules: &[Rule], found: Report, at: usize, byte: u8) {
-    for rule in rules {
-        let Rule(first, last, least, most, _) = rule;
-        if *first <= at && at <= *last && *least <= byte && byte <= *most {
-            let number = at.wrapping_mul(256).wrapping_add(usize::from(byte));
-            let wanted = reckoned(rule, at, found);
-            let at = At::new("256 times the position, plus the byte", number);
-            return expect_eq(rt, at, found, wanted);
-        }
+/// What is known of a dump: its bytes are those of this one with these changes, it is read with those of edition three
+/// or not, and the rules for each byte, of which the first counts.
+pub struct Known<'a> {
+    pub dump: Whole,
+    pub changes: &'a [Change],
+    pub large: bool,
+    pub length: usize,
+    pub own_rules: &'a [Rule],
+    pub rules: &'a [Rule],
+}
+
+// The report on these bytes.
+fn report(alloc: Global, plan: &Plan, large: bool, bytes: &[u8]) -> Report {
+    if large {
+        report_on_large(alloc, plan, bytes)
+    } else {
+        report_on(alloc, plan, bytes)
     }
-    rt.panic("no rule")
+}
+
+// The first of these rules for this byte at that position.
+fn rule_for(rules: &[Rule], at: usize, byte: u8) -> Option<&Rule> {
+    rules.iter().find(|rule| {
+        let Rule(first, last, least, most, _) = rule;
+        *first <= at && at <= *last && *least <= byte && byte <= *most
+    })
+}
+
+// Checks the report for this byte at that position.
+fn expect_reckoned(rt: &impl Abort, known: &Known<'_>, found: Report, at: usize, byte: u8) {
+    let own = rule_for(known.own_rules, at, byte);
+    let Some(rule) = own.or(rule_for(known.rules, at, byte)) else {
+        rt.panic("no rule")
+    };
+    let number = at.wrapping_mul(256).wrapping_add(usize::from(byte));
+    let wanted = reckoned(rule, at, found);
+    let at = At::new("256 times the position, plus the byte", number);
+    expect_eq(rt, at, found, wanted)
 }
 
 // Checks each other value at each position of a dump with these bytes. The last value at a position is the right one,
 // which stays.
-fn expect_each(rt: &impl Abort, alloc: Global, plan: &Plan, rules: &[Rule], bytes: &mut [u8]) {
+fn expect_each(rt: &impl Abort, alloc: Global, plan: &Plan, known: &Known<'_>, bytes: &mut [u8]) {
     let mut right = 0;
     let mut byte = 0u8;
     for n in 0..bytes.len().saturating_mul(256) {
@@ -69,24 +95,18 @@ fn expect_each(rt: &impl Abort, alloc: Global, plan: &Plan, rules: &[Rule], byte
             *place = byte;
         }
         if byte != right {
-            expect_reckoned(rt, rules, report_on(alloc, plan, bytes), at, byte);
+            let found = report(alloc, plan, known.large, bytes);
+            expect_reckoned(rt, known, found, at, byte);
         }
     }
 }
 
-/// Checks that the dump has this many bytes, that each change of a byte is reported as the first rule for it says, and
-/// that the dump is lawful with all bytes right again.
-pub fn expect_bytes(
-    rt: &impl Abort,
-    alloc: Global,
-    plan: &Plan,
-    dump: &Whole,
-    length: usize,
-    rules: &[Rule],
-) {
-    let mut bytes = encoded(rt, alloc, dump);
-    expect_eq(rt, At::new("bytes", 0), bytes.len(), length);
-    expect_each(rt, alloc, plan, rules, &mut bytes);
-    let found = report_on(alloc, plan, &bytes);
+/// Checks that the dump has its number of bytes, that each change of a byte is reported as the first rule for it says,
+/// and that the dump is lawful with all bytes right again.
+pub fn expect_bytes(rt: &impl Abort, alloc: Global, plan: &Plan, known: &Known<'_>) {
+    let mut bytes = changed(rt, alloc, &known.dump, known.changes);
+    expect_eq(rt, At::new("bytes", 0), bytes.len(), known.length);
+    expect_each(rt, alloc, plan, known, &mut bytes);
+    let found = report(alloc, plan, known.large, &bytes);
     expect_eq(rt, At::new("no change", 0), found, Ok(Verdict::Yes));
 }

@@ -1,6 +1,7 @@
-//! A dump of edition two with each byte changed to each other value, by rules as in `each_byte`.
-use crate::changed_bytes::{Becomes, Rule, expect_bytes};
-use crate::encoded::Whole;
+//! A dump of edition two, and the same of edition three, with each byte changed to each other value, by rules as in
+//! `each_byte`.
+use crate::changed_bytes::{Becomes, Known, Rule, expect_bytes};
+use crate::encoded::{Change, Whole};
 use crate::judged::Report;
 use crate::reports::{
     BAD_FIELD, BAD_HEADER, BAD_MADE, BAD_MAGIC, BAD_SLID, MISSING_1, MISSING_2, REPEATED_0,
@@ -8,7 +9,7 @@ use crate::reports::{
     WRONG_WORD_65,
 };
 use comp_audit::{AuditFault, Verdict};
-use test_support::{T, Worked, plan_of};
+use test_support::{T, VERSION, Worked, plan_of};
 
 const REPEATED_2: Report = Ok(Verdict::No(AuditFault::StampRepeated(2)));
 
@@ -78,5 +79,35 @@ static RULES: [Rule; 46] = [
 fn no_changed_byte_of_edition_two_leaves_a_lawful_dump(rt: HostRuntime) {
     let alloc = rt.alloc();
     let plan = plan_of(&rt, alloc, Worked::Weak).expect(&rt, "a plan");
-    expect_bytes(&rt, alloc, &plan, &Whole::WeakLinked, 1_147, &RULES);
+    let known = Known {
+        dump: Whole::WeakLinked,
+        changes: &[],
+        large: false,
+        length: 1_147,
+        own_rules: &[],
+        rules: &RULES,
+    };
+    expect_bytes(&rt, alloc, &plan, &known);
+}
+
+// What is otherwise in edition three: edition two is another edition, and the last two bits of the new object's header
+// are its form. In each other form the object has two fields, of which the first is no weak word.
+static RULES_OF_THREE: [Rule; 2] = [
+    Rule(8, 8, 2, 2, Becomes::Is(WRONG_HEAD)),
+    Rule(1_107, 1_107, 64, 255, Becomes::Is(BAD_MADE)),
+];
+
+#[test]
+fn no_changed_byte_of_edition_three_leaves_a_lawful_dump(rt: HostRuntime) {
+    let alloc = rt.alloc();
+    let plan = plan_of(&rt, alloc, Worked::Mixed).expect(&rt, "a plan");
+    let known = Known {
+        dump: Whole::WeakLinked,
+        changes: &[Change(VERSION, 4, 4, 3)],
+        large: true,
+        length: 1_147,
+        own_rules: &RULES_OF_THREE,
+        rules: &RULES,
+    };
+    expect_bytes(&rt, alloc, &plan, &known);
 }
