@@ -73,7 +73,9 @@ fn check_large(
     check_parts(&mut bits, edition, words, marks, roots)
 }
 
-// The same with these bits, which must be none, and enough for all words.
+// The same with these bits, which must be none, and enough for all words. It is compiled for each of its two callers,
+// since bits on the stack are of a known number.
+#[inline(always)]
 fn check_parts(
     bits: &mut [u64],
     edition: Edition,
@@ -251,6 +253,7 @@ fn check_weak(
 }
 
 // Checks that each field of this kind of each marked object is null or leads to one of the targets.
+#[inline(always)]
 fn check_fields(
     bits: &[u64],
     kind: Kind,
