@@ -1,0 +1,19 @@
+//! The marker: it marks exactly the objects that the roots of a heap reach. It is a plain tracing marker. A queue has
+//! the objects that were met, in the order in which they were met, as in Cheney's algorithm; the references of each are
+//! looked at once (Jones, Hosking, Moss, The Garbage Collection Handbook, chapter 2).
+#![tactic(auto)]
+
+mod bits;
+mod heaps;
+mod laws;
+mod marker;
+mod marks;
+mod queue;
+mod row;
+
+pub use heaps::{reachable_heap, remarked_heap};
+pub use laws::{reachable_are_least, reachable_marks_are_sound, reachable_once};
+pub use marker::reachable_marks;
+
+#[cfg(test)]
+mod tests;
