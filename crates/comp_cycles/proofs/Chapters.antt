@@ -1,10 +1,10 @@
 -- A cycle is a chapter in the life of the stable heap, and cycles that follow one another are one life.
-use Rattle.std.proofs.Common.{◌≡◌, ℕ, zero, suc, ◌+◌, ◌-◌, ◌*◌, ◌/◌, ◌%◌, ◌<◌, ◌≤◌, true, false, Option, Some, None, List, [], ◌∷◌, ◌++◌, length, get_or, map, zip, refl, sym, ap, ap₂, ◌∙◌, inl, inr, ⊎_elim, subst, arith, length-append}
+use Rattle.std.proofs.Common.{◌≡◌, ℕ, zero, suc, ◌+◌, ◌-◌, ◌*◌, ◌/◌, ◌%◌, ◌<◌, ◌≤◌, true, false, Option, Some, None, List, [], ◌∷◌, ◌++◌, All, length, get_or, map, zip, refl, sym, ap, ap₂, ◌∙◌, inl, inr, ⊎_elim, subst, arith, length-append}
 use Rattle.std.specs.List.{range_with_len}
 use Rattle.std.specs.Option.{unwrap_or}
 use Rattle.std.proofs.lemmas.Bool.{cases_lt, cases_Bool}
 use Rattle.std.proofs.lemmas.List.{append-nil, get_or-append_right, get_or_append_left, get_or-map, length-map}
-use Rattle.heap_layout.specs.Heap.{Heap, Object, object_at, live, from_address, is_target, IsTarget, IsClosed}
+use Rattle.heap_layout.specs.Heap.{Heap, Object, object_at, live, from_address, is_target, IsClosed}
 use Rattle.heap_layout.specs.declared.kind.Kind.{Kind}
 use Rattle.heap_layout.specs.declared.kind.Kind.TheVariants.{Header, Reference, Weak, Data}
 use Rattle.page_plan.specs.Sliding as sliding
@@ -16,19 +16,20 @@ use Rattle.comp_journal.specs.declared.entry.Entry.{Entry}
 use Rattle.comp_history.specs.Setup.{Setup, pages, address}
 use Rattle.comp_history.specs.Lists.{StartsWith}
 use Rattle.comp_history.specs.Locks.{Journals}
-use Rattle.comp_history.specs.Objects.{IsObjectAt}
+use Rattle.comp_history.specs.Objects.{IsObjectAt, LeadsToObject}
 use Rattle.comp_history.specs.Merged.{history, CanMerge, IsOneHistory}
 use Rattle.comp_cycles.specs.Forwarded.{AreForwarded}
 use Rattle.comp_history.specs.OneThread.{OneThreadHeap, HasStart, IsNullOrStart, header_in, first_heap, after, result_of, address_of, IsLegal}
 use Rattle.comp_history.proofs.Merging as merging
 use Rattle.comp_history.proofs.Legal as legal
-use Rattle.comp_cycles.specs.Stable.{StableHeap, Step, Keeps, IsLife, lived}
+use Rattle.comp_history.proofs.Rows.{at_map_back, at_below, read_at as value_at}
+use Rattle.comp_cycles.specs.Stable.{StableHeap, Step, Roots, Keeps, IsAmong, IsNullOrAmong, MayKeep, IsLife, stepped, lived}
 use Rattle.comp_cycles.specs.Numbered.{Names, number_at, names_in, pointers_of, numbered_object, numbered_word, numbered, made_by, made_at, first_numbers, first_numbered, IsNumberedAs}
-use Rattle.comp_cycles.specs.NextHeap.{word_in, lowered, next_heap, next_faults}
-use Rattle.comp_cycles.specs.Cycles.{Cycle, heap_after, given_after, numbers_after, story_of, IsCycleOf, IsChapter, IsSeen, IsWriting, IsRising, Follow, story, numbers_left, AreChapters, IsOneLife}
+use Rattle.comp_cycles.specs.NextHeap.{word_in, next_heap, next_faults}
+use Rattle.comp_cycles.specs.Cycles.{Cycle, roots_after, MayBeRoots, heap_after, given_after, numbers_after, story_of, IsCycleOf, IsChapter, IsSeen, IsWriting, IsRising, Follow, story, numbers_left, AreChapters, IsOneLife}
 use Rattle.comp_cycles.proofs.Naming.{no_name, row_long, in_row}
-use Rattle.comp_cycles.proofs.Living.{Agrees}
-use Rattle.comp_cycles.proofs.Lives.{made_then, made_all, made_parts, lives, given_lived, legal_front, zeros_front, life_parts, lived_parts, InZeros, Lives, Ordered}
+use Rattle.comp_cycles.proofs.Living.{may_refer, Agrees}
+use Rattle.comp_cycles.proofs.Lives.{made_then, made_all, made_parts, lives, given_lived, roots_lived, legal_front, zeros_front, life_parts, lived_parts, InZeros, Lives, Ordered}
 use Rattle.comp_cycles.proofs.FreshZeros.{all_zeros}
 use Rattle.comp_cycles.proofs.Targets.{target_cases, marks_rise, forward_mark}
 use Rattle.comp_cycles.proofs.Begun as begun
@@ -54,9 +55,48 @@ made_high : (xs : List (ℕ × Entry)) (i : ℕ) → i < length (made_at xs) →
 made_high [] i lt e = omega (arith, lt)
 made_high (x ∷ xs) i lt e = made_high_by x.1.kind (address_of x) (made_at xs) (omega arith) (made_high xs) i lt e
 
+-- What is known when the last step of a cycle is made: the two heaps have the same objects, and the roots of the stable
+-- heap are those of the next heap, which lead to objects.
+record IsReady (names : Names) (heap : OneThreadHeap) (stable : StableHeap) (roots : List ℕ) : Type 0 where
+  agrees : Agrees names heap stable
+  reached : All (IsNullOrStart heap) roots
+  roots_are : stable.roots ≡ map (number_at names) roots
+
+-- roots do not change the objects
+with_roots : (names : Names) (heap : OneThreadHeap) (stable : StableHeap) (objects : List ℕ) → Agrees names heap stable → Agrees names heap (stepped stable (Roots objects))
+with_roots names heap stable objects h = record {
+  numbered = record { edition = h.numbered.edition; there = h.numbered.there; one = h.numbered.one; long = h.numbered.long; words = h.numbered.words };
+  apart = h.apart;
+  given = h.given;
+  leads = h.leads;
+}
+
+-- each address that a root was forwarded to is one to which a root leads
+came_from : (xs rs : List ℕ) (f : ℕ → Option ℕ) → map (λ (x : ℕ). Some x) xs ≡ map f rs → (i d : ℕ) → i < length xs → (r : ℕ) × (Some (get_or xs i d) ≡ f r)
+came_from [] rs f e i d lt = absurd (omega (arith, lt))
+came_from (x ∷ xs) [] f e i d lt = absurd (cc)
+came_from (x ∷ xs) (r ∷ rs) f e zero d lt = (r, (let head : Some x ≡ f r = cc in head))
+came_from (x ∷ xs) (r ∷ rs) f e (suc i) d lt = came_from xs rs f (let tail : map (λ (y : ℕ). Some y) xs ≡ map f rs = cc in tail) i d (omega (arith, lt))
+
+-- two maps, of the forwarded roots and of the roots, are equal if they are equal element by element
+forwarded_same : (xs rs : List ℕ) (G H : ℕ → ℕ) (f : ℕ → Option ℕ) → map (λ (x : ℕ). Some x) xs ≡ map f rs → ((x r : ℕ) → Some x ≡ f r → G x ≡ H r) → map G xs ≡ map H rs
+forwarded_same [] [] G H f e same = refl
+forwarded_same [] (r ∷ rs) G H f e same = absurd (cc)
+forwarded_same (x ∷ xs) [] G H f e same = absurd (cc)
+forwarded_same (x ∷ xs) (r ∷ rs) G H f e same =
+    let head : Some x ≡ f r = cc in
+    let tail : map (λ (y : ℕ). Some y) xs ≡ map f rs = cc in
+    ap₂ (λ (a : ℕ) (l : List ℕ). a ∷ l) (same x r head) (forwarded_same xs rs G H f tail same)
+
+none_is_some : {A : Type 0} (x : A) → None ≡ Some x → ⊥
+none_is_some x e = cc
+
+some_is : {A : Type 0} (x y : A) → Some x ≡ Some y → x ≡ y
+some_is x y e = cc
+
 module _ (u : Setup) (journals : Journals) (closed : IsClosed u.heap) (can : CanMerge u journals) (numbers : List ℕ) (stable : StableHeap) (t : IsNumberedAs u.heap numbers stable) (roots marks : List ℕ) where
-  abbrev cycle : Cycle
-  cycle = record { setup = u; journals = journals; roots = roots; marks = marks }
+  abbrev cycle : Option (List ℕ) → Cycle
+  cycle handed = record { setup = u; journals = journals; roots = roots; new_roots = handed; marks = marks }
 
   abbrev all : List (ℕ × Entry)
   all = merging.all u journals can
@@ -124,9 +164,9 @@ module _ (u : Setup) (journals : Journals) (closed : IsClosed u.heap) (can : Can
   object_is a s = (one.objects a).0 s
 
   -- a read of a page at that point
-  read_at : (p : ℕ) (seen : List Entry) → p < pages u → StartsWith (journals p) seen → IsSeen cycle names stable p seen
+  read_at : (p : ℕ) (seen : List Entry) → p < pages u → StartsWith (journals p) seen → (handed : Option (List ℕ)) → IsSeen (cycle handed) names stable p seen
   unfolding history
-  read_at p seen lt begins =
+  read_at p seen lt begins handed =
       let point_is = legal.points u journals closed can p seen lt begins in
       let h = (point point_is.before point_is.rest point_is.parts).agrees.numbered in
       let heap = result_of first point_is.before in
@@ -138,89 +178,112 @@ module _ (u : Setup) (journals : Journals) (closed : IsClosed u.heap) (can : Can
         words = λ a at offset s few low place. h.words a at s few ∙ ap (numbered_word names (pointers_of (header_in heap a)) at) (ap heap.word place ∙ point_is.words offset low);
       }
 
-  pub writing : IsWriting cycle numbers stable
+  pub writing : (handed : Option (List ℕ)) → IsWriting (cycle handed) numbers stable
   unfolding history
-  writing = record { life = whole.life; points = λ before rest e. (point before rest e).agrees.numbered; seen = read_at }
+  writing handed = record { life = whole.life; points = λ before rest e. (point before rest e).agrees.numbered; seen = λ p seen lt begins. read_at p seen lt begins handed }
 
-  module _ (forwards : AreForwarded u.heap roots) (none : next_faults u journals (next_heap u journals roots marks) ≡ []) where
+  -- the roots of the flipped heap, forwarded
+  ready : AreForwarded u.heap roots → IsReady names ended left roots
+  ready forwards =
+      let from = begun.leads_of u closed can.slid names numbers stable made t refl null in
+      let is = λ (x r : ℕ) (e : Some x ≡ forward (live u.heap) r). ap (λ o. unwrap_or o 0) (sym e) in
+      record {
+        agrees = whole.agrees;
+        reached = λ i d lt. let r = came_from roots u.heap.roots (forward (live u.heap)) forwards i d lt in still (get_or roots i d) (subst (IsNullOrStart first) (is (get_or roots i d) r.0 r.1) (from r.0).1);
+        roots_are = roots_lived names all first stable ∙ t.roots
+            ∙ sym (forwarded_same roots u.heap.roots (number_at names) (number_at (names_in u.heap numbers)) (forward (live u.heap)) forwards (λ x r e. ap (number_at names) (sym (is x r e)) ∙ (from r).0));
+      }
+    where
+      -- an object that slid still exists at the end
+      still : (a : ℕ) → IsNullOrStart first a → IsNullOrStart ended a
+      still a leads = ⊎_elim
+          (λ zero_is. inl zero_is)
+          (λ (s : HasStart first a).
+          let k = begun.start_of u closed can.slid a s in
+          inr (subst (HasStart ended) (sym k.2) ((one.objects (new_address (live u.heap) k.0)).1 (inl (address-is (live u.heap) k.0 (let n = begun.count u closed can.slid in omega (arith, k.1, n)))))))
+          leads
+
+  -- roots that were handed in lead to objects
+  handed_start : (new : List ℕ) → All (LeadsToObject u journals) new → All (IsNullOrStart ended) new
+  handed_start new may i d lt = ⊎_elim (λ zero_is. inl zero_is) (λ (o : IsObjectAt u journals (get_or new i d)). inr ((one.objects (get_or new i d)).1 o)) (may i d lt)
+
+  ready_with : (new : List ℕ) → All (LeadsToObject u journals) new → IsReady names ended (stepped left (Roots (map (number_at names) new))) new
+  ready_with new may = record { agrees = with_roots names ended left (map (number_at names) new) whole.agrees; reached = handed_start new may; roots_are = refl }
+
+  -- the roots may be changed so
+  may_root : (new : List ℕ) → All (LeadsToObject u journals) new → (n : ℕ) → IsAmong (map (number_at names) new) n → IsNullOrAmong left.there n
+  may_root new may n among =
+      let back = at_map_back (number_at names) new among.0 n among.1 in
+      let inside = at_below new among.0 back.0 back.1 in
+      let start = handed_start new may among.0 0 inside in
+      subst (IsNullOrAmong left.there) (ap (number_at names) (value_at new among.0 back.0 0 back.1) ∙ back.2) (may_refer names ended left whole.agrees (get_or new among.0 0) null start)
+
+  abbrev keep : List ℕ
+  keep = map (λ i. number_at names (to_address i)) marks
+
+  -- the last step of the cycle
+  module _ (before : StableHeap) (after : List ℕ) (r : IsReady names ended before after) (none : next_faults u journals (next_heap u journals after marks) ≡ []) where
     started : (k : ℕ) → k < length marks → HasStart ended (to_address (get_or marks k 0))
     started k lt =
-        let m = marked_objects u journals closed can roots marks none k lt in
+        let m = marked_objects u journals closed can after marks none k lt in
         (one.objects (to_address (get_or marks k 0))).1 (is_object u journals closed can (get_or marks k 0) m.0 m.1)
 
-    after_closed : IsClosed (next_heap u journals roots marks)
-    after_closed = next_closed u journals closed can roots marks none
+    after_closed : IsClosed (next_heap u journals after marks)
+    after_closed = next_closed u journals closed can after marks none
 
-    abbrev keep : List ℕ
-    keep = map (λ i. number_at names (to_address i)) marks
+    last_may : MayKeep before keep
+    last_may = kept.may_keep u journals closed can names ended before r.agrees null edition_is word_is object_is after marks after_closed started r.reached r.roots_are
 
-    chapter_life : IsLife stable (steps ++ Keeps keep ∷ [])
-    chapter_life = life_parts stable steps (Keeps keep ∷ []) whole.life (kept.may_keep u journals closed can names ended left whole.agrees null edition_is word_is object_is roots marks after_closed started, tt)
+    last_kept : IsNumberedAs (next_heap u journals after marks) keep (stepped before (Keeps keep))
+    last_kept = kept.numbered_next u journals closed can names ended before r.agrees null edition_is word_is object_is after marks after_closed started r.reached r.roots_are
 
-    chapter_kept : IsNumberedAs (next_heap u journals roots marks) keep (lived stable (steps ++ Keeps keep ∷ []))
-    chapter_kept = subst (IsNumberedAs (next_heap u journals roots marks) keep) (sym (lived_parts stable steps (Keeps keep ∷ [])))
-        (kept.numbered_next u journals closed can names ended left whole.agrees null edition_is word_is object_is roots marks after_closed started)
+  -- the cycle ends with these steps, which leave this heap
+  module _ (ends : List Step) (after : List ℕ) (may : IsLife left ends) (next_is : IsNumberedAs (next_heap u journals after marks) keep (lived left ends)) (same : (lived left ends).given ≡ left.given) where
+    ended_life : IsLife stable (steps ++ ends)
+    ended_life = life_parts stable steps ends whole.life may
 
-    chapter_given : (lived stable (steps ++ Keeps keep ∷ [])).given ≡ stable.given + length made
-    chapter_given = ap (λ (s : StableHeap). s.given) (lived_parts stable steps (Keeps keep ∷ [])) ∙ given_lived names all first stable
+    ended_kept : IsNumberedAs (next_heap u journals after marks) keep (lived stable (steps ++ ends))
+    ended_kept = subst (IsNumberedAs (next_heap u journals after marks) keep) (sym (lived_parts stable steps ends)) next_is
 
-    abbrev name : Names
-    name = names_in (next_heap u journals roots marks) keep
+    ended_given : (lived stable (steps ++ ends)).given ≡ stable.given + length made
+    ended_given = ap (λ (s : StableHeap). s.given) (lived_parts stable steps ends) ∙ same ∙ given_lived names all first stable
 
-    -- an object that slid still exists at the end
-    still : (a : ℕ) → IsNullOrStart first a → IsNullOrStart ended a
-    still a leads = ⊎_elim
-        (λ zero_is. inl zero_is)
-        (λ (s : HasStart first a).
-        let k = begun.start_of u closed can.slid a s in
-        inr (subst (HasStart ended) (sym k.2) ((one.objects (new_address (live u.heap) k.0)).1 (inl (address-is (live u.heap) k.0 (let n = begun.count u closed can.slid in omega (arith, k.1, n)))))))
-        leads
-
-    -- a root leads to the same object as before
-    root_is : (i : ℕ) → i < length u.heap.roots → i < length roots → Some (get_or roots i 0) ≡ forward (live u.heap) (get_or u.heap.roots i 0)
-        → number_at name (lowered (get_or roots i 0)) ≡ number_at (names_in u.heap numbers) (get_or u.heap.roots i 0)
-    root_is i lt lt2 e =
-        let r = get_or u.heap.roots i 0 in
-        let x = get_or roots i 0 in
-        let is : forwarded (live u.heap) r ≡ x = sym (ap (λ o. unwrap_or o 0) e) in
-        let from = begun.leads_of u closed can.slid names numbers stable made t refl null r in
-        let target : IsTarget marks (lowered x) = subst (IsTarget marks) (get_or-map lowered roots i 0 0 lt2) (after_closed.roots i 0 (let n = length-map roots lowered in omega (arith, lt2, n))) in
-        let to = kept.leads u journals closed can names ended left whole.agrees null edition_is word_is object_is roots marks after_closed started x (still x (subst (IsNullOrStart first) is from.1)) target in
-        to.0 ∙ ap (number_at names) (sym is) ∙ from.0
-
-    roots_same : (xs rs : List ℕ) (G H : ℕ → ℕ) (f : ℕ → Option ℕ) → map (λ (x : ℕ). Some x) xs ≡ map f rs
-        → ((i : ℕ) → i < length rs → i < length xs → Some (get_or xs i 0) ≡ f (get_or rs i 0) → G (get_or xs i 0) ≡ H (get_or rs i 0)) → map G xs ≡ map H rs
-    roots_same [] [] G H f e same = refl
-    roots_same [] (r ∷ rs) G H f e same = absurd (cc)
-    roots_same (x ∷ xs) [] G H f e same = absurd (cc)
-    roots_same (x ∷ xs) (r ∷ rs) G H f e same =
-        let head : Some x ≡ f r = cc in
-        let tail : map (λ (y : ℕ). Some y) xs ≡ map f rs = cc in
-        ap₂ (λ (a : ℕ) (l : List ℕ). a ∷ l) (same 0 (omega arith) (omega arith) head) (roots_same xs rs G H f tail (λ i lt lt2 is. same (suc i) (omega (arith, lt)) (omega (arith, lt2)) is))
-
-    chapter_roots : map (number_at name) (map lowered roots) ≡ map (number_at (names_in u.heap numbers)) u.heap.roots
-    chapter_roots = map_map (number_at name) roots ∙ roots_same roots u.heap.roots (λ x. number_at name (lowered x)) (number_at (names_in u.heap numbers)) (forward (live u.heap)) forwards root_is
-      where
-        map_map : (F : ℕ → ℕ) (xs : List ℕ) → map F (map lowered xs) ≡ map (λ x. F (lowered x)) xs
-        map_map F [] = refl
-        map_map F (x ∷ xs) = ap (λ l. F (lowered x) ∷ l) (map_map F xs)
-
-    pub chapter : IsChapter cycle numbers stable
-    unfolding history
-    chapter = record {
-      writing = writing;
-      life = chapter_life;
-      kept = chapter_kept;
-      given = chapter_given;
-      roots = chapter_roots;
-    }
+  pub chapter : (handed : Option (List ℕ)) → AreForwarded u.heap roots → MayBeRoots u journals handed → next_faults u journals (next_heap u journals (unwrap_or handed roots) marks) ≡ [] → IsChapter (cycle handed) numbers stable
+  unfolding history
+  chapter None forwards may none =
+      let r = ready forwards in
+      let last = last_kept left roots r none in
+      let ends = Keeps keep ∷ [] in
+      let able : IsLife left ends = (last_may left roots r none, tt) in
+      record {
+        writing = writing None;
+        life = ended_life ends roots able last refl;
+        kept = ended_kept ends roots able last refl;
+        given = ended_given ends roots able last refl;
+        roots = λ _. sym last.roots ∙ roots_lived names all first stable ∙ t.roots;
+        new_roots = λ new e. absurd (none_is_some new e);
+      }
+  chapter (Some new) forwards may none =
+      let before = stepped left (Roots (map (number_at names) new)) in
+      let r = ready_with new may in
+      let last = last_kept before new r none in
+      let ends = Roots (map (number_at names) new) ∷ Keeps keep ∷ [] in
+      let able : IsLife left ends = (may_root new may, (last_may before new r none, tt)) in
+      record {
+        writing = writing (Some new);
+        life = ended_life ends new able last refl;
+        kept = ended_kept ends new able last refl;
+        given = ended_given ends new able last refl;
+        roots = λ e. absurd (none_is_some new (sym e));
+        new_roots = λ handed e. sym last.roots ∙ ap (map (number_at names)) (some_is new handed e);
+      }
 
 pub one_chapter : (heap : Heap) (c : Cycle) (numbers : List ℕ) (stable : StableHeap) → IsClosed heap → IsCycleOf heap c → IsNumberedAs heap numbers stable → IsChapter c numbers stable
 one_chapter heap c numbers stable closed is t =
-    chapter c.setup c.journals (subst IsClosed (sym is.heap_is) closed) is.merges numbers stable (subst (λ h. IsNumberedAs h numbers stable) (sym is.heap_is) t) c.roots c.marks is.roots is.accepted
+    chapter c.setup c.journals (subst IsClosed (sym is.heap_is) closed) is.merges numbers stable (subst (λ h. IsNumberedAs h numbers stable) (sym is.heap_is) t) c.roots c.marks c.new_roots is.roots is.new_roots is.accepted
 
 pub one_writing : (c : Cycle) (numbers : List ℕ) (stable : StableHeap) → IsClosed c.setup.heap → CanMerge c.setup c.journals → IsNumberedAs c.setup.heap numbers stable → IsWriting c numbers stable
-one_writing c numbers stable closed can t = writing c.setup c.journals closed can numbers stable t c.roots c.marks
+one_writing c numbers stable closed can t = writing c.setup c.journals closed can numbers stable t c.roots c.marks c.new_roots
 
 -- ---- forwarding keeps the order of addresses
 
@@ -273,7 +336,7 @@ all_numbered (c ∷ cs) heap last numbers stable closed t follow =
     let steps = story_of c numbers stable.given in
     let next = lived stable steps in
     let kept = numbers_after c numbers stable.given in
-    let after = next_closed c.setup c.journals own is.merges c.roots c.marks is.accepted in
+    let after = next_closed c.setup c.journals own is.merges (roots_after c) c.marks is.accepted in
     let rest = all_numbered cs (heap_after c) last kept next after here.kept follow.1 in
     let given : next.given ≡ given_after c stable.given = here.given in
     record {
@@ -297,6 +360,7 @@ first_is heap =
     record {
       edition = refl;
       there = refl;
+      roots = refl;
       words = first_words heap (first_numbered heap).words (numbered_object (names_in heap (first_numbers heap))) heap.marks 1
           (λ k lt.
           let tell = numbered_object (names_in heap (first_numbers heap)) in

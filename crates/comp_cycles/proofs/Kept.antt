@@ -1,5 +1,5 @@
--- At the end of a cycle, the kept objects are the objects of the next heap.
-use Rattle.std.proofs.Common.{◌≡◌, ℕ, zero, suc, ◌+◌, ◌-◌, ◌*◌, ◌<◌, ◌≤◌, Bool, true, false, cond, eqb, ◌==◌, Some, List, [], ◌∷◌, length, get_or, map, refl, sym, ap, ap₂, ◌∙◌, inl, inr, ⊎_elim, subst, arith}
+-- At the end of a cycle, the kept objects are the objects of the next heap, and the roots are its roots.
+use Rattle.std.proofs.Common.{◌≡◌, ℕ, zero, suc, ◌+◌, ◌-◌, ◌*◌, ◌<◌, ◌≤◌, Bool, true, false, cond, eqb, ◌==◌, Some, List, [], ◌∷◌, All, length, get_or, map, refl, sym, ap, ap₂, ◌∙◌, inl, inr, ⊎_elim, subst, arith}
 use Rattle.std.specs.List.{list_any}
 use Rattle.std.proofs.lemmas.Bool.{cases_lt, cases_Bool, both_ways, or_right}
 use Rattle.std.proofs.lemmas.List.{length-map, get_or-map}
@@ -47,10 +47,16 @@ zero_either : (b : Bool) (n : ℕ) → n ≡ 0 → cond b n 0 ≡ 0
 zero_either true n e = e
 zero_either false n e = refl
 
+-- two maps of one list are equal if they are equal element by element
+roots_same : (f g h : ℕ → ℕ) (xs : List ℕ) → ((i : ℕ) → i < length xs → g (h (get_or xs i 0)) ≡ f (get_or xs i 0)) → map f xs ≡ map g (map h xs)
+roots_same f g h [] same = refl
+roots_same f g h (x ∷ xs) same = ap₂ (λ (a : ℕ) (l : List ℕ). a ∷ l) (sym (same 0 (omega arith))) (roots_same f g h xs (λ i lt. same (suc i) (omega (arith, lt))))
+
 module _ (u : Setup) (journals : Journals) (closed_before : IsClosed u.heap) (can : CanMerge u journals) (names : Names) (heap : OneThreadHeap) (stable : StableHeap)
     (h : Agrees names heap stable) (null : number_at names 0 ≡ 0) (edition_is : heap.edition ≡ u.heap.edition)
     (word_is : (i : ℕ) → i < 64 * pages u → heap.word (to_address i) ≡ word_in u journals i) (object_is : (a : ℕ) → HasStart heap a → IsObjectAt u journals a)
     (roots marks : List ℕ) (closed : IsClosed (next_heap u journals roots marks)) (started : (k : ℕ) → k < length marks → HasStart heap (to_address (get_or marks k 0)))
+    (reached : All (IsNullOrStart heap) roots) (roots_are : stable.roots ≡ map (number_at names) roots)
   where
     abbrev next : Heap
     next = next_heap u journals roots marks
@@ -254,9 +260,23 @@ module _ (u : Setup) (journals : Journals) (closed_before : IsClosed u.heap) (ca
         (cases_lt j 1)
         ∙ sym to)
 
+    -- where a root of the next heap leads
+    root_leads : (i : ℕ) → i < length roots → (number_at name (lowered (get_or roots i 0)) ≡ number_at names (get_or roots i 0)) × IsNullOrAmong kept (number_at names (get_or roots i 0))
+    root_leads i lt =
+        leads (get_or roots i 0) (reached i 0 lt)
+        (subst (IsTarget marks) (get_or-map lowered roots i 0 0 lt) (closed.roots i 0 (let long = length-map roots lowered in omega (arith, lt, long))))
+
+    -- the roots lead to kept objects
+    roots_kept : (n : ℕ) → IsAmong stable.roots n → IsNullOrAmong kept n
+    roots_kept n among =
+        let back = at_map_back (number_at names) roots among.0 n (subst (λ (l : List ℕ). get_elem? l among.0 ≡ some n) roots_are among.1) in
+        let inside = at_below roots among.0 back.0 back.1 in
+        subst (IsNullOrAmong kept) (ap (number_at names) (read_at roots among.0 back.0 0 back.1) ∙ back.2) (root_leads among.0 inside).1
+
     pub may_keep : MayKeep stable kept
     may_keep = record {
       there = λ n among. let k = kept_at n among in subst (IsAmong stable.there) k.2 (h.numbered.there (at k.0) (started k.0 k.1));
+      roots = roots_kept;
       closed = λ n field among few.
           let k = kept_at n among in
           let s = started k.0 k.1 in
@@ -274,6 +294,7 @@ module _ (u : Setup) (journals : Journals) (closed_before : IsClosed u.heap) (ca
       edition = h.numbered.edition ∙ edition_is;
       there = refl;
       words = map_same (stepped stable (Keeps kept)).words (λ i. number_at names (to_address i)) (numbered_object name) (object_at u.heap.edition next.words) marks (λ k lt. same_object k lt);
+      roots = roots_are ∙ roots_same (number_at names) (number_at name) lowered roots (λ i lt. (root_leads i lt).0);
       given = λ i lt.
           let inside : i < length marks = omega (arith, lt, kept_long) in
           let g = h.given (at i) (started i inside) in

@@ -14,7 +14,9 @@ pub mod Chapters
 pub mod Ended
 pub mod Marks
 pub mod MovedWords
+pub mod Handed
 pub mod Refusals
+pub mod Calls
 pub use Rattle.page_plan.proofs.Objects
 pub use Rattle.comp_history.proofs.Pages
 pub use Rattle.comp_history.proofs.Sorted

@@ -188,6 +188,18 @@ given_lived names (x ∷ xs) heap stable =
     let step = step_of names heap x.1.kind (address_of x) x.1.value in
     given_lived names xs (after heap x) (stepped stable step) ∙ given_stepped names heap stable x.1.kind (address_of x) x.1.value (made_at xs)
 
+-- no step of an entry changes the roots
+roots_stepped : (names : Names) (heap : OneThreadHeap) (stable : StableHeap) (k : Kind) (a value : ℕ) → (stepped stable (step_of names heap k a value)).roots ≡ stable.roots
+roots_stepped names heap stable Header a value = refl
+roots_stepped names heap stable Reference a value = refl
+roots_stepped names heap stable Weak a value = refl
+roots_stepped names heap stable Data a value = refl
+
+pub roots_lived : (names : Names) (xs : List (ℕ × Entry)) (heap : OneThreadHeap) (stable : StableHeap) → (lived stable (numbered names heap xs)).roots ≡ stable.roots
+roots_lived names [] heap stable = refl
+roots_lived names (x ∷ xs) heap stable =
+    roots_lived names xs (after heap x) (stepped stable (step_of names heap x.1.kind (address_of x) x.1.value)) ∙ roots_stepped names heap stable x.1.kind (address_of x) x.1.value
+
 -- ---- prefixes
 
 pub legal_front : (heap : OneThreadHeap) (xs ys : List (ℕ × Entry)) → IsLegal heap (xs ++ ys) → IsLegal heap xs

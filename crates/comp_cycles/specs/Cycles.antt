@@ -1,5 +1,5 @@
 -- Cycles that follow one another, and their one history.
-use Rattle.std.specs.Prelude.{◌≡◌, ℕ, ◌+◌, ◌<◌, slice_index, List, [], ◌∷◌, ◌++◌, length, map, zip, Some}
+use Rattle.std.specs.Prelude.{◌≡◌, ℕ, ◌+◌, ◌<◌, slice_index, List, [], ◌∷◌, ◌++◌, All, length, map, zip, unwrap_or, Option, Some, None}
 use Rattle.std.specs.List.{range_with_len}
 use Rattle.heap_layout.specs.Header.{size_of}
 use Rattle.heap_layout.specs.Heap.{Heap, live}
@@ -10,27 +10,34 @@ use Rattle.comp_history.specs.Setup.{Setup, address, base_of, pages}
 use Rattle.comp_history.specs.Lists.{on, StartsWith}
 use Rattle.comp_history.specs.Locks.{Journals}
 use Rattle.comp_history.specs.Merged.{history, CanMerge}
+use Rattle.comp_history.specs.Objects.{LeadsToObject}
 use Rattle.comp_history.specs.OneThread.{first_heap, header_in, result_of, HasStart}
 use Rattle.comp_cycles.specs.Forwarded.{AreForwarded}
-use Rattle.comp_cycles.specs.Stable.{StableHeap, Step, Keeps, IsLife, lived}
+use Rattle.comp_cycles.specs.Stable.{StableHeap, Step, Roots, Keeps, IsLife, lived}
 use Rattle.comp_cycles.specs.Numbered.{Names, names_in, number_at, pointers_of, numbered_word, made_at, numbered, first_numbers, first_numbered, AreNumbered, IsNumberedAs}
 use Rattle.comp_cycles.specs.NextHeap.{next_heap, next_faults}
 
--- A cycle: its setup with the heap that was compacted, the journals at the end, the addresses to which the roots lead,
--- and the marks that were handed in at the end.
+-- A cycle: its setup with the heap that was compacted, the journals at the end, and the to-space addresses to which the
+-- roots of that heap lead. At the end two lists are handed in for the next heap: its roots, as to-space addresses, and its
+-- marks. If no roots are handed in, the roots stay.
 pub record Cycle : Type 0 where
   pub setup : Setup
   pub journals : Journals
   pub roots : List ℕ
+  pub new_roots : Option (List ℕ)
   pub marks : List ℕ
 
 -- the entries of the cycle, merged
 abbrev pub entries_of : Cycle → List (ℕ × Entry)
 entries_of c = history c.setup c.journals
 
+-- the roots of the next heap, as to-space addresses
+abbrev pub roots_after : Cycle → List ℕ
+roots_after c = unwrap_or c.new_roots c.roots
+
 -- the heap with which the next cycle begins
 abbrev pub heap_after : Cycle → Heap
-heap_after c = next_heap c.setup c.journals c.roots c.marks
+heap_after c = next_heap c.setup c.journals (roots_after c) c.marks
 
 -- how many object numbers have been given out after the cycle
 abbrev pub given_after : Cycle → ℕ → ℕ
@@ -47,9 +54,22 @@ names_of c numbers given =
 abbrev pub numbers_after : Cycle → List ℕ → ℕ → List ℕ
 numbers_after c numbers given = map (λ i. number_at (names_of c numbers given) (to_address i)) c.marks
 
--- the story of the cycle in object numbers: what was written, and then what is kept
+-- these steps, after one that makes the objects at these addresses the roots, if roots are handed in
+abbrev pub rooted : Names → Option (List ℕ) → List Step → List Step
+rooted names None steps = steps
+rooted names (Some roots) steps = Roots (map (number_at names) roots) ∷ steps
+
+-- the story of the cycle in object numbers: what was written, then where the roots lead if they change, and then what
+-- is kept
 abbrev pub story_of : Cycle → List ℕ → ℕ → List Step
-story_of c numbers given = numbered (names_of c numbers given) (first_heap c.setup) (entries_of c) ++ Keeps (numbers_after c numbers given) ∷ []
+story_of c numbers given =
+    numbered (names_of c numbers given) (first_heap c.setup) (entries_of c)
+    ++ rooted (names_of c numbers given) c.new_roots (Keeps (numbers_after c numbers given) ∷ [])
+
+-- roots that are handed in at the end of a cycle are null, or the starts of objects that slid or were made
+abbrev pub MayBeRoots : Setup → Journals → Option (List ℕ) → Type 0
+MayBeRoots u journals None = Unit {0}
+MayBeRoots u journals (Some roots) = All (LeadsToObject u journals) roots
 
 -- This is a cycle of this heap, and it can be followed by another.
 pub record IsCycleOf (heap : Heap) (c : Cycle) : Type 0 where
@@ -57,6 +77,7 @@ pub record IsCycleOf (heap : Heap) (c : Cycle) : Type 0 where
   pub merges : CanMerge c.setup c.journals
   -- the roots of the cycle are the heap's roots, forwarded
   pub roots : AreForwarded c.setup.heap c.roots
+  pub new_roots : MayBeRoots c.setup c.journals c.new_roots
   -- the next heap has no fault, so its marks are accepted
   pub accepted : next_faults c.setup c.journals (heap_after c) ≡ []
 
@@ -87,13 +108,18 @@ pub record IsWriting (c : Cycle) (numbers : List ℕ) (stable : StableHeap) : Ty
 -- The cycle is a chapter of that life.
 pub record IsChapter (c : Cycle) (numbers : List ℕ) (stable : StableHeap) : Type 0 where
   pub writing : IsWriting c numbers stable
-  -- the whole story may be lived there: what was written, and then what is kept
+  -- the whole story may be lived there: what was written, the change of the roots, and then what is kept
   pub life : IsLife stable (story_of c numbers stable.given)
-  -- after the story, the words of the kept objects are those in the next heap
+  -- after the story, the kept objects have the words that they have in the next heap, and the roots lead to the same
+  -- objects
   pub kept : IsNumberedAs (heap_after c) (numbers_after c numbers stable.given) (lived stable (story_of c numbers stable.given))
   pub given : (lived stable (story_of c numbers stable.given)).given ≡ given_after c stable.given
-  -- each root leads to the same object as before
-  pub roots : map (number_at (names_in (heap_after c) (numbers_after c numbers stable.given))) (heap_after c).roots ≡ map (number_at (names_in c.setup.heap numbers)) c.setup.heap.roots
+  -- if no roots were handed in, each root leads to the same object as before
+  pub roots : c.new_roots ≡ None
+      → map (number_at (names_in (heap_after c) (numbers_after c numbers stable.given))) (heap_after c).roots ≡ map (number_at (names_in c.setup.heap numbers)) c.setup.heap.roots
+  -- if roots were handed in, each root of the next heap leads to the object at the address that was handed in
+  pub new_roots : (roots : List ℕ) → c.new_roots ≡ Some roots
+      → map (number_at (names_in (heap_after c) (numbers_after c numbers stable.given))) (heap_after c).roots ≡ map (number_at (names_of c numbers stable.given)) roots
 
 -- Forwarding keeps the order of addresses. So it never maps two addresses to one.
 abbrev pub IsRising : Heap → Type 0

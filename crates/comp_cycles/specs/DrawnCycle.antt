@@ -1,7 +1,7 @@
 -- An example with three objects, the first and the last of them marked. In the first cycle one mutator makes an object
 -- and stores it in the last of the three; then these two are marked. In the second cycle the mutator stores null there,
--- and only that object is marked.
-use Rattle.std.specs.Prelude.{ℕ, zero, suc, List, [], ◌∷◌, map}
+-- and only that object is marked. The first cycle can also end with another root.
+use Rattle.std.specs.Prelude.{ℕ, zero, suc, List, [], ◌∷◌, map, Some, None}
 use Rattle.heap_layout.specs.Header.{header_word}
 use Rattle.heap_layout.specs.declared.kind.Kind.TheVariants.{Header, Reference}
 use Rattle.comp_history.specs.Locks.{Journals}
@@ -21,7 +21,19 @@ drawn_cycle marks = record {
   setup = record { heap = three_objects; compacted = 1; fresh = 2; mutators = 1 };
   journals = drawn_journals;
   roots = t 2 ∷ [];
+  new_roots = None;
   marks = marks;
+}
+
+-- The first cycle, if at its end another root is handed in, which leads to the new object: a register of the mutator.
+-- Then only that object is marked.
+abbrev pub rooted_cycle : Cycle
+rooted_cycle = record {
+  setup = record { heap = three_objects; compacted = 1; fresh = 2; mutators = 1 };
+  journals = drawn_journals;
+  roots = t 2 ∷ [];
+  new_roots = Some (t 64 ∷ []);
+  marks = 64 ∷ [];
 }
 
 -- the journals of the second cycle
@@ -35,6 +47,7 @@ second_cycle = record {
   setup = record { heap = heap_after (drawn_cycle (2 ∷ 64 ∷ [])); compacted = 1; fresh = 2; mutators = 1 };
   journals = second_journals;
   roots = t 0 ∷ [];
+  new_roots = None;
   marks = 0 ∷ [];
 }
 

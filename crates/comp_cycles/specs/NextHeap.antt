@@ -1,5 +1,5 @@
 -- The heap with which the next cycle begins. Its from-space words are the to-space words of this cycle.
-use Rattle.std.specs.Prelude.{ℕ, ◌-◌, ◌*◌, ◌/◌, ◌%◌, ◌^◌, Bool, true, false, cond, List, ◌++◌, filter, length, map, Option, Some, None}
+use Rattle.std.specs.Prelude.{ℕ, ◌+◌, ◌-◌, ◌*◌, ◌/◌, ◌%◌, ◌^◌, ◌==◌, ◌||◌, nat_le, Bool, true, false, cond, List, ◌++◌, filter, length, map, Option, Some, None}
 use Rattle.std.specs.List.{range_with_len}
 use Rattle.heap_layout.specs.Heap.{Heap}
 use Rattle.heap_layout.specs.Faults.{size_faults, mark_faults, root_faults, target_faults, weak_faults}
@@ -23,6 +23,11 @@ kind_in u journals i = kind_at u (i / 64) (journals (i / 64)) (i % 64)
 -- a to-space address as an address of the next heap's from-space; null stays null, since subtraction stops at 0
 abbrev pub lowered : ℕ → ℕ
 lowered a = a - 2 ^ 32
+
+-- A root that is handed in, as it is read: a word that is neither null nor a to-space address becomes one that is lowered
+-- to 1, which is no address of the next heap. Lowered as it is, it could become null.
+abbrev pub held : ℕ → ℕ
+held a = cond ((a == 0) || nat_le (2 ^ 33) a) a (2 ^ 32 + 1)
 
 -- a word of this kind in the next heap: references and weak words are lowered, all others stay
 abbrev pub lowered_as : Option Kind → ℕ → ℕ

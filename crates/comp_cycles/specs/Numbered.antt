@@ -34,11 +34,13 @@ names_in heap numbers = zip (map from_address heap.marks) numbers
 abbrev pub numbered_object : Names → Object → List ℕ
 numbered_object names object = object.header.word ∷ (map (number_at names) object.references ++ map (number_at names) object.weak ++ object.data_words)
 
--- The stable heap has exactly the live objects of the heap; these are their numbers, by rising address.
+-- The stable heap has exactly the live objects of the heap, and its roots; these are the objects' numbers, by rising
+-- address.
 pub record IsNumberedAs (heap : Heap) (numbers : List ℕ) (stable : StableHeap) : Type 0 where
   pub edition : stable.edition ≡ heap.edition
   pub there : stable.there ≡ numbers
   pub words : map stable.words numbers ≡ map (numbered_object (names_in heap numbers)) (live heap)
+  pub roots : stable.roots ≡ map (number_at (names_in heap numbers)) heap.roots
   -- the numbers have been given out, each once
   pub given : (i : ℕ) → i < length numbers → (1 ≤ slice_index numbers i) × (slice_index numbers i ≤ stable.given)
   pub once : (i j : ℕ) → i < length numbers → j < length numbers → slice_index numbers i ≡ slice_index numbers j → i ≡ j
@@ -47,13 +49,14 @@ pub record IsNumberedAs (heap : Heap) (numbers : List ℕ) (stable : StableHeap)
 abbrev pub first_numbers : Heap → List ℕ
 first_numbers heap = range_with_len 1 (length heap.marks)
 
--- the stable heap with the objects of the first heap
+-- the stable heap with the objects and the roots of the first heap
 abbrev pub first_numbered : Heap → StableHeap
 first_numbered heap = record {
   edition = heap.edition;
   given = length heap.marks;
   there = first_numbers heap;
   words = λ n. slice_index_or (map (numbered_object (names_in heap (first_numbers heap))) (live heap)) (n - 1) [];
+  roots = map (number_at (names_in heap (first_numbers heap))) heap.roots;
 }
 
 -- ---- the objects of the heap of one thread

@@ -1,6 +1,6 @@
 -- The stable heap, whose objects never move. An object keeps its number: 1, 2, 3 and so on, in the order in which the
 -- objects were made; 0 is null. The words of an object are its header, then its references and weak words, each the
--- number of an object or 0, and then its data words.
+-- number of an object or 0, and then its data words. The roots are numbers of objects, or 0.
 use Rattle.std.specs.Prelude.{◌≡◌, ℕ, ◌+◌, ◌-◌, ◌<◌, ◌==◌, ◌&&◌, ◌⊎◌, Bool, true, nat_le, nat_lt, cond, List, [], ◌∷◌, fold, replicate, slice_index, slice_set}
 use Rattle.std.specs.List.{list_any}
 use mathlib.Core.Option.{some}
@@ -21,6 +21,8 @@ pub record StableHeap : Type 0 where
   pub there : List ℕ
   -- the words of each object
   pub words : ℕ → List ℕ
+  -- the objects to which the roots lead; 0 for a root that is null
+  pub roots : List ℕ
 
 -- A step in the life of the stable heap.
 pub data Step : Type 0 where
@@ -28,6 +30,8 @@ pub data Step : Type 0 where
   Makes : (header : ℕ) → Step
   -- writes a field of an object; `field` is its index among the object's fields of this kind
   Writes : (kind : Kind) (object field value : ℕ) → Step
+  -- from now on the roots lead to these objects; 0 for a root that is null
+  Roots : (objects : List ℕ) → Step
   -- keeps these objects and drops all others; weak words that lead to dropped objects become null
   Keeps : (objects : List ℕ) → Step
 
@@ -47,18 +51,20 @@ IsNullOrAmong numbers n = (n ≡ 0) ⊎ IsAmong numbers n
 abbrev pub is_among : List ℕ → ℕ → Bool
 is_among numbers n = list_any (λ m. m == n) numbers
 
--- These objects may be kept: they exist, and each reference of each of them is null or leads to one of them. Weak words
--- are not restricted.
+-- These objects may be kept: they exist, and each root and each reference of each of them is null or leads to one of
+-- them. Weak words are not restricted.
 pub record MayKeep (heap : StableHeap) (objects : List ℕ) : Type 0 where
   pub there : (n : ℕ) → IsAmong objects n → IsAmong heap.there n
+  pub roots : (n : ℕ) → IsAmong heap.roots n → IsNullOrAmong objects n
   pub closed : (n field : ℕ) → IsAmong objects n → field < refs_of (head_of heap n) → IsNullOrAmong objects (slice_index (heap.words n) (1 + field))
 
--- The step may be made. A value written as a reference or a weak word must be null or the number of an object that
--- exists.
+-- The step may be made. A root, and a value written as a reference or a weak word, must be null or the number of an
+-- object that exists.
 abbrev pub MayStep : StableHeap → Step → Type 0
 MayStep heap (Makes header) = Unit {0}
 MayStep heap (Writes kind object field value) =
     IsAmong heap.there object × (field < count_of kind (head_of heap object)) × (refers kind ≡ true → IsNullOrAmong heap.there value)
+MayStep heap (Roots objects) = (n : ℕ) → IsAmong objects n → IsNullOrAmong heap.there n
 MayStep heap (Keeps objects) = MayKeep heap objects
 
 -- a word of an object with this header, by its index in the object, after only these objects were kept: a weak word
@@ -84,6 +90,7 @@ stepped heap (Makes header) = record heap {
   words = but heap.words (heap.given + 1) (header ∷ replicate (size_of (header_of heap.edition header) - 1) 0);
 }
 stepped heap (Writes kind object field value) = with_word heap object (first_of kind (head_of heap object) + field) value
+stepped heap (Roots objects) = record heap { roots = objects }
 stepped heap (Keeps objects) = record heap { there = objects; words = λ n. left_words (head_of heap n) objects 0 (heap.words n) }
 
 -- the steps may be made, one after the other

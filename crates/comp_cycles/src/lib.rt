@@ -7,9 +7,10 @@ mod laws;
 mod moving;
 mod next_cycle;
 
-pub use drawn::{cycle_is_numbered, cycles_are_one_story, words_are_lowered};
+pub use drawn::{cycle_is_numbered, cycles_are_one_story, root_is_changed, words_are_lowered};
 pub use finished::Finished;
 pub use laws::{
     finished_is_end, first_numbering, one_chapter, one_life, one_writing, weak_words_lead,
 };
-pub use next_cycle::NotCycled;
+pub use moving::{Moved, moved_words};
+pub use next_cycle::{NotCycled, lowered_roots};

@@ -17,9 +17,11 @@ use std::alloc::{AllocError, Global};
 
 /// The words of the next heap, and one bit for each of them: it is set if an object starts at the word.
 #[derive(Drop)]
-pub(crate) struct Moved {
-    pub(crate) words: Vec<u64>,
-    pub(crate) starts: Vec<u64>,
+pub struct Moved {
+    /// The words.
+    pub words: Vec<u64>,
+    /// The bits.
+    pub starts: Vec<u64>,
 }
 
 // A to-space word of this kind as a word of the next heap.
@@ -139,7 +141,7 @@ fn move_pages<B: Builder>(
 }
 
 /// All words of the next heap.
-pub(crate) fn moved_words<B: Builder>(
+pub fn moved_words<B: Builder>(
     alloc: Global,
     builder: &B,
     finished: &Finished,
