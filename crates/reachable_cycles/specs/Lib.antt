@@ -1,0 +1,2 @@
+pub mod StableReach
+pub mod NextRoots

@@ -1,0 +1,84 @@
+//! The heap with which the next cycle begins, marked by what its roots reach.
+ghost use Rattle.std.specs.Prelude.{◌≡◌, ℕ, IfErr, IfOk, List};
+ghost use Rattle.heap_layout.specs.Faults.{IsAccepted};
+ghost use Rattle.heap_layout.specs.Heap.{IsStored};
+ghost use Rattle.comp_cycles.specs.Cycles.{heap_after, IsChapter, IsCycleOf, numbers_after};
+ghost use Rattle.comp_cycles.specs.Ends.{cycle_of, cycle_with, setup_in, IsEndOf};
+ghost use Rattle.comp_cycles.specs.Finishes.{journals_of};
+ghost use Rattle.comp_cycles.specs.Numbered.{IsNumberedAs};
+ghost use Rattle.comp_cycles.specs.Stable.{StableHeap};
+ghost use Rattle.reachable_cycles.specs.NextRoots.{IsRefusedNext, IsRefusedWith};
+ghost use Rattle.reachable_cycles.specs.StableReach.{AreMarkedReachable, KeepsExactly, written};
+
+use crate::laws::{cycle_keeps_reachable, next_heap_is_accepted};
+use crate::marking::mark_next;
+use comp_cycles::{Finished, NotCycled};
+use heap_layout::MarkedHeap;
+use page_plan::Builder;
+use std::alloc::Global;
+
+/// Makes the heap with which the next cycle begins, as `Finished::next_cycle` does, but finds the marks itself: exactly
+/// the objects are marked that the roots of that heap reach. So each object that a root reaches is kept, and each other
+/// one is dropped. The next heap has 64 words for each page. The builder must be that of the flip.
+///
+/// Refusals: `TooLarge` if the next heap would have more words than its edition allows; if it would not, `OutOfMemory`.
+/// After a refusal the finished heap is handed back unchanged.
+pub fn next_reachable<B: Builder>(
+    finished: Finished,
+    alloc: Global,
+    builder: &B,
+) -> Result<MarkedHeap, NotCycled>
+    requires { IsEndOf (B.heap builder.now) finished }
+    ensures next { IfOk result (λ heap. heap ≡ heap_after (cycle_of (B.heap builder.now) finished heap.marks)) }
+    ensures reachable { IfOk result (λ heap. AreMarkedReachable (cycle_of (B.heap builder.now) finished heap.marks)) }
+    ensures stored { IfOk result IsStored }
+    ensures accepted { IfOk result IsAccepted }
+    ensures cycle { IfOk result (λ heap. IsCycleOf (B.heap builder.now) (cycle_of (B.heap builder.now) finished heap.marks)) }
+    ensures chapter { IfOk result (λ heap. (numbers : List ℕ) (stable : StableHeap) → IsNumberedAs (B.heap builder.now) numbers stable
+        → IsChapter (cycle_of (B.heap builder.now) finished heap.marks) numbers stable) }
+    ensures keeps { IfOk result (λ heap. (numbers : List ℕ) (stable : StableHeap) → IsNumberedAs (B.heap builder.now) numbers stable
+        → KeepsExactly (written (cycle_of (B.heap builder.now) finished heap.marks) numbers stable) (numbers_after (cycle_of (B.heap builder.now) finished heap.marks) numbers stable.given)) }
+    ensures refused { IfErr result (λ left. IsRefusedNext (setup_in (B.heap builder.now) finished) left.fault) }
+    ensures back { IfErr result (λ left. left.finished ≡ finished) }
+{
+    cycle_keeps_reachable();
+    next_heap_is_accepted();
+    match mark_next(alloc, builder, &finished, finished.roots()) {
+        Ok(found) => finished.next_moved(alloc, builder, found.moved, found.marks),
+        Err(fault) => Err(NotCycled { fault, finished }),
+    }
+}
+
+/// As `next_reachable`, with other roots: those of the next heap are `roots`. Each is a to-space address, the start of
+/// an object that slid or was made, or null. A mutator's stack and registers at the end of the cycle are such roots.
+/// What only the roots of before reach is dropped.
+///
+/// Refusals, in this order: `TooLarge` if the next heap would have more words or more roots than its edition allows;
+/// `BadRoot(k)` for the first root that is neither null nor the start of an object. `OutOfMemory` may replace any other
+/// answer but `TooLarge`. After a refusal the finished heap is handed back unchanged.
+pub fn next_reachable_with<B: Builder>(
+    finished: Finished,
+    alloc: Global,
+    builder: &B,
+    roots: &[u64],
+) -> Result<MarkedHeap, NotCycled>
+    requires { IsEndOf (B.heap builder.now) finished }
+    ensures next { IfOk result (λ heap. heap ≡ heap_after (cycle_with (B.heap builder.now) finished roots.now heap.marks)) }
+    ensures reachable { IfOk result (λ heap. AreMarkedReachable (cycle_with (B.heap builder.now) finished roots.now heap.marks)) }
+    ensures stored { IfOk result IsStored }
+    ensures accepted { IfOk result IsAccepted }
+    ensures cycle { IfOk result (λ heap. IsCycleOf (B.heap builder.now) (cycle_with (B.heap builder.now) finished roots.now heap.marks)) }
+    ensures chapter { IfOk result (λ heap. (numbers : List ℕ) (stable : StableHeap) → IsNumberedAs (B.heap builder.now) numbers stable
+        → IsChapter (cycle_with (B.heap builder.now) finished roots.now heap.marks) numbers stable) }
+    ensures keeps { IfOk result (λ heap. (numbers : List ℕ) (stable : StableHeap) → IsNumberedAs (B.heap builder.now) numbers stable
+        → KeepsExactly (written (cycle_with (B.heap builder.now) finished roots.now heap.marks) numbers stable) (numbers_after (cycle_with (B.heap builder.now) finished roots.now heap.marks) numbers stable.given)) }
+    ensures refused { IfErr result (λ left. IsRefusedWith (setup_in (B.heap builder.now) finished) (journals_of finished) roots.now left.fault) }
+    ensures back { IfErr result (λ left. left.finished ≡ finished) }
+{
+    cycle_keeps_reachable();
+    next_heap_is_accepted();
+    match mark_next(alloc, builder, &finished, roots) {
+        Ok(found) => { finished.next_moved_with(alloc, builder, found.moved, found.marks, roots) }
+        Err(fault) => Err(NotCycled { fault, finished }),
+    }
+}
