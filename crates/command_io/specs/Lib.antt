@@ -1,6 +1,7 @@
 pub mod Disk
 pub mod Printing
 pub mod Images
+pub mod ImageParts
 pub mod Dumps
 pub mod Memory
 pub mod Texts

@@ -14,7 +14,7 @@ mod texts;
 mod traces;
 
 pub use dumps::write_dump_to;
-pub use images::heap_at;
+pub use images::{heap_at, parts_at};
 pub use marks::marks_at;
 pub use memory::{MemoryFile, MemoryFiles, written_is_there};
 pub use new_images::write_image_to;

@@ -1,7 +1,7 @@
 -- From what the parser found to what the words ask.
 use Rattle.std.proofs.Common.{◌≡◌, ◌≢◌, ◌⊎◌, ◌∙◌, ◌∷◌, ◌≤◌, ℕ, List, Option, Some, IfOk, IfErr, Result, Ok, Err}
 use Rattle.std.proofs.Common.{[], None, Bool, cond, arith, sym, ap, ap₂, subst, inl, inr, codes, is_some, map, unwrap_or, refl, true, false, true≢false}
-use Rattle.std.specs.Prelude.{find, option_map, IsSomeAnd, IsUtf8, IfSome}
+use Rattle.std.specs.Prelude.{find, option_and_then, option_map, IsSomeAnd, IsUtf8, IfSome}
 use Rattle.std.specs.Str.{bytes_eq}
 use Rattle.std.specs.String.{string_bytes}
 use Rattle.std.specs.declared.string.String.{String}
@@ -16,23 +16,25 @@ use Rattle.clap.specs.declared.error.kind.ErrorKind.TheVariants.{DisplayHelp, Di
 use Rattle.clap.specs.declared.parser.matches.ArgMatches.{ArgMatches}
 use Rattle.clap.specs.declared.parser.matches.ArgMatches.TheViews.{out-ArgMatches}
 use Rattle.clap.specs.declared.parser.matches.Found.{Found}
+use Rattle.clap.specs.Walk.{row_text, with_default}
 use Rattle.clap.proofs.WalkLemmas.{both, first_value-rows, one_text-rows}
-use Rattle.command_line.specs.Asked.{Asks, AsksAudit, AsksCompact, AsksHelp, AsksNoCommand, AsksPlan, AsksVersion, AsksWord, HasLawfulCounts, IsAnswerOf}
-use Rattle.command_line.specs.Forms.{Choice, Form, Parameter, audit_form, compact_form, fresh, large, mutators, next_form, number, plan_form, race_form, replay_form, run_form, standing, text, word_form, workers}
+use Rattle.command_line.specs.Asked.{Asks, AsksAudit, AsksCompact, AsksHelp, AsksMark, AsksNoCommand, AsksPlan, AsksVersion, AsksWord, HasLawfulCounts, IsAnswerOf}
+use Rattle.command_line.specs.Forms.{Choice, Form, Parameter, audit_form, compact_form, fresh, large, mark_form, mutators, next_form, number, plan_form, race_form, replay_form, run_form, standing, text, word_form, workers}
 use Rattle.command_line.specs.Given.{HasOption, HasSwitch, IsChosen, IsCommandWith, IsFlag, IsNumber, IsNumberOr, Takes, Use, is_among, text_given}
 use Rattle.command_line.specs.Finds.{IsRunRequest, IsRunFound}
+use Rattle.command_line.specs.Nexts.{says_reachable}
 use Rattle.command_line.specs.Parser.{program}
 use Rattle.command_line.specs.Runs.{AsksRun, Run}
 use Rattle.command_line.specs.declared.words.Task.{Task}
-use Rattle.command_line.specs.declared.words.Task.TheVariants.{Plan, Word, Replay, Race, Compact, Audit, Next, Help, Version}
+use Rattle.command_line.specs.declared.words.Task.TheVariants.{Plan, Word, Replay, Race, Compact, Audit, Next, Mark, Help, Version}
 use Rattle.command_line.proofs.Chosen.{HasArgument, among_used, argument_fits, argument_off, first_found, one_found, option_fits, option_off, switch_found}
 use Rattle.command_line.proofs.Firsts.{found_holds}
 use Rattle.command_line.proofs.FormLevel.{IsReadable}
-use Rattle.command_line.proofs.FormRules.{is_switch, same_text}
+use Rattle.command_line.proofs.FormRules.{built_switch, is_switch, same_text}
 use Rattle.command_line.proofs.KindLists.{some_kind}
 use Rattle.command_line.proofs.Parsed.{HasCommands, parsed, faulty, helped, standing_commands, versioned}
 use Rattle.command_line.proofs.Settled.{is_used, row}
-use Rattle.command_line.proofs.SwitchRows.{with_switches}
+use Rattle.command_line.proofs.SwitchRows.{others_named, with_switches}
 use Rattle.command_line.proofs.TopLevel.{IsCommand, IsOneOf, IsProgram, one_of_these, same_form, standing_program}
 
 -- the bytes of texts are UTF-8
@@ -129,20 +131,25 @@ module _ (words : List (List ℕ)) (f : Found) (form : Form) (asked : CommandAsk
   pub choice_reported : (o : Choice) → HasOption form o → (n : ℕ) → IsNumberOr o.default (one_text f o.takes.id) n → IsChosen o asked.given n
   choice_reported o has n h = subst (λ (r : Option (List ℕ)). IsNumberOr o.default r n) (number_is o.takes.id (option_off form asked.readable asked.is_command.gives o has)) h
 
-  -- a switch is true if and only if it is given
-  pub switch_reported : (w : Parameter) → form.switches ≡ w ∷ [] → (b : Bool) → IsFlag (one_text f w.id) b → b ≡ is_among w.id asked.given
-  switch_reported w is b flag = go (is_used w.id asked.given) refl ∙ sym (among_used w.id asked.given)
+  -- the first switch is true if and only if it is given
+  pub first_switch_reported : (w : Parameter) (ws : List Parameter) → form.switches ≡ w ∷ ws → is_switch ws w.id ≡ false → (b : Bool) → IsFlag (one_text f w.id) b → b ≡ is_among w.id asked.given
+  first_switch_reported w ws is apart b flag = go (is_used w.id asked.given) refl ∙ sym (among_used w.id asked.given)
     where
       has : HasSwitch form w
-      has = ap (λ (ws : List Parameter). find (λ (x : Parameter). bytes_eq x.id w.id) ws) is ∙ rw (same_text w.id) refl
+      has = ap (λ (vs : List Parameter). find (λ (x : Parameter). bytes_eq x.id w.id) vs) is ∙ rw (same_text w.id) refl
 
       found : one_text f w.id ≡ Some (cond (is_used w.id asked.given) (codes "true") (codes "false"))
-      found = one_text-rows f w.id ∙ ap (one_of w.id) (asked.rows ∙ ap (λ (ws : List Parameter). with_switches ws (map row asked.given)) is)
+      found = one_text-rows f w.id ∙ ap (one_of w.id) (asked.rows ∙ ap (λ (vs : List Parameter). with_switches vs (map row asked.given)) is)
+          ∙ ap (option_and_then row_text) (others_named w.id ws (with_default (map row asked.given) (built_switch w)) apart)
           ∙ switch_found form asked.readable asked.is_command.gives w has
 
       go : (t : Bool) → is_used w.id asked.given ≡ t → b ≡ is_used w.id asked.given
       go true e = flag.0 (found ∙ rw e refl) ∙ sym e
       go false e = flag.1 (found ∙ rw e refl) ∙ sym e
+
+  -- so is the only one
+  pub switch_reported : (w : Parameter) → form.switches ≡ w ∷ [] → (b : Bool) → IsFlag (one_text f w.id) b → b ≡ is_among w.id asked.given
+  switch_reported w is b flag = first_switch_reported w [] is refl b flag
 
 -- ---- `plan` and `word`
 
@@ -263,6 +270,19 @@ audit_asked words f asked image dump b at_image at_dump flag = record {
   with_large = switch_reported words f audit_form asked large refl b flag;
 }
 
+-- ---- `mark`
+
+-- the words are `mark`, with the paths that were found
+pub mark_asked : (words : List (List ℕ)) (f : Found) → CommandAsked words f mark_form → (image new : List ℕ) (b : Bool) → Some image ≡ first_value f (codes "IMAGE")
+    → Some new ≡ first_value f (codes "NEW") → IsFlag (one_text f (codes "large")) b → AsksMark words image new b
+mark_asked words f asked image new b at_image at_new flag = record {
+  uses = asked.given;
+  is_command = asked.is_command;
+  with_image = argument_reported words f mark_form asked (text (codes "IMAGE")) refl image at_image;
+  with_new = argument_reported words f mark_form asked (text (codes "NEW")) refl new at_new;
+  with_large = switch_reported words f mark_form asked large refl b flag;
+}
+
 -- ---- nothing else is found
 
 -- the form that was entered is one of these
@@ -276,11 +296,11 @@ entered_one forms is words o utf8 taken found =
 abbrev pub EnteredAs : Entered → Form → Type 0
 EnteredAs o form = (rows : List Row) → o ≡ Some (form.name, rows) → ⊥
 
-pub none_of_standing : (words : List (List ℕ)) (o : Entered) → All IsUtf8 words → fault_of (program standing) words ≡ [] → subcommand_of (program standing) words ≡ o
-    → EnteredAs o plan_form → EnteredAs o word_form → EnteredAs o replay_form → EnteredAs o race_form → EnteredAs o compact_form → EnteredAs o audit_form → EnteredAs o next_form → ⊥
-none_of_standing words o utf8 taken found plan word replay race compact audit next = go (entered_one standing standing_program words o utf8 taken found)
+pub none_of_standing : (r : Bool) (words : List (List ℕ)) (o : Entered) → All IsUtf8 words → fault_of (program (standing r)) words ≡ [] → subcommand_of (program (standing r)) words ≡ o
+    → EnteredAs o plan_form → EnteredAs o word_form → EnteredAs o replay_form → EnteredAs o race_form → EnteredAs o compact_form → EnteredAs o audit_form → EnteredAs o (next_form r) → EnteredAs o mark_form → ⊥
+none_of_standing r words o utf8 taken found plan word replay race compact audit next mark = go (entered_one (standing r) (standing_program r) words o utf8 taken found)
   where
-    go : (form : Form) × (rows : List Row) × IsOneOf standing form × (o ≡ Some (form.name, rows)) → ⊥
+    go : (form : Form) × (rows : List Row) × IsOneOf (standing r) form × (o ≡ Some (form.name, rows)) → ⊥
     go (form, rows, inl same, is) = plan rows (is ∙ ap (λ (x : Form). Some (x.name, rows)) same)
     go (form, rows, inr (inl same), is) = word rows (is ∙ ap (λ (x : Form). Some (x.name, rows)) same)
     go (form, rows, inr (inr (inl same)), is) = replay rows (is ∙ ap (λ (x : Form). Some (x.name, rows)) same)
@@ -288,7 +308,8 @@ none_of_standing words o utf8 taken found plan word replay race compact audit ne
     go (form, rows, inr (inr (inr (inr (inl same)))), is) = compact rows (is ∙ ap (λ (x : Form). Some (x.name, rows)) same)
     go (form, rows, inr (inr (inr (inr (inr (inl same))))), is) = audit rows (is ∙ ap (λ (x : Form). Some (x.name, rows)) same)
     go (form, rows, inr (inr (inr (inr (inr (inr (inl same)))))), is) = next rows (is ∙ ap (λ (x : Form). Some (x.name, rows)) same)
-    go (form, rows, inr (inr (inr (inr (inr (inr (inr none)))))), is) = none
+    go (form, rows, inr (inr (inr (inr (inr (inr (inr (inl same))))))), is) = mark rows (is ∙ ap (λ (x : Form). Some (x.name, rows)) same)
+    go (form, rows, inr (inr (inr (inr (inr (inr (inr (inr none))))))), is) = none
 
 -- ---- what is answered in place of a task
 
@@ -332,18 +353,19 @@ answer_counts error (Ok (Race run)) answer = absurd answer
 answer_counts error (Ok (Compact image dump n b)) answer = absurd answer
 answer_counts error (Ok (Audit image dump b)) answer = _
 answer_counts error (Ok (Next next)) answer = absurd answer
+answer_counts error (Ok (Mark image new b)) answer = _
 answer_counts error (Ok (Help text)) answer = _
 answer_counts error (Ok Version) answer = _
 answer_counts error (Err reported) answer = _
 
-module _ (forms : List Form) (is : IsProgram forms) (has : HasCommands forms) (words : List (List ℕ)) (utf8 : All IsUtf8 words) where
+module _ (forms : List Form) (is : IsProgram forms) (words : List (List ℕ)) (said : Bool) (says : said ≡ says_reachable words) (has : HasCommands forms said) (utf8 : All IsUtf8 words) where
   -- help comes only if they ask for nothing, and some word is for help
   help_asked : IsAmong DisplayHelp (fault_of (program forms) words) → AsksHelp words
-  help_asked here = (faulty forms is words has (some_kind DisplayHelp (fault_of (program forms) words) here), helped forms is words utf8 here)
+  help_asked here = (faulty forms is words said says has (some_kind DisplayHelp (fault_of (program forms) words) here), helped forms is words utf8 here)
 
   -- and the version only if they ask for nothing, and the first word is for the version
   version_asked : IsAmong DisplayVersion (fault_of (program forms) words) → AsksVersion words
-  version_asked here = (faulty forms is words has (some_kind DisplayVersion (fault_of (program forms) words) here), versioned forms is words utf8 here)
+  version_asked here = (faulty forms is words said says has (some_kind DisplayVersion (fault_of (program forms) words) here), versioned forms is words utf8 here)
 
   -- a text of help, and the version, is what the words ask
   pub answer_reported : (error : Error) (r : Result Task Error) → HasKind (fault_of (program forms) words) error → IfOk r (IsAnswerOf (kind_of error)) → IfOk r (Asks words)
@@ -354,6 +376,7 @@ module _ (forms : List Form) (is : IsProgram forms) (has : HasCommands forms) (w
   answer_reported error (Ok (Compact image dump n b)) kind answer = absurd answer
   answer_reported error (Ok (Audit image dump b)) kind answer = absurd answer
   answer_reported error (Ok (Next next)) kind answer = absurd answer
+  answer_reported error (Ok (Mark image new b)) kind answer = absurd answer
   answer_reported error (Ok (Help text)) kind answer = help_asked (among_kinds _ error DisplayHelp kind answer (λ e. cc))
   answer_reported error (Ok Version) kind answer = version_asked (among_kinds _ error DisplayVersion kind answer (λ e. cc))
   answer_reported error (Err reported) kind answer = _
@@ -368,7 +391,7 @@ module _ (forms : List Form) (is : IsProgram forms) (has : HasCommands forms) (w
   ]
 
 -- so they are none of the commands that stand
-pub none_reported : (words : List (List ℕ)) (r : Result Task Error) → IfErr r (λ reported. kind_of reported ≢ OutOfMemory → fault_of (program standing) words ≡ [] → ⊥)
-    → IfErr r (λ reported. kind_of reported ≢ OutOfMemory → AsksNoCommand words)
-none_reported words (Ok task) h = _
-none_reported words (Err reported) h = λ other. faulty standing standing_program words standing_commands (h other)
+pub none_reported : (words : List (List ℕ)) (said : Bool) → said ≡ says_reachable words → (r : Result Task Error)
+    → IfErr r (λ reported. kind_of reported ≢ OutOfMemory → fault_of (program (standing said)) words ≡ [] → ⊥) → IfErr r (λ reported. kind_of reported ≢ OutOfMemory → AsksNoCommand words)
+none_reported words said says (Ok task) h = _
+none_reported words said says (Err reported) h = λ other. faulty (standing said) (standing_program said) words said says (standing_commands said) (h other)

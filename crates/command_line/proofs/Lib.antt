@@ -13,6 +13,7 @@ pub mod Settled
 pub mod Chosen
 pub mod FormLevel
 pub mod TopLevel
+pub mod Reaching
 pub mod Parsed
 pub mod Found
 pub mod NextFound

@@ -1,32 +1,63 @@
 -- From what the parser found of `next` to what the words ask.
-use Rattle.std.proofs.Common.{ℕ, List, codes, refl}
+use Rattle.std.proofs.Common.{◌≡◌, ◌∙◌, ℕ, Bool, true, false, List, [], ◌∷◌, Option, Some, None, codes, is_some, refl, subst, sym, true≢false}
+use Rattle.std.specs.Prelude.{IfSome}
+use Rattle.clap.specs.Words.{first_value}
 use Rattle.clap.specs.declared.parser.matches.Found.{Found}
-use Rattle.command_line.specs.Forms.{fresh, large, mutators, next_form, text}
-use Rattle.command_line.specs.Nexts.{AsksNext, HasNext, IsNextFound, Next}
-use Rattle.command_line.proofs.Found.{CommandAsked, argument_reported, argument_there, choice_fits, choice_reported, switch_reported}
+use Rattle.command_line.specs.Forms.{fresh, large, mutators, next_form, reachable, text}
+use Rattle.command_line.specs.Given.{IsCommandWith, text_given}
+use Rattle.command_line.specs.Nexts.{AsksNext, HasNext, IsMarksFound, IsNextFound, Next, says_reachable}
+use Rattle.command_line.proofs.Chosen.{HasArgument}
+use Rattle.command_line.proofs.Found.{CommandAsked, argument_reported, argument_there, choice_fits, choice_reported, first_switch_reported}
+use Rattle.command_line.proofs.Reaching.{reachable_said}
 
-module _ (words : List (List ℕ)) (f : Found) (asked : CommandAsked words f next_form) where
+-- without `--reachable`, the marks are there
+marks_there : (r : Bool) (words : List (List ℕ)) (f : Found) → CommandAsked words f (next_form r) → r ≡ false → is_some (first_value f (codes "MARKS")) ≡ true
+marks_there true words f asked e = absurd (true≢false e)
+marks_there false words f asked e = argument_there words f (next_form false) asked (text (codes "MARKS")) refl
+
+-- and they are those that are given
+marks_reported : (r : Bool) (words : List (List ℕ)) (f : Found) → (asked : CommandAsked words f (next_form r)) → (marks : Option (List ℕ)) → IsMarksFound r f marks
+    → IfSome marks (λ path. text_given (codes "MARKS") asked.given ≡ Some path)
+marks_reported r words f asked None is = _
+marks_reported true words f asked (Some path) is = absurd (true≢false (sym is.reaches_is))
+marks_reported false words f asked (Some path) is = argument_reported words f (next_form false) asked (text (codes "MARKS")) refl path is.path_is
+
+-- the paths that both forms have
+image_there : (r : Bool) → HasArgument (next_form r) (text (codes "IMAGE"))
+image_there true = refl
+image_there false = refl
+
+trace_there : (r : Bool) → HasArgument (next_form r) (text (codes "TRACE"))
+trace_there true = refl
+trace_there false = refl
+
+new_there : (r : Bool) → HasArgument (next_form r) (text (codes "NEW"))
+new_there true = refl
+new_there false = refl
+
+module _ (r : Bool) (words : List (List ℕ)) (says : r ≡ says_reachable words) (f : Found) (asked : CommandAsked words f (next_form r)) where
   -- what was found is whole
-  pub next_found : HasNext f
+  pub next_found : HasNext r f
   next_found = record {
-    has_image = argument_there words f next_form asked (text (codes "IMAGE")) refl;
-    has_trace = argument_there words f next_form asked (text (codes "TRACE")) refl;
-    has_marks = argument_there words f next_form asked (text (codes "MARKS")) refl;
-    has_new = argument_there words f next_form asked (text (codes "NEW")) refl;
-    fits_mutators = choice_fits words f next_form asked mutators refl;
-    fits_fresh = choice_fits words f next_form asked fresh refl;
+    has_image = argument_there words f (next_form r) asked (text (codes "IMAGE")) (image_there r);
+    has_trace = argument_there words f (next_form r) asked (text (codes "TRACE")) (trace_there r);
+    has_marks = marks_there r words f asked;
+    has_new = argument_there words f (next_form r) asked (text (codes "NEW")) (new_there r);
+    fits_mutators = choice_fits words f (next_form r) asked mutators refl;
+    fits_fresh = choice_fits words f (next_form r) asked fresh refl;
   }
 
   -- and it is what the words ask
-  pub next_asked : (next : Next) → IsNextFound f next → AsksNext words next
+  pub next_asked : (next : Next) → IsNextFound r f next → AsksNext words next
   next_asked next is = record {
     uses = asked.given;
-    is_command = asked.is_command;
-    with_image = argument_reported words f next_form asked (text (codes "IMAGE")) refl next.image is.image_is;
-    with_trace = argument_reported words f next_form asked (text (codes "TRACE")) refl next.trace is.trace_is;
-    with_marks = argument_reported words f next_form asked (text (codes "MARKS")) refl next.marks is.marks_is;
-    with_new = argument_reported words f next_form asked (text (codes "NEW")) refl next.new is.new_is;
-    with_mutators = choice_reported words f next_form asked mutators refl next.count is.mutators_are;
-    with_fresh = choice_reported words f next_form asked fresh refl next.pages is.fresh_are;
-    with_large = switch_reported words f next_form asked large refl next.large is.large_is;
+    is_command = subst (λ (b : Bool). IsCommandWith (next_form b) words asked.given) (sym is.marks_are.reaches_is) asked.is_command;
+    with_reachable = is.marks_are.reaches_is ∙ says ∙ sym (reachable_said r words asked.given asked.is_command);
+    with_image = argument_reported words f (next_form r) asked (text (codes "IMAGE")) (image_there r) next.image is.image_is;
+    with_trace = argument_reported words f (next_form r) asked (text (codes "TRACE")) (trace_there r) next.trace is.trace_is;
+    with_marks = marks_reported r words f asked next.marks is.marks_are;
+    with_new = argument_reported words f (next_form r) asked (text (codes "NEW")) (new_there r) next.new is.new_is;
+    with_mutators = choice_reported words f (next_form r) asked mutators refl next.count is.mutators_are;
+    with_fresh = choice_reported words f (next_form r) asked fresh refl next.pages is.fresh_are;
+    with_large = first_switch_reported words f (next_form r) asked large (reachable ∷ []) refl refl next.large is.large_is;
   }

@@ -1,17 +1,19 @@
 -- What the words ask, by what clap makes of them.
-use Rattle.std.proofs.Common.{◌≡◌, ◌∙◌, suc, true, List, [], ◌∷◌, Some, All, Any, IsUtf8, arith, ap, inl, inr, map, refl, subst, sym}
+use Rattle.std.proofs.Common.{◌≡◌, ◌∙◌, Bool, suc, true, List, [], ◌∷◌, Some, All, Any, IsUtf8, arith, ap, inl, inr, map, refl, subst, sym}
 use Rattle.std.proofs.lemmas.List.Elements.{All-tail}
 use Rattle.clap.specs.Words.{IsAmong, Text, fault_of, subcommand_of}
 use Rattle.clap.specs.declared.error.kind.ErrorKind.TheVariants.{DisplayHelp, DisplayVersion}
 use Rattle.command_line.specs.Asked.{AsksNoCommand, is_help, is_version}
-use Rattle.command_line.specs.Forms.{Form, audit_form, compact_form, next_form, plan_form, race_form, replay_form, standing, word_form}
+use Rattle.command_line.specs.Forms.{Form, audit_form, compact_form, mark_form, next_form, plan_form, race_form, replay_form, standing, word_form}
 use Rattle.command_line.specs.Given.{IsCommandWith, Use}
+use Rattle.command_line.specs.Nexts.{AsksNext, Next, by_reach, says_reachable}
 use Rattle.command_line.specs.Parser.{program}
 use Rattle.command_line.proofs.Chosen.{texts_used}
 use Rattle.command_line.proofs.FormLevel.{FormTaken, form_help, form_no_version, form_taken, form_takes}
 use Rattle.command_line.proofs.Levels.{level, shape}
+use Rattle.command_line.proofs.Reaching.{reachable_said}
 use Rattle.command_line.proofs.Settled.{AreFresh, row}
-use Rattle.command_line.proofs.TopLevel.{BeginWith, Decided, IsCommand, IsProgram, command_first, command_found, first_decides, standing_audit, standing_compact, standing_next, standing_plan, standing_race, standing_replay, standing_word}
+use Rattle.command_line.proofs.TopLevel.{BeginWith, Decided, IsCommand, IsProgram, command_first, command_found, first_decides, standing_audit, standing_compact, standing_mark, standing_next, standing_plan, standing_race, standing_replay, standing_word}
 use Rattle.command_line.proofs.SwitchRows.{with_switches}
 
 -- ---- words
@@ -77,18 +79,28 @@ none_before [] = tt
 none_before (u ∷ us) = (refl, none_before us)
 
 -- the commands are among those of the program
-pub record HasCommands (forms : List Form) : Type 0 where
+pub record HasCommands (forms : List Form) (by_reach : Bool) : Type 0 where
   pub plan : IsCommand forms plan_form
   pub word : IsCommand forms word_form
   pub replay : IsCommand forms replay_form
   pub race : IsCommand forms race_form
   pub compact : IsCommand forms compact_form
   pub audit : IsCommand forms audit_form
-  pub next : IsCommand forms next_form
+  pub next : IsCommand forms (next_form by_reach)
+  pub mark : IsCommand forms mark_form
 
 -- they are among those that stand
-pub standing_commands : HasCommands standing
-standing_commands = record { plan = standing_plan; word = standing_word; replay = standing_replay; race = standing_race; compact = standing_compact; audit = standing_audit; next = standing_next }
+pub standing_commands : (by_reach : Bool) → HasCommands (standing by_reach) by_reach
+standing_commands r = record {
+  plan = standing_plan r;
+  word = standing_word r;
+  replay = standing_replay r;
+  race = standing_race r;
+  compact = standing_compact r;
+  audit = standing_audit r;
+  next = standing_next r;
+  mark = standing_mark r;
+}
 
 module _ (forms : List Form) (program_is : IsProgram forms) (words : List Text) where
   -- words that clap takes are a command
@@ -121,14 +133,20 @@ module _ (forms : List Form) (program_is : IsProgram forms) (words : List Text) 
       go (inl (form, command, rest, is)) = absurd (no_version_behind forms form command words rest is utf8 version)
       go (inr refused) = refused.version version
 
+  -- words that are `next` are of the form with `--reachable` if and only if they say so
+  next_asked_as : (said : Bool) → said ≡ says_reachable words → (next : Next) (asks : AsksNext words next) → IsCommandWith (next_form said) words asks.uses
+  next_asked_as said is next asks =
+      subst (λ (r : Bool). IsCommandWith (next_form r) words asks.uses) (asks.with_reachable ∙ reachable_said (by_reach next) words asks.uses asks.is_command ∙ sym is) asks.is_command
+
   -- words that clap refuses are none of the commands
-  pub faulty : HasCommands forms → (fault_of (program forms) words ≡ [] → ⊥) → AsksNoCommand words
-  faulty has fails = record {
+  pub faulty : (said : Bool) → said ≡ says_reachable words → HasCommands forms said → (fault_of (program forms) words ≡ [] → ⊥) → AsksNoCommand words
+  faulty said is has fails = record {
     no_plan = λ image large asks. refused_command plan_form has.plan fails asks.uses asks.is_command;
     no_word = λ image index large asks. refused_command word_form has.word fails asks.uses asks.is_command;
     no_replay = λ run asks. refused_command replay_form has.replay fails asks.uses asks.is_command;
     no_race = λ run asks. refused_command race_form has.race fails asks.uses asks.is_command;
     no_compact = λ image dump n large asks. refused_command compact_form has.compact fails asks.uses asks.is_command;
     no_audit = λ image dump large asks. refused_command audit_form has.audit fails asks.uses asks.is_command;
-    no_next = λ next asks. refused_command next_form has.next fails asks.uses asks.is_command;
+    no_next = λ next asks. refused_command (next_form said) has.next fails asks.uses (next_asked_as said is next asks);
+    no_mark = λ image new large asks. refused_command mark_form has.mark fails asks.uses asks.is_command;
   }

@@ -16,7 +16,7 @@ use Rattle.clap.proofs.OnLiterals.{clap_on_literals}
 use Rattle.clap.proofs.WalkLemmas.{walk_stopped}
 use Rattle.command_line.specs.Asked.{is_help, is_version}
 use Rattle.command_line.specs.Given.{is_flag}
-use Rattle.command_line.specs.Forms.{Form, audit_form, compact_form, next_form, plan_form, race_form, replay_form, standing, word_form}
+use Rattle.command_line.specs.Forms.{Form, audit_form, compact_form, mark_form, next_form, plan_form, race_form, replay_form, standing, word_form}
 use Rattle.command_line.specs.Parser.{program}
 use Rattle.std.proofs.lemmas.Bool.{eqb-true}
 use Rattle.command_line.proofs.Lexed.{IsBundle, IsLong, flag_read}
@@ -130,53 +130,68 @@ compact_readable = record { distinct = refl; apart = refl; clear = refl; flags =
 audit_readable : IsReadable audit_form
 audit_readable = record { distinct = refl; apart = refl; clear = refl; flags = record { options = refl; switches = refl; apart = refl }; few = omega arith }
 
-next_readable : IsReadable next_form
-next_readable = record { distinct = refl; apart = refl; clear = refl; flags = record { options = refl; switches = refl; apart = refl }; few = omega arith }
+next_readable : (by_reach : Bool) → IsReadable (next_form by_reach)
+next_readable true = record { distinct = refl; apart = refl; clear = refl; flags = record { options = refl; switches = refl; apart = refl }; few = omega arith }
+next_readable false = record { distinct = refl; apart = refl; clear = refl; flags = record { options = refl; switches = refl; apart = refl }; few = omega arith }
+
+mark_readable : IsReadable mark_form
+mark_readable = record { distinct = refl; apart = refl; clear = refl; flags = record { options = refl; switches = refl; apart = refl }; few = omega arith }
 
 -- ---- the program as it stands
 
-pub standing_plan : IsCommand standing plan_form
-standing_plan = record { is_one = refl; is_met = refl; is_entered = refl; is_not_help = refl; is_readable = plan_readable }
+pub standing_plan : (by_reach : Bool) → IsCommand (standing by_reach) plan_form
+standing_plan by_reach = record { is_one = refl; is_met = refl; is_entered = refl; is_not_help = refl; is_readable = plan_readable }
 
-pub standing_word : IsCommand standing word_form
-standing_word = record { is_one = refl; is_met = refl; is_entered = refl; is_not_help = refl; is_readable = word_readable }
+pub standing_word : (by_reach : Bool) → IsCommand (standing by_reach) word_form
+standing_word by_reach = record { is_one = refl; is_met = refl; is_entered = refl; is_not_help = refl; is_readable = word_readable }
 
-pub standing_replay : IsCommand standing replay_form
-standing_replay = record { is_one = refl; is_met = refl; is_entered = refl; is_not_help = refl; is_readable = replay_readable }
+pub standing_replay : (by_reach : Bool) → IsCommand (standing by_reach) replay_form
+standing_replay by_reach = record { is_one = refl; is_met = refl; is_entered = refl; is_not_help = refl; is_readable = replay_readable }
 
-pub standing_race : IsCommand standing race_form
-standing_race = record { is_one = refl; is_met = refl; is_entered = refl; is_not_help = refl; is_readable = race_readable }
+pub standing_race : (by_reach : Bool) → IsCommand (standing by_reach) race_form
+standing_race by_reach = record { is_one = refl; is_met = refl; is_entered = refl; is_not_help = refl; is_readable = race_readable }
 
-pub standing_compact : IsCommand standing compact_form
-standing_compact = record { is_one = refl; is_met = refl; is_entered = refl; is_not_help = refl; is_readable = compact_readable }
+pub standing_compact : (by_reach : Bool) → IsCommand (standing by_reach) compact_form
+standing_compact by_reach = record { is_one = refl; is_met = refl; is_entered = refl; is_not_help = refl; is_readable = compact_readable }
 
-pub standing_audit : IsCommand standing audit_form
-standing_audit = record { is_one = refl; is_met = refl; is_entered = refl; is_not_help = refl; is_readable = audit_readable }
+pub standing_audit : (by_reach : Bool) → IsCommand (standing by_reach) audit_form
+standing_audit by_reach = record { is_one = refl; is_met = refl; is_entered = refl; is_not_help = refl; is_readable = audit_readable }
 
-pub standing_next : IsCommand standing next_form
-standing_next = record { is_one = refl; is_met = refl; is_entered = refl; is_not_help = refl; is_readable = next_readable }
+pub standing_next : (by_reach : Bool) → IsCommand (standing by_reach) (next_form by_reach)
+standing_next by_reach = record { is_one = refl; is_met = refl; is_entered = refl; is_not_help = refl; is_readable = next_readable by_reach }
 
-standing_help : (rest : List Text) → AreRefused (codes "help" ∷ rest) (fault_of (program standing) (codes "help" ∷ rest))
+pub standing_mark : (by_reach : Bool) → IsCommand (standing by_reach) mark_form
+standing_mark by_reach = record { is_one = refl; is_met = refl; is_entered = refl; is_not_help = refl; is_readable = mark_readable }
+
+standing_help : (by_reach : Bool) (rest : List Text) → AreRefused (codes "help" ∷ rest) (fault_of (program (standing by_reach)) (codes "help" ∷ rest))
 unfolding clap_on_literals
-standing_help rest = reported_help (codes "help") rest (InvalidSubcommand ∷ []) refl refl
+standing_help by_reach rest = reported_help (codes "help") rest (InvalidSubcommand ∷ []) refl refl
 
-standing_end : (rest : List Text) → AreRefused (codes "--" ∷ rest) (fault_of (program standing) (codes "--" ∷ rest))
+standing_end : (by_reach : Bool) (rest : List Text) → AreRefused (codes "--" ∷ rest) (fault_of (program (standing by_reach)) (codes "--" ∷ rest))
 unfolding clap_on_literals
-standing_end [] = refused (codes "--" ∷ []) MissingSubcommand [] refl
-standing_end (word ∷ rest) = refused (codes "--" ∷ word ∷ rest) UnknownArgument (InvalidSubcommand ∷ []) refl
+standing_end by_reach [] = refused (codes "--" ∷ []) MissingSubcommand [] refl
+standing_end by_reach (word ∷ rest) = refused (codes "--" ∷ word ∷ rest) UnknownArgument (InvalidSubcommand ∷ []) refl
 
-standing_none : AreRefused [] (fault_of (program standing) [])
+standing_none : (by_reach : Bool) → AreRefused [] (fault_of (program (standing by_reach)) [])
 unfolding clap_on_literals
-standing_none = refused [] MissingSubcommand [] refl
+standing_none by_reach = refused [] MissingSubcommand [] refl
 
-pub standing_program : IsProgram standing
-standing_program = record {
-  is_free = refl;
-  are_commands = (standing_plan, (standing_word, (standing_replay, (standing_race, (standing_compact, (standing_audit, (standing_next, tt)))))));
+standing_free : (by_reach : Bool) → is_simple_and_free (program (standing by_reach)) ≡ true
+standing_free true = refl
+standing_free false = refl
+
+-- the same for words with `--reachable` and for others
+all_stand : (by_reach : Bool) → AreCommands (standing by_reach) (standing by_reach)
+all_stand r = (standing_plan r, (standing_word r, (standing_replay r, (standing_race r, (standing_compact r, (standing_audit r, (standing_next r, (standing_mark r, tt))))))))
+
+pub standing_program : (by_reach : Bool) → IsProgram (standing by_reach)
+standing_program by_reach = record {
+  is_free = standing_free by_reach;
+  are_commands = all_stand by_reach;
   named = refl;
-  help_first = standing_help;
-  end_first = standing_end;
-  none_first = standing_none;
+  help_first = standing_help by_reach;
+  end_first = standing_end by_reach;
+  none_first = standing_none by_reach;
 }
 
 -- ---- forms that are commands

@@ -4,12 +4,12 @@ use Rattle.std.specs.List.{Any}
 use Rattle.std.specs.Str.{bytes_eq}
 use Rattle.clap.specs.declared.error.kind.ErrorKind.{ErrorKind}
 use Rattle.clap.specs.declared.error.kind.ErrorKind.TheVariants.{DisplayHelp, DisplayVersion}
-use Rattle.command_line.specs.Forms.{audit_form, compact_form, plan_form, word_form, workers}
+use Rattle.command_line.specs.Forms.{audit_form, compact_form, mark_form, plan_form, word_form, workers}
 use Rattle.command_line.specs.Given.{IsChosen, IsCommandWith, IsNumber, Use, is_among, text_given}
 use Rattle.command_line.specs.Nexts.{AsksNext, IsLawfulNext, Next, next_of}
 use Rattle.command_line.specs.Runs.{AsksRun, IsLawfulRun, Run, run_of}
 use Rattle.command_line.specs.declared.words.Task.{Task}
-use Rattle.command_line.specs.declared.words.Task.TheVariants.{Plan, Word, Replay, Race, Compact, Audit, Help, Version}
+use Rattle.command_line.specs.declared.words.Task.TheVariants.{Plan, Word, Replay, Race, Compact, Audit, Mark, Help, Version}
 use Rattle.command_line.specs.declared.words.Task.TheVariants as tasks
 
 -- the words are `plan [--large] IMAGE`, with this path of an image, and with the switch or without it
@@ -57,6 +57,15 @@ pub record AsksAudit (words : List (List ℕ)) (image dump : List ℕ) (is_large
   pub with_dump : text_given (codes "DUMP") uses ≡ Some dump
   pub with_large : is_large ≡ is_among (codes "large") uses
 
+-- the words are `mark [--large] IMAGE NEW`, with these paths of an image and of the new image, and with the switch or
+-- without it
+pub record AsksMark (words : List (List ℕ)) (image new : List ℕ) (is_large : Bool) : Type 0 where
+  pub uses : List Use
+  pub is_command : IsCommandWith mark_form words uses
+  pub with_image : text_given (codes "IMAGE") uses ≡ Some image
+  pub with_new : text_given (codes "NEW") uses ≡ Some new
+  pub with_large : is_large ≡ is_among (codes "large") uses
+
 -- the words are none of these commands
 pub record AsksNoCommand (words : List (List ℕ)) : Type 0 where
   pub no_plan : (image : List ℕ) (is_large : Bool) → ¬ (AsksPlan words image is_large)
@@ -66,6 +75,7 @@ pub record AsksNoCommand (words : List (List ℕ)) : Type 0 where
   pub no_compact : (image dump : List ℕ) (n : ℕ) (is_large : Bool) → ¬ (AsksCompact words image dump n is_large)
   pub no_audit : (image dump : List ℕ) (is_large : Bool) → ¬ (AsksAudit words image dump is_large)
   pub no_next : (next : Next) → ¬ (AsksNext words next)
+  pub no_mark : (image new : List ℕ) (is_large : Bool) → ¬ (AsksMark words image new is_large)
 
 -- `help`, `--help`, or a flag that begins with `-h`
 abbrev pub is_help : List ℕ → Bool
@@ -92,6 +102,7 @@ Asks words (Race run) = AsksRace words (run_of run)
 Asks words (Compact image dump n is_large) = AsksCompact words image.now dump.now n is_large
 Asks words (Audit image dump is_large) = AsksAudit words image.now dump.now is_large
 Asks words (tasks.Next next) = AsksNext words (next_of next)
+Asks words (Mark image new is_large) = AsksMark words image.now new.now is_large
 Asks words (Help text) = AsksHelp words
 Asks words Version = AsksVersion words
 
@@ -104,6 +115,7 @@ HasLawfulCounts (Race run) = IsLawfulRun (run_of run)
 HasLawfulCounts (Compact image dump n is_large) = (1 ≤ n) × (n ≤ 64)
 HasLawfulCounts (Audit image dump is_large) = Unit {0}
 HasLawfulCounts (tasks.Next next) = IsLawfulNext (next_of next)
+HasLawfulCounts (Mark image new is_large) = Unit {0}
 HasLawfulCounts (Help text) = Unit {0}
 HasLawfulCounts Version = Unit {0}
 
@@ -116,5 +128,6 @@ IsAnswerOf kind (Race run) = ⊥
 IsAnswerOf kind (Compact image dump n is_large) = ⊥
 IsAnswerOf kind (Audit image dump is_large) = ⊥
 IsAnswerOf kind (tasks.Next next) = ⊥
+IsAnswerOf kind (Mark image new is_large) = ⊥
 IsAnswerOf kind (Help text) = kind ≡ DisplayHelp
 IsAnswerOf kind Version = kind ≡ DisplayVersion

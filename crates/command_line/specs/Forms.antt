@@ -1,5 +1,5 @@
 -- The commands of the program: the name of each, its options, its switches and its arguments.
-use Rattle.std.specs.Prelude.{ℕ, List, [], ◌∷◌, Option, Some, None, codes}
+use Rattle.std.specs.Prelude.{ℕ, Bool, true, false, List, [], ◌∷◌, Option, Some, None, codes}
 
 -- An argument, an option or a switch, by its name. An argument or an option takes any text, or a number from the first
 -- bound to the second. A switch takes no text.
@@ -92,15 +92,25 @@ compact_form = record {
 abbrev pub audit_form : Form
 audit_form = record { name = codes "audit"; options = []; switches = large ∷ []; arguments = text (codes "IMAGE") ∷ text (codes "DUMP") ∷ [] }
 
--- `next [--mutators N] [--fresh N] [--large] IMAGE TRACE MARKS NEW`
-abbrev pub next_form : Form
-next_form = record {
-  name = codes "next";
-  options = mutators ∷ fresh ∷ [];
-  switches = large ∷ [];
-  arguments = text (codes "IMAGE") ∷ text (codes "TRACE") ∷ text (codes "MARKS") ∷ text (codes "NEW") ∷ [];
-}
+-- `--reachable`, which `next` has
+abbrev pub reachable : Parameter
+reachable = switch (codes "reachable")
 
--- the commands of the program
-abbrev pub standing : List Form
-standing = plan_form ∷ word_form ∷ replay_form ∷ race_form ∷ compact_form ∷ audit_form ∷ next_form ∷ []
+-- the paths of `next`, with `--reachable` and without it: of an image, of a trace, of marks unless the heap is marked
+-- by what its roots reach, and of the image that is written
+abbrev pub next_paths : Bool → List Parameter
+next_paths true = text (codes "IMAGE") ∷ text (codes "TRACE") ∷ text (codes "NEW") ∷ []
+next_paths false = text (codes "IMAGE") ∷ text (codes "TRACE") ∷ text (codes "MARKS") ∷ text (codes "NEW") ∷ []
+
+-- `next --reachable [--mutators N] [--fresh N] [--large] IMAGE TRACE NEW`, and without `--reachable`
+-- `next [--mutators N] [--fresh N] [--large] IMAGE TRACE MARKS NEW`
+abbrev pub next_form : Bool → Form
+next_form by_reach = record { name = codes "next"; options = mutators ∷ fresh ∷ []; switches = large ∷ reachable ∷ []; arguments = next_paths by_reach }
+
+-- `mark [--large] IMAGE NEW`
+abbrev pub mark_form : Form
+mark_form = record { name = codes "mark"; options = []; switches = large ∷ []; arguments = text (codes "IMAGE") ∷ text (codes "NEW") ∷ [] }
+
+-- the commands of the program, for words with `--reachable` and for others
+abbrev pub standing : Bool → List Form
+standing by_reach = plan_form ∷ word_form ∷ replay_form ∷ race_form ∷ compact_form ∷ audit_form ∷ next_form by_reach ∷ mark_form ∷ []

@@ -1,7 +1,7 @@
 //! The options and arguments of the commands.
 ghost use Rattle.std.specs.Prelude.{◌≡◌, false, codes, IfOk};
 ghost use Rattle.clap.specs.Words.{app_of, new_app, rule_of, with_rule, App, Rule};
-ghost use Rattle.command_line.specs.Forms.{fresh, large, mutators, number, number_within, text, workers};
+ghost use Rattle.command_line.specs.Forms.{fresh, large, mutators, number, number_within, reachable, text, workers};
 ghost use Rattle.command_line.specs.Parser.{option_rule, optional_rule, rule, switch_rule};
 
 use clap::builder::ValueParser;
@@ -91,6 +91,17 @@ pub(crate) fn large_switch<'a>(alloc: Global) -> Arg<'a>
         .help("Reads heaps of edition three as well, of up to 2^31 words")
 }
 
+/// The switch `--reachable`, which takes no value.
+pub(crate) fn reachable_switch<'a>(alloc: Global) -> Arg<'a>
+    ensures rule { rule_of result ≡ switch_rule reachable }
+    ensures local { result.global ≡ false }
+{
+    Arg::new(alloc, "reachable")
+        .long("reachable")
+        .action(ArgAction::SetTrue)
+        .help("Marks the new heap by what its roots reach; then no MARKS is given")
+}
+
 /// The argument `IMAGE`, a path.
 pub(crate) fn image_argument<'a>(alloc: Global) -> Arg<'a>
     ensures rule { rule_of result ≡ rule (text (codes "IMAGE")) }
@@ -124,6 +135,14 @@ pub(crate) fn dump_argument<'a>(alloc: Global) -> Arg<'a>
     ensures local { result.global ≡ false }
 {
     path_argument(alloc, "DUMP", "Where the dump is written")
+}
+
+/// The argument `NEW`, a path.
+pub(crate) fn new_argument<'a>(alloc: Global) -> Arg<'a>
+    ensures rule { rule_of result ≡ rule (text (codes "NEW")) }
+    ensures local { result.global ≡ false }
+{
+    path_argument(alloc, "NEW", "Where the new image is written")
 }
 
 /// An argument of this name and help, a path.

@@ -6,5 +6,5 @@ mod next;
 mod values;
 mod words;
 
-pub use next::NextRun;
+pub use next::{NextMarks, NextRun};
 pub use words::{Task, TraceRun, VERSION_LINE, read_task};

@@ -1,17 +1,27 @@
 //! The command `next`.
-ghost use Rattle.std.specs.Prelude.{◌≡◌, IfOk};
-ghost use Rattle.clap.specs.Words.{app_of, found_of};
-ghost use Rattle.command_line.specs.Forms.{next_form};
-ghost use Rattle.command_line.specs.Nexts.{next_of, HasNext, IsLawfulNext, IsNextFound};
-ghost use Rattle.command_line.specs.Parser.{command as command_of};
+ghost use Rattle.std.specs.Prelude.{◌≡◌, codes, false, is_some, map, true, IfOk};
+ghost use Rattle.std.specs.String.{string_bytes};
+ghost use Rattle.clap.specs.Words.{app_of, first_value, found_of, rule_of};
+ghost use Rattle.command_line.specs.Forms.{next_form, text};
+ghost use Rattle.command_line.specs.Nexts.{marks_path, next_of, says_reachable, HasNext, IsLawfulNext, IsMarksFound, IsNextFound};
+ghost use Rattle.command_line.specs.Parser.{command as command_of, rule};
 
 use crate::arguments::{
-    Made, fresh_option, image_argument, large_switch, mutators_option, named_command,
-    path_argument, trace_argument, with_argument,
+    Made, fresh_option, image_argument, large_switch, mutators_option, named_command, new_argument,
+    path_argument, reachable_switch, trace_argument, with_argument,
 };
 use crate::values::{DEFAULT_FRESH, DEFAULT_MUTATORS, count_of, is_large, text_of};
-use clap::ArgMatches;
+use clap::{Arg, ArgMatches};
 use std::alloc::Global;
+
+/// How the next heap is marked.
+#[derive(Debug, Drop)]
+pub enum NextMarks<'a> {
+    /// By the marks in the file at this path.
+    Given(&'a str),
+    /// By what its roots reach.
+    Reachable,
+}
 
 /// The arguments of `next`.
 #[derive(Debug, Drop)]
@@ -20,8 +30,8 @@ pub struct NextRun<'a> {
     pub image: &'a str,
     /// The path of the trace.
     pub trace: &'a str,
-    /// The path of the marks of the next cycle.
-    pub marks: &'a str,
+    /// The marks of the next cycle.
+    pub marks: NextMarks<'a>,
     /// The path to which the new image is written.
     pub new: &'a str,
     /// The number of mutators, 1 to 64.
@@ -32,16 +42,43 @@ pub struct NextRun<'a> {
     pub large: bool,
 }
 
-/// The arguments of `next` in what the parser found.
-pub(crate) fn next_run<'a>(found: &ArgMatches<'a>) -> NextRun<'a>
-    requires { HasNext (found_of found.now) }
-    ensures run { IsNextFound (found_of found.now) (next_of result) }
+/// Whether a word before the first `--` is `--reachable`. No option takes that word as its text.
+pub(crate) fn says_reachable(words: &[String]) -> bool
+    ensures { result ≡ says_reachable (map string_bytes words.now) }
+{
+    for word in words {
+        if word.as_str() == "--" {
+            return false;
+        }
+        if word.as_str() == "--reachable" {
+            return true;
+        }
+    }
+    false
+}
+
+// The marks in what the parser found.
+fn marks_of<'a>(found: &ArgMatches<'a>, reaches: bool) -> NextMarks<'a>
+    requires { reaches ≡ false → is_some (first_value (found_of found.now) (codes "MARKS")) ≡ true }
+    ensures { IsMarksFound reaches (found_of found.now) (marks_path result) }
+{
+    if reaches {
+        NextMarks::Reachable
+    } else {
+        NextMarks::Given(text_of(found, "MARKS"))
+    }
+}
+
+/// The arguments of `next` in what the parser found, with `--reachable` or without it.
+pub(crate) fn next_run<'a>(found: &ArgMatches<'a>, reaches: bool) -> NextRun<'a>
+    requires { HasNext reaches (found_of found.now) }
+    ensures run { IsNextFound reaches (found_of found.now) (next_of result) }
     ensures counts { IsLawfulNext (next_of result) }
 {
     NextRun {
         image: text_of(found, "IMAGE"),
         trace: text_of(found, "TRACE"),
-        marks: text_of(found, "MARKS"),
+        marks: marks_of(found, reaches),
         new: text_of(found, "NEW"),
         mutators: count_of(found, "mutators", DEFAULT_MUTATORS) as u8,
         fresh: count_of(found, "fresh", DEFAULT_FRESH) as u32,
@@ -49,9 +86,9 @@ pub(crate) fn next_run<'a>(found: &ArgMatches<'a>) -> NextRun<'a>
     }
 }
 
-/// The command `next`, as defined for clap.
-pub(crate) fn next_command<'a>(alloc: Global) -> Made<'a>
-    ensures { IfOk result (λ made. app_of made ≡ command_of next_form) }
+/// The command `next`, as defined for clap, with `--reachable` or without it.
+pub(crate) fn next_command<'a>(alloc: Global, reaches: bool) -> Made<'a>
+    ensures { IfOk result (λ made. app_of made ≡ command_of (next_form reaches)) }
 {
     let next = named_command(
         alloc,
@@ -60,12 +97,14 @@ pub(crate) fn next_command<'a>(alloc: Global) -> Made<'a>
     );
     let of_mutators = with_argument(next, mutators_option(alloc));
     let of_counts = with_argument(of_mutators, fresh_option(alloc));
-    let of_switch = with_argument(of_counts, large_switch(alloc));
-    let of_image = with_argument(of_switch, image_argument(alloc));
+    let of_large = with_argument(of_counts, large_switch(alloc));
+    let of_switches = with_argument(of_large, reachable_switch(alloc));
+    let of_image = with_argument(of_switches, image_argument(alloc));
     let of_trace = with_argument(of_image, trace_argument(alloc));
-    let of_marks = with_argument(of_trace, path_argument(alloc, "MARKS", "The new marks"));
-    with_argument(
-        of_marks,
-        path_argument(alloc, "NEW", "Where the new image is written"),
-    )
+    if reaches {
+        with_argument(of_trace, new_argument(alloc))
+    } else {
+        let of_marks = with_argument(of_trace, path_argument(alloc, "MARKS", "The new marks"));
+        with_argument(of_marks, new_argument(alloc))
+    }
 }

@@ -4,16 +4,18 @@ ghost use Rattle.std.specs.String.{string_bytes};
 ghost use Rattle.clap.specs.Words.{app_of, fault_of, found_of, kind_of, subcommand_of, subcommand_rows_of, with_subcommand, App};
 ghost use Rattle.clap.specs.declared.error.kind.ErrorKind.TheVariants.{DisplayHelp, DisplayVersion, OutOfMemory};
 ghost use Rattle.command_line.specs.Asked.{Asks, AsksNoCommand, HasLawfulCounts, IsAnswerOf};
-ghost use Rattle.command_line.specs.Forms.{audit_form, compact_form, plan_form, race_form, replay_form, run_form, standing, word_form};
+ghost use Rattle.command_line.specs.Forms.{audit_form, compact_form, mark_form, plan_form, race_form, replay_form, run_form, standing, word_form};
 ghost use Rattle.command_line.specs.Finds.{IsRunRequest, IsRunFound};
+ghost use Rattle.command_line.specs.Nexts.{says_reachable};
 ghost use Rattle.command_line.specs.Parser.{bare_program, command as command_of, program};
 ghost use Rattle.command_line.specs.Runs.{IsLawfulRun, run_of};
 
 use crate::arguments::{
     Made, dump_argument, fresh_option, image_argument, index_argument, large_switch,
-    mutators_option, named_command, path_argument, trace_argument, with_argument, workers_option,
+    mutators_option, named_command, new_argument, path_argument, trace_argument, with_argument,
+    workers_option,
 };
-use crate::next::{NextRun, next_command, next_run};
+use crate::next::{NextRun, next_command, next_run, says_reachable};
 use crate::values::{
     DEFAULT_FRESH, DEFAULT_MUTATORS, DEFAULT_WORKERS, count_of, is_large, number_of, text_of,
 };
@@ -58,6 +60,13 @@ pub enum Task<'a> {
     },
     /// Run a trace as `replay` does, then make the next heap with the new marks, and write its image to a path.
     Next(NextRun<'a>),
+    /// Mark the objects that the roots of the heap in an image reach, and write the new image to a path.
+    Mark {
+        image: &'a str,
+        new: &'a str,
+        /// Whether heaps of edition three are read as well.
+        large: bool,
+    },
     /// Print this text of help.
     Help {
         text: String,
@@ -98,16 +107,18 @@ pub fn read_task<'a>(alloc: Global, words: &'a [String]) -> Result<Task<'a>, Err
     ensures no_help { IfErr result (λ error. kind_of error ≢ DisplayHelp) }
     ensures no_version { IfErr result (λ error. kind_of error ≢ DisplayVersion) }
 {
-    match command(alloc)?.try_get_matches_from(words) {
-        Ok(matches) => Ok(task_of(words, &matches)),
+    let reaches = says_reachable(words);
+    match command(alloc, reaches)?.try_get_matches_from(words) {
+        Ok(matches) => Ok(task_of(words, &matches, reaches)),
         Err(error) => answer_task(alloc, error),
     }
 }
 
-// The task of the words in which the parser found this.
-fn task_of<'a>(words: &'a [String], matches: &ArgMatches<'a>) -> Task<'a>
-    requires taken { fault_of (program standing) (map string_bytes words.now) ≡ [] }
-    requires found { subcommand_rows_of matches.now ≡ subcommand_of (program standing) (map string_bytes words.now) }
+// The task of the words in which the parser found this, with `--reachable` or without it.
+fn task_of<'a>(words: &'a [String], matches: &ArgMatches<'a>, reaches: bool) -> Task<'a>
+    requires reaches { reaches ≡ says_reachable (map string_bytes words.now) }
+    requires taken { fault_of (program (standing reaches)) (map string_bytes words.now) ≡ [] }
+    requires found { subcommand_rows_of matches.now ≡ subcommand_of (program (standing reaches)) (map string_bytes words.now) }
     ensures asked { Asks (map string_bytes words.entry.now) result }
     ensures counts { HasLawfulCounts result }
 {
@@ -137,7 +148,12 @@ fn task_of<'a>(words: &'a [String], matches: &ArgMatches<'a>) -> Task<'a>
             dump: text_of(found, "DUMP"),
             large: is_large(found),
         },
-        "next" => Task::Next(next_run(found)),
+        "next" => Task::Next(next_run(found, reaches)),
+        "mark" => Task::Mark {
+            image: text_of(found, "IMAGE"),
+            new: text_of(found, "NEW"),
+            large: is_large(found),
+        },
         _ => unreachable!(),
     }
 }
@@ -174,9 +190,9 @@ fn answer_task<'a>(alloc: Global, error: Error) -> Result<Task<'a>, Error>
     }
 }
 
-// The program with its commands, as defined for clap.
-fn command<'a>(alloc: Global) -> Made<'a>
-    ensures { IfOk result (λ made. app_of made ≡ program standing) }
+// The program with its commands, as defined for clap, for words with `--reachable` or for others.
+fn command<'a>(alloc: Global, reaches: bool) -> Made<'a>
+    ensures { IfOk result (λ made. app_of made ≡ program (standing reaches)) }
 {
     let planning = with_command(bare_command(alloc), plan_command(alloc));
     let reading = with_command(planning, word_command(alloc));
@@ -184,7 +200,8 @@ fn command<'a>(alloc: Global) -> Made<'a>
     let racing = with_command(replaying, race_command(alloc));
     let compacting = with_command(racing, compact_command(alloc));
     let auditing = with_command(compacting, audit_command(alloc));
-    with_command(auditing, next_command(alloc))
+    let running = with_command(auditing, next_command(alloc, reaches));
+    with_command(running, mark_command(alloc))
 }
 
 // Adds a command to the program.
@@ -290,4 +307,18 @@ fn audit_command<'a>(alloc: Global) -> Made<'a>
     let of_switch = with_argument(audit, large_switch(alloc));
     let of_image = with_argument(of_switch, image_argument(alloc));
     with_argument(of_image, path_argument(alloc, "DUMP", "The dump"))
+}
+
+// The command `mark`, as defined for clap.
+fn mark_command<'a>(alloc: Global) -> Made<'a>
+    ensures { IfOk result (λ made. app_of made ≡ command_of mark_form) }
+{
+    let mark = named_command(
+        alloc,
+        "mark",
+        "Marks the objects that the roots reach, and writes the new image",
+    );
+    let of_switch = with_argument(mark, large_switch(alloc));
+    let of_image = with_argument(of_switch, image_argument(alloc));
+    with_argument(of_image, new_argument(alloc))
 }

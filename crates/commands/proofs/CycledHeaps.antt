@@ -1,8 +1,6 @@
 -- A heap over which a trace was run, and the next heap.
-use Rattle.std.proofs.Common.{◌≡◌, ℕ, List, [], refl, subst, sym, ◌∙◌}
-use Rattle.heap_layout.specs.Faults.{IsAccepted}
-use Rattle.heap_layout.specs.Heap.{Heap, IsStored}
-use Rattle.comp_mutator.specs.Cycles.{heap_after, IsCycleOf}
+use Rattle.std.proofs.Common.{◌≡◌, ℕ, List, [], Option, refl, subst, sym}
+use Rattle.heap_layout.specs.Heap.{Heap}
 use Rattle.comp_mutator.specs.Ends.{cycle_of}
 use Rattle.comp_mutator.specs.Finished.{Finished}
 use Rattle.comp_trace.specs.Bytes.{flipped}
@@ -14,30 +12,29 @@ use Rattle.command_io.specs.declared.refusal.CommandRefusal.{CommandRefusal}
 use Rattle.command_io.specs.declared.refusal.CommandRefusal.TheVariants.{Layout, Mutator, Sweep, Trace, Dump, Audit, CannotOpen, CannotCreate, ReadFailed, CannotPrint, NoSuchWord, BadMarks, OutOfMemory}
 use Rattle.commands.specs.Outcomes.{IsHaltedBy}
 use Rattle.commands.proofs.ReplayRuns.{cut_by}
-use Rattle.commands.specs.Cycled.{IsChapterOf, IsCycledHeap, IsNextHeap, IsUncycled, IsUnmarked}
+use Rattle.commands.specs.Cycled.{IsCycledHeap, IsNextHeap, IsUncycled, IsUnmarked}
 
 -- the heap that follows, of what the plan was made for
-pub next_heap_of : (now heap : Heap) (f : Finished) (marks : List ℕ) (made next : Heap) → now ≡ heap → next ≡ made → IsCycleOf now (cycle_of now f marks) → IsChapterOf now (cycle_of now f marks)
-    → made ≡ heap_after (cycle_of now f marks) → IsStored made → IsAccepted made → IsNextHeap heap f marks next
-next_heap_of now heap f marks made next same is cycle chapter after stored accepted =
-    subst (λ (h : Heap). IsNextHeap h f marks next) same
-    (record { cycle = cycle; chapter = chapter; next_is = is ∙ after; stored = subst IsStored (sym is) stored; accepted = subst IsAccepted (sym is) accepted })
+pub next_heap_of : (now heap : Heap) (f : Finished) (given : Option (List ℕ)) (made next : Heap) → now ≡ heap → next ≡ made → IsNextHeap now f given made → IsNextHeap heap f given next
+next_heap_of now heap f given made next same is h =
+    subst (λ (n : Heap). IsNextHeap heap f given n) (sym is) (subst (λ (n : Heap). IsNextHeap n f given made) same h)
 
-module _ (mutators fresh : ℕ) (lines : List Line) (marks : List ℕ) (heap : Heap) where
-  -- the lines ran, and the marks were accepted
-  pub cycled : (shown : List Shown) (f : Finished) (next : Heap) → IsLastRun mutators fresh lines shown heap f → IsNextHeap heap f marks next → IsCycledHeap mutators fresh lines shown marks heap next
+module _ (mutators fresh : ℕ) (lines : List Line) (given : Option (List ℕ)) (heap : Heap) where
+  -- the lines ran, and the next heap was accepted
+  pub cycled : (shown : List Shown) (f : Finished) (next : Heap) → IsLastRun mutators fresh lines shown heap f → IsNextHeap heap f given next → IsCycledHeap mutators fresh lines shown given heap next
   cycled shown f next run h = record {
-    cycle = cycle_of heap f marks;
-    part = record { run = marked mutators fresh lines shown heap f marks run.run; cycle = h.cycle; marks_are = refl };
+    cycle = cycle_of heap f next.marks;
+    part = record { run = marked mutators fresh lines shown heap f next.marks run.run; cycle = h.ended.cycle; marked = h.ended.marked; roots_stay = refl };
     chapter = h.chapter;
+    keeps = h.keeps;
     next_is = h.next_is;
     stored = h.stored;
     accepted = h.accepted;
   }
 
-  -- the lines ran, and the marks were refused
-  pub uncycled : (values : List Shown) (f : Finished) → IsLastRun mutators fresh lines values heap f → (shown : List Shown) → shown ≡ [] → (refusal : CommandRefusal) → IsUnmarked heap f marks refusal
-      → IsUncycled mutators fresh lines shown marks heap refusal
+  -- the lines ran, and the next heap was refused
+  pub uncycled : (values : List Shown) (f : Finished) → IsLastRun mutators fresh lines values heap f → (shown : List Shown) → shown ≡ [] → (refusal : CommandRefusal) → IsUnmarked heap f given refusal
+      → IsUncycled mutators fresh lines shown given heap refusal
   uncycled values f run shown none (Layout fault) h = (none, record { shown = values; left = f; run = run; refused = h })
   uncycled values f run shown none (Mutator refused) h = absurd h
   uncycled values f run shown none (Sweep fault) h = absurd h
@@ -53,7 +50,7 @@ module _ (mutators fresh : ℕ) (lines : List Line) (marks : List ℕ) (heap : H
   uncycled values f run shown none OutOfMemory h = none
 
   -- what was shown of a cycle that does not come to its end
-  pub halted_cycle : (shown : List Shown) (refusal : CommandRefusal) → IsUncycled mutators fresh lines shown marks heap refusal → IsHaltedBy shown refusal
+  pub halted_cycle : (shown : List Shown) (refusal : CommandRefusal) → IsUncycled mutators fresh lines shown given heap refusal → IsHaltedBy shown refusal
   halted_cycle shown (Layout fault) h = h.0
   halted_cycle shown (Mutator refused) h = h.1
   halted_cycle shown (Sweep fault) h = absurd h

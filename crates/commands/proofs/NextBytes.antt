@@ -1,21 +1,38 @@
 -- What the command `next` did, by the bytes of its files, if these are known.
-use Rattle.std.proofs.Common.{◌≡◌, ℕ, List, length, Option, Some, IfSome, Ok, sym, subst}
+use Rattle.std.proofs.Common.{◌≡◌, ℕ, List, length, Option, Some, None, IfSome, Ok, sym, subst}
 use Rattle.heap_layout.specs.Encoding.{encoding}
 use Rattle.heap_layout.specs.Faults.{IsAccepted}
 use Rattle.heap_layout.specs.Heap.{live, Heap, IsStored}
 use Rattle.page_plan.specs.Sliding.{live_words}
 use Rattle.comp_trace.specs.Marks.{marks_of}
 use Rattle.comp_trace.specs.Shown.{Shown}
+use Rattle.command_line.specs.Nexts.{marks_path}
 use Rattle.command_line.specs.declared.next.NextRun.{NextRun}
 use Rattle.command_io.specs.Disk.{Disk, WritesWhole}
 use Rattle.command_io.specs.Texts.{HasLines}
 use Rattle.command_io.specs.declared.refusal.Input.TheVariants as inputs
 use Rattle.command_io.specs.declared.refusal.Output.TheVariants as outputs
 use Rattle.commands.specs.Replays.{PrintsRun}
-use Rattle.commands.specs.Nexts.{MakesNext}
-use Rattle.commands.specs.Successors.{IsNext}
+use Rattle.commands.specs.Nexts.{AreGivenAt, MakesNext}
+use Rattle.commands.specs.Successors.{AreMarksIn, IsNext}
 
-module _ {F W : Type 0} (disk : Disk F W) (asked : NextRun) (to : F) (before after : Option (List ℕ)) (image text marks_text : List ℕ) where
+-- the text at the path of the marks is this; there is none if there is no path
+abbrev pub AreKnownAt : {F W : Type 0} → Disk F W → Option (List ℕ) → Option (List ℕ) → Type 0
+AreKnownAt disk (Some path) (Some text) = (known : Option (List ℕ)) → disk.holds inputs.Marks path known → known ≡ Some text
+AreKnownAt disk (Some path) None = ⊥
+AreKnownAt disk None (Some text) = ⊥
+AreKnownAt disk None None = Unit {0}
+
+-- so the marks that were given are those in it
+given_in : {F W : Type 0} (disk : Disk F W) (path marks_text given : Option (List ℕ)) → AreKnownAt disk path marks_text → AreGivenAt disk path given → AreMarksIn marks_text given
+given_in disk (Some path) (Some text) given listed (marks, (third, there, (mine, is_marks, has_marks)), is) =
+    let same : text ≡ mine = subst (λ (o : Option (List ℕ)). IfSome o (λ bytes. bytes ≡ mine)) (listed third there) is_marks in
+    (marks, subst (λ (t : List ℕ). marks_of t ≡ Ok marks) (sym same) has_marks, is)
+given_in disk (Some path) None given listed h = absurd listed
+given_in disk None (Some text) given listed h = absurd listed
+given_in disk None None given listed h = h
+
+module _ {F W : Type 0} (disk : Disk F W) (asked : NextRun) (to : F) (before after : Option (List ℕ)) (image text : List ℕ) (marks_text : Option (List ℕ)) where
   -- The bytes of the three files have this run, its next heap was written, and these are the files since; and it was
   -- printed.
   pub record MadeNext : Type 0 where
@@ -27,12 +44,11 @@ module _ {F W : Type 0} (disk : Disk F W) (asked : NextRun) (to : F) (before aft
 
   pub known_next : ((known : Option (List ℕ)) → disk.holds inputs.Image asked.image.now known → known ≡ Some image)
       → ((known : Option (List ℕ)) → disk.holds inputs.Trace asked.trace.now known → known ≡ Some text)
-      → ((known : Option (List ℕ)) → disk.holds inputs.Marks asked.marks.now known → known ≡ Some marks_text)
+      → AreKnownAt disk (marks_path asked.marks) marks_text
       → MakesNext disk asked to before after → MadeNext
-  known_next images traces listed (heap, (bytes, holds, (other, stored, accepted, (known, same))), (lines, (more, near, (own, is_text, has_lines)), (marks, (third, there, (mine, is_marks, has_marks)), h))) =
+  known_next images traces listed (heap, (bytes, holds, (other, stored, accepted, (known, same))), (lines, (more, near, (own, is_text, has_lines)), (given, has_given, h))) =
       let image_is : image ≡ encoding other = subst (λ (o : Option (List ℕ)). IfSome o (λ bytes. bytes ≡ encoding other)) (images bytes holds) known.0 in
       let text_is : text ≡ own = subst (λ (o : Option (List ℕ)). IfSome o (λ bytes. bytes ≡ own)) (traces more near) is_text in
-      let marks_are : marks_text ≡ mine = subst (λ (o : Option (List ℕ)). IfSome o (λ bytes. bytes ≡ mine)) (listed third there) is_marks in
       record {
         shown = h.shown;
         next = h.next;
@@ -43,8 +59,8 @@ module _ {F W : Type 0} (disk : Disk F W) (asked : NextRun) (to : F) (before aft
           image_is = subst (λ (a : Heap). image ≡ encoding a) same image_is;
           lines = lines;
           text_is = subst (HasLines asked.mutators (length heap.roots) lines) (sym text_is) has_lines;
-          marks = marks;
-          marks_are = subst (λ (t : List ℕ). marks_of t ≡ Ok marks) (sym marks_are) has_marks;
+          given = given;
+          given_is = given_in disk (marks_path asked.marks) marks_text given listed has_given;
           cycled = h.cycled;
         };
         written = h.written;

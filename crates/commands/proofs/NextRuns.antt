@@ -1,5 +1,5 @@
 -- What the command `next` does and refuses, from what its parts do and refuse.
-use Rattle.std.proofs.Common.{◌≡◌, ℕ, List, Option, Result, Ok, Err, IfErr, IfOk, OnErr, OnOk, refl, sym, subst, inl, inr}
+use Rattle.std.proofs.Common.{◌≡◌, ℕ, List, Option, Some, None, Result, Ok, Err, IfErr, IfOk, OnErr, OnOk, refl, sym, subst, inl, inr}
 use Rattle.std.proofs.KnownBytes.{Appends-kept}
 use Rattle.std.specs.Io.KnownBytes.{Keeps}
 use Rattle.heap_layout.specs.Heap.{Heap}
@@ -16,12 +16,17 @@ use Rattle.command_io.specs.declared.refusal.CommandRefusal.TheVariants.{Layout,
 use Rattle.command_io.proofs.Outcomes.{uncounted_by}
 use Rattle.commands.specs.declared.replays.PrintedHalt.{PrintedHalt}
 use Rattle.commands.specs.Cycled.{IsCycledHeap, IsUncycled}
-use Rattle.commands.specs.Nexts.{IsOfWritingNext, IsWrittenNext, MakesNext, Nexts, PrintsNext, RefusesCycle, RefusesNext, RefusesWriting}
+use Rattle.commands.specs.Nexts.{IsOfWritingNext, IsWrittenNext, MakesNext, Nexts, PrintsNext, RefusesCycle, RefusesGivenAt, RefusesNext, RefusesWriting}
 use Rattle.commands.specs.declared.cycling.Cycled.{Cycled}
 
 -- no refusal of marks counts a failed call of the output
-pub marks_uncounted : {F W : Type 0} (disk : Disk F W) (path : List ℕ) (n : ℕ) (refusal : CommandRefusal) → RefusesMarksAt disk path refusal → CountsPrint {T = Unit {0}} n n (Err refusal)
+marks_uncounted : {F W : Type 0} (disk : Disk F W) (path : List ℕ) (n : ℕ) (refusal : CommandRefusal) → RefusesMarksAt disk path refusal → CountsPrint {T = Unit {0}} n n (Err refusal)
 marks_uncounted disk path n refusal h = uncounted_by n n refusal refl (λ e. (subst (RefusesMarksAt disk path) e h).2)
+
+-- and none of the marks that are asked for
+pub given_uncounted : {F W : Type 0} (disk : Disk F W) (path : Option (List ℕ)) (n : ℕ) (refusal : CommandRefusal) → RefusesGivenAt disk path refusal → CountsPrint {T = Unit {0}} n n (Err refusal)
+given_uncounted disk (Some path) n refusal h = marks_uncounted disk path n refusal h
+given_uncounted disk None n refusal h = absurd h
 
 -- a refusal of the image is one of the writing
 pub writing_image : {F W : Type 0} (disk : Disk F W) (path bytes : List ℕ) (to : F) (refusal : CommandRefusal) → IsOfWritingImage disk path bytes refusal
@@ -57,18 +62,18 @@ pub err_then : (P Q : CommandRefusal → Type 0) → ((refusal : CommandRefusal)
 err_then P Q f (Ok _) p = tt
 err_then P Q f (Err refusal) p = f refusal p
 
-module _ {F W : Type 0} (disk : Disk F W) (asked : NextRun) (from to : F) (before after : Option (List ℕ)) (lines : List Line) (marks : List ℕ) (heap : Heap) where
+module _ {F W : Type 0} (disk : Disk F W) (asked : NextRun) (from to : F) (before after : Option (List ℕ)) (lines : List Line) (given : Option (List ℕ)) (heap : Heap) where
   -- the cycle came to its end, and all was written and printed
-  pub made_ok : (made : Result Cycled PrintedHalt) → IfOk made (λ cycled. IsCycledHeap asked.mutators asked.fresh lines cycled.shown.items marks heap cycled.plan)
-      → (result : Result (Unit {0}) CommandRefusal) → OnOk result (IsWrittenNext disk asked.new.now to before after made) → OnOk result (Nexts disk asked to before after lines marks heap)
+  pub made_ok : (made : Result Cycled PrintedHalt) → IfOk made (λ cycled. IsCycledHeap asked.mutators asked.fresh lines cycled.shown.items given heap cycled.plan)
+      → (result : Result (Unit {0}) CommandRefusal) → OnOk result (IsWrittenNext disk asked.new.now to before after made) → OnOk result (Nexts disk asked to before after lines given heap)
   made_ok made h (Err refusal) w = tt
   made_ok (Ok cycled) h (Ok _) w = record { shown = cycled.shown.items; next = cycled.plan; cycled = h; written = w.0; printed = w.1 }
   made_ok (Err halted) h (Ok _) w = absurd w
 
   -- or it did not
-  pub made_err : (made : Result Cycled PrintedHalt) → IfOk made (λ cycled. IsCycledHeap asked.mutators asked.fresh lines cycled.shown.items marks heap cycled.plan)
-      → IfErr made (λ halted. IsUncycled asked.mutators asked.fresh lines halted.shown.items marks heap halted.refusal)
-      → (refusal : CommandRefusal) → RefusesWriting disk asked.new.now from to before after made refusal → RefusesCycle disk asked from to before after lines marks heap refusal
+  pub made_err : (made : Result Cycled PrintedHalt) → IfOk made (λ cycled. IsCycledHeap asked.mutators asked.fresh lines cycled.shown.items given heap cycled.plan)
+      → IfErr made (λ halted. IsUncycled asked.mutators asked.fresh lines halted.shown.items given heap halted.refusal)
+      → (refusal : CommandRefusal) → RefusesWriting disk asked.new.now from to before after made refusal → RefusesCycle disk asked from to before after lines given heap refusal
   made_err (Ok cycled) h u refusal w = inr (cycled.shown.items, cycled.plan, h, w)
   made_err (Err halted) h u refusal w = inl (halted, u, w.0, w.1)
 

@@ -1,14 +1,14 @@
 -- What `next` leaves is one function of its files, and runs that follow one another are one life.
-use Rattle.std.proofs.Common.{◌≡◌, ℕ, ◌*◌, ◌/◌, ◌%◌, ◌∙◌, List, [], ◌∷◌, ◌++◌, Some, Ok, Result, length, map, refl, sym, ap, subst}
+use Rattle.std.proofs.Common.{◌≡◌, ℕ, ◌*◌, ◌/◌, ◌%◌, ◌∙◌, List, [], ◌∷◌, ◌++◌, Option, Some, None, Ok, Result, length, map, refl, sym, ap, subst}
 use Rattle.std.specs.List.{range_with_len}
-use Rattle.std.specs.Prelude.{slice_index}
+use Rattle.std.specs.Prelude.{slice_index, unwrap_or}
 use Rattle.heap_layout.specs.Encoding.{encoding, ImagesDiffer}
 use Rattle.heap_layout.specs.Faults.{IsAccepted}
 use Rattle.heap_layout.specs.Heap.{live, Heap, IsClosed, IsStored}
 use Rattle.heap_layout.specs.declared.edition.Edition.{Edition}
 use Rattle.heap_layout.proofs.Marked.{closed}
 use Rattle.page_plan.specs.Sliding.{forward}
-use Rattle.comp_mutator.specs.Cycles.{heap_after, entries_of, Cycle, Follow, IsCycleOf, IsOneLife}
+use Rattle.comp_mutator.specs.Cycles.{heap_after, roots_after, entries_of, Cycle, Follow, IsCycleOf, IsOneLife}
 use Rattle.comp_mutator.specs.Entry.{Entry}
 use Rattle.comp_mutator.specs.Journal.{replayed}
 use Rattle.comp_mutator.specs.Lawful.{kind_at}
@@ -21,14 +21,16 @@ use Rattle.comp_mutator.proofs.Merging.{pages_all, stamps_all}
 use Rattle.comp_trace.specs.Bytes.{flipped, no_entries}
 use Rattle.comp_trace.specs.Grammar.{parts}
 use Rattle.comp_trace.specs.Line.{Line}
+use Rattle.comp_trace.specs.Markings.{IsMarkedBy}
 use Rattle.comp_trace.specs.Marks.{marks_of}
 use Rattle.comp_trace.specs.Runs.{MayBegin}
 use Rattle.comp_trace.specs.Shown.{Shown}
 use Rattle.comp_trace.proofs.Determined.{determined}
 use Rattle.comp_trace.proofs.Inside.{ok_is, read_inside}
 use Rattle.command_io.specs.Texts.{HasLines}
+use Rattle.reachability.specs.Reachable.{AreReachable}
 use Rattle.commands.specs.Cycled.{IsCycledHeap}
-use Rattle.commands.specs.Successors.{AreOneLife, LeaveOne, NextFollows, NextIsOne, TwoAreOneLife}
+use Rattle.commands.specs.Successors.{AreMarksIn, AreOneLife, LeaveOne, NextFollows, NextIsOne, TwoAreOneLife}
 use Rattle.commands.proofs.Once.{counted, counted_of, same_entries}
 
 -- ---- the next heap of a cycle
@@ -62,16 +64,32 @@ heap_with edition words marks roots = record { edition = edition; words = words;
 abbrev words_after : Setup → Journals → List ℕ
 words_after u journals = map (next_word u journals) (range_with_len 0 (64 * pages u))
 
+-- the roots of a cycle stay if no others are handed in
+roots_kept : (c : Cycle) → c.new_roots ≡ None → roots_after c ≡ c.roots
+roots_kept c none = ap (λ (new : Option (List ℕ)). unwrap_or new c.roots) none
+
 -- cycles with the same setup, journals, roots and marks have the same next heap
-same_next : (c d : Cycle) → c.setup ≡ d.setup → ((p : ℕ) → c.journals p ≡ d.journals p) → c.roots ≡ d.roots → c.marks ≡ d.marks → heap_after c ≡ heap_after d
+same_next : (c d : Cycle) → c.setup ≡ d.setup → ((p : ℕ) → c.journals p ≡ d.journals p) → roots_after c ≡ roots_after d → c.marks ≡ d.marks → heap_after c ≡ heap_after d
 same_next c d setup journals roots marks =
     let words : words_after c.setup c.journals ≡ words_after d.setup d.journals =
     same_map (next_word c.setup c.journals) (next_word c.setup d.journals) (same_word c.setup c.journals d.journals journals) (range_with_len 0 (64 * pages c.setup))
     ∙ ap (λ (u : Setup). words_after u d.journals) setup in
-    ap (λ (u : Setup). heap_with u.heap.edition (words_after c.setup c.journals) c.marks (map lowered c.roots)) setup
-    ∙ ap (λ (w : List ℕ). heap_with d.setup.heap.edition w c.marks (map lowered c.roots)) words
-    ∙ ap (λ (m : List ℕ). heap_with d.setup.heap.edition (words_after d.setup d.journals) m (map lowered c.roots)) marks
+    ap (λ (u : Setup). heap_with u.heap.edition (words_after c.setup c.journals) c.marks (map lowered (roots_after c))) setup
+    ∙ ap (λ (w : List ℕ). heap_with d.setup.heap.edition w c.marks (map lowered (roots_after c))) words
+    ∙ ap (λ (m : List ℕ). heap_with d.setup.heap.edition (words_after d.setup d.journals) m (map lowered (roots_after c))) marks
     ∙ ap (λ (r : List ℕ). heap_with d.setup.heap.edition (words_after d.setup d.journals) d.marks (map lowered r)) roots
+
+-- the list of the objects that roots reach is one
+abbrev pub ReachedOnce : Type 0
+ReachedOnce = (edition : Edition) (words roots marks others : List ℕ) → AreReachable edition words roots marks → AreReachable edition words roots others → marks ≡ others
+
+-- the marks of such cycles are the same too, if they are given, or are those of what the roots reach
+same_marks : ReachedOnce → (c d : Cycle) → c.setup ≡ d.setup → ((p : ℕ) → c.journals p ≡ d.journals p) → roots_after c ≡ roots_after d → (given : Option (List ℕ)) → IsMarkedBy given c → IsMarkedBy given d → c.marks ≡ d.marks
+same_marks once c d setup journals roots (Some marks) x y = x ∙ sym y
+same_marks once c d setup journals roots None x y =
+    let with_marks : heap_after (record c { marks = [] }) ≡ heap_after (record d { marks = [] }) = same_next (record c { marks = [] }) (record d { marks = [] }) setup journals roots refl in
+    once (heap_after d).edition (heap_after d).words (heap_after d).roots c.marks d.marks
+    (subst (λ (h : Heap). AreReachable h.edition h.words h.roots c.marks) with_marks x) y
 
 -- ---- the entries of a cycle
 
@@ -85,13 +103,13 @@ stamps_are c can = stamps_all c.setup c.journals can
 
 -- ---- over one heap
 
-module _ (mutators fresh : ℕ) (heap : Heap) (lines : List Line) (marks : List ℕ) (shown others : List Shown) (next other : Heap) (text : List ℕ) (text_is : HasLines mutators (length heap.roots) lines text)
-    (x : IsCycledHeap mutators fresh lines shown marks heap next) (y : IsCycledHeap mutators fresh lines others marks heap other) where
+module _ (mutators fresh : ℕ) (heap : Heap) (lines : List Line) (given : Option (List ℕ)) (shown others : List Shown) (next other : Heap) (text : List ℕ) (text_is : HasLines mutators (length heap.roots) lines text)
+    (x : IsCycledHeap mutators fresh lines shown given heap next) (y : IsCycledHeap mutators fresh lines others given heap other) where
   abbrev u : Setup
   u = flipped heap mutators fresh
 
-  same_cycle : LeaveOne shown others next other
-  same_cycle =
+  same_cycle : ReachedOnce → LeaveOne shown others next other
+  same_cycle once =
       let c = x.cycle in
       let d = y.cycle in
       let ran = x.part.run in
@@ -106,7 +124,8 @@ module _ (mutators fresh : ℕ) (heap : Heap) (lines : List Line) (marks : List 
       let setup : c.setup ≡ d.setup = ran.setup_is ∙ sym again.setup_is in
       let journals = λ (p : ℕ). sym (page_is c x.part.cycle.merges p) ∙ ap (λ (l : List (ℕ × Entry)). on p l) entries ∙ page_is d y.part.cycle.merges p in
       let roots = same_roots c.roots d.roots (x.part.cycle.roots ∙ ap (λ (v : Setup). map (forward (live v.heap)) v.heap.roots) setup ∙ sym y.part.cycle.roots) in
-      let left = same_next c d setup journals roots (x.part.marks_are ∙ sym y.part.marks_are) in
+      let after = roots_kept c x.part.roots_stay ∙ roots ∙ sym (roots_kept d y.part.roots_stay) in
+      let left = same_next c d setup journals after (same_marks once c d setup journals after given x.part.marked y.part.marked) in
       record { values = ran.shown_is ∙ alike.shown ∙ sym again.shown_is; heaps = x.next_is ∙ left ∙ sym y.next_is }
 
 -- ---- by the bytes
@@ -118,29 +137,35 @@ same_heap differ a b stored also accepted too same = differ a b stored also (cou
 marks_is : {E : Type 0} (xs ys : List ℕ) → ◌≡◌ {A = Result (List ℕ) E} (Ok xs) (Ok ys) → xs ≡ ys
 marks_is xs ys e = cc
 
+-- the marks of a text are one
+given_one : (text given other : Option (List ℕ)) → AreMarksIn text given → AreMarksIn text other → given ≡ other
+given_one (Some text) given other (xs, is_xs, x) (ys, is_ys, y) = x ∙ ap (λ (l : List ℕ). Some l) (marks_is xs ys (sym is_xs ∙ is_ys)) ∙ sym y
+given_one None given other x y = x ∙ sym y
+
 -- what is known of a run of `next`, of its heap alone
-record Over (mutators fresh : ℕ) (text marks_text : List ℕ) (shown : List Shown) (next heap : Heap) : Type 0 where
+record Over (mutators fresh : ℕ) (text : List ℕ) (marks_text : Option (List ℕ)) (shown : List Shown) (next heap : Heap) : Type 0 where
   lines : List Line
   text_is : HasLines mutators (length heap.roots) lines text
-  marks : List ℕ
-  marks_are : marks_of marks_text ≡ Ok marks
-  cycled : IsCycledHeap mutators fresh lines shown marks heap next
+  given : Option (List ℕ)
+  given_is : AreMarksIn marks_text given
+  cycled : IsCycledHeap mutators fresh lines shown given heap next
 
-over_one : (mutators fresh : ℕ) (text marks_text : List ℕ) (shown others : List Shown) (next other heap : Heap) → Over mutators fresh text marks_text shown next heap → Over mutators fresh text marks_text others other heap
+over_one : ReachedOnce → (mutators fresh : ℕ) (text : List ℕ) (marks_text : Option (List ℕ)) (shown others : List Shown) (next other heap : Heap) → Over mutators fresh text marks_text shown next heap → Over mutators fresh text marks_text others other heap
     → LeaveOne shown others next other
-over_one mutators fresh text marks_text shown others next other heap x y =
+over_one once mutators fresh text marks_text shown others next other heap x y =
     let lines : x.lines ≡ y.lines = ok_is x.lines y.lines (sym x.text_is ∙ y.text_is) in
-    let marks : x.marks ≡ y.marks = marks_is x.marks y.marks (sym x.marks_are ∙ y.marks_are) in
-    same_cycle mutators fresh heap x.lines x.marks shown others next other text x.text_is x.cycled
-    (subst (λ (m : List ℕ). IsCycledHeap mutators fresh x.lines others m heap other) (sym marks)
-    (subst (λ (ls : List Line). IsCycledHeap mutators fresh ls others y.marks heap other) (sym lines) y.cycled))
+    let given : x.given ≡ y.given = given_one marks_text x.given y.given x.given_is y.given_is in
+    same_cycle mutators fresh heap x.lines x.given shown others next other text x.text_is x.cycled
+    (subst (λ (m : Option (List ℕ)). IsCycledHeap mutators fresh x.lines others m heap other) (sym given)
+    (subst (λ (ls : List Line). IsCycledHeap mutators fresh ls others y.given heap other) (sym lines) y.cycled))
+    once
 
-pub next_is_one : ImagesDiffer → NextIsOne
-next_is_one differ mutators fresh image text marks_text shown others next other x y =
+pub next_is_one : ImagesDiffer → ReachedOnce → NextIsOne
+next_is_one differ once mutators fresh image text marks_text shown others next other x y =
     let same : x.heap ≡ y.heap = same_heap differ x.heap y.heap x.stored y.stored x.accepted y.accepted (sym x.image_is ∙ y.image_is) in
-    let mine : Over mutators fresh text marks_text shown next x.heap = record { lines = x.lines; text_is = x.text_is; marks = x.marks; marks_are = x.marks_are; cycled = x.cycled } in
-    let over : Over mutators fresh text marks_text others other y.heap = record { lines = y.lines; text_is = y.text_is; marks = y.marks; marks_are = y.marks_are; cycled = y.cycled } in
-    over_one mutators fresh text marks_text shown others next other x.heap mine (subst (Over mutators fresh text marks_text others other) (sym same) over)
+    let mine : Over mutators fresh text marks_text shown next x.heap = record { lines = x.lines; text_is = x.text_is; given = x.given; given_is = x.given_is; cycled = x.cycled } in
+    let over : Over mutators fresh text marks_text others other y.heap = record { lines = y.lines; text_is = y.text_is; given = y.given; given_is = y.given_is; cycled = y.cycled } in
+    over_one once mutators fresh text marks_text shown others next other x.heap mine (subst (Over mutators fresh text marks_text others other) (sym same) over)
 
 -- ---- one life
 
@@ -159,7 +184,7 @@ module _ (life : (heap last : Heap) (cycles : List Cycle) → IsClosed heap → 
   are_one_life first last cycles accepted follow = life first last cycles (closed first accepted) follow
 
   pub two_are_one_life : ImagesDiffer → TwoAreOneLife
-  two_are_one_life differ mutators fresh more_mutators more_fresh image text marks_text second_text second_marks shown values next last run second =
+  two_are_one_life differ mutators fresh more_mutators more_fresh image text second_text marks_text second_marks shown values next last run second =
       let first : Follow run.heap (run.cycled.cycle ∷ []) next = (run.cycled.part.cycle, run.cycled.next_is) in
       are_one_life run.heap last (run.cycled.cycle ∷ second.cycled.cycle ∷ []) run.accepted
       (next_follows differ run.heap next last (run.cycled.cycle ∷ []) more_mutators more_fresh second_text second_marks values run.cycled.stored run.cycled.accepted first second)

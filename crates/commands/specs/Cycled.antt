@@ -1,18 +1,17 @@
 -- A heap over which one thread runs a trace, and the heap with which the next cycle begins.
-use Rattle.std.specs.Prelude.{◌≡◌, ℕ, List, []}
+use Rattle.std.specs.Prelude.{◌≡◌, ℕ, List, [], Option}
 use Rattle.heap_layout.specs.Faults.{IsAccepted}
 use Rattle.heap_layout.specs.Heap.{Heap, IsStored}
 use Rattle.heap_layout.specs.declared.fault.LayoutFault.{LayoutFault}
 use Rattle.comp_mutator.specs.Refusal.TheVariants as refusals
-use Rattle.comp_mutator.specs.Cycles.{Cycle, heap_after, IsChapter, IsCycleOf}
-use Rattle.comp_mutator.specs.Ends.{cycle_of, setup_in, IsRefusedFor}
-use Rattle.comp_mutator.specs.Finishes.{journals_of}
-use Rattle.comp_mutator.specs.NextHeap.{next_faults}
+use Rattle.comp_mutator.specs.Cycles.{Cycle, heap_after, IsChapter}
+use Rattle.comp_mutator.specs.Ends.{cycle_of}
 use Rattle.comp_mutator.specs.Stable.{StableHeap}
 use Rattle.comp_mutator.specs.Numbered.{IsNumberedAs}
 use Rattle.comp_mutator.specs.Finished.{Finished}
 use Rattle.comp_trace.specs.Bytes.{flipped, CutsShort}
 use Rattle.comp_trace.specs.CycleRuns.{IsLastRun, IsPart}
+use Rattle.comp_trace.specs.Markings.{IsMarkedCycle, IsUnmarkable, KeepsReached}
 use Rattle.comp_trace.specs.Shown.{Shown}
 use Rattle.comp_trace.specs.Line.{Line}
 use Rattle.command_io.specs.declared.refusal.CommandRefusal.{CommandRefusal}
@@ -22,43 +21,48 @@ use Rattle.command_io.specs.declared.refusal.CommandRefusal.TheVariants.{Layout,
 abbrev pub IsChapterOf : Heap → Cycle → Type 0
 IsChapterOf heap c = (numbers : List ℕ) (stable : StableHeap) → IsNumberedAs heap numbers stable → IsChapter c numbers stable
 
--- With these marks, this heap follows what is left of a cycle. Its image can be read.
-pub record IsNextHeap (heap : Heap) (f : Finished) (marks : List ℕ) (next : Heap) : Type 0 where
-  pub cycle : IsCycleOf heap (cycle_of heap f marks)
-  pub chapter : IsChapterOf heap (cycle_of heap f marks)
-  pub next_is : next ≡ heap_after (cycle_of heap f marks)
+-- This heap follows what is left of a cycle: with the marks that are given, or marked by what its roots reach. Its image
+-- can be read.
+pub record IsNextHeap (heap : Heap) (f : Finished) (given : Option (List ℕ)) (next : Heap) : Type 0 where
+  pub ended : IsMarkedCycle given heap (cycle_of heap f next.marks)
+  pub chapter : IsChapterOf heap (cycle_of heap f next.marks)
+  pub keeps : KeepsReached given heap (cycle_of heap f next.marks)
+  pub next_is : next ≡ heap_after (cycle_of heap f next.marks)
   pub stored : IsStored next
   pub accepted : IsAccepted next
 
 -- why no heap follows: this is its first fault, or memory ran out
-abbrev pub IsUnmarked : Heap → Finished → List ℕ → CommandRefusal → Type 0
-IsUnmarked heap f marks (Layout fault) = IsRefusedFor (next_faults (setup_in heap f) (journals_of f) (heap_after (cycle_of heap f marks))) fault
-IsUnmarked heap f marks OutOfMemory = Unit {0}
-IsUnmarked heap f marks _ = ⊥
+abbrev pub IsUnmarked : Heap → Finished → Option (List ℕ) → CommandRefusal → Type 0
+IsUnmarked heap f given (Layout fault) = IsUnmarkable given heap f fault
+IsUnmarked heap f given OutOfMemory = Unit {0}
+IsUnmarked heap f given _ = ⊥
 
--- One thread ran these lines over the heap, and they showed these values; with these marks, this heap followed the
--- cycle. It is a heap that an image can have, and it is accepted, so its image is read as this heap.
-pub record IsCycledHeap (mutators fresh : ℕ) (lines : List Line) (shown : List Shown) (marks : List ℕ) (heap next : Heap) : Type 0 where
+-- One thread ran these lines over the heap, and they showed these values; this heap followed the cycle, with the marks
+-- that are given, or with those of exactly the objects that its roots reach. It is a heap that an image can have, and it
+-- is accepted, so its image is read as this heap.
+pub record IsCycledHeap (mutators fresh : ℕ) (lines : List Line) (shown : List Shown) (given : Option (List ℕ)) (heap next : Heap) : Type 0 where
   pub cycle : Cycle
-  pub part : IsPart mutators fresh lines shown marks heap cycle
+  pub part : IsPart mutators fresh lines shown given heap cycle
   pub chapter : IsChapterOf heap cycle
+  -- without given marks the cycle keeps exactly the objects that the roots reach when it ends
+  pub keeps : KeepsReached given heap cycle
   pub next_is : next ≡ heap_after cycle
   pub stored : IsStored next
   pub accepted : IsAccepted next
 
--- One thread ran these lines over the heap; with these marks no heap follows what is left, for this fault.
-pub record IsNotFollowed (mutators fresh : ℕ) (lines : List Line) (marks : List ℕ) (heap : Heap) (fault : LayoutFault) : Type 0 where
+-- One thread ran these lines over the heap; so marked no heap follows what is left, for this fault.
+pub record IsNotFollowed (mutators fresh : ℕ) (lines : List Line) (given : Option (List ℕ)) (heap : Heap) (fault : LayoutFault) : Type 0 where
   pub shown : List Shown
   pub left : Finished
   pub run : IsLastRun mutators fresh lines shown heap left
-  pub refused : IsRefusedFor (next_faults (setup_in heap left) (journals_of left) (heap_after (cycle_of heap left marks))) fault
+  pub refused : IsUnmarkable given heap left fault
 
--- why the cycle does not come to its end, and what was shown until then: a line was refused, or the marks were; or
+-- why the cycle does not come to its end, and what was shown until then: a line was refused, or the next heap was; or
 -- memory ran out, for the values (`Trace`), for the next heap (`Layout`), for a plan (`OutOfMemory`), or for the flip or
 -- the finish (`Mutator`)
-abbrev pub IsUncycled : ℕ → ℕ → List Line → List Shown → List ℕ → Heap → CommandRefusal → Type 0
-IsUncycled mutators fresh lines shown marks heap (Trace fault) = CutsShort (flipped heap mutators fresh) lines shown fault
-IsUncycled mutators fresh lines shown marks heap (Layout fault) = (shown ≡ []) × IsNotFollowed mutators fresh lines marks heap fault
-IsUncycled mutators fresh lines shown marks heap (Mutator refusal) = (refusal ≡ refusals.OutOfMemory) × (shown ≡ [])
-IsUncycled mutators fresh lines shown marks heap OutOfMemory = shown ≡ []
-IsUncycled mutators fresh lines shown marks heap _ = ⊥
+abbrev pub IsUncycled : ℕ → ℕ → List Line → List Shown → Option (List ℕ) → Heap → CommandRefusal → Type 0
+IsUncycled mutators fresh lines shown given heap (Trace fault) = CutsShort (flipped heap mutators fresh) lines shown fault
+IsUncycled mutators fresh lines shown given heap (Layout fault) = (shown ≡ []) × IsNotFollowed mutators fresh lines given heap fault
+IsUncycled mutators fresh lines shown given heap (Mutator refusal) = (refusal ≡ refusals.OutOfMemory) × (shown ≡ [])
+IsUncycled mutators fresh lines shown given heap OutOfMemory = shown ≡ []
+IsUncycled mutators fresh lines shown given heap _ = ⊥

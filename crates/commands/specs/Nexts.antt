@@ -1,10 +1,11 @@
 -- What the command `next` makes of its files.
-use Rattle.std.specs.Prelude.{◌≡◌, ◌⊎◌, ℕ, List, length, Option, Result, Ok, Err}
+use Rattle.std.specs.Prelude.{◌≡◌, ◌⊎◌, ℕ, List, length, Option, Some, None, Result, Ok, Err}
 use Rattle.heap_layout.specs.Encoding.{encoding}
 use Rattle.heap_layout.specs.Heap.{live, Heap}
 use Rattle.page_plan.specs.Sliding.{live_words}
 use Rattle.comp_trace.specs.Shown.{Shown}
 use Rattle.comp_trace.specs.Line.{Line}
+use Rattle.command_line.specs.Nexts.{marks_path}
 use Rattle.command_line.specs.declared.next.NextRun.{NextRun}
 use Rattle.command_io.specs.Disk.{Disk, WritesWhole}
 use Rattle.command_io.specs.Images.{IsHeapAt}
@@ -20,62 +21,72 @@ use Rattle.commands.specs.declared.replays.PrintedHalt.{PrintedHalt}
 use Rattle.commands.specs.Cycled.{IsCycledHeap, IsUncycled}
 use Rattle.commands.specs.declared.cycling.Cycled.{Cycled}
 
--- ---- from a heap, lines and marks
+-- ---- from a heap, lines, and marks if they are given
 
 -- The lines ran, and the image of the next heap was written, and these are the files since; then the values of the `get`
 -- lines and the live words of that heap were printed.
-pub record Nexts {F W : Type 0} (disk : Disk F W) (asked : NextRun) (to : F) (before after : Option (List ℕ)) (lines : List Line) (marks : List ℕ) (heap : Heap) : Type 0 where
+pub record Nexts {F W : Type 0} (disk : Disk F W) (asked : NextRun) (to : F) (before after : Option (List ℕ)) (lines : List Line) (given : Option (List ℕ)) (heap : Heap) : Type 0 where
   pub shown : List Shown
   pub next : Heap
-  pub cycled : IsCycledHeap asked.mutators asked.fresh lines shown marks heap next
+  pub cycled : IsCycledHeap asked.mutators asked.fresh lines shown given heap next
   pub written : WritesWhole disk outputs.New asked.new.now (encoding next) to
   pub printed : PrintsRun before after shown (live_words (live next))
 
--- why the image of the next heap was not written, or the lines after it not printed: there is no place for the image;
--- or a call of its writer failed; or it was written, and a call of the output failed, which `CountsPrint` counts; or
--- memory ran out
+-- why the image of the next heap, or of another new one, was not written, or the lines after it not printed: there is
+-- no place for the image; or a call of its writer failed; or it was written, and a call of the output failed, which
+-- `CountsPrint` counts; or memory ran out
 abbrev pub IsOfWritingNext : {F W : Type 0} → Disk F W → List ℕ → List ℕ → F → CommandRefusal → Type 0
 IsOfWritingNext disk path bytes to CannotPrint = WritesWhole disk outputs.New path bytes to
 IsOfWritingNext disk path bytes to refusal = IsOfWritingImage disk path bytes refusal
 
 -- why the cycle does not come to its end, or is not written or printed: if its lines were halted, the files stayed as
 -- they were, and what the lines had shown was printed
-abbrev pub RefusesCycle : {F W : Type 0} → Disk F W → NextRun → F → F → Option (List ℕ) → Option (List ℕ) → List Line → List ℕ → Heap → CommandRefusal → Type 0
-RefusesCycle disk asked from to before after lines marks heap refusal =
-    ((halted : PrintedHalt) × IsUncycled asked.mutators asked.fresh lines halted.shown.items marks heap halted.refusal × (to ≡ from) × IsOfHalt before after halted refusal)
-    ⊎ ((shown : List Shown) × (next : Heap) × IsCycledHeap asked.mutators asked.fresh lines shown marks heap next × IsOfWritingNext disk asked.new.now (encoding next) to refusal)
+abbrev pub RefusesCycle : {F W : Type 0} → Disk F W → NextRun → F → F → Option (List ℕ) → Option (List ℕ) → List Line → Option (List ℕ) → Heap → CommandRefusal → Type 0
+RefusesCycle disk asked from to before after lines given heap refusal =
+    ((halted : PrintedHalt) × IsUncycled asked.mutators asked.fresh lines halted.shown.items given heap halted.refusal × (to ≡ from) × IsOfHalt before after halted refusal)
+    ⊎ ((shown : List Shown) × (next : Heap) × IsCycledHeap asked.mutators asked.fresh lines shown given heap next × IsOfWritingNext disk asked.new.now (encoding next) to refusal)
 
 -- ---- from the files
 
+-- these are the marks that are asked for: those at the path; and none if the heap is marked by what its roots reach
+abbrev pub AreGivenAt : {F W : Type 0} → Disk F W → Option (List ℕ) → Option (List ℕ) → Type 0
+AreGivenAt disk (Some path) given = (marks : List ℕ) × AreMarksAt disk path marks × (given ≡ Some marks)
+AreGivenAt disk None given = given ≡ None
+
+-- the marks at the path are refused, or there are none
+abbrev pub RefusesGivenAt : {F W : Type 0} → Disk F W → Option (List ℕ) → CommandRefusal → Type 0
+RefusesGivenAt disk (Some path) refusal = RefusesMarksAt disk path refusal
+RefusesGivenAt disk None refusal = ⊥
+
 -- P holds of the heap of the image, of the lines of the trace for it, and of the marks that are asked for
-abbrev pub SomeCycle : {F W : Type 0} → Disk F W → NextRun → (List Line → List ℕ → Heap → Type 0) → Type 0
+abbrev pub SomeCycle : {F W : Type 0} → Disk F W → NextRun → (List Line → Option (List ℕ) → Heap → Type 0) → Type 0
 SomeCycle disk asked P =
     (heap : Heap) × IsHeapAt disk asked.large asked.image.now heap
     × ((lines : List Line) × HasLinesAt disk asked.trace.now asked.mutators (length heap.roots) lines
-    × ((marks : List ℕ) × AreMarksAt disk asked.marks.now marks × P lines marks heap))
+    × ((given : Option (List ℕ)) × AreGivenAt disk (marks_path asked.marks) given × P lines given heap))
 
 -- what the command does
 abbrev pub MakesNext : {F W : Type 0} → Disk F W → NextRun → F → Option (List ℕ) → Option (List ℕ) → Type 0
 MakesNext disk asked to before after = SomeCycle disk asked (Nexts disk asked to before after)
 
 -- what was printed, between these two contents of the output, are the values of a trace that was run over the heap,
--- and the live words of the heap that followed with some marks
+-- and the live words of the heap that followed, with some marks or marked by what its roots reach
 abbrev pub PrintsNext : ℕ → ℕ → Option (List ℕ) → Option (List ℕ) → Heap → Type 0
 PrintsNext mutators fresh before after heap = (text : List ℕ) × (lines : List Line) × HasLines mutators (length heap.roots) lines text
-    × (marks : List ℕ) × (shown : List Shown) × (next : Heap) × IsCycledHeap mutators fresh lines shown marks heap next × PrintsRun before after shown (live_words (live next))
+    × (given : Option (List ℕ)) × (shown : List Shown) × (next : Heap) × IsCycledHeap mutators fresh lines shown given heap next × PrintsRun before after shown (live_words (live next))
 
 -- there are the heap of the image and the lines of the trace for it; the marks are refused, or there are none
 abbrev pub RefusesHanded : {F W : Type 0} → Disk F W → NextRun → CommandRefusal → Type 0
 RefusesHanded disk asked refusal =
     (heap : Heap) × IsHeapAt disk asked.large asked.image.now heap
-    × ((lines : List Line) × HasLinesAt disk asked.trace.now asked.mutators (length heap.roots) lines × RefusesMarksAt disk asked.marks.now refusal)
+    × ((lines : List Line) × HasLinesAt disk asked.trace.now asked.mutators (length heap.roots) lines × RefusesGivenAt disk (marks_path asked.marks) refusal)
 
 -- why it is refused: there is no image, or no trace for its heap, or no marks; or one of them is refused; or the cycle
 -- is
 abbrev pub RefusesNext : {F W : Type 0} → Disk F W → NextRun → F → F → Option (List ℕ) → Option (List ℕ) → CommandRefusal → Type 0
 RefusesNext disk asked from to before after refusal =
     RefusesInputs disk asked.large asked.image.now asked.trace.now asked.mutators refusal
-    ⊎ (RefusesHanded disk asked refusal ⊎ SomeCycle disk asked (λ lines marks heap. RefusesCycle disk asked from to before after lines marks heap refusal))
+    ⊎ (RefusesHanded disk asked refusal ⊎ SomeCycle disk asked (λ lines given heap. RefusesCycle disk asked from to before after lines given heap refusal))
 
 -- ---- within the command
 

@@ -5,6 +5,7 @@ ghost use Rattle.commands.specs.Successors.{AreOneLife, NextFollows, NextIsOne, 
 
 use comp_cycles::one_life;
 use heap_layout::images_differ;
+use reachability::reachable_once;
 
 /// The bytes of the image and of the trace and the numbers of mutators and of fresh pages determine what `replay`
 /// shows and writes: the values, the whole dump, and so its bytes.
@@ -14,12 +15,13 @@ pub fn replays_are_one()
     images_differ();
 }
 
-/// The bytes of the image, of the trace and of the marks and the numbers of mutators and of fresh pages determine what
-/// `next` shows and writes: the values, and the next heap, so its image and its live words.
+/// The bytes of the image, of the trace and of the marks, if they are given, and the numbers of mutators and of fresh
+/// pages determine what `next` shows and writes: the values, and the next heap, so its image and its live words.
 pub fn next_is_one()
     ensures { NextIsOne }
 {
     images_differ();
+    reachable_once();
 }
 
 /// Runs of `next`, each over the image that the one before left, are cycles that follow one another, and so one life of

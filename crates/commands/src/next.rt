@@ -1,5 +1,5 @@
 //! The command `next`.
-ghost use Rattle.std.specs.Prelude.{◌≡◌, ◌-◌, ◌^◌, ◌<◌, ◌≤◌, IfErr, OnOk};
+ghost use Rattle.std.specs.Prelude.{◌≡◌, ◌-◌, ◌^◌, ◌<◌, ◌≤◌, IfErr, IfOk, OnOk};
 ghost use Rattle.heap_layout.specs.Counted.{inner_of, failures_of, writer_of};
 ghost use Rattle.heap_layout.specs.Encoding.{encoding};
 ghost use Rattle.heap_layout.specs.Heap.{live};
@@ -10,14 +10,17 @@ ghost use Rattle.command_io.specs.Printing.{CountsPrint};
 ghost use Rattle.command_io.specs.declared.refusal.Output.TheVariants as outputs;
 ghost use Rattle.commands.specs.Outcomes.{IsHaltedBy};
 ghost use Rattle.commands.specs.Replays.{PrintsRun, StopsUnprinted};
-ghost use Rattle.commands.specs.Nexts.{IsOfWritingNext, IsWrittenNext, MakesNext, RefusesNext, RefusesWriting};
+ghost use Rattle.commands.specs.Nexts.{AreGivenAt, IsOfWritingNext, IsWrittenNext, MakesNext, RefusesGivenAt, RefusesNext, RefusesWriting};
+ghost use Rattle.command_line.specs.Nexts.{marks_path};
+ghost use Rattle.comp_trace.specs.Markings.{marks_given};
 
 use crate::cycling::{Cycled, cycle_heap};
 use crate::replay::{inputs_at, print_halted};
 use crate::replays::PrintedHalt;
 use crate::shown::print_run;
 use command_io::{CommandRefusal, Files, marks_at, write_image_to};
-use command_line::NextRun;
+use command_line::{NextMarks, NextRun};
+use comp_trace::Marking;
 use heap_layout::Counted;
 use std::alloc::Global;
 use std::io::Write;
@@ -25,10 +28,11 @@ use std::thread::Threads;
 
 /// The command `next`.
 ///
-/// It reads the image, then the trace for its heap, and then the marks. It runs the trace over the heap by one thread,
-/// with 1 to 64 mutators and at most 4,096 fresh pages. With the marks it makes the heap with which the next cycle
-/// begins, writes the image of that heap, and flushes it. Last it prints a line for each value that was shown, and the
-/// live words of that heap. Fewer than `u64::MAX` calls of the output must have failed before.
+/// It reads the image, then the trace for its heap, and then the marks, if they are given. It runs the trace over the
+/// heap by one thread, with 1 to 64 mutators and at most 4,096 fresh pages. It makes the heap with which the next cycle
+/// begins, with these marks, or else marked by what its roots reach. It writes the image of that heap, and flushes it.
+/// Last it prints a line for each value that was shown, and the live words of that heap. Fewer than `u64::MAX` calls of
+/// the output must have failed before.
 ///
 /// The first of these steps that is refused ends it. If a line is refused, the values of the lines before it are
 /// printed. Each other refusal before the printing prints nothing. The image is created only after the next heap was
@@ -58,17 +62,35 @@ pub fn print_next<F: Files, O: Write>(
         asked.mutators,
         asked.large,
     )?;
-    let marks = marks_at(alloc, &*files, asked.marks)?;
+    let marking = marking_at(alloc, &*files, &asked.marks)?;
     let made = cycle_heap(
         alloc,
         rt,
         inputs.heap,
         &inputs.trace,
-        marks,
+        marking,
         asked.mutators,
         asked.fresh,
     );
     write_made(files, asked.new, made, out)
+}
+
+// How the next heap is marked: by the marks at the path that is asked for, or by what its roots reach.
+fn marking_at<F: Files>(
+    alloc: Global,
+    files: &F,
+    asked: &NextMarks<'_>,
+) -> Result<Marking, CommandRefusal>
+    ensures marks { IfOk result (λ marking. AreGivenAt (F.disk files.now) (marks_path asked.now) (marks_given marking)) }
+    ensures cause { IfErr result (RefusesGivenAt (F.disk files.now) (marks_path asked.now)) }
+{
+    match asked {
+        NextMarks::Given(path) => match marks_at(alloc, files, path) {
+            Ok(marks) => Ok(Marking::Given(marks)),
+            Err(refusal) => Err(refusal),
+        },
+        NextMarks::Reachable => Ok(Marking::Reachable),
+    }
 }
 
 // Writes and prints what was made. If the run was halted, prints what it had shown, and answers its refusal.

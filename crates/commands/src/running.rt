@@ -15,6 +15,7 @@ ghost use Rattle.commands.specs.declared.running.Unanswered.TheVariants.{Misused
 
 use crate::audit::print_audit;
 use crate::compact::print_compact;
+use crate::mark::print_mark;
 use crate::next::print_next;
 use crate::plan::print_plan;
 use crate::race::print_race;
@@ -178,6 +179,7 @@ fn print_task<R: Threads + Wait + Sync, F: Files, O: Write>(
             print_audit(alloc, rt, &*files, image, dump, large, out)
         }
         Task::Next(run) => print_next(alloc, rt, files, run, out),
+        Task::Mark { image, new, large } => print_mark(alloc, rt, files, image, new, large, out),
         Task::Help { text } => print_help(&text, out),
         Task::Version => print_text(VERSION_LINE, out),
     }

@@ -1,5 +1,6 @@
 pub use Rattle.trace_text.specs.declared.line.Action
 pub use Rattle.trace_cycles.specs.CycleRuns
+pub use Rattle.trace_cycles.specs.Markings
 pub use Rattle.trace_text.specs.Grammar
 pub use Rattle.trace_text.specs.declared.line.Line
 pub use Rattle.trace_text.specs.Marks

@@ -1,20 +1,27 @@
 -- Two runs of `next` over files in memory, of which the second reads the image that the first left.
-use Rattle.std.proofs.Common.{◌≡◌, ℕ, List, Option, Some, Result, Ok, Err, OnOk, ap, ◌∙◌}
+use Rattle.std.proofs.Common.{◌≡◌, ℕ, List, Option, Some, None, Result, Ok, Err, OnOk, ap, refl, ◌∙◌}
 use Rattle.heap_layout.specs.Encoding.{encoding}
 use Rattle.command_line.specs.declared.next.NextRun.{NextRun}
 use Rattle.command_io.specs.Memory.{bytes_at, memory_disk, WrittenIsThere}
 use Rattle.command_io.specs.declared.memory.MemoryFiles.{MemoryFiles}
 use Rattle.command_io.specs.declared.refusal.Output.TheVariants as outputs
 use Rattle.command_io.specs.declared.refusal.CommandRefusal.{CommandRefusal}
-use Rattle.commands.specs.Nexts.{MakesNext}
+use Rattle.command_line.specs.Nexts.{marks_path}
+use Rattle.commands.specs.Nexts.{AreGivenAt, MakesNext}
 use Rattle.commands.specs.Successors.{TwoAreOneLife}
-use Rattle.commands.proofs.NextBytes.{known_next}
-use Rattle.proved_clients.specs.Lives.{KeepsNext, LivesOn}
+use Rattle.commands.proofs.NextBytes.{known_next, AreKnownAt}
+use Rattle.proved_clients.specs.Lives.{AreListedAt, KeepsNext, LivesOn}
 
 -- the bytes at a path are all that can be read there
 only : (from : MemoryFiles) (path bytes : List ℕ) → bytes_at from path ≡ Some bytes
     → (known : Option (List ℕ)) → (own : List ℕ) × (bytes_at from path ≡ Some own) × (known ≡ Some own) → known ≡ Some bytes
 only from path bytes at known (own, there, is) = cc
+
+-- the bytes at the path of the marks, if they are asked for
+listed_at : (from : MemoryFiles) (path given : Option (List ℕ)) → AreGivenAt (memory_disk from) path given
+    → (listed : Option (List ℕ)) × AreListedAt from path listed × AreKnownAt (memory_disk from) path listed
+listed_at from (Some path) given (marks, (known, (own, there, is), h), same) = (Some own, (own, there, refl), only from path own there)
+listed_at from None given h = (None, refl, tt)
 
 -- what a run did, by the bytes of its image
 keeps_next : (there : WrittenIsThere) (from to : MemoryFiles) (asked : NextRun) (before after : Option (List ℕ)) (image : List ℕ) → bytes_at from asked.image.now ≡ Some image
@@ -22,17 +29,16 @@ keeps_next : (there : WrittenIsThere) (from to : MemoryFiles) (asked : NextRun) 
 keeps_next there from to asked before after image image_at h =
     let text = h.2.1.1.0 in
     let text_at : bytes_at from asked.trace.now ≡ Some text = h.2.1.1.1 in
-    let listed = h.2.2.1.1.0 in
-    let marks_at : bytes_at from asked.marks.now ≡ Some listed = h.2.2.1.1.1 in
-    let made = known_next (memory_disk from) asked to before after image text listed (only from asked.image.now image image_at) (only from asked.trace.now text text_at)
-    (only from asked.marks.now listed marks_at) h in
+    let listed = listed_at from (marks_path asked.marks) h.2.2.0 h.2.2.1 in
+    let made = known_next (memory_disk from) asked to before after image text listed.0 (only from asked.image.now image image_at) (only from asked.trace.now text text_at)
+    listed.2 h in
     record {
       image = image;
       image_at = image_at;
       text = text;
       text_at = text_at;
-      listed = listed;
-      marks_at = marks_at;
+      listed = listed.0;
+      marks_at = listed.1;
       shown = made.shown;
       next = made.next;
       run = made.is;
@@ -49,7 +55,7 @@ module _ (there : WrittenIsThere) (two_are_one : TwoAreOneLife) (from between to
         between = between;
         one = one;
         two = two;
-        life = two_are_one first.mutators first.fresh second.mutators second.fresh one.image one.text one.listed two.text two.listed one.shown two.shown one.next two.next one.run two.run;
+        life = two_are_one first.mutators first.fresh second.mutators second.fresh one.image one.text two.text one.listed two.listed one.shown two.shown one.next two.next one.run two.run;
       }
 
   pub both_lived : second.image.now ≡ first.new.now → MakesNext (memory_disk from) first between a b → (result : Result (Unit {0}) CommandRefusal)

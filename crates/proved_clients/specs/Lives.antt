@@ -1,13 +1,19 @@
 -- What two runs of `next` over files in memory leave there.
-use Rattle.std.specs.Prelude.{◌≡◌, ℕ, List, [], ◌∷◌, Some}
+use Rattle.std.specs.Prelude.{◌≡◌, ℕ, List, [], ◌∷◌, Option, Some, None}
 use Rattle.heap_layout.specs.Encoding.{encoding}
 use Rattle.heap_layout.specs.Heap.{Heap}
 use Rattle.comp_mutator.specs.Cycles.{IsOneLife}
 use Rattle.comp_trace.specs.Shown.{Shown}
+use Rattle.command_line.specs.Nexts.{marks_path}
 use Rattle.command_line.specs.declared.next.NextRun.{NextRun}
 use Rattle.command_io.specs.Memory.{bytes_at, HasPut}
 use Rattle.command_io.specs.declared.memory.MemoryFiles.{MemoryFiles}
 use Rattle.commands.specs.Successors.{IsNext}
+
+-- these are the bytes at the path of the marks; there are none if the heap is marked by what its roots reach
+abbrev pub AreListedAt : MemoryFiles → Option (List ℕ) → Option (List ℕ) → Type 0
+AreListedAt from (Some path) listed = (bytes : List ℕ) × (bytes_at from path ≡ Some bytes) × (listed ≡ Some bytes)
+AreListedAt from None listed = listed ≡ None
 
 -- A run of `next`, by the bytes at the paths that are asked for: the image of the next heap was put at its path, and
 -- each other path has what it had.
@@ -16,8 +22,8 @@ pub record KeepsNext (from : MemoryFiles) (asked : NextRun) (to : MemoryFiles) :
   pub image_at : bytes_at from asked.image.now ≡ Some image
   pub text : List ℕ
   pub text_at : bytes_at from asked.trace.now ≡ Some text
-  pub listed : List ℕ
-  pub marks_at : bytes_at from asked.marks.now ≡ Some listed
+  pub listed : Option (List ℕ)
+  pub marks_at : AreListedAt from (marks_path asked.marks) listed
   pub shown : List Shown
   pub next : Heap
   pub run : IsNext asked.mutators asked.fresh image text listed shown next

@@ -1,5 +1,5 @@
 -- Cycles over which traces are run, one after the other, by one thread.
-use Rattle.std.specs.Prelude.{◌≡◌, ℕ, List, [], ◌∷◌, length}
+use Rattle.std.specs.Prelude.{◌≡◌, ℕ, List, [], ◌∷◌, length, Option, None}
 use Rattle.heap_layout.specs.Heap.{Heap}
 use Rattle.comp_cycles.specs.Cycles.{Cycle, entries_of, heap_after, numbers_left, story, Follow, IsCycleOf, IsOneLife, IsRising, IsWriting}
 use Rattle.comp_cycles.specs.Ends.{cycle_of, IsEndOf}
@@ -13,6 +13,7 @@ use Rattle.trace_text.specs.declared.trace.Trace.{Trace}
 use Rattle.trace_replay.specs.Bytes.{flipped, no_entries}
 use Rattle.trace_replay.specs.Heaps.{IsHaltOf}
 use Rattle.trace_replay.specs.Runs.{beginning, Moment, Runs}
+use Rattle.trace_cycles.specs.Markings.{IsMarkedBy, IsMarkedCycle}
 use Rattle.trace_cycles.specs.declared.cycle.CycleHalt.{CycleHalt}
 use Rattle.trace_cycles.specs.declared.cycle.CycleHalt.TheVariants.{Halted, Unplanned}
 
@@ -39,16 +40,21 @@ abbrev pub IsCycleHaltOf : ℕ → ℕ → List Line → Heap → CycleHalt → 
 IsCycleHaltOf mutators fresh lines heap Unplanned = Unit {0}
 IsCycleHaltOf mutators fresh lines heap (Halted halt) = IsHaltOf mutators fresh lines heap halt
 
--- One of several cycles: these lines were run over the heap and showed these values, and then these marks were handed
--- in for the next heap.
-pub record IsPart (mutators fresh : ℕ) (lines : List Line) (shown : List Shown) (marks : List ℕ) (heap : Heap) (c : Cycle) : Type 0 where
+-- One of several cycles: these lines were run over the heap and showed these values, and then the next heap was marked
+-- by the marks that were given for it, or by what its roots reach. The roots stay.
+pub record IsPart (mutators fresh : ℕ) (lines : List Line) (shown : List Shown) (given : Option (List ℕ)) (heap : Heap) (c : Cycle) : Type 0 where
   pub run : IsRun mutators fresh lines shown heap c
   pub cycle : IsCycleOf heap c
-  pub marks_are : c.marks ≡ marks
+  pub marked : IsMarkedBy given c
+  pub roots_stay : c.new_roots ≡ None
 
--- the cycles that are over, and a last one, which left this heap; `rest` has for each further cycle the marks that
--- began it, and its lines
-abbrev pub AreRuns : ℕ → ℕ → Heap → List Line → List (List ℕ × List Line) → List (List Shown) → List Cycle → Finished → Type 0
+-- a further cycle: the marks that were given for its heap, or none if that was marked by what its roots reach; and its
+-- lines
+abbrev pub Further : Type 0
+Further = Option (List ℕ) × List Line
+
+-- the cycles that are over, and a last one, which left this heap; `rest` has the further cycles
+abbrev pub AreRuns : ℕ → ℕ → Heap → List Line → List Further → List (List Shown) → List Cycle → Finished → Type 0
 AreRuns mutators fresh heap lines [] (s ∷ []) [] f = IsLastRun mutators fresh lines s heap f
 AreRuns mutators fresh heap lines (r ∷ rest) (s ∷ shown) (c ∷ cs) f = IsPart mutators fresh lines s r.0 heap c × AreRuns mutators fresh (heap_after c) r.1 rest shown cs f
 AreRuns mutators fresh heap lines _ _ _ f = ⊥
@@ -58,15 +64,15 @@ abbrev pub last_heap : Heap → List Cycle → Heap
 last_heap heap [] = heap
 last_heap heap (c ∷ cs) = last_heap (heap_after c) cs
 
--- With these marks, what was left of a cycle made the next heap; and these lines were run over it and showed these
+-- What was left of a cycle made the next heap, which was so marked; and these lines were run over it and showed these
 -- values.
-pub record IsNextRun (mutators fresh : ℕ) (heap : Heap) (f : Finished) (marks : List ℕ) (lines : List Line) (next : Heap) (shown : List Shown) (left : Finished) : Type 0 where
-  pub cycle : IsCycleOf heap (cycle_of heap f marks)
-  pub next_is : next ≡ heap_after (cycle_of heap f marks)
+pub record IsNextRun (mutators fresh : ℕ) (heap : Heap) (f : Finished) (given : Option (List ℕ)) (lines : List Line) (next : Heap) (shown : List Shown) (left : Finished) : Type 0 where
+  pub ended : IsMarkedCycle given heap (cycle_of heap f next.marks)
+  pub next_is : next ≡ heap_after (cycle_of heap f next.marks)
   pub run : IsLastRun mutators fresh lines shown next left
 
 -- The traces were run over these cycles, and all cycles but the last are one life of a heap whose objects never move.
-pub record CyclesRan (mutators fresh : ℕ) (heap : Heap) (lines : List Line) (rest : List (List ℕ × List Line)) (shown : List (List Shown)) (f : Finished) : Type 0 where
+pub record CyclesRan (mutators fresh : ℕ) (heap : Heap) (lines : List Line) (rest : List Further) (shown : List (List Shown)) (f : Finished) : Type 0 where
   pub cycles : List Cycle
   pub runs : AreRuns mutators fresh heap lines rest shown cycles f
   pub follow : Follow heap cycles (last_heap heap cycles)

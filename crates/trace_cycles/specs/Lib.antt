@@ -1,2 +1,3 @@
 pub mod CycleRuns
+pub mod Markings
 pub mod Stops

@@ -5,8 +5,7 @@ use trace_text::TraceFault;
 /// Why cycles were not run to their end. Cycles are counted from 0.
 #[derive(Clone, Copy, Debug, PartialEq, Eq, Error)]
 pub enum CycleFault {
-    /// The marks that were handed in after this cycle are refused. The layout fault is the first fault of the next
-    /// heap, or `OutOfMemory`.
+    /// The next heap after this cycle is refused. The layout fault is the first fault of that heap, or `OutOfMemory`.
     #[error("Y1 NotMarked({0}, {1})")]
     NotMarked(u64, LayoutFault),
     /// A line of this cycle's trace was refused, or memory ran out for the values of its lines.

@@ -3,8 +3,10 @@
 
 mod cycle;
 mod fault;
+mod marking;
 mod replaying;
 
 pub use cycle::{CycleHalt, Ran, run_cycle};
 pub use fault::CycleFault;
-pub use replaying::{CyclesRun, CyclesStopped, replay_cycles};
+pub use marking::{Marking, next_marked};
+pub use replaying::{CyclesRun, CyclesStopped, replay_cycles, replay_marked};

@@ -6,10 +6,12 @@ ghost use Rattle.heap_layout.specs.Heap.{Heap};
 ghost use Rattle.trace_text.specs.declared.line.Line.{Line};
 ghost use Rattle.trace_text.specs.Traces.{lines_of};
 ghost use Rattle.trace_cycles.specs.CycleRuns.{CyclesRan, IsCycleHaltOf, IsNextRun, IsParsedFor};
-ghost use Rattle.trace_cycles.specs.Stops.{marks_and_lines, some_values, values_of, IsNotNext, IsNotRunOver, StopsCycles};
+ghost use Rattle.trace_cycles.specs.Markings.{marks_given};
+ghost use Rattle.trace_cycles.specs.Stops.{further_by, marking_and_lines, marks_and_lines, some_values, values_of, IsNotNext, IsNotRunOver, StopsCycles};
 
 use crate::cycle::{CycleHalt, Ran, run_cycle};
 use crate::fault::CycleFault;
+use crate::marking::{Marking, Marks, next_marked};
 use comp_cycles::{Finished, one_life, one_writing};
 use heap_layout::MarkedHeap;
 use page_plan::Plan;
@@ -66,14 +68,14 @@ fn not_run(c: u64, halt: CycleHalt) -> NotRun
     }
 }
 
-// Runs the cycle after cycle `c`: makes the next heap of what is left of cycle `c`, with these marks, and runs the
-// trace over it.
+// Runs the cycle after cycle `c`: makes the next heap of what is left of cycle `c`, marked so, and runs the trace over
+// it.
 fn run_next(
     alloc: Global,
     rt: &(impl Threads + Sync),
     plan: Arc<Plan>,
     finished: Finished,
-    marks: &[u32],
+    marking: Marking,
     trace: &Trace,
     mutators: u8,
     fresh: u32,
@@ -84,17 +86,11 @@ fn run_next(
     requires count { c < 2 ^ 63 }
     requires end { IsEndOf plan.value finished }
     requires parsed { IsParsedFor mutators (length plan.value.roots) trace.now }
-    ensures next { IfOk result (λ next. IsNextRun mutators fresh plan.value finished marks.now (lines_of trace.now) next.plan.value next.shown.items next.finished) }
+    ensures next { IfOk result (λ next. IsNextRun mutators fresh plan.value finished (marks_given marking) (lines_of trace.now) next.plan.value next.shown.items next.finished) }
     ensures flipped { IfOk result (λ next. IsOfFlip mutators fresh next.finished) }
-    ensures refused { IfErr result (λ not. IsNotNext mutators fresh plan.value finished marks.now (lines_of trace.now) c not.shown not.fault) }
+    ensures refused { IfErr result (λ not. IsNotNext mutators fresh plan.value finished (marks_given marking) (lines_of trace.now) c not.shown not.fault) }
 {
-    let Ok(marks) = marks.to_vec(alloc) else {
-        return Err(NotRun {
-            shown: None,
-            fault: CycleFault::OutOfMemory(c),
-        });
-    };
-    match finished.next_cycle(alloc, &*plan, marks) {
+    match next_marked(finished, alloc, &*plan, marking) {
         Ok(heap) => match run_cycle(alloc, rt, heap, trace, mutators, fresh) {
             Ok(ran) => Ok(ran),
             Err(halt) => Err(not_run(c + 1, halt)),
@@ -104,6 +100,37 @@ fn run_next(
             fault: CycleFault::NotMarked(c, left.fault),
         }),
     }
+}
+
+// Runs the cycle after cycle `c`, with a copy of these marks.
+fn run_further<M: Marks>(
+    alloc: Global,
+    rt: &(impl Threads + Sync),
+    plan: Arc<Plan>,
+    finished: Finished,
+    further: &(M, Trace),
+    mutators: u8,
+    fresh: u32,
+    c: u64,
+) -> Result<Ran, NotRun>
+    requires mutators { (1 ≤ mutators) × (mutators ≤ 64) }
+    requires fresh { fresh ≤ 4096 }
+    requires count { c < 2 ^ 63 }
+    requires end { IsEndOf plan.value finished }
+    requires parsed { IsParsedFor mutators (length plan.value.roots) further.now.1 }
+    ensures next { IfOk result (λ next. IsNextRun mutators fresh plan.value finished (M.given further.now.0) (lines_of further.now.1) next.plan.value next.shown.items next.finished) }
+    ensures flipped { IfOk result (λ next. IsOfFlip mutators fresh next.finished) }
+    ensures refused { IfErr result (λ not. IsNotNext mutators fresh plan.value finished (M.given further.now.0) (lines_of further.now.1) c not.shown not.fault) }
+{
+    let Ok(marking) = further.0.marking(alloc) else {
+        return Err(NotRun {
+            shown: None,
+            fault: CycleFault::OutOfMemory(c),
+        });
+    };
+    run_next(
+        alloc, rt, plan, finished, marking, &further.1, mutators, fresh, c,
+    )
 }
 
 // Adds the values of the cycle that was not run to its end, if there are any, after the values shown before. Requires
@@ -147,6 +174,50 @@ pub fn replay_cycles(
     ensures flipped { IfOk result (λ run. IsOfFlip mutators fresh_pages run.finished) }
     ensures stopped { IfErr result (λ stopped. StopsCycles mutators fresh_pages heap (lines_of first.now) (map marks_and_lines rest.now) (values_of stopped.shown.items) stopped.fault) }
 {
+    replay_all(alloc, rt, heap, first, rest, mutators, fresh_pages)
+}
+
+/// Runs cycles as `replay_cycles` does. Each pair of `rest` says how the next heap is marked, and has the trace that
+/// runs over that heap. A heap that is marked by what its roots reach is refused only if it has too many words, or if
+/// memory runs out.
+pub fn replay_marked(
+    alloc: Global,
+    rt: &(impl Threads + Sync),
+    heap: MarkedHeap,
+    first: &Trace,
+    rest: &[(Marking, Trace)],
+    mutators: u8,
+    fresh_pages: u32,
+) -> Result<CyclesRun, CyclesStopped>
+    requires mutators { (1 ≤ mutators) × (mutators ≤ 64) }
+    requires fresh { fresh_pages ≤ 4096 }
+    requires first { IsParsedFor mutators (length heap.roots) first.now }
+    requires rest { All (λ further. IsParsedFor mutators (length heap.roots) further.1) rest.now }
+    ensures ran { IfOk result (λ run. CyclesRan mutators fresh_pages heap (lines_of first.now) (map marking_and_lines rest.now) (values_of run.shown.items) run.finished) }
+    ensures flipped { IfOk result (λ run. IsOfFlip mutators fresh_pages run.finished) }
+    ensures stopped { IfErr result (λ stopped. StopsCycles mutators fresh_pages heap (lines_of first.now) (map marking_and_lines rest.now) (values_of stopped.shown.items) stopped.fault) }
+{
+    replay_all(alloc, rt, heap, first, rest, mutators, fresh_pages)
+}
+
+// Runs cycles, each next heap marked as its pair says.
+fn replay_all<M: Marks>(
+    alloc: Global,
+    rt: &(impl Threads + Sync),
+    heap: MarkedHeap,
+    first: &Trace,
+    rest: &[(M, Trace)],
+    mutators: u8,
+    fresh_pages: u32,
+) -> Result<CyclesRun, CyclesStopped>
+    requires mutators { (1 ≤ mutators) × (mutators ≤ 64) }
+    requires fresh { fresh_pages ≤ 4096 }
+    requires first { IsParsedFor mutators (length heap.roots) first.now }
+    requires rest { All (λ further. IsParsedFor mutators (length heap.roots) further.1) rest.now }
+    ensures ran { IfOk result (λ run. CyclesRan mutators fresh_pages heap (lines_of first.now) (map (further_by M.given) rest.now) (values_of run.shown.items) run.finished) }
+    ensures flipped { IfOk result (λ run. IsOfFlip mutators fresh_pages run.finished) }
+    ensures stopped { IfErr result (λ stopped. StopsCycles mutators fresh_pages heap (lines_of first.now) (map (further_by M.given) rest.now) (values_of stopped.shown.items) stopped.fault) }
+{
     one_life();
     one_writing();
     let Ok(mut shown) = Vec::with_capacity(alloc, rest.len() + 1) else {
@@ -163,13 +234,12 @@ pub fn replay_cycles(
         Err(halt) => return Err(stopped(shown, not_run(0, halt))),
     };
     for (c, further) in rest.iter().enumerate() {
-        match run_next(
+        match run_further(
             alloc,
             rt,
             plan,
             finished,
-            &further.0,
-            &further.1,
+            further,
             mutators,
             fresh_pages,
             c as u64,

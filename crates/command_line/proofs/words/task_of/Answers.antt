@@ -1,67 +1,67 @@
-use Rattle.std.proofs.Common.{arith, [], ◌≡◌, ◌∙◌, codes, ap, Global, List, map, None, ℕ, refl, Some, String}
+use Rattle.std.proofs.Common.{arith, [], ◌≡◌, Bool, ◌∙◌, codes, ap, Global, List, map, None, ℕ, refl, Some, String}
 use Rattle.std.specs.Prelude.{option_map}
 use Rattle.std.specs.String.{string_bytes}
 use Rattle.clap.specs.Words.{fault_of, found_of, one_text, rows_of, subcommand_name_of, subcommand_of, subcommand_rows_of, Row}
 use Rattle.clap.specs.declared.parser.matches.ArgMatches.{ArgMatches}
 use Rattle.clap.specs.declared.parser.matches.Found.{Found}
 use Rattle.command_line.specs.Parser.{program}
-use Rattle.command_line.specs.Forms.{Form, audit_form, compact_form, next_form, plan_form, race_form, replay_form, standing, text, word_form}
+use Rattle.command_line.specs.Forms.{Form, audit_form, compact_form, mark_form, next_form, plan_form, race_form, replay_form, standing, text, word_form}
 use Rattle.command_line.specs.Nexts.{next_of}
 use Rattle.command_line.specs.Runs.{run_of}
-use Rattle.command_line.proofs.TopLevel.{IsCommand, standing_audit, standing_compact, standing_next, standing_plan, standing_program, standing_race, standing_replay, standing_word}
-use Rattle.command_line.proofs.Found.{CommandAsked, argument_there, audit_asked, bounded_number, command_asked, compact_asked, entered_as, index_there, none_entered, none_of_standing, plan_asked, run_asked, run_found, same_name, texts_utf8, word_asked, workers_fit, workers_within}
+use Rattle.command_line.proofs.TopLevel.{IsCommand, standing_audit, standing_compact, standing_mark, standing_next, standing_plan, standing_program, standing_race, standing_replay, standing_word}
+use Rattle.command_line.proofs.Found.{CommandAsked, argument_there, audit_asked, bounded_number, command_asked, compact_asked, entered_as, index_there, mark_asked, none_entered, none_of_standing, plan_asked, run_asked, run_found, same_name, texts_utf8, word_asked, workers_fit, workers_within}
 use Rattle.command_line.proofs.NextFound.{next_asked, next_found}
 use Rattle.command_line.proofs.words.task_of.Goals as goal
 
 -- the command that was entered was asked with what was given
-given_to : (form : Form) → IsCommand standing form → (words : List (String Global)) (m : ArgMatches) (name : List ℕ) (f : Found) → name ≡ form.name
-    → fault_of (program standing) (map string_bytes words) ≡ [] → subcommand_rows_of m ≡ subcommand_of (program standing) (map string_bytes words)
+given_to : (r : Bool) (form : Form) → IsCommand (standing r) form → (words : List (String Global)) (m : ArgMatches) (name : List ℕ) (f : Found) → name ≡ form.name
+    → fault_of (program (standing r)) (map string_bytes words) ≡ [] → subcommand_rows_of m ≡ subcommand_of (program (standing r)) (map string_bytes words)
     → Some name ≡ subcommand_name_of m → Some (rows_of f) ≡ option_map (λ (p : List ℕ × List Row). p.1) (subcommand_rows_of m) → CommandAsked (map string_bytes words) f form
-given_to form command words m name f is taken found named has =
-    let entered = entered_as m (subcommand_of (program standing) (map string_bytes words)) name (rows_of f) found named has in
-    command_asked standing standing_program form command (map string_bytes words) f (texts_utf8 words) taken (entered ∙ ap (λ (n : List ℕ). Some (n, rows_of f)) is)
+given_to r form command words m name f is taken found named has =
+    let entered = entered_as m (subcommand_of (program (standing r)) (map string_bytes words)) name (rows_of f) found named has in
+    command_asked (standing r) (standing_program r) form command (map string_bytes words) f (texts_utf8 words) taken (entered ∙ ap (λ (n : List ℕ). Some (n, rows_of f)) is)
 
 pub text_of-requires : goal.text_of-requires
 text_of-requires c =
     let f = found_of c.in-Some.found.now in
-    let given = given_to plan_form standing_plan c.args.words.now c.args.matches.now c.in-Some.name.now f c.in-plan.is c.requires.taken c.requires.found c.in-Some.ensures.name c.in-Some.ensures.rows in
+    let given = given_to c.args.reaches plan_form (standing_plan c.args.reaches) c.args.words.now c.args.matches.now c.in-Some.name.now f c.in-plan.is c.requires.taken c.requires.found c.in-Some.ensures.name c.in-Some.ensures.rows in
     argument_there (map string_bytes c.args.words.now) f plan_form given (text (codes "IMAGE")) refl
 
 pub returns-in-plan-clause-asked : goal.returns-in-plan-clause-asked
 returns-in-plan-clause-asked c =
     let f = found_of c.in-Some.found.now in
-    let given = given_to plan_form standing_plan c.args.words.now c.args.matches.now c.in-Some.name.now f c.in-plan.is c.requires.taken c.requires.found c.in-Some.ensures.name c.in-Some.ensures.rows in
+    let given = given_to c.args.reaches plan_form (standing_plan c.args.reaches) c.args.words.now c.args.matches.now c.in-Some.name.now f c.in-plan.is c.requires.taken c.requires.found c.in-Some.ensures.name c.in-Some.ensures.rows in
     plan_asked (map string_bytes c.args.words.now) f given c.text_of.result.now c.is_large.result c.text_of.ensures c.is_large.ensures
 
 pub text_of-requires-in-word : goal.text_of-requires-in-word
 text_of-requires-in-word c =
     let f = found_of c.in-Some.found.now in
-    let given = given_to word_form standing_word c.args.words.now c.args.matches.now c.in-Some.name.now f c.in-word.is c.requires.taken c.requires.found c.in-Some.ensures.name c.in-Some.ensures.rows in
+    let given = given_to c.args.reaches word_form (standing_word c.args.reaches) c.args.words.now c.args.matches.now c.in-Some.name.now f c.in-word.is c.requires.taken c.requires.found c.in-Some.ensures.name c.in-Some.ensures.rows in
     argument_there (map string_bytes c.args.words.now) f word_form given (text (codes "IMAGE")) refl
 
 pub number_of-requires : goal.number_of-requires
 number_of-requires c =
     let f = found_of c.in-Some.found.now in
-    let given = given_to word_form standing_word c.args.words.now c.args.matches.now c.in-Some.name.now f c.in-word.is c.requires.taken c.requires.found c.in-Some.ensures.name c.in-Some.ensures.rows in
+    let given = given_to c.args.reaches word_form (standing_word c.args.reaches) c.args.words.now c.args.matches.now c.in-Some.name.now f c.in-word.is c.requires.taken c.requires.found c.in-Some.ensures.name c.in-Some.ensures.rows in
     index_there (map string_bytes c.args.words.now) f given
 
 pub returns-in-word-clause-asked : goal.returns-in-word-clause-asked
 returns-in-word-clause-asked c =
     let f = found_of c.in-Some.found.now in
-    let given = given_to word_form standing_word c.args.words.now c.args.matches.now c.in-Some.name.now f c.in-word.is c.requires.taken c.requires.found c.in-Some.ensures.name c.in-Some.ensures.rows in
+    let given = given_to c.args.reaches word_form (standing_word c.args.reaches) c.args.words.now c.args.matches.now c.in-Some.name.now f c.in-word.is c.requires.taken c.requires.found c.in-Some.ensures.name c.in-Some.ensures.rows in
     word_asked (map string_bytes c.args.words.now) f given c.text_of-in-word.result.now c.number_of.result c.is_large-in-word.result c.text_of-in-word.ensures c.number_of.ensures
     c.is_large-in-word.ensures
 
 pub trace_run-requires : goal.trace_run-requires
 trace_run-requires c =
     let f = found_of c.in-Some.found.now in
-    let given = given_to replay_form standing_replay c.args.words.now c.args.matches.now c.in-Some.name.now f c.in-replay.is c.requires.taken c.requires.found c.in-Some.ensures.name c.in-Some.ensures.rows in
+    let given = given_to c.args.reaches replay_form (standing_replay c.args.reaches) c.args.words.now c.args.matches.now c.in-Some.name.now f c.in-replay.is c.requires.taken c.requires.found c.in-Some.ensures.name c.in-Some.ensures.rows in
     run_found (map string_bytes c.args.words.now) f (codes "replay") given
 
 pub returns-in-replay-clause-asked : goal.returns-in-replay-clause-asked
 returns-in-replay-clause-asked c =
     let f = found_of c.in-Some.found.now in
-    let given = given_to replay_form standing_replay c.args.words.now c.args.matches.now c.in-Some.name.now f c.in-replay.is c.requires.taken c.requires.found c.in-Some.ensures.name c.in-Some.ensures.rows in
+    let given = given_to c.args.reaches replay_form (standing_replay c.args.reaches) c.args.words.now c.args.matches.now c.in-Some.name.now f c.in-replay.is c.requires.taken c.requires.found c.in-Some.ensures.name c.in-Some.ensures.rows in
     run_asked (map string_bytes c.args.words.now) f (codes "replay") given (run_of c.trace_run.result) c.trace_run.ensures.run
 
 pub returns-in-replay-clause-counts : goal.returns-in-replay-clause-counts
@@ -70,13 +70,13 @@ returns-in-replay-clause-counts c = c.trace_run.ensures.counts
 pub trace_run-requires-in-race : goal.trace_run-requires-in-race
 trace_run-requires-in-race c =
     let f = found_of c.in-Some.found.now in
-    let given = given_to race_form standing_race c.args.words.now c.args.matches.now c.in-Some.name.now f c.in-race.is c.requires.taken c.requires.found c.in-Some.ensures.name c.in-Some.ensures.rows in
+    let given = given_to c.args.reaches race_form (standing_race c.args.reaches) c.args.words.now c.args.matches.now c.in-Some.name.now f c.in-race.is c.requires.taken c.requires.found c.in-Some.ensures.name c.in-Some.ensures.rows in
     run_found (map string_bytes c.args.words.now) f (codes "race") given
 
 pub returns-in-race-clause-asked : goal.returns-in-race-clause-asked
 returns-in-race-clause-asked c =
     let f = found_of c.in-Some.found.now in
-    let given = given_to race_form standing_race c.args.words.now c.args.matches.now c.in-Some.name.now f c.in-race.is c.requires.taken c.requires.found c.in-Some.ensures.name c.in-Some.ensures.rows in
+    let given = given_to c.args.reaches race_form (standing_race c.args.reaches) c.args.words.now c.args.matches.now c.in-Some.name.now f c.in-race.is c.requires.taken c.requires.found c.in-Some.ensures.name c.in-Some.ensures.rows in
     run_asked (map string_bytes c.args.words.now) f (codes "race") given (run_of c.trace_run-in-race.result) c.trace_run-in-race.ensures.run
 
 pub returns-in-race-clause-counts : goal.returns-in-race-clause-counts
@@ -85,80 +85,100 @@ returns-in-race-clause-counts c = c.trace_run-in-race.ensures.counts
 pub text_of-requires-in-compact : goal.text_of-requires-in-compact
 text_of-requires-in-compact c =
     let f = found_of c.in-Some.found.now in
-    let given = given_to compact_form standing_compact c.args.words.now c.args.matches.now c.in-Some.name.now f c.in-compact.is c.requires.taken c.requires.found c.in-Some.ensures.name c.in-Some.ensures.rows in
+    let given = given_to c.args.reaches compact_form (standing_compact c.args.reaches) c.args.words.now c.args.matches.now c.in-Some.name.now f c.in-compact.is c.requires.taken c.requires.found c.in-Some.ensures.name c.in-Some.ensures.rows in
     argument_there (map string_bytes c.args.words.now) f compact_form given (text (codes "IMAGE")) refl
 
 pub text_of-requires-in-compact-2 : goal.text_of-requires-in-compact-2
 text_of-requires-in-compact-2 c =
     let f = found_of c.in-Some.found.now in
-    let given = given_to compact_form standing_compact c.args.words.now c.args.matches.now c.in-Some.name.now f c.in-compact.is c.requires.taken c.requires.found c.in-Some.ensures.name c.in-Some.ensures.rows in
+    let given = given_to c.args.reaches compact_form (standing_compact c.args.reaches) c.args.words.now c.args.matches.now c.in-Some.name.now f c.in-compact.is c.requires.taken c.requires.found c.in-Some.ensures.name c.in-Some.ensures.rows in
     argument_there (map string_bytes c.args.words.now) f compact_form given (text (codes "DUMP")) refl
 
 pub text_of-requires-in-audit : goal.text_of-requires-in-audit
 text_of-requires-in-audit c =
     let f = found_of c.in-Some.found.now in
-    let given = given_to audit_form standing_audit c.args.words.now c.args.matches.now c.in-Some.name.now f c.in-audit.is c.requires.taken c.requires.found c.in-Some.ensures.name c.in-Some.ensures.rows in
+    let given = given_to c.args.reaches audit_form (standing_audit c.args.reaches) c.args.words.now c.args.matches.now c.in-Some.name.now f c.in-audit.is c.requires.taken c.requires.found c.in-Some.ensures.name c.in-Some.ensures.rows in
     argument_there (map string_bytes c.args.words.now) f audit_form given (text (codes "IMAGE")) refl
 
 pub text_of-requires-in-audit-2 : goal.text_of-requires-in-audit-2
 text_of-requires-in-audit-2 c =
     let f = found_of c.in-Some.found.now in
-    let given = given_to audit_form standing_audit c.args.words.now c.args.matches.now c.in-Some.name.now f c.in-audit.is c.requires.taken c.requires.found c.in-Some.ensures.name c.in-Some.ensures.rows in
+    let given = given_to c.args.reaches audit_form (standing_audit c.args.reaches) c.args.words.now c.args.matches.now c.in-Some.name.now f c.in-audit.is c.requires.taken c.requires.found c.in-Some.ensures.name c.in-Some.ensures.rows in
     argument_there (map string_bytes c.args.words.now) f audit_form given (text (codes "DUMP")) refl
 
 pub count_of-requires : goal.count_of-requires
 count_of-requires c =
     let f = found_of c.in-Some.found.now in
-    let given = given_to compact_form standing_compact c.args.words.now c.args.matches.now c.in-Some.name.now f c.in-compact.is c.requires.taken c.requires.found c.in-Some.ensures.name c.in-Some.ensures.rows in
+    let given = given_to c.args.reaches compact_form (standing_compact c.args.reaches) c.args.words.now c.args.matches.now c.in-Some.name.now f c.in-compact.is c.requires.taken c.requires.found c.in-Some.ensures.name c.in-Some.ensures.rows in
     bounded_number 1 64 (one_text f (codes "workers")) (workers_fit (map string_bytes c.args.words.now) f given)
 
 pub overflow_cast-result : goal.overflow_cast-result
 overflow_cast-result c =
     let f = found_of c.in-Some.found.now in
-    let given = given_to compact_form standing_compact c.args.words.now c.args.matches.now c.in-Some.name.now f c.in-compact.is c.requires.taken c.requires.found c.in-Some.ensures.name c.in-Some.ensures.rows in
+    let given = given_to c.args.reaches compact_form (standing_compact c.args.reaches) c.args.words.now c.args.matches.now c.in-Some.name.now f c.in-compact.is c.requires.taken c.requires.found c.in-Some.ensures.name c.in-Some.ensures.rows in
     omega (arith, (workers_within (map string_bytes c.args.words.now) f given c.count_of.result c.count_of.ensures).1)
 
 pub returns-in-compact-clause-asked : goal.returns-in-compact-clause-asked
 returns-in-compact-clause-asked c =
     let f = found_of c.in-Some.found.now in
-    let given = given_to compact_form standing_compact c.args.words.now c.args.matches.now c.in-Some.name.now f c.in-compact.is c.requires.taken c.requires.found c.in-Some.ensures.name c.in-Some.ensures.rows in
+    let given = given_to c.args.reaches compact_form (standing_compact c.args.reaches) c.args.words.now c.args.matches.now c.in-Some.name.now f c.in-compact.is c.requires.taken c.requires.found c.in-Some.ensures.name c.in-Some.ensures.rows in
     compact_asked (map string_bytes c.args.words.now) f given c.text_of-in-compact.result.now c.text_of-in-compact-2.result.now c.count_of.result c.is_large-in-compact.result
     c.text_of-in-compact.ensures c.text_of-in-compact-2.ensures c.count_of.ensures c.is_large-in-compact.ensures
 
 pub returns-in-compact-clause-counts : goal.returns-in-compact-clause-counts
 returns-in-compact-clause-counts c =
     let f = found_of c.in-Some.found.now in
-    let given = given_to compact_form standing_compact c.args.words.now c.args.matches.now c.in-Some.name.now f c.in-compact.is c.requires.taken c.requires.found c.in-Some.ensures.name c.in-Some.ensures.rows in
+    let given = given_to c.args.reaches compact_form (standing_compact c.args.reaches) c.args.words.now c.args.matches.now c.in-Some.name.now f c.in-compact.is c.requires.taken c.requires.found c.in-Some.ensures.name c.in-Some.ensures.rows in
     workers_within (map string_bytes c.args.words.now) f given c.count_of.result c.count_of.ensures
 
 pub returns-in-audit-clause-asked : goal.returns-in-audit-clause-asked
 returns-in-audit-clause-asked c =
     let f = found_of c.in-Some.found.now in
-    let given = given_to audit_form standing_audit c.args.words.now c.args.matches.now c.in-Some.name.now f c.in-audit.is c.requires.taken c.requires.found c.in-Some.ensures.name c.in-Some.ensures.rows in
+    let given = given_to c.args.reaches audit_form (standing_audit c.args.reaches) c.args.words.now c.args.matches.now c.in-Some.name.now f c.in-audit.is c.requires.taken c.requires.found c.in-Some.ensures.name c.in-Some.ensures.rows in
     audit_asked (map string_bytes c.args.words.now) f given c.text_of-in-audit.result.now c.text_of-in-audit-2.result.now c.is_large-in-audit.result
     c.text_of-in-audit.ensures c.text_of-in-audit-2.ensures c.is_large-in-audit.ensures
 
 pub next_run-requires : goal.next_run-requires
 next_run-requires c =
     let f = found_of c.in-Some.found.now in
-    let given = given_to next_form standing_next c.args.words.now c.args.matches.now c.in-Some.name.now f c.in-next.is c.requires.taken c.requires.found c.in-Some.ensures.name c.in-Some.ensures.rows in
-    next_found (map string_bytes c.args.words.now) f given
+    let given = given_to c.args.reaches (next_form c.args.reaches) (standing_next c.args.reaches) c.args.words.now c.args.matches.now c.in-Some.name.now f c.in-next.is c.requires.taken c.requires.found c.in-Some.ensures.name c.in-Some.ensures.rows in
+    next_found c.args.reaches (map string_bytes c.args.words.now) c.requires.reaches f given
 
 pub returns-in-next-clause-asked : goal.returns-in-next-clause-asked
 returns-in-next-clause-asked c =
     let f = found_of c.in-Some.found.now in
-    let given = given_to next_form standing_next c.args.words.now c.args.matches.now c.in-Some.name.now f c.in-next.is c.requires.taken c.requires.found c.in-Some.ensures.name c.in-Some.ensures.rows in
-    next_asked (map string_bytes c.args.words.now) f given (next_of c.next_run.result) c.next_run.ensures.run
+    let given = given_to c.args.reaches (next_form c.args.reaches) (standing_next c.args.reaches) c.args.words.now c.args.matches.now c.in-Some.name.now f c.in-next.is c.requires.taken c.requires.found c.in-Some.ensures.name c.in-Some.ensures.rows in
+    next_asked c.args.reaches (map string_bytes c.args.words.now) c.requires.reaches f given (next_of c.next_run.result) c.next_run.ensures.run
 
 pub returns-in-next-clause-counts : goal.returns-in-next-clause-counts
 returns-in-next-clause-counts c = c.next_run.ensures.counts
+
+pub text_of-requires-in-mark : goal.text_of-requires-in-mark
+text_of-requires-in-mark c =
+    let f = found_of c.in-Some.found.now in
+    let given = given_to c.args.reaches mark_form (standing_mark c.args.reaches) c.args.words.now c.args.matches.now c.in-Some.name.now f c.in-mark.is c.requires.taken c.requires.found c.in-Some.ensures.name c.in-Some.ensures.rows in
+    argument_there (map string_bytes c.args.words.now) f mark_form given (text (codes "IMAGE")) refl
+
+pub text_of-requires-in-mark-2 : goal.text_of-requires-in-mark-2
+text_of-requires-in-mark-2 c =
+    let f = found_of c.in-Some.found.now in
+    let given = given_to c.args.reaches mark_form (standing_mark c.args.reaches) c.args.words.now c.args.matches.now c.in-Some.name.now f c.in-mark.is c.requires.taken c.requires.found c.in-Some.ensures.name c.in-Some.ensures.rows in
+    argument_there (map string_bytes c.args.words.now) f mark_form given (text (codes "NEW")) refl
+
+pub returns-in-mark-clause-asked : goal.returns-in-mark-clause-asked
+returns-in-mark-clause-asked c =
+    let f = found_of c.in-Some.found.now in
+    let given = given_to c.args.reaches mark_form (standing_mark c.args.reaches) c.args.words.now c.args.matches.now c.in-Some.name.now f c.in-mark.is c.requires.taken c.requires.found c.in-Some.ensures.name c.in-Some.ensures.rows in
+    mark_asked (map string_bytes c.args.words.now) f given c.text_of-in-mark.result.now c.text_of-in-mark-2.result.now c.is_large-in-mark.result
+    c.text_of-in-mark.ensures c.text_of-in-mark-2.ensures c.is_large-in-mark.ensures
 
 -- no command was entered, which cannot be
 pub unreachable-requires : goal.unreachable-requires
 unreachable-requires c =
     let words = map string_bytes c.args.words.now in
-    let found = none_entered c.args.matches.now (subcommand_of (program standing) words) c.requires.found c.in_default.ensures.name in
-    none_of_standing words None (texts_utf8 c.args.words.now) c.requires.taken found (λ rows e. cc) (λ rows e. cc) (λ rows e. cc) (λ rows e. cc) (λ rows e. cc) (λ rows e. cc) (λ rows e. cc)
+    let found = none_entered c.args.matches.now (subcommand_of (program (standing c.args.reaches)) words) c.requires.found c.in_default.ensures.name in
+    none_of_standing c.args.reaches words None (texts_utf8 c.args.words.now) c.requires.taken found (λ rows e. cc) (λ rows e. cc) (λ rows e. cc) (λ rows e. cc)
+    (λ rows e. cc) (λ rows e. cc) (λ rows e. cc) (λ rows e. cc)
 
 -- or one by another name
 pub unreachable-requires-in_default-name : goal.unreachable-requires-in_default-name
@@ -166,10 +186,10 @@ unreachable-requires-in_default-name c =
     let words = map string_bytes c.args.words.now in
     let name = c.in-Some.name.now in
     let mine = rows_of (found_of c.in-Some.found.now) in
-    let found = entered_as c.args.matches.now (subcommand_of (program standing) words) name mine c.requires.found c.in-Some.ensures.name c.in-Some.ensures.rows in
+    let found = entered_as c.args.matches.now (subcommand_of (program (standing c.args.reaches)) words) name mine c.requires.found c.in-Some.ensures.name c.in-Some.ensures.rows in
     let other = c.in_default-name in
-    none_of_standing words (Some (name, mine)) (texts_utf8 c.args.words.now) c.requires.taken found
+    none_of_standing c.args.reaches words (Some (name, mine)) (texts_utf8 c.args.words.now) c.requires.taken found
     (λ rows e. other.not-plan (same_name _ name _ mine rows refl e)) (λ rows e. other.not-word (same_name _ name _ mine rows refl e))
     (λ rows e. other.not-replay (same_name _ name _ mine rows refl e)) (λ rows e. other.not-race (same_name _ name _ mine rows refl e))
     (λ rows e. other.not-compact (same_name _ name _ mine rows refl e)) (λ rows e. other.not-audit (same_name _ name _ mine rows refl e))
-    (λ rows e. other.not-next (same_name _ name _ mine rows refl e))
+    (λ rows e. other.not-next (same_name _ name _ mine rows refl e)) (λ rows e. other.not-mark (same_name _ name _ mine rows refl e))

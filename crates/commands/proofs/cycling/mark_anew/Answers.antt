@@ -1,15 +1,25 @@
 use Rattle.heap_layout.specs.Heap.{Heap}
 use Rattle.std.proofs.Common.{subst}
 use Rattle.command_io.specs.declared.refusal.CommandRefusal.TheVariants.{Layout}
-use Rattle.commands.specs.Cycled.{IsUnmarked}
+use Rattle.comp_trace.specs.Markings.{marks_given}
+use Rattle.commands.specs.Cycled.{IsNextHeap, IsUnmarked}
 use Rattle.commands.proofs.CycledHeaps.{next_heap_of}
 use Rattle.commands.proofs.cycling.mark_anew.Goals as goal
 
 pub returns-in-Ok-clause-next : goal.returns-in-Ok-clause-next
 returns-in-Ok-clause-next g c =
     let made = c.in-Ok.ensures in
-    next_heap_of c.deref.result.now c.args.plan.value c.args.finished c.args.marks.items c.in-Ok.heap c.in_ok-new-in-Ok.field-0 c.deref.ensures c.in_ok-new-in-Ok.ensures made.cycle made.chapter made.next made.stored made.accepted
+    let given = marks_given c.args.marking in
+    let next : IsNextHeap c.deref.result.now c.args.finished given c.in-Ok.heap = record {
+      ended = record { cycle = made.cycle; marked = made.marked };
+      chapter = made.chapter;
+      keeps = made.keeps;
+      next_is = made.next;
+      stored = made.stored;
+      accepted = made.accepted;
+    } in
+    next_heap_of c.deref.result.now c.args.plan.value c.args.finished given c.in-Ok.heap c.in_ok-new-in-Ok.field-0 c.deref.ensures c.in_ok-new-in-Ok.ensures next
 
 pub returns-clause-refused : goal.returns-clause-refused
 returns-clause-refused g c =
-    subst (λ (heap : Heap). IsUnmarked heap c.args.finished c.args.marks.items (Layout c.in-Err.left.fault)) c.deref.ensures c.in-Err.ensures.refused
+    subst (λ (heap : Heap). IsUnmarked heap c.args.finished (marks_given c.args.marking) (Layout c.in-Err.left.fault)) c.deref.ensures c.in-Err.ensures.refused

@@ -1,12 +1,14 @@
 use Rattle.std.proofs.Common.{inl, inr}
 use Rattle.std.proofs.lemmas.Result.{err_from_is_err_and, IfErr-weaker}
 use Rattle.heap_layout.specs.Counted.{inner_of, failures_of}
+use Rattle.comp_trace.specs.Markings.{marks_given}
 use Rattle.comp_trace.specs.Traces.{lines_of}
+use Rattle.command_line.specs.Nexts.{marks_path}
 use Rattle.command_io.proofs.Outcomes.{unmade}
 use Rattle.commands.proofs.ReplayRuns.{inputs_uncounted, unprinted_halt}
 use Rattle.commands.specs.Nexts.{MakesNext, Nexts, RefusesNext, RefusesWriting}
 use Rattle.commands.proofs.CycledHeaps.{halted_cycle}
-use Rattle.commands.proofs.NextRuns.{err_then, made_err, made_ok, marks_uncounted, ok_then}
+use Rattle.commands.proofs.NextRuns.{err_then, made_err, made_ok, given_uncounted, ok_then}
 use Rattle.commands.proofs.next.print_next.Goals as goal
 
 -- There is no heap, or no trace for it.
@@ -31,27 +33,27 @@ returns-in_err-inputs-clause-unmade g c =
     let p = err_from_is_err_and c.from_residual.result c.from_residual.ensures.1 in
     rw (p.1, p.2) (unmade (g.F.Files.disk c.args.files.now) c.args.files.now _)
 
--- There are no marks.
-pub returns-in_err-marks-clause-cause : goal.returns-in_err-marks-clause-cause
-returns-in_err-marks-clause-cause g c =
-    let p = err_from_is_err_and c.from_residual-in_err-marks.result c.from_residual-in_err-marks.ensures.1 in
+-- There are no marks, but they are asked for.
+pub returns-in_err-marking-clause-cause : goal.returns-in_err-marking-clause-cause
+returns-in_err-marking-clause-cause g c =
+    let p = err_from_is_err_and c.from_residual-in_err-marking.result c.from_residual-in_err-marking.ensures.1 in
     let inputs = c.in_ok-inputs.inputs in
     let read = c.in_ok-inputs.ensures in
-    rw (p.1, p.2) (inr (inl (inputs.heap, read.heap, (lines_of inputs.trace, read.lines, c.in_err-marks.ensures.cause))))
+    rw (p.1, p.2) (inr (inl (inputs.heap, read.heap, (lines_of inputs.trace, read.lines, c.in_err-marking.ensures.cause))))
 
-pub returns-in_err-marks-clause-counts : goal.returns-in_err-marks-clause-counts
-returns-in_err-marks-clause-counts g c =
-    let p = err_from_is_err_and c.from_residual-in_err-marks.result c.from_residual-in_err-marks.ensures.1 in
-    rw (p.1, p.2) (marks_uncounted (g.F.Files.disk c.args.files.now) c.args.asked.marks.now (failures_of c.args.out.now) _ c.in_err-marks.ensures.cause)
+pub returns-in_err-marking-clause-counts : goal.returns-in_err-marking-clause-counts
+returns-in_err-marking-clause-counts g c =
+    let p = err_from_is_err_and c.from_residual-in_err-marking.result c.from_residual-in_err-marking.ensures.1 in
+    rw (p.1, p.2) (given_uncounted (g.F.Files.disk c.args.files.now) (marks_path c.args.asked.marks) (failures_of c.args.out.now) _ c.in_err-marking.ensures.cause)
 
-pub returns-in_err-marks-clause-unprinted : goal.returns-in_err-marks-clause-unprinted
-returns-in_err-marks-clause-unprinted g c =
-    let p = err_from_is_err_and c.from_residual-in_err-marks.result c.from_residual-in_err-marks.ensures.1 in
+pub returns-in_err-marking-clause-unprinted : goal.returns-in_err-marking-clause-unprinted
+returns-in_err-marking-clause-unprinted g c =
+    let p = err_from_is_err_and c.from_residual-in_err-marking.result c.from_residual-in_err-marking.ensures.1 in
     rw (p.1, p.2) (unprinted_halt (g.O.Write.contents (inner_of c.args.out.now).now) _)
 
-pub returns-in_err-marks-clause-unmade : goal.returns-in_err-marks-clause-unmade
-returns-in_err-marks-clause-unmade g c =
-    let p = err_from_is_err_and c.from_residual-in_err-marks.result c.from_residual-in_err-marks.ensures.1 in
+pub returns-in_err-marking-clause-unmade : goal.returns-in_err-marking-clause-unmade
+returns-in_err-marking-clause-unmade g c =
+    let p = err_from_is_err_and c.from_residual-in_err-marking.result c.from_residual-in_err-marking.ensures.1 in
     rw (p.1, p.2) (unmade (g.F.Files.disk c.args.files.now) c.args.files.now _)
 
 -- All files were read.
@@ -59,23 +61,23 @@ pub write_made-requires-clause-halted : goal.write_made-requires-clause-halted
 write_made-requires-clause-halted g c =
     let inputs = c.in_ok-inputs.inputs in
     IfErr-weaker c.cycle_heap-made.result _ _
-    (λ halted h. halted_cycle c.args.asked.mutators c.args.asked.fresh (lines_of inputs.trace) c.in_ok-marks.marks.items inputs.heap halted.shown.items halted.refusal h) c.cycle_heap-made.ensures.halted
+    (λ halted h. halted_cycle c.args.asked.mutators c.args.asked.fresh (lines_of inputs.trace) (marks_given c.in_ok-marking.marking) inputs.heap halted.shown.items halted.refusal h) c.cycle_heap-made.ensures.halted
 
 pub returns-clause-made : goal.returns-clause-made
 returns-clause-made g c =
     let asked = c.args.asked in
     let inputs = c.in_ok-inputs.inputs in
     let read = c.in_ok-inputs.ensures in
-    let marks = c.in_ok-marks.marks.items in
+    let given = marks_given c.in_ok-marking.marking in
     let disk = g.F.Files.disk c.args.files.now in
     let to = c.write_made.new.files in
     let before = g.O.Write.contents (inner_of c.args.out.now).now in
     let after = g.O.Write.contents (inner_of c.write_made.new.out).now in
-    ok_then (Nexts disk asked to before after (lines_of inputs.trace) marks inputs.heap)
+    ok_then (Nexts disk asked to before after (lines_of inputs.trace) given inputs.heap)
     (MakesNext disk asked to before after)
-    (λ h. (inputs.heap, read.heap, (lines_of inputs.trace, read.lines, (marks, c.in_ok-marks.ensures.marks, h))))
+    (λ h. (inputs.heap, read.heap, (lines_of inputs.trace, read.lines, (given, c.in_ok-marking.ensures.marks, h))))
     c.write_made.result
-    (made_ok disk asked c.args.files.now to before after (lines_of inputs.trace) marks inputs.heap c.cycle_heap-made.result c.cycle_heap-made.ensures.cycled
+    (made_ok disk asked c.args.files.now to before after (lines_of inputs.trace) given inputs.heap c.cycle_heap-made.result c.cycle_heap-made.ensures.cycled
     c.write_made.result c.write_made.ensures.done)
 
 pub returns-clause-cause : goal.returns-clause-cause
@@ -83,7 +85,7 @@ returns-clause-cause g c =
     let asked = c.args.asked in
     let inputs = c.in_ok-inputs.inputs in
     let read = c.in_ok-inputs.ensures in
-    let marks = c.in_ok-marks.marks.items in
+    let given = marks_given c.in_ok-marking.marking in
     let disk = g.F.Files.disk c.args.files.now in
     let to = c.write_made.new.files in
     let before = g.O.Write.contents (inner_of c.args.out.now).now in
@@ -97,9 +99,9 @@ returns-clause-cause g c =
         lines_of inputs.trace,
         read.lines,
         (
-          marks,
-          c.in_ok-marks.ensures.marks,
-          made_err disk asked c.args.files.now to before after (lines_of inputs.trace) marks inputs.heap c.cycle_heap-made.result
+          given,
+          c.in_ok-marking.ensures.marks,
+          made_err disk asked c.args.files.now to before after (lines_of inputs.trace) given inputs.heap c.cycle_heap-made.result
               c.cycle_heap-made.ensures.cycled c.cycle_heap-made.ensures.halted refusal h,
         ),
       ),

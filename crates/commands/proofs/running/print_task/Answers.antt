@@ -78,6 +78,14 @@ returns-in-Next-clause-counts g c = c.print_next.ensures.counts
 pub returns-in-Next-clause-same_writer : goal.returns-in-Next-clause-same_writer
 returns-in-Next-clause-same_writer g c = c.print_next.ensures.same_writer
 
+pub returns-in-Mark-clause-done : goal.returns-in-Mark-clause-done
+returns-in-Mark-clause-done g c =
+    subst (λ (task : Task). OnOk c.print_mark.result (DoesTask (g.F.Files.disk c.args.files.now) c.print_mark.new.files (g.O.Write.contents (inner_of c.args.out.now).now) (g.O.Write.contents (inner_of c.print_mark.new.out).now) task)) (sym c.in-Mark.is) c.print_mark.ensures.marked
+
+pub returns-in-Mark-clause-cause : goal.returns-in-Mark-clause-cause
+returns-in-Mark-clause-cause g c =
+    subst (λ (task : Task). IfErr c.print_mark.result (RefusesTask (g.F.Files.disk c.args.files.now) c.args.files.now c.print_mark.new.files (g.O.Write.contents (inner_of c.args.out.now).now) (g.O.Write.contents (inner_of c.print_mark.new.out).now) task)) (sym c.in-Mark.is) c.print_mark.ensures.cause
+
 pub returns-in-Help-clause-cause : goal.returns-in-Help-clause-cause
 returns-in-Help-clause-cause g c =
     subst (λ (task : Task). IfErr c.print_help.result (RefusesTask (g.F.Files.disk c.args.files.now) c.args.files.now c.args.files.now (g.O.Write.contents (inner_of c.args.out.now).now) (g.O.Write.contents (inner_of c.print_help.new.out).now) task)) (sym c.in-Help.is) (err_by _ c.print_help.result c.print_help.ensures.cause refl)
@@ -128,6 +136,12 @@ returns-in-Audit-clause-counts g c = c.print_audit.ensures.counts
 pub returns-in-Audit-clause-same_writer : goal.returns-in-Audit-clause-same_writer
 returns-in-Audit-clause-same_writer g c = c.print_audit.ensures.same_writer
 
+pub returns-in-Mark-clause-counts : goal.returns-in-Mark-clause-counts
+returns-in-Mark-clause-counts g c = c.print_mark.ensures.counts
+
+pub returns-in-Mark-clause-same_writer : goal.returns-in-Mark-clause-same_writer
+returns-in-Mark-clause-same_writer g c = c.print_mark.ensures.same_writer
+
 pub returns-in-Help-clause-counts : goal.returns-in-Help-clause-counts
 returns-in-Help-clause-counts g c = c.print_help.ensures.counts
 
@@ -151,6 +165,9 @@ returns-in-Compact-clause-uncreated g c = unmade_too (g.F.Files.disk c.args.file
 
 pub returns-in-Next-clause-uncreated : goal.returns-in-Next-clause-uncreated
 returns-in-Next-clause-uncreated g c = c.print_next.ensures.unmade
+
+pub returns-in-Mark-clause-uncreated : goal.returns-in-Mark-clause-uncreated
+returns-in-Mark-clause-uncreated g c = c.print_mark.ensures.unmade
 
 pub returns-in-Plan-clause-uncreated : goal.returns-in-Plan-clause-uncreated
 returns-in-Plan-clause-uncreated g c = unmade_anyway (g.F.Files.disk c.args.files.now) c.args.files.now c.print_plan.result

@@ -1,36 +1,39 @@
-use Rattle.std.proofs.Common.{List, ℕ, inr, refl, subst}
+use Rattle.std.proofs.Common.{inr, refl, subst}
 use Rattle.heap_layout.specs.Heap.{Heap}
 use Rattle.trace_text.specs.Traces.{lines_of}
-use Rattle.comp_cycles.specs.Finishes.{journals_of}
-use Rattle.comp_cycles.specs.Cycles.{heap_after}
-use Rattle.comp_cycles.specs.Ends.{cycle_of, setup_in, IsRefusedFor}
-use Rattle.comp_cycles.specs.NextHeap.{next_faults}
+use Rattle.trace_cycles.specs.Markings.{marks_given, IsUnmarkable}
 use Rattle.trace_cycles.specs.Stops.{IsNotNext}
-use Rattle.trace_cycles.proofs.Stopping.{not_next}
+use Rattle.trace_cycles.specs.CycleRuns.{IsNextRun}
+use Rattle.trace_cycles.proofs.Stopping.{next_run, not_next}
 use Rattle.trace_cycles.proofs.replaying.run_next.Goals as goal
 
 -- Over the next heap the trace was not run to its end.
-pub returns-in-Ok-next_cycle-clause-refused : goal.returns-in-Ok-next_cycle-clause-refused
-returns-in-Ok-next_cycle-clause-refused g c =
+pub returns-in-Ok-clause-refused : goal.returns-in-Ok-clause-refused
+returns-in-Ok-clause-refused g c =
     let f = c.args.finished in
+    let given = marks_given c.args.marking in
     let lines = lines_of c.args.trace.now in
     let not = c.not_run.result in
-    let next = c.in-Ok-next_cycle.ensures in
-    let copied = c.in-Ok.ensures.items_if_clones_equal (λ x y e. e) in
-    subst (λ (heap : Heap). IsNotNext c.args.mutators c.args.fresh heap f c.args.marks.now lines c.args.c not.shown not.fault) c.deref.ensures
-    (subst (λ (marks : List ℕ). IsNotNext c.args.mutators c.args.fresh c.deref.result.now f marks lines c.args.c not.shown not.fault) copied
-    (not_next c.args.mutators c.args.fresh c.deref.result.now c.in-Ok-next_cycle.heap f c.in-Ok.marks.items lines c.args.c next.cycle next.next
-    not.shown not.fault (c.not_run.ensures c.args.mutators c.args.fresh lines c.in-Ok-next_cycle.heap c.in-Err-run_cycle.ensures.halted)))
+    let next = c.in-Ok.ensures in
+    let now = c.deref.result.now in
+    subst (λ (heap : Heap). IsNotNext c.args.mutators c.args.fresh heap f given lines c.args.c not.shown not.fault) c.deref.ensures
+    (not_next c.args.mutators c.args.fresh now c.in-Ok.heap f given lines c.args.c (record { cycle = next.cycle; marked = next.marked }) next.next
+    not.shown not.fault (c.not_run.ensures c.args.mutators c.args.fresh lines c.in-Ok.heap c.in-Err-run_cycle.ensures.halted))
 
--- The marks were refused.
+-- The trace was run over the next heap.
+pub returns-in-Ok-run_cycle-clause-next : goal.returns-in-Ok-run_cycle-clause-next
+returns-in-Ok-run_cycle-clause-next g c =
+    let f = c.args.finished in
+    let given = marks_given c.args.marking in
+    let lines = lines_of c.args.trace.now in
+    let ran = c.in-Ok-run_cycle.ran in
+    let next = c.in-Ok.ensures in
+    let done = c.in-Ok-run_cycle.ensures in
+    subst (λ (heap : Heap). IsNextRun c.args.mutators c.args.fresh heap f given lines ran.plan.value ran.shown.items ran.finished) c.deref.ensures
+    (next_run c.args.mutators c.args.fresh c.deref.result.now c.in-Ok.heap ran.plan.value f ran.finished given lines ran.shown.items (record { cycle = next.cycle; marked = next.marked }) next.next done.plan done.run)
+
+-- The next heap was refused.
 pub returns-clause-refused : goal.returns-clause-refused
 returns-clause-refused g c =
-    let f = c.args.finished in
     let fault = c.in-Err.left.fault in
-    let copied = c.in-Ok.ensures.items_if_clones_equal (λ x y e. e) in
-    inr (inr (
-      fault,
-      refl,
-      subst (λ (heap : Heap). IsRefusedFor (next_faults (setup_in heap f) (journals_of f) (heap_after (cycle_of heap f c.args.marks.now))) fault) c.deref.ensures
-          (subst (λ (marks : List ℕ). IsRefusedFor (next_faults (setup_in c.deref.result.now f) (journals_of f) (heap_after (cycle_of c.deref.result.now f marks))) fault) copied c.in-Err.ensures.refused),
-    ))
+    inr (inr (fault, refl, subst (λ (heap : Heap). IsUnmarkable (marks_given c.args.marking) heap c.args.finished fault) c.deref.ensures c.in-Err.ensures.refused))

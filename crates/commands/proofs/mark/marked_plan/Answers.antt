@@ -1,0 +1,23 @@
+use Rattle.std.proofs.Common.{inl, inr}
+use Rattle.std.proofs.lemmas.Result.{err_from_is_err_and, IfErr-weaker, IfOk-weaker}
+use Rattle.heap_layout.specs.ImageParts.{heap_in}
+use Rattle.command_io.proofs.Imaged.{at_parts}
+use Rattle.commands.specs.Marking.{IsMarkedHeap, IsUnmarkable}
+use Rattle.commands.proofs.mark.marked_plan.Goals as goal
+
+pub returns-in_err-parts-clause-cause : goal.returns-in_err-parts-clause-cause
+returns-in_err-parts-clause-cause g c =
+    let p = err_from_is_err_and c.from_residual.result c.from_residual.ensures.1 in
+    rw (p.1, p.2) (inl c.in_err-parts.ensures.cause)
+
+pub returns-clause-marked : goal.returns-clause-marked
+returns-clause-marked g c =
+    IfOk-weaker c.plan_by_roots.result _ _
+    (λ plan is. at_parts (g.F.Files.disk c.args.files.now) c.args.large c.args.path.now (heap_in c.in_ok-parts.parts) (λ parts. IsMarkedHeap parts plan) c.in_ok-parts.ensures.parts is)
+    c.plan_by_roots.ensures.marked
+
+pub returns-clause-cause : goal.returns-clause-cause
+returns-clause-cause g c =
+    IfErr-weaker c.plan_by_roots.result _ _
+    (λ refusal h. inr (at_parts (g.F.Files.disk c.args.files.now) c.args.large c.args.path.now (heap_in c.in_ok-parts.parts) (λ parts. IsUnmarkable parts refusal) c.in_ok-parts.ensures.parts h))
+    c.plan_by_roots.ensures.cause

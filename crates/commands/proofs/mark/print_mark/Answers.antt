@@ -1,0 +1,40 @@
+use Rattle.std.proofs.Common.{inl, refl}
+use Rattle.std.proofs.lemmas.Result.{err_from_is_err_and}
+use Rattle.heap_layout.specs.Counted.{inner_of, failures_of}
+use Rattle.command_io.proofs.Outcomes.{unmade, unprinted}
+use Rattle.commands.proofs.MarkRuns.{made_mark, refused_mark, uncounted_marking}
+use Rattle.commands.proofs.mark.print_mark.Goals as goal
+
+-- There is no marked heap.
+pub returns-in_err-plan-clause-cause : goal.returns-in_err-plan-clause-cause
+returns-in_err-plan-clause-cause g c =
+    let p = err_from_is_err_and c.from_residual.result c.from_residual.ensures.1 in
+    rw (p.1, p.2) (inl (refl, c.in_err-plan.ensures.cause))
+
+pub returns-in_err-plan-clause-counts : goal.returns-in_err-plan-clause-counts
+returns-in_err-plan-clause-counts g c =
+    let p = err_from_is_err_and c.from_residual.result c.from_residual.ensures.1 in
+    rw (p.1, p.2) (uncounted_marking (g.F.Files.disk c.args.files.now) c.args.large c.args.image.now (failures_of c.args.out.now) _ c.in_err-plan.ensures.cause)
+
+pub returns-in_err-plan-clause-unprinted : goal.returns-in_err-plan-clause-unprinted
+returns-in_err-plan-clause-unprinted g c =
+    let p = err_from_is_err_and c.from_residual.result c.from_residual.ensures.1 in
+    rw (p.1, p.2) (unprinted (g.O.Write.contents (inner_of c.args.out.now).now) _)
+
+pub returns-in_err-plan-clause-unmade : goal.returns-in_err-plan-clause-unmade
+returns-in_err-plan-clause-unmade g c =
+    let p = err_from_is_err_and c.from_residual.result c.from_residual.ensures.1 in
+    rw (p.1, p.2) (unmade (g.F.Files.disk c.args.files.now) c.args.files.now _)
+
+-- There is one.
+pub returns-clause-marked : goal.returns-clause-marked
+returns-clause-marked g c =
+    made_mark (g.F.Files.disk c.args.files.now) c.args.large c.args.image.now c.args.new.now c.write_marked.new.files
+    (g.O.Write.contents (inner_of c.args.out.now).now) (g.O.Write.contents (inner_of c.write_marked.new.out).now)
+    c.in_ok-plan.plan c.in_ok-plan.ensures.marked c.write_marked.result c.write_marked.ensures.written c.write_marked.ensures.printed
+
+pub returns-clause-cause : goal.returns-clause-cause
+returns-clause-cause g c =
+    refused_mark (g.F.Files.disk c.args.files.now) c.args.large c.args.image.now c.args.new.now c.write_marked.new.files
+    (g.O.Write.contents (inner_of c.args.out.now).now) (g.O.Write.contents (inner_of c.write_marked.new.out).now)
+    c.in_ok-plan.plan c.in_ok-plan.ensures.marked c.write_marked.result c.args.files.now c.write_marked.ensures.cause
