@@ -2,7 +2,7 @@
 use crate::places::{Memory, Place};
 use call_refusals::Refusal;
 use command_io::{CommandRefusal, Input, Output};
-use command_line::NextRun;
+use command_line::{NextMarks, NextRun};
 use commands::print_next;
 use comp_trace::TraceFault;
 use heap_layout::{Counted, LayoutFault};
@@ -52,7 +52,7 @@ fn write_next(
     let asked = NextRun {
         image: "three.img",
         trace: row.trace,
-        marks: row.marks,
+        marks: NextMarks::Given(row.marks),
         new: row.path,
         mutators: 1,
         fresh: 2,

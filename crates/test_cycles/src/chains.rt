@@ -6,6 +6,7 @@ use comp_cycles::NotCycled;
 use comp_trace::{Ran, parse, run_cycle};
 use heap_layout::{MarkedHeap, PageWords};
 use page_plan::Plan;
+use reachable_cycles::{next_reachable, next_reachable_with};
 use std::alloc::Global;
 use std::process::Abort;
 use std::thread::Threads;
@@ -55,6 +56,26 @@ pub fn follow(rt: &impl Abort, alloc: Global, ran: Ran, marks: &[u32]) -> Marked
     requires { IsEndOf ran.plan.value ran.finished }
 {
     match followed(rt, alloc, ran, marks) {
+        Ok(heap) => heap,
+        Err(_left) => rt.panic("a heap that follows"),
+    }
+}
+
+/// The next heap, marked by what its roots reach.
+pub fn follow_reachable(rt: &impl Abort, alloc: Global, ran: Ran) -> MarkedHeap
+    requires { IsEndOf ran.plan.value ran.finished }
+{
+    match next_reachable(ran.finished, alloc, &*ran.plan) {
+        Ok(heap) => heap,
+        Err(_left) => rt.panic("a heap that follows"),
+    }
+}
+
+/// The next heap with these roots, to-space addresses, marked by what they reach.
+pub fn follow_from(rt: &impl Abort, alloc: Global, ran: Ran, roots: &[u64]) -> MarkedHeap
+    requires { IsEndOf ran.plan.value ran.finished }
+{
+    match next_reachable_with(ran.finished, alloc, &*ran.plan, roots) {
         Ok(heap) => heap,
         Err(_left) => rt.panic("a heap that follows"),
     }

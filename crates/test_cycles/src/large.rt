@@ -26,8 +26,8 @@ fn long_parts(alloc: Global) -> Result<(Vec<u64>, Vec<u32>), AllocError> {
     Ok((words, marks))
 }
 
-// The heap of these objects. They fill 12,304 pages.
-fn long_objects(alloc: Global) -> Option<MarkedHeap> {
+/// The heap of these objects. They fill 12,304 pages.
+pub fn long_objects(alloc: Global) -> Option<MarkedHeap> {
     let (words, marks) = long_parts(alloc).ok()?;
     heap(alloc, &words, &marks, &[])
 }

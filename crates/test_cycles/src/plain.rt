@@ -181,6 +181,17 @@ impl Life {
         self.marks(alloc)
     }
 
+    /// The number of words of the objects that are kept.
+    pub fn kept_words(&self) -> u64 {
+        let mut words = 0u64;
+        for object in &self.objects {
+            if object.kept {
+                words = words.wrapping_add(u64::from(object.header.size()));
+            }
+        }
+        words
+    }
+
     fn marks(&self, alloc: Global) -> Result<Vec<u32>, AllocError> {
         let mut marks = Vec::new(alloc);
         let mut from = 0;

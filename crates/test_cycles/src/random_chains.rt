@@ -1,10 +1,13 @@
 //! Pseudorandom chains of ten cycles of two mutators, in each edition. Each cycle shows what the plain model shows,
 //! whose objects never move, and the next heap has the words of the model. All cycles of a chain by one call show the
 //! same.
-use crate::chains::{follow, ran};
+ghost use Rattle.comp_cycles.specs.Ends.{IsEndOf};
+
+use crate::chains::{follow_reachable, ran};
 use crate::images::image;
 use crate::one_call::{Past, expect_past, expect_values};
 use crate::plain::{Field, Life, Plain};
+use comp_trace::Ran;
 use heap_layout::{Edition, Header, MarkedHeap};
 use std::alloc::{AllocError, Global};
 use std::process::Abort;
@@ -27,11 +30,11 @@ pub const MUTATORS: u8 = 2;
 /// The number of fresh pages of each cycle: two of the first mutator, one of the second.
 pub const FRESH: u32 = 3;
 
-// The objects, the registers of both mutators, the mutator of the drawn line, the values that the lines of the cycle
-// show, their text, the marks with which the cycle began, and the cycles before it.
+/// The objects, the registers of both mutators, the mutator of the drawn line, the values that the lines of the cycle
+/// show, their text, the marks with which the cycle began, and the cycles before it.
 #[derive(Drop)]
-struct Chain {
-    life: Life,
+pub struct Chain {
+    pub life: Life,
     registers: [[u64; 16]; 2],
     mutator: u8,
     shown: Vec<u64>,
@@ -80,8 +83,8 @@ fn opening(alloc: Global, edition: Edition) -> Result<Life, AllocError> {
     })
 }
 
-// The heap of these two objects.
-fn opening_heap(rt: &impl Abort, alloc: Global, edition: Edition) -> MarkedHeap {
+/// The heap of the two objects with which a chain begins.
+pub fn opening_heap(rt: &impl Abort, alloc: Global, edition: Edition) -> MarkedHeap {
     let first = header(edition, 2, 1, 1, 1).word();
     let second = header(edition, 1, 1, 1, 2).word();
     let heap = match edition {
@@ -98,6 +101,19 @@ fn opening_heap(rt: &impl Abort, alloc: Global, edition: Edition) -> MarkedHeap 
 }
 
 impl Chain {
+    /// A chain that begins with two objects.
+    pub fn new(alloc: Global, edition: Edition) -> Result<Chain, AllocError> {
+        Ok(Chain {
+            life: opening(alloc, edition)?,
+            registers: [[0; 16]; 2],
+            mutator: 0,
+            shown: Vec::new(alloc),
+            text: String::new(alloc),
+            marks: Vec::new(alloc),
+            past: Vec::new(alloc),
+        })
+    }
+
     fn held(&self, register: u8) -> u64 {
         match self.registers.get(usize::from(self.mutator)) {
             Some(own) => own.get(usize::from(register)).copied().unwrap_or(0),
@@ -249,6 +265,30 @@ impl Chain {
         Ok(())
     }
 
+    /// Runs the lines of a cycle over this heap, which show what the plain model shows.
+    pub fn run(
+        &mut self,
+        rt: &(impl Abort + Threads + Sync),
+        alloc: Global,
+        heap: MarkedHeap,
+        random: &mut Random,
+        name: &str,
+    ) -> Ran
+        ensures { IsEndOf result.plan.value result.finished }
+    {
+        self.begin(alloc, random).expect(rt, "lines");
+        let left = ran(rt, alloc, heap, self.text.as_bytes(), MUTATORS, FRESH);
+        expect_values(rt, &left.shown, &self.shown, name);
+        left
+    }
+
+    /// The number of the object that a register of the mutator holds, drawn anew, or 0.
+    pub fn drawn_register(&mut self, random: &mut Random) -> u64 {
+        self.mutator = (random.below(u64::from(MUTATORS)) % 2) as u8;
+        let register = self.register(random);
+        self.held(register)
+    }
+
     // A cycle over this heap. Answers the next heap.
     fn cycle(
         &mut self,
@@ -258,11 +298,10 @@ impl Chain {
         random: &mut Random,
         name: &str,
     ) -> MarkedHeap {
-        self.begin(alloc, random).expect(rt, "lines");
-        let left = ran(rt, alloc, heap, self.text.as_bytes(), MUTATORS, FRESH);
-        expect_values(rt, &left.shown, &self.shown, name);
+        let left = self.run(rt, alloc, heap, random, name);
         let marks = self.life.mark(alloc).expect(rt, "marks");
-        let next = follow(rt, alloc, left, &marks);
+        let next = follow_reachable(rt, alloc, left);
+        assert_eq!(rt; next.marks(), marks.as_slice(), "{name}");
         self.end(alloc, marks).expect(rt, "memory for the past");
         self.life.expect_heap(rt, &next, name);
         self.life.drop_others();
@@ -275,15 +314,7 @@ impl Chain {
 fn run_chain(rt: &(impl Abort + Threads + Sync), alloc: Global, edition: Edition, seed: u64) {
     let name = format!(in alloc; "seed {seed}").expect(rt, "a name");
     let mut random = Random { state: seed };
-    let mut chain = Chain {
-        life: opening(alloc, edition).expect(rt, "two objects"),
-        registers: [[0; 16]; 2],
-        mutator: 0,
-        shown: Vec::new(alloc),
-        text: String::new(alloc),
-        marks: Vec::new(alloc),
-        past: Vec::new(alloc),
-    };
+    let mut chain = Chain::new(alloc, edition).expect(rt, "two objects");
     let mut heap = opening_heap(rt, alloc, edition);
     for _ in 0..CYCLES {
         heap = chain.cycle(rt, alloc, heap, &mut random, &name);

@@ -9,9 +9,11 @@ use std::process::Abort;
 use std::thread::Threads;
 use test_support::{At, F, T, WEAK, heap_of};
 
-static EDITIONS: [Edition; 2] = [Edition::Two, Edition::Three];
+/// The editions whose objects may have weak words.
+pub static EDITIONS: [Edition; 2] = [Edition::Two, Edition::Three];
 
-fn weak_heap(rt: &impl Abort, alloc: Global, edition: Edition, root: u64) -> MarkedHeap {
+/// The heap with weak words, with this root.
+pub fn weak_heap(rt: &impl Abort, alloc: Global, edition: Edition, root: u64) -> MarkedHeap {
     heap_of(alloc, edition, &WEAK, &[0, 5], &[root]).expect(rt, "a heap")
 }
 
@@ -76,8 +78,8 @@ fn weak_words_for_dropped_objects_become_null(rt: HostRuntime) {
     }
 }
 
-// A line stores a weak word for a new object, which is then marked.
-const STORED: &[u8] =
+/// A line stores a weak word for a new object.
+pub const STORED: &[u8] =
     b"0 root 0 0\n0 wnew 1 0 1 1 3\n0 put 1 0 5\n0 wstore 0 0 1\n0 wstore 1 0 0\n0 wload 2 0 0\n0 get 2 0\n";
 
 fn expect_new(rt: &(impl Abort + Threads + Sync), alloc: Global, edition: Edition) {

@@ -41,8 +41,9 @@ fn reckoned(rule: &Rule, at: usize, found: Report) -> Report {
 
 /// What is known of a dump: its bytes are those of this one with these changes, it is read with those of edition three
 /// or not, and the rules for each byte, of which the first counts.
+#[derive(Clone, Copy)]
 pub struct Known<'a> {
-    pub dump: Whole,
+    pub dump: &'a Whole,
     pub changes: &'a [Change],
     pub large: bool,
     pub length: usize,
@@ -104,7 +105,7 @@ fn expect_each(rt: &impl Abort, alloc: Global, plan: &Plan, known: &Known<'_>, b
 /// Checks that the dump has its number of bytes, that each change of a byte is reported as the first rule for it says,
 /// and that the dump is lawful with all bytes right again.
 pub fn expect_bytes(rt: &impl Abort, alloc: Global, plan: &Plan, known: &Known<'_>) {
-    let mut bytes = changed(rt, alloc, &known.dump, known.changes);
+    let mut bytes = changed(rt, alloc, known.dump, known.changes);
     expect_eq(rt, At::new("bytes", 0), bytes.len(), known.length);
     expect_each(rt, alloc, plan, known, &mut bytes);
     let found = report(alloc, plan, known.large, &bytes);

@@ -80,7 +80,7 @@ fn no_changed_byte_of_edition_two_leaves_a_lawful_dump(rt: HostRuntime) {
     let alloc = rt.alloc();
     let plan = plan_of(&rt, alloc, Worked::Weak).expect(&rt, "a plan");
     let known = Known {
-        dump: Whole::WeakLinked,
+        dump: &Whole::WeakLinked,
         changes: &[],
         large: false,
         length: 1_147,
@@ -102,7 +102,7 @@ fn no_changed_byte_of_edition_three_leaves_a_lawful_dump(rt: HostRuntime) {
     let alloc = rt.alloc();
     let plan = plan_of(&rt, alloc, Worked::Mixed).expect(&rt, "a plan");
     let known = Known {
-        dump: Whole::WeakLinked,
+        dump: &Whole::WeakLinked,
         changes: &[Change(VERSION, 4, 4, 3)],
         large: true,
         length: 1_147,

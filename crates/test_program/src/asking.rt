@@ -55,7 +55,7 @@ fn expect_rows(rt: &(impl Abort + AllocGlobal), rows: &[Row]) {
 }
 
 // Lines and the tasks that they ask for.
-static TASKS: [Row; 32] = [
+static TASKS: [Row; 39] = [
     (
         "plan three.img",
         "Plan { image: \"three.img\", large: false }",
@@ -139,15 +139,15 @@ static TASKS: [Row; 32] = [
     ),
     (
         "next three.img t18 m new",
-        "Next(NextRun { image: \"three.img\", trace: \"t18\", marks: \"m\", new: \"new\", mutators: 2, fresh: 64, large: false })",
+        "Next(NextRun { image: \"three.img\", trace: \"t18\", marks: Given(\"m\"), new: \"new\", mutators: 2, fresh: 64, large: false })",
     ),
     (
         "next --mutators 1 --fresh=2 three.img t18 m new",
-        "Next(NextRun { image: \"three.img\", trace: \"t18\", marks: \"m\", new: \"new\", mutators: 1, fresh: 2, large: false })",
+        "Next(NextRun { image: \"three.img\", trace: \"t18\", marks: Given(\"m\"), new: \"new\", mutators: 1, fresh: 2, large: false })",
     ),
     (
         "next a --mutators=64 t -- -m --fresh",
-        "Next(NextRun { image: \"a\", trace: \"t\", marks: \"-m\", new: \"--fresh\", mutators: 64, fresh: 64, large: false })",
+        "Next(NextRun { image: \"a\", trace: \"t\", marks: Given(\"-m\"), new: \"--fresh\", mutators: 64, fresh: 64, large: false })",
     ),
     (
         "plan --large three.img",
@@ -178,8 +178,36 @@ static TASKS: [Row; 32] = [
         "Audit { image: \"a\", dump: \"b\", large: true }",
     ),
     (
+        "mark three.img new.img",
+        "Mark { image: \"three.img\", new: \"new.img\", large: false }",
+    ),
+    (
+        "mark a --large b",
+        "Mark { image: \"a\", new: \"b\", large: true }",
+    ),
+    (
+        "mark a -- --large",
+        "Mark { image: \"a\", new: \"--large\", large: false }",
+    ),
+    (
+        "mark -- mark --",
+        "Mark { image: \"mark\", new: \"--\", large: false }",
+    ),
+    (
         "next --large a t m n",
-        "Next(NextRun { image: \"a\", trace: \"t\", marks: \"m\", new: \"n\", mutators: 2, fresh: 64, large: true })",
+        "Next(NextRun { image: \"a\", trace: \"t\", marks: Given(\"m\"), new: \"n\", mutators: 2, fresh: 64, large: true })",
+    ),
+    (
+        "next --reachable three.img t18 new",
+        "Next(NextRun { image: \"three.img\", trace: \"t18\", marks: Reachable, new: \"new\", mutators: 2, fresh: 64, large: false })",
+    ),
+    (
+        "next --large a t --fresh 2 n --reachable --",
+        "Next(NextRun { image: \"a\", trace: \"t\", marks: Reachable, new: \"n\", mutators: 2, fresh: 2, large: true })",
+    ),
+    (
+        "next a -- t --reachable n",
+        "Next(NextRun { image: \"a\", trace: \"t\", marks: Given(\"--reachable\"), new: \"n\", mutators: 2, fresh: 64, large: false })",
     ),
 ];
 
@@ -189,7 +217,7 @@ fn words_ask_for_these_tasks(rt: HostRuntime) {
 }
 
 // Lines that ask for help.
-static HELPS: [&str; 15] = [
+static HELPS: [&str; 18] = [
     "--help",
     "-h",
     "-hx",
@@ -205,6 +233,9 @@ static HELPS: [&str; 15] = [
     "compact --workers 2 a -h",
     "help audit",
     "audit a --help",
+    "help mark",
+    "mark a -h",
+    "next --reachable --help",
 ];
 
 #[test]
@@ -227,7 +258,7 @@ fn version_is_printed_for_these_words(rt: HostRuntime) {
 }
 
 // Lines that are no command.
-static NO_COMMANDS: [&str; 58] = [
+static NO_COMMANDS: [&str; 73] = [
     "plan --large",
     "plan --large --large a",
     "audit --large=1 a b",
@@ -284,8 +315,23 @@ static NO_COMMANDS: [&str; 58] = [
     "audit --workers 2 a b",
     "audit a b --fresh 2",
     "audit a -b",
+    "mark",
+    "mark a",
+    "mark a b c",
+    "mark --large --large a b",
+    "mark a b --mutators 1",
+    "mark a -b",
     "plan --workers 2 three.img",
     "--workers 2 compact a b",
+    "next a t n",
+    "next --reachable a t",
+    "next --reachable a t m n",
+    "next --reachable -- a t m n",
+    "next --reachable=1 a t n",
+    "next --reachable --reachable a t n",
+    "next -- --reachable a t",
+    "plan --reachable a",
+    "--reachable next a t n",
 ];
 
 #[test]

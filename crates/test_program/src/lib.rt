@@ -13,11 +13,15 @@ mod large;
 #[cfg(test)]
 mod launching;
 #[cfg(test)]
+mod marking;
+#[cfg(test)]
 mod printing;
 #[cfg(test)]
 mod programs;
 #[cfg(test)]
 mod racing;
+#[cfg(test)]
+mod reaching;
 #[cfg(test)]
 mod replaying;
 #[cfg(test)]

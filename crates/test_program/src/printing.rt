@@ -57,7 +57,7 @@ fn expect_cut_off<R: Files + AllocGlobal + Threads + Wait + Sync>(
 }
 
 /// Lines, and the least number of bytes that they print.
-pub const LINES: [(&str, usize); 10] = [
+pub const LINES: [(&str, usize); 11] = [
     ("word print.tests.img 2", 12),
     ("plan print.tests.img", 48),
     (
@@ -75,6 +75,7 @@ pub const LINES: [(&str, usize); 10] = [
         "next --fresh 0 print.tests.img print.tests.lines print.tests.marks print.tests.new",
         7,
     ),
+    ("mark print.tests.img print.tests.marked", 7),
     ("--help", 1),
     ("--version", 17),
 ];
@@ -99,15 +100,17 @@ pub const WRITTEN: &[Step] = &[
     Step::Write("print.tests.dump", Content::FreshDump),
 ];
 
-/// The last dump and the last image that the lines wrote are whole. Then the files are removed.
+/// The last dump and the last images that the lines wrote are whole. Then the files are removed.
 pub const REMOVED: &[Step] = &[
     Step::Length("print.tests.out", 573),
     Step::Length("print.tests.new", 552),
+    Step::Holds("print.tests.marked", Content::ThreeImage),
     Step::Remove("print.tests.img"),
     Step::Remove("print.tests.trace"),
     Step::Remove("print.tests.lines"),
     Step::Remove("print.tests.marks"),
     Step::Remove("print.tests.new"),
+    Step::Remove("print.tests.marked"),
     Step::Remove("print.tests.dump"),
     Step::Remove("print.tests.out"),
 ];

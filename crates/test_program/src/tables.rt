@@ -1,7 +1,7 @@
 //! The tables of all runs. One test runs all of them, since that costs its proof less than a test for each.
 use crate::printing::{LINES, REMOVED, WRITTEN, expect_lines};
 use crate::runs::take_steps;
-use crate::{cycling, judging, large, programs, racing, replaying, weak};
+use crate::{cycling, judging, large, marking, programs, racing, reaching, replaying, weak};
 use std::rt::Files;
 use std::sync::Wait;
 use std::test::Fail;
@@ -10,7 +10,7 @@ use test_support::Step;
 
 // All tables. The last one writes the files that `LINES` read. As a constant they would cost the proof of the test five
 // times as much.
-fn tables() -> [&'static [Step]; 19] {
+fn tables() -> [&'static [Step]; 24] {
     [
         programs::STEPS,
         judging::PASSED,
@@ -26,6 +26,11 @@ fn tables() -> [&'static [Step]; 19] {
         cycling::CYCLED,
         cycling::UNMARKED,
         cycling::ORDERED,
+        marking::MARKED,
+        marking::EDITIONS,
+        marking::REFUSED,
+        reaching::REACHED,
+        reaching::REFUSED,
         weak::RUN,
         weak::REFUSED,
         large::RUN,

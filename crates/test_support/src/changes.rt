@@ -1,5 +1,5 @@
-//! Changes of files, and the positions of fields in the dump after the run that makes a new object and in the files
-//! with weak words.
+//! Changes of files, and the positions of fields in the dump after the run that makes a new object, in the files with
+//! weak words, and in the image with three marks.
 use std::alloc::AllocError;
 
 /// A change of a file.
@@ -60,6 +60,24 @@ pub const WEAK_WORD: usize = 32;
 
 /// The position of that weak word in a dump of them. The entry of page 0 is at the position of the reference's entry.
 pub const SLID_WEAK_WORD: usize = 45;
+
+/// The position of the data count in the header of the second object, in the image of the three objects.
+pub const SECOND_DATA_COUNT: usize = 42;
+
+/// The position of the reference of the second object in that image.
+pub const SECOND_REFERENCE: usize = 48;
+
+/// The position of the header of the last object in that image.
+pub const LAST_HEADER: usize = 64;
+
+/// The position of the reference of the last object in that image.
+pub const LAST_REFERENCE: usize = 72;
+
+/// The position of the first mark in the image with three marks. The second one follows.
+pub const FIRST_MARK: usize = 80;
+
+/// The position of the root in the image with three marks.
+pub const MARKED_ROOT: usize = 92;
 
 // The position of the lists of builds.
 const BUILDS: usize = 1_109;

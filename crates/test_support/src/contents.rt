@@ -2,8 +2,8 @@
 //! it.
 use crate::changes::{Change, VERSION, WEAK_WORD, make_change};
 use crate::images::{
-    BAD_ROOT_IMAGE, EMPTY_IMAGE, FRESH_DUMP, THREE_IMAGE, TWENTY_IMAGE, WEAK_DUMP, WEAK_IMAGE,
-    WEAK_SWEPT_DUMP,
+    BAD_ROOT_IMAGE, EMPTY_IMAGE, FRESH_DUMP, MARKED_IMAGE, THREE_IMAGE, TWENTY_IMAGE, WEAK_DUMP,
+    WEAK_IMAGE, WEAK_SWEPT_DUMP,
 };
 use crate::parts::{Part, bytes_of};
 use std::alloc::{AllocError, Global};
@@ -26,6 +26,8 @@ pub enum Content {
     ThreeImage,
     /// The same image with a root that refers to no object.
     BadRootImage,
+    /// The image of the three objects with all three marked, and two changes.
+    ForgedImage(Change, Change),
     /// The image of two objects of 640 words, which fill twenty pages.
     TwentyImage,
     /// The image of the three objects of edition two. The first object has two weak words.
@@ -66,6 +68,7 @@ pub fn bytes_in(alloc: Global, content: Content) -> Result<Vec<u8>, AllocError> 
         Content::EmptyImage => bytes_of(alloc, &EMPTY_IMAGE),
         Content::ThreeImage => bytes_of(alloc, &THREE_IMAGE),
         Content::BadRootImage => bytes_of(alloc, &BAD_ROOT_IMAGE),
+        Content::ForgedImage(first, second) => changed(alloc, &MARKED_IMAGE, first, second),
         Content::TwentyImage => bytes_of(alloc, &TWENTY_IMAGE),
         Content::WeakImage => bytes_of(alloc, &WEAK_IMAGE),
         Content::BadWeakImage(word) => {

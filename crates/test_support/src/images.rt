@@ -123,6 +123,15 @@ pub const WEAK_DUMP: [Part; 20] = [
     Part::Words(&[8]),
 ];
 
+/// The image of the three objects, all three marked. The root refers to the last, and that one to the first.
+pub const MARKED_IMAGE: [Part; 5] = [
+    Part::Bytes(b"COMPHEAP"),
+    Part::Numbers(&[1, 7, 3, 1]),
+    THREE_OBJECTS,
+    Part::Numbers(&[0, 2, 5]),
+    Part::Words(&[4_294_967_301]),
+];
+
 /// The image of the three objects with a root that refers to none of them.
 pub const BAD_ROOT_IMAGE: [Part; 5] = [
     Part::Bytes(b"COMPHEAP"),

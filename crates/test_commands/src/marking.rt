@@ -1,0 +1,181 @@
+//! Markings on files in memory: the new image and the printed line, also with writers that fail.
+use crate::places::{Memory, Place};
+use command_io::{CommandRefusal, Input, Output};
+use commands::print_mark;
+use heap_layout::{Counted, LayoutFault};
+use std::process::Abort;
+use std::thread::Threads;
+use test_support::{Content, Failure, Narrow, bytes_in};
+
+// A marking on files in memory and its expected result.
+#[derive(Clone, Copy)]
+struct Row {
+    name: &'static str,
+    image: &'static str,
+    // The path of the new image. Only `out` exists.
+    path: &'static str,
+    // The number of bytes that the writer of the image takes, and how it fails then.
+    room: usize,
+    failure: Failure,
+    // The number of bytes that can be printed.
+    printable: usize,
+    answer: Result<(), CommandRefusal>,
+    // Whether an image was created, and the number of its bytes left.
+    created: bool,
+    left: usize,
+}
+
+// What is printed of the three objects.
+const LINE: &str = "live 4\n";
+
+// Marks the heap of an image as a row says.
+fn mark(
+    rt: &(impl AllocGlobal + Threads + Sync),
+    row: &Row,
+    place: &mut Place,
+    out: &mut Narrow,
+) -> Result<(), CommandRefusal> {
+    let mut counted = Counted::new(&mut *out);
+    print_mark(
+        rt.alloc(),
+        rt,
+        place,
+        row.image,
+        row.path,
+        false,
+        &mut counted,
+    )
+}
+
+// What is printed if a row is answered so.
+fn printed_of(row: &Row) -> &'static str {
+    match row.answer {
+        Ok(()) => LINE,
+        Err(CommandRefusal::CannotPrint) => LINE.get(..row.printable).unwrap_or(""),
+        Err(_) => "",
+    }
+}
+
+// Checks a row.
+fn expect_row(rt: &(impl Abort + AllocGlobal + Threads + Sync), memory: &Memory, row: &Row) {
+    let whole = bytes_in(rt.alloc(), Content::ThreeImage).expect(rt, "memory for an image");
+    let mut written = Vec::new(rt.alloc());
+    let mut printed = Vec::new(rt.alloc());
+    let mut place = Place {
+        files: memory.files,
+        writer: Some(Narrow {
+            taken: &mut written,
+            room: row.room,
+            at_once: usize::MAX,
+            failure: row.failure,
+        }),
+        kept: false,
+    };
+    let mut out = Narrow {
+        taken: &mut printed,
+        room: row.printable,
+        at_once: usize::MAX,
+        failure: Failure::TakesNone,
+    };
+    let answer = mark(rt, row, &mut place, &mut out);
+    let created = place.writer.is_none();
+    assert!(rt; answer == row.answer, "{}: answer", row.name);
+    assert!(rt;
+        printed.as_slice() == printed_of(row).as_bytes(),
+        "{}: printed",
+        row.name
+    );
+    assert!(rt; created == row.created, "{}: created", row.name);
+    let printing = row.answer.is_ok() || row.answer == Err(CommandRefusal::CannotPrint);
+    assert!(rt; place.kept == (created && printing), "{}: kept", row.name);
+    assert!(rt;
+        written.len() == row.left && whole.starts_with(written.as_slice()),
+        "{}: written",
+        row.name
+    );
+}
+
+/// Checks markings of the three objects on files in memory, also with an output that takes fewer bytes than the line
+/// has.
+pub fn expect_marked(rt: &(impl Abort + AllocGlobal + Threads + Sync), memory: &Memory) {
+    for row in &ROWS {
+        expect_row(rt, memory, row);
+    }
+    for printable in 0..LINE.len() {
+        let cut = Row {
+            printable,
+            answer: Err(CommandRefusal::CannotPrint),
+            ..WRITTEN
+        };
+        expect_row(rt, memory, &cut);
+    }
+}
+
+const WRITTEN: Row = Row {
+    name: "room for all",
+    image: "three.img",
+    path: "out",
+    room: 96,
+    failure: Failure::Error,
+    printable: 7,
+    answer: Ok(()),
+    created: true,
+    left: 96,
+};
+
+// The image cannot be flushed.
+const UNFLUSHED: Row = Row {
+    name: "no flush",
+    failure: Failure::Flush,
+    answer: Err(CommandRefusal::Layout(LayoutFault::Device)),
+    ..WRITTEN
+};
+
+// There is no image to be read, and no place for the new one.
+const ABSENT: Row = Row {
+    name: "no image",
+    image: "absent.img",
+    path: "absent",
+    answer: Err(CommandRefusal::CannotOpen(Input::Image)),
+    created: false,
+    left: 0,
+    ..WRITTEN
+};
+
+static ROWS: [Row; 8] = [
+    WRITTEN,
+    UNFLUSHED,
+    Row {
+        name: "room for 0 bytes",
+        room: 0,
+        failure: Failure::Error,
+        left: 0,
+        ..UNFLUSHED
+    },
+    Row {
+        name: "room for 95 bytes",
+        room: 95,
+        failure: Failure::TakesNone,
+        left: 95,
+        ..UNFLUSHED
+    },
+    ABSENT,
+    Row {
+        name: "an image that is cut",
+        image: "cut.img",
+        answer: Err(CommandRefusal::Layout(LayoutFault::Truncated)),
+        ..ABSENT
+    },
+    Row {
+        name: "a weak word for the inside of an object",
+        image: "bad_weak.img",
+        answer: Err(CommandRefusal::Layout(LayoutFault::BadWeak(1))),
+        ..ABSENT
+    },
+    Row {
+        name: "no place for the new image",
+        image: "three.img",
+        answer: Err(CommandRefusal::CannotCreate(Output::New)),
+        ..ABSENT
+    },
+];
