@@ -43,6 +43,8 @@ COMMANDS = [
     ("race three.img seen.trace left.dump", ["6 7\nlive 4\n", "6 11\nlive 4\n"], 656),
     ("audit three.img fresh.dump", ["ok 5\n"], None),
     ("next --mutators 1 --fresh 2 three.img fresh.trace kept.marks left.dump", ["live 3\n"], 1576),
+    ("next --reachable --mutators 1 --fresh 2 three.img fresh.trace left.dump", ["live 3\n"], 1576),
+    ("mark three.img left.dump", ["live 4\n"], 96),
     ("word --large large.img 2", ["844424930131969\n"], None),
     ("compact --large --workers 1 large.img left.dump", ["live 4\n"], 569),
     ("--help", None, None),

@@ -42,6 +42,30 @@ def sizes(edition, word):
     return word & 65535, 1 + (word & 65535) + (word >> 16 & 65535) + (word >> 32 & 65535)
 
 
+def reached(edition, words, seek):
+    """The indices of the objects that start at these indices, and of those that their references reach, rising."""
+    met = set()
+    while seek:
+        at = seek.pop()
+        if at not in met:
+            met.add(at)
+            seek += [word & 0xFFFFFFFF for word in words[at + 1 : at + 1 + sizes(edition, words[at])[0]] if word]
+    return sorted(met)
+
+
+def image_of(edition, words, marks, roots):
+    """The bytes of an image."""
+    image = b"COMPHEAP" + struct.pack("<IIII", edition, len(words), len(marks), len(roots))
+    return image + struct.pack(f"<{len(words)}Q", *words) + struct.pack(f"<{len(marks)}I", *marks) + struct.pack(f"<{len(roots)}Q", *roots)
+
+
+def parts(image):
+    """The edition, the words and the roots of an image."""
+    edition, words, marks, roots = struct.unpack_from("<IIII", image, 8)
+    at = 24 + 8 * words + 4 * marks
+    return edition, struct.unpack_from(f"<{words}Q", image, 24), struct.unpack_from(f"<{roots}Q", image, at)
+
+
 def left(dump):
     """The roots of a dump, the words of each page, or nothing if it was never built, and the indices at which new objects start."""
     at = 8
@@ -97,9 +121,7 @@ def heap(draw):
     for k in marked:
         slid.append(live)
         live += 1 + sum(shapes[k][:3])
-    image = b"COMPHEAP" + struct.pack("<IIII", edition, len(words), len(marks), len(roots))
-    image += struct.pack(f"<{len(words)}Q", *words) + struct.pack(f"<{len(marks)}I", *marks) + struct.pack(f"<{len(roots)}Q", *roots)
-    return image, edition, len(roots), live, slid
+    return image_of(edition, words, marks, roots), edition, len(roots), live, slid
 
 
 def trace(draw, edition, mutators, roots):
@@ -166,15 +188,11 @@ class Soak:
         roots, pages, made = left((self.folder / "left.dump").read_bytes())
         zeros = (0,) * 64
         words = [word for p, page in enumerate(pages) for word in page or (swept[p] if p < len(swept) else zeros)]
-        starts, often, marks = slid + made, draw.random(), set()
-        seek = [root - TO for root in roots if root] + [at for at in starts if draw.random() < often]
-        while seek:
-            at = seek.pop()
-            if at not in marks:
-                marks.add(at)
-                seek += [word - TO for word in words[at + 1 : at + 1 + sizes(edition, words[at])[0]] if word]
+        often = draw.random()
+        kept = [at for at in slid + made if draw.random() < often]
+        marks = reached(edition, words, [root - TO for root in roots if root] + kept)
         live = f"live {sum(sizes(edition, words[at])[1] for at in marks)}\n"
-        (self.folder / "heap.marks").write_text("".join(f"{at}\n" for at in sorted(marks)))
+        (self.folder / "heap.marks").write_text("".join(f"{at}\n" for at in marks))
         lines = "".join(printed.splitlines(True)[:-1])
         for what, told in (
             (("next", *few, "heap.img", "heap.trace", "heap.marks", "next.img"), lines + live),
@@ -189,12 +207,28 @@ class Soak:
         plan = self.run(seed, "plan", "next.img")
         if plan is not None and not plan.startswith(live):
             self.fault(seed, f"plan next.img: {plan[:40]!r} in place of {live!r}")
+        self.marked(seed, "mark", "next.img")
+        self.marked(seed, "next", "next.img", *few, "--reachable", "heap.img", "heap.trace", shown=lines)
+
+    def marked(self, seed, command, heap, *words, shown=""):
+        """The command writes the heap of an image, with the objects marked that its roots reach."""
+        edition, all_words, roots = parts((self.folder / heap).read_bytes())
+        marks = reached(edition, all_words, [root - FROM for root in roots if root])
+        told = f"{shown}live {sum(sizes(edition, all_words[at])[1] for at in marks)}\n"
+        answer = self.run(seed, command, *(words or (heap,)), "marked.img")
+        if answer is None:
+            return
+        if answer != told:
+            self.fault(seed, f"{command}: {answer!r} in place of {told!r}")
+        if (self.folder / "marked.img").read_bytes() != image_of(edition, all_words, marks, roots):
+            self.fault(seed, f"{command}: another image than that of the heap marked by its roots")
 
     def step(self, seed):
         draw = random.Random(seed)
         image, edition, roots, live, slid = heap(draw)
         self.large = ("--large",) if edition == 3 else ()
         (self.folder / "heap.img").write_bytes(image)
+        self.marked(seed, "mark", "heap.img")
         workers = draw.choice((1, 2, 3, 4, 8, 64))
         printed = self.run(seed, "compact", "--workers", str(workers), "heap.img", "left.dump")
         if printed is not None:
