@@ -30,7 +30,7 @@ TWENTY = image(([639 << 16] + [0] * 639) * 2, [0, 640], [])
 SEEN = b"0 root 0 0\n0 load 1 0 0\n0 put 1 0 7\n1 root 0 0\n1 load 1 0 0\n1 get 1 0\n"
 FRESH = b"0 root 0 0\n0 new 1 0 0 0\n0 store 0 0 1\n"
 KEPT = b"2\n64\n"
-FILES = {"three.img": THREE, "large.img": LARGE, "twenty.img": TWENTY, "seen.trace": SEEN, "fresh.trace": FRESH, "kept.marks": KEPT}
+FILES = {"three.img": THREE, "large.img": LARGE, "twenty.img": TWENTY, "seen.trace": SEEN, "fresh.trace": FRESH, "kept.marks": KEPT, "new.roots": b"0 1\n"}
 
 # the words of a command, what it prints, and how long its dump or its new image is, if it writes one
 COMMANDS = [
@@ -44,6 +44,7 @@ COMMANDS = [
     ("audit three.img fresh.dump", ["ok 5\n"], None),
     ("next --mutators 1 --fresh 2 three.img fresh.trace kept.marks left.dump", ["live 3\n"], 1576),
     ("next --reachable --mutators 1 --fresh 2 three.img fresh.trace left.dump", ["live 3\n"], 1576),
+    ("next --reachable --roots new.roots --mutators 1 --fresh 2 three.img fresh.trace left.dump", ["live 1\n"], 1572),
     ("mark three.img left.dump", ["live 4\n"], 96),
     ("word --large large.img 2", ["844424930131969\n"], None),
     ("compact --large --workers 1 large.img left.dump", ["live 4\n"], 569),

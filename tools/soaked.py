@@ -125,10 +125,11 @@ def heap(draw):
 
 
 def trace(draw, edition, mutators, roots):
-    """A text that is lawful; some of its lines may be refused."""
-    lines = []
+    """A text that is lawful, some of whose lines may be refused; and which root register 15 of each mutator holds to the end."""
+    lines, held = [], [draw.randrange(roots) for _ in range(mutators)]
     for m in range(mutators):
         lines.append(f"{m} root 0 {draw.randrange(roots)}")
+        lines.append(f"{m} root 15 {held[m]}")
     for _ in range(draw.randint(0, 400)):
         m, d, s, v = draw.randrange(mutators), *(draw.randrange(4) for _ in range(3))
         kind = draw.random()
@@ -146,7 +147,8 @@ def trace(draw, edition, mutators, roots):
         else:
             lines.append(f"{m} new {d} {draw.randrange(3)} {draw.randrange(3)} {draw.randrange(65536)}")
     # a mutator whose registers are null is refused soon: most traces end before that
-    return "".join(f"{line}\n" for line in lines[: draw.choice((mutators, mutators + 5, mutators + 40, len(lines)))])
+    begun = 2 * mutators
+    return "".join(f"{line}\n" for line in lines[: draw.choice((begun, begun + 5, begun + 40, len(lines)))]), held
 
 
 class Soak:
@@ -183,8 +185,9 @@ class Soak:
         if judged is not None and judged != f"ok {live}\n":
             self.fault(seed, f"{what}: live {live}, and the audit says {judged!r}")
 
-    def followed(self, seed, draw, edition, slid, swept, few, printed):
-        """The next cycle after a replay, by marks that look random: its heap is planned, compacted and audited."""
+    def followed(self, seed, draw, edition, slid, swept, few, held, printed):
+        """The next cycle after a replay, by marks that look random: its heap is planned, compacted and audited. Then by what the roots
+        reach: those that stay, and others."""
         roots, pages, made = left((self.folder / "left.dump").read_bytes())
         zeros = (0,) * 64
         words = [word for p, page in enumerate(pages) for word in page or (swept[p] if p < len(swept) else zeros)]
@@ -209,10 +212,31 @@ class Soak:
             self.fault(seed, f"plan next.img: {plan[:40]!r} in place of {live!r}")
         self.marked(seed, "mark", "next.img")
         self.marked(seed, "next", "next.img", *few, "--reachable", "heap.img", "heap.trace", shown=lines)
+        named, others = self.named(draw, slid + made, [roots[k] for k in held])
+        (self.folder / "heap.roots").write_text("".join(f"{it}\n" for it in named))
+        rooted = ("--reachable", "--roots", "heap.roots", "heap.img", "heap.trace")
+        self.marked(seed, "next", "next.img", *few, *rooted, shown=lines, others=others)
 
-    def marked(self, seed, command, heap, *words, shown=""):
-        """The command writes the heap of an image, with the objects marked that its roots reach."""
+    def named(self, draw, starts, held):
+        """Roots as a text names them, and as the next heap has them: objects by their addresses, what registers hold, and null."""
+        named = []
+        for _ in range(draw.randint(0, 6)):
+            kind = draw.random()
+            if kind < 0.4 and starts:
+                at = draw.choice(starts)
+                named.append((TO + at, FROM + at))
+            elif kind < 0.8:
+                m = draw.randrange(len(held))
+                named.append((f"{m} 15", held[m] and held[m] - TO + FROM))
+            else:
+                named.append((draw.choice(("0", "0 14")), 0))
+        return [name for name, _ in named], [root for _, root in named]
+
+    def marked(self, seed, command, heap, *words, shown="", others=None):
+        """The command writes the heap of an image, with these other roots if there are some, and with the objects marked that its roots
+        reach."""
         edition, all_words, roots = parts((self.folder / heap).read_bytes())
+        roots = roots if others is None else others
         marks = reached(edition, all_words, [root - FROM for root in roots if root])
         told = f"{shown}live {sum(sizes(edition, all_words[at])[1] for at in marks)}\n"
         answer = self.run(seed, command, *(words or (heap,)), "marked.img")
@@ -237,7 +261,8 @@ class Soak:
             self.audited(seed, "compact", printed)
         swept = left((self.folder / "left.dump").read_bytes())[1] if printed is not None else None
         mutators = draw.choice((1, 2, 4, 16, 64))
-        (self.folder / "heap.trace").write_text(trace(draw, edition, mutators, roots))
+        text, held = trace(draw, edition, mutators, roots)
+        (self.folder / "heap.trace").write_text(text)
         few = ("--mutators", str(mutators), "--fresh", str(draw.choice((0, mutators, 2 * mutators))))
         shown = []
         for command in ("replay", "race"):
@@ -250,7 +275,7 @@ class Soak:
             else:
                 self.audited(seed, command, printed)
                 if command == "replay" and swept is not None:
-                    self.followed(seed, draw, edition, slid, swept, few, printed)
+                    self.followed(seed, draw, edition, slid, swept, few, held, printed)
             shown.append(printed)
         if mutators == 1 and shown[0] != shown[1]:
             self.fault(seed, f"one mutator: a replay prints {shown[0]!r}, a race {shown[1]!r}")

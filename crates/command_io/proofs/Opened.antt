@@ -3,7 +3,7 @@ use Rattle.std.proofs.Common.{◌≡◌, subst, sym}
 use Rattle.command_io.specs.Disk.{IsOfOpening}
 use Rattle.command_io.specs.declared.refusal.Input.{Input}
 use Rattle.command_io.specs.declared.refusal.CommandRefusal.{CommandRefusal}
-use Rattle.command_io.specs.declared.refusal.CommandRefusal.TheVariants.{Layout, Mutator, Sweep, Trace, Dump, Audit, CannotOpen, CannotCreate, ReadFailed, CannotPrint, NoSuchWord, BadMarks, OutOfMemory}
+use Rattle.command_io.specs.declared.refusal.CommandRefusal.TheVariants.{Layout, Mutator, Sweep, Trace, Dump, Audit, CannotOpen, CannotCreate, ReadFailed, CannotPrint, NoSuchWord, BadMarks, OutOfMemory, BadRoots}
 
 -- what follows from a file that is not there, and from missing memory, follows from each refusal to open the file
 pub opened : (input : Input) (lacks : Type 0) (P : CommandRefusal → Type 0) → (lacks → P (CannotOpen input)) → P OutOfMemory → (refusal : CommandRefusal) → IsOfOpening input lacks refusal → P refusal
@@ -19,4 +19,5 @@ opened input lacks P absent full (ReadFailed other) h = absurd h
 opened input lacks P absent full CannotPrint h = absurd h
 opened input lacks P absent full (NoSuchWord index) h = absurd h
 opened input lacks P absent full (BadMarks line) h = absurd h
+opened input lacks P absent full (BadRoots line) h = absurd h
 opened input lacks P absent full OutOfMemory h = full

@@ -8,7 +8,7 @@ use Rattle.command_io.specs.Dumps.{IsOfDumping, RefusedUncreated}
 use Rattle.command_io.specs.NewImages.{IsOfWritingImage, RefusedUnmade}
 use Rattle.command_io.specs.Printing.{CountsPrint, RefusedUnprinted}
 use Rattle.command_io.specs.declared.refusal.CommandRefusal.{CommandRefusal}
-use Rattle.command_io.specs.declared.refusal.CommandRefusal.TheVariants.{Layout, Mutator, Sweep, Trace, Dump, Audit, CannotOpen, CannotCreate, ReadFailed, CannotPrint, NoSuchWord, BadMarks, OutOfMemory}
+use Rattle.command_io.specs.declared.refusal.CommandRefusal.TheVariants.{Layout, Mutator, Sweep, Trace, Dump, Audit, CannotOpen, CannotCreate, ReadFailed, CannotPrint, NoSuchWord, BadMarks, OutOfMemory, BadRoots}
 
 -- a refusal for another cause than the output counts no failed call of the output
 pub uncounted_by : (old new : ℕ) (refusal : CommandRefusal) → new ≡ old → (refusal ≡ CannotPrint → ⊥) → CountsPrint {T = Unit {0}} old new (Err refusal)
@@ -24,6 +24,7 @@ uncounted_by old new (ReadFailed input) same other = same
 uncounted_by old new CannotPrint same other = absurd (other refl)
 uncounted_by old new (NoSuchWord index) same other = same
 uncounted_by old new (BadMarks line) same other = same
+uncounted_by old new (BadRoots line) same other = same
 uncounted_by old new OutOfMemory same other = same
 
 -- a refusal for the dump is not one for the output
@@ -44,6 +45,7 @@ unprinted before (ReadFailed input) = Keeps-refl before
 unprinted before CannotPrint = tt
 unprinted before (NoSuchWord index) = Keeps-refl before
 unprinted before (BadMarks line) = Keeps-refl before
+unprinted before (BadRoots line) = Keeps-refl before
 unprinted before OutOfMemory = Keeps-refl before
 
 -- what was refused before a file was begun
@@ -60,6 +62,7 @@ uncreated disk files (ReadFailed input) = refl
 uncreated disk files CannotPrint = tt
 uncreated disk files (NoSuchWord index) = refl
 uncreated disk files (BadMarks line) = refl
+uncreated disk files (BadRoots line) = refl
 uncreated disk files OutOfMemory = inl refl
 
 -- a refusal for the dump, which was not kept
@@ -77,6 +80,7 @@ uncreated_by disk path bytes from to (ReadFailed input) unkept h = absurd h
 uncreated_by disk path bytes from to CannotPrint unkept h = tt
 uncreated_by disk path bytes from to (NoSuchWord index) unkept h = absurd h
 uncreated_by disk path bytes from to (BadMarks line) unkept h = absurd h
+uncreated_by disk path bytes from to (BadRoots line) unkept h = absurd h
 uncreated_by disk path bytes from to OutOfMemory unkept h = unkept
 
 -- a call of the output failed
@@ -101,6 +105,7 @@ unmade_too disk from to (Err (ReadFailed input)) h = h
 unmade_too disk from to (Err CannotPrint) h = tt
 unmade_too disk from to (Err (NoSuchWord index)) h = h
 unmade_too disk from to (Err (BadMarks line)) h = h
+unmade_too disk from to (Err (BadRoots line)) h = h
 unmade_too disk from to (Err OutOfMemory) h = h
 
 -- what was refused before a new image was begun
@@ -122,6 +127,7 @@ unmade_by disk path bytes from to (ReadFailed input) unkept h = absurd h
 unmade_by disk path bytes from to CannotPrint unkept h = tt
 unmade_by disk path bytes from to (NoSuchWord index) unkept h = absurd h
 unmade_by disk path bytes from to (BadMarks line) unkept h = absurd h
+unmade_by disk path bytes from to (BadRoots line) unkept h = absurd h
 unmade_by disk path bytes from to OutOfMemory unkept h = unkept
 
 -- a call of the output failed

@@ -6,4 +6,5 @@ pub mod Dumps
 pub mod Memory
 pub mod Texts
 pub mod Marks
+pub mod Roots
 pub mod NewImages

@@ -10,6 +10,7 @@ mod opening;
 mod output_files;
 mod print;
 mod refusal;
+mod roots;
 mod texts;
 mod traces;
 
@@ -22,4 +23,5 @@ pub use opening::{Files, RuntimeFiles};
 pub use output_files::OutputFile;
 pub use print::{flush, print_bytes, print_help, print_line, print_numbered, print_text};
 pub use refusal::{CommandRefusal, Input, Output};
+pub use roots::roots_at;
 pub use traces::trace_at;

@@ -16,6 +16,7 @@ pub enum Input {
     Trace,
     Dump,
     Marks,
+    Roots,
 }
 
 impl fmt::Display for Input {
@@ -29,6 +30,7 @@ impl fmt::Display for Input {
             Input::Trace => "trace",
             Input::Dump => "dump",
             Input::Marks => "marks",
+            Input::Roots => "roots",
         })
     }
 }
@@ -56,7 +58,7 @@ impl fmt::Display for Output {
 /// Why the program did not do what it was asked.
 #[derive(Clone, Copy, Debug, PartialEq, Eq, Error)]
 pub enum CommandRefusal {
-    /// The image is refused; or no next heap follows with the marks; or the new image was not written whole.
+    /// The image is refused; or no next heap follows with the marks or the roots; or the new image was not written whole.
     #[error(transparent)]
     Layout(LayoutFault),
     /// A call of a mutator, the flip or the finish is refused. In every command the cause is out of memory.
@@ -95,6 +97,9 @@ pub enum CommandRefusal {
     /// An allocation failed.
     #[error("P7 OutOfMemory")]
     OutOfMemory,
+    /// The line with this number, counted from 1, is no root.
+    #[error("P8 BadRoots({0})")]
+    BadRoots(u64),
 }
 
 impl From<LayoutFault> for CommandRefusal {

@@ -127,6 +127,10 @@ module _ (words : List (List ℕ)) (f : Found) (form : Form) (asked : CommandAsk
   choice_fits o has = subst (λ (r : Option (List ℕ)). IfSome r (Takes o.takes)) (sym (number_is o.takes.id (option_off form asked.readable asked.is_command.gives o has)))
       (option_fits form asked.readable asked.is_command.gives o has asked.is_command.fit)
 
+  -- what is read of an option is what is given to it
+  pub option_read : (o : Choice) → HasOption form o → first_value f o.takes.id ≡ text_given o.takes.id asked.given
+  option_read o has = text_is o.takes.id (option_off form asked.readable asked.is_command.gives o has)
+
   -- its number is the one that was read
   pub choice_reported : (o : Choice) → HasOption form o → (n : ℕ) → IsNumberOr o.default (one_text f o.takes.id) n → IsChosen o asked.given n
   choice_reported o has n h = subst (λ (r : Option (List ℕ)). IsNumberOr o.default r n) (number_is o.takes.id (option_off form asked.readable asked.is_command.gives o has)) h

@@ -3,11 +3,11 @@ use Rattle.std.proofs.Common.{◌≡◌, ◌∙◌, ℕ, Bool, true, false, List
 use Rattle.std.specs.Prelude.{IfSome}
 use Rattle.clap.specs.Words.{first_value}
 use Rattle.clap.specs.declared.parser.matches.Found.{Found}
-use Rattle.command_line.specs.Forms.{fresh, large, mutators, next_form, reachable, text}
-use Rattle.command_line.specs.Given.{IsCommandWith, text_given}
-use Rattle.command_line.specs.Nexts.{AsksNext, HasNext, IsMarksFound, IsNextFound, Next, says_reachable}
+use Rattle.command_line.specs.Forms.{fresh, large, mutators, next_form, reachable, roots, text}
+use Rattle.command_line.specs.Given.{HasOption, IsCommandWith, text_given}
+use Rattle.command_line.specs.Nexts.{AsksNext, HasNext, IsMarksFound, IsNextFound, IsRootsFound, IsRootsPath, Next, says_reachable}
 use Rattle.command_line.proofs.Chosen.{HasArgument}
-use Rattle.command_line.proofs.Found.{CommandAsked, argument_reported, argument_there, choice_fits, choice_reported, first_switch_reported}
+use Rattle.command_line.proofs.Found.{CommandAsked, argument_reported, argument_there, choice_fits, choice_reported, first_switch_reported, option_read}
 use Rattle.command_line.proofs.Reaching.{reachable_said}
 
 -- without `--reachable`, the marks are there
@@ -35,6 +35,20 @@ new_there : (r : Bool) → HasArgument (next_form r) (text (codes "NEW"))
 new_there true = refl
 new_there false = refl
 
+-- so do both have these options
+mutators_there : (r : Bool) → HasOption (next_form r) mutators
+mutators_there true = refl
+mutators_there false = refl
+
+fresh_there : (r : Bool) → HasOption (next_form r) fresh
+fresh_there true = refl
+fresh_there false = refl
+
+-- the path of roots is the one that is given
+roots_reported : (r : Bool) (words : List (List ℕ)) (f : Found) → (asked : CommandAsked words f (next_form r)) → (path : Option (List ℕ)) → IsRootsFound r f path → IsRootsPath r asked.given path
+roots_reported true words f asked path is = sym (is ∙ option_read words f (next_form true) asked roots refl)
+roots_reported false words f asked path is = is
+
 module _ (r : Bool) (words : List (List ℕ)) (says : r ≡ says_reachable words) (f : Found) (asked : CommandAsked words f (next_form r)) where
   -- what was found is whole
   pub next_found : HasNext r f
@@ -43,8 +57,8 @@ module _ (r : Bool) (words : List (List ℕ)) (says : r ≡ says_reachable words
     has_trace = argument_there words f (next_form r) asked (text (codes "TRACE")) (trace_there r);
     has_marks = marks_there r words f asked;
     has_new = argument_there words f (next_form r) asked (text (codes "NEW")) (new_there r);
-    fits_mutators = choice_fits words f (next_form r) asked mutators refl;
-    fits_fresh = choice_fits words f (next_form r) asked fresh refl;
+    fits_mutators = choice_fits words f (next_form r) asked mutators (mutators_there r);
+    fits_fresh = choice_fits words f (next_form r) asked fresh (fresh_there r);
   }
 
   -- and it is what the words ask
@@ -56,8 +70,9 @@ module _ (r : Bool) (words : List (List ℕ)) (says : r ≡ says_reachable words
     with_image = argument_reported words f (next_form r) asked (text (codes "IMAGE")) (image_there r) next.image is.image_is;
     with_trace = argument_reported words f (next_form r) asked (text (codes "TRACE")) (trace_there r) next.trace is.trace_is;
     with_marks = marks_reported r words f asked next.marks is.marks_are;
+    with_roots = subst (λ (b : Bool). IsRootsPath b asked.given next.roots) (sym is.marks_are.reaches_is) (roots_reported r words f asked next.roots is.roots_are);
     with_new = argument_reported words f (next_form r) asked (text (codes "NEW")) (new_there r) next.new is.new_is;
-    with_mutators = choice_reported words f (next_form r) asked mutators refl next.count is.mutators_are;
-    with_fresh = choice_reported words f (next_form r) asked fresh refl next.pages is.fresh_are;
+    with_mutators = choice_reported words f (next_form r) asked mutators (mutators_there r) next.count is.mutators_are;
+    with_fresh = choice_reported words f (next_form r) asked fresh (fresh_there r) next.pages is.fresh_are;
     with_large = first_switch_reported words f (next_form r) asked large (reachable ∷ []) refl refl next.large is.large_is;
   }

@@ -5,7 +5,7 @@ use Rattle.std.specs.Str.{bytes_eq}
 use Rattle.std.proofs.lemmas.Bool.{or_from}
 use Rattle.std.proofs.lemmas.Option.{same_Some}
 use Rattle.std.proofs.lemmas.Slice.Eq.{bytes_eq-Decides}
-use Rattle.command_line.specs.Forms.{Choice, Form, Parameter, fresh, large, mutators, next_form, next_paths, reachable}
+use Rattle.command_line.specs.Forms.{Choice, Form, Parameter, fresh, large, mutators, next_form, next_paths, reachable, roots}
 use Rattle.command_line.specs.Given.{Gives, HasOption, HasSwitch, IsCommandWith, Use, is_among, is_flag}
 use Rattle.command_line.specs.Given.Gives.{apart, joined, no_word, switched, then_values, to_next}
 use Rattle.command_line.specs.Nexts.{says_reachable}
@@ -38,6 +38,14 @@ one_of_two {X} test a b x is = go (test a) (test b) is
     go false true e = inr (sym (same_Some b x e))
     go false false e = absurd cc
 
+-- one of three that is found is one of them
+one_of_three : {X : Type 0} (test : X → Bool) (a b c x : X) → find test (a ∷ b ∷ c ∷ []) ≡ Some x → (x ≡ a) ⊎ ((x ≡ b) ⊎ (x ≡ c))
+one_of_three {X} test a b c x is = go (test a) is
+  where
+    go : (t : Bool) → cond t (Some a) (find test (b ∷ c ∷ [])) ≡ Some x → (x ≡ a) ⊎ ((x ≡ b) ⊎ (x ≡ c))
+    go true e = inl (sym (same_Some a x e))
+    go false e = inr (one_of_two test b c x e)
+
 -- two texts with other bytes at an index are not the same
 apart_at : (a b : Text) (k : ℕ) → (slice_index a k ≡ slice_index b k → ⊥) → bytes_eq a b ≡ false
 apart_at a b k off = go (bytes_eq a b) refl
@@ -68,6 +76,14 @@ other_fresh = record {
       (apart_at (codes "--fresh=" ++ text) (codes "--reachable") 2 (λ e. let bad : 102 ≡ 114 = e in absurd (omega arith)));
 }
 
+other_roots : IsOther roots
+other_roots = record {
+  name = refl;
+  says = λ rest. refl;
+  joins = λ text rest. other_says (codes "--roots=" ++ text) rest (apart_at (codes "--roots=" ++ text) (codes "--") 2 (λ e. let bad : 114 ≡ 0 = e in absurd (omega arith)))
+      (apart_at (codes "--roots=" ++ text) (codes "--reachable") 3 (λ e. let bad : 111 ≡ 101 = e in absurd (omega arith)));
+}
+
 -- none of these arguments has its name
 abbrev AreOff : List Parameter → Type 0
 AreOff [] = Unit {0}
@@ -77,12 +93,22 @@ off_paths : (by_reach : Bool) → AreOff (next_paths by_reach)
 off_paths true = (refl, (refl, (refl, tt)))
 off_paths false = (refl, (refl, (refl, (refl, tt))))
 
+option_of : (by_reach : Bool) (o : Choice) → HasOption (next_form by_reach) o → IsOther o
+option_of true o has = elim (one_of_three (λ (x : Choice). bytes_eq x.takes.id o.takes.id) mutators fresh roots o has) [
+  | inl e ↦ subst IsOther (sym e) other_mutators
+  | inr more ↦ elim more [
+    | inl e ↦ subst IsOther (sym e) other_fresh
+    | inr e ↦ subst IsOther (sym e) other_roots
+  ]
+]
+option_of false o has = elim (one_of_two (λ (x : Choice). bytes_eq x.takes.id o.takes.id) mutators fresh o has) [
+  | inl e ↦ subst IsOther (sym e) other_mutators
+  | inr e ↦ subst IsOther (sym e) other_fresh
+]
+
 module _ (by_reach : Bool) where
   other_option : (o : Choice) → HasOption (next_form by_reach) o → IsOther o
-  other_option o has = elim (one_of_two (λ (x : Choice). bytes_eq x.takes.id o.takes.id) mutators fresh o has) [
-    | inl e ↦ subst IsOther (sym e) other_mutators
-    | inr e ↦ subst IsOther (sym e) other_fresh
-  ]
+  other_option o has = option_of by_reach o has
 
   -- after `--` nothing but arguments is given
   off_ended : {ended : Bool} {ahead : List Parameter} {words : List Text} {given : List Use} → Gives (next_form by_reach) ended ahead words given → ended ≡ true → AreOff ahead

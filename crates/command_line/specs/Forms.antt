@@ -102,10 +102,19 @@ abbrev pub next_paths : Bool → List Parameter
 next_paths true = text (codes "IMAGE") ∷ text (codes "TRACE") ∷ text (codes "NEW") ∷ []
 next_paths false = text (codes "IMAGE") ∷ text (codes "TRACE") ∷ text (codes "MARKS") ∷ text (codes "NEW") ∷ []
 
--- `next --reachable [--mutators N] [--fresh N] [--large] IMAGE TRACE NEW`, and without `--reachable`
+-- `--roots ROOTS`, the path of roots; nothing counts if it is left out
+abbrev pub roots : Choice
+roots = record { takes = text (codes "roots"); default = 0 }
+
+-- the options of `next`, with `--reachable` and without it
+abbrev pub next_options : Bool → List Choice
+next_options true = mutators ∷ fresh ∷ roots ∷ []
+next_options false = mutators ∷ fresh ∷ []
+
+-- `next --reachable [--roots ROOTS] [--mutators N] [--fresh N] [--large] IMAGE TRACE NEW`, and without `--reachable`
 -- `next [--mutators N] [--fresh N] [--large] IMAGE TRACE MARKS NEW`
 abbrev pub next_form : Bool → Form
-next_form by_reach = record { name = codes "next"; options = mutators ∷ fresh ∷ []; switches = large ∷ reachable ∷ []; arguments = next_paths by_reach }
+next_form by_reach = record { name = codes "next"; options = next_options by_reach; switches = large ∷ reachable ∷ []; arguments = next_paths by_reach }
 
 -- `mark [--large] IMAGE NEW`
 abbrev pub mark_form : Form

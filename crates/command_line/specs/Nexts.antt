@@ -6,20 +6,28 @@ use Rattle.clap.specs.declared.parser.matches.Found.{Found}
 use Rattle.command_line.specs.Forms.{fresh, mutators, next_form, reachable}
 use Rattle.command_line.specs.Given.{IsChosen, IsCommandWith, IsFlag, IsNumberOr, Takes, Use, is_among, text_given}
 use Rattle.command_line.specs.declared.next.NextMarks.{NextMarks}
-use Rattle.command_line.specs.declared.next.NextMarks.TheVariants.{Given, Reachable}
+use Rattle.command_line.specs.declared.next.NextMarks.TheVariants.{Given, Reachable, ReachableFrom}
 use Rattle.command_line.specs.declared.next.NextRun.{NextRun}
 
 -- the path of the marks that are given; there is none if the heap is marked by what its roots reach
 abbrev pub marks_path : NextMarks → Option (List ℕ)
 marks_path (Given path) = Some path.now
 marks_path Reachable = None
+marks_path (ReachableFrom path) = None
 
--- the paths of an image, of a trace, of marks if they are given, and of the new image that is written; the numbers of
--- mutators and of fresh pages; and whether heaps of edition three are read as well
+-- the path of the roots from which objects are reached; there is none if the roots stay
+abbrev pub roots_path : NextMarks → Option (List ℕ)
+roots_path (Given path) = None
+roots_path Reachable = None
+roots_path (ReachableFrom path) = Some path.now
+
+-- the paths of an image, of a trace, of marks if they are given, of roots if they are named, and of the new image that is
+-- written; the numbers of mutators and of fresh pages; and whether heaps of edition three are read as well
 pub record Next : Type 0 where
   pub image : List ℕ
   pub trace : List ℕ
   pub marks : Option (List ℕ)
+  pub roots : Option (List ℕ)
   pub new : List ℕ
   pub count : ℕ
   pub pages : ℕ
@@ -31,6 +39,7 @@ next_of t = record {
   image = t.image.now;
   trace = t.trace.now;
   marks = marks_path t.marks;
+  roots = roots_path t.marks;
   new = t.new.now;
   count = t.mutators;
   pages = t.fresh;
@@ -41,8 +50,13 @@ next_of t = record {
 abbrev pub by_reach : Next → Bool
 by_reach next = not (is_some next.marks)
 
--- the words are `next [--mutators N] [--fresh N] [--large] IMAGE TRACE MARKS NEW`, or with `--reachable` and without
--- MARKS, with these arguments
+-- with `--reachable`, this is the path that `--roots` is given; without it there is none
+abbrev pub IsRootsPath : Bool → List Use → Option (List ℕ) → Type 0
+IsRootsPath true uses path = text_given (codes "roots") uses ≡ path
+IsRootsPath false uses path = path ≡ None
+
+-- the words are `next [--mutators N] [--fresh N] [--large] IMAGE TRACE MARKS NEW`, or with `--reachable`, perhaps with
+-- `--roots ROOTS` too, and without MARKS, with these arguments
 pub record AsksNext (words : List (List ℕ)) (next : Next) : Type 0 where
   pub uses : List Use
   pub is_command : IsCommandWith (next_form (by_reach next)) words uses
@@ -50,6 +64,7 @@ pub record AsksNext (words : List (List ℕ)) (next : Next) : Type 0 where
   pub with_image : text_given (codes "IMAGE") uses ≡ Some next.image
   pub with_trace : text_given (codes "TRACE") uses ≡ Some next.trace
   pub with_marks : IfSome next.marks (λ path. text_given (codes "MARKS") uses ≡ Some path)
+  pub with_roots : IsRootsPath (by_reach next) uses next.roots
   pub with_new : text_given (codes "NEW") uses ≡ Some next.new
   pub with_mutators : IsChosen mutators uses next.count
   pub with_fresh : IsChosen fresh uses next.pages
@@ -80,11 +95,17 @@ pub record IsMarksFound (reaches : Bool) (found : Found) (marks : Option (List �
   pub reaches_is : not (is_some marks) ≡ reaches
   pub path_is : IfSome marks (λ path. Some path ≡ first_value found (codes "MARKS"))
 
+-- this is the path of the roots that was found, and none without `--reachable`
+abbrev pub IsRootsFound : Bool → Found → Option (List ℕ) → Type 0
+IsRootsFound true found roots = roots ≡ first_value found (codes "roots")
+IsRootsFound false found roots = roots ≡ None
+
 -- these are what was found, with the default of each option that was left out
 pub record IsNextFound (reaches : Bool) (found : Found) (next : Next) : Type 0 where
   pub image_is : Some next.image ≡ first_value found (codes "IMAGE")
   pub trace_is : Some next.trace ≡ first_value found (codes "TRACE")
   pub marks_are : IsMarksFound reaches found next.marks
+  pub roots_are : IsRootsFound reaches found next.roots
   pub new_is : Some next.new ≡ first_value found (codes "NEW")
   pub mutators_are : IsNumberOr mutators.default (one_text found (codes "mutators")) next.count
   pub fresh_are : IsNumberOr fresh.default (one_text found (codes "fresh")) next.pages

@@ -1,7 +1,7 @@
 //! The options and arguments of the commands.
 ghost use Rattle.std.specs.Prelude.{◌≡◌, false, codes, IfOk};
 ghost use Rattle.clap.specs.Words.{app_of, new_app, rule_of, with_rule, App, Rule};
-ghost use Rattle.command_line.specs.Forms.{fresh, large, mutators, number, number_within, reachable, text, workers};
+ghost use Rattle.command_line.specs.Forms.{fresh, large, mutators, number, number_within, reachable, roots, text, workers};
 ghost use Rattle.command_line.specs.Parser.{option_rule, optional_rule, rule, switch_rule};
 
 use clap::builder::ValueParser;
@@ -66,6 +66,17 @@ pub(crate) fn workers_option<'a>(alloc: Global) -> Arg<'a>
         64,
         "How many workers compact, 1 to 64 (2 by default)",
     )
+}
+
+/// The option `--roots`, which takes a path.
+pub(crate) fn roots_option<'a>(alloc: Global) -> Arg<'a>
+    ensures rule { rule_of result ≡ option_rule roots }
+    ensures local { result.global ≡ false }
+{
+    Arg::new(alloc, "roots")
+        .long("roots")
+        .value_name("ROOTS")
+        .help("The roots of the new heap, which stay by default")
 }
 
 // An option of this name and help that takes a number from `low` to `high`.

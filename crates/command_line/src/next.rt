@@ -1,14 +1,14 @@
 //! The command `next`.
 ghost use Rattle.std.specs.Prelude.{◌≡◌, codes, false, is_some, map, true, IfOk};
 ghost use Rattle.std.specs.String.{string_bytes};
-ghost use Rattle.clap.specs.Words.{app_of, first_value, found_of, rule_of};
-ghost use Rattle.command_line.specs.Forms.{next_form, text};
-ghost use Rattle.command_line.specs.Nexts.{marks_path, next_of, says_reachable, HasNext, IsLawfulNext, IsMarksFound, IsNextFound};
-ghost use Rattle.command_line.specs.Parser.{command as command_of, rule};
+ghost use Rattle.clap.specs.Words.{app_of, first_value, found_of, rule_of, with_rule, App};
+ghost use Rattle.command_line.specs.Forms.{large, next_form, reachable, text};
+ghost use Rattle.command_line.specs.Nexts.{marks_path, next_of, roots_path, says_reachable, HasNext, IsLawfulNext, IsMarksFound, IsNextFound, IsRootsFound};
+ghost use Rattle.command_line.specs.Parser.{command as command_of, rule, switch_rule};
 
 use crate::arguments::{
     Made, fresh_option, image_argument, large_switch, mutators_option, named_command, new_argument,
-    path_argument, reachable_switch, trace_argument, with_argument,
+    path_argument, reachable_switch, roots_option, trace_argument, with_argument,
 };
 use crate::values::{DEFAULT_FRESH, DEFAULT_MUTATORS, count_of, is_large, text_of};
 use clap::{Arg, ArgMatches};
@@ -19,8 +19,10 @@ use std::alloc::Global;
 pub enum NextMarks<'a> {
     /// By the marks in the file at this path.
     Given(&'a str),
-    /// By what its roots reach.
+    /// By what its roots reach, which stay.
     Reachable,
+    /// By what the roots reach that the file at this path names. They are the roots of the next heap.
+    ReachableFrom(&'a str),
 }
 
 /// The arguments of `next`.
@@ -57,13 +59,17 @@ pub(crate) fn says_reachable(words: &[String]) -> bool
     false
 }
 
-// The marks in what the parser found.
+// The marks, or the roots that mark, in what the parser found.
 fn marks_of<'a>(found: &ArgMatches<'a>, reaches: bool) -> NextMarks<'a>
     requires { reaches ≡ false → is_some (first_value (found_of found.now) (codes "MARKS")) ≡ true }
-    ensures { IsMarksFound reaches (found_of found.now) (marks_path result) }
+    ensures marks { IsMarksFound reaches (found_of found.now) (marks_path result) }
+    ensures roots { IsRootsFound reaches (found_of found.now) (roots_path result) }
 {
     if reaches {
-        NextMarks::Reachable
+        match found.get_str("roots") {
+            Some(path) => NextMarks::ReachableFrom(path),
+            None => NextMarks::Reachable,
+        }
     } else {
         NextMarks::Given(text_of(found, "MARKS"))
     }
@@ -97,14 +103,24 @@ pub(crate) fn next_command<'a>(alloc: Global, reaches: bool) -> Made<'a>
     );
     let of_mutators = with_argument(next, mutators_option(alloc));
     let of_counts = with_argument(of_mutators, fresh_option(alloc));
-    let of_large = with_argument(of_counts, large_switch(alloc));
-    let of_switches = with_argument(of_large, reachable_switch(alloc));
-    let of_image = with_argument(of_switches, image_argument(alloc));
-    let of_trace = with_argument(of_image, trace_argument(alloc));
     if reaches {
-        with_argument(of_trace, new_argument(alloc))
+        let of_roots = with_argument(of_counts, roots_option(alloc));
+        let of_inputs = with_inputs(alloc, of_roots);
+        with_argument(of_inputs, new_argument(alloc))
     } else {
-        let of_marks = with_argument(of_trace, path_argument(alloc, "MARKS", "The new marks"));
+        let of_inputs = with_inputs(alloc, of_counts);
+        let of_marks = with_argument(of_inputs, path_argument(alloc, "MARKS", "The new marks"));
         with_argument(of_marks, new_argument(alloc))
     }
+}
+
+// Adds the switches of `next`, and the two arguments that both of its forms have.
+fn with_inputs<'a>(alloc: Global, command: Made<'a>) -> Made<'a>
+    ensures { (app : App) → IfOk command.entry (λ made. app_of made ≡ app) → IfOk result (λ made. app_of made ≡ with_rule (with_rule (with_rule (with_rule app (switch_rule large)) (switch_rule reachable))
+        (rule (text (codes "IMAGE")))) (rule (text (codes "TRACE")))) }
+{
+    let of_large = with_argument(command, large_switch(alloc));
+    let of_switches = with_argument(of_large, reachable_switch(alloc));
+    let of_image = with_argument(of_switches, image_argument(alloc));
+    with_argument(of_image, trace_argument(alloc))
 }

@@ -19,7 +19,7 @@ use Rattle.command_io.specs.declared.refusal.Input.TheVariants.{Image}
 use Rattle.command_io.specs.declared.refusal.Input.TheVariants as inputs
 use Rattle.command_io.specs.declared.refusal.Output.TheVariants as outputs
 use Rattle.command_io.specs.declared.refusal.CommandRefusal.{CommandRefusal}
-use Rattle.command_io.specs.declared.refusal.CommandRefusal.TheVariants.{Layout, Mutator, Sweep, Trace, Dump, Audit, CannotOpen, CannotCreate, ReadFailed, CannotPrint, NoSuchWord, BadMarks, OutOfMemory}
+use Rattle.command_io.specs.declared.refusal.CommandRefusal.TheVariants.{Layout, Mutator, Sweep, Trace, Dump, Audit, CannotOpen, CannotCreate, ReadFailed, CannotPrint, NoSuchWord, BadMarks, OutOfMemory, BadRoots}
 use Rattle.command_io.proofs.Imaged.{of_image}
 use Rattle.command_io.proofs.Outcomes.{same_parts, uncounted_by}
 
@@ -66,11 +66,13 @@ module _ {F W : Type 0} (disk : Disk F W) (large : Bool) (image path : List ℕ)
   of_sweep (CannotOpen inputs.Trace) h = absurd h.2
   of_sweep (CannotOpen inputs.Dump) h = absurd h.2
   of_sweep (CannotOpen inputs.Marks) h = absurd h.2
+  of_sweep (CannotOpen inputs.Roots) h = absurd h.2
   of_sweep (CannotCreate output) h = absurd h.2
   of_sweep (ReadFailed input) h = absurd h.2
   of_sweep CannotPrint h = absurd h.2
   of_sweep (NoSuchWord index) h = absurd h.2
   of_sweep (BadMarks line) h = absurd h.2
+  of_sweep (BadRoots line) h = absurd h.2
   of_sweep OutOfMemory h = tt
 
   module _ (f : Finished) (dump : Dumped) (parts : IsDumpOf workers f dump) (swept : SomeHeapAt disk large image (IsSweptHeap workers f)) where
@@ -93,6 +95,7 @@ module _ {F W : Type 0} (disk : Disk F W) (large : Bool) (image path : List ℕ)
     of_dumping CannotPrint h = absurd h
     of_dumping (NoSuchWord index) h = absurd h
     of_dumping (BadMarks line) h = absurd h
+    of_dumping (BadRoots line) h = absurd h
     of_dumping OutOfMemory h = tt
 
     module _ (whole : WritesWhole disk outputs.Dump path (dump_bytes dump) to) where

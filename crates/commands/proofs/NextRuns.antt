@@ -7,15 +7,18 @@ use Rattle.comp_trace.specs.Line.{Line}
 use Rattle.command_line.specs.declared.next.NextRun.{NextRun}
 use Rattle.command_io.specs.Disk.{Disk, WritesWhole}
 use Rattle.command_io.specs.Images.{SomeHeapOf}
+use Rattle.command_line.specs.declared.next.NextMarks.{NextMarks}
+use Rattle.command_line.specs.declared.next.NextMarks.TheVariants as asking
 use Rattle.command_io.specs.Marks.{RefusesMarksAt}
+use Rattle.command_io.specs.Roots.{RefusesRootsAt}
 use Rattle.command_io.specs.NewImages.{IsOfWritingImage}
 use Rattle.command_io.specs.Printing.{CountsPrint}
 use Rattle.command_io.specs.declared.refusal.Output.TheVariants as outputs
 use Rattle.command_io.specs.declared.refusal.CommandRefusal.{CommandRefusal}
-use Rattle.command_io.specs.declared.refusal.CommandRefusal.TheVariants.{Layout, Mutator, Sweep, Trace, Dump, Audit, CannotOpen, CannotCreate, ReadFailed, CannotPrint, NoSuchWord, BadMarks, OutOfMemory}
+use Rattle.command_io.specs.declared.refusal.CommandRefusal.TheVariants.{Layout, Mutator, Sweep, Trace, Dump, Audit, CannotOpen, CannotCreate, ReadFailed, CannotPrint, NoSuchWord, BadMarks, OutOfMemory, BadRoots}
 use Rattle.command_io.proofs.Outcomes.{uncounted_by}
 use Rattle.commands.specs.declared.replays.PrintedHalt.{PrintedHalt}
-use Rattle.commands.specs.Cycled.{IsCycledHeap, IsUncycled}
+use Rattle.commands.specs.Cycled.{Given, IsCycledHeap, IsUncycled}
 use Rattle.commands.specs.Nexts.{IsOfWritingNext, IsWrittenNext, MakesNext, Nexts, PrintsNext, RefusesCycle, RefusesGivenAt, RefusesNext, RefusesWriting}
 use Rattle.commands.specs.declared.cycling.Cycled.{Cycled}
 
@@ -23,10 +26,15 @@ use Rattle.commands.specs.declared.cycling.Cycled.{Cycled}
 marks_uncounted : {F W : Type 0} (disk : Disk F W) (path : List ℕ) (n : ℕ) (refusal : CommandRefusal) → RefusesMarksAt disk path refusal → CountsPrint {T = Unit {0}} n n (Err refusal)
 marks_uncounted disk path n refusal h = uncounted_by n n refusal refl (λ e. (subst (RefusesMarksAt disk path) e h).2)
 
--- and none of the marks that are asked for
-pub given_uncounted : {F W : Type 0} (disk : Disk F W) (path : Option (List ℕ)) (n : ℕ) (refusal : CommandRefusal) → RefusesGivenAt disk path refusal → CountsPrint {T = Unit {0}} n n (Err refusal)
-given_uncounted disk (Some path) n refusal h = marks_uncounted disk path n refusal h
-given_uncounted disk None n refusal h = absurd h
+-- so does none of roots
+roots_uncounted : {F W : Type 0} (disk : Disk F W) (path : List ℕ) (mutators n : ℕ) (refusal : CommandRefusal) → RefusesRootsAt disk path mutators refusal → CountsPrint {T = Unit {0}} n n (Err refusal)
+roots_uncounted disk path mutators n refusal h = uncounted_by n n refusal refl (λ e. (subst (RefusesRootsAt disk path mutators) e h).2)
+
+-- and none of what is asked for
+pub given_uncounted : {F W : Type 0} (disk : Disk F W) (mutators : ℕ) (asked : NextMarks) (n : ℕ) (refusal : CommandRefusal) → RefusesGivenAt disk mutators asked refusal → CountsPrint {T = Unit {0}} n n (Err refusal)
+given_uncounted disk mutators (asking.Given path) n refusal h = marks_uncounted disk path.now n refusal h
+given_uncounted disk mutators asking.Reachable n refusal h = absurd h
+given_uncounted disk mutators (asking.ReachableFrom path) n refusal h = roots_uncounted disk path.now mutators n refusal h
 
 -- a refusal of the image is one of the writing
 pub writing_image : {F W : Type 0} (disk : Disk F W) (path bytes : List ℕ) (to : F) (refusal : CommandRefusal) → IsOfWritingImage disk path bytes refusal
@@ -43,6 +51,7 @@ writing_image disk path bytes to (ReadFailed input) h = h
 writing_image disk path bytes to CannotPrint h = absurd h
 writing_image disk path bytes to (NoSuchWord index) h = h
 writing_image disk path bytes to (BadMarks line) h = h
+writing_image disk path bytes to (BadRoots line) h = h
 writing_image disk path bytes to OutOfMemory h = h
 
 -- the image was written, and a call of the output failed
@@ -62,7 +71,7 @@ pub err_then : (P Q : CommandRefusal → Type 0) → ((refusal : CommandRefusal)
 err_then P Q f (Ok _) p = tt
 err_then P Q f (Err refusal) p = f refusal p
 
-module _ {F W : Type 0} (disk : Disk F W) (asked : NextRun) (from to : F) (before after : Option (List ℕ)) (lines : List Line) (given : Option (List ℕ)) (heap : Heap) where
+module _ {F W : Type 0} (disk : Disk F W) (asked : NextRun) (from to : F) (before after : Option (List ℕ)) (lines : List Line) (given : Given) (heap : Heap) where
   -- the cycle came to its end, and all was written and printed
   pub made_ok : (made : Result Cycled PrintedHalt) → IfOk made (λ cycled. IsCycledHeap asked.mutators asked.fresh lines cycled.shown.items given heap cycled.plan)
       → (result : Result (Unit {0}) CommandRefusal) → OnOk result (IsWrittenNext disk asked.new.now to before after made) → OnOk result (Nexts disk asked to before after lines given heap)

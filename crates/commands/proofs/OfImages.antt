@@ -9,7 +9,7 @@ use Rattle.command_io.specs.Images.{IsHeapAt, RefusesAt, SomeHeapAt}
 use Rattle.command_io.specs.Printing.{line_of}
 use Rattle.command_io.specs.declared.refusal.Input.TheVariants as inputs
 use Rattle.command_io.specs.declared.refusal.CommandRefusal.{CommandRefusal}
-use Rattle.command_io.specs.declared.refusal.CommandRefusal.TheVariants.{Layout, Mutator, Sweep, Trace, Dump, Audit, CannotOpen, CannotCreate, ReadFailed, CannotPrint, NoSuchWord, BadMarks, OutOfMemory}
+use Rattle.command_io.specs.declared.refusal.CommandRefusal.TheVariants.{Layout, Mutator, Sweep, Trace, Dump, Audit, CannotOpen, CannotCreate, ReadFailed, CannotPrint, NoSuchWord, BadMarks, OutOfMemory, BadRoots}
 use Rattle.command_io.proofs.Imaged.{at_heap}
 use Rattle.commands.specs.Compact.{IsOfSweeping, RefusesSweep}
 use Rattle.commands.specs.Plan.{IsOfPrinting, RefusesPlan}
@@ -31,6 +31,7 @@ module _ {F W : Type 0} (disk : Disk F W) (large : Bool) (path : List ℕ) where
     of_plan CannotPrint h = at_heap disk large path heap (λ other. ⊤) image tt
     of_plan (NoSuchWord index) h = absurd h
     of_plan (BadMarks line) h = absurd h
+    of_plan (BadRoots line) h = absurd h
     of_plan OutOfMemory h = tt
 
     -- it has no word at the index
@@ -49,6 +50,7 @@ module _ {F W : Type 0} (disk : Disk F W) (large : Bool) (path : List ℕ) where
         let short = at_heap disk large path heap (λ other. 64 * pages (live other) ≤ index) image h.1 in
         (short.0, short.1, (h.0, short.2))
     of_past index (BadMarks line) h = absurd h
+    of_past index (BadRoots line) h = absurd h
     of_past index OutOfMemory h = tt
 
     -- it was not swept
@@ -65,6 +67,7 @@ module _ {F W : Type 0} (disk : Disk F W) (large : Bool) (path : List ℕ) where
     of_sweeping CannotPrint h = absurd h
     of_sweeping (NoSuchWord index) h = absurd h
     of_sweeping (BadMarks line) h = absurd h
+    of_sweeping (BadRoots line) h = absurd h
     of_sweeping OutOfMemory h = tt
 
   module _ (index : ℕ) where
@@ -80,11 +83,13 @@ module _ {F W : Type 0} (disk : Disk F W) (large : Bool) (path : List ℕ) where
     of_word (CannotOpen inputs.Trace) h = absurd h.2
     of_word (CannotOpen inputs.Dump) h = absurd h.2
     of_word (CannotOpen inputs.Marks) h = absurd h.2
+    of_word (CannotOpen inputs.Roots) h = absurd h.2
     of_word (CannotCreate output) h = absurd h.2
     of_word (ReadFailed input) h = absurd h.2
     of_word CannotPrint h = absurd h.2
     of_word (NoSuchWord past) h = h
     of_word (BadMarks line) h = absurd h.2
+    of_word (BadRoots line) h = absurd h.2
     of_word OutOfMemory h = tt
 
     module _ (word : ℕ) (found : SomeHeapAt disk large path (IsWordAt index word)) where

@@ -27,7 +27,7 @@ use Rattle.commands.specs.Replays.{dumped_of, replaying, shown_lines, CutsReplay
 use Rattle.command_io.specs.Texts.{HasLinesAt, RefusesTextAt}
 use Rattle.command_io.specs.declared.refusal.Output.TheVariants as outputs
 use Rattle.command_io.specs.declared.refusal.CommandRefusal.{CommandRefusal}
-use Rattle.command_io.specs.declared.refusal.CommandRefusal.TheVariants.{Layout, Mutator, Sweep, Trace, Dump, Audit, CannotOpen, CannotCreate, ReadFailed, CannotPrint, NoSuchWord, BadMarks, OutOfMemory}
+use Rattle.command_io.specs.declared.refusal.CommandRefusal.TheVariants.{Layout, Mutator, Sweep, Trace, Dump, Audit, CannotOpen, CannotCreate, ReadFailed, CannotPrint, NoSuchWord, BadMarks, OutOfMemory, BadRoots}
 use Rattle.command_io.proofs.Outcomes.{same_parts, uncounted_by, uncreated, unmade_too}
 use Rattle.commands.specs.Outcomes.{IsHaltedBy, IsWritten, RefusesInputs, RefusesOutcome}
 use Rattle.commands.specs.declared.replays.PrintedHalt.{PrintedHalt}
@@ -98,6 +98,7 @@ unprinted_halt before (ReadFailed input) = Keeps-refl before
 unprinted_halt before CannotPrint = tt
 unprinted_halt before (NoSuchWord index) = Keeps-refl before
 unprinted_halt before (BadMarks line) = Keeps-refl before
+unprinted_halt before (BadRoots line) = Keeps-refl before
 unprinted_halt before OutOfMemory = Keeps-refl before
 
 -- if nothing was printed, the output is as it was
@@ -146,6 +147,7 @@ halt_unprinted before after shown printed (ReadFailed input) h = none_printed be
 halt_unprinted before after shown printed CannotPrint h = tt
 halt_unprinted before after shown printed (NoSuchWord index) h = none_printed before after shown h printed
 halt_unprinted before after shown printed (BadMarks line) h = none_printed before after shown h printed
+halt_unprinted before after shown printed (BadRoots line) h = none_printed before after shown h printed
 halt_unprinted before after shown printed OutOfMemory h = none_printed before after shown h printed
 
 -- and none of the dump
@@ -181,6 +183,7 @@ writing_of disk path bytes to (ReadFailed input) h = h
 writing_of disk path bytes to CannotPrint h = absurd h
 writing_of disk path bytes to (NoSuchWord index) h = h
 writing_of disk path bytes to (BadMarks line) h = h
+writing_of disk path bytes to (BadRoots line) h = h
 writing_of disk path bytes to OutOfMemory h = h
 
 -- the dump of a finished heap has its parts

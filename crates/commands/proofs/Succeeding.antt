@@ -23,14 +23,16 @@ use Rattle.comp_trace.specs.Grammar.{parts}
 use Rattle.comp_trace.specs.Line.{Line}
 use Rattle.comp_trace.specs.Markings.{IsMarkedBy}
 use Rattle.comp_trace.specs.Marks.{marks_of}
+use Rattle.comp_trace.specs.NewRoot.{NewRoot}
+use Rattle.comp_trace.specs.RootsNamed.{words_named}
 use Rattle.comp_trace.specs.Runs.{MayBegin}
 use Rattle.comp_trace.specs.Shown.{Shown}
 use Rattle.comp_trace.proofs.Determined.{determined}
 use Rattle.comp_trace.proofs.Inside.{ok_is, read_inside}
 use Rattle.command_io.specs.Texts.{HasLines}
 use Rattle.reachability.specs.Reachable.{AreReachable}
-use Rattle.commands.specs.Cycled.{IsCycledHeap}
-use Rattle.commands.specs.Successors.{AreMarksIn, AreOneLife, LeaveOne, NextFollows, NextIsOne, TwoAreOneLife}
+use Rattle.commands.specs.Cycled.{Given, IsCycledHeap}
+use Rattle.commands.specs.Successors.{AreMarksIn, AreOneLife, AreRootsIn, LeaveOne, NextFollows, NextIsOne, TwoAreOneLife}
 use Rattle.commands.proofs.Once.{counted, counted_of, same_entries}
 
 -- ---- the next heap of a cycle
@@ -64,9 +66,9 @@ heap_with edition words marks roots = record { edition = edition; words = words;
 abbrev words_after : Setup → Journals → List ℕ
 words_after u journals = map (next_word u journals) (range_with_len 0 (64 * pages u))
 
--- the roots of a cycle stay if no others are handed in
-roots_kept : (c : Cycle) → c.new_roots ≡ None → roots_after c ≡ c.roots
-roots_kept c none = ap (λ (new : Option (List ℕ)). unwrap_or new c.roots) none
+-- cycles with the same roots, to which the same are handed in, end with the same roots
+roots_alike : (c d : Cycle) → c.new_roots ≡ d.new_roots → c.roots ≡ d.roots → roots_after c ≡ roots_after d
+roots_alike c d new roots = ap (λ (n : Option (List ℕ)). unwrap_or n c.roots) new ∙ ap (λ (r : List ℕ). unwrap_or d.new_roots r) roots
 
 -- cycles with the same setup, journals, roots and marks have the same next heap
 same_next : (c d : Cycle) → c.setup ≡ d.setup → ((p : ℕ) → c.journals p ≡ d.journals p) → roots_after c ≡ roots_after d → c.marks ≡ d.marks → heap_after c ≡ heap_after d
@@ -103,7 +105,7 @@ stamps_are c can = stamps_all c.setup c.journals can
 
 -- ---- over one heap
 
-module _ (mutators fresh : ℕ) (heap : Heap) (lines : List Line) (given : Option (List ℕ)) (shown others : List Shown) (next other : Heap) (text : List ℕ) (text_is : HasLines mutators (length heap.roots) lines text)
+module _ (mutators fresh : ℕ) (heap : Heap) (lines : List Line) (given : Given) (shown others : List Shown) (next other : Heap) (text : List ℕ) (text_is : HasLines mutators (length heap.roots) lines text)
     (x : IsCycledHeap mutators fresh lines shown given heap next) (y : IsCycledHeap mutators fresh lines others given heap other) where
   abbrev u : Setup
   u = flipped heap mutators fresh
@@ -124,8 +126,9 @@ module _ (mutators fresh : ℕ) (heap : Heap) (lines : List Line) (given : Optio
       let setup : c.setup ≡ d.setup = ran.setup_is ∙ sym again.setup_is in
       let journals = λ (p : ℕ). sym (page_is c x.part.cycle.merges p) ∙ ap (λ (l : List (ℕ × Entry)). on p l) entries ∙ page_is d y.part.cycle.merges p in
       let roots = same_roots c.roots d.roots (x.part.cycle.roots ∙ ap (λ (v : Setup). map (forward (live v.heap)) v.heap.roots) setup ∙ sym y.part.cycle.roots) in
-      let after = roots_kept c x.part.roots_stay ∙ roots ∙ sym (roots_kept d y.part.roots_stay) in
-      let left = same_next c d setup journals after (same_marks once c d setup journals after given x.part.marked y.part.marked) in
+      let words = ap (λ (r : ℕ → List ℕ). words_named r given.roots) alike.registers in
+      let after = roots_alike c d (x.part.roots_are ∙ words ∙ sym y.part.roots_are) roots in
+      let left = same_next c d setup journals after (same_marks once c d setup journals after given.marks x.part.marked y.part.marked) in
       record { values = ran.shown_is ∙ alike.shown ∙ sym again.shown_is; heaps = x.next_is ∙ left ∙ sym y.next_is }
 
 -- ---- by the bytes
@@ -137,35 +140,52 @@ same_heap differ a b stored also accepted too same = differ a b stored also (cou
 marks_is : {E : Type 0} (xs ys : List ℕ) → ◌≡◌ {A = Result (List ℕ) E} (Ok xs) (Ok ys) → xs ≡ ys
 marks_is xs ys e = cc
 
+roots_is : {E : Type 0} (xs ys : List NewRoot) → ◌≡◌ {A = Result (List NewRoot) E} (Ok xs) (Ok ys) → xs ≡ ys
+roots_is xs ys e = cc
+
 -- the marks of a text are one
-given_one : (text given other : Option (List ℕ)) → AreMarksIn text given → AreMarksIn text other → given ≡ other
-given_one (Some text) given other (xs, is_xs, x) (ys, is_ys, y) = x ∙ ap (λ (l : List ℕ). Some l) (marks_is xs ys (sym is_xs ∙ is_ys)) ∙ sym y
-given_one None given other x y = x ∙ sym y
+marks_one : (text given other : Option (List ℕ)) → AreMarksIn text given → AreMarksIn text other → given ≡ other
+marks_one (Some text) given other (xs, is_xs, x) (ys, is_ys, y) = x ∙ ap (λ (l : List ℕ). Some l) (marks_is xs ys (sym is_xs ∙ is_ys)) ∙ sym y
+marks_one None given other x y = x ∙ sym y
+
+-- so are the roots
+roots_one : (mutators : ℕ) (text : Option (List ℕ)) (given other : Option (List NewRoot)) → AreRootsIn mutators text given → AreRootsIn mutators text other → given ≡ other
+roots_one mutators (Some text) given other (xs, is_xs, x) (ys, is_ys, y) = x ∙ ap (λ (l : List NewRoot). Some l) (roots_is xs ys (sym is_xs ∙ is_ys)) ∙ sym y
+roots_one mutators None given other x y = x ∙ sym y
+
+abbrev with_both : Option (List ℕ) → Option (List NewRoot) → Given
+with_both marks roots = record { marks = marks; roots = roots }
+
+-- so is what is given
+given_one : (x y : Given) → x.marks ≡ y.marks → x.roots ≡ y.roots → x ≡ y
+given_one x y marks roots = ap (λ (m : Option (List ℕ)). with_both m x.roots) marks ∙ ap (with_both y.marks) roots
 
 -- what is known of a run of `next`, of its heap alone
-record Over (mutators fresh : ℕ) (text : List ℕ) (marks_text : Option (List ℕ)) (shown : List Shown) (next heap : Heap) : Type 0 where
+record Over (mutators fresh : ℕ) (text : List ℕ) (marks_text roots_text : Option (List ℕ)) (shown : List Shown) (next heap : Heap) : Type 0 where
   lines : List Line
   text_is : HasLines mutators (length heap.roots) lines text
-  given : Option (List ℕ)
-  given_is : AreMarksIn marks_text given
+  given : Given
+  marks_are : AreMarksIn marks_text given.marks
+  roots_are : AreRootsIn mutators roots_text given.roots
   cycled : IsCycledHeap mutators fresh lines shown given heap next
 
-over_one : ReachedOnce → (mutators fresh : ℕ) (text : List ℕ) (marks_text : Option (List ℕ)) (shown others : List Shown) (next other heap : Heap) → Over mutators fresh text marks_text shown next heap → Over mutators fresh text marks_text others other heap
+over_one : ReachedOnce → (mutators fresh : ℕ) (text : List ℕ) (marks_text roots_text : Option (List ℕ)) (shown others : List Shown) (next other heap : Heap) → Over mutators fresh text marks_text roots_text shown next heap
+    → Over mutators fresh text marks_text roots_text others other heap
     → LeaveOne shown others next other
-over_one once mutators fresh text marks_text shown others next other heap x y =
+over_one once mutators fresh text marks_text roots_text shown others next other heap x y =
     let lines : x.lines ≡ y.lines = ok_is x.lines y.lines (sym x.text_is ∙ y.text_is) in
-    let given : x.given ≡ y.given = given_one marks_text x.given y.given x.given_is y.given_is in
+    let given : x.given ≡ y.given = given_one x.given y.given (marks_one marks_text x.given.marks y.given.marks x.marks_are y.marks_are) (roots_one mutators roots_text x.given.roots y.given.roots x.roots_are y.roots_are) in
     same_cycle mutators fresh heap x.lines x.given shown others next other text x.text_is x.cycled
-    (subst (λ (m : Option (List ℕ)). IsCycledHeap mutators fresh x.lines others m heap other) (sym given)
+    (subst (λ (g : Given). IsCycledHeap mutators fresh x.lines others g heap other) (sym given)
     (subst (λ (ls : List Line). IsCycledHeap mutators fresh ls others y.given heap other) (sym lines) y.cycled))
     once
 
 pub next_is_one : ImagesDiffer → ReachedOnce → NextIsOne
-next_is_one differ once mutators fresh image text marks_text shown others next other x y =
+next_is_one differ once mutators fresh image text marks_text roots_text shown others next other x y =
     let same : x.heap ≡ y.heap = same_heap differ x.heap y.heap x.stored y.stored x.accepted y.accepted (sym x.image_is ∙ y.image_is) in
-    let mine : Over mutators fresh text marks_text shown next x.heap = record { lines = x.lines; text_is = x.text_is; given = x.given; given_is = x.given_is; cycled = x.cycled } in
-    let over : Over mutators fresh text marks_text others other y.heap = record { lines = y.lines; text_is = y.text_is; given = y.given; given_is = y.given_is; cycled = y.cycled } in
-    over_one once mutators fresh text marks_text shown others next other x.heap mine (subst (Over mutators fresh text marks_text others other) (sym same) over)
+    let mine : Over mutators fresh text marks_text roots_text shown next x.heap = record { lines = x.lines; text_is = x.text_is; given = x.given; marks_are = x.marks_are; roots_are = x.roots_are; cycled = x.cycled } in
+    let over : Over mutators fresh text marks_text roots_text others other y.heap = record { lines = y.lines; text_is = y.text_is; given = y.given; marks_are = y.marks_are; roots_are = y.roots_are; cycled = y.cycled } in
+    over_one once mutators fresh text marks_text roots_text shown others next other x.heap mine (subst (Over mutators fresh text marks_text roots_text others other) (sym same) over)
 
 -- ---- one life
 
@@ -175,7 +195,7 @@ one_more [] first heap next c follow is after = (subst (λ (h : Heap). IsCycleOf
 one_more (d ∷ ds) first heap next c follow is after = (follow.0, one_more ds (heap_after d) heap next c follow.1 is after)
 
 pub next_follows : ImagesDiffer → NextFollows
-next_follows differ first heap next cycles mutators fresh text marks_text shown stored accepted follow run =
+next_follows differ first heap next cycles mutators fresh text marks_text roots_text shown stored accepted follow run =
     let same : run.heap ≡ heap = same_heap differ run.heap heap run.stored stored run.accepted accepted (sym run.image_is) in
     one_more cycles first heap next run.cycled.cycle follow (subst (λ (h : Heap). IsCycleOf h run.cycled.cycle) same run.cycled.part.cycle) run.cycled.next_is
 
@@ -184,7 +204,7 @@ module _ (life : (heap last : Heap) (cycles : List Cycle) → IsClosed heap → 
   are_one_life first last cycles accepted follow = life first last cycles (closed first accepted) follow
 
   pub two_are_one_life : ImagesDiffer → TwoAreOneLife
-  two_are_one_life differ mutators fresh more_mutators more_fresh image text second_text marks_text second_marks shown values next last run second =
+  two_are_one_life differ mutators fresh more_mutators more_fresh image text second_text marks_text second_marks roots_text second_roots shown values next last run second =
       let first : Follow run.heap (run.cycled.cycle ∷ []) next = (run.cycled.part.cycle, run.cycled.next_is) in
       are_one_life run.heap last (run.cycled.cycle ∷ second.cycled.cycle ∷ []) run.accepted
-      (next_follows differ run.heap next last (run.cycled.cycle ∷ []) more_mutators more_fresh second_text second_marks values run.cycled.stored run.cycled.accepted first second)
+      (next_follows differ run.heap next last (run.cycled.cycle ∷ []) more_mutators more_fresh second_text second_marks second_roots values run.cycled.stored run.cycled.accepted first second)

@@ -18,7 +18,7 @@ use Rattle.command_io.specs.Texts.{HasLines, HasLinesAt, RefusesText, RefusesTex
 use Rattle.command_io.specs.declared.refusal.Input.TheVariants as inputs
 use Rattle.command_io.specs.declared.refusal.Output.TheVariants as outputs
 use Rattle.command_io.specs.declared.refusal.CommandRefusal.{CommandRefusal}
-use Rattle.command_io.specs.declared.refusal.CommandRefusal.TheVariants.{Layout, Mutator, Sweep, Trace, Dump, Audit, CannotOpen, CannotCreate, ReadFailed, CannotPrint, NoSuchWord, BadMarks, OutOfMemory}
+use Rattle.command_io.specs.declared.refusal.CommandRefusal.TheVariants.{Layout, Mutator, Sweep, Trace, Dump, Audit, CannotOpen, CannotCreate, ReadFailed, CannotPrint, NoSuchWord, BadMarks, OutOfMemory, BadRoots}
 use Rattle.command_io.proofs.Imaged.{of_heap}
 use Rattle.commands.specs.Outcomes.{IsHaltedBy, IsWritten, RefusesInputs, RefusesOutcome}
 use Rattle.commands.specs.Replays.{dumped_of, shown_lines, IsHaltedRun, IsOfWritingRun, PrintsRun, RefusesRun, RefusesTrace, RefusesTraced, SomeRun, StopsRun, Way}
@@ -64,11 +64,13 @@ module _ {F W : Type 0} (way : Way) (disk : Disk F W) (asked : TraceRun) (from t
   of_image (CannotOpen inputs.Trace) h = absurd h.2
   of_image (CannotOpen inputs.Dump) h = absurd h.2
   of_image (CannotOpen inputs.Marks) h = absurd h.2
+  of_image (CannotOpen inputs.Roots) h = absurd h.2
   of_image (CannotCreate output) h = absurd h.2
   of_image (ReadFailed input) h = absurd h.2
   of_image CannotPrint h = absurd h.2
   of_image (NoSuchWord index) h = absurd h.2
   of_image (BadMarks line) h = absurd h.2
+  of_image (BadRoots line) h = absurd h.2
   of_image OutOfMemory h = tt
 
   module _ (heap : Heap) (image : IsHeapAt disk asked.large asked.image.now heap) where
@@ -84,14 +86,17 @@ module _ {F W : Type 0} (way : Way) (disk : Disk F W) (asked : TraceRun) (from t
     by_trace kept (CannotOpen inputs.Trace) h = (h, some_heap disk asked heap image)
     by_trace kept (CannotOpen inputs.Dump) h = absurd h.2
     by_trace kept (CannotOpen inputs.Marks) h = absurd h.2
+    by_trace kept (CannotOpen inputs.Roots) h = absurd h.2
     by_trace kept (CannotCreate output) h = absurd h.2
     by_trace kept (ReadFailed inputs.Image) h = absurd h.2
     by_trace kept (ReadFailed inputs.Trace) h = some_refused disk asked heap image (ReadFailed inputs.Trace) h
     by_trace kept (ReadFailed inputs.Dump) h = absurd h.2
     by_trace kept (ReadFailed inputs.Marks) h = absurd h.2
+    by_trace kept (ReadFailed inputs.Roots) h = absurd h.2
     by_trace kept CannotPrint h = absurd h.2
     by_trace kept (NoSuchWord index) h = absurd h.2
     by_trace kept (BadMarks line) h = absurd h.2
+    by_trace kept (BadRoots line) h = absurd h.2
     by_trace kept OutOfMemory h = tt
 
     module _ (lines : List Line) (trace : HasLinesAt disk asked.trace.now asked.mutators (length heap.roots) lines) where
@@ -114,6 +119,7 @@ module _ {F W : Type 0} (way : Way) (disk : Disk F W) (asked : TraceRun) (from t
       of_halt shown printed CannotPrint h = absurd h
       of_halt shown printed (NoSuchWord index) h = absurd h
       of_halt shown printed (BadMarks line) h = absurd h
+      of_halt shown printed (BadRoots line) h = absurd h
       of_halt shown printed OutOfMemory h = tt
 
       -- or a call of the output failed
@@ -139,6 +145,7 @@ module _ {F W : Type 0} (way : Way) (disk : Disk F W) (asked : TraceRun) (from t
       of_writing left CannotPrint w = by_run CannotPrint (inl (left, w))
       of_writing left (NoSuchWord index) w = absurd w
       of_writing left (BadMarks line) w = absurd w
+      of_writing left (BadRoots line) w = absurd w
       of_writing left OutOfMemory w = tt
 
       -- What follows from what became of the run, if what a run leaves has the dump of its heap.
@@ -185,4 +192,5 @@ halted_by cuts lines heap shown cut (ReadFailed input) h = absurd h
 halted_by cuts lines heap shown cut CannotPrint h = h
 halted_by cuts lines heap shown cut (NoSuchWord index) h = absurd h
 halted_by cuts lines heap shown cut (BadMarks line) h = absurd h
+halted_by cuts lines heap shown cut (BadRoots line) h = absurd h
 halted_by cuts lines heap shown cut OutOfMemory h = h

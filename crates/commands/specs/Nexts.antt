@@ -5,11 +5,15 @@ use Rattle.heap_layout.specs.Heap.{live, Heap}
 use Rattle.page_plan.specs.Sliding.{live_words}
 use Rattle.comp_trace.specs.Shown.{Shown}
 use Rattle.comp_trace.specs.Line.{Line}
-use Rattle.command_line.specs.Nexts.{marks_path}
+use Rattle.comp_trace.specs.NewRoot.{NewRoot}
+use Rattle.command_line.specs.Nexts.{marks_path, roots_path}
+use Rattle.command_line.specs.declared.next.NextMarks.{NextMarks}
+use Rattle.command_line.specs.declared.next.NextMarks.TheVariants as asking
 use Rattle.command_line.specs.declared.next.NextRun.{NextRun}
 use Rattle.command_io.specs.Disk.{Disk, WritesWhole}
 use Rattle.command_io.specs.Images.{IsHeapAt}
 use Rattle.command_io.specs.Marks.{AreMarksAt, RefusesMarksAt}
+use Rattle.command_io.specs.Roots.{AreRootsAt, RefusesRootsAt}
 use Rattle.command_io.specs.NewImages.{IsOfWritingImage}
 use Rattle.command_io.specs.Texts.{HasLines, HasLinesAt}
 use Rattle.command_io.specs.declared.refusal.Output.TheVariants as outputs
@@ -18,14 +22,14 @@ use Rattle.command_io.specs.declared.refusal.CommandRefusal.TheVariants.{CannotP
 use Rattle.commands.specs.Outcomes.{IsOfHalt, RefusesInputs}
 use Rattle.commands.specs.Replays.{PrintsRun}
 use Rattle.commands.specs.declared.replays.PrintedHalt.{PrintedHalt}
-use Rattle.commands.specs.Cycled.{IsCycledHeap, IsUncycled}
+use Rattle.commands.specs.Cycled.{Given, IsCycledHeap, IsUncycled}
 use Rattle.commands.specs.declared.cycling.Cycled.{Cycled}
 
--- ---- from a heap, lines, and marks if they are given
+-- ---- from a heap, lines, and what is given for the next heap
 
 -- The lines ran, and the image of the next heap was written, and these are the files since; then the values of the `get`
 -- lines and the live words of that heap were printed.
-pub record Nexts {F W : Type 0} (disk : Disk F W) (asked : NextRun) (to : F) (before after : Option (List ℕ)) (lines : List Line) (given : Option (List ℕ)) (heap : Heap) : Type 0 where
+pub record Nexts {F W : Type 0} (disk : Disk F W) (asked : NextRun) (to : F) (before after : Option (List ℕ)) (lines : List Line) (given : Given) (heap : Heap) : Type 0 where
   pub shown : List Shown
   pub next : Heap
   pub cycled : IsCycledHeap asked.mutators asked.fresh lines shown given heap next
@@ -41,7 +45,7 @@ IsOfWritingNext disk path bytes to refusal = IsOfWritingImage disk path bytes re
 
 -- why the cycle does not come to its end, or is not written or printed: if its lines were halted, the files stayed as
 -- they were, and what the lines had shown was printed
-abbrev pub RefusesCycle : {F W : Type 0} → Disk F W → NextRun → F → F → Option (List ℕ) → Option (List ℕ) → List Line → Option (List ℕ) → Heap → CommandRefusal → Type 0
+abbrev pub RefusesCycle : {F W : Type 0} → Disk F W → NextRun → F → F → Option (List ℕ) → Option (List ℕ) → List Line → Given → Heap → CommandRefusal → Type 0
 RefusesCycle disk asked from to before after lines given heap refusal =
     ((halted : PrintedHalt) × IsUncycled asked.mutators asked.fresh lines halted.shown.items given heap halted.refusal × (to ≡ from) × IsOfHalt before after halted refusal)
     ⊎ ((shown : List Shown) × (next : Heap) × IsCycledHeap asked.mutators asked.fresh lines shown given heap next × IsOfWritingNext disk asked.new.now (encoding next) to refusal)
@@ -49,40 +53,52 @@ RefusesCycle disk asked from to before after lines given heap refusal =
 -- ---- from the files
 
 -- these are the marks that are asked for: those at the path; and none if the heap is marked by what its roots reach
-abbrev pub AreGivenAt : {F W : Type 0} → Disk F W → Option (List ℕ) → Option (List ℕ) → Type 0
-AreGivenAt disk (Some path) given = (marks : List ℕ) × AreMarksAt disk path marks × (given ≡ Some marks)
-AreGivenAt disk None given = given ≡ None
+abbrev pub AreMarksGiven : {F W : Type 0} → Disk F W → Option (List ℕ) → Option (List ℕ) → Type 0
+AreMarksGiven disk (Some path) given = (marks : List ℕ) × AreMarksAt disk path marks × (given ≡ Some marks)
+AreMarksGiven disk None given = given ≡ None
 
--- the marks at the path are refused, or there are none
-abbrev pub RefusesGivenAt : {F W : Type 0} → Disk F W → Option (List ℕ) → CommandRefusal → Type 0
-RefusesGivenAt disk (Some path) refusal = RefusesMarksAt disk path refusal
-RefusesGivenAt disk None refusal = ⊥
+-- these are the roots that are asked for: those at the path; and none if the roots stay
+abbrev pub AreRootsGiven : {F W : Type 0} → Disk F W → ℕ → Option (List ℕ) → Option (List NewRoot) → Type 0
+AreRootsGiven disk mutators (Some path) given = (roots : List NewRoot) × AreRootsAt disk path mutators roots × (given ≡ Some roots)
+AreRootsGiven disk mutators None given = given ≡ None
 
--- P holds of the heap of the image, of the lines of the trace for it, and of the marks that are asked for
-abbrev pub SomeCycle : {F W : Type 0} → Disk F W → NextRun → (List Line → Option (List ℕ) → Heap → Type 0) → Type 0
+-- this is what is asked for, for this number of mutators
+pub record IsGivenAt {F W : Type 0} (disk : Disk F W) (mutators : ℕ) (asked : NextMarks) (given : Given) : Type 0 where
+  pub marks : AreMarksGiven disk (marks_path asked) given.marks
+  pub roots : AreRootsGiven disk mutators (roots_path asked) given.roots
+
+-- the marks or the roots that are asked for are refused, or there are none at the path
+abbrev pub RefusesGivenAt : {F W : Type 0} → Disk F W → ℕ → NextMarks → CommandRefusal → Type 0
+RefusesGivenAt disk mutators (asking.Given path) refusal = RefusesMarksAt disk path.now refusal
+RefusesGivenAt disk mutators asking.Reachable refusal = ⊥
+RefusesGivenAt disk mutators (asking.ReachableFrom path) refusal = RefusesRootsAt disk path.now mutators refusal
+
+-- P holds of the heap of the image, of the lines of the trace for it, and of what is given for the next heap
+abbrev pub SomeCycle : {F W : Type 0} → Disk F W → NextRun → (List Line → Given → Heap → Type 0) → Type 0
 SomeCycle disk asked P =
     (heap : Heap) × IsHeapAt disk asked.large asked.image.now heap
     × ((lines : List Line) × HasLinesAt disk asked.trace.now asked.mutators (length heap.roots) lines
-    × ((given : Option (List ℕ)) × AreGivenAt disk (marks_path asked.marks) given × P lines given heap))
+    × ((given : Given) × IsGivenAt disk asked.mutators asked.marks given × P lines given heap))
 
 -- what the command does
 abbrev pub MakesNext : {F W : Type 0} → Disk F W → NextRun → F → Option (List ℕ) → Option (List ℕ) → Type 0
 MakesNext disk asked to before after = SomeCycle disk asked (Nexts disk asked to before after)
 
 -- what was printed, between these two contents of the output, are the values of a trace that was run over the heap,
--- and the live words of the heap that followed, with some marks or marked by what its roots reach
+-- and the live words of the heap that followed, with some marks or marked by what its roots reach, some roots or its own
 abbrev pub PrintsNext : ℕ → ℕ → Option (List ℕ) → Option (List ℕ) → Heap → Type 0
 PrintsNext mutators fresh before after heap = (text : List ℕ) × (lines : List Line) × HasLines mutators (length heap.roots) lines text
-    × (given : Option (List ℕ)) × (shown : List Shown) × (next : Heap) × IsCycledHeap mutators fresh lines shown given heap next × PrintsRun before after shown (live_words (live next))
+    × (given : Given) × (shown : List Shown) × (next : Heap) × IsCycledHeap mutators fresh lines shown given heap next × PrintsRun before after shown (live_words (live next))
 
--- there are the heap of the image and the lines of the trace for it; the marks are refused, or there are none
+-- there are the heap of the image and the lines of the trace for it; the marks or the roots are refused, or there are
+-- none
 abbrev pub RefusesHanded : {F W : Type 0} → Disk F W → NextRun → CommandRefusal → Type 0
 RefusesHanded disk asked refusal =
     (heap : Heap) × IsHeapAt disk asked.large asked.image.now heap
-    × ((lines : List Line) × HasLinesAt disk asked.trace.now asked.mutators (length heap.roots) lines × RefusesGivenAt disk (marks_path asked.marks) refusal)
+    × ((lines : List Line) × HasLinesAt disk asked.trace.now asked.mutators (length heap.roots) lines × RefusesGivenAt disk asked.mutators asked.marks refusal)
 
--- why it is refused: there is no image, or no trace for its heap, or no marks; or one of them is refused; or the cycle
--- is
+-- why it is refused: there is no image, or no trace for its heap, or no marks, or no roots; or one of them is refused;
+-- or the cycle is
 abbrev pub RefusesNext : {F W : Type 0} → Disk F W → NextRun → F → F → Option (List ℕ) → Option (List ℕ) → CommandRefusal → Type 0
 RefusesNext disk asked from to before after refusal =
     RefusesInputs disk asked.large asked.image.now asked.trace.now asked.mutators refusal

@@ -1,20 +1,34 @@
 //! Runs a trace over a heap, and makes the heap with which the next cycle begins.
-ghost use Rattle.std.specs.Prelude.{◌≤◌, IfErr, IfOk, length};
+ghost use Rattle.std.specs.Prelude.{◌≤◌, ℕ, IfErr, IfOk, List, None, Some, length};
 ghost use Rattle.comp_mutator.specs.Ends.{IsEndOf};
 ghost use Rattle.comp_trace.specs.CycleRuns.{IsParsedFor};
 ghost use Rattle.comp_trace.specs.Markings.{marks_given};
+ghost use Rattle.comp_trace.specs.Replays.{Hold};
+ghost use Rattle.comp_trace.specs.RootsNamed.{words_named};
 ghost use Rattle.comp_trace.specs.Traces.{lines_of};
-ghost use Rattle.commands.specs.Cycled.{IsCycledHeap, IsNextHeap, IsUncycled, IsUnmarked};
+ghost use Rattle.commands.specs.Cycled.{given_by, IsCycledHeap, IsGivenWithin, IsNextHeap, IsUncycled, IsUnmarked};
 
 use crate::replays::{PrintedHalt, unshown};
 use command_io::CommandRefusal;
 use comp_mutator::{Finished, Refusal};
-use comp_trace::{CycleHalt, Halt, Marking, Shown, Trace, next_marked, run_cycle};
+use comp_trace::{
+    CycleHalt, Halt, Marking, NewRoot, Shown, Trace, next_marked, root_words, run_cycle,
+};
 use heap_layout::MarkedHeap;
 use page_plan::Plan;
+use reachable_cycles::next_reachable_with;
 use std::alloc::Global;
 use std::sync::Arc;
 use std::thread::Threads;
+
+/// What is handed in for the heap with which the next cycle begins.
+#[derive(Drop)]
+pub enum Handed {
+    /// How it is marked. Its roots stay.
+    Marked(Marking),
+    /// Its roots. It is marked by what they reach.
+    Roots(Vec<NewRoot>),
+}
 
 /// A cycle, and what the next cycle begins with.
 #[derive(Drop)]
@@ -26,29 +40,31 @@ pub struct Cycled {
 }
 
 /// Flips a heap, runs a trace over it by one thread, finishes it, and makes the heap with which the next cycle begins,
-/// marked so. There are 1 to 64 mutators and at most 4,096 fresh pages. The trace was parsed for these mutators and for
-/// the heap's number of roots.
+/// from what is handed in. There are 1 to 64 mutators and at most 4,096 fresh pages. The trace was parsed for these
+/// mutators and for the heap's number of roots. A root that is a register is one of these mutators, and names the word
+/// that the register holds when the run ends.
 ///
 /// It is refused if a line is refused, with the values of the lines before it; if the next heap is refused, with its
-/// first fault, which is `TooLarge` if that heap is marked by what its roots reach; and if memory runs out. The last
-/// two come with no value.
+/// first fault, which is `TooLarge` if that heap is marked by what its roots reach, or `BadRoot` for the first root that
+/// is handed in and leads nowhere; and if memory runs out. The last two come with no value.
 pub fn cycle_heap(
     alloc: Global,
     rt: &(impl Threads + Sync),
     heap: MarkedHeap,
     trace: &Trace,
-    marking: Marking,
+    handed: Handed,
     mutators: u8,
     fresh: u32,
 ) -> Result<Cycled, PrintedHalt>
     requires mutators { (1 ≤ mutators) × (mutators ≤ 64) }
     requires fresh { fresh ≤ 4096 }
     requires parsed { IsParsedFor mutators (length heap.roots) trace.now }
-    ensures cycled { IfOk result (λ cycled. IsCycledHeap mutators fresh (lines_of trace.now) cycled.shown.items (marks_given marking) heap cycled.plan) }
-    ensures halted { IfErr result (λ halted. IsUncycled mutators fresh (lines_of trace.now) halted.shown.items (marks_given marking) heap halted.refusal) }
+    requires within { IsGivenWithin mutators (given_by handed) }
+    ensures cycled { IfOk result (λ cycled. IsCycledHeap mutators fresh (lines_of trace.now) cycled.shown.items (given_by handed) heap cycled.plan) }
+    ensures halted { IfErr result (λ halted. IsUncycled mutators fresh (lines_of trace.now) halted.shown.items (given_by handed) heap halted.refusal) }
 {
     match run_cycle(alloc, rt, heap, trace, mutators, fresh) {
-        Ok(ran) => match mark_anew(alloc, rt, ran.plan, ran.finished, marking) {
+        Ok(ran) => match make_next(alloc, rt, ran.plan, ran.finished, &ran.registers, handed) {
             Ok(plan) => Ok(Cycled {
                 shown: ran.shown,
                 plan,
@@ -67,7 +83,50 @@ pub fn cycle_heap(
     }
 }
 
-// The plan of the heap with which the next cycle begins, marked so, if that heap is accepted.
+// The plan of the heap with which the next cycle begins, from what is handed in, if that heap is accepted.
+fn make_next(
+    alloc: Global,
+    rt: &(impl Threads + Sync),
+    plan: Arc<Plan>,
+    finished: Finished,
+    registers: &[[u64; 16]],
+    handed: Handed,
+) -> Result<Plan, CommandRefusal>
+    requires end { IsEndOf plan.value finished }
+    requires within { IsGivenWithin (length registers.now) (given_by handed) }
+    ensures next { IfOk result (λ next. (now : ℕ → List ℕ) → Hold (length registers.now) registers.now now
+        → IsNextHeap plan.value finished (given_by handed).marks (words_named now (given_by handed).roots) next) }
+    ensures refused { IfErr result (λ refusal. (now : ℕ → List ℕ) → Hold (length registers.now) registers.now now
+        → IsUnmarked plan.value finished (given_by handed).marks (words_named now (given_by handed).roots) refusal) }
+{
+    match handed {
+        Handed::Marked(marking) => mark_anew(alloc, rt, plan, finished, marking),
+        Handed::Roots(roots) => {
+            let words = root_words(alloc, registers, &roots)?;
+            root_anew(alloc, rt, plan, finished, &words)
+        }
+    }
+}
+
+// The plan of that heap with other roots, marked by what they reach, if it is accepted.
+fn root_anew(
+    alloc: Global,
+    rt: &(impl Threads + Sync),
+    plan: Arc<Plan>,
+    finished: Finished,
+    roots: &[u64],
+) -> Result<Plan, CommandRefusal>
+    requires end { IsEndOf plan.value finished }
+    ensures next { IfOk result (IsNextHeap plan.value finished None (Some roots.now)) }
+    ensures refused { IfErr result (IsUnmarked plan.value finished None (Some roots.now)) }
+{
+    match next_reachable_with(finished, alloc, &*plan, roots) {
+        Ok(heap) => Ok(Plan::new(alloc, rt, heap)?),
+        Err(left) => Err(CommandRefusal::Layout(left.fault)),
+    }
+}
+
+// The plan of the heap with which the next cycle begins, marked so, if that heap is accepted. The roots stay.
 fn mark_anew(
     alloc: Global,
     rt: &(impl Threads + Sync),
@@ -76,8 +135,8 @@ fn mark_anew(
     marking: Marking,
 ) -> Result<Plan, CommandRefusal>
     requires end { IsEndOf plan.value finished }
-    ensures next { IfOk result (IsNextHeap plan.value finished (marks_given marking)) }
-    ensures refused { IfErr result (IsUnmarked plan.value finished (marks_given marking)) }
+    ensures next { IfOk result (IsNextHeap plan.value finished (marks_given marking) None) }
+    ensures refused { IfErr result (IsUnmarked plan.value finished (marks_given marking) None) }
 {
     match next_marked(finished, alloc, &*plan, marking) {
         Ok(heap) => Ok(Plan::new(alloc, rt, heap)?),

@@ -15,8 +15,9 @@ pub fn replays_are_one()
     images_differ();
 }
 
-/// The bytes of the image, of the trace and of the marks, if they are given, and the numbers of mutators and of fresh
-/// pages determine what `next` shows and writes: the values, and the next heap, so its image and its live words.
+/// The bytes of the image, of the trace, and of the marks or of the roots, if they are given, and the numbers of
+/// mutators and of fresh pages determine what `next` shows and writes: the values, and the next heap, so its image and
+/// its live words.
 pub fn next_is_one()
     ensures { NextIsOne }
 {

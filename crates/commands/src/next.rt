@@ -10,15 +10,14 @@ ghost use Rattle.command_io.specs.Printing.{CountsPrint};
 ghost use Rattle.command_io.specs.declared.refusal.Output.TheVariants as outputs;
 ghost use Rattle.commands.specs.Outcomes.{IsHaltedBy};
 ghost use Rattle.commands.specs.Replays.{PrintsRun, StopsUnprinted};
-ghost use Rattle.commands.specs.Nexts.{AreGivenAt, IsOfWritingNext, IsWrittenNext, MakesNext, RefusesGivenAt, RefusesNext, RefusesWriting};
-ghost use Rattle.command_line.specs.Nexts.{marks_path};
-ghost use Rattle.comp_trace.specs.Markings.{marks_given};
+ghost use Rattle.commands.specs.Nexts.{IsGivenAt, IsOfWritingNext, IsWrittenNext, MakesNext, RefusesGivenAt, RefusesNext, RefusesWriting};
+ghost use Rattle.commands.specs.Cycled.{given_by, IsGivenWithin};
 
-use crate::cycling::{Cycled, cycle_heap};
+use crate::cycling::{Cycled, Handed, cycle_heap};
 use crate::replay::{inputs_at, print_halted};
 use crate::replays::PrintedHalt;
 use crate::shown::print_run;
-use command_io::{CommandRefusal, Files, marks_at, write_image_to};
+use command_io::{CommandRefusal, Files, marks_at, roots_at, write_image_to};
 use command_line::{NextMarks, NextRun};
 use comp_trace::Marking;
 use heap_layout::Counted;
@@ -28,9 +27,10 @@ use std::thread::Threads;
 
 /// The command `next`.
 ///
-/// It reads the image, then the trace for its heap, and then the marks, if they are given. It runs the trace over the
-/// heap by one thread, with 1 to 64 mutators and at most 4,096 fresh pages. It makes the heap with which the next cycle
-/// begins, with these marks, or else marked by what its roots reach. It writes the image of that heap, and flushes it.
+/// It reads the image, then the trace for its heap, and then the marks or the roots, if they are given. It runs the
+/// trace over the heap by one thread, with 1 to 64 mutators and at most 4,096 fresh pages. It makes the heap with which
+/// the next cycle begins, with these marks, or else marked by what its roots reach: those that are given, or else those
+/// that stay. It writes the image of that heap, and flushes it.
 /// Last it prints a line for each value that was shown, and the live words of that heap. Fewer than `u64::MAX` calls of
 /// the output must have failed before.
 ///
@@ -62,34 +62,40 @@ pub fn print_next<F: Files, O: Write>(
         asked.mutators,
         asked.large,
     )?;
-    let marking = marking_at(alloc, &*files, &asked.marks)?;
+    let handed = handed_at(alloc, &*files, &asked.marks, asked.mutators)?;
     let made = cycle_heap(
         alloc,
         rt,
         inputs.heap,
         &inputs.trace,
-        marking,
+        handed,
         asked.mutators,
         asked.fresh,
     );
     write_made(files, asked.new, made, out)
 }
 
-// How the next heap is marked: by the marks at the path that is asked for, or by what its roots reach.
-fn marking_at<F: Files>(
+// What is handed in for the next heap: the marks or the roots at the path that is asked for, or neither.
+fn handed_at<F: Files>(
     alloc: Global,
     files: &F,
     asked: &NextMarks<'_>,
-) -> Result<Marking, CommandRefusal>
-    ensures marks { IfOk result (λ marking. AreGivenAt (F.disk files.now) (marks_path asked.now) (marks_given marking)) }
-    ensures cause { IfErr result (RefusesGivenAt (F.disk files.now) (marks_path asked.now)) }
+    mutators: u8,
+) -> Result<Handed, CommandRefusal>
+    ensures given { IfOk result (λ handed. IsGivenAt (F.disk files.now) mutators asked.now (given_by handed)) }
+    ensures within { IfOk result (λ handed. IsGivenWithin mutators (given_by handed)) }
+    ensures cause { IfErr result (RefusesGivenAt (F.disk files.now) mutators asked.now) }
 {
     match asked {
         NextMarks::Given(path) => match marks_at(alloc, files, path) {
-            Ok(marks) => Ok(Marking::Given(marks)),
+            Ok(marks) => Ok(Handed::Marked(Marking::Given(marks))),
             Err(refusal) => Err(refusal),
         },
-        NextMarks::Reachable => Ok(Marking::Reachable),
+        NextMarks::Reachable => Ok(Handed::Marked(Marking::Reachable)),
+        NextMarks::ReachableFrom(path) => match roots_at(alloc, files, path, mutators) {
+            Ok(roots) => Ok(Handed::Roots(roots)),
+            Err(refusal) => Err(refusal),
+        },
     }
 }
 

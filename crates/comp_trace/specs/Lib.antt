@@ -4,6 +4,9 @@ pub use Rattle.trace_cycles.specs.Markings
 pub use Rattle.trace_text.specs.Grammar
 pub use Rattle.trace_text.specs.declared.line.Line
 pub use Rattle.trace_text.specs.Marks
+pub use Rattle.trace_text.specs.Roots
+pub use Rattle.trace_text.specs.declared.roots.NewRoot
+pub use Rattle.trace_cycles.specs.RootsNamed
 pub use Rattle.trace_race.specs.Inventions
 pub use Rattle.trace_race.specs.Races
 pub use Rattle.trace_race.specs.declared.racing.Run
@@ -19,5 +22,6 @@ pub use Rattle.trace_steps.specs.WrittenEntries
 pub use Rattle.trace_replay.specs.Heaps
 pub use Rattle.trace_steps.specs.Rounds
 pub use Rattle.trace_replay.specs.Runs
+pub use Rattle.trace_replay.specs.Replays
 pub use Rattle.trace_steps.specs.declared.shown.Shown
 pub use Rattle.trace_steps.specs.TraceLines

@@ -9,7 +9,7 @@ use Rattle.command_io.specs.Memory.{memory_disk, HasPut, WrittenIsThere}
 use Rattle.command_io.specs.declared.memory.MemoryFiles.{MemoryFiles}
 use Rattle.command_io.specs.declared.refusal.Output.TheVariants as outputs
 use Rattle.command_io.specs.declared.refusal.CommandRefusal.{CommandRefusal}
-use Rattle.command_io.specs.declared.refusal.CommandRefusal.TheVariants.{Layout, Mutator, Sweep, Trace, Dump, Audit, CannotOpen, CannotCreate, ReadFailed, CannotPrint, NoSuchWord, BadMarks, OutOfMemory}
+use Rattle.command_io.specs.declared.refusal.CommandRefusal.TheVariants.{Layout, Mutator, Sweep, Trace, Dump, Audit, CannotOpen, CannotCreate, ReadFailed, CannotPrint, NoSuchWord, BadMarks, OutOfMemory, BadRoots}
 use Rattle.commands.specs.Races.{dump_of_race, Races, RefusesRace}
 use Rattle.commands.specs.Replays.{dump_of_run, Replays, RefusesReplay, SomeRun}
 use Rattle.proved_clients.specs.Kept.{KeepsRaced, KeepsReplayed, KeptOrNot}
@@ -34,6 +34,7 @@ unchanged from to (Err (ReadFailed input)) h = λ other. h
 unchanged from to (Err CannotPrint) h = λ other. absurd (other refl)
 unchanged from to (Err (NoSuchWord index)) h = λ other. h
 unchanged from to (Err (BadMarks line)) h = λ other. h
+unchanged from to (Err (BadRoots line)) h = λ other. h
 unchanged from to (Err OutOfMemory) h = λ other. same_files from to h
 
 module _ (there : WrittenIsThere) (from to : MemoryFiles) (asked : TraceRun) (before after : Option (List ℕ)) where

@@ -6,10 +6,11 @@ use Rattle.command_io.specs.Memory.{bytes_at, memory_disk, WrittenIsThere}
 use Rattle.command_io.specs.declared.memory.MemoryFiles.{MemoryFiles}
 use Rattle.command_io.specs.declared.refusal.Output.TheVariants as outputs
 use Rattle.command_io.specs.declared.refusal.CommandRefusal.{CommandRefusal}
-use Rattle.command_line.specs.Nexts.{marks_path}
-use Rattle.commands.specs.Nexts.{AreGivenAt, MakesNext}
+use Rattle.command_line.specs.Nexts.{marks_path, roots_path}
+use Rattle.commands.specs.Nexts.{AreMarksGiven, AreRootsGiven, MakesNext}
+use Rattle.comp_trace.specs.NewRoot.{NewRoot}
 use Rattle.commands.specs.Successors.{TwoAreOneLife}
-use Rattle.commands.proofs.NextBytes.{known_next, AreKnownAt}
+use Rattle.commands.proofs.NextBytes.{known_next, AreKnownAt, AreRootsKnownAt}
 use Rattle.proved_clients.specs.Lives.{AreListedAt, KeepsNext, LivesOn}
 
 -- the bytes at a path are all that can be read there
@@ -18,10 +19,16 @@ only : (from : MemoryFiles) (path bytes : List ℕ) → bytes_at from path ≡ S
 only from path bytes at known (own, there, is) = cc
 
 -- the bytes at the path of the marks, if they are asked for
-listed_at : (from : MemoryFiles) (path given : Option (List ℕ)) → AreGivenAt (memory_disk from) path given
+listed_at : (from : MemoryFiles) (path given : Option (List ℕ)) → AreMarksGiven (memory_disk from) path given
     → (listed : Option (List ℕ)) × AreListedAt from path listed × AreKnownAt (memory_disk from) path listed
 listed_at from (Some path) given (marks, (known, (own, there, is), h), same) = (Some own, (own, there, refl), only from path own there)
 listed_at from None given h = (None, refl, tt)
+
+-- the same of the roots
+named_at : (from : MemoryFiles) (mutators : ℕ) (path : Option (List ℕ)) (given : Option (List NewRoot)) → AreRootsGiven (memory_disk from) mutators path given
+    → (named : Option (List ℕ)) × AreListedAt from path named × AreRootsKnownAt (memory_disk from) path named
+named_at from mutators (Some path) given (roots, (known, (own, there, is), h), same) = (Some own, (own, there, refl), only from path own there)
+named_at from mutators None given h = (None, refl, tt)
 
 -- what a run did, by the bytes of its image
 keeps_next : (there : WrittenIsThere) (from to : MemoryFiles) (asked : NextRun) (before after : Option (List ℕ)) (image : List ℕ) → bytes_at from asked.image.now ≡ Some image
@@ -29,9 +36,10 @@ keeps_next : (there : WrittenIsThere) (from to : MemoryFiles) (asked : NextRun) 
 keeps_next there from to asked before after image image_at h =
     let text = h.2.1.1.0 in
     let text_at : bytes_at from asked.trace.now ≡ Some text = h.2.1.1.1 in
-    let listed = listed_at from (marks_path asked.marks) h.2.2.0 h.2.2.1 in
-    let made = known_next (memory_disk from) asked to before after image text listed.0 (only from asked.image.now image image_at) (only from asked.trace.now text text_at)
-    listed.2 h in
+    let listed = listed_at from (marks_path asked.marks) h.2.2.0.marks h.2.2.1.marks in
+    let named = named_at from asked.mutators (roots_path asked.marks) h.2.2.0.roots h.2.2.1.roots in
+    let made = known_next (memory_disk from) asked to before after image text listed.0 named.0 (only from asked.image.now image image_at) (only from asked.trace.now text text_at)
+    listed.2 named.2 h in
     record {
       image = image;
       image_at = image_at;
@@ -39,6 +47,8 @@ keeps_next there from to asked before after image image_at h =
       text_at = text_at;
       listed = listed.0;
       marks_at = listed.1;
+      named = named.0;
+      roots_at = named.1;
       shown = made.shown;
       next = made.next;
       run = made.is;
@@ -55,7 +65,7 @@ module _ (there : WrittenIsThere) (two_are_one : TwoAreOneLife) (from between to
         between = between;
         one = one;
         two = two;
-        life = two_are_one first.mutators first.fresh second.mutators second.fresh one.image one.text two.text one.listed two.listed one.shown two.shown one.next two.next one.run two.run;
+        life = two_are_one first.mutators first.fresh second.mutators second.fresh one.image one.text two.text one.listed two.listed one.named two.named one.shown two.shown one.next two.next one.run two.run;
       }
 
   pub both_lived : second.image.now ≡ first.new.now → MakesNext (memory_disk from) first between a b → (result : Result (Unit {0}) CommandRefusal)

@@ -4,13 +4,13 @@ use Rattle.heap_layout.specs.Encoding.{encoding}
 use Rattle.heap_layout.specs.Heap.{Heap}
 use Rattle.comp_mutator.specs.Cycles.{IsOneLife}
 use Rattle.comp_trace.specs.Shown.{Shown}
-use Rattle.command_line.specs.Nexts.{marks_path}
+use Rattle.command_line.specs.Nexts.{marks_path, roots_path}
 use Rattle.command_line.specs.declared.next.NextRun.{NextRun}
 use Rattle.command_io.specs.Memory.{bytes_at, HasPut}
 use Rattle.command_io.specs.declared.memory.MemoryFiles.{MemoryFiles}
 use Rattle.commands.specs.Successors.{IsNext}
 
--- these are the bytes at the path of the marks; there are none if the heap is marked by what its roots reach
+-- these are the bytes at the path of the marks, or of the roots; there are none if there is no such path
 abbrev pub AreListedAt : MemoryFiles → Option (List ℕ) → Option (List ℕ) → Type 0
 AreListedAt from (Some path) listed = (bytes : List ℕ) × (bytes_at from path ≡ Some bytes) × (listed ≡ Some bytes)
 AreListedAt from None listed = listed ≡ None
@@ -24,9 +24,11 @@ pub record KeepsNext (from : MemoryFiles) (asked : NextRun) (to : MemoryFiles) :
   pub text_at : bytes_at from asked.trace.now ≡ Some text
   pub listed : Option (List ℕ)
   pub marks_at : AreListedAt from (marks_path asked.marks) listed
+  pub named : Option (List ℕ)
+  pub roots_at : AreListedAt from (roots_path asked.marks) named
   pub shown : List Shown
   pub next : Heap
-  pub run : IsNext asked.mutators asked.fresh image text listed shown next
+  pub run : IsNext asked.mutators asked.fresh image text listed named shown next
   pub kept : HasPut from asked.new.now (encoding next) to
 
 -- Two runs, one after the other. Their cycles are one life of a heap whose objects never move, from the heap of the

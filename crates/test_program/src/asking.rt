@@ -55,7 +55,7 @@ fn expect_rows(rt: &(impl Abort + AllocGlobal), rows: &[Row]) {
 }
 
 // Lines and the tasks that they ask for.
-static TASKS: [Row; 39] = [
+static TASKS: [Row; 41] = [
     (
         "plan three.img",
         "Plan { image: \"three.img\", large: false }",
@@ -206,6 +206,14 @@ static TASKS: [Row; 39] = [
         "Next(NextRun { image: \"a\", trace: \"t\", marks: Reachable, new: \"n\", mutators: 2, fresh: 2, large: true })",
     ),
     (
+        "next --reachable --roots r a t n",
+        "Next(NextRun { image: \"a\", trace: \"t\", marks: ReachableFrom(\"r\"), new: \"n\", mutators: 2, fresh: 64, large: false })",
+    ),
+    (
+        "next a t n --roots= --reachable",
+        "Next(NextRun { image: \"a\", trace: \"t\", marks: ReachableFrom(\"\"), new: \"n\", mutators: 2, fresh: 64, large: false })",
+    ),
+    (
         "next a -- t --reachable n",
         "Next(NextRun { image: \"a\", trace: \"t\", marks: Given(\"--reachable\"), new: \"n\", mutators: 2, fresh: 64, large: false })",
     ),
@@ -258,7 +266,7 @@ fn version_is_printed_for_these_words(rt: HostRuntime) {
 }
 
 // Lines that are no command.
-static NO_COMMANDS: [&str; 73] = [
+static NO_COMMANDS: [&str; 77] = [
     "plan --large",
     "plan --large --large a",
     "audit --large=1 a b",
@@ -330,6 +338,10 @@ static NO_COMMANDS: [&str; 73] = [
     "next --reachable=1 a t n",
     "next --reachable --reachable a t n",
     "next -- --reachable a t",
+    "next --roots r a t m n",
+    "next --roots r a t n",
+    "next --reachable --roots a t n",
+    "next --reachable --roots r --roots s a t n",
     "plan --reachable a",
     "--reachable next a t n",
 ];

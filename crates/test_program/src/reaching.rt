@@ -19,6 +19,9 @@ const HALTED: Content = Content::Text("0 root 0 0\n0 load 1 0 0\n0 get 1 0\n0 ge
 
 const NO_TEXT: Content = Content::Text("");
 
+// A new object that only register 1 holds. Register 0 has the root.
+const MADE: Content = Content::Text("0 root 0 0\n0 new 1 0 0 9\n");
+
 // A cycle of the files written last.
 const NEXT: &str =
     "next --reachable --mutators 1 --fresh 2 reach.tests.img reach.tests.trace reach.tests.new";
@@ -81,6 +84,86 @@ pub const REACHED: &[Step] = &[
     Step::Remove("reach.tests.img"),
     Step::Remove("reach.tests.trace"),
     Step::Remove("reach.tests.new"),
+];
+
+// A cycle of the files written last, with other roots.
+const ROOTED: &str =
+    "next --reachable --roots reach.tests.roots --mutators 1 --fresh 2 reach.tests.img reach.tests.trace reach.tests.new";
+
+// The plan of a next heap in which only the object of word 64 is marked.
+const MADE_ALONE: &str = "live 1\npages 1\npage 0 first 64\nroot 0 8589934592\n";
+
+/// Cycles whose next heap has the roots that are named.
+pub const ROOTS_NAMED: &[Step] = &[
+    Step::Write("reach.tests.img", Content::ThreeImage),
+    Step::Write("reach.tests.trace", MADE),
+    // The register keeps the new object alone; what the root of before reaches is dropped.
+    Step::Write("reach.tests.roots", Content::Text("0 1\n")),
+    Step::Prints(ROOTED, "live 1\n"),
+    Step::Length("reach.tests.new", 1_572),
+    Step::Prints("plan reach.tests.new", MADE_ALONE),
+    Step::Prints("word reach.tests.new 0", "38654705664\n"),
+    // So does its address.
+    Step::Write("reach.tests.roots", Content::Text("8589934656\n")),
+    Step::Prints(ROOTED, "live 1\n"),
+    Step::Prints("plan reach.tests.new", MADE_ALONE),
+    // The first object alone, by its address.
+    Step::Write("reach.tests.roots", Content::Text("8589934592\n")),
+    Step::Prints(ROOTED, "live 2\n"),
+    Step::Length("reach.tests.new", 1_572),
+    Step::Prints(
+        "plan reach.tests.new",
+        "live 2\npages 1\npage 0 first 0\nroot 0 8589934592\n",
+    ),
+    // The last object, which reaches the first, and the new one; null between them.
+    Step::Write("reach.tests.roots", Content::Text("0 0\n0\n0 2\n0 1\n")),
+    Step::Prints(ROOTED, "live 5\n"),
+    Step::Length("reach.tests.new", 1_604),
+    Step::Prints(
+        "plan reach.tests.new",
+        "live 5\npages 1\npage 0 first 0\nroot 0 8589934594\nroot 1 0\nroot 2 0\nroot 3 8589934596\n",
+    ),
+    // No root.
+    Step::Write("reach.tests.roots", NO_TEXT),
+    Step::Prints(ROOTED, "live 0\n"),
+    Step::Length("reach.tests.new", 1_560),
+    Step::Prints("plan reach.tests.new", "live 0\npages 0\n"),
+    // Roots that lead to no object. What was written last stays.
+    Step::Write("reach.tests.new", KEPT),
+    Step::Write("reach.tests.roots", Content::Text("8589934593\n")),
+    Step::Refuses(ROOTED, "", "H6 BadRoot(0)"),
+    Step::Write(
+        "reach.tests.roots",
+        Content::Text("0 1\n4294967298\n8589934593\n"),
+    ),
+    Step::Refuses(ROOTED, "", "H6 BadRoot(1)"),
+    Step::Write("reach.tests.roots", Content::Text("18446744073709551615\n")),
+    Step::Refuses(ROOTED, "", "H6 BadRoot(0)"),
+    // Texts that are no roots.
+    Step::Write("reach.tests.roots", Content::Text("0 1")),
+    Step::Refuses(ROOTED, "", "P8 BadRoots(1)"),
+    Step::Write("reach.tests.roots", Content::Text("0 1\n0 16\n")),
+    Step::Refuses(ROOTED, "", "P8 BadRoots(2)"),
+    Step::Write("reach.tests.roots", Content::Text("1 0\n")),
+    Step::Refuses(ROOTED, "", "P8 BadRoots(1)"),
+    Step::Write("reach.tests.roots", Content::Text("0 0 0\n")),
+    Step::Refuses(ROOTED, "", "P8 BadRoots(1)"),
+    Step::Write("reach.tests.roots", Content::Text("18446744073709551616\n")),
+    Step::Refuses(ROOTED, "", "P8 BadRoots(1)"),
+    Step::Write("reach.tests.roots", Content::Text("0\n\n")),
+    Step::Refuses(ROOTED, "", "P8 BadRoots(2)"),
+    Step::Remove("reach.tests.roots"),
+    Step::Refuses(ROOTED, "", "P1 CannotOpen(roots)"),
+    Step::MakeFolder("reach.tests.roots"),
+    Step::Refuses(ROOTED, "", "P3 ReadFailed(roots)"),
+    Step::RemoveFolder("reach.tests.roots"),
+    Step::Holds("reach.tests.new", KEPT),
+    Step::Remove("reach.tests.img"),
+    Step::Remove("reach.tests.trace"),
+    Step::Remove("reach.tests.new"),
+    Step::Misuses("next --roots r three.img t18 marks new"),
+    Step::Misuses("next --roots r three.img t18 new"),
+    Step::Misuses("next --reachable --roots three.img t18 new"),
 ];
 
 // A cycle of the files written last, with the image in a folder that does not exist.

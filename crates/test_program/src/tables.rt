@@ -10,7 +10,7 @@ use test_support::Step;
 
 // All tables. The last one writes the files that `LINES` read. As a constant they would cost the proof of the test five
 // times as much.
-fn tables() -> [&'static [Step]; 24] {
+fn tables() -> [&'static [Step]; 25] {
     [
         programs::STEPS,
         judging::PASSED,
@@ -30,6 +30,7 @@ fn tables() -> [&'static [Step]; 24] {
         marking::EDITIONS,
         marking::REFUSED,
         reaching::REACHED,
+        reaching::ROOTS_NAMED,
         reaching::REFUSED,
         weak::RUN,
         weak::REFUSED,

@@ -13,8 +13,8 @@ use Rattle.comp_cycles.specs.declared.finished.Finished.{Finished}
 use Rattle.trace_steps.specs.declared.shown.Shown.{Shown}
 use Rattle.trace_text.specs.declared.line.Line.{Line}
 use Rattle.trace_replay.specs.Bytes.{flipped}
-use Rattle.trace_replay.specs.Heaps.{HasRunOver}
-use Rattle.trace_cycles.specs.CycleRuns.{IsLastRun}
+use Rattle.trace_replay.specs.Heaps.{HasRunOver, HasRunWith}
+use Rattle.trace_cycles.specs.CycleRuns.{IsLastRun, IsLastRunWith}
 
 abbrev setup_with : Heap → ℕ → ℕ → Setup
 setup_with heap fresh mutators = record { heap = heap; compacted = sliding.pages (live heap); fresh = fresh; mutators = mutators }
@@ -41,3 +41,9 @@ last_run mutators fresh lines shown heap f few h =
         few_fresh = omega (arith, slots, few, fresh_pages_least heap.edition);
       };
     }
+
+-- and its registers hold the same words
+pub last_run_with : (mutators fresh : ℕ) (lines : List Line) (shown : List Shown) (heap : Heap) (f : Finished) (registers : List (List ℕ)) → fresh ≤ 4096 → HasRunWith mutators fresh lines shown heap f registers
+    → IsLastRunWith mutators fresh lines shown heap f registers
+unfolding last_run
+last_run_with mutators fresh lines shown heap f registers few h = record { last = last_run mutators fresh lines shown heap f few h.run; registers_are = h.registers_are }

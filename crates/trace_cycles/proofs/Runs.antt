@@ -22,7 +22,7 @@ module _ (mutators fresh : ℕ) where
       → (given : Option (List ℕ)) (marks : List ℕ) (more : List Line) (values : List Shown) (left : Finished) → IsMarkedCycle given (last_heap heap cs) (cycle_of (last_heap heap cs) f marks)
       → IsLastRun mutators fresh more values (heap_after (cycle_of (last_heap heap cs) f marks)) left
       → AreRuns mutators fresh heap lines (rest ++ (given, more) ∷ []) (shown ++ values ∷ []) (cs ++ cycle_of (last_heap heap cs) f marks ∷ []) left
-  runs_more [] heap lines [] (s ∷ []) f h given marks more values left ended last = (record { run = marked lines s heap f marks h.run; cycle = ended.cycle; marked = ended.marked; roots_stay = refl }, last)
+  runs_more [] heap lines [] (s ∷ []) f h given marks more values left ended last = (record { run = marked lines s heap f marks h.run; cycle = ended.cycle; marked = ended.marked; roots_are = refl }, last)
   runs_more [] heap lines [] [] f h given marks more values left ended last = absurd h
   runs_more [] heap lines [] (s ∷ t ∷ shown) f h given marks more values left ended last = absurd h
   runs_more (c ∷ cs) heap lines [] [] f h given marks more values left ended last = absurd h

@@ -9,11 +9,13 @@ use Rattle.comp_cycles.specs.declared.finished.Finished.{Finished}
 use Rattle.trace_steps.specs.declared.shown.Shown.{Shown}
 use Rattle.trace_text.specs.Traces.{mutators_of, roots_of}
 use Rattle.trace_text.specs.declared.line.Line.{Line}
+use Rattle.trace_text.specs.declared.roots.NewRoot.{NewRoot}
 use Rattle.trace_text.specs.declared.trace.Trace.{Trace}
 use Rattle.trace_replay.specs.Bytes.{flipped, no_entries}
-use Rattle.trace_replay.specs.Heaps.{IsHaltOf}
+use Rattle.trace_replay.specs.Heaps.{AreRegisters, IsHaltOf}
 use Rattle.trace_replay.specs.Runs.{beginning, Moment, Runs}
 use Rattle.trace_cycles.specs.Markings.{IsMarkedBy, IsMarkedCycle}
+use Rattle.trace_cycles.specs.RootsNamed.{words_named}
 use Rattle.trace_cycles.specs.declared.cycle.CycleHalt.{CycleHalt}
 use Rattle.trace_cycles.specs.declared.cycle.CycleHalt.TheVariants.{Halted, Unplanned}
 
@@ -35,28 +37,34 @@ pub record IsLastRun (mutators fresh : ℕ) (lines : List Line) (shown : List Sh
   pub run : IsRun mutators fresh lines shown heap (cycle_of heap f [])
   pub end : IsEndOf heap f
 
+-- at its end the registers of the mutators hold these words
+pub record IsLastRunWith (mutators fresh : ℕ) (lines : List Line) (shown : List Shown) (heap : Heap) (f : Finished) (registers : List (List ℕ)) : Type 0 where
+  pub last : IsLastRun mutators fresh lines shown heap f
+  pub registers_are : AreRegisters mutators registers last.run.end
+
 -- why a cycle does not come to its end: memory ran out for its plan, or the run over its heap was halted
 abbrev pub IsCycleHaltOf : ℕ → ℕ → List Line → Heap → CycleHalt → Type 0
 IsCycleHaltOf mutators fresh lines heap Unplanned = Unit {0}
 IsCycleHaltOf mutators fresh lines heap (Halted halt) = IsHaltOf mutators fresh lines heap halt
 
 -- One of several cycles: these lines were run over the heap and showed these values, and then the next heap was marked
--- by the marks that were given for it, or by what its roots reach. The roots stay.
-pub record IsPart (mutators fresh : ℕ) (lines : List Line) (shown : List Shown) (given : Option (List ℕ)) (heap : Heap) (c : Cycle) : Type 0 where
+-- by the marks that were given for it, or by what its roots reach. If roots were named, it has those that they name when
+-- the run ends; else the roots stay.
+pub record IsPart (mutators fresh : ℕ) (lines : List Line) (shown : List Shown) (given : Option (List ℕ)) (named : Option (List NewRoot)) (heap : Heap) (c : Cycle) : Type 0 where
   pub run : IsRun mutators fresh lines shown heap c
   pub cycle : IsCycleOf heap c
   pub marked : IsMarkedBy given c
-  pub roots_stay : c.new_roots ≡ None
+  pub roots_are : c.new_roots ≡ words_named run.end.registers named
 
 -- a further cycle: the marks that were given for its heap, or none if that was marked by what its roots reach; and its
 -- lines
 abbrev pub Further : Type 0
 Further = Option (List ℕ) × List Line
 
--- the cycles that are over, and a last one, which left this heap; `rest` has the further cycles
+-- the cycles that are over, and a last one, which left this heap; `rest` has the further cycles. The roots stay.
 abbrev pub AreRuns : ℕ → ℕ → Heap → List Line → List Further → List (List Shown) → List Cycle → Finished → Type 0
 AreRuns mutators fresh heap lines [] (s ∷ []) [] f = IsLastRun mutators fresh lines s heap f
-AreRuns mutators fresh heap lines (r ∷ rest) (s ∷ shown) (c ∷ cs) f = IsPart mutators fresh lines s r.0 heap c × AreRuns mutators fresh (heap_after c) r.1 rest shown cs f
+AreRuns mutators fresh heap lines (r ∷ rest) (s ∷ shown) (c ∷ cs) f = IsPart mutators fresh lines s r.0 None heap c × AreRuns mutators fresh (heap_after c) r.1 rest shown cs f
 AreRuns mutators fresh heap lines _ _ _ f = ⊥
 
 -- the heap of the last cycle

@@ -1,3 +1,4 @@
 pub mod CycleRuns
 pub mod Markings
 pub mod Stops
+pub mod RootsNamed

@@ -3,7 +3,7 @@ ghost use Rattle.std.specs.Prelude.{◌≡◌, ◌≤◌, IfErr, IfOk, length};
 ghost use Rattle.comp_cycles.specs.Ends.{IsEndOf};
 ghost use Rattle.comp_cycles.specs.Finishes.{IsOfFlip};
 ghost use Rattle.trace_text.specs.Traces.{lines_of};
-ghost use Rattle.trace_cycles.specs.CycleRuns.{IsCycleHaltOf, IsLastRun, IsParsedFor};
+ghost use Rattle.trace_cycles.specs.CycleRuns.{IsCycleHaltOf, IsLastRun, IsLastRunWith, IsParsedFor};
 
 use comp_cycles::Finished;
 use heap_layout::MarkedHeap;
@@ -22,6 +22,8 @@ pub struct Ran {
     pub plan: Arc<Plan>,
     /// The values that the `get` lines showed, in the order of the lines.
     pub shown: Vec<Shown>,
+    /// The words in the registers of each mutator at the end of the run, in the order of their numbers.
+    pub registers: Vec<[u64; 16]>,
     /// The heap at the end of the cycle.
     pub finished: Finished,
 }
@@ -57,6 +59,7 @@ pub fn run_cycle(
     requires fresh { fresh ≤ 4096 }
     requires parsed { IsParsedFor mutators (length heap.roots) trace.now }
     ensures run { IfOk result (λ ran. IsLastRun mutators fresh (lines_of trace.now) ran.shown.items heap ran.finished) }
+    ensures registers { IfOk result (λ ran. IsLastRunWith mutators fresh (lines_of trace.now) ran.shown.items heap ran.finished ran.registers.items) }
     ensures plan { IfOk result (λ ran. ran.plan.value ≡ heap) }
     ensures flipped { IfOk result (λ ran. IsOfFlip mutators fresh ran.finished) }
     ensures end { IfOk result (λ ran. IsEndOf ran.plan.value ran.finished) }
@@ -75,6 +78,7 @@ pub fn run_cycle(
         Ok(run) => Ok(Ran {
             plan,
             shown: run.shown,
+            registers: run.registers,
             finished: run.finished,
         }),
         Err(halt) => Err(CycleHalt::Halted(halt)),

@@ -28,8 +28,8 @@ use Rattle.trace_steps.specs.declared.shown.Shown.{Shown}
 use Rattle.trace_text.specs.declared.fault.TraceFault.{TraceFault}
 use Rattle.trace_text.specs.declared.line.Line.{Line}
 use Rattle.trace_replay.specs.Bytes.{flipped, no_entries, CutsShort, RunsThrough}
-use Rattle.trace_replay.specs.Heaps.{HasRunOver}
-use Rattle.trace_replay.specs.Replays.{HaveReplayed, HaveStopped}
+use Rattle.trace_replay.specs.Heaps.{HasRunOver, HasRunWith}
+use Rattle.trace_replay.specs.Replays.{HaveReplayed, HaveReplayedWith, HaveStopped}
 use Rattle.trace_replay.specs.Runs.{beginning, Runs}
 use Rattle.trace_replay.proofs.Building.{lists_built}
 use Rattle.trace_replay.proofs.Bytes.{cut_of, deeds_none, have_none, passes_none, written_at, AreOf}
@@ -55,6 +55,10 @@ setup_is u e = ap (setup_with u.heap u.fresh u.mutators) e
 
 inside_all : (u : Setup) (n : ℕ) (lines : List Line) → n ≡ u.mutators → AllFit u lines → AreInside n lines
 inside_all u n lines e fit = λ k d lt. let h = (fit k d lt).0 in omega (arith, h, e)
+
+-- a replay with its registers is a replay
+pub without : {L : Type 0} (u : Setup) (before after : List (Mutator L)) (lines : List Line) (shown : List Shown) (registers : List (List ℕ)) → HaveReplayedWith u before after lines shown registers → HaveReplayed u before after lines shown
+without u before after lines shown registers replayed = λ start have. let ran = replayed start have in (ran.0, ran.1, ran.2, ran.3)
 
 pub ran_over : {L : Type 0} (u : Setup) (before after : List (Mutator L)) (lines : List Line) (shown : List Shown) (f : Finished)
     → u.compacted ≡ sliding.pages (live u.heap) → IsClosed u.heap → DidNothingYet before → HaveBuilt before [] → 0 < u.mutators → length before ≡ u.mutators → length after ≡ u.mutators
@@ -83,6 +87,19 @@ ran_over {L} u before after lines shown f compacted closed none unbuilt some_mut
       history = subst (λ (w : Setup). history_of w f ≡ added) v same;
       builds = lists;
       closed = closed;
+    }
+
+-- the registers that a replay leaves are those at the end of the run
+pub ran_with : {L : Type 0} (u : Setup) (before after : List (Mutator L)) (lines : List Line) (shown : List Shown) (registers : List (List ℕ)) (f : Finished)
+    → u.compacted ≡ sliding.pages (live u.heap) → IsClosed u.heap → DidNothingYet before → HaveBuilt before [] → 0 < u.mutators → length before ≡ u.mutators → length after ≡ u.mutators
+    → AllFit u lines → HaveReplayedWith u before after lines shown registers → length registers ≡ length before → IsFinished u (map pass_of after) f
+    → HasRunWith u.mutators u.fresh lines shown u.heap f registers
+unfolding ran_over without
+ran_with u before after lines shown registers f compacted closed none unbuilt some_mutators many still fit replayed wide end =
+    let ran = replayed no_entries (have_none before none) in
+    record {
+      run = ran_over u before after lines shown f compacted closed none unbuilt some_mutators many still fit (without u before after lines shown registers replayed) end;
+      registers_are = record { count = wide ∙ many; hold = λ m lt. ran.4 m (omega (arith, lt, many)) };
     }
 
 -- a replay that came to its end ran all lines

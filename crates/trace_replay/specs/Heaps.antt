@@ -9,6 +9,7 @@ use Rattle.trace_steps.specs.Builds.{built_by}
 use Rattle.trace_steps.specs.declared.shown.Shown.{Shown}
 use Rattle.trace_text.specs.declared.line.Line.{Line}
 use Rattle.trace_replay.specs.Bytes.{flipped, no_entries, CutsShort, RunsThrough}
+use Rattle.trace_replay.specs.Replays.{Hold}
 use Rattle.trace_replay.specs.Runs.{beginning, Moment, Runs}
 use Rattle.trace_replay.specs.declared.running.Halt.{Halt}
 use Rattle.trace_replay.specs.declared.running.Halt.TheVariants.{Cut, Unflipped, Unfinished}
@@ -28,6 +29,16 @@ pub record HasRunOver (mutators fresh : ℕ) (lines : List Line) (shown : List S
   pub builds : builds_in f ≡ map (λ (k : ℕ). built_by k end.built) (range_with_len 0 mutators)
   -- the heap was accepted
   pub closed : IsClosed heap
+
+-- there are registers of n mutators, and at a moment they hold these words
+pub record AreRegisters (n : ℕ) (items : List (List ℕ)) (now : Moment) : Type 0 where
+  pub count : length items ≡ n
+  pub hold : Hold n items now.registers
+
+-- at the end of that run the registers hold these words
+pub record HasRunWith (mutators fresh : ℕ) (lines : List Line) (shown : List Shown) (heap : Heap) (f : Finished) (registers : List (List ℕ)) : Type 0 where
+  pub run : HasRunOver mutators fresh lines shown heap f
+  pub registers_are : AreRegisters mutators registers run.end
 
 -- why the run does not come to its end: it was cut short, or memory ran out for the flip, or for the finish after all
 -- lines were run

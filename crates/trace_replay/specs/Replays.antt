@@ -42,6 +42,16 @@ HaveReplayed u before after lines shown =
     (start : Journals) → HaveAll before start → (end : Moment) × RanTo u (length before) start (written_by_each before) (written_by_each after) lines shown end
     × BuiltTo before after end × SeenTo start after lines end
 
+-- the registers of n mutators hold these words
+abbrev pub Hold : ℕ → List (List ℕ) → (ℕ → List ℕ) → Type 0
+Hold n items registers = (m : ℕ) → m < n → get_or items m [] ≡ registers m
+
+-- the same, and at that moment the registers of the mutators hold these words
+abbrev pub HaveReplayedWith : {L : Type 0} → Setup → List (Mutator L) → List (Mutator L) → List Line → List Shown → List (List ℕ) → Type 0
+HaveReplayedWith u before after lines shown registers =
+    (start : Journals) → HaveAll before start → (end : Moment) × RanTo u (length before) start (written_by_each before) (written_by_each after) lines shown end
+    × BuiltTo before after end × SeenTo start after lines end × Hold (length before) registers end.registers
+
 -- no line was run: no value is shown, and the mutators are unchanged
 abbrev pub RanNothing : {L : Type 0} → List (Mutator L) → List (Mutator L) → List Shown → Type 0
 RanNothing before after shown = (shown ≡ []) × (after ≡ before)
@@ -86,10 +96,6 @@ IsRefusal (NumberTooLarge number) = ⊥
 IsRefusal (NoSuchRoot number) = ⊥
 
 -- ---- within a replay
-
--- the registers of n mutators hold these words
-abbrev pub Hold : ℕ → List (List ℕ) → (ℕ → List ℕ) → Type 0
-Hold n items registers = (m : ℕ) → m < n → get_or items m [] ≡ registers m
 
 -- The state of a replay after some lines.
 pub record HasReplayed (u : Setup) (n : ℕ) (start : Journals) (first written : WrittenEntries) (lines : List Line) (items : List (List ℕ)) (shown : List Shown) (now : Moment) : Type 0 where

@@ -7,6 +7,6 @@ mod running;
 mod texts;
 
 pub use laws::{refusals_are_of_runs, replays_show_once, runs_are_determined};
-pub use replaying::{Stopped, replay};
+pub use replaying::{Replayed, Stopped, replay, replay_registers};
 pub use running::{Halt, Run, run_over};
 pub use texts::replay_text;

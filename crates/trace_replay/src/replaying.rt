@@ -5,7 +5,7 @@ ghost use Rattle.comp_mutator.specs.Refusal.TheVariants.{Busy};
 ghost use Rattle.trace_steps.specs.Acting.{null_registers, Fits};
 ghost use Rattle.trace_steps.specs.WrittenEntries.{HaveSeenAll, HaveStart};
 ghost use Rattle.trace_steps.specs.AllMutators.{AreAll};
-ghost use Rattle.trace_replay.specs.Replays.{CannotGoOn, GoesOn, HaveReplayed, HaveStopped, IsRefusal, RanNothing};
+ghost use Rattle.trace_replay.specs.Replays.{CannotGoOn, GoesOn, HaveReplayed, HaveReplayedWith, HaveStopped, IsRefusal, RanNothing};
 ghost use Rattle.trace_steps.specs.Rounds.{AreLater, DidNothing};
 ghost use Rattle.trace_steps.specs.TraceLines.{AllFit, IsParsedFor};
 ghost use Rattle.trace_text.specs.Traces.{lines_of};
@@ -21,6 +21,15 @@ use trace_text::{Line, Trace, TraceFault};
 pub struct Stopped {
     pub shown: Vec<Shown>,
     pub fault: TraceFault,
+}
+
+/// What a replay left: the values that were shown, and the words in the registers.
+#[derive(Debug, Drop)]
+pub struct Replayed {
+    /// The values that the `get` lines showed, in order.
+    pub shown: Vec<Shown>,
+    /// The words in the registers of each mutator, in the order of their numbers.
+    pub registers: Vec<[u64; 16]>,
 }
 
 // Runs line `number`.
@@ -77,15 +86,16 @@ fn run_lines<L: Ledger, B: Builder>(
     lines: &[Line],
     space: &Space<L, B>,
     mutators: &mut [Mutator<L>],
-) -> Result<Vec<Shown>, Stopped>
+) -> Result<Replayed, Stopped>
     requires all { AreAll space.now mutators.old }
     requires lines { AllFit (setup_of space.now) lines.now }
     ensures all { AreAll space.now mutators.new }
     ensures later { AreLater mutators.old mutators.new }
-    ensures empty { length lines.now ≡ 0 → IfOk result (λ shown. RanNothing mutators.old mutators.new shown.items) }
+    ensures empty { length lines.now ≡ 0 → IfOk result (λ ran. RanNothing mutators.old mutators.new ran.shown.items) }
     ensures start { 0 < length lines.now → OnOk result (HaveStart (setup_of space.now) mutators.old) }
     ensures started { IfErr result (λ stopped. IsRefusal stopped.fault → HaveStart (setup_of space.now) mutators.old) }
-    ensures ran { IfOk result (λ shown. HaveReplayed (setup_of space.now) mutators.old mutators.new lines.now shown.items) }
+    ensures wide { IfOk result (λ ran. length ran.registers.items ≡ length mutators.old) }
+    ensures ran { IfOk result (λ ran. HaveReplayedWith (setup_of space.now) mutators.old mutators.new lines.now ran.shown.items ran.registers.items) }
     ensures stopped { IfErr result (λ stopped. HaveStopped (setup_of space.now) mutators.old mutators.new lines.now stopped.shown.items stopped.fault) }
 {
     let Ok(mut shown) = Vec::with_capacity(alloc, lines.len()) else {
@@ -121,7 +131,7 @@ fn run_lines<L: Ledger, B: Builder>(
             }
         }
     }
-    Ok(shown)
+    Ok(Replayed { shown, registers })
 }
 
 /// Runs the lines of a trace in order by one thread, each call once, and answers the values that the `get` lines show.
@@ -152,6 +162,30 @@ pub fn replay<L: Ledger, B: Builder>(
     ensures start { 0 < length (lines_of trace.now) → OnOk result (HaveStart (setup_of space.now) mutators.old.items) }
     ensures started { IfErr result (λ stopped. IsRefusal stopped.fault → HaveStart (setup_of space.now) mutators.old.items) }
     ensures ran { IfOk result (λ shown. HaveReplayed (setup_of space.now) mutators.old.items mutators.new.items (lines_of trace.now) shown.items) }
+    ensures stopped { IfErr result (λ stopped. HaveStopped (setup_of space.now) mutators.old.items mutators.new.items (lines_of trace.now) stopped.shown.items stopped.fault) }
+{
+    match replay_registers(alloc, trace, space, mutators) {
+        Ok(ran) => Ok(ran.shown),
+        Err(stopped) => Err(stopped),
+    }
+}
+
+/// As `replay`, and answers the words in the registers at the end of the run as well.
+pub fn replay_registers<L: Ledger, B: Builder>(
+    alloc: Global,
+    trace: &Trace,
+    space: &Space<L, B>,
+    mutators: &mut Vec<Mutator<L>>,
+) -> Result<Replayed, Stopped>
+    requires all { AreAll space.now mutators.old.items }
+    requires parsed { IsParsedFor (setup_of space.now) trace.now }
+    ensures all { AreAll space.now mutators.new.items }
+    ensures later { AreLater mutators.old.items mutators.new.items }
+    ensures empty { length (lines_of trace.now) ≡ 0 → IfOk result (λ ran. RanNothing mutators.old.items mutators.new.items ran.shown.items) }
+    ensures start { 0 < length (lines_of trace.now) → OnOk result (HaveStart (setup_of space.now) mutators.old.items) }
+    ensures started { IfErr result (λ stopped. IsRefusal stopped.fault → HaveStart (setup_of space.now) mutators.old.items) }
+    ensures wide { IfOk result (λ ran. length ran.registers.items ≡ length mutators.old.items) }
+    ensures ran { IfOk result (λ ran. HaveReplayedWith (setup_of space.now) mutators.old.items mutators.new.items (lines_of trace.now) ran.shown.items ran.registers.items) }
     ensures stopped { IfErr result (λ stopped. HaveStopped (setup_of space.now) mutators.old.items mutators.new.items (lines_of trace.now) stopped.shown.items stopped.fault) }
 {
     run_lines(alloc, trace.lines(), space, mutators)

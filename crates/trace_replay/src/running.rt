@@ -7,9 +7,9 @@ ghost use Rattle.comp_mutator.specs.Finishes.{IsOfFlip};
 ghost use Rattle.comp_mutator.specs.Mutators.{cells_of, pass_of, setup_of, AreMutatorsOf};
 ghost use Rattle.trace_steps.specs.TraceLines.{IsParsedFor};
 ghost use Rattle.trace_text.specs.Traces.{lines_of, mutators_of, roots_of};
-ghost use Rattle.trace_replay.specs.Heaps.{HasRunOver, IsHaltOf};
+ghost use Rattle.trace_replay.specs.Heaps.{HasRunOver, HasRunWith, IsHaltOf};
 
-use crate::replaying::{Stopped, replay};
+use crate::replaying::{Stopped, replay_registers};
 use comp_mutator::{FinishFault, Finished, FlipFault, Mutator, Space, flip};
 use page_plan::{Plan, heap_is_closed};
 use std::alloc::Global;
@@ -19,11 +19,13 @@ use std::sync::ledger::{Blank, Ledger};
 use trace_steps::Shown;
 use trace_text::Trace;
 
-/// A finished heap over which a trace was run, and the values that the trace showed.
+/// A finished heap over which a trace was run, the values that the trace showed, and what its registers hold.
 #[derive(Drop)]
 pub struct Run {
     /// The values that the `get` lines showed, in order.
     pub shown: Vec<Shown>,
+    /// The words in the registers of each mutator at the end of the run, in the order of their numbers.
+    pub registers: Vec<[u64; 16]>,
     /// The heap at the end.
     pub finished: Finished,
 }
@@ -52,6 +54,7 @@ pub fn run_over(
     requires fresh { fresh ≤ 4096 }
     requires parsed { (mutators_of trace.now ≡ mutators) × (roots_of trace.now ≡ length plan.value.roots) }
     ensures run { IfOk result (λ run. HasRunOver mutators fresh (lines_of trace.now) run.shown.items plan.value run.finished) }
+    ensures registers { IfOk result (λ run. HasRunWith mutators fresh (lines_of trace.now) run.shown.items plan.value run.finished run.registers.items) }
     ensures flipped { IfOk result (λ run. IsOfFlip mutators fresh run.finished) }
     ensures halted { IfErr result (IsHaltOf mutators fresh (lines_of trace.now) plan.value) }
 {
@@ -84,6 +87,7 @@ fn flipped_and_run<L: Ledger>(
     requires closed { IsClosed plan.value }
     requires parsed { (mutators_of trace.now ≡ mutators) × (roots_of trace.now ≡ length plan.value.roots) }
     ensures run { IfOk result (λ run. HasRunOver mutators fresh (lines_of trace.now) run.shown.items plan.value run.finished) }
+    ensures registers { IfOk result (λ run. HasRunWith mutators fresh (lines_of trace.now) run.shown.items plan.value run.finished run.registers.items) }
     ensures flipped { IfOk result (λ run. IsOfFlip mutators fresh run.finished) }
     ensures halted { IfErr result (IsHaltOf mutators fresh (lines_of trace.now) plan.value) }
 {
@@ -108,15 +112,20 @@ fn run_and_finish<L: Ledger>(
     requires closed { IsClosed (setup_of space).heap }
     requires parsed { IsParsedFor (setup_of space) trace.now }
     ensures run { IfOk result (λ run. HasRunOver (setup_of space).mutators (setup_of space).fresh (lines_of trace.now) run.shown.items (setup_of space).heap run.finished) }
+    ensures registers { IfOk result (λ run. HasRunWith (setup_of space).mutators (setup_of space).fresh (lines_of trace.now) run.shown.items (setup_of space).heap run.finished run.registers.items) }
     ensures flipped { IfOk result (λ run. IsOfFlip (setup_of space).mutators (setup_of space).fresh run.finished) }
     ensures halted { IfErr result (IsHaltOf (setup_of space).mutators (setup_of space).fresh (lines_of trace.now) (setup_of space).heap) }
 {
     let _ = trace.lines();
-    match replay(alloc, trace, &space, &mut mutators) {
-        Ok(shown) => match space.finish(alloc, mutators) {
-            Ok(finished) => Ok(Run { shown, finished }),
+    match replay_registers(alloc, trace, &space, &mut mutators) {
+        Ok(ran) => match space.finish(alloc, mutators) {
+            Ok(finished) => Ok(Run {
+                shown: ran.shown,
+                registers: ran.registers,
+                finished,
+            }),
             Err(left) => match left.fault {
-                FinishFault::OutOfMemory => Err(Halt::Unfinished(shown)),
+                FinishFault::OutOfMemory => Err(Halt::Unfinished(ran.shown)),
                 FinishFault::MutatorMissing(_) => unreachable!(),
             },
         },

@@ -6,3 +6,4 @@ pub mod LineForms
 pub mod NumberForms
 pub mod NameForms
 pub mod Marked
+pub mod Named

@@ -37,10 +37,10 @@ numbers_more : (word : List ℕ) (n : ℕ) (words : List (List ℕ)) (ns : List 
 numbers_more word n words ns p q = rw (p, q) refl
 
 -- the line with these numbers
-abbrev LineOfNumbers : List ℕ → List ℕ → List ℕ → Type 0
+abbrev pub LineOfNumbers : List ℕ → List ℕ → List ℕ → Type 0
 LineOfNumbers text ns rest = (line : List ℕ) × (text ≡ line ++ 10 ∷ rest) × Without 10 line × (numbers_of (parts 32 line) ≡ Some ns)
 
-line_of_numbers : (text ns rest : List ℕ) → NumbersOfLine text ns rest → LineOfNumbers text ns rest
+pub line_of_numbers : (text ns rest : List ℕ) → NumbersOfLine text ns rest → LineOfNumbers text ns rest
 line_of_numbers text [] rest h = absurd h
 line_of_numbers text (n ∷ []) rest h =
     let are = all_digits h.0 n h.2 in
@@ -75,7 +75,7 @@ none_left ms e = cc
 no_parts : (part : List ℕ) (more : List (List ℕ)) → [] ≡ part ∷ more → ⊥
 no_parts part more e = absurd cc
 
-numbers_of_parts : (words : List (List ℕ)) (line ns rest : List ℕ) → parts 32 line ≡ words → numbers_of (parts 32 line) ≡ Some ns → NumbersOfLine (line ++ 10 ∷ rest) ns rest
+pub numbers_of_parts : (words : List (List ℕ)) (line ns rest : List ℕ) → parts 32 line ≡ words → numbers_of (parts 32 line) ≡ Some ns → NumbersOfLine (line ++ 10 ∷ rest) ns rest
 numbers_of_parts [] line ns rest p h = let some = some_part 32 line in absurd (no_parts some.0 some.1 (sym p ∙ some.2))
 numbers_of_parts (w ∷ ws) line ns rest p h = elim (first_cut 32 line) [
   | inl without ↦

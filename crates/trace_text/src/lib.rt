@@ -1,4 +1,4 @@
-//! Reads the texts of traces and of marks.
+//! Reads the texts of traces, of marks and of roots.
 #![tactic(auto)]
 
 mod fault;
@@ -8,10 +8,12 @@ mod name;
 mod numbers;
 mod parsing;
 mod reading;
+mod roots;
 mod trace;
 
 pub use fault::{RefusedLine, TraceFault};
 pub use line::{Action, Line};
 pub use marks::{MarksFault, read_marks};
 pub use parsing::parse;
+pub use roots::{NewRoot, RootsFault, read_roots};
 pub use trace::Trace;

@@ -19,7 +19,8 @@ pub returns-clause-run : goal.returns-clause-run
 returns-clause-run c = record {
   image_is = c.text_of.ensures;
   trace_is = c.text_of-2.ensures;
-  marks_are = c.marks_of.ensures;
+  marks_are = c.marks_of.ensures.marks;
+  roots_are = c.marks_of.ensures.roots;
   new_is = c.text_of-3.ensures;
   mutators_are = c.count_of.ensures;
   fresh_are = c.count_of-2.ensures;

@@ -1,26 +1,35 @@
-use Rattle.std.proofs.Common.{subst}
+use Rattle.std.proofs.Common.{ℕ, List, length, subst, sym}
 use Rattle.heap_layout.specs.Heap.{Heap}
-use Rattle.comp_trace.specs.Markings.{marks_given}
+use Rattle.comp_trace.specs.Replays.{Hold}
+use Rattle.comp_trace.specs.RootsNamed.{words_named}
 use Rattle.comp_trace.specs.Traces.{lines_of}
-use Rattle.commands.specs.Cycled.{IsNextHeap, IsUnmarked}
-use Rattle.commands.proofs.CycledHeaps.{cycled, uncycled}
+use Rattle.commands.specs.Cycled.{given_by, IsGivenWithin, IsNextHeap, IsUnmarked}
+use Rattle.commands.proofs.CycledHeaps.{cycled, not_followed}
 use Rattle.commands.proofs.cycling.cycle_heap.Goals as goal
 
+pub make_next-requires-clause-within : goal.make_next-requires-clause-within
+make_next-requires-clause-within g c κs within =
+    subst (λ (l : List (List ℕ)). IsGivenWithin (length l) (given_by c.args.handed)) (sym c.deref.ensures.value)
+    (subst (λ (n : ℕ). IsGivenWithin n (given_by c.args.handed)) (sym c.in-Ok.ensures.registers.registers_are.count) c.requires.within)
+
 -- The lines ran, and the next heap was accepted.
-pub returns-in-Ok-mark_anew-clause-cycled : goal.returns-in-Ok-mark_anew-clause-cycled
-returns-in-Ok-mark_anew-clause-cycled g c =
+pub returns-in-Ok-make_next-clause-cycled : goal.returns-in-Ok-make_next-clause-cycled
+returns-in-Ok-make_next-clause-cycled g c =
     let ran = c.in-Ok.ran in
-    let plan = c.in-Ok-mark_anew.plan in
-    let given = marks_given c.args.marking in
-    cycled c.args.mutators c.args.fresh (lines_of c.args.trace.now) given c.args.heap ran.shown.items ran.finished plan c.in-Ok.ensures.run
-    (subst (λ (h : Heap). IsNextHeap h ran.finished given plan) c.in-Ok.ensures.plan c.in-Ok-mark_anew.ensures.next)
+    let plan = c.in-Ok-make_next.plan in
+    let given = given_by c.args.handed in
+    cycled c.args.mutators c.args.fresh (lines_of c.args.trace.now) given c.args.heap ran.shown.items ran.finished ran.registers.items plan c.in-Ok.ensures.registers
+    (subst (λ (h : Heap). (now : ℕ → List ℕ) → Hold (length ran.registers.items) ran.registers.items now → IsNextHeap h ran.finished given.marks (words_named now given.roots) plan) c.in-Ok.ensures.plan
+    (subst (λ (l : List (List ℕ)). (now : ℕ → List ℕ) → Hold (length l) l now → IsNextHeap ran.plan.value ran.finished given.marks (words_named now given.roots) plan) c.deref.ensures.value c.in-Ok-make_next.ensures.next))
 
 -- Or it was refused.
 pub returns-in-Ok-clause-halted : goal.returns-in-Ok-clause-halted
 returns-in-Ok-clause-halted g c =
     let ran = c.in-Ok.ran in
     let refusal = c.in-Err.refusal in
-    let given = marks_given c.args.marking in
-    let h = uncycled c.args.mutators c.args.fresh (lines_of c.args.trace.now) given c.args.heap ran.shown.items ran.finished c.in-Ok.ensures.run
-    c.unshown.result.shown.items c.unshown.ensures.none refusal (subst (λ (h : Heap). IsUnmarked h ran.finished given refusal) c.in-Ok.ensures.plan c.in-Err.ensures.refused) in
+    let given = given_by c.args.handed in
+    let h = not_followed c.args.mutators c.args.fresh (lines_of c.args.trace.now) given c.args.heap ran.shown.items ran.finished ran.registers.items c.in-Ok.ensures.registers
+    c.unshown.result.shown.items c.unshown.ensures.none refusal
+    (subst (λ (h : Heap). (now : ℕ → List ℕ) → Hold (length ran.registers.items) ran.registers.items now → IsUnmarked h ran.finished given.marks (words_named now given.roots) refusal) c.in-Ok.ensures.plan
+    (subst (λ (l : List (List ℕ)). (now : ℕ → List ℕ) → Hold (length l) l now → IsUnmarked ran.plan.value ran.finished given.marks (words_named now given.roots) refusal) c.deref.ensures.value c.in-Err.ensures.refused)) in
     rw c.unshown.ensures.refusal h

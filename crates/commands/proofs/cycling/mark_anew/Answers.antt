@@ -1,5 +1,5 @@
 use Rattle.heap_layout.specs.Heap.{Heap}
-use Rattle.std.proofs.Common.{subst}
+use Rattle.std.proofs.Common.{None, subst}
 use Rattle.command_io.specs.declared.refusal.CommandRefusal.TheVariants.{Layout}
 use Rattle.comp_trace.specs.Markings.{marks_given}
 use Rattle.commands.specs.Cycled.{IsNextHeap, IsUnmarked}
@@ -10,7 +10,7 @@ pub returns-in-Ok-clause-next : goal.returns-in-Ok-clause-next
 returns-in-Ok-clause-next g c =
     let made = c.in-Ok.ensures in
     let given = marks_given c.args.marking in
-    let next : IsNextHeap c.deref.result.now c.args.finished given c.in-Ok.heap = record {
+    let next : IsNextHeap c.deref.result.now c.args.finished given None c.in-Ok.heap = record {
       ended = record { cycle = made.cycle; marked = made.marked };
       chapter = made.chapter;
       keeps = made.keeps;
@@ -18,8 +18,8 @@ returns-in-Ok-clause-next g c =
       stored = made.stored;
       accepted = made.accepted;
     } in
-    next_heap_of c.deref.result.now c.args.plan.value c.args.finished given c.in-Ok.heap c.in_ok-new-in-Ok.field-0 c.deref.ensures c.in_ok-new-in-Ok.ensures next
+    next_heap_of c.deref.result.now c.args.plan.value c.args.finished given None c.in-Ok.heap c.in_ok-new-in-Ok.field-0 c.deref.ensures c.in_ok-new-in-Ok.ensures next
 
 pub returns-clause-refused : goal.returns-clause-refused
 returns-clause-refused g c =
-    subst (λ (heap : Heap). IsUnmarked heap c.args.finished (marks_given c.args.marking) (Layout c.in-Err.left.fault)) c.deref.ensures c.in-Err.ensures.refused
+    subst (λ (heap : Heap). IsUnmarked heap c.args.finished (marks_given c.args.marking) None (Layout c.in-Err.left.fault)) c.deref.ensures c.in-Err.ensures.refused

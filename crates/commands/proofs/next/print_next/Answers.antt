@@ -1,12 +1,11 @@
 use Rattle.std.proofs.Common.{inl, inr}
 use Rattle.std.proofs.lemmas.Result.{err_from_is_err_and, IfErr-weaker}
 use Rattle.heap_layout.specs.Counted.{inner_of, failures_of}
-use Rattle.comp_trace.specs.Markings.{marks_given}
 use Rattle.comp_trace.specs.Traces.{lines_of}
-use Rattle.command_line.specs.Nexts.{marks_path}
 use Rattle.command_io.proofs.Outcomes.{unmade}
 use Rattle.commands.proofs.ReplayRuns.{inputs_uncounted, unprinted_halt}
 use Rattle.commands.specs.Nexts.{MakesNext, Nexts, RefusesNext, RefusesWriting}
+use Rattle.commands.specs.Cycled.{given_by}
 use Rattle.commands.proofs.CycledHeaps.{halted_cycle}
 use Rattle.commands.proofs.NextRuns.{err_then, made_err, made_ok, given_uncounted, ok_then}
 use Rattle.commands.proofs.next.print_next.Goals as goal
@@ -34,26 +33,26 @@ returns-in_err-inputs-clause-unmade g c =
     rw (p.1, p.2) (unmade (g.F.Files.disk c.args.files.now) c.args.files.now _)
 
 -- There are no marks, but they are asked for.
-pub returns-in_err-marking-clause-cause : goal.returns-in_err-marking-clause-cause
-returns-in_err-marking-clause-cause g c =
-    let p = err_from_is_err_and c.from_residual-in_err-marking.result c.from_residual-in_err-marking.ensures.1 in
+pub returns-in_err-handed-clause-cause : goal.returns-in_err-handed-clause-cause
+returns-in_err-handed-clause-cause g c =
+    let p = err_from_is_err_and c.from_residual-in_err-handed.result c.from_residual-in_err-handed.ensures.1 in
     let inputs = c.in_ok-inputs.inputs in
     let read = c.in_ok-inputs.ensures in
-    rw (p.1, p.2) (inr (inl (inputs.heap, read.heap, (lines_of inputs.trace, read.lines, c.in_err-marking.ensures.cause))))
+    rw (p.1, p.2) (inr (inl (inputs.heap, read.heap, (lines_of inputs.trace, read.lines, c.in_err-handed.ensures.cause))))
 
-pub returns-in_err-marking-clause-counts : goal.returns-in_err-marking-clause-counts
-returns-in_err-marking-clause-counts g c =
-    let p = err_from_is_err_and c.from_residual-in_err-marking.result c.from_residual-in_err-marking.ensures.1 in
-    rw (p.1, p.2) (given_uncounted (g.F.Files.disk c.args.files.now) (marks_path c.args.asked.marks) (failures_of c.args.out.now) _ c.in_err-marking.ensures.cause)
+pub returns-in_err-handed-clause-counts : goal.returns-in_err-handed-clause-counts
+returns-in_err-handed-clause-counts g c =
+    let p = err_from_is_err_and c.from_residual-in_err-handed.result c.from_residual-in_err-handed.ensures.1 in
+    rw (p.1, p.2) (given_uncounted (g.F.Files.disk c.args.files.now) c.args.asked.mutators c.args.asked.marks (failures_of c.args.out.now) _ c.in_err-handed.ensures.cause)
 
-pub returns-in_err-marking-clause-unprinted : goal.returns-in_err-marking-clause-unprinted
-returns-in_err-marking-clause-unprinted g c =
-    let p = err_from_is_err_and c.from_residual-in_err-marking.result c.from_residual-in_err-marking.ensures.1 in
+pub returns-in_err-handed-clause-unprinted : goal.returns-in_err-handed-clause-unprinted
+returns-in_err-handed-clause-unprinted g c =
+    let p = err_from_is_err_and c.from_residual-in_err-handed.result c.from_residual-in_err-handed.ensures.1 in
     rw (p.1, p.2) (unprinted_halt (g.O.Write.contents (inner_of c.args.out.now).now) _)
 
-pub returns-in_err-marking-clause-unmade : goal.returns-in_err-marking-clause-unmade
-returns-in_err-marking-clause-unmade g c =
-    let p = err_from_is_err_and c.from_residual-in_err-marking.result c.from_residual-in_err-marking.ensures.1 in
+pub returns-in_err-handed-clause-unmade : goal.returns-in_err-handed-clause-unmade
+returns-in_err-handed-clause-unmade g c =
+    let p = err_from_is_err_and c.from_residual-in_err-handed.result c.from_residual-in_err-handed.ensures.1 in
     rw (p.1, p.2) (unmade (g.F.Files.disk c.args.files.now) c.args.files.now _)
 
 -- All files were read.
@@ -61,21 +60,21 @@ pub write_made-requires-clause-halted : goal.write_made-requires-clause-halted
 write_made-requires-clause-halted g c =
     let inputs = c.in_ok-inputs.inputs in
     IfErr-weaker c.cycle_heap-made.result _ _
-    (λ halted h. halted_cycle c.args.asked.mutators c.args.asked.fresh (lines_of inputs.trace) (marks_given c.in_ok-marking.marking) inputs.heap halted.shown.items halted.refusal h) c.cycle_heap-made.ensures.halted
+    (λ halted h. halted_cycle c.args.asked.mutators c.args.asked.fresh (lines_of inputs.trace) (given_by c.in_ok-handed.handed) inputs.heap halted.shown.items halted.refusal h) c.cycle_heap-made.ensures.halted
 
 pub returns-clause-made : goal.returns-clause-made
 returns-clause-made g c =
     let asked = c.args.asked in
     let inputs = c.in_ok-inputs.inputs in
     let read = c.in_ok-inputs.ensures in
-    let given = marks_given c.in_ok-marking.marking in
+    let given = given_by c.in_ok-handed.handed in
     let disk = g.F.Files.disk c.args.files.now in
     let to = c.write_made.new.files in
     let before = g.O.Write.contents (inner_of c.args.out.now).now in
     let after = g.O.Write.contents (inner_of c.write_made.new.out).now in
     ok_then (Nexts disk asked to before after (lines_of inputs.trace) given inputs.heap)
     (MakesNext disk asked to before after)
-    (λ h. (inputs.heap, read.heap, (lines_of inputs.trace, read.lines, (given, c.in_ok-marking.ensures.marks, h))))
+    (λ h. (inputs.heap, read.heap, (lines_of inputs.trace, read.lines, (given, c.in_ok-handed.ensures.given, h))))
     c.write_made.result
     (made_ok disk asked c.args.files.now to before after (lines_of inputs.trace) given inputs.heap c.cycle_heap-made.result c.cycle_heap-made.ensures.cycled
     c.write_made.result c.write_made.ensures.done)
@@ -85,7 +84,7 @@ returns-clause-cause g c =
     let asked = c.args.asked in
     let inputs = c.in_ok-inputs.inputs in
     let read = c.in_ok-inputs.ensures in
-    let given = marks_given c.in_ok-marking.marking in
+    let given = given_by c.in_ok-handed.handed in
     let disk = g.F.Files.disk c.args.files.now in
     let to = c.write_made.new.files in
     let before = g.O.Write.contents (inner_of c.args.out.now).now in
@@ -100,7 +99,7 @@ returns-clause-cause g c =
         read.lines,
         (
           given,
-          c.in_ok-marking.ensures.marks,
+          c.in_ok-handed.ensures.given,
           made_err disk asked c.args.files.now to before after (lines_of inputs.trace) given inputs.heap c.cycle_heap-made.result
               c.cycle_heap-made.ensures.cycled c.cycle_heap-made.ensures.halted refusal h,
         ),

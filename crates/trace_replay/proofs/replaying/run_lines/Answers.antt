@@ -142,6 +142,7 @@ returns-clause-ran g c = λ start have.
       h.2,
       λ some. seen_there u start (written_by_each olds) (written_by_each c.loop-j.mutators) (take c.loop-j.j c.args.lines.now) c.loop-j.registers.items c.loop-j.shown.items (length olds) c.loop-j.mutators h.0
           (c.loop-j.invariant.seen (omega (arith, some, c.loop-j-test.false))) c.loop-j.invariant.later.count (λ k lt. refl) h.1,
+      h.1.hold,
     )
 
 pub returns-clause-empty : goal.returns-clause-empty

@@ -1,0 +1,55 @@
+//! Reads the texts of roots.
+ghost use Rattle.std.specs.Prelude.{◌-◌, ◌^◌, ◌<◌, All, IfOk, IfErr};
+ghost use Rattle.heap_layout.specs.Counted.{inner_of, failures_of};
+ghost use Rattle.comp_trace.specs.Roots.{IsRootWithin};
+ghost use Rattle.command_io.specs.Roots.{AreRootsAt, AreRootsOf, RefusesRootsAt, RefusesRootsText};
+ghost use Rattle.command_io.specs.Texts.{CountsText};
+
+use crate::opening::Files;
+use crate::refusal::{CommandRefusal, Input};
+use crate::texts::{Unread, text_in};
+use comp_trace::{NewRoot, RootsFault, read_roots};
+use heap_layout::Counted;
+use std::alloc::Global;
+use std::io::Read;
+
+/// Reads the roots whose text is at a path, for this number of mutators. Refuses if the file cannot be opened or read,
+/// if a line of it is no root, with the number of the first such line, and if memory runs out.
+pub fn roots_at<F: Files>(
+    alloc: Global,
+    files: &F,
+    path: &str,
+    mutators: u8,
+) -> Result<Vec<NewRoot>, CommandRefusal>
+    ensures roots { IfOk result (λ roots. AreRootsAt (F.disk files.now) path.now mutators roots.items) }
+    ensures within { IfOk result (λ roots. All (IsRootWithin mutators) roots.items) }
+    ensures cause { IfErr result (RefusesRootsAt (F.disk files.now) path.now mutators) }
+{
+    let mut reader = Counted::new(files.open(Input::Roots, path)?);
+    roots_in(alloc, &mut reader, mutators)
+}
+
+// Reads roots to the end of the reader, for this number of mutators. Refuses if a call of the reader fails, if a line is
+// no root, with the number of the first such line, and if memory runs out.
+fn roots_in<S: Read>(
+    alloc: Global,
+    r: &mut Counted<S>,
+    mutators: u8,
+) -> Result<Vec<NewRoot>, CommandRefusal>
+    requires read { failures_of r.old < 2 ^ 64 - 1 }
+    ensures roots { IfOk result (λ roots. AreRootsOf mutators roots.items (S.remaining (inner_of r.old))) }
+    ensures within { IfOk result (λ roots. All (IsRootWithin mutators) roots.items) }
+    ensures cause { IfErr result (λ refusal. RefusesRootsText mutators refusal (S.remaining (inner_of r.old))) }
+    ensures reads { CountsText (failures_of r.old) (failures_of r.new) result }
+{
+    let text = match text_in(alloc, r) {
+        Ok(text) => text,
+        Err(Unread::Failed) => return Err(CommandRefusal::ReadFailed(Input::Roots)),
+        Err(Unread::OutOfMemory) => return Err(CommandRefusal::OutOfMemory),
+    };
+    match read_roots(alloc, &text, mutators) {
+        Ok(roots) => Ok(roots),
+        Err(RootsFault::BadRoots(n)) => Err(CommandRefusal::BadRoots(n)),
+        Err(RootsFault::OutOfMemory) => Err(CommandRefusal::OutOfMemory),
+    }
+}
