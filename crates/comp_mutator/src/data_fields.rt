@@ -10,7 +10,7 @@ ghost use Rattle.comp_access.specs.Reads.{FieldRefused, KnowsBuilt, MayBuildTouc
 ghost use Rattle.comp_access.specs.Writes.{DataRefused, Writes};
 ghost use Rattle.call_refusals.specs.declared.refusal.Refusal.TheVariants.{Busy};
 
-use crate::mutator::{Hand, Mutator};
+use crate::mutator::Mutator;
 use crate::retried;
 use crate::space::Space;
 use call_refusals::Refusal;
@@ -42,13 +42,7 @@ impl<L: Named, B: Builder> Space<L, B> {
         ensures refused { IfErr result (FieldRefused (setup_of self.now) (pass_of m.old) (pass_of m.new) kinds.Data object field) }
     {
         let Mutator { hand, share: _ } = m;
-        let Hand {
-            pass,
-            fills: _,
-            lows: _,
-            unposted: _,
-        } = hand;
-        comp_access::try_read_data(alloc, &self.cells, pass, object, field)
+        hand.try_read_data_at(alloc, &self.cells, object, field)
     }
 
     /// Like `try_read_data_at`, but retries while the page is busy. The requirements are the same.
@@ -93,13 +87,7 @@ impl<L: Named, B: Builder> Space<L, B> {
         ensures refused { IfErr result (DataRefused (setup_of self.now) (pass_of m.old) (pass_of m.new) kinds.Data object field) }
     {
         let Mutator { hand, share: _ } = m;
-        let Hand {
-            pass,
-            fills: _,
-            lows: _,
-            unposted: _,
-        } = hand;
-        comp_access::try_write_data(alloc, &self.cells, pass, object, field, value)
+        hand.try_write_data_at(alloc, &self.cells, object, field, value)
     }
 
     /// Like `try_write_data_at`, but retries while the page is busy. The requirements are the same.

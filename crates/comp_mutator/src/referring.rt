@@ -10,7 +10,7 @@ ghost use Rattle.comp_access.specs.Reads.{FieldRefused, KnowsBuilt, MayBuildTouc
 ghost use Rattle.comp_access.specs.Writes.{ReferenceRefused, Writes};
 ghost use Rattle.call_refusals.specs.declared.refusal.Refusal.TheVariants.{Busy};
 
-use crate::mutator::{Hand, Mutator};
+use crate::mutator::Mutator;
 use crate::retried;
 use crate::space::Space;
 use call_refusals::Refusal;
@@ -46,13 +46,7 @@ impl<L: Named, B: Builder> Space<L, B> {
         ensures refused { IfErr result (FieldRefused (setup_of self.now) (pass_of m.old) (pass_of m.new) kind object field) }
     {
         let Mutator { hand, share: _ } = m;
-        let Hand {
-            pass,
-            fills: _,
-            lows: _,
-            unposted: _,
-        } = hand;
-        comp_access::try_read_referring(alloc, &self.cells, pass, kind, object, field)
+        hand.try_read_referring(alloc, &self.cells, kind, object, field)
     }
 
     /// Like `try_read_referring`, but retries while the page is busy. The requirements are the same.
@@ -104,13 +98,7 @@ impl<L: Named, B: Builder> Space<L, B> {
         ensures refused { IfErr result (ReferenceRefused (setup_of self.now) (pass_of m.old) (pass_of m.new) kind object field value) }
     {
         let Mutator { hand, share: _ } = m;
-        let Hand {
-            pass,
-            fills: _,
-            lows: _,
-            unposted: _,
-        } = hand;
-        comp_access::try_write_referring(alloc, &self.cells, pass, kind, object, field, value)
+        hand.try_write_referring(alloc, &self.cells, kind, object, field, value)
     }
 
     /// Like `try_write_referring`, but retries while the page is busy. The requirements are the same.

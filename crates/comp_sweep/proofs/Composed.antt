@@ -19,6 +19,7 @@ use Rattle.comp_mutator.specs.Shares.{allocated}
 use Rattle.comp_mutator.specs.declared.space.Space.{Space}
 use Rattle.comp_mutator.specs.declared.mutator.Mutator.{Mutator}
 use Rattle.comp_mutator.proofs.CompAccessGrowing.{known_more}
+use Rattle.comp_mutator.proofs.Parts.{words_counted}
 use Rattle.comp_sweep.specs.Regions.{SeesRegion}
 use Rattle.comp_sweep.specs.Sweeps.{BuildsMore, Sweeps}
 use Rattle.comp_sweep.specs.Workers.{IsCauseOf, KnowsAll, WhyStopped, WhyUnbuilt}
@@ -67,8 +68,8 @@ module _ {L B : Type 0} {g : Ghosts B} (space : Space L B g) where
       posted =
           let e = (setup_of space).heap.edition in
           let edition = λ (u : Setup). u.heap.edition in
-          let before = a.counted ∙ ap (λ (x : Edition). allocated x (did (pass_of a))) (ap edition was.of.about) in
-          let after = b.counted ∙ ap (λ (x : Edition). allocated x (did (pass_of b))) (ap edition of.of.about) in
+          let before = words_counted a ∙ ap (λ (x : Edition). allocated x (did (pass_of a))) (ap edition was.of.about) in
+          let after = words_counted b ∙ ap (λ (x : Edition). allocated x (did (pass_of b))) (ap edition of.of.about) in
           omega (arith, unposted, before, after, ap (allocated e) grows.1.did);
       builds = builds;
     }
