@@ -1,4 +1,4 @@
-ghost use Rattle.std.specs.Prelude.{◌≡◌, ℕ, ◌+◌, ◌-◌, ◌<◌, ◌≤◌, None, Some, is_some, map, slice_index_or, IfOk, IfSome, ◌*◌};
+ghost use Rattle.std.specs.Prelude.{◌≡◌, ℕ, ◌+◌, ◌-◌, ◌<◌, ◌≤◌, None, Some, is_some, map, slice_index_or, IfErr, IfOk, IfSome, ◌*◌};
 ghost use Rattle.heap_layout.specs.Heap.{live, IsClosed};
 ghost use Rattle.heap_layout.specs.Limits.{most_words, most_pages};
 ghost use Rattle.mark_tables.specs.LiveWords.{live_indices};
@@ -51,6 +51,38 @@ impl Plan {
             first_objects,
             starts,
         })
+    }
+
+    /// Makes the plan of this heap, as `new` does, but starts no thread. If memory runs out, the heap is handed back.
+    pub fn new_alone(alloc: Global, heap: MarkedHeap) -> Result<Plan, MarkedHeap>
+        ensures plan { IfOk result (λ plan. plan ≡ heap) }
+        ensures back { IfErr result (λ left. left ≡ heap) }
+    {
+        let Ok((tables, starts)) = Tables::build_alone_with_starts(alloc, &heap) else {
+            return Err(heap);
+        };
+        let Ok(first_objects) = first_objects::first_objects(alloc, &starts) else {
+            return Err(heap);
+        };
+        Ok(Plan {
+            heap,
+            tables,
+            first_objects,
+            starts,
+        })
+    }
+
+    /// Consumes the plan. Answers the heap.
+    pub fn into_heap(self) -> MarkedHeap
+        ensures { result ≡ self }
+    {
+        let Plan {
+            heap,
+            tables: _,
+            first_objects: _,
+            starts: _,
+        } = self;
+        heap
     }
 
     /// The heap that is compacted.

@@ -1,0 +1,4 @@
+mod Parts
+mod Flipped
+mod Crews
+mod OneCrew

@@ -1,0 +1,78 @@
+use Rattle.std.proofs.Common.{List, map, refl, sym, ap, ◌∙◌, subst, arith, ◌+◌}
+use Rattle.heap_layout.specs.Heap.{Heap, live}
+use Rattle.page_plan.specs.Sliding.{live_words}
+use Rattle.cell_steps.specs.declared.pass.Pass.{Pass}
+use Rattle.page_cells.specs.CellEnds as ends
+use Rattle.comp_cycles.specs.Finishes.{allocated_by, IsFinished, IsOfFlip}
+use Rattle.comp_cycles.specs.declared.finished.Finished.{Finished}
+use Rattle.comp_hand.specs.Endings.{IsLeft}
+use Rattle.comp_hand.proofs.HandRows.{passes_in_order, rest_all}
+use Rattle.comp_crew.specs.Members.{pass_of, setup_in, steps_of}
+use Rattle.comp_crew.specs.Orders.{IsInOrder}
+use Rattle.comp_crew.specs.declared.crew.Crew.{Crew}
+use Rattle.comp_crew.specs.declared.member.Member.{Member}
+use Rattle.comp_crew.proofs.Crews.{all_work, end_moved}
+use Rattle.comp_crew.proofs.finishing.calls.finish_all.Goals as goal
+
+pub close_row-closed-requires-clause-of : goal.close_row-closed-requires-clause-of
+close_row-closed-requires-clause-of c κs =
+    let crew = c.args.crew.value in
+    subst (λ (x : Crew). ends.AllRest (steps_of x) (setup_in x).mutators c.parted-passes.result.0.items) (sym c.in-Ok.ensures.ok)
+    (subst (λ (l : List Pass). ends.AllRest (steps_of crew) (setup_in crew).mutators l) (sym c.parted-passes.ensures.passes)
+    (rest_all (λ (m : Member). m.hand) c.args.members.items c.in_order-row.result.items _ c.in_order-row.ensures (steps_of crew) (setup_in crew).mutators
+    (all_work crew c.args.members.items c.requires.each c.requires.of)))
+
+pub close_row-closed-requires-clause-ordered : goal.close_row-closed-requires-clause-ordered
+close_row-closed-requires-clause-ordered c κs =
+    let given = c.args.members.items in
+    let row = c.in_order-row.result.items in
+    let count = ap (λ (x : Crew). x.mutators) (c.deref.ensures ∙ sym c.in-Ok.ensures.ok) ∙ c.in-Ok.crew.all in
+    let is_row = subst (λ n. IsInOrder n given row) count c.in_order-row.ensures in
+    subst (λ (l : List Pass). ends.IsInOrder (setup_in c.in-Ok.crew).mutators l l) (sym c.parted-passes.ensures.passes) (passes_in_order (λ (m : Member). m.hand) given row _ is_row)
+
+pub returns-clause-finished : goal.returns-clause-finished
+returns-clause-finished c =
+    let K = c.args.crew.value in
+    let own = c.in-Ok.crew in
+    let is = c.in-Ok.ensures.ok in
+    let given = c.args.members.items in
+    let row = c.in_order-row.result.items in
+    let count = ap (λ (x : Crew). x.mutators) c.deref.ensures ∙ K.all in
+    let parts = c.parted-passes.ensures in
+    let passes = c.parted-passes.result.0.items in
+    let closed = c.close_row-closed.result in
+    let live_is = c.live_words.ensures.words ∙ ap (λ (h : Heap). live_words (live h)) c.plan.ensures.heap in
+    let words = parts.words in
+    let made = ap allocated_by parts.passes in
+    let f : Finished = record { edition = c.edition-edition.result; pages = closed.pages; roots = own.roots; live = c.live_words.result + c.parted-passes.result.1; builds = closed.builds } in
+    let left : IsLeft (setup_in own) passes closed f = record { edition = c.edition-edition.ensures; pages = refl; builds = refl; roots = own.forwarded; live = omega (arith, live_is, words, made) } in (
+      row,
+      subst (λ n. IsInOrder n given row) count c.in_order-row.ensures,
+      subst (λ (x : Crew). IsFinished (setup_in x) (map pass_of row) f) is (subst (λ (l : List Pass). IsFinished (setup_in own) l f) parts.passes (c.close_row-closed.ensures.finished f left)),
+    )
+
+pub returns-clause-flipped : goal.returns-clause-flipped
+returns-clause-flipped c =
+    let own = c.in-Ok.crew in
+    let parts = c.parted-passes.ensures in
+    let passes = c.parted-passes.result.0.items in
+    let closed = c.close_row-closed.result in
+    let live_is = c.live_words.ensures.words ∙ ap (λ (h : Heap). live_words (live h)) c.plan.ensures.heap in
+    let words = parts.words in
+    let made = ap allocated_by parts.passes in
+    let f : Finished = record { edition = c.edition-edition.result; pages = closed.pages; roots = own.roots; live = c.live_words.result + c.parted-passes.result.1; builds = closed.builds } in
+    let left : IsLeft (setup_in own) passes closed f = record { edition = c.edition-edition.ensures; pages = refl; builds = refl; roots = own.forwarded; live = omega (arith, live_is, words, made) } in
+    subst (λ (x : Crew). IsOfFlip (setup_in x).mutators (setup_in x).fresh f) c.in-Ok.ensures.ok (c.close_row-closed.ensures.flipped f left)
+
+pub returns-clause-end : goal.returns-clause-end
+returns-clause-end c =
+    let own = c.in-Ok.crew in
+    let parts = c.parted-passes.ensures in
+    let passes = c.parted-passes.result.0.items in
+    let closed = c.close_row-closed.result in
+    let live_is = c.live_words.ensures.words ∙ ap (λ (h : Heap). live_words (live h)) c.plan.ensures.heap in
+    let words = parts.words in
+    let made = ap allocated_by parts.passes in
+    let f : Finished = record { edition = c.edition-edition.result; pages = closed.pages; roots = own.roots; live = c.live_words.result + c.parted-passes.result.1; builds = closed.builds } in
+    let left : IsLeft (setup_in own) passes closed f = record { edition = c.edition-edition.ensures; pages = refl; builds = refl; roots = own.forwarded; live = omega (arith, live_is, words, made) } in
+    end_moved _ _ _ own.planned (c.close_row-closed.ensures.end f left)

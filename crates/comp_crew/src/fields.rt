@@ -1,0 +1,122 @@
+//! Reads and writes of fields. None of them waits or retries: the answer is `Busy` if another member won a
+//! compare-and-swap. A refused call wrote no entry; but it may have built its page.
+ghost use Rattle.std.specs.Prelude.{◌≡◌, ℕ, true, IfErr, IfOk, IsErrOf, OnErr, OnOk};
+ghost use Rattle.heap_layout.specs.Kinds.{refers};
+ghost use Rattle.heap_layout.specs.declared.kind.Kind.TheVariants as kinds;
+ghost use Rattle.cell_steps.specs.Passes.{did, seen, HasSeenBuilt, MayRefer};
+ghost use Rattle.cell_steps.specs.Starts.{IsForwardingAddress};
+ghost use Rattle.page_cells.specs.Calls.{Grows};
+ghost use Rattle.comp_access.specs.Reads.{FieldRefused, KnowsBuilt, MayBuildTouched, Reads};
+ghost use Rattle.comp_access.specs.Writes.{DataRefused, ReferenceRefused, Writes};
+ghost use Rattle.call_refusals.specs.declared.refusal.Refusal.TheVariants.{Busy};
+ghost use Rattle.comp_crew.specs.Members.{crew_of, made_of, pass_of, setup_of, IsMember};
+
+use crate::member::Member;
+use call_refusals::Refusal;
+use heap_layout::Kind;
+use std::alloc::Global;
+
+impl Member {
+    /// Reads a field of a kind that refers. Answers null, or the address of an object that the mutator knows from then
+    /// on. Requires a kind that refers.
+    pub fn try_read_referring(
+        &mut self,
+        alloc: Global,
+        kind: Kind,
+        object: u64,
+        field: u32,
+    ) -> Result<u64, Refusal>
+        requires of { IsMember self.old }
+        requires refers { refers kind ≡ true }
+        ensures of { IsMember self.new }
+        ensures crew { crew_of self.new ≡ crew_of self.old }
+        ensures made { made_of self.new ≡ made_of self.old }
+        ensures grows { Grows (pass_of self.old) (pass_of self.new) × (did (pass_of self.new) ≡ did (pass_of self.old)) }
+        ensures alone { (setup_of self.old).mutators ≡ 1 → (q : ℕ) → IsErrOf result (Busy q) → ⊥ }
+        ensures read { IfOk result (Reads (setup_of self.old) (seen (pass_of self.new)) kind object field) }
+        ensures known { IfOk result (MayRefer (pass_of self.new)) }
+        ensures builds { OnOk result (MayBuildTouched (setup_of self.old) (pass_of self.old) (pass_of self.new) kind object field) }
+        ensures free { (q : ℕ) → IsErrOf result (Busy q) → KnowsBuilt (pass_of self.old) q → ⊥ }
+        ensures slid { (q : ℕ) → IsErrOf result (Busy q) → IsForwardingAddress (setup_of self.old).heap object }
+        ensures unseen { (q : ℕ) → IsErrOf result (Busy q) → HasSeenBuilt (pass_of self.new) q → ⊥ }
+        ensures refused { IfErr result (FieldRefused (setup_of self.old) (pass_of self.old) (pass_of self.new) kind object field) }
+    {
+        let Member { crew, hand } = self;
+        hand.try_read_referring(alloc, &crew.cells, kind, object, field)
+    }
+
+    /// Reads a data field, whatever its number.
+    pub fn try_read_data_at(
+        &mut self,
+        alloc: Global,
+        object: u64,
+        field: u32,
+    ) -> Result<u64, Refusal>
+        requires { IsMember self.old }
+        ensures of { IsMember self.new }
+        ensures crew { crew_of self.new ≡ crew_of self.old }
+        ensures made { made_of self.new ≡ made_of self.old }
+        ensures grows { Grows (pass_of self.old) (pass_of self.new) × (did (pass_of self.new) ≡ did (pass_of self.old)) }
+        ensures alone { (setup_of self.old).mutators ≡ 1 → (q : ℕ) → IsErrOf result (Busy q) → ⊥ }
+        ensures read { IfOk result (Reads (setup_of self.old) (seen (pass_of self.new)) kinds.Data object field) }
+        ensures builds { OnOk result (MayBuildTouched (setup_of self.old) (pass_of self.old) (pass_of self.new) kinds.Data object field) }
+        ensures free { (q : ℕ) → IsErrOf result (Busy q) → KnowsBuilt (pass_of self.old) q → ⊥ }
+        ensures slid { (q : ℕ) → IsErrOf result (Busy q) → IsForwardingAddress (setup_of self.old).heap object }
+        ensures unseen { (q : ℕ) → IsErrOf result (Busy q) → HasSeenBuilt (pass_of self.new) q → ⊥ }
+        ensures refused { IfErr result (FieldRefused (setup_of self.old) (pass_of self.old) (pass_of self.new) kinds.Data object field) }
+    {
+        let Member { crew, hand } = self;
+        hand.try_read_data_at(alloc, &crew.cells, object, field)
+    }
+
+    /// Writes `value` into a field of a kind that refers, and answers the stamp of the entry. The value must be null or
+    /// the address of an object that the mutator knows; any other value is refused. Requires a
+    /// kind that refers.
+    pub fn try_write_referring(
+        &mut self,
+        alloc: Global,
+        kind: Kind,
+        object: u64,
+        field: u32,
+        value: u64,
+    ) -> Result<u64, Refusal>
+        requires of { IsMember self.old }
+        requires refers { refers kind ≡ true }
+        ensures of { IsMember self.new }
+        ensures crew { crew_of self.new ≡ crew_of self.old }
+        ensures made { made_of self.new ≡ made_of self.old }
+        ensures grows { Grows (pass_of self.old) (pass_of self.new) }
+        ensures alone { (setup_of self.old).mutators ≡ 1 → (q : ℕ) → IsErrOf result (Busy q) → ⊥ }
+        ensures wrote { IfOk result (Writes (setup_of self.old) (pass_of self.old) (pass_of self.new) kind object field value) }
+        ensures target { OnOk result (MayRefer (pass_of self.new) value) }
+        ensures builds { OnOk result (MayBuildTouched (setup_of self.old) (pass_of self.old) (pass_of self.new) kind object field) }
+        ensures did { OnErr result (did (pass_of self.new) ≡ did (pass_of self.old)) }
+        ensures refused { IfErr result (ReferenceRefused (setup_of self.old) (pass_of self.old) (pass_of self.new) kind object field value) }
+    {
+        let Member { crew, hand } = self;
+        hand.try_write_referring(alloc, &crew.cells, kind, object, field, value)
+    }
+
+    /// Writes `value` into a data field, and answers the stamp of the entry.
+    pub fn try_write_data_at(
+        &mut self,
+        alloc: Global,
+        object: u64,
+        field: u32,
+        value: u64,
+    ) -> Result<u64, Refusal>
+        requires { IsMember self.old }
+        ensures of { IsMember self.new }
+        ensures crew { crew_of self.new ≡ crew_of self.old }
+        ensures made { made_of self.new ≡ made_of self.old }
+        ensures grows { Grows (pass_of self.old) (pass_of self.new) }
+        ensures alone { (setup_of self.old).mutators ≡ 1 → (q : ℕ) → IsErrOf result (Busy q) → ⊥ }
+        ensures wrote { IfOk result (Writes (setup_of self.old) (pass_of self.old) (pass_of self.new) kinds.Data object field value) }
+        ensures builds { OnOk result (MayBuildTouched (setup_of self.old) (pass_of self.old) (pass_of self.new) kinds.Data object field) }
+        ensures did { OnErr result (did (pass_of self.new) ≡ did (pass_of self.old)) }
+        ensures refused { IfErr result (DataRefused (setup_of self.old) (pass_of self.old) (pass_of self.new) kinds.Data object field) }
+    {
+        let Member { crew, hand } = self;
+        hand.try_write_data_at(alloc, &crew.cells, object, field, value)
+    }
+}

@@ -1,0 +1,112 @@
+ghost use Rattle.std.specs.Prelude.{◌≡◌, ◌^◌, ◌≤◌, [], length, IfOk};
+ghost use Rattle.cell_steps.specs.Setup as setups;
+ghost use Rattle.cell_steps.specs.Passes.{builds_of, did, edition_of, number_of, Rests};
+ghost use Rattle.page_cells.specs.CellViews.{setup_of, IsPassOf};
+ghost use Rattle.comp_history.specs.Shares.{allocated};
+ghost use Rattle.comp_cycles.specs.Forwarded.{AreForwarded};
+
+use crate::crew::Crew;
+use comp_hand::Hand;
+use heap_layout::{Numbered, OutOfMemory};
+use page_cells::Pass;
+use std::alloc::Global;
+use std::sync::Arc;
+
+/// A mutator of a crew: a reader and writer of a heap that is being compacted, with a share of what the crew has.
+#[derive(Drop)]
+pub struct Member {
+    pub(crate) crew: Arc<Crew>,
+    pub(crate) hand: Hand,
+}
+
+impl Numbered for Member {
+    ghost use Rattle.comp_crew.specs.Members.{pass_of};
+
+    ghost number_of = { λ m. number_of (pass_of m) };
+
+    fn number(&self) -> u8 {
+        Member::number(self)
+    }
+}
+
+impl Member {
+    ghost use Rattle.comp_crew.specs.Members.{crew_of, made_of, name_of, pass_of, IsMember};
+    ghost use Rattle.comp_crew.specs.Members as members;
+
+    /// Makes a mutator that has done nothing.
+    pub(crate) fn new(
+        alloc: Global,
+        crew: Arc<Crew>,
+        pass: Pass,
+        fresh: u32,
+        mutators: u32,
+    ) -> Result<Member, OutOfMemory>
+        requires of { IsPassOf crew.value.cells pass × Rests pass × (did pass ≡ []) }
+        requires fresh { (fresh ≡ (setup_of crew.value.cells).fresh) × (fresh ≤ 2 ^ 20) }
+        requires mutators { (mutators ≡ (setup_of crew.value.cells).mutators) × (1 ≤ mutators) × (mutators ≤ 64) }
+        ensures pass { IfOk result (λ m. pass_of m ≡ pass) }
+        ensures crew { IfOk result (λ m. crew_of m ≡ crew.value) }
+        ensures of { IfOk result IsMember }
+    {
+        let hand = Hand::new(alloc, &crew.cells, pass, fresh, mutators)?;
+        Ok(Member { crew, hand })
+    }
+
+    /// The mutator's number.
+    pub fn number(&self) -> u8
+        ensures { result ≡ number_of (pass_of self.now) }
+    {
+        self.hand.number()
+    }
+
+    /// The name of its crew.
+    pub fn crew_name(&self) -> u64
+        ensures { result ≡ name_of self.now }
+    {
+        self.crew.name
+    }
+
+    /// The forwarded roots of the heap, in order.
+    pub fn roots(&self) -> &[u64]
+        ensures { AreForwarded (members.setup_of self.now).heap result.now }
+    {
+        &self.crew.roots
+    }
+
+    /// The number of pages, compacted and fresh together.
+    pub fn pages(&self) -> u64
+        ensures { result ≡ setups.pages (members.setup_of self.now) }
+    {
+        self.crew.cells.pages()
+    }
+
+    /// The number of compacted pages, which the slid objects fill. The fresh pages follow them.
+    pub fn compacted_pages(&self) -> u64
+        ensures { result ≡ (members.setup_of self.now).compacted }
+    {
+        self.crew.cells.compacted_pages()
+    }
+
+    /// The pages that the mutator built, in order.
+    pub fn builds(&self) -> &[u64]
+        ensures { result.now ≡ builds_of (pass_of self.now) }
+    {
+        self.hand.builds()
+    }
+
+    /// The number of entries that the mutator wrote: one for each write and each allocation that answered Ok. Takes no
+    /// memory.
+    pub fn entries(&self) -> u64
+        ensures { result ≡ length (did (pass_of self.now)) }
+    {
+        self.hand.entries()
+    }
+
+    /// The number of words of all objects that the mutator allocated.
+    pub fn made_words(&self) -> u64
+        ensures made { result ≡ made_of self.now }
+        ensures counted { result ≡ allocated (edition_of (pass_of self.now)) (did (pass_of self.now)) }
+    {
+        self.hand.made_words()
+    }
+}

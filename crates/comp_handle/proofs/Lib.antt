@@ -1,0 +1,4 @@
+mod Words
+mod Called
+mod Whys
+mod Crossing

@@ -1,0 +1,6 @@
+use Rattle.std.proofs.Common.{inl, ap, ◌∙◌}
+use Rattle.comp_handle.specs.Answers.{done}
+use Rattle.comp_handle.proofs.crewing.flip_plan.Goals as goal
+
+pub returns-then-keep : goal.returns-then-keep
+returns-then-keep c = inl (c.in-Ok.members, c.if-keep.ensures, c.in-Ok.ensures.flipped, c.done.ensures ∙ ap done c.from.ensures)

@@ -1,0 +1,142 @@
+-- What a call of a mutator does, as C sees it.
+use Rattle.std.specs.Prelude.{◌≡◌, ℕ, ◌+◌, ◌<◌, ◌≤◌, ◌⊎◌, min, List, length, slice_index, Option, None, Some, Result, Ok, Err, IfOk, IfErr, IsErrOf, OnOk, OnErr}
+use Rattle.heap_layout.specs.Header.{header_with}
+use Rattle.heap_layout.specs.declared.kind.Kind.{Kind}
+use Rattle.heap_layout.specs.declared.kind.Kind.TheVariants as kinds
+use Rattle.comp_crew.specs.Allocations.{asked_size, AllocatesAsked, AskedRefused}
+use Rattle.comp_crew.specs.Calls.{Grows, WroteNothing}
+use Rattle.comp_crew.specs.Copies.{builds_after, PageRefused}
+use Rattle.comp_crew.specs.Forwarded.{AreForwarded}
+use Rattle.comp_crew.specs.Members.{crew_of, made_of, pass_of, setup_of}
+use Rattle.comp_crew.specs.Passes.{builds_of, did, number_of, seen, HasSeenBuilt, MayRefer}
+use Rattle.comp_crew.specs.Reads.{FieldRefused, KnowsBuilt, MayBuildTouched, Reads}
+use Rattle.comp_crew.specs.Setup.{pages}
+use Rattle.comp_crew.specs.Starts.{IsForwardingAddress}
+use Rattle.comp_crew.specs.Writes.{DataRefused, ReferenceRefused, Writes}
+use Rattle.comp_crew.specs.declared.member.Member.{Member}
+use Rattle.comp_crew.specs.Touched.{Touched}
+use Rattle.comp_crew.specs.Touched.TheVariants.{Built, AlreadyBuilt}
+use Rattle.comp_crew.specs.Refusal.{Refusal}
+use Rattle.comp_crew.specs.Refusal.TheVariants.{Busy}
+use Rattle.comp_handle.specs.Answers.{bare, done, empty_handle, of_refusal, wrong_handle, IsAnswer}
+use Rattle.comp_handle.specs.declared.answer.Answer.{Answer}
+use Rattle.comp_handle.specs.declared.calling.Call.{Call}
+use Rattle.comp_handle.specs.declared.calling.Call.TheVariants.{ReadRef, ReadWeak, ReadData, WriteRef, WriteWeak, WriteData, Alloc, Touch, Root, Pages, CompactedPages, Number}
+use Rattle.comp_handle.specs.declared.kept.Kept.{Kept}
+use Rattle.comp_handle.specs.declared.kept.Kept.TheVariants.{Nothing, Heap, Plan, Crew, Mutator, Ended}
+
+-- a mutator that is alone is never refused a busy page
+abbrev pub IsNeverBusyAlone : {T : Type 0} → Member → Result T Refusal → Type 0
+IsNeverBusyAlone m r = (setup_of m).mutators ≡ 1 → (q : ℕ) → IsErrOf r (Busy q) → ⊥
+
+-- a busy page that a read was refused: it was not known to be built, the object slid there, and it is not seen built now
+pub record BusyIsUnbuilt (object : ℕ) (m n : Member) (r : Result ℕ Refusal) : Type 0 where
+  pub free : (q : ℕ) → IsErrOf r (Busy q) → KnowsBuilt (pass_of m) q → ⊥
+  pub slid : (q : ℕ) → IsErrOf r (Busy q) → IsForwardingAddress (setup_of m).heap object
+  pub unseen : (q : ℕ) → IsErrOf r (Busy q) → HasSeenBuilt (pass_of n) q → ⊥
+
+-- a read of a field of this kind
+pub record ReadsField (kind : Kind) (object field : ℕ) (m n : Member) (r : Result ℕ Refusal) : Type 0 where
+  pub crew : crew_of n ≡ crew_of m
+  pub made : made_of n ≡ made_of m
+  pub grows : Grows (pass_of m) (pass_of n)
+  pub wrote : did (pass_of n) ≡ did (pass_of m)
+  pub read : IfOk r (Reads (setup_of m) (seen (pass_of n)) kind object field)
+  pub builds : OnOk r (MayBuildTouched (setup_of m) (pass_of m) (pass_of n) kind object field)
+  pub alone : IsNeverBusyAlone m r
+  pub busy : BusyIsUnbuilt object m n r
+  pub refused : IfErr r (FieldRefused (setup_of m) (pass_of m) (pass_of n) kind object field)
+
+-- a read of a field that refers: what it answers may be written into such fields from then on
+pub record ReadsReferring (kind : Kind) (object field : ℕ) (m n : Member) (r : Result ℕ Refusal) : Type 0 where
+  pub reads : ReadsField kind object field m n r
+  pub known : IfOk r (MayRefer (pass_of n))
+
+-- a write into a field of this kind; `Refused` says why it is refused
+pub record WritesField (kind : Kind) (object field value : ℕ) (m n : Member) (r : Result ℕ Refusal) (Refused : Refusal → Type 0) : Type 0 where
+  pub crew : crew_of n ≡ crew_of m
+  pub made : made_of n ≡ made_of m
+  pub grows : Grows (pass_of m) (pass_of n)
+  pub wrote : IfOk r (Writes (setup_of m) (pass_of m) (pass_of n) kind object field value)
+  pub builds : OnOk r (MayBuildTouched (setup_of m) (pass_of m) (pass_of n) kind object field)
+  pub kept : OnErr r (did (pass_of n) ≡ did (pass_of m))
+  pub alone : IsNeverBusyAlone m r
+  pub refused : IfErr r Refused
+
+-- a write into a field that refers: the mutator may store what it wrote
+pub record WritesReferring (kind : Kind) (object field value : ℕ) (m n : Member) (r : Result ℕ Refusal) : Type 0 where
+  pub writes : WritesField kind object field value m n r (ReferenceRefused (setup_of m) (pass_of m) (pass_of n) kind object field value)
+  pub target : OnOk r (MayRefer (pass_of n) value)
+
+-- an allocation of an object with these counts
+pub record Makes (refs weak data_words tag : ℕ) (m n : Member) (r : Result ℕ Refusal) : Type 0 where
+  pub crew : crew_of n ≡ crew_of m
+  pub grows : Grows (pass_of m) (pass_of n)
+  pub made : OnOk r (made_of n ≡ made_of m + asked_size (header_with (setup_of m).heap.edition refs weak data_words tag))
+  pub allocated : IfOk r (AllocatesAsked (setup_of m) (pass_of m) (pass_of n) (header_with (setup_of m).heap.edition refs weak data_words tag))
+  pub kept : OnErr r ((did (pass_of n) ≡ did (pass_of m)) × (made_of n ≡ made_of m))
+  pub alone : IsNeverBusyAlone m r
+  pub refused : IfErr r (AskedRefused (setup_of m) (pass_of m) (pass_of n) (header_with (setup_of m).heap.edition refs weak data_words tag))
+
+-- 1 if the touch built the page, else 0
+abbrev pub touch_number : Touched → ℕ
+touch_number Built = 1
+touch_number AlreadyBuilt = 0
+
+-- a touch of a page that exists
+pub record TouchesPage (p : ℕ) (m n : Member) (r : Result Touched Refusal) : Type 0 where
+  pub crew : crew_of n ≡ crew_of m
+  pub made : made_of n ≡ made_of m
+  pub grows : Grows (pass_of m) (pass_of n)
+  pub wrote : WroteNothing (pass_of m) (pass_of n)
+  pub touched : IfOk r (λ touched. HasSeenBuilt (pass_of n) p × (builds_of (pass_of n) ≡ builds_after (builds_of (pass_of m)) p touched))
+  pub known : KnowsBuilt (pass_of m) p → r ≡ Ok AlreadyBuilt
+  pub alone : IsNeverBusyAlone m r
+  pub unbuilt : (q : ℕ) → IsErrOf r (Busy q) → HasSeenBuilt (pass_of n) p → ⊥
+  pub refused : IfErr r (λ refusal. (builds_of (pass_of n) ≡ builds_of (pass_of m)) × PageRefused p (pass_of m) (pass_of n) refusal)
+
+abbrev pub IsTouchAnswer : Result Touched Refusal → Answer → Type 0
+IsTouchAnswer (Ok touched) a = a ≡ done (touch_number touched)
+IsTouchAnswer (Err refusal) a = a ≡ of_refusal refusal
+
+-- a touch: there is no such page, and nothing has changed, or the page was touched
+abbrev pub Touches : ℕ → Member → Member → Answer → Type 0
+Touches p m n a =
+    ((pages (setup_of m) ≤ p) × (n ≡ m) × (a ≡ bare 12 p))
+    ⊎ ((p < pages (setup_of m)) × ((r : Result Touched Refusal) × IsTouchAnswer r a × TouchesPage p m n r))
+
+-- the forwarded root with this number, or there is none
+abbrev pub IsRoot : ℕ → Member → Answer → Type 0
+IsRoot i m a =
+    (roots : List ℕ) × AreForwarded (setup_of m).heap roots
+    × (((i < length roots) × (a ≡ done (slice_index roots i))) ⊎ ((length roots ≤ i) × (a ≡ bare 13 i)))
+
+-- the call answered as a call that did this
+abbrev pub Answers : (Result ℕ Refusal → Type 0) → Answer → Type 0
+Answers P a = (r : Result ℕ Refusal) × IsAnswer r a × P r
+
+-- What a call does to the mutator, and what it answers. A count of an allocation that is above 65,535 is taken as
+-- 65,535, so that it is more than an object of a fresh page has.
+abbrev pub Does : Call → Member → Member → Answer → Type 0
+Does (ReadRef object field) m n a = Answers (ReadsReferring kinds.Reference object field m n) a
+Does (ReadWeak object field) m n a = Answers (ReadsReferring kinds.Weak object field m n) a
+Does (ReadData object field) m n a = Answers (ReadsField kinds.Data object field m n) a
+Does (WriteRef object field value) m n a = Answers (WritesReferring kinds.Reference object field value m n) a
+Does (WriteWeak object field value) m n a = Answers (WritesReferring kinds.Weak object field value m n) a
+Does (WriteData object field value) m n a = Answers (λ r. WritesField kinds.Data object field value m n r (DataRefused (setup_of m) (pass_of m) (pass_of n) kinds.Data object field)) a
+Does (Alloc refs weak data_words tag) m n a = Answers (Makes (min refs 65535) (min weak 65535) (min data_words 65535) tag m n) a
+Does (Touch p) m n a = Touches p m n a
+Does (Root i) m n a = (n ≡ m) × IsRoot i m a
+Does Pages m n a = (n ≡ m) × (a ≡ done (pages (setup_of m)))
+Does CompactedPages m n a = (n ≡ m) × (a ≡ done (setup_of m).compacted)
+Does Number m n a = (n ≡ m) × (a ≡ done (number_of (pass_of m)))
+
+-- what a call by a handle does: it has a mutator, or nothing happens
+abbrev pub Calls : (Member → Member → Answer → Type 0) → Option Kept → Option Kept → Answer → Type 0
+Calls P None new a = (new ≡ None) × (a ≡ empty_handle)
+Calls P (Some (Mutator m)) new a = (n : Member) × (new ≡ Some (Mutator n)) × P m n a
+Calls P (Some Nothing) new a = (new ≡ Some Nothing) × (a ≡ wrong_handle)
+Calls P (Some (Heap heap)) new a = (new ≡ Some (Heap heap)) × (a ≡ wrong_handle)
+Calls P (Some (Plan plan)) new a = (new ≡ Some (Plan plan)) × (a ≡ wrong_handle)
+Calls P (Some (Crew members)) new a = (new ≡ Some (Crew members)) × (a ≡ wrong_handle)
+Calls P (Some (Ended e)) new a = (new ≡ Some (Ended e)) × (a ≡ wrong_handle)

@@ -1,0 +1,37 @@
+-- What holds of all that a handle keeps.
+use Rattle.std.specs.Prelude.{◌≡◌, Bool, true, false, Option, Some, All}
+use Rattle.comp_crew.specs.Members.{IsMember}
+use Rattle.comp_crew.specs.Finishing.{IsEnded}
+use Rattle.comp_handle.specs.declared.kept.Kept.{Kept}
+use Rattle.comp_handle.specs.declared.kept.Kept.TheVariants.{Nothing, Heap, Plan, Crew, Mutator, Ended}
+
+abbrev pub IsKept : Kept → Type 0
+IsKept Nothing = Unit {0}
+IsKept (Heap heap) = Unit {0}
+IsKept (Plan plan) = Unit {0}
+IsKept (Crew members) = All IsMember members.items
+IsKept (Mutator m) = IsMember m
+IsKept (Ended e) = IsEnded e
+
+-- the handle keeps this now, or what it kept before
+abbrev pub KeepsIf : Bool → Kept → Option Kept → Option Kept → Type 0
+KeepsIf true kept old new = new ≡ Some kept
+KeepsIf false kept old new = new ≡ old
+
+-- it keeps no crew
+abbrev pub IsNoCrew : Kept → Type 0
+IsNoCrew (Crew members) = ⊥
+IsNoCrew Nothing = Unit {0}
+IsNoCrew (Heap heap) = Unit {0}
+IsNoCrew (Plan plan) = Unit {0}
+IsNoCrew (Mutator m) = Unit {0}
+IsNoCrew (Ended e) = Unit {0}
+
+-- it keeps no mutator
+abbrev pub IsNoMutator : Kept → Type 0
+IsNoMutator (Mutator m) = ⊥
+IsNoMutator Nothing = Unit {0}
+IsNoMutator (Heap heap) = Unit {0}
+IsNoMutator (Plan plan) = Unit {0}
+IsNoMutator (Crew members) = Unit {0}
+IsNoMutator (Ended e) = Unit {0}

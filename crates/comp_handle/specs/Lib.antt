@@ -1,0 +1,9 @@
+pub mod Keeping
+pub mod Held
+pub mod Answers
+pub mod Calling
+pub mod Making
+pub mod Turning
+pub mod Crewing
+pub mod Ending
+pub mod Joining

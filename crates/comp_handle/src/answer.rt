@@ -1,0 +1,81 @@
+//! What a call of C is answered.
+ghost use Rattle.std.specs.Prelude.{◌≡◌};
+ghost use Rattle.comp_handle.specs.Answers.{bare, done, of_layout, of_refusal, IsAnswer};
+
+use comp_crew::Refusal;
+use heap_layout::LayoutFault;
+
+/// A status and a value. The status 0 means that it is done; then the value is the result. Else the value is the number
+/// that the refusal names, or 0.
+#[repr(C)]
+#[derive(Clone, Copy, Debug, PartialEq, Eq)]
+pub struct Answer {
+    /// The status.
+    pub status: u32,
+    /// The result, or the number of the refusal.
+    pub value: u64,
+}
+
+impl Answer {
+    /// The answer of a call that is done.
+    pub fn done(value: u64) -> Answer
+        ensures { result ≡ done value }
+    {
+        Answer { status: 0, value }
+    }
+
+    /// The answer with this status and this value.
+    pub fn bare(status: u32, value: u64) -> Answer
+        ensures { result ≡ bare status value }
+    {
+        Answer { status, value }
+    }
+
+    /// The answer of a refused call of a mutator.
+    pub fn refused(refusal: Refusal) -> Answer
+        ensures { result ≡ of_refusal refusal }
+    {
+        match refusal {
+            Refusal::Busy(p) => Answer::bare(1, p),
+            Refusal::Null => Answer::bare(2, 0),
+            Refusal::NotAStart(a) => Answer::bare(3, a),
+            Refusal::NoSuchField => Answer::bare(4, 0),
+            Refusal::NotInEdition => Answer::bare(5, 0),
+            Refusal::ObjectTooLarge => Answer::bare(6, 0),
+            Refusal::OutOfPages => Answer::bare(7, 0),
+            Refusal::JournalFull(p) => Answer::bare(8, p),
+            Refusal::OutOfMemory => Answer::bare(9, 0),
+        }
+    }
+
+    /// The answer of a call of a mutator.
+    pub fn of(called: Result<u64, Refusal>) -> Answer
+        ensures { IsAnswer called result }
+    {
+        match called {
+            Ok(value) => Answer::done(value),
+            Err(refusal) => Answer::refused(refusal),
+        }
+    }
+
+    /// The answer of a heap that is not accepted.
+    pub fn unaccepted(fault: LayoutFault) -> Answer
+        ensures { result ≡ of_layout fault }
+    {
+        match fault {
+            LayoutFault::TooLarge => Answer::bare(33, 0),
+            LayoutFault::ObjectPastEnd(i) => Answer::bare(34, i),
+            LayoutFault::ObjectTooLong(i) => Answer::bare(35, i),
+            LayoutFault::MarkNotStart(i) => Answer::bare(36, i),
+            LayoutFault::MarksNotRising(i) => Answer::bare(37, i),
+            LayoutFault::BadRoot(i) => Answer::bare(38, i),
+            LayoutFault::UnmarkedTarget(i) => Answer::bare(39, i),
+            LayoutFault::Truncated => Answer::bare(40, 0),
+            LayoutFault::TrailingBytes => Answer::bare(41, 0),
+            LayoutFault::BadMagic => Answer::bare(42, 0),
+            LayoutFault::OutOfMemory => Answer::bare(9, 0),
+            LayoutFault::Device => Answer::bare(44, 0),
+            LayoutFault::BadWeak(i) => Answer::bare(45, i),
+        }
+    }
+}

@@ -1,0 +1,131 @@
+//! A crew by its handle: it is made by a flip, its members go out to threads, and come back.
+ghost use Rattle.std.specs.Prelude.{◌≡◌, Some, IfErr, IfOk};
+ghost use Rattle.comp_crew.specs.Members.{IsMember};
+ghost use Rattle.comp_handle.specs.Crewing.{planned, Flips, FlipsOf, IsNoPlan, Splits, Takes};
+ghost use Rattle.comp_handle.specs.Keeping.{IsKept};
+
+use crate::answer::Answer;
+use crate::handle::Handle;
+use crate::kept::Kept;
+use crate::opening::{Opened, close, keep, open};
+use comp_crew::{CrewFault, Member, flip};
+use page_plan::Plan;
+use std::alloc::Global;
+use std::sync::Arc;
+
+// A share of the plan that the handle keeps. The handle stays as it is.
+fn plan_of(alloc: Global, h: &mut Handle) -> Result<Arc<Plan>, Answer>
+    ensures same { h.new.kept ≡ h.old.kept }
+    ensures plan { IfOk result (λ plan. planned h.old.kept ≡ Some plan.value) }
+    ensures none { IfErr result (IsNoPlan h.old.kept) }
+{
+    let Some(kept) = h.take(alloc) else {
+        return Err(Answer::bare(10, 0));
+    };
+    let plan = match kept.as_ref() {
+        Kept::Plan(plan) => match Arc::try_clone(plan) {
+            Ok(plan) => Ok(plan),
+            Err(_) => Err(Answer::bare(9, 0)),
+        },
+        _ => Err(Answer::bare(11, 0)),
+    };
+    h.put(kept);
+    plan
+}
+
+// Flips the heap of a plan for a crew.
+fn flip_plan(
+    alloc: Global,
+    plan: Arc<Plan>,
+    name: u64,
+    n: u32,
+    fresh_pages: u32,
+    crew: &mut Handle,
+) -> Answer
+    ensures { FlipsOf plan.value name n fresh_pages crew.old.kept crew.new.kept result }
+{
+    match flip(alloc, plan, name, n, fresh_pages) {
+        Ok(members) => {
+            if keep(alloc, crew, Kept::Crew(members)) {
+                Answer::done(u64::from(n))
+            } else {
+                Answer::bare(9, 0)
+            }
+        }
+        Err(CrewFault::BadCounts) => Answer::bare(14, 0),
+        Err(CrewFault::OutOfMemory) => Answer::bare(9, 0),
+    }
+}
+
+/// Flips the heap of the plan that a handle keeps, for a new crew of this name, of `n` members, with `fresh_pages` fresh
+/// pages. The handle of the crew keeps all members then. The handle of the plan stays as it is.
+pub fn flip_crew(
+    alloc: Global,
+    plan: &mut Handle,
+    name: u64,
+    n: u32,
+    fresh_pages: u32,
+    crew: &mut Handle,
+) -> Answer
+    ensures same { plan.new.kept ≡ plan.old.kept }
+    ensures flips { Flips name n fresh_pages plan.old.kept crew.old.kept crew.new.kept result }
+{
+    match plan_of(alloc, plan) {
+        Ok(plan) => flip_plan(alloc, plan, name, n, fresh_pages, crew),
+        Err(answer) => answer,
+    }
+}
+
+// A crew and one member of it, or why there is none.
+#[derive(Drop)]
+struct Split {
+    kept: Kept,
+    member: Result<Member, Answer>,
+}
+
+fn split_off(kept: Kept) -> Split
+    requires { IsKept kept }
+    ensures kept { IsKept result.kept }
+    ensures member { IfOk result.member IsMember }
+    ensures splits { Splits kept result.kept result.member }
+{
+    match kept {
+        Kept::Crew(mut members) => match members.pop() {
+            Some(m) => Split {
+                kept: Kept::Crew(members),
+                member: Ok(m),
+            },
+            None => Split {
+                kept: Kept::Crew(members),
+                member: Err(Answer::bare(18, 0)),
+            },
+        },
+        other => Split {
+            kept: other,
+            member: Err(Answer::bare(11, 0)),
+        },
+    }
+}
+
+/// Takes the last member out of the crew that a handle keeps; another handle keeps that member then. The answer has the
+/// member's number.
+pub fn take_member(alloc: Global, crew: &mut Handle, out: &mut Handle) -> Answer
+    ensures { Takes crew.old.kept crew.new.kept out.old.kept out.new.kept result }
+{
+    let Ok(seat) = Box::new(alloc, Kept::Nothing) else {
+        return Answer::bare(9, 0);
+    };
+    let Some(Opened { room, kept }) = open(alloc, crew) else {
+        return Answer::bare(10, 0);
+    };
+    let Split { kept, member } = split_off(kept);
+    close(crew, room, kept);
+    match member {
+        Ok(m) => {
+            let number = m.number();
+            close(out, seat, Kept::Mutator(m));
+            Answer::done(u64::from(number))
+        }
+        Err(answer) => answer,
+    }
+}

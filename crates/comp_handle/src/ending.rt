@@ -1,0 +1,167 @@
+//! What is left of a crew, by its handle.
+ghost use Rattle.std.specs.Prelude.{◌≡◌};
+ghost use Rattle.comp_crew.specs.Finishes.{roots_of};
+ghost use Rattle.comp_crew.specs.Finishing.{finished_of};
+ghost use Rattle.comp_handle.specs.Ending.{kind_number, pages_at_end, CopiesEntry, CopiesPage, IsRootOf, Looks, LooksInto, Tells};
+
+use crate::answer::Answer;
+use crate::handle::Handle;
+use crate::kept::Kept;
+use comp_crew::Ended;
+use heap_layout::Kind;
+use std::alloc::Global;
+
+/// A question about a finished heap.
+#[derive(Clone, Copy)]
+pub enum Question {
+    /// How many words its objects have.
+    LiveWords,
+    /// How many pages there are.
+    PageCount,
+    /// Where the root with this number leads.
+    EndRoot(u64),
+}
+
+// The root with this number.
+fn end_root(e: &Ended, i: u64) -> Answer
+    ensures { IsRootOf i (roots_of (finished_of e.now)) result }
+{
+    let roots = e.finished().roots();
+    if i < roots.len() as u64 {
+        Answer::done(roots[i as usize])
+    } else {
+        Answer::bare(13, i)
+    }
+}
+
+// Answers a question.
+fn look(e: &Ended, question: Question) -> Answer
+    ensures { Tells question e.now result }
+{
+    match question {
+        Question::LiveWords => Answer::done(e.finished().live_words()),
+        Question::PageCount => Answer::done(e.finished().pages().len() as u64),
+        Question::EndRoot(i) => end_root(e, i),
+    }
+}
+
+/// Answers a question about the finished heap that a handle keeps.
+pub fn ask(alloc: Global, h: &mut Handle, question: Question) -> Answer
+    ensures same { h.new.kept ≡ h.old.kept }
+    ensures looks { Looks (Tells question) h.old.kept result }
+{
+    let Some(kept) = h.take(alloc) else {
+        return Answer::bare(10, 0);
+    };
+    let answer = match kept.as_ref() {
+        Kept::Ended(e) => look(e, question),
+        _ => Answer::bare(11, 0),
+    };
+    h.put(kept);
+    answer
+}
+
+// Copies the words of a page.
+fn copy_page(e: &Ended, p: u64, out: &mut [u64; 64]) -> Answer
+    ensures { CopiesPage p (pages_at_end e.now) out.old out.new result }
+{
+    let pages = e.finished().pages();
+    if p >= pages.len() as u64 {
+        return Answer::bare(12, p);
+    }
+    match pages.page(p as usize) {
+        Some(page) => {
+            *out = page.words();
+            Answer::done(page.journal().len() as u64)
+        }
+        None => Answer::bare(21, p),
+    }
+}
+
+/// Copies the words of a page of the finished heap that a handle keeps. The answer has the number of entries of its
+/// journal.
+pub fn page_words(alloc: Global, h: &mut Handle, p: u64, out: &mut [u64; 64]) -> Answer
+    ensures same { h.new.kept ≡ h.old.kept }
+    ensures copies { LooksInto (λ e. CopiesPage p (pages_at_end e) out.old out.new) (out.new ≡ out.old) h.old.kept result }
+{
+    let Some(kept) = h.take(alloc) else {
+        return Answer::bare(10, 0);
+    };
+    let answer = match kept.as_ref() {
+        Kept::Ended(e) => copy_page(e, p, out),
+        _ => Answer::bare(11, 0),
+    };
+    h.put(kept);
+    answer
+}
+
+/// An entry of a journal, as C sees it. The kind is 0 for a header, 1 for a reference, 2 for a weak word and 3 for a
+/// data word.
+#[repr(C)]
+#[derive(Clone, Copy, Debug, PartialEq, Eq)]
+pub struct Written {
+    /// The stamp.
+    pub stamp: u64,
+    /// The value that was written.
+    pub value: u64,
+    /// The number of the mutator that wrote it.
+    pub writer: u8,
+    /// The kind.
+    pub kind: u8,
+    /// The offset of the word on its page.
+    pub offset: u8,
+}
+
+// The number of a kind.
+fn kind_number(kind: Kind) -> u8
+    ensures { result ≡ kind_number kind }
+{
+    match kind {
+        Kind::Header => 0,
+        Kind::Reference => 1,
+        Kind::Weak => 2,
+        Kind::Data => 3,
+    }
+}
+
+// Copies an entry of a page.
+fn copy_entry(e: &Ended, p: u64, i: u64, out: &mut Written) -> Answer
+    ensures { CopiesEntry p i (pages_at_end e.now) out.old out.new result }
+{
+    let pages = e.finished().pages();
+    if p >= pages.len() as u64 {
+        return Answer::bare(12, p);
+    }
+    let Some(page) = pages.page(p as usize) else {
+        return Answer::bare(21, p);
+    };
+    let journal = page.journal();
+    if i >= journal.len() as u64 {
+        return Answer::bare(22, i);
+    }
+    let entry = journal[i as usize];
+    *out = Written {
+        stamp: entry.stamp,
+        value: entry.value,
+        writer: entry.writer,
+        kind: kind_number(entry.kind),
+        offset: entry.offset,
+    };
+    Answer::done(0)
+}
+
+/// Copies an entry of the journal of a page of the finished heap that a handle keeps.
+pub fn page_entry(alloc: Global, h: &mut Handle, p: u64, i: u64, out: &mut Written) -> Answer
+    ensures same { h.new.kept ≡ h.old.kept }
+    ensures copies { LooksInto (λ e. CopiesEntry p i (pages_at_end e) out.old out.new) (out.new ≡ out.old) h.old.kept result }
+{
+    let Some(kept) = h.take(alloc) else {
+        return Answer::bare(10, 0);
+    };
+    let answer = match kept.as_ref() {
+        Kept::Ended(e) => copy_entry(e, p, i, out),
+        _ => Answer::bare(11, 0),
+    };
+    h.put(kept);
+    answer
+}

@@ -1,0 +1,85 @@
+//! Handles that C keeps.
+ghost use Rattle.std.specs.Prelude.{◌≡◌, Option, None, Some, MatchOption};
+ghost use Rattle.comp_handle.specs.declared.kept.Kept.{Kept as Value};
+ghost use Rattle.comp_handle.specs.Keeping.{IsKept};
+ghost use Rattle.comp_handle.specs.Held.{handle_owns, kept_coded};
+
+use crate::kept::Kept;
+use crate::parts::Parts;
+use std::alloc::Global;
+use std::marker::Model;
+use std::mem::replace;
+use std::ptr::null_mut;
+
+/// A handle: empty, or what a box owns.
+#[repr(C)]
+pub struct Handle {
+    at: *mut u8,
+    alloc: Global,
+    pub ghost kept: { Option Value } by { kept_coded },
+}
+
+impl Model for Handle {
+    ghost also_owns = { λ h. handle_owns h.alloc h.at h.kept };
+}
+
+impl Handle {
+    /// An empty handle.
+    fn empty(alloc: Global) -> Handle
+        ensures { result.kept ≡ None }
+    {
+        Handle {
+            at: null_mut(),
+            alloc,
+        }
+    }
+
+    fn of_parts(parts: Parts<Kept, Global>) -> Handle
+        requires { IsKept parts.value }
+        ensures { result.kept ≡ Some parts.value }
+    {
+        let Parts { ptr, alloc } = parts;
+        Handle {
+            at: ptr as *mut u8,
+            alloc,
+        }
+    }
+
+    fn into_parts(self) -> Option<Parts<Kept, Global>>
+        ensures { MatchOption result (self.kept ≡ None) (λ parts. (self.kept ≡ Some parts.value) × IsKept parts.value) }
+    {
+        let Handle { at, alloc } = self;
+        if at.is_null() {
+            None
+        } else {
+            Some(Parts {
+                ptr: at as *mut Kept,
+                alloc,
+            })
+        }
+    }
+
+    /// Takes what the handle keeps. It is empty then.
+    pub fn take(&mut self, alloc: Global) -> Option<Box<Kept>>
+        ensures empty { self.new.kept ≡ None }
+        ensures kept { MatchOption result (self.old.kept ≡ None) (λ b. (self.old.kept ≡ Some b.value) × IsKept b.value) }
+    {
+        match replace(self, Handle::empty(alloc)).into_parts() {
+            None => None,
+            Some(parts) => Some(parts.into_box()),
+        }
+    }
+
+    /// Puts a box into the handle. What it kept before is dropped.
+    pub fn put(&mut self, b: Box<Kept>)
+        requires { IsKept b.value }
+        ensures { self.new.kept ≡ Some b.value }
+    {
+        let before = replace(self, Handle::of_parts(Parts::of(b)));
+        if let Some(parts) = before.into_parts() {
+            drop(parts.into_box());
+        }
+    }
+}
+
+unsafe impl Send for Handle {}

@@ -1,0 +1,100 @@
+/* heap.h: the collector as a runtime uses it.
+
+   Nobody outside heap.c holds an address. A value is named by a slot: a place on the evaluator's own stack of roots.
+   A collection forwards what the slots hold, so a slot names the same object before and after any call.
+
+   An object has reference fields, then data words. A new object has at most MOST_WORDS words, one of them its header;
+   its fields are null and zero. Each read or write is one word, whole, and all evaluators see them in one order. */
+#ifndef HEAP_H
+#define HEAP_H
+
+#include "compressor.h"
+
+#include <setjmp.h>
+#include <stdio.h>
+
+#ifdef __cplusplus
+extern "C" {
+#endif
+
+enum {
+    MOST_WORDS = 64,       /* of a new object */
+    MOST_EVALUATORS = 4,
+    COLLECTORS = 2,        /* the threads that sweep */
+    MOST_PAGES = 512,      /* fresh pages of a mutator */
+    STACK_SLOTS = 200000   /* of each evaluator; all of them together are fewer than the roots of edition three */
+};
+
+typedef uint32_t slot;
+
+/* A thread that runs the program, with its mutator and its roots. */
+typedef struct evaluator {
+    comp_handle mutator;
+    uint64_t *stack;       /* the roots: the slots below top */
+    slot top;
+    uint32_t number;
+    uint32_t depth;        /* of the runtime's own recursion */
+    jmp_buf base;          /* where an evaluator goes on after heap_fail, in itself or in another one */
+    uint64_t allocated;    /* words of the objects made since the flip */
+    uint32_t refused;      /* calls in a row that found no memory */
+    uint64_t began;        /* when the present call began, in nanoseconds; 0 if nothing is measured */
+    uint64_t slowest_call, longest_pause, all_pauses, pauses;
+    uint64_t busy, pages_out, journals_full; /* answers of calls */
+} evaluator;
+
+struct heap_options {
+    uint32_t evaluators;   /* 1 to MOST_EVALUATORS */
+    uint32_t pages;        /* fresh pages of each mutator in a cycle, 1 to MOST_PAGES */
+    uint64_t limit;        /* out of memory, if more words than these are live after a cycle */
+    int measured;          /* calls and pauses are timed */
+};
+
+/* The header of an object of edition three, for the words of the first heap. */
+uint64_t heap_header(uint64_t refs, uint64_t data_words, uint64_t tag);
+/* The from-space address of word i of the first heap. */
+uint64_t heap_first_address(uint64_t i);
+
+/* Begins with a first heap. Each evaluator's stack has the roots in its lowest slots. Null, or the name of an error. */
+const char *heap_start(const struct heap_options *options, const uint64_t *words, size_t word_count,
+                       const uint64_t *roots, size_t root_count);
+evaluator *heap_evaluator(uint32_t number);
+uint32_t heap_evaluators(void);
+uint64_t heap_cycles(void);
+/* Ends the heap, after all threads of evaluators were joined. Null, or what failed. */
+const char *heap_end(void);
+void heap_statistics(FILE *to);
+
+/* The stack. A new slot holds null. */
+slot heap_push(evaluator *e);
+void heap_pop(evaluator *e, slot top);
+void heap_clear(evaluator *e, slot at);
+void heap_copy(evaluator *e, slot to, slot from);
+int heap_is_null(const evaluator *e, slot at);
+int heap_same(const evaluator *e, slot a, slot b);
+
+/* Objects. heap_new and the two that write may collect. */
+void heap_new(evaluator *e, slot to, uint32_t refs, uint32_t data_words, uint32_t tag);
+void heap_ref(evaluator *e, slot to, slot object, uint32_t field);
+void heap_set_ref(evaluator *e, slot object, uint32_t field, slot value);
+uint64_t heap_word(evaluator *e, slot object, uint32_t field);
+void heap_set_word(evaluator *e, slot object, uint32_t field, uint64_t value);
+
+/* The safepoint: called often by each evaluator, it stops here while a collection is wanted. */
+void heap_poll(evaluator *e);
+/* Wants a collection, and waits for it. */
+void heap_collect(evaluator *e);
+/* Waits until is_so(with), and takes part in collections meanwhile. is_so is called under the heap's lock. */
+void heap_wait(evaluator *e, int (*is_so)(void *with), void *with);
+/* Calls change(with) under the heap's lock, and wakes those who wait. */
+void heap_tell(void (*change)(void *with), void *with);
+
+/* Ends the program. The first error that is told is the program's; later ones are dropped. */
+void heap_fail(evaluator *e, const char *name, const char *about) __attribute__((noreturn));
+/* Ends the program, with an error or null: evaluators go to their base as soon as they wait or poll. */
+void heap_stop(const char *error);
+
+#ifdef __cplusplus
+}
+#endif
+
+#endif

@@ -1,0 +1,3 @@
+; Recursion without an end.
+(define (f n) (+ 1 (f n)))
+(f 1)

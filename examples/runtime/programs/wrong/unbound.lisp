@@ -1,0 +1,3 @@
+; A name without a value.
+(print (+ 1 2))
+(print (nowhere 3))

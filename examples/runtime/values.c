@@ -1,0 +1,164 @@
+/* values.c: making values and taking them apart.
+
+   A value is made in a slot of its own, and goes to `out` once it is whole: `out` may hold what is still needed. */
+#include "lisp.h"
+
+#include <string.h>
+
+static slot make(evaluator *e, uint32_t kind, uint32_t refs, uint32_t data_words) {
+    slot made = heap_push(e);
+    heap_new(e, made, refs, 1 + data_words, kind);
+    heap_set_word(e, made, KIND, kind);
+    return made;
+}
+
+static void deliver(evaluator *e, slot out, slot made) {
+    heap_copy(e, out, made);
+    heap_pop(e, made);
+}
+
+uint64_t kind_of(evaluator *e, slot value) {
+    return heap_is_null(e, value) ? (uint64_t)NIL : heap_word(e, value, KIND);
+}
+
+void make_integer(evaluator *e, slot out, int64_t number) {
+    slot made = make(e, INTEGER, 0, 1);
+    heap_set_word(e, made, NUMBER, (uint64_t)number);
+    deliver(e, out, made);
+}
+
+int64_t integer_of(evaluator *e, slot value) {
+    if (kind_of(e, value) != INTEGER) fail_with(e, "NotAnInteger", value);
+    return (int64_t)heap_word(e, value, NUMBER);
+}
+
+void make_boolean(evaluator *e, slot out, int is_so) {
+    heap_copy(e, out, is_so ? TRUE_SLOT : FALSE_SLOT);
+}
+
+void make_cell(evaluator *e, slot out, slot car, slot cdr) {
+    slot made = make(e, CELL, 2, 0);
+    heap_set_ref(e, made, CAR, car);
+    heap_set_ref(e, made, CDR, cdr);
+    deliver(e, out, made);
+}
+
+void make_closure(evaluator *e, slot out, slot names, slot body, slot scope) {
+    slot made = make(e, CLOSURE, 3, 0);
+    heap_set_ref(e, made, CLOSURE_NAMES, names);
+    heap_set_ref(e, made, CLOSURE_BODY, body);
+    heap_set_ref(e, made, CLOSURE_SCOPE, scope);
+    deliver(e, out, made);
+}
+
+void make_primitive(evaluator *e, slot out, uint64_t number) {
+    slot made = make(e, PRIMITIVE, 0, 1);
+    heap_set_word(e, made, NUMBER, number);
+    deliver(e, out, made);
+}
+
+/* The scope becomes itself with one more binding. */
+void bind(evaluator *e, slot scope, slot name, slot value) {
+    slot made = make(e, BINDING, 3, 0);
+    heap_set_ref(e, made, VALUE, value);
+    heap_set_ref(e, made, BINDING_NAME, name);
+    heap_set_ref(e, made, BINDING_NEXT, scope);
+    deliver(e, scope, made);
+}
+
+void make_vector(evaluator *e, slot out, int64_t length, slot filling) {
+    int64_t chunks, i, left;
+    slot made, chunk;
+    if (length < 0 || length > MOST_CHUNKS * CHUNK_LENGTH) heap_fail(e, "BadLength", "");
+    chunks = (length + CHUNK_LENGTH - 1) / CHUNK_LENGTH;
+    made = make(e, VECTOR, (uint32_t)chunks, 1);
+    heap_set_word(e, made, LENGTH, (uint64_t)length);
+    for (i = 0, left = length; i < chunks; i++, left -= CHUNK_LENGTH) {
+        uint32_t elements = CHUNK_LENGTH, f;
+        if (left < CHUNK_LENGTH) elements = (uint32_t)left;
+        chunk = make(e, CHUNK, elements, 0);
+        for (f = 0; f < elements; f++) heap_set_ref(e, chunk, f, filling);
+        heap_set_ref(e, made, (uint32_t)i, chunk);
+        heap_pop(e, chunk);
+    }
+    deliver(e, out, made);
+}
+
+/* A new slot with the chunk of an element. */
+static slot chunk_of(evaluator *e, slot vector, int64_t index) {
+    slot chunk;
+    if (kind_of(e, vector) != VECTOR) fail_with(e, "NotAVector", vector);
+    if (index < 0 || (uint64_t)index >= heap_word(e, vector, LENGTH)) heap_fail(e, "BadIndex", "");
+    chunk = heap_push(e);
+    heap_ref(e, chunk, vector, (uint32_t)(index / CHUNK_LENGTH));
+    return chunk;
+}
+
+void vector_get(evaluator *e, slot out, slot vector, int64_t index) {
+    slot chunk = chunk_of(e, vector, index);
+    heap_ref(e, out, chunk, (uint32_t)(index % CHUNK_LENGTH));
+    heap_pop(e, chunk);
+}
+
+void vector_set(evaluator *e, slot vector, int64_t index, slot value) {
+    slot chunk = chunk_of(e, vector, index);
+    heap_set_ref(e, chunk, (uint32_t)(index % CHUNK_LENGTH), value);
+    heap_pop(e, chunk);
+}
+
+/* The word of a name that begins at byte `from`. */
+static uint64_t word_of(const char *name, size_t length, size_t from) {
+    uint64_t word = 0;
+    size_t left = length - from;
+    memcpy(&word, name + from, left < sizeof word ? left : sizeof word);
+    return word;
+}
+
+static int is_named(evaluator *e, slot symbol, const char *name, size_t length) {
+    size_t i;
+    if (heap_word(e, symbol, SYMBOL_LENGTH) != length) return 0;
+    for (i = 0; i < length; i += 8)
+        if (heap_word(e, symbol, (uint32_t)(SYMBOL_NAME + i / 8)) != word_of(name, length, i)) return 0;
+    return 1;
+}
+
+/* The one symbol of this name. Only evaluator 0 makes symbols. */
+void make_symbol(evaluator *e, slot out, const char *name, size_t length) {
+    slot made = heap_push(e);
+    size_t i;
+    heap_ref(e, made, WORLD_SLOT, WORLD_SYMBOLS);
+    while (!heap_is_null(e, made) && !is_named(e, made, name, length)) heap_ref(e, made, made, SYMBOL_NEXT);
+    if (heap_is_null(e, made)) {
+        slot next = heap_push(e);
+        slot fresh = make(e, SYMBOL, 2, (uint32_t)(2 + (length + 7) / 8));
+        heap_set_word(e, fresh, SYMBOL_LENGTH, length);
+        for (i = 0; i < length; i += 8)
+            heap_set_word(e, fresh, (uint32_t)(SYMBOL_NAME + i / 8), word_of(name, length, i));
+        heap_set_ref(e, fresh, VALUE, UNBOUND_SLOT);
+        heap_ref(e, next, WORLD_SLOT, WORLD_SYMBOLS);
+        heap_set_ref(e, fresh, SYMBOL_NEXT, next);
+        heap_set_ref(e, WORLD_SLOT, WORLD_SYMBOLS, fresh);
+        heap_copy(e, made, fresh);
+    }
+    deliver(e, out, made);
+}
+
+size_t symbol_name(evaluator *e, slot symbol, char name[MOST_NAME]) {
+    size_t length = (size_t)heap_word(e, symbol, SYMBOL_LENGTH), i;
+    for (i = 0; i < length; i += 8) {
+        uint64_t word = heap_word(e, symbol, (uint32_t)(SYMBOL_NAME + i / 8));
+        memcpy(name + i, &word, length - i < 8 ? length - i : 8);
+    }
+    return length;
+}
+
+/* One level deeper in C's stack; e->depth is set back by the caller. */
+void deeper(evaluator *e) {
+    if (++e->depth > MOST_DEPTH) heap_fail(e, "TooDeep", "");
+}
+
+void fail_with(evaluator *e, const char *name, slot about) {
+    char text[80];
+    print_short(e, about, text, sizeof text);
+    heap_fail(e, name, text);
+}
