@@ -1,6 +1,7 @@
-"""The work of tools/timed-calls: builds the peer, runs both programs, and prints what a call costs.
+"""The work of tools/timed-calls and tools/timed-from-c: builds the peer, runs both, and prints what a call costs.
 
-usage: timed.py PROGRAM COUNT ROUNDS yes|no
+usage: timed.py PROGRAM COUNT ROUNDS INSTRUCTIONS TOUCHES      the last two are yes or no: whether instructions are
+counted, and whether the program has the loop of touches too
 """
 import os
 import re
@@ -17,18 +18,21 @@ FAR = 216019
 COLLECTED = re.compile(r"Collected : (\d+)")
 
 
-def loops(count):
+def loops(count, touches):
     """What each row is called, its loop, the words before the name of the loop, and how many calls these ask for."""
     heaps = -(-count // FRESH)
     each = -(-count // heaps)
     near, far = [count, OBJECTS, 1, 1], [count, OBJECTS, FAR, 1]
-    return [
+    rows = [
         ("a read, the next object", "read", near, count),
         ("a read, a far object", "read", far, count),
         ("a write, the next object", "write", near, count),
         ("a write, a far object", "write", far, count),
         ("an allocation", "alloc", [each, 1, 0, heaps], each * heaps),
     ]
+    if touches:
+        rows.append(("a touch of a built page", "touch", near, count))
+    return rows
 
 
 class Fault(Exception):
@@ -95,7 +99,7 @@ def main():
         programs = [program, build(folder)]
         print(" " * 26 + "".join(f"{unit + ' a call':>28}" for unit, _, _ in units))
         print(" " * 26 + "".join(f"  {'program':>9} {'peer':>9} {'ratio':>6}" for _ in units), flush=True)
-        for title, name, words, calls in loops(count):
+        for title, name, words, calls in loops(count, sys.argv[5] == "yes"):
             check(programs, name, words, calls)
             cost = [columns(*costs(programs, name, words, calls, take, times)) for _, take, times in units]
             print(f"{title:26}" + "".join(cost), flush=True)
@@ -104,4 +108,4 @@ def main():
 try:
     main()
 except Fault as fault:
-    sys.exit(f"timed-calls: {fault}")
+    sys.exit(f"timed: {fault}")

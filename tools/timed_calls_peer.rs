@@ -1,6 +1,7 @@
 //! The loops of the program timed_calls, as one writes them in Rust without proofs, with the same promises: any thread
 //! may call; who touches a page first builds it; a write is one entry in the journal of its page; an address that is no
-//! object's start is refused. It takes the same words and prints the same lines.
+//! object's start is refused. It takes the same words and prints the same lines. It has the loop of touches of
+//! timed_from_c.c too.
 #![allow(dead_code)] // the entries and the causes of refusals, which nothing here reads
 use std::cell::UnsafeCell;
 use std::hint::black_box;
@@ -269,6 +270,13 @@ fn make_calls(space: &Space, m: &mut Mutator, asked: Asked, name: &str, done: &m
             }
         }
         "alloc" => (0..asked.0).try_for_each(|_| Ok(add(space.alloc(m, 1, 1)?)))?,
+        "touch" => {
+            for _ in 0..asked.0 {
+                space.touch(m, k * OBJECT_WORDS / PAGE)?;
+                add(0);
+                k = asked.further(k);
+            }
+        }
         _ => (),
     }
     Ok(())
