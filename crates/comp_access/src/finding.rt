@@ -44,6 +44,7 @@ pub(crate) struct Held {
 }
 
 // The address of a field's word; None if the object has no field like this.
+#[inline(always)]
 fn address_of_field(header: Header, name: FieldName) -> Option<u64>
     requires { name.object + size_of header < 2 ^ 64 }
     ensures some { IfSome result (λ address. (name.field < count_of name.kind header) × (address ≡ field_address name.kind name.object header name.field)) }
@@ -63,6 +64,7 @@ fn address_of_field(header: Header, name: FieldName) -> Option<u64>
 
 /// Finds a field without touching a page. Refusals: `Null`, `NotAStart` of the object, and `NoSuchField` of a slid
 /// object.
+#[inline(always)]
 pub(crate) fn find<B: Builder>(
     cells: &Cells<B>,
     pass: &mut Pass,
@@ -95,6 +97,7 @@ pub(crate) fn find<B: Builder>(
 
 /// The address of a field's word in an object that an allocation made. It loads the object's header; the page is built,
 /// so this is never busy.
+#[inline(always)]
 pub(crate) fn fresh_field<B: Builder>(
     alloc: Global,
     cells: &Cells<B>,
@@ -127,6 +130,7 @@ pub(crate) fn fresh_field<B: Builder>(
 }
 
 /// Takes the page of a field of an object that an allocation made. It finds the field first.
+#[inline(never)]
 pub(crate) fn take_fresh<B: Builder>(
     alloc: Global,
     cells: &Cells<B>,
@@ -152,6 +156,7 @@ pub(crate) fn take_fresh<B: Builder>(
 }
 
 /// Takes the page of a field that was found.
+#[inline(always)]
 pub(crate) fn take_found<B: Builder>(
     alloc: Global,
     cells: &Cells<B>,
@@ -181,6 +186,7 @@ pub(crate) fn take_found<B: Builder>(
 }
 
 /// Loads the word of a field that was found.
+#[inline(always)]
 pub(crate) fn load_found<B: Builder>(
     alloc: Global,
     cells: &Cells<B>,

@@ -23,6 +23,7 @@ impl Member {
     /// order, and answers its address. The object follows the others on the lowest of the member's own fresh pages that
     /// has room. Weak words in edition one, and a tag of 2^16 or more in edition two, are refused before anything else
     /// (`NotInEdition`); then nothing is built or seen.
+    #[inline(always)]
     pub fn try_alloc_weak(
         &mut self,
         alloc: Global,
@@ -47,6 +48,7 @@ impl Member {
     }
 
     /// Builds page `p` if it is not built yet. Requires a page that exists.
+    #[inline(always)]
     pub fn try_touch(&mut self, alloc: Global, p: u64) -> Result<Touched, Refusal>
         requires of { IsMember self.old }
         requires inside { p < setups.pages (setup_of self.old) }

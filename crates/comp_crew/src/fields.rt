@@ -19,6 +19,7 @@ use std::alloc::Global;
 impl Member {
     /// Reads a field of a kind that refers. Answers null, or the address of an object that the mutator knows from then
     /// on. Requires a kind that refers.
+    #[inline(always)]
     pub fn try_read_referring(
         &mut self,
         alloc: Global,
@@ -46,6 +47,7 @@ impl Member {
     }
 
     /// Reads a data field, whatever its number.
+    #[inline(always)]
     pub fn try_read_data_at(
         &mut self,
         alloc: Global,
@@ -72,6 +74,7 @@ impl Member {
     /// Writes `value` into a field of a kind that refers, and answers the stamp of the entry. The value must be null or
     /// the address of an object that the mutator knows; any other value is refused. Requires a
     /// kind that refers.
+    #[inline(always)]
     pub fn try_write_referring(
         &mut self,
         alloc: Global,
@@ -98,6 +101,7 @@ impl Member {
     }
 
     /// Writes `value` into a data field, and answers the stamp of the entry.
+    #[inline(always)]
     pub fn try_write_data_at(
         &mut self,
         alloc: Global,

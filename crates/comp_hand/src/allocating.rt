@@ -38,6 +38,7 @@ pub fn asked_header<B: Builder>(
 impl Hand {
     /// Makes an object with this header, and answers its address. The object follows the others on the lowest of the
     /// mutator's own fresh pages that has room. Requires the cells of this hand, and a header of the heap's edition.
+    #[inline(always)]
     pub fn alloc_with<B: Builder>(
         &mut self,
         alloc: Global,

@@ -20,6 +20,7 @@ use std::alloc::Global;
 impl Hand {
     /// Reads a field of a kind that refers. Answers null, or the address of an object that the mutator knows from then
     /// on. Requires the cells of this hand, and a kind that refers.
+    #[inline(always)]
     pub fn try_read_referring<B: Builder>(
         &mut self,
         alloc: Global,
@@ -52,6 +53,7 @@ impl Hand {
     }
 
     /// Reads a data field. Requires the cells of this hand.
+    #[inline(always)]
     pub fn try_read_data_at<B: Builder>(
         &mut self,
         alloc: Global,

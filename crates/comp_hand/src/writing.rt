@@ -21,6 +21,7 @@ impl Hand {
     /// Writes `value` into a field of a kind that refers, and answers the stamp of the entry. The value must be null or
     /// the address of an object that the mutator knows; any other value is refused. Requires the cells of this hand,
     /// and a kind that refers.
+    #[inline(always)]
     pub fn try_write_referring<B: Builder>(
         &mut self,
         alloc: Global,
@@ -52,6 +53,7 @@ impl Hand {
     }
 
     /// Writes `value` into a data field, and answers the stamp of the entry. Requires the cells of this hand.
+    #[inline(always)]
     pub fn try_write_data_at<B: Builder>(
         &mut self,
         alloc: Global,
