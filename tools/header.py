@@ -1,6 +1,6 @@
 """Compares the declarations of compressor.h with the exports of compressor_c: the same names, parameters and results.
 
-usage: header.py HEADER EXPORTS
+usage: header.py HEADER EXPORTS..
 """
 import re
 import sys
@@ -10,6 +10,7 @@ TYPES = {
     "&mut Handle": ["comp_handle *"],
     "&mut Written": ["comp_entry *"],
     "&mut [u64; 64]": ["uint64_t *"],
+    "&mut [u64]": ["uint64_t *", "size_t"],
     "&[u64]": ["const uint64_t *", "size_t"],
     "&[u32]": ["const uint32_t *", "size_t"],
     "&[u8]": ["const uint8_t *", "size_t"],
@@ -44,7 +45,8 @@ def declared(text):
 
 
 def main():
-    header, exports = declared(Path(sys.argv[1]).read_text()), exported(Path(sys.argv[2]).read_text())
+    header = declared(Path(sys.argv[1]).read_text())
+    exports = exported("".join(Path(path).read_text() for path in sys.argv[2:]))
     wrong = [name for name in sorted({*header, *exports}) if header.get(name) != exports.get(name)]
     for name in wrong:
         print(f"{name}: the header has {header.get(name)}, the exports have {exports.get(name)}")

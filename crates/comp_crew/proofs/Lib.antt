@@ -2,3 +2,4 @@ mod Parts
 mod Flipped
 mod Crews
 mod OneCrew
+pub mod EndCounts

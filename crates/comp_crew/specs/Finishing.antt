@@ -1,9 +1,11 @@
 -- The end of a crew.
-use Rattle.std.specs.Prelude.{◌≡◌, ◌≢◌, ℕ, ◌<◌, List, map, All, AllPairs, Contains}
+use Rattle.std.specs.Prelude.{◌≡◌, ◌≢◌, ℕ, ◌<◌, ◌≤◌, List, map, All, AllPairs, Contains}
 use Rattle.heap_layout.specs.Heap.{Heap}
+use Rattle.cell_steps.specs.Setup.{Setup}
 use Rattle.comp_cycles.specs.Finishes.{IsFinished, IsOfFlip}
 use Rattle.comp_cycles.specs.declared.finished.Finished.{Finished}
 use Rattle.comp_cycles.specs.Ends.{IsEndOf}
+use Rattle.comp_cycles.specs.Ends as ends
 use Rattle.comp_crew.specs.Members.{name_of, pass_of, setup_in, setup_of, AreOf, AreToldApart}
 use Rattle.comp_crew.specs.Orders.{HasNumber, IsInOrder}
 use Rattle.comp_crew.specs.declared.crew.Crew.{Crew}
@@ -19,9 +21,16 @@ finished_of e = e.finished
 abbrev pub heap_of : Ended → Heap
 heap_of e = e.plan.value
 
--- the finished heap is the end of a cycle that compacted the heap of the plan
-abbrev pub IsEnded : Ended → Type 0
-IsEnded e = IsEndOf e.plan.value e.finished
+-- the setup of the cycle that ended: the heap that was compacted, and the numbers of its compacted pages, of its fresh
+-- pages and of its mutators
+abbrev pub setup_at_end : Ended → Setup
+setup_at_end e = ends.setup_in e.plan.value e.finished
+
+-- the finished heap is the end of a cycle that compacted the heap of the plan, with as many mutators as a crew may have
+pub record IsEnded (e : Ended) : Type 0 where
+  pub end : IsEndOf e.plan.value e.finished
+  pub some_mutators : 1 ≤ (setup_at_end e).mutators
+  pub few_mutators : (setup_at_end e).mutators ≤ 64
 
 -- These members, in the order of their numbers, are all members of one crew, and this is what they left.
 pub record IsEndBy (members : List Member) (e : Ended) : Type 0 where

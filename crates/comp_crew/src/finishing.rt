@@ -1,5 +1,6 @@
 //! The end of a crew.
 mod calls;
+mod counts;
 mod next;
 
 use crate::fault::FinishFault;

@@ -2,3 +2,5 @@ mod Words
 mod Called
 mod Whys
 mod Crossing
+mod Dumps
+mod Lengths

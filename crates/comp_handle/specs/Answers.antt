@@ -1,5 +1,5 @@
 -- What C is answered.
-use Rattle.std.specs.Prelude.{◌≡◌, ℕ, Result, Ok, Err}
+use Rattle.std.specs.Prelude.{◌≡◌, ℕ, ◌<◌, ◌≤◌, ◌⊎◌, List, length, slice_index, Result, Ok, Err}
 use Rattle.heap_layout.specs.declared.fault.LayoutFault.{LayoutFault}
 use Rattle.heap_layout.specs.declared.fault.LayoutFault.TheVariants as layout
 use Rattle.comp_crew.specs.Refusal.{Refusal}
@@ -21,6 +21,10 @@ empty_handle = bare 10 0
 -- the handle keeps something else
 abbrev pub wrong_handle : Answer
 wrong_handle = bare 11 0
+
+-- the number at place i of a list; or there is none, and the answer has this status
+abbrev pub IsPlace : ℕ → ℕ → List ℕ → Answer → Type 0
+IsPlace status i list a = ((i < length list) × (a ≡ done (slice_index list i))) ⊎ ((length list ≤ i) × (a ≡ bare status i))
 
 -- a call of a mutator was refused
 abbrev pub of_refusal : Refusal → Answer
@@ -52,5 +56,5 @@ of_layout layout.Truncated = bare 40 0
 of_layout layout.TrailingBytes = bare 41 0
 of_layout layout.BadMagic = bare 42 0
 of_layout layout.OutOfMemory = bare 9 0
-of_layout layout.Device = bare 44 0
+of_layout layout.Device = bare 9 0
 of_layout (layout.BadWeak i) = bare 45 i

@@ -8,9 +8,10 @@ use Rattle.comp_crew.specs.Calls.{Grows, WroteNothing}
 use Rattle.comp_crew.specs.Copies.{builds_after, PageRefused}
 use Rattle.comp_crew.specs.Forwarded.{AreForwarded}
 use Rattle.comp_crew.specs.Members.{crew_of, made_of, pass_of, setup_of}
-use Rattle.comp_crew.specs.Passes.{builds_of, did, number_of, seen, HasSeenBuilt, MayRefer}
+use Rattle.comp_crew.specs.Passes.{builds_of, did, edition_of, number_of, seen, HasSeenBuilt, MayRefer}
 use Rattle.comp_crew.specs.Reads.{FieldRefused, KnowsBuilt, MayBuildTouched, Reads}
 use Rattle.comp_crew.specs.Setup.{pages}
+use Rattle.comp_crew.specs.Shares.{allocated}
 use Rattle.comp_crew.specs.Starts.{IsForwardingAddress}
 use Rattle.comp_crew.specs.Writes.{DataRefused, ReferenceRefused, Writes}
 use Rattle.comp_crew.specs.declared.member.Member.{Member}
@@ -18,10 +19,10 @@ use Rattle.comp_crew.specs.Touched.{Touched}
 use Rattle.comp_crew.specs.Touched.TheVariants.{Built, AlreadyBuilt}
 use Rattle.comp_crew.specs.Refusal.{Refusal}
 use Rattle.comp_crew.specs.Refusal.TheVariants.{Busy}
-use Rattle.comp_handle.specs.Answers.{bare, done, empty_handle, of_refusal, wrong_handle, IsAnswer}
+use Rattle.comp_handle.specs.Answers.{bare, done, empty_handle, of_refusal, wrong_handle, IsAnswer, IsPlace}
 use Rattle.comp_handle.specs.declared.answer.Answer.{Answer}
 use Rattle.comp_handle.specs.declared.calling.Call.{Call}
-use Rattle.comp_handle.specs.declared.calling.Call.TheVariants.{ReadRef, ReadWeak, ReadData, WriteRef, WriteWeak, WriteData, Alloc, Touch, Root, Pages, CompactedPages, Number}
+use Rattle.comp_handle.specs.declared.calling.Call.TheVariants.{ReadRef, ReadWeak, ReadData, WriteRef, WriteWeak, WriteData, Alloc, Touch, Root, Pages, CompactedPages, Number, BuildCount, Build, EntryCount, MadeWords}
 use Rattle.comp_handle.specs.declared.kept.Kept.{Kept}
 use Rattle.comp_handle.specs.declared.kept.Kept.TheVariants.{Nothing, Heap, Plan, Crew, Mutator, Ended}
 
@@ -111,6 +112,10 @@ IsRoot i m a =
     (roots : List ℕ) × AreForwarded (setup_of m).heap roots
     × (((i < length roots) × (a ≡ done (slice_index roots i))) ⊎ ((length roots ≤ i) × (a ≡ bare 13 i)))
 
+-- the number of words of all objects that the mutator allocated
+abbrev pub HasMade : Member → Answer → Type 0
+HasMade m a = (a ≡ done (made_of m)) × (made_of m ≡ allocated (edition_of (pass_of m)) (did (pass_of m)))
+
 -- the call answered as a call that did this
 abbrev pub Answers : (Result ℕ Refusal → Type 0) → Answer → Type 0
 Answers P a = (r : Result ℕ Refusal) × IsAnswer r a × P r
@@ -130,6 +135,10 @@ Does (Root i) m n a = (n ≡ m) × IsRoot i m a
 Does Pages m n a = (n ≡ m) × (a ≡ done (pages (setup_of m)))
 Does CompactedPages m n a = (n ≡ m) × (a ≡ done (setup_of m).compacted)
 Does Number m n a = (n ≡ m) × (a ≡ done (number_of (pass_of m)))
+Does BuildCount m n a = (n ≡ m) × (a ≡ done (length (builds_of (pass_of m))))
+Does (Build i) m n a = (n ≡ m) × IsPlace 24 i (builds_of (pass_of m)) a
+Does EntryCount m n a = (n ≡ m) × (a ≡ done (length (did (pass_of m))))
+Does MadeWords m n a = (n ≡ m) × HasMade m a
 
 -- what a call by a handle does: it has a mutator, or nothing happens
 abbrev pub Calls : (Member → Member → Answer → Type 0) → Option Kept → Option Kept → Answer → Type 0

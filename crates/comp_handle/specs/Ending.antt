@@ -5,15 +5,15 @@ use Rattle.heap_layout.specs.declared.kind.Kind.TheVariants as kinds
 use Rattle.comp_journal.specs.Journal.{replayed}
 use Rattle.comp_journal.specs.declared.entry.Entry.{Entry}
 use Rattle.comp_crew.specs.Closing.{page_at}
-use Rattle.comp_crew.specs.Finishes.{live_of, pages_of, roots_of}
+use Rattle.comp_crew.specs.Finishes.{builds_in, live_of, pages_of, roots_of}
 use Rattle.comp_crew.specs.Finishing.{finished_of}
 use Rattle.comp_crew.specs.View.{Slot}
 use Rattle.comp_crew.specs.declared.finishing.Ended.{Ended as End}
-use Rattle.comp_handle.specs.Answers.{bare, done, empty_handle, wrong_handle}
+use Rattle.comp_handle.specs.Answers.{bare, done, empty_handle, wrong_handle, IsPlace}
 use Rattle.comp_handle.specs.declared.answer.Answer.{Answer}
 use Rattle.comp_handle.specs.declared.ending.Question.{Question}
 use Rattle.comp_handle.specs.declared.ending.Written.{Written}
-use Rattle.comp_handle.specs.declared.ending.Question.TheVariants.{LiveWords, PageCount, EndRoot}
+use Rattle.comp_handle.specs.declared.ending.Question.TheVariants.{LiveWords, PageCount, EndRoot, EndBuildCount, EndBuild}
 use Rattle.comp_handle.specs.declared.kept.Kept.{Kept}
 use Rattle.comp_handle.specs.declared.kept.Kept.TheVariants as kept
 
@@ -25,11 +25,27 @@ pages_at_end e = pages_of (finished_of e)
 abbrev pub IsRootOf : ℕ → List ℕ → Answer → Type 0
 IsRootOf i roots a = ((i < length roots) × (a ≡ done (slice_index roots i))) ⊎ ((length roots ≤ i) × (a ≡ bare 13 i))
 
+-- how many pages the list of mutator k has, or there is no mutator k
+abbrev pub IsCountOf : ℕ → Option (List ℕ) → Answer → Type 0
+IsCountOf k None a = a ≡ bare 25 k
+IsCountOf k (Some list) a = a ≡ done (length list)
+
+-- the page at place i of the list of mutator k, or there is none, or no mutator k
+abbrev pub IsBuildOf : ℕ → ℕ → Option (List ℕ) → Answer → Type 0
+IsBuildOf k i None a = a ≡ bare 25 k
+IsBuildOf k i (Some list) a = IsPlace 24 i list a
+
+-- the pages that mutator k built
+abbrev pub built_by : End → ℕ → Option (List ℕ)
+built_by e k = slice_get (builds_in (finished_of e)) k
+
 -- the answer to a question
 abbrev pub Tells : Question → End → Answer → Type 0
 Tells LiveWords e a = a ≡ done (live_of (finished_of e))
 Tells PageCount e a = a ≡ done (length (pages_of (finished_of e)))
 Tells (EndRoot i) e a = IsRootOf i (roots_of (finished_of e)) a
+Tells (EndBuildCount k) e a = IsCountOf k (built_by e k) a
+Tells (EndBuild k i) e a = IsBuildOf k i (built_by e k) a
 
 -- P of the finished heap that a handle keeps; or it keeps none, and then R
 abbrev pub LooksInto : (End → Answer → Type 0) → Type 0 → Option Kept → Answer → Type 0

@@ -7,3 +7,8 @@ pub mod Turning
 pub mod Crewing
 pub mod Ending
 pub mod Joining
+pub mod Copying
+pub mod Seeing
+pub mod Imaging
+pub mod Dumping
+pub mod Judging

@@ -1,6 +1,6 @@
 //! What a call of C is answered.
 ghost use Rattle.std.specs.Prelude.{◌≡◌};
-ghost use Rattle.comp_handle.specs.Answers.{bare, done, of_layout, of_refusal, IsAnswer};
+ghost use Rattle.comp_handle.specs.Answers.{bare, done, of_layout, of_refusal, IsAnswer, IsPlace};
 
 use comp_crew::Refusal;
 use heap_layout::LayoutFault;
@@ -29,6 +29,17 @@ impl Answer {
         ensures { result ≡ bare status value }
     {
         Answer { status, value }
+    }
+
+    /// The number at place `i` of a list; if there is none, the answer with this status and `i`.
+    pub fn place(list: &[u64], i: u64, status: u32) -> Answer
+        ensures { IsPlace status i list.now result }
+    {
+        if i < list.len() as u64 {
+            Answer::done(list[i as usize])
+        } else {
+            Answer::bare(status, i)
+        }
     }
 
     /// The answer of a refused call of a mutator.
@@ -74,7 +85,7 @@ impl Answer {
             LayoutFault::TrailingBytes => Answer::bare(41, 0),
             LayoutFault::BadMagic => Answer::bare(42, 0),
             LayoutFault::OutOfMemory => Answer::bare(9, 0),
-            LayoutFault::Device => Answer::bare(44, 0),
+            LayoutFault::Device => Answer::bare(9, 0),
             LayoutFault::BadWeak(i) => Answer::bare(45, i),
         }
     }

@@ -1,7 +1,7 @@
 //! Calls of a mutator by its handle.
 ghost use Rattle.std.specs.Prelude.{◌≡◌, min};
 ghost use Rattle.comp_crew.specs.Members.{IsMember};
-ghost use Rattle.comp_handle.specs.Calling.{Calls, Does, IsRoot, Touches};
+ghost use Rattle.comp_handle.specs.Calling.{Calls, Does, HasMade, IsRoot, Touches};
 
 use crate::answer::Answer;
 use crate::handle::Handle;
@@ -38,6 +38,14 @@ pub enum Call {
     CompactedPages,
     /// The mutator's number.
     Number,
+    /// How many pages the mutator built.
+    BuildCount,
+    /// The page that it built as the one with this number.
+    Build(u64),
+    /// How many entries the mutator wrote.
+    EntryCount,
+    /// How many words all objects have that the mutator allocated.
+    MadeWords,
 }
 
 // Builds a page if nobody has. The answer is 1 if this call built it, else 0.
@@ -68,6 +76,13 @@ fn root(m: &Member, i: u64) -> Answer
     }
 }
 
+// How many words all objects have that the mutator allocated.
+fn made_words(m: &Member) -> Answer
+    ensures { HasMade m.now result }
+{
+    Answer::done(m.made_words())
+}
+
 // The count, or 65,535 if it is larger.
 fn in_16_bits(count: u32) -> u16
     ensures { result ≡ min count 65535 }
@@ -76,6 +91,7 @@ fn in_16_bits(count: u32) -> u16
 }
 
 // Makes a call.
+#[inline(always)]
 fn perform(alloc: Global, m: &mut Member, call: Call) -> Answer
     requires { IsMember m.old }
     ensures of { IsMember m.new }
@@ -113,10 +129,15 @@ fn perform(alloc: Global, m: &mut Member, call: Call) -> Answer
         Call::Pages => Answer::done(m.pages()),
         Call::CompactedPages => Answer::done(m.compacted_pages()),
         Call::Number => Answer::done(u64::from(m.number())),
+        Call::BuildCount => Answer::done(m.builds().len() as u64),
+        Call::Build(i) => Answer::place(m.builds(), i, 24),
+        Call::EntryCount => Answer::done(m.entries()),
+        Call::MadeWords => made_words(m),
     }
 }
 
 /// Makes a call of the mutator that the handle keeps. If it keeps none, nothing happens, and the answer says why.
+#[inline(always)]
 pub fn make_call(alloc: Global, h: &mut Handle, call: Call) -> Answer
     ensures { Calls (Does call) h.old.kept h.new.kept result }
 {
@@ -127,6 +148,6 @@ pub fn make_call(alloc: Global, h: &mut Handle, call: Call) -> Answer
         Kept::Mutator(m) => perform(alloc, m, call),
         _ => Answer::bare(11, 0),
     };
-    h.put(kept);
+    h.put_back(kept);
     answer
 }

@@ -29,7 +29,7 @@ fn plan_of(alloc: Global, h: &mut Handle) -> Result<Arc<Plan>, Answer>
         },
         _ => Err(Answer::bare(11, 0)),
     };
-    h.put(kept);
+    h.put_back(kept);
     plan
 }
 

@@ -1,8 +1,8 @@
 //! What is left of a crew, by its handle.
-ghost use Rattle.std.specs.Prelude.{◌≡◌};
+ghost use Rattle.std.specs.Prelude.{◌≡◌, None, Some, MatchOption};
 ghost use Rattle.comp_crew.specs.Finishes.{roots_of};
 ghost use Rattle.comp_crew.specs.Finishing.{finished_of};
-ghost use Rattle.comp_handle.specs.Ending.{kind_number, pages_at_end, CopiesEntry, CopiesPage, IsRootOf, Looks, LooksInto, Tells};
+ghost use Rattle.comp_handle.specs.Ending.{built_by, kind_number, pages_at_end, CopiesEntry, CopiesPage, IsBuildOf, IsCountOf, IsRootOf, Looks, LooksInto, Tells};
 
 use crate::answer::Answer;
 use crate::handle::Handle;
@@ -20,6 +20,10 @@ pub enum Question {
     PageCount,
     /// Where the root with this number leads.
     EndRoot(u64),
+    /// How many pages the mutator of this number built.
+    EndBuildCount(u32),
+    /// The page that the mutator of this number built as the one with the second number.
+    EndBuild(u32, u64),
 }
 
 // The root with this number.
@@ -34,6 +38,36 @@ fn end_root(e: &Ended, i: u64) -> Answer
     }
 }
 
+// The pages that the mutator of this number built. None if there is no such mutator.
+fn built(e: &Ended, k: u32) -> Option<&[u64]>
+    ensures { MatchOption result (built_by e.now k ≡ None) (λ list. built_by e.now k ≡ Some list.now) }
+{
+    match e.finished().builds().get(k as usize) {
+        Some(list) => Some(list.as_slice()),
+        None => None,
+    }
+}
+
+// How many pages that mutator built.
+fn build_count(e: &Ended, k: u32) -> Answer
+    ensures { IsCountOf k (built_by e.now k) result }
+{
+    match built(e, k) {
+        Some(list) => Answer::done(list.len() as u64),
+        None => Answer::bare(25, u64::from(k)),
+    }
+}
+
+// The page that it built as the one with this number.
+fn build_at(e: &Ended, k: u32, i: u64) -> Answer
+    ensures { IsBuildOf k i (built_by e.now k) result }
+{
+    match built(e, k) {
+        Some(list) => Answer::place(list, i, 24),
+        None => Answer::bare(25, u64::from(k)),
+    }
+}
+
 // Answers a question.
 fn look(e: &Ended, question: Question) -> Answer
     ensures { Tells question e.now result }
@@ -42,6 +76,8 @@ fn look(e: &Ended, question: Question) -> Answer
         Question::LiveWords => Answer::done(e.finished().live_words()),
         Question::PageCount => Answer::done(e.finished().pages().len() as u64),
         Question::EndRoot(i) => end_root(e, i),
+        Question::EndBuildCount(k) => build_count(e, k),
+        Question::EndBuild(k, i) => build_at(e, k, i),
     }
 }
 
@@ -57,7 +93,7 @@ pub fn ask(alloc: Global, h: &mut Handle, question: Question) -> Answer
         Kept::Ended(e) => look(e, question),
         _ => Answer::bare(11, 0),
     };
-    h.put(kept);
+    h.put_back(kept);
     answer
 }
 
@@ -91,7 +127,7 @@ pub fn page_words(alloc: Global, h: &mut Handle, p: u64, out: &mut [u64; 64]) ->
         Kept::Ended(e) => copy_page(e, p, out),
         _ => Answer::bare(11, 0),
     };
-    h.put(kept);
+    h.put_back(kept);
     answer
 }
 
@@ -162,6 +198,6 @@ pub fn page_entry(alloc: Global, h: &mut Handle, p: u64, i: u64, out: &mut Writt
         Kept::Ended(e) => copy_entry(e, p, i, out),
         _ => Answer::bare(11, 0),
     };
-    h.put(kept);
+    h.put_back(kept);
     answer
 }

@@ -59,6 +59,13 @@ impl Handle {
         }
     }
 
+    // Ends an empty handle. It tests nothing.
+    fn end(self)
+        requires { self.kept ≡ None }
+    {
+        let Handle { at: _, alloc: _ } = self;
+    }
+
     /// Takes what the handle keeps. It is empty then.
     pub fn take(&mut self, alloc: Global) -> Option<Box<Kept>>
         ensures empty { self.new.kept ≡ None }
@@ -79,6 +86,15 @@ impl Handle {
         if let Some(parts) = before.into_parts() {
             drop(parts.into_box());
         }
+    }
+
+    /// Puts a box into the handle. Requires that it is empty, so that there is nothing to drop.
+    pub(crate) fn put_back(&mut self, b: Box<Kept>)
+        requires empty { self.old.kept ≡ None }
+        requires kept { IsKept b.value }
+        ensures { self.new.kept ≡ Some b.value }
+    {
+        replace(self, Handle::of_parts(Parts::of(b))).end();
     }
 }
 

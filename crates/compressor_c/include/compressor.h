@@ -75,8 +75,14 @@ enum comp_status {
     COMP_BAD_EDITION = 19,
     COMP_NOT_BUILT = 21,        /* nobody built this page */
     COMP_NO_SUCH_ENTRY = 22,
-    COMP_LAYOUT = 32            /* 32 + n: the heap is refused as Hn (docs/FORMATS.md), with the number that Hn names.
-                                   n is 1 to 7 or 13; out of memory is COMP_OUT_OF_MEMORY, never 32 + 11 */
+    COMP_TOO_SHORT = 23,        /* the buffer is shorter than this number, and stays as it was */
+    COMP_NO_SUCH_BUILD = 24,    /* the mutator built no page with this number */
+    COMP_NO_SUCH_MUTATOR = 25,
+    COMP_LAYOUT = 32,           /* 32 + n: the heap or image is refused as Hn (docs/FORMATS.md), with the number that Hn
+                                   names. Out of memory is COMP_OUT_OF_MEMORY, never 32 + 11 */
+    COMP_AUDIT = 64,            /* 64 + n: the dump has the fault An (docs/FORMATS.md), from 65 to 72. The status 73, of
+                                   A9, comes only of an audit of whole dumps: comp_audit never answers it */
+    COMP_DUMP = 96              /* 96 + n: no dump is read, as Bn (docs/FORMATS.md), from 97 to 100 */
 };
 
 /* THE HEAP */
@@ -173,6 +179,24 @@ comp_answer comp_pages(comp_handle *mutator);
 comp_answer comp_compacted_pages(comp_handle *mutator);
 comp_answer comp_number(comp_handle *mutator);
 
+/* All forwarded roots, in order: out has them at its front, and the answer how many they are. COMP_TOO_SHORT has that
+   number too. Of this call and of each other one with a buffer: out is not NULL, even if count is 0; words or bytes
+   after those that the answer counts stay as they were; after any refusal the whole buffer stays as it was. */
+comp_answer comp_roots(comp_handle *mutator, uint64_t *out, size_t count);
+
+/* What the mutator did in this cycle: how many pages it built, and which was the one with this number, from 0 on; how
+   many entries it wrote, one for each write and each allocation that was done; how many words all objects have that it
+   allocated. */
+comp_answer comp_builds(comp_handle *mutator);
+comp_answer comp_build(comp_handle *mutator, uint64_t number);
+comp_answer comp_entries(comp_handle *mutator);
+comp_answer comp_made_words(comp_handle *mutator);
+
+/* Copies a page while other mutators go on: its 64 words as the mutator has then seen them. Answers how many entries
+   the page's journal has then. It builds the page if nobody has, and the page stays built if the copy is refused:
+   COMP_BUSY, COMP_OUT_OF_MEMORY or COMP_NO_SUCH_PAGE. */
+comp_answer comp_page_copy(comp_handle *mutator, uint64_t page, uint64_t out[64]);
+
 /* Two mutators meet: each has then seen what the other has seen, and knows the objects that the other knew. Takes no
    memory. Condition: crews that are alive have different names (comp_flip). Refusals: COMP_OTHER_CREW, if the names of
    their crews differ. */
@@ -195,6 +219,14 @@ comp_answer comp_page_words(comp_handle *end, uint64_t page, uint64_t out[64]);
    which write nothing to out: those of comp_page_words; COMP_NO_SUCH_ENTRY (the number). */
 comp_answer comp_page_entry(comp_handle *end, uint64_t page, uint64_t number, comp_entry *out);
 
+/* All roots of a finished heap, as comp_roots has them. */
+comp_answer comp_end_roots(comp_handle *end, uint64_t *out, size_t count);
+
+/* How many pages the mutator of this number built in the cycle, and which was the one with that number, from 0 on.
+   Each page that was built is one of one mutator. */
+comp_answer comp_end_builds(comp_handle *end, uint32_t mutator);
+comp_answer comp_end_build(comp_handle *end, uint32_t mutator, uint64_t number);
+
 /* Puts the heap with which the next cycle begins in the place of the finished heap. It has the words of all pages, and
    the roots of the end. The marks are the rising indices of the words at which the marked objects start: the index of
    the to-space address a is a - 2^33. Refusals: COMP_LAYOUT + 1, + 4, + 5, + 6 or + 7, the first fault of the next
@@ -206,6 +238,26 @@ comp_answer comp_next(comp_handle *end, const uint32_t *marks, size_t mark_count
    Refusals: COMP_LAYOUT + 1, more words or roots than the edition allows; COMP_LAYOUT + 6 (the number of the first such
    root), a root that is neither null nor the start of an object. */
 comp_answer comp_next_reached(comp_handle *end, const uint64_t *roots, size_t root_count);
+
+/* A marked heap of any edition, from the bytes of its image (docs/FORMATS.md). The fault of an image is answered as
+   that of a heap. */
+comp_answer comp_read_image(comp_handle *out, const uint8_t *bytes, size_t count);
+
+/* The image of a marked heap: how many bytes it has, and a copy of them, which takes as much memory again while it is
+   made. */
+comp_answer comp_image_size(comp_handle *heap);
+comp_answer comp_write_image(comp_handle *heap, uint8_t *out, size_t count);
+
+/* The dump of a finished heap (docs/FORMATS.md), with the numbers of mutators and of fresh pages of its flip: how many
+   bytes it has, and a copy of them, which takes as much memory again while it is made. */
+comp_answer comp_dump_size(comp_handle *end);
+comp_answer comp_dump(comp_handle *end, uint8_t *out, size_t count);
+
+/* Judges a dump for the heap of this plan. COMP_DONE says that it is a lawful end of a cycle which compacted that heap,
+   and answers the live words. Else the answer is the first fault: COMP_AUDIT + n with the address, page or stamp that
+   it names (of A3 the page), or COMP_DUMP + n if the bytes are no dump. The dump of each finished heap is lawful for
+   its own plan, so a runtime may check itself in its debug builds: COMP_AUDIT + n never comes then. */
+comp_answer comp_audit(comp_handle *plan, const uint8_t *bytes, size_t count);
 
 /* Drops what a handle keeps, and gives its memory back. The handle is empty then; an empty one stays so. A crew can no
    longer be finished once one of its mutators is dropped. */

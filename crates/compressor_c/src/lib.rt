@@ -2,6 +2,9 @@
 //! declares them.
 #![tactic(auto)]
 
+mod bytes;
+mod looking;
+
 ghost use Rattle.std.specs.Prelude.{◌≡◌, None};
 ghost use Rattle.comp_handle.specs.Calling.{Calls, Does};
 ghost use Rattle.comp_handle.specs.Crewing.{Flips, Takes};

@@ -12,9 +12,9 @@ returns c = elim c.match-as_mut.branch [
   | in-Mutator w ↦
       called (Does c.args.call) _ _ _ w.in-Mutator.m w.perform-answer.new.m w.perform-answer.result
       (c.in-Some.ensures.kept.0 ∙ ap (λ (k : Kept). Some k) (sym c.as_mut.ensures.value ∙ w.in-Mutator.is))
-      (c.put.ensures ∙ ap (λ (b : Box Kept Global). Some b.value) w.kept-is) w.answer-is w.perform-answer.ensures.does
+      (c.put_back.ensures ∙ ap (λ (b : Box Kept Global). Some b.value) w.kept-is) w.answer-is w.perform-answer.ensures.does
   | in_default-as_mut w ↦
       not_called (Does c.args.call) _ _ _ c.as_mut.result.now w.in_default-as_mut.not-Mutator
       (c.in-Some.ensures.kept.0 ∙ ap (λ (k : Kept). Some k) (sym c.as_mut.ensures.value))
-      (c.put.ensures ∙ ap (λ (b : Box Kept Global). Some b.value) w.kept-is) (w.answer-is ∙ w.bare-answer.ensures)
+      (c.put_back.ensures ∙ ap (λ (b : Box Kept Global). Some b.value) w.kept-is) (w.answer-is ∙ w.bare-answer.ensures)
 ]

@@ -12,6 +12,7 @@ use Rattle.comp_crew.specs.Orders.{IsInOrder}
 use Rattle.comp_crew.specs.declared.crew.Crew.{Crew}
 use Rattle.comp_crew.specs.declared.member.Member.{Member}
 use Rattle.comp_crew.proofs.Crews.{all_work, end_moved}
+use Rattle.comp_crew.proofs.EndCounts.{lists_shown}
 use Rattle.comp_crew.proofs.finishing.calls.finish_all.Goals as goal
 
 pub close_row-closed-requires-clause-of : goal.close_row-closed-requires-clause-of
@@ -75,4 +76,9 @@ returns-clause-end c =
     let made = ap allocated_by parts.passes in
     let f : Finished = record { edition = c.edition-edition.result; pages = closed.pages; roots = own.roots; live = c.live_words.result + c.parted-passes.result.1; builds = closed.builds } in
     let left : IsLeft (setup_in own) passes closed f = record { edition = c.edition-edition.ensures; pages = refl; builds = refl; roots = own.forwarded; live = omega (arith, live_is, words, made) } in
-    end_moved _ _ _ own.planned (c.close_row-closed.ensures.end f left)
+    let h = c.close_row-closed.ensures in
+    let flip = h.flipped f left in
+    let shown = lists_shown (setup_in own).mutators (setup_in own).fresh f flip in
+    let some = flip.some_mutators in
+    let few = flip.few_mutators in
+    record { end = end_moved _ _ _ own.planned (h.end f left); some_mutators = omega (arith, shown, some); few_mutators = omega (arith, shown, few) }

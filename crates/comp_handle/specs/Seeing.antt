@@ -1,0 +1,45 @@
+-- A copy of a page, as a mutator sees it while others go on.
+use Rattle.std.specs.Prelude.{◌≡◌, ℕ, ◌<◌, ◌≤◌, ◌⊎◌, List, length, Option, None, Some, Result, Ok, Err, IfOk, IfErr}
+use Rattle.comp_crew.specs.Calls.{Grows}
+use Rattle.comp_crew.specs.Copies.{CopyRefused, IsCopy}
+use Rattle.comp_crew.specs.Members.{crew_of, made_of, pass_of, setup_of}
+use Rattle.comp_crew.specs.PageCopy.{PageCopy}
+use Rattle.comp_crew.specs.Passes.{did}
+use Rattle.comp_crew.specs.Reads.{MayBuild}
+use Rattle.comp_crew.specs.Refusal.{Refusal}
+use Rattle.comp_crew.specs.Setup.{pages}
+use Rattle.comp_crew.specs.declared.member.Member.{Member}
+use Rattle.comp_handle.specs.Answers.{bare, done, of_refusal}
+use Rattle.comp_handle.specs.Calling.{IsNeverBusyAlone}
+use Rattle.comp_handle.specs.Keeping.{IsNoMutator}
+use Rattle.comp_handle.specs.declared.answer.Answer.{Answer}
+use Rattle.comp_handle.specs.declared.kept.Kept.{Kept}
+
+-- a copy of a page that exists: its words and its journal as the mutator has seen them after the call. The page may have
+-- been built by the call, also by one that is refused
+pub record SeesPage (p : ℕ) (m n : Member) (r : Result PageCopy Refusal) : Type 0 where
+  pub crew : crew_of n ≡ crew_of m
+  pub made : made_of n ≡ made_of m
+  pub grows : Grows (pass_of m) (pass_of n)
+  pub wrote : did (pass_of n) ≡ did (pass_of m)
+  pub copy : IfOk r (IsCopy (setup_of m) (pass_of n) p)
+  pub builds : MayBuild p (pass_of m) (pass_of n)
+  pub alone : IsNeverBusyAlone m r
+  pub refused : IfErr r (CopyRefused p (pass_of m) (pass_of n))
+
+-- the buffer has the words of the copy, and the answer how many entries its journal has; or the buffer is as it was, and
+-- the answer says why
+abbrev pub IsCopyAnswer : Result PageCopy Refusal → List ℕ → List ℕ → Answer → Type 0
+IsCopyAnswer (Ok copy) before after a = (after ≡ copy.words) × (a ≡ done (length copy.journal.items))
+IsCopyAnswer (Err refusal) before after a = (after ≡ before) × (a ≡ of_refusal refusal)
+
+-- page p is copied; or there is no such page, and nothing has changed
+abbrev pub CopiesSeen : ℕ → List ℕ → List ℕ → Member → Member → Answer → Type 0
+CopiesSeen p before after m n a =
+    ((pages (setup_of m) ≤ p) × (n ≡ m) × (after ≡ before) × (a ≡ bare 12 p))
+    ⊎ ((p < pages (setup_of m)) × ((r : Result PageCopy Refusal) × IsCopyAnswer r before after a × SeesPage p m n r))
+
+-- the handle keeps no mutator
+abbrev pub HasNoMutator : Option Kept → Type 0
+HasNoMutator None = Unit {0}
+HasNoMutator (Some k) = IsNoMutator k

@@ -1,0 +1,82 @@
+//! Lists are copied into buffers of C.
+ghost use Rattle.std.specs.Prelude.{◌≡◌};
+ghost use Rattle.comp_handle.specs.Copying.{AsksInto, CopiesAll, CopiesEndRoots, CopiesRoots};
+ghost use Rattle.comp_handle.specs.Ending.{LooksInto};
+
+use crate::answer::Answer;
+use crate::handle::Handle;
+use crate::kept::Kept;
+use comp_crew::{Ended, Member};
+use std::alloc::Global;
+
+// Copies all numbers, if the buffer is long enough.
+fn copy_numbers(list: &[u64], out: &mut [u64]) -> Answer
+    ensures { CopiesAll list.now out.old out.new result }
+{
+    let count = list.len();
+    if out.len() < count {
+        return Answer::bare(23, count as u64);
+    }
+    out[..count].copy_from_slice(list);
+    Answer::done(count as u64)
+}
+
+/// Copies all bytes, if the buffer is long enough.
+pub(crate) fn copy_bytes(list: &[u8], out: &mut [u8]) -> Answer
+    ensures { CopiesAll list.now out.old out.new result }
+{
+    let count = list.len();
+    if out.len() < count {
+        return Answer::bare(23, count as u64);
+    }
+    out[..count].copy_from_slice(list);
+    Answer::done(count as u64)
+}
+
+// Copies the forwarded roots of a mutator's heap.
+fn copy_roots(m: &Member, out: &mut [u64]) -> Answer
+    ensures { CopiesRoots out.old out.new m.now result }
+{
+    copy_numbers(m.roots(), out)
+}
+
+/// Copies all forwarded roots of the heap of the mutator that a handle keeps, in order. The answer has their number. If
+/// the buffer is too short, it stays as it was.
+pub fn mutator_roots(alloc: Global, h: &mut Handle, out: &mut [u64]) -> Answer
+    ensures same { h.new.kept ≡ h.old.kept }
+    ensures copies { AsksInto (CopiesRoots out.old out.new) (out.new ≡ out.old) h.old.kept result }
+{
+    let Some(kept) = h.take(alloc) else {
+        return Answer::bare(10, 0);
+    };
+    let answer = match kept.as_ref() {
+        Kept::Mutator(m) => copy_roots(m, out),
+        _ => Answer::bare(11, 0),
+    };
+    h.put_back(kept);
+    answer
+}
+
+// Copies the roots of a finished heap.
+fn copy_end_roots(e: &Ended, out: &mut [u64]) -> Answer
+    ensures { CopiesEndRoots out.old out.new e.now result }
+{
+    copy_numbers(e.finished().roots(), out)
+}
+
+/// Copies all roots of the finished heap that a handle keeps, in order. The answer has their number. If the buffer is
+/// too short, it stays as it was.
+pub fn end_roots(alloc: Global, h: &mut Handle, out: &mut [u64]) -> Answer
+    ensures same { h.new.kept ≡ h.old.kept }
+    ensures copies { LooksInto (CopiesEndRoots out.old out.new) (out.new ≡ out.old) h.old.kept result }
+{
+    let Some(kept) = h.take(alloc) else {
+        return Answer::bare(10, 0);
+    };
+    let answer = match kept.as_ref() {
+        Kept::Ended(e) => copy_end_roots(e, out),
+        _ => Answer::bare(11, 0),
+    };
+    h.put_back(kept);
+    answer
+}

@@ -1,0 +1,110 @@
+//! The dump of a finished heap is written.
+ghost use Rattle.std.specs.Prelude.{◌≡◌, IfOk, OnOk};
+ghost use Rattle.comp_crew.specs.Finishing.{IsEnded};
+ghost use Rattle.comp_dump.specs.DumpEncoding.{dump_bytes};
+ghost use Rattle.comp_handle.specs.Dumping.{dump_of, IsLawful, SizesDump, WritesDump};
+ghost use Rattle.comp_handle.specs.Copying.{WritesBytes};
+ghost use Rattle.comp_handle.specs.Ending.{Looks, LooksInto};
+
+use crate::answer::Answer;
+use crate::copying::copy_bytes;
+use crate::handle::Handle;
+use crate::kept::Kept;
+use crate::sizes::dump_len;
+use comp_audit::lawful_is_yes;
+use comp_crew::Ended;
+use comp_dump::{Dump, dump_is_stored, write_dump};
+use heap_layout::{Counted, OutOfMemory};
+use std::alloc::Global;
+
+// The bytes of a dump, of which there are this many.
+fn bytes_of(alloc: Global, dump: &Dump<'_>, size: usize) -> Result<Vec<u8>, OutOfMemory>
+    ensures { IfOk result (λ bytes. bytes.items ≡ dump_bytes dump.now) }
+{
+    let mut w = Counted::new(Vec::with_capacity(alloc, size)?);
+    match write_dump(dump, &mut w) {
+        Ok(()) => Ok(w.into_inner()),
+        Err(_) => Err(OutOfMemory),
+    }
+}
+
+// The dump of a finished heap.
+fn dump_at<'a>(alloc: Global, e: &'a Ended) -> Result<Dump<'a>, OutOfMemory>
+    requires { IsEnded e.now }
+    ensures is { IfOk result (λ dump. dump ≡ dump_of e.now) }
+    ensures lawful { OnOk result (IsLawful e.now) }
+{
+    lawful_is_yes();
+    let dump = Dump::of(alloc, e.finished(), e.mutators(), e.fresh_pages())?;
+    dump_is_stored(&dump);
+    Ok(dump)
+}
+
+// How many bytes it has.
+fn size_of(alloc: Global, e: &Ended) -> Answer
+    requires { IsEnded e.now }
+    ensures { SizesDump e.now result }
+{
+    match dump_at(alloc, e) {
+        Ok(dump) => Answer::done(dump_len(&dump)),
+        Err(_) => Answer::bare(9, 0),
+    }
+}
+
+/// How many bytes the dump of the finished heap has that a handle keeps.
+pub fn dump_size(alloc: Global, h: &mut Handle) -> Answer
+    ensures same { h.new.kept ≡ h.old.kept }
+    ensures sizes { Looks SizesDump h.old.kept result }
+{
+    let Some(kept) = h.take(alloc) else {
+        return Answer::bare(10, 0);
+    };
+    let answer = match kept.as_ref() {
+        Kept::Ended(e) => size_of(alloc, e),
+        _ => Answer::bare(11, 0),
+    };
+    h.put_back(kept);
+    answer
+}
+
+// Copies a dump.
+fn copy_bytes_of(alloc: Global, dump: &Dump<'_>, out: &mut [u8]) -> Answer
+    ensures { WritesBytes (dump_bytes dump.now) out.old out.new result }
+{
+    let size = dump_len(dump);
+    if (out.len() as u64) < size {
+        return Answer::bare(23, size);
+    }
+    match bytes_of(alloc, dump, size as usize) {
+        Ok(bytes) => copy_bytes(&bytes, out),
+        Err(_) => Answer::bare(9, 0),
+    }
+}
+
+// Copies the dump of a finished heap.
+fn copy_dump(alloc: Global, e: &Ended, out: &mut [u8]) -> Answer
+    requires { IsEnded e.now }
+    ensures { WritesDump out.old out.new e.now result }
+{
+    match dump_at(alloc, e) {
+        Ok(dump) => copy_bytes_of(alloc, &dump, out),
+        Err(_) => Answer::bare(9, 0),
+    }
+}
+
+/// Copies the dump of the finished heap that a handle keeps, with the counts of its flip. The answer has the number of
+/// its bytes. If the buffer is too short, or there is no memory, the buffer stays as it was.
+pub fn copy_dump_of(alloc: Global, h: &mut Handle, out: &mut [u8]) -> Answer
+    ensures same { h.new.kept ≡ h.old.kept }
+    ensures copies { LooksInto (WritesDump out.old out.new) (out.new ≡ out.old) h.old.kept result }
+{
+    let Some(kept) = h.take(alloc) else {
+        return Answer::bare(10, 0);
+    };
+    let answer = match kept.as_ref() {
+        Kept::Ended(e) => copy_dump(alloc, e, out),
+        _ => Answer::bare(11, 0),
+    };
+    h.put_back(kept);
+    answer
+}
