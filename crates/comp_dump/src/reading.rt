@@ -13,6 +13,7 @@ ghost use Rattle.comp_dump.specs.DumpReading.{number, read_whole, read_whole_by,
 
 pub(crate) mod fields;
 mod pages;
+pub(crate) mod words;
 
 use crate::dump::Dump;
 use crate::fault::DumpFault;
@@ -85,7 +86,7 @@ fn read_parts<R: Read>(
     ensures counts { CountsFailure (failures_of r.old) (failures_of r.new) result }
 {
     let head = read_head(r, large)?;
-    let roots = read_roots(alloc, r, head.roots)?;
+    let roots = read_list(alloc, r, head.roots)?;
     let pages = read_pages(alloc, r, head.edition, head.mutators, head.pages)?;
     let builds = read_all_builds(alloc, r, head.pages, head.mutators)?;
     let total = read_eight(r)?;
@@ -136,9 +137,10 @@ fn read_page_count<R: Read>(
     read_four(r, fresh, edition.max_pages())
 }
 
-// Reads the number of roots: at most as many as a heap of the edition may have.
+/// Reads the number of roots: at most as many as a heap of the edition may have. Fewer than `u64::MAX` calls of the reader
+/// must have failed before.
 #[tactic(auto, using(heap_layout::proofs::Bounds::roots_most))]
-fn read_root_count<R: Read>(r: &mut Counted<R>, edition: Edition) -> Result<u32, DumpFault>
+pub fn read_root_count<R: Read>(r: &mut Counted<R>, edition: Edition) -> Result<u32, DumpFault>
     requires { failures_of r.old < 2 ^ 64 - 1 }
     ensures read { IfOk result (λ n. Consumes (R.remaining (inner_of r.old)) (R.remaining (inner_of r.new)) (four_bytes n)) }
     ensures within { IfOk result (λ n. (0 ≤ n) × (n ≤ most_roots edition)) }
@@ -173,21 +175,26 @@ fn read_head<R: Read>(r: &mut Counted<R>, large: bool) -> Result<Head, DumpFault
     })
 }
 
-// Reads `count` roots.
-fn read_roots<R: Read>(alloc: Global, r: &mut Counted<R>, count: u32) -> Result<Vec<u64>, DumpFault>
+/// Reads `count` numbers of 8 bytes. Room for them grows as they come. After an Err those that were read are lost. Fewer
+/// than `u64::MAX` calls of the reader must have failed before.
+pub fn read_list<R: Read>(
+    alloc: Global,
+    r: &mut Counted<R>,
+    count: u32,
+) -> Result<Vec<u64>, DumpFault>
     requires room { failures_of r.old < 2 ^ 64 - 1 }
-    ensures read { IfOk result (λ roots. Consumes (R.remaining (inner_of r.old)) (R.remaining (inner_of r.new)) (flat_map eight_bytes roots.items)) }
-    ensures long { IfOk result (λ roots. length roots.items ≡ count) }
-    ensures stored { IfOk result (λ roots. All (λ n. n < 2 ^ 64) roots.items) }
+    ensures read { IfOk result (λ list. Consumes (R.remaining (inner_of r.old)) (R.remaining (inner_of r.new)) (flat_map eight_bytes list.items)) }
+    ensures long { IfOk result (λ list. length list.items ≡ count) }
+    ensures stored { IfOk result (λ list. All (λ n. n < 2 ^ 64) list.items) }
     ensures cause { IfErr result (Stops (times_read count word) (R.remaining (inner_of r.old))) }
     ensures counts { CountsFailure (failures_of r.old) (failures_of r.new) result }
 {
-    let mut roots = Vec::new(alloc);
+    let mut list = Vec::new(alloc);
     for _ in 0..count {
-        let root = read_eight(r)?;
-        roots.push(root)?;
+        let number = read_eight(r)?;
+        list.push(number)?;
     }
-    Ok(roots)
+    Ok(list)
 }
 
 // Reads the pages that each mutator built.

@@ -1,4 +1,5 @@
-//! Reads the numbers and the fixed bytes of a dump.
+//! Reads the numbers and the fixed bytes of a dump, and of other files that are read as it. After an Err the bytes that
+//! were read are lost. Fewer than `u64::MAX` calls of the reader must have failed before each call.
 ghost use Rattle.std.specs.Prelude.{◌≡◌, ℕ, ◌-◌, ◌^◌, ◌<◌, ◌≤◌, IfOk, IfErr, IfSome, OnOk, length, slice_index};
 ghost use Rattle.std.specs.Io.KnownBytes.{Consumes, IsAtEnd};
 ghost use Rattle.byteorder.specs.Endian.{little_bytes};
@@ -51,7 +52,7 @@ pub(crate) fn read_one<R: Read>(r: &mut Counted<R>, high: u8) -> Result<u8, Dump
 }
 
 /// Reads a number of 4 bytes, from `low` to `high`.
-pub(crate) fn read_four<R: Read>(r: &mut Counted<R>, low: u32, high: u32) -> Result<u32, DumpFault>
+pub fn read_four<R: Read>(r: &mut Counted<R>, low: u32, high: u32) -> Result<u32, DumpFault>
     requires { failures_of r.old < 2 ^ 64 - 1 }
     ensures read { IfOk result (λ n. Consumes (R.remaining (inner_of r.old)) (R.remaining (inner_of r.new)) (little_bytes 4 n)) }
     ensures within { IfOk result (λ n. (low ≤ n) × (n ≤ high)) }
@@ -80,7 +81,7 @@ pub(crate) fn read_eight<R: Read>(r: &mut Counted<R>) -> Result<u64, DumpFault>
 }
 
 /// Reads exactly these bytes, at most 8.
-pub(crate) fn expect<R: Read>(r: &mut Counted<R>, wanted: &[u8]) -> Result<(), DumpFault>
+pub fn expect<R: Read>(r: &mut Counted<R>, wanted: &[u8]) -> Result<(), DumpFault>
     requires room { failures_of r.old < 2 ^ 64 - 1 }
     requires few { length wanted.now ≤ 8 }
     ensures read { OnOk result (Consumes (R.remaining (inner_of r.old)) (R.remaining (inner_of r.new)) wanted.now) }
@@ -97,7 +98,7 @@ pub(crate) fn expect<R: Read>(r: &mut Counted<R>, wanted: &[u8]) -> Result<(), D
 }
 
 /// Reads the version, and answers its edition: three only if `large`.
-pub(crate) fn read_edition<R: Read>(r: &mut Counted<R>, large: bool) -> Result<Edition, DumpFault>
+pub fn read_edition<R: Read>(r: &mut Counted<R>, large: bool) -> Result<Edition, DumpFault>
     requires { failures_of r.old < 2 ^ 64 - 1 }
     ensures read { IfOk result (λ edition. Consumes (R.remaining (inner_of r.old)) (R.remaining (inner_of r.new)) (four_bytes (version_of edition))) }
     ensures edition { IfOk result (IsRead large) }
@@ -113,7 +114,7 @@ pub(crate) fn read_edition<R: Read>(r: &mut Counted<R>, large: bool) -> Result<E
 }
 
 /// Refuses if the reader has a byte left.
-pub(crate) fn expect_end<R: Read>(r: &mut Counted<R>) -> Result<(), DumpFault>
+pub fn expect_end<R: Read>(r: &mut Counted<R>) -> Result<(), DumpFault>
     requires { failures_of r.old < 2 ^ 64 - 1 }
     ensures end { OnOk result (IsAtEnd (R.remaining (inner_of r.old))) }
     ensures cause { IfErr result (λ fault. IfSome (R.remaining (inner_of r.old)) (RefusesEnd fault)) }

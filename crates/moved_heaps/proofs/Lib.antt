@@ -1,0 +1,10 @@
+pub mod Finding
+pub mod Objects
+pub mod Ordering
+pub mod Neighbours
+pub mod Sliding
+pub mod Naming
+pub mod SameHeap
+pub mod Ranks
+pub mod Verdicts
+pub mod FileReading
