@@ -44,9 +44,23 @@ fn check_page(
     requires stored { IsStoredPage setting.edition setting.mutators page.now }
     ensures { Reports (word_faults (setup_at setting.entry) p page.now) result }
 {
-    let mut right = base(alloc, setting, p)?;
-    replay(&mut right, page.journal());
+    let right = right_words(alloc, setting, p, page.journal())?;
     check_same(right.as_array(), p, &page.words())
+}
+
+/// The words that a journal makes of the base of page `p`. Err if out of memory.
+pub fn right_words(
+    alloc: Global,
+    setting: Setting<'_>,
+    p: u64,
+    journal: &[Entry],
+) -> Result<PageWords, OutOfMemory>
+    requires { All (λ entry. entry.offset < 64) journal.now }
+    ensures { IfOk result (λ words. words ≡ replayed (base_of (setup_at setting.entry) p) journal.now) }
+{
+    let mut words = base(alloc, setting, p)?;
+    replay(&mut words, journal);
+    Ok(words)
 }
 
 // The words with which page `p` began.

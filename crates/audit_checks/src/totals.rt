@@ -1,5 +1,7 @@
 //! The ninth check: the total is the number of words that slid and of words of new objects.
-ghost use Rattle.std.specs.Prelude.{◌≡◌, ◌^◌, ◌<◌, ◌≤◌, All, length};
+ghost use Rattle.std.specs.Prelude.{◌≡◌, ◌+◌, ◌^◌, ◌<◌, ◌≤◌, All, length};
+ghost use Rattle.heap_layout.specs.Heap.{live};
+ghost use Rattle.page_plan.specs.Sliding.{live_words};
 ghost use Rattle.comp_journal.specs.declared.entry.Entry.{Entry};
 ghost use Rattle.comp_history.specs.Lists.{total as added};
 ghost use Rattle.comp_history.specs.Shares.{allocated, words_by};
@@ -20,12 +22,19 @@ pub fn check_total(plan: &Plan, total: u64, records: &DumpedPages<'_>) -> Result
     requires pages { All HasFewEntries records.now }
     ensures { Reports (total_faults plan.now total records.now) result }
 {
-    if u128::from(total)
-        != u128::from(plan.live_words()) + all_words(plan.heap().edition(), records)
-    {
+    if u128::from(total) != right_total(plan, records) {
         return Err(CheckEnd::Fault(AuditFault::WrongTotal));
     }
     Ok(())
+}
+
+/// The number of words that slid and of words of new objects.
+pub fn right_total(plan: &Plan, records: &DumpedPages<'_>) -> u128
+    requires few { length records.now ≤ 2 ^ 26 }
+    requires pages { All HasFewEntries records.now }
+    ensures { result ≡ live_words (live plan.now) + allocated plan.now.edition (all_entries records.now) }
+{
+    u128::from(plan.live_words()) + all_words(plan.heap().edition(), records)
 }
 
 // The words of the objects that all entries make.

@@ -1,3 +1,5 @@
 pub mod Judged
 pub mod Meant
+pub mod Explained
+pub mod Whole
 pub use Rattle.audit_checks.specs.Reported

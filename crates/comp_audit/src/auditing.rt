@@ -1,10 +1,10 @@
 //! The audit of a dump: its verdict is yes if the checks find no fault, else the first fault.
 ghost use Rattle.std.specs.Prelude.{IfOk};
-ghost use Rattle.comp_audit.specs.Judged.{faults, Judges};
+ghost use Rattle.comp_audit.specs.Judged.{faults, missing_pages, whole_faults, Judges};
 
 use crate::verdict::Verdict;
 use audit_checks::{CheckEnd, Setting, check};
-use comp_dump::{Dump, dump_is_stored};
+use comp_dump::{AuditFault, Dump, DumpedPages, dump_is_stored};
 use heap_layout::OutOfMemory;
 use page_plan::Plan;
 use std::alloc::Global;
@@ -38,4 +38,29 @@ pub fn audit(alloc: Global, plan: &Plan, dump: &Dump<'_>) -> Result<Verdict, Out
         Err(CheckEnd::Fault(fault)) => Ok(Verdict::No(fault)),
         Err(CheckEnd::OutOfMemory) => Err(OutOfMemory),
     }
+}
+
+/// Whether a compaction by this plan can have left the dump with each compacted page built: yes, or the first fault.
+///
+/// The faults are those of `audit`, in its order, and after them the compacted pages that were never built
+/// (`PageMissing`), the least first. It fails only if memory runs out.
+pub fn audit_whole(alloc: Global, plan: &Plan, dump: &Dump<'_>) -> Result<Verdict, OutOfMemory>
+    ensures { IfOk result (Judges (whole_faults plan.now dump.now)) }
+{
+    match audit(alloc, plan, dump)? {
+        Verdict::Yes => Ok(missing_page(plan.pages(), dump.pages())),
+        Verdict::No(fault) => Ok(Verdict::No(fault)),
+    }
+}
+
+// Whether each of the first `count` pages was built.
+fn missing_page(count: u64, records: &DumpedPages<'_>) -> Verdict
+    ensures { Judges (missing_pages count records.now) result }
+{
+    for p in 0..count {
+        if records.page(p as usize).is_none() {
+            return Verdict::No(AuditFault::PageMissing(p));
+        }
+    }
+    Verdict::Yes
 }

@@ -11,8 +11,7 @@ returns c =
     let u = setup_at c.args.setting in
     let right : c.as_array.result.now ≡ replayed (base_of u c.args.p) c.args.page.now.journal =
     c.as_array.ensures
-    ∙ c.replay.ensures
-    ∙ ap (λ (base : List ℕ). replayed base c.journal.result.now) c.in_ok-right.ensures
+    ∙ c.in_ok-right.ensures
     ∙ ap (replayed (base_of u c.args.p)) c.journal.ensures in
     subst (λ (xs : List ℕ). Reports (same_words xs c.args.p c.args.page.now.words) c.check_same.result) right
     (subst (λ (ys : List ℕ). Reports (same_words c.as_array.result.now c.args.p ys) c.check_same.result) c.words.ensures c.check_same.ensures)

@@ -1,0 +1,210 @@
+-- What the audit says of a fault: for each fault, what is in the dump and what should be there.
+use Rattle.std.specs.Prelude.{◌≡◌, ◌≢◌, ℕ, zero, suc, ◌+◌, ◌-◌, ◌%◌, ◌<◌, ◌≤◌, cond, nat_lt, is_some, true, IfSome, IfNone, List, [], length, map, take, slice_get, slice_index, slice_index_or, Option, Some, None}
+use Rattle.std.specs.Option.{option_map}
+use Rattle.heap_layout.specs.Heap.{Heap, live}
+use Rattle.page_plan.specs.Sliding as sliding
+use Rattle.page_plan.specs.Sliding.{forwarded, live_words, new_address, to_address}
+use Rattle.page_plan.specs.Planned.{Covers}
+use Rattle.comp_dump.specs.Entry.{Entry}
+use Rattle.comp_dump.specs.Lawful.{filled}
+use Rattle.comp_dump.specs.Lists.{times, total}
+use Rattle.comp_dump.specs.Setup.{Setup, pages}
+use Rattle.comp_dump.specs.Objects.{offset_at, page_at, word_on}
+use Rattle.comp_dump.specs.Shares.{allocated}
+use Rattle.comp_dump.specs.Builds.{named}
+use Rattle.comp_dump.specs.Dumped.{BuiltPage, Dumped}
+use Rattle.comp_dump.specs.declared.fault.AuditFault.{AuditFault}
+use Rattle.comp_dump.specs.declared.fault.AuditFault.TheVariants as fault
+use Rattle.audit_checks.specs.Checks.{all_entries, all_stamps, setup_for}
+use Rattle.comp_audit.specs.Meant.{built_count, journals_of, page_of}
+use Rattle.comp_audit.specs.declared.explanation.DumpCounts.{DumpCounts}
+use Rattle.comp_audit.specs.declared.explanation.SlidObject.{SlidObject}
+use Rattle.comp_audit.specs.declared.explanation.OutOfPlace.{OutOfPlace}
+use Rattle.comp_audit.specs.declared.explanation.WrongWordAt.{WrongWordAt}
+use Rattle.comp_audit.specs.declared.explanation.LooseWordAt.{LooseWordAt}
+use Rattle.comp_audit.specs.declared.explanation.HeadCause.{HeadCause}
+use Rattle.comp_audit.specs.declared.explanation.HeadCause.TheVariants as head
+use Rattle.comp_audit.specs.declared.explanation.RootAt.{RootAt}
+use Rattle.comp_audit.specs.declared.explanation.BadEntryAt.{BadEntryAt}
+use Rattle.comp_audit.specs.declared.explanation.Totals.{Totals}
+use Rattle.comp_audit.specs.declared.explanation.StampUses.{StampUses}
+use Rattle.comp_audit.specs.declared.explanation.StampLost.{StampLost}
+use Rattle.comp_audit.specs.declared.explanation.Claims.{Claims}
+use Rattle.comp_audit.specs.declared.explanation.MissingPage.{MissingPage}
+use Rattle.comp_audit.specs.declared.explanation.Explanation.{Explanation}
+use Rattle.comp_audit.specs.declared.explanation.Explanation.TheVariants as told
+
+-- to-space as the heap defines it, with the fresh pages and mutators of a dump
+abbrev pub setup_of : Heap → Dumped → Setup
+setup_of heap dump = setup_for heap dump.fresh dump.mutators
+
+-- how many pages a dump has, how many of them are built, and how many entries these have
+pub record AreCountsOf (dump : Dumped) (counts : DumpCounts) : Type 0 where
+  pub built : counts.built ≡ total built_count dump.pages
+  pub pages : counts.pages ≡ length dump.pages
+  pub entries : counts.entries ≡ length (all_entries dump.pages)
+
+-- the word at an address on a page that was built; None elsewhere
+abbrev pub word_in : Dumped → ℕ → Option ℕ
+word_in dump a = cond (nat_lt a (to_address 0)) None (option_map (λ (page : BuiltPage). slice_index page.words (offset_at a)) (page_of dump (page_at a)))
+
+-- this is the marked object of its number
+pub record IsSlidObject (heap : Heap) (object : SlidObject) : Type 0 where
+  pub known : object.number < length heap.marks
+  pub index : object.index ≡ slice_index heap.marks object.number
+  pub address : object.address ≡ new_address (live heap) object.number
+  pub header : object.header ≡ slice_index heap.words object.index
+
+-- the object that has the slid word i; None after the last slid word
+abbrev pub IsOwner : Heap → ℕ → Option SlidObject → Type 0
+IsOwner heap i None = live_words (live heap) ≤ i
+IsOwner heap i (Some object) = IsSlidObject heap object × Covers (live heap) i object.number
+
+-- the header of marked object k is at its address, if that is on a page that was built
+abbrev pub IsInPlace : Heap → Dumped → ℕ → Type 0
+IsInPlace heap dump k = (word : ℕ) → word_in dump (new_address (live heap) k) ≡ Some word → word ≡ slice_index heap.words (slice_index heap.marks k)
+
+-- another word is at the address of this object, and the objects before it are in place
+pub record IsFirstOutOfPlace (heap : Heap) (dump : Dumped) (found : OutOfPlace) : Type 0 where
+  pub object : IsSlidObject heap found.object
+  pub is : word_in dump found.object.address ≡ Some found.is
+  pub wrong : found.is ≢ found.object.header
+  pub first : (k : ℕ) → k < found.object.number → IsInPlace heap dump k
+
+abbrev pub IsOutOfPlace : Heap → Dumped → Option OutOfPlace → Type 0
+IsOutOfPlace heap dump None = (k : ℕ) → k < length heap.marks → IsInPlace heap dump k
+IsOutOfPlace heap dump (Some found) = IsFirstOutOfPlace heap dump found
+
+-- the word at this address, what the page's journal makes of its base there, and what the heap says of them
+pub record IsWordExplained (heap : Heap) (dump : Dumped) (a : ℕ) (word : WrongWordAt) : Type 0 where
+  pub page : word.page ≡ page_at a
+  pub offset : word.offset ≡ offset_at a
+  pub is : word_in dump a ≡ Some word.is
+  pub should_be : word.should_be ≡ word_on (setup_of heap dump) (journals_of dump) word.page word.offset
+  pub object : IsOwner heap (a - to_address 0) word.object
+  pub out_of_place : IsOutOfPlace heap dump word.out_of_place
+
+-- the word at this address
+pub record IsLooseExplained (dump : Dumped) (a : ℕ) (word : LooseWordAt) : Type 0 where
+  pub page : word.page ≡ page_at a
+  pub offset : word.offset ≡ offset_at a
+  pub is : word_in dump a ≡ Some word.is
+
+-- The head is compared in this order: the edition, the number of pages, the number of roots, each root.
+pub record HasItsPages (heap : Heap) (dump : Dumped) : Type 0 where
+  pub edition : dump.edition ≡ heap.edition
+  pub pages : length dump.pages ≡ pages (setup_of heap dump)
+
+-- root k of the heap after the flip
+abbrev pub right_root : Heap → ℕ → ℕ
+right_root heap k = forwarded (live heap) (slice_index heap.roots k)
+
+-- this root is not the forwarded root of the heap, and those before it are
+pub record IsFirstWrongRoot (heap : Heap) (dump : Dumped) (root : RootAt) : Type 0 where
+  pub known : root.number < length heap.roots
+  pub is : root.is ≡ slice_index dump.roots root.number
+  pub should_be : root.should_be ≡ right_root heap root.number
+  pub wrong : root.is ≢ root.should_be
+  pub first : (k : ℕ) → k < root.number → slice_index dump.roots k ≡ right_root heap k
+
+abbrev pub IsHeadExplained : Heap → Dumped → HeadCause → Type 0
+IsHeadExplained heap dump (head.Edition is should_be) = (is ≡ dump.edition) × (should_be ≡ heap.edition) × (is ≢ should_be)
+IsHeadExplained heap dump (head.Pages is should_be) = (dump.edition ≡ heap.edition) × (is ≡ length dump.pages) × (should_be ≡ pages (setup_of heap dump)) × (is ≢ should_be)
+IsHeadExplained heap dump (head.Roots is should_be) = HasItsPages heap dump × (is ≡ length dump.roots) × (should_be ≡ length heap.roots) × (is ≢ should_be)
+IsHeadExplained heap dump (head.Root root) = HasItsPages heap dump × (length dump.roots ≡ length heap.roots) × IsFirstWrongRoot heap dump root
+
+-- nothing is wrong with the head
+pub record IsHeadRight (heap : Heap) (dump : Dumped) : Type 0 where
+  pub pages : HasItsPages heap dump
+  pub as_many : length dump.roots ≡ length heap.roots
+  pub roots : (k : ℕ) → k < length heap.roots → slice_index dump.roots k ≡ right_root heap k
+
+-- the total of the dump, and the one that it should have
+pub record AreTotals (heap : Heap) (dump : Dumped) (totals : Totals) : Type 0 where
+  pub is : totals.is ≡ dump.total
+  pub should_be : totals.should_be ≡ live_words (live heap) + allocated heap.edition (all_entries dump.pages)
+
+-- of the mutators from number `low` on, the first whose list of builds names page p; None if there is none
+abbrev pub IsNextClaim : List (List ℕ) → ℕ → ℕ → Option ℕ → Type 0
+IsNextClaim builds p low None = (k : ℕ) → low ≤ k → k < length builds → times p (slice_index_or builds k []) ≡ 0
+IsNextClaim builds p low (Some found) =
+    (low ≤ found) × (found < length builds) × (0 < times p (slice_index_or builds found [])) × ((k : ℕ) → low ≤ k → k < found → times p (slice_index_or builds k []) ≡ 0)
+
+-- who says that page p was built
+pub record AreClaims (dump : Dumped) (p : ℕ) (claims : Claims) : Type 0 where
+  pub page : claims.page ≡ p
+  pub is_built : claims.is_built ≡ is_some (page_of dump p)
+  pub named : claims.named ≡ named p dump.builds
+  pub first : IsNextClaim dump.builds p 0 claims.first
+  pub second : IfSome claims.first (λ k. IsNextClaim dump.builds p (k + 1) claims.second)
+  pub no_second : IfNone claims.first (claims.second ≡ None)
+
+-- the stamp of the entry before entry k
+abbrev pub stamp_before : List Entry → ℕ → Option ℕ
+stamp_before journal zero = None
+stamp_before journal (suc k) = option_map (λ (e : Entry). e.stamp) (slice_get journal k)
+
+-- the mutator that makes objects on page p; None if it is a compacted page
+abbrev pub maker_of : Setup → ℕ → Option ℕ
+maker_of u p = cond (nat_lt p u.compacted) None (Some ((p - u.compacted) % u.mutators))
+
+-- entry k of page p, the stamp of the one before it, and what its page has before it
+pub record IsEntryExplained (heap : Heap) (dump : Dumped) (p k : ℕ) (bad : BadEntryAt) : Type 0 where
+  pub page : bad.page ≡ p
+  pub number : bad.number ≡ k
+  pub entry : slice_get (journals_of dump p) k ≡ Some bad.entry
+  pub stamp_before : bad.stamp_before ≡ stamp_before (journals_of dump p) k
+  pub maker : bad.maker ≡ maker_of (setup_of heap dump) p
+  pub filled : bad.filled ≡ filled heap.edition (take k (journals_of dump p))
+
+-- how many entries of page p have stamp s
+abbrev pub stamped_on : Dumped → ℕ → ℕ → ℕ
+stamped_on dump s p = times s (map (λ (e : Entry). e.stamp) (journals_of dump p))
+
+-- the first page with an entry of stamp s; None if there is none
+abbrev pub IsFirstUse : Dumped → ℕ → Option ℕ → Type 0
+IsFirstUse dump s None = (p : ℕ) → stamped_on dump s p ≡ 0
+IsFirstUse dump s (Some first) = (0 < stamped_on dump s first) × ((p : ℕ) → p < first → stamped_on dump s p ≡ 0)
+
+-- the last page with an entry of stamp s, if there is one
+pub record IsLastUse (dump : Dumped) (s last : ℕ) : Type 0 where
+  pub after : (p : ℕ) → last < p → stamped_on dump s p ≡ 0
+  pub here : (p : ℕ) → 0 < stamped_on dump s p → 0 < stamped_on dump s last
+
+-- the entries that have stamp s: their number, and the first and the last page with one of them
+pub record AreUses (dump : Dumped) (s : ℕ) (uses : StampUses) : Type 0 where
+  pub stamp : uses.stamp ≡ s
+  pub entries : uses.entries ≡ times s (all_stamps dump.pages)
+  pub first : IsFirstUse dump s (Some uses.first_page)
+  pub last : 0 < stamped_on dump s uses.last_page
+  pub none_after : (p : ℕ) → uses.last_page < p → stamped_on dump s p ≡ 0
+
+-- the number of all entries
+pub record IsLost (dump : Dumped) (s : ℕ) (lost : StampLost) : Type 0 where
+  pub stamp : lost.stamp ≡ s
+  pub entries : lost.entries ≡ length (all_entries dump.pages)
+
+-- page p was never built, and how many compacted pages there are
+pub record IsMissing (heap : Heap) (dump : Dumped) (p : ℕ) (missing : MissingPage) : Type 0 where
+  pub page : missing.page ≡ p
+  pub never : page_of dump p ≡ None
+  pub compacted : missing.compacted ≡ sliding.pages (live heap)
+
+-- what an explanation says of a fault; `NoSuchFault` only if the dump does not have the fault
+abbrev pub Explains : Heap → Dumped → AuditFault → Explanation → Type 0
+Explains heap dump (fault.WrongWord a) (told.WrongWord word) = IsWordExplained heap dump a word
+Explains heap dump (fault.WrongWord a) told.NoSuchFault = word_in dump a ≡ None
+Explains heap dump (fault.LooseReference a) (told.LooseReference word) = IsLooseExplained dump a word
+Explains heap dump (fault.LooseReference a) told.NoSuchFault = word_in dump a ≡ None
+Explains heap dump (fault.BadEntry p k) (told.BadEntry bad) = IsEntryExplained heap dump p k bad
+Explains heap dump (fault.BadEntry p k) told.NoSuchFault = slice_get (journals_of dump p) k ≡ None
+Explains heap dump (fault.StampRepeated s) (told.StampRepeated uses) = AreUses dump s uses
+Explains heap dump (fault.StampRepeated s) told.NoSuchFault = IsFirstUse dump s None
+Explains heap dump (fault.StampMissing s) (told.StampMissing lost) = IsLost dump s lost
+Explains heap dump fault.WrongTotal (told.WrongTotal totals) = AreTotals heap dump totals
+Explains heap dump (fault.BuildUnclaimed p) (told.BuildUnclaimed claims) = AreClaims dump p claims
+Explains heap dump fault.WrongHead (told.WrongHead cause) = IsHeadExplained heap dump cause
+Explains heap dump fault.WrongHead told.NoSuchFault = IsHeadRight heap dump
+Explains heap dump (fault.PageMissing p) (told.PageMissing missing) = IsMissing heap dump p missing
+Explains heap dump (fault.PageMissing p) told.NoSuchFault = is_some (page_of dump p) ≡ true
+Explains heap dump fault explanation = ⊥

@@ -1,0 +1,41 @@
+//! Counts over all pages of a dump: its pages and entries, and its total.
+ghost use Rattle.std.specs.Prelude.{◌≡◌};
+ghost use Rattle.comp_dump.specs.declared.fault.AuditFault.TheVariants as fault;
+ghost use Rattle.comp_audit.specs.Explained.{AreCountsOf, Explains};
+
+use crate::explanation::{DumpCounts, Explanation, Totals};
+use audit_checks::{journal_of, right_total};
+use comp_dump::{Dump, dump_is_stored};
+use page_plan::Plan;
+
+/// How many pages a dump has, how many of them are built, and how many entries these have.
+pub fn count(dump: &Dump<'_>) -> DumpCounts
+    ensures { AreCountsOf dump.now result }
+{
+    dump_is_stored(dump);
+    let pages = dump.pages();
+    let mut built = 0;
+    let mut entries = 0;
+    for p in 0..pages.len() {
+        if pages.page(p).is_some() {
+            built += 1;
+        }
+        entries += journal_of(pages, p).len() as u64;
+    }
+    DumpCounts {
+        built,
+        pages: pages.len() as u64,
+        entries,
+    }
+}
+
+/// What is said of a wrong total.
+pub fn explain_total(plan: &Plan, dump: &Dump<'_>) -> Explanation
+    ensures { Explains plan.now dump.now fault.WrongTotal result }
+{
+    dump_is_stored(dump);
+    Explanation::WrongTotal(Totals {
+        is: dump.live_words(),
+        should_be: right_total(plan, dump.pages()),
+    })
+}

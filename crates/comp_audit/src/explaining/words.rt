@@ -1,0 +1,91 @@
+//! Words of a dump: a wrong word, and a loose one.
+ghost use Rattle.std.specs.Prelude.{◌≡◌, ◌<◌, IfOk};
+ghost use Rattle.heap_layout.specs.Heap.{Heap};
+ghost use Rattle.comp_dump.specs.Objects.{word_on};
+ghost use Rattle.comp_dump.specs.declared.fault.AuditFault.TheVariants as fault;
+ghost use Rattle.comp_audit.specs.Meant.{journals_of};
+ghost use Rattle.comp_audit.specs.Explained.{setup_of, word_in, Explains};
+
+use crate::explaining::objects::{out_of_place, owner};
+use crate::explanation::{Explanation, LooseWordAt, WrongWordAt};
+use audit_checks::{Setting, journal_of, right_words};
+use comp_dump::{Dump, dump_is_stored};
+use heap_layout::OutOfMemory;
+use page_plan::{Plan, TO_SPACE};
+use std::alloc::Global;
+
+/// The word at an address on a page that was built; None elsewhere.
+pub fn word_in(dump: &Dump<'_>, address: u64) -> Option<u64>
+    ensures { result ≡ word_in dump.now address }
+{
+    if address < TO_SPACE {
+        return None;
+    }
+    let index = address - TO_SPACE;
+    match dump.pages().page((index / 64) as usize) {
+        None => None,
+        Some(page) => Some(page.words()[(index % 64) as usize]),
+    }
+}
+
+/// What is said of a wrong word at this address. Err if out of memory.
+pub fn explain_word(
+    alloc: Global,
+    plan: &Plan,
+    dump: &Dump<'_>,
+    address: u64,
+) -> Result<Explanation, OutOfMemory>
+    ensures { IfOk result (Explains plan.now dump.now (fault.WrongWord address)) }
+{
+    let Some(is) = word_in(dump, address) else {
+        return Ok(Explanation::NoSuchFault);
+    };
+    let new_index = address.saturating_sub(TO_SPACE);
+    let should_be = right_word(alloc, plan, dump, new_index / 64, new_index % 64)?;
+    Ok(Explanation::WrongWord(WrongWordAt {
+        page: new_index / 64,
+        offset: new_index % 64,
+        is,
+        should_be,
+        object: owner(plan, new_index),
+        out_of_place: out_of_place(plan, dump),
+    }))
+}
+
+// What the journal of page `p` makes of its base, at this offset. Err if out of memory.
+fn right_word(
+    alloc: Global,
+    plan: &Plan,
+    dump: &Dump<'_>,
+    p: u64,
+    offset: u64,
+) -> Result<u64, OutOfMemory>
+    requires { offset < 64 }
+    ensures { IfOk result (λ word. word ≡ word_on (setup_of plan.now dump.now) (journals_of dump.now) p offset) }
+{
+    dump_is_stored(dump);
+    let setting = Setting {
+        plan,
+        edition: dump.edition(),
+        fresh: dump.fresh_pages(),
+        mutators: dump.mutators(),
+    };
+    let journal = journal_of(dump.pages(), p as usize);
+    let words = right_words(alloc, setting, p, journal)?;
+    Ok(words.get(offset as u8))
+}
+
+/// What is said of a loose reference or weak word at this address.
+pub fn explain_loose(dump: &Dump<'_>, address: u64) -> Explanation
+    ensures { (heap : Heap) → Explains heap dump.now (fault.LooseReference address) result }
+{
+    let new_index = address.saturating_sub(TO_SPACE);
+    match word_in(dump, address) {
+        None => Explanation::NoSuchFault,
+        Some(is) => Explanation::LooseReference(LooseWordAt {
+            page: new_index / 64,
+            offset: new_index % 64,
+            is,
+        }),
+    }
+}
