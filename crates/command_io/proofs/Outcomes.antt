@@ -8,7 +8,7 @@ use Rattle.command_io.specs.Dumps.{IsOfDumping, RefusedUncreated}
 use Rattle.command_io.specs.NewImages.{IsOfWritingImage, RefusedUnmade}
 use Rattle.command_io.specs.Printing.{CountsPrint, RefusedUnprinted}
 use Rattle.command_io.specs.declared.refusal.CommandRefusal.{CommandRefusal}
-use Rattle.command_io.specs.declared.refusal.CommandRefusal.TheVariants.{Layout, Mutator, Sweep, Trace, Dump, Audit, CannotOpen, CannotCreate, ReadFailed, CannotPrint, NoSuchWord, BadMarks, OutOfMemory, BadRoots}
+use Rattle.command_io.specs.declared.refusal.CommandRefusal.TheVariants.{Layout, Mutator, Sweep, Trace, Dump, Audit, Moved, CannotOpen, CannotCreate, ReadFailed, CannotPrint, NoSuchWord, BadMarks, OutOfMemory, BadRoots}
 
 -- a refusal for another cause than the output counts no failed call of the output
 pub uncounted_by : (old new : ℕ) (refusal : CommandRefusal) → new ≡ old → (refusal ≡ CannotPrint → ⊥) → CountsPrint {T = Unit {0}} old new (Err refusal)
@@ -18,6 +18,7 @@ uncounted_by old new (Sweep fault) same other = same
 uncounted_by old new (Trace fault) same other = same
 uncounted_by old new (Dump fault) same other = same
 uncounted_by old new (Audit fault) same other = same
+uncounted_by old new (Moved fault) same other = same
 uncounted_by old new (CannotOpen input) same other = same
 uncounted_by old new (CannotCreate output) same other = same
 uncounted_by old new (ReadFailed input) same other = same
@@ -39,6 +40,7 @@ unprinted before (Sweep fault) = Keeps-refl before
 unprinted before (Trace fault) = Keeps-refl before
 unprinted before (Dump fault) = Keeps-refl before
 unprinted before (Audit fault) = Keeps-refl before
+unprinted before (Moved fault) = Keeps-refl before
 unprinted before (CannotOpen input) = Keeps-refl before
 unprinted before (CannotCreate output) = Keeps-refl before
 unprinted before (ReadFailed input) = Keeps-refl before
@@ -56,6 +58,7 @@ uncreated disk files (Sweep fault) = refl
 uncreated disk files (Trace fault) = refl
 uncreated disk files (Dump fault) = inl refl
 uncreated disk files (Audit fault) = refl
+uncreated disk files (Moved fault) = refl
 uncreated disk files (CannotOpen input) = refl
 uncreated disk files (CannotCreate output) = inl refl
 uncreated disk files (ReadFailed input) = refl
@@ -74,6 +77,7 @@ uncreated_by disk path bytes from to (Sweep fault) unkept h = absurd h
 uncreated_by disk path bytes from to (Trace fault) unkept h = absurd h
 uncreated_by disk path bytes from to (Dump fault) unkept h = unkept
 uncreated_by disk path bytes from to (Audit fault) unkept h = absurd h
+uncreated_by disk path bytes from to (Moved fault) unkept h = absurd h
 uncreated_by disk path bytes from to (CannotOpen input) unkept h = absurd h
 uncreated_by disk path bytes from to (CannotCreate output) unkept h = unkept
 uncreated_by disk path bytes from to (ReadFailed input) unkept h = absurd h
@@ -99,6 +103,7 @@ unmade_too disk from to (Err (Sweep fault)) h = h
 unmade_too disk from to (Err (Trace fault)) h = h
 unmade_too disk from to (Err (Dump fault)) h = h
 unmade_too disk from to (Err (Audit fault)) h = h
+unmade_too disk from to (Err (Moved fault)) h = h
 unmade_too disk from to (Err (CannotOpen input)) h = h
 unmade_too disk from to (Err (CannotCreate output)) h = h
 unmade_too disk from to (Err (ReadFailed input)) h = h
@@ -121,6 +126,7 @@ unmade_by disk path bytes from to (Sweep fault) unkept h = absurd h
 unmade_by disk path bytes from to (Trace fault) unkept h = absurd h
 unmade_by disk path bytes from to (Dump fault) unkept h = absurd h
 unmade_by disk path bytes from to (Audit fault) unkept h = absurd h
+unmade_by disk path bytes from to (Moved fault) unkept h = absurd h
 unmade_by disk path bytes from to (CannotOpen input) unkept h = absurd h
 unmade_by disk path bytes from to (CannotCreate output) unkept h = unkept
 unmade_by disk path bytes from to (ReadFailed input) unkept h = absurd h

@@ -4,7 +4,7 @@ use Rattle.std.specs.Fmt.{decimal}
 use Rattle.std.specs.Io.KnownBytes.{Keeps}
 use Rattle.std.specs.Str.{trim_end}
 use Rattle.command_io.specs.declared.refusal.Input.{Input}
-use Rattle.command_io.specs.declared.refusal.Input.TheVariants.{Image, Trace, Dump, Marks, Roots}
+use Rattle.command_io.specs.declared.refusal.Input.TheVariants.{Image, Trace, Dump, Marks, Roots, Moved}
 use Rattle.command_io.specs.declared.refusal.Output.{Output}
 use Rattle.command_io.specs.declared.refusal.Output.TheVariants as outputs
 use Rattle.command_io.specs.declared.refusal.CommandRefusal.{CommandRefusal}
@@ -17,6 +17,7 @@ input_name Trace = codes "trace"
 input_name Dump = codes "dump"
 input_name Marks = codes "marks"
 input_name Roots = codes "roots"
+input_name Moved = codes "moved"
 
 -- the name of a file that is made
 abbrev pub output_name : Output → List ℕ

@@ -5,6 +5,7 @@ use comp_dump::{AuditFault, DumpFault};
 use comp_sweep::SweepFault;
 use comp_trace::TraceFault;
 use heap_layout::LayoutFault;
+use moved_heaps::MovedFault;
 use std::alloc::AllocError;
 use std::fmt;
 use thiserror::Error;
@@ -17,6 +18,7 @@ pub enum Input {
     Dump,
     Marks,
     Roots,
+    Moved,
 }
 
 impl fmt::Display for Input {
@@ -31,6 +33,7 @@ impl fmt::Display for Input {
             Input::Dump => "dump",
             Input::Marks => "marks",
             Input::Roots => "roots",
+            Input::Moved => "moved",
         })
     }
 }
@@ -70,12 +73,15 @@ pub enum CommandRefusal {
     /// The text of the trace is refused, or one of its lines; or memory ran out for the text or for the values.
     #[error(transparent)]
     Trace(TraceFault),
-    /// The dump was not written whole, or no dump could be read at its path.
+    /// The dump was not written whole, or no dump, or no moved heap, could be read at its path.
     #[error(transparent)]
     Dump(DumpFault),
     /// No compaction of the heap can have left this dump.
     #[error(transparent)]
     Audit(AuditFault),
+    /// No collection of the heap can have left this moved heap.
+    #[error(transparent)]
+    Moved(MovedFault),
     /// The file could not be opened.
     #[error("P1 CannotOpen({0})")]
     CannotOpen(Input),

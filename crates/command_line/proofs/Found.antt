@@ -1,5 +1,5 @@
 -- From what the parser found to what the words ask.
-use Rattle.std.proofs.Common.{◌≡◌, ◌≢◌, ◌⊎◌, ◌∙◌, ◌∷◌, ◌≤◌, ℕ, List, Option, Some, IfOk, IfErr, Result, Ok, Err}
+use Rattle.std.proofs.Common.{◌≡◌, ◌≢◌, ◌⊎◌, ◌∙◌, ◌∷◌, ◌++◌, ◌≤◌, ℕ, List, Option, Some, IfOk, IfErr, Result, Ok, Err}
 use Rattle.std.proofs.Common.{[], None, Bool, cond, arith, sym, ap, ap₂, subst, inl, inr, codes, is_some, map, unwrap_or, refl, true, false, true≢false}
 use Rattle.std.specs.Prelude.{find, option_and_then, option_map, IsSomeAnd, IsUtf8, IfSome}
 use Rattle.std.specs.Str.{bytes_eq}
@@ -18,15 +18,15 @@ use Rattle.clap.specs.declared.parser.matches.ArgMatches.TheViews.{out-ArgMatche
 use Rattle.clap.specs.declared.parser.matches.Found.{Found}
 use Rattle.clap.specs.Walk.{row_text, with_default}
 use Rattle.clap.proofs.WalkLemmas.{both, first_value-rows, one_text-rows}
-use Rattle.command_line.specs.Asked.{Asks, AsksAudit, AsksCompact, AsksHelp, AsksMark, AsksNoCommand, AsksPlan, AsksVersion, AsksWord, HasLawfulCounts, IsAnswerOf}
-use Rattle.command_line.specs.Forms.{Choice, Form, Parameter, audit_form, compact_form, fresh, large, mark_form, mutators, next_form, number, plan_form, race_form, replay_form, run_form, standing, text, word_form, workers}
+use Rattle.command_line.specs.Asked.{Asks, AsksCompact, AsksHelp, AsksMark, AsksNoCommand, AsksPlan, AsksVersion, AsksWord, HasLawfulCounts, IsAnswerOf}
+use Rattle.command_line.specs.Forms.{Choice, Form, Parameter, audit_form, compact_form, fresh, large, mark_form, moved_form, mutators, next_form, number, plan_form, race_form, replay_form, run_form, standing, text, word_form, workers}
 use Rattle.command_line.specs.Given.{HasOption, HasSwitch, IsChosen, IsCommandWith, IsFlag, IsNumber, IsNumberOr, Takes, Use, is_among, text_given}
 use Rattle.command_line.specs.Finds.{IsRunRequest, IsRunFound}
 use Rattle.command_line.specs.Nexts.{says_reachable}
 use Rattle.command_line.specs.Parser.{program}
 use Rattle.command_line.specs.Runs.{AsksRun, Run}
 use Rattle.command_line.specs.declared.words.Task.{Task}
-use Rattle.command_line.specs.declared.words.Task.TheVariants.{Plan, Word, Replay, Race, Compact, Audit, Next, Mark, Help, Version}
+use Rattle.command_line.specs.declared.words.Task.TheVariants.{Plan, Word, Replay, Race, Compact, Audit, Next, Mark, Moved, Help, Version}
 use Rattle.command_line.proofs.Chosen.{HasArgument, among_used, argument_fits, argument_off, first_found, one_found, option_fits, option_off, switch_found}
 use Rattle.command_line.proofs.Firsts.{found_holds}
 use Rattle.command_line.proofs.FormLevel.{IsReadable}
@@ -34,7 +34,7 @@ use Rattle.command_line.proofs.FormRules.{built_switch, is_switch, same_text}
 use Rattle.command_line.proofs.KindLists.{some_kind}
 use Rattle.command_line.proofs.Parsed.{HasCommands, parsed, faulty, helped, standing_commands, versioned}
 use Rattle.command_line.proofs.Settled.{is_used, row}
-use Rattle.command_line.proofs.SwitchRows.{others_named, with_switches}
+use Rattle.command_line.proofs.SwitchRows.{others_named, own_row, switches_parted, with_switches}
 use Rattle.command_line.proofs.TopLevel.{IsCommand, IsOneOf, IsProgram, one_of_these, same_form, standing_program}
 
 -- the bytes of texts are UTF-8
@@ -135,16 +135,20 @@ module _ (words : List (List ℕ)) (f : Found) (form : Form) (asked : CommandAsk
   pub choice_reported : (o : Choice) → HasOption form o → (n : ℕ) → IsNumberOr o.default (one_text f o.takes.id) n → IsChosen o asked.given n
   choice_reported o has n h = subst (λ (r : Option (List ℕ)). IsNumberOr o.default r n) (number_is o.takes.id (option_off form asked.readable asked.is_command.gives o has)) h
 
-  -- the first switch is true if and only if it is given
-  pub first_switch_reported : (w : Parameter) (ws : List Parameter) → form.switches ≡ w ∷ ws → is_switch ws w.id ≡ false → (b : Bool) → IsFlag (one_text f w.id) b → b ≡ is_among w.id asked.given
-  first_switch_reported w ws is apart b flag = go (is_used w.id asked.given) refl ∙ sym (among_used w.id asked.given)
+  -- a switch is true if and only if it is given, if no other has its name
+  pub switch_among : (before : List Parameter) (w : Parameter) (after : List Parameter) → form.switches ≡ before ++ w ∷ after → HasSwitch form w
+      → is_switch before w.id ≡ false → is_switch after w.id ≡ false → (b : Bool) → IsFlag (one_text f w.id) b → b ≡ is_among w.id asked.given
+  switch_among before w after is has first last b flag = go (is_used w.id asked.given) refl ∙ sym (among_used w.id asked.given)
     where
-      has : HasSwitch form w
-      has = ap (λ (vs : List Parameter). find (λ (x : Parameter). bytes_eq x.id w.id) vs) is ∙ rw (same_text w.id) refl
+      mine : List Row
+      mine = map row asked.given
+
+      others : List Row
+      others = with_switches before mine
 
       found : one_text f w.id ≡ Some (cond (is_used w.id asked.given) (codes "true") (codes "false"))
-      found = one_text-rows f w.id ∙ ap (one_of w.id) (asked.rows ∙ ap (λ (vs : List Parameter). with_switches vs (map row asked.given)) is)
-          ∙ ap (option_and_then row_text) (others_named w.id ws (with_default (map row asked.given) (built_switch w)) apart)
+      found = one_text-rows f w.id ∙ ap (one_of w.id) (asked.rows ∙ ap (λ (vs : List Parameter). with_switches vs mine) is ∙ switches_parted before (w ∷ after) mine)
+          ∙ ap (option_and_then row_text) (others_named w.id after (with_default others (built_switch w)) last ∙ own_row w mine others (others_named w.id before mine first))
           ∙ switch_found form asked.readable asked.is_command.gives w has
 
       go : (t : Bool) → is_used w.id asked.given ≡ t → b ≡ is_used w.id asked.given
@@ -153,7 +157,9 @@ module _ (words : List (List ℕ)) (f : Found) (form : Form) (asked : CommandAsk
 
   -- so is the only one
   pub switch_reported : (w : Parameter) → form.switches ≡ w ∷ [] → (b : Bool) → IsFlag (one_text f w.id) b → b ≡ is_among w.id asked.given
-  switch_reported w is b flag = first_switch_reported w [] is refl b flag
+  switch_reported w is b flag =
+      let has : HasSwitch form w = ap (λ (vs : List Parameter). find (λ (x : Parameter). bytes_eq x.id w.id) vs) is ∙ rw (same_text w.id) refl in
+      switch_among [] w [] is has refl refl b flag
 
 -- ---- `plan` and `word`
 
@@ -261,19 +267,6 @@ module _ (words : List (List ℕ)) (f : Found) (asked : CommandAsked words f com
     with_large = switch_reported words f compact_form asked large refl b flag;
   }
 
--- ---- `audit`
-
--- the words are `audit`, with the paths that were found
-pub audit_asked : (words : List (List ℕ)) (f : Found) → CommandAsked words f audit_form → (image dump : List ℕ) (b : Bool) → Some image ≡ first_value f (codes "IMAGE")
-    → Some dump ≡ first_value f (codes "DUMP") → IsFlag (one_text f (codes "large")) b → AsksAudit words image dump b
-audit_asked words f asked image dump b at_image at_dump flag = record {
-  uses = asked.given;
-  is_command = asked.is_command;
-  with_image = argument_reported words f audit_form asked (text (codes "IMAGE")) refl image at_image;
-  with_dump = argument_reported words f audit_form asked (text (codes "DUMP")) refl dump at_dump;
-  with_large = switch_reported words f audit_form asked large refl b flag;
-}
-
 -- ---- `mark`
 
 -- the words are `mark`, with the paths that were found
@@ -301,8 +294,8 @@ abbrev pub EnteredAs : Entered → Form → Type 0
 EnteredAs o form = (rows : List Row) → o ≡ Some (form.name, rows) → ⊥
 
 pub none_of_standing : (r : Bool) (words : List (List ℕ)) (o : Entered) → All IsUtf8 words → fault_of (program (standing r)) words ≡ [] → subcommand_of (program (standing r)) words ≡ o
-    → EnteredAs o plan_form → EnteredAs o word_form → EnteredAs o replay_form → EnteredAs o race_form → EnteredAs o compact_form → EnteredAs o audit_form → EnteredAs o (next_form r) → EnteredAs o mark_form → ⊥
-none_of_standing r words o utf8 taken found plan word replay race compact audit next mark = go (entered_one (standing r) (standing_program r) words o utf8 taken found)
+    → EnteredAs o plan_form → EnteredAs o word_form → EnteredAs o replay_form → EnteredAs o race_form → EnteredAs o compact_form → EnteredAs o audit_form → EnteredAs o (next_form r) → EnteredAs o mark_form → EnteredAs o moved_form → ⊥
+none_of_standing r words o utf8 taken found plan word replay race compact audit next mark moved = go (entered_one (standing r) (standing_program r) words o utf8 taken found)
   where
     go : (form : Form) × (rows : List Row) × IsOneOf (standing r) form × (o ≡ Some (form.name, rows)) → ⊥
     go (form, rows, inl same, is) = plan rows (is ∙ ap (λ (x : Form). Some (x.name, rows)) same)
@@ -313,7 +306,8 @@ none_of_standing r words o utf8 taken found plan word replay race compact audit 
     go (form, rows, inr (inr (inr (inr (inr (inl same))))), is) = audit rows (is ∙ ap (λ (x : Form). Some (x.name, rows)) same)
     go (form, rows, inr (inr (inr (inr (inr (inr (inl same)))))), is) = next rows (is ∙ ap (λ (x : Form). Some (x.name, rows)) same)
     go (form, rows, inr (inr (inr (inr (inr (inr (inr (inl same))))))), is) = mark rows (is ∙ ap (λ (x : Form). Some (x.name, rows)) same)
-    go (form, rows, inr (inr (inr (inr (inr (inr (inr (inr none))))))), is) = none
+    go (form, rows, inr (inr (inr (inr (inr (inr (inr (inr (inl same)))))))), is) = moved rows (is ∙ ap (λ (x : Form). Some (x.name, rows)) same)
+    go (form, rows, inr (inr (inr (inr (inr (inr (inr (inr (inr none)))))))), is) = none
 
 -- ---- what is answered in place of a task
 
@@ -355,9 +349,10 @@ answer_counts error (Ok (Word image index b)) answer = _
 answer_counts error (Ok (Replay run)) answer = absurd answer
 answer_counts error (Ok (Race run)) answer = absurd answer
 answer_counts error (Ok (Compact image dump n b)) answer = absurd answer
-answer_counts error (Ok (Audit image dump b)) answer = _
+answer_counts error (Ok (Audit audit)) answer = _
 answer_counts error (Ok (Next next)) answer = absurd answer
 answer_counts error (Ok (Mark image new b)) answer = _
+answer_counts error (Ok (Moved image moved b)) answer = _
 answer_counts error (Ok (Help text)) answer = _
 answer_counts error (Ok Version) answer = _
 answer_counts error (Err reported) answer = _
@@ -378,9 +373,10 @@ module _ (forms : List Form) (is : IsProgram forms) (words : List (List ℕ)) (s
   answer_reported error (Ok (Replay run)) kind answer = absurd answer
   answer_reported error (Ok (Race run)) kind answer = absurd answer
   answer_reported error (Ok (Compact image dump n b)) kind answer = absurd answer
-  answer_reported error (Ok (Audit image dump b)) kind answer = absurd answer
+  answer_reported error (Ok (Audit audit)) kind answer = absurd answer
   answer_reported error (Ok (Next next)) kind answer = absurd answer
   answer_reported error (Ok (Mark image new b)) kind answer = absurd answer
+  answer_reported error (Ok (Moved image moved b)) kind answer = absurd answer
   answer_reported error (Ok (Help text)) kind answer = help_asked (among_kinds _ error DisplayHelp kind answer (λ e. cc))
   answer_reported error (Ok Version) kind answer = version_asked (among_kinds _ error DisplayVersion kind answer (λ e. cc))
   answer_reported error (Err reported) kind answer = _

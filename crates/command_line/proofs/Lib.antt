@@ -16,5 +16,7 @@ pub mod TopLevel
 pub mod Reaching
 pub mod Parsed
 pub mod Found
+pub mod AuditFound
+pub mod MovedFound
 pub mod NextFound
 pub mod RunCounts

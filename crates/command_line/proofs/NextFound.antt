@@ -7,7 +7,7 @@ use Rattle.command_line.specs.Forms.{fresh, large, mutators, next_form, reachabl
 use Rattle.command_line.specs.Given.{HasOption, IsCommandWith, text_given}
 use Rattle.command_line.specs.Nexts.{AsksNext, HasNext, IsMarksFound, IsNextFound, IsRootsFound, IsRootsPath, Next, says_reachable}
 use Rattle.command_line.proofs.Chosen.{HasArgument}
-use Rattle.command_line.proofs.Found.{CommandAsked, argument_reported, argument_there, choice_fits, choice_reported, first_switch_reported, option_read}
+use Rattle.command_line.proofs.Found.{CommandAsked, argument_reported, argument_there, choice_fits, choice_reported, option_read, switch_among}
 use Rattle.command_line.proofs.Reaching.{reachable_said}
 
 -- without `--reachable`, the marks are there
@@ -74,5 +74,5 @@ module _ (r : Bool) (words : List (List ℕ)) (says : r ≡ says_reachable words
     with_new = argument_reported words f (next_form r) asked (text (codes "NEW")) (new_there r) next.new is.new_is;
     with_mutators = choice_reported words f (next_form r) asked mutators (mutators_there r) next.count is.mutators_are;
     with_fresh = choice_reported words f (next_form r) asked fresh (fresh_there r) next.pages is.fresh_are;
-    with_large = first_switch_reported words f (next_form r) asked large (reachable ∷ []) refl refl next.large is.large_is;
+    with_large = switch_among words f (next_form r) asked [] large (reachable ∷ []) refl refl refl refl next.large is.large_is;
   }

@@ -1,5 +1,5 @@
 -- The rows of switches that were not given, which clap adds after the others.
-use Rattle.std.proofs.Common.{◌≡◌, ◌∙◌, Bool, cond, true, false, refl, ap, List, [], ◌∷◌, ◌++◌, Option, Some, None, codes, fold}
+use Rattle.std.proofs.Common.{◌≡◌, ◌∙◌, Bool, cond, true, false, refl, sym, ap, List, [], ◌∷◌, ◌++◌, Option, Some, None, codes, fold, is_some}
 use Rattle.std.specs.Prelude.{find}
 use Rattle.std.specs.Option.{option_map_or}
 use Rattle.std.specs.Str.{bytes_eq}
@@ -10,6 +10,7 @@ use Rattle.clap.specs.Walk.{Row, Text, at_row, has_row, more_values, with_defaul
 use Rattle.clap.specs.declared.builder.value_parser.Reading.TheVariants.{AsWritten}
 use Rattle.clap.specs.declared.parser.matches.ValueSource.TheVariants.{DefaultValue}
 use Rattle.command_line.specs.Forms.{Parameter}
+use Rattle.command_line.proofs.Firsts.{any_found}
 use Rattle.command_line.proofs.FormRules.{built_switch, is_switch, same_text}
 
 -- if there is no row of a name, a new one goes after the others
@@ -68,6 +69,27 @@ others_named id (w ∷ ws) rows none = others_named id ws (with_default rows (bu
     one : (t : Bool) → has_row w.id rows ≡ t → row_named id (with_default rows (built_switch w)) ≡ row_named id rows
     one true e = ap (row_named id) (row_kept w rows e)
     one false e = ap (row_named id) (row_added w rows e) ∙ named_before id (off_row w) rows two.0
+
+-- so it is with its own row, which comes first or last of its name
+pub own_row : (w : Parameter) (rows others : List Row) → row_named w.id others ≡ row_named w.id rows
+    → row_named w.id (with_default others (built_switch w)) ≡ row_named w.id (with_default rows (built_switch w))
+own_row w rows others same = go (has_row w.id rows) refl
+  where
+    there : (xs : List Row) → has_row w.id xs ≡ is_some (row_named w.id xs)
+    there xs = any_found (λ (r : Row). bytes_eq r.id w.id) xs
+
+    both_have : has_row w.id others ≡ has_row w.id rows
+    both_have = there others ∙ ap (λ (o : Option Row). is_some o) same ∙ sym (there rows)
+
+    go : (t : Bool) → has_row w.id rows ≡ t → row_named w.id (with_default others (built_switch w)) ≡ row_named w.id (with_default rows (built_switch w))
+    go true e = ap (row_named w.id) (row_kept w others (both_have ∙ e)) ∙ same ∙ sym (ap (row_named w.id) (row_kept w rows e))
+    go false e =
+        ap (row_named w.id) (row_added w others (both_have ∙ e)) ∙ named_last w others (both_have ∙ e) ∙ sym (ap (row_named w.id) (row_added w rows e) ∙ named_last w rows e)
+
+-- the rows of switches that follow others
+pub switches_parted : (before after : List Parameter) (rows : List Row) → with_switches (before ++ after) rows ≡ with_switches after (with_switches before rows)
+switches_parted [] after rows = refl
+switches_parted (v ∷ vs) after rows = switches_parted vs after (with_default rows (built_switch v))
 
 -- ---- what is given
 

@@ -4,12 +4,12 @@ use Rattle.std.specs.List.{Any}
 use Rattle.std.specs.Str.{bytes_eq}
 use Rattle.clap.specs.declared.error.kind.ErrorKind.{ErrorKind}
 use Rattle.clap.specs.declared.error.kind.ErrorKind.TheVariants.{DisplayHelp, DisplayVersion}
-use Rattle.command_line.specs.Forms.{audit_form, compact_form, mark_form, plan_form, word_form, workers}
+use Rattle.command_line.specs.Forms.{audit_form, compact_form, mark_form, moved_form, plan_form, word_form, workers}
 use Rattle.command_line.specs.Given.{IsChosen, IsCommandWith, IsNumber, Use, is_among, text_given}
 use Rattle.command_line.specs.Nexts.{AsksNext, IsLawfulNext, Next, next_of}
-use Rattle.command_line.specs.Runs.{AsksRun, IsLawfulRun, Run, run_of}
+use Rattle.command_line.specs.Runs.{AsksRun, Audit, IsLawfulRun, Run, audit_of, run_of}
 use Rattle.command_line.specs.declared.words.Task.{Task}
-use Rattle.command_line.specs.declared.words.Task.TheVariants.{Plan, Word, Replay, Race, Compact, Audit, Mark, Help, Version}
+use Rattle.command_line.specs.declared.words.Task.TheVariants.{Plan, Word, Replay, Race, Compact, Mark, Moved, Help, Version}
 use Rattle.command_line.specs.declared.words.Task.TheVariants as tasks
 
 -- the words are `plan [--large] IMAGE`, with this path of an image, and with the switch or without it
@@ -48,14 +48,15 @@ pub record AsksCompact (words : List (List ℕ)) (image dump : List ℕ) (n : �
   pub with_workers : IsChosen workers uses n
   pub with_large : is_large ≡ is_among (codes "large") uses
 
--- the words are `audit [--large] IMAGE DUMP`, with these paths of an image and of a dump, and with the switch or without
--- it
-pub record AsksAudit (words : List (List ℕ)) (image dump : List ℕ) (is_large : Bool) : Type 0 where
+-- the words are `audit [--large] [--whole] [--words] IMAGE DUMP`, with these arguments
+pub record AsksAudit (words : List (List ℕ)) (audit : Audit) : Type 0 where
   pub uses : List Use
   pub is_command : IsCommandWith audit_form words uses
-  pub with_image : text_given (codes "IMAGE") uses ≡ Some image
-  pub with_dump : text_given (codes "DUMP") uses ≡ Some dump
-  pub with_large : is_large ≡ is_among (codes "large") uses
+  pub with_image : text_given (codes "IMAGE") uses ≡ Some audit.image
+  pub with_dump : text_given (codes "DUMP") uses ≡ Some audit.dump
+  pub with_whole : audit.whole ≡ is_among (codes "whole") uses
+  pub with_words : audit.words ≡ is_among (codes "words") uses
+  pub with_large : audit.large ≡ is_among (codes "large") uses
 
 -- the words are `mark [--large] IMAGE NEW`, with these paths of an image and of the new image, and with the switch or
 -- without it
@@ -66,6 +67,15 @@ pub record AsksMark (words : List (List ℕ)) (image new : List ℕ) (is_large :
   pub with_new : text_given (codes "NEW") uses ≡ Some new
   pub with_large : is_large ≡ is_among (codes "large") uses
 
+-- the words are `moved [--large] IMAGE MOVED`, with these paths of an image and of a moved heap, and with the switch or
+-- without it
+pub record AsksMoved (words : List (List ℕ)) (image moved : List ℕ) (is_large : Bool) : Type 0 where
+  pub uses : List Use
+  pub is_command : IsCommandWith moved_form words uses
+  pub with_image : text_given (codes "IMAGE") uses ≡ Some image
+  pub with_moved : text_given (codes "MOVED") uses ≡ Some moved
+  pub with_large : is_large ≡ is_among (codes "large") uses
+
 -- the words are none of these commands
 pub record AsksNoCommand (words : List (List ℕ)) : Type 0 where
   pub no_plan : (image : List ℕ) (is_large : Bool) → ¬ (AsksPlan words image is_large)
@@ -73,9 +83,10 @@ pub record AsksNoCommand (words : List (List ℕ)) : Type 0 where
   pub no_replay : (run : Run) → ¬ (AsksReplay words run)
   pub no_race : (run : Run) → ¬ (AsksRace words run)
   pub no_compact : (image dump : List ℕ) (n : ℕ) (is_large : Bool) → ¬ (AsksCompact words image dump n is_large)
-  pub no_audit : (image dump : List ℕ) (is_large : Bool) → ¬ (AsksAudit words image dump is_large)
+  pub no_audit : (audit : Audit) → ¬ (AsksAudit words audit)
   pub no_next : (next : Next) → ¬ (AsksNext words next)
   pub no_mark : (image new : List ℕ) (is_large : Bool) → ¬ (AsksMark words image new is_large)
+  pub no_moved : (image moved : List ℕ) (is_large : Bool) → ¬ (AsksMoved words image moved is_large)
 
 -- `help`, `--help`, or a flag that begins with `-h`
 abbrev pub is_help : List ℕ → Bool
@@ -100,9 +111,10 @@ Asks words (Word image index is_large) = AsksWord words image.now index is_large
 Asks words (Replay run) = AsksReplay words (run_of run)
 Asks words (Race run) = AsksRace words (run_of run)
 Asks words (Compact image dump n is_large) = AsksCompact words image.now dump.now n is_large
-Asks words (Audit image dump is_large) = AsksAudit words image.now dump.now is_large
+Asks words (tasks.Audit audit) = AsksAudit words (audit_of audit)
 Asks words (tasks.Next next) = AsksNext words (next_of next)
 Asks words (Mark image new is_large) = AsksMark words image.now new.now is_large
+Asks words (Moved image moved is_large) = AsksMoved words image.now moved.now is_large
 Asks words (Help text) = AsksHelp words
 Asks words Version = AsksVersion words
 
@@ -113,9 +125,10 @@ HasLawfulCounts (Word image index is_large) = Unit {0}
 HasLawfulCounts (Replay run) = IsLawfulRun (run_of run)
 HasLawfulCounts (Race run) = IsLawfulRun (run_of run)
 HasLawfulCounts (Compact image dump n is_large) = (1 ≤ n) × (n ≤ 64)
-HasLawfulCounts (Audit image dump is_large) = Unit {0}
+HasLawfulCounts (tasks.Audit audit) = Unit {0}
 HasLawfulCounts (tasks.Next next) = IsLawfulNext (next_of next)
 HasLawfulCounts (Mark image new is_large) = Unit {0}
+HasLawfulCounts (Moved image moved is_large) = Unit {0}
 HasLawfulCounts (Help text) = Unit {0}
 HasLawfulCounts Version = Unit {0}
 
@@ -126,8 +139,9 @@ IsAnswerOf kind (Word image index is_large) = ⊥
 IsAnswerOf kind (Replay run) = ⊥
 IsAnswerOf kind (Race run) = ⊥
 IsAnswerOf kind (Compact image dump n is_large) = ⊥
-IsAnswerOf kind (Audit image dump is_large) = ⊥
+IsAnswerOf kind (tasks.Audit audit) = ⊥
 IsAnswerOf kind (tasks.Next next) = ⊥
 IsAnswerOf kind (Mark image new is_large) = ⊥
+IsAnswerOf kind (Moved image moved is_large) = ⊥
 IsAnswerOf kind (Help text) = kind ≡ DisplayHelp
 IsAnswerOf kind Version = kind ≡ DisplayVersion

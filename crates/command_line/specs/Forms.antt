@@ -88,9 +88,22 @@ compact_form = record {
   arguments = text (codes "IMAGE") ∷ text (codes "DUMP") ∷ [];
 }
 
--- `audit [--large] IMAGE DUMP`
+-- `--whole`, which `audit` has
+abbrev pub whole : Parameter
+whole = switch (codes "whole")
+
+-- `--words`, which `audit` has
+abbrev pub words : Parameter
+words = switch (codes "words")
+
+-- `audit [--large] [--whole] [--words] IMAGE DUMP`
 abbrev pub audit_form : Form
-audit_form = record { name = codes "audit"; options = []; switches = large ∷ []; arguments = text (codes "IMAGE") ∷ text (codes "DUMP") ∷ [] }
+audit_form = record {
+  name = codes "audit";
+  options = [];
+  switches = large ∷ whole ∷ words ∷ [];
+  arguments = text (codes "IMAGE") ∷ text (codes "DUMP") ∷ [];
+}
 
 -- `--reachable`, which `next` has
 abbrev pub reachable : Parameter
@@ -120,6 +133,11 @@ next_form by_reach = record { name = codes "next"; options = next_options by_rea
 abbrev pub mark_form : Form
 mark_form = record { name = codes "mark"; options = []; switches = large ∷ []; arguments = text (codes "IMAGE") ∷ text (codes "NEW") ∷ [] }
 
+-- `moved [--large] IMAGE MOVED`
+abbrev pub moved_form : Form
+moved_form = record { name = codes "moved"; options = []; switches = large ∷ []; arguments = text (codes "IMAGE") ∷ text (codes "MOVED") ∷ [] }
+
 -- the commands of the program, for words with `--reachable` and for others
 abbrev pub standing : Bool → List Form
-standing by_reach = plan_form ∷ word_form ∷ replay_form ∷ race_form ∷ compact_form ∷ audit_form ∷ next_form by_reach ∷ mark_form ∷ []
+standing by_reach =
+    plan_form ∷ word_form ∷ replay_form ∷ race_form ∷ compact_form ∷ audit_form ∷ next_form by_reach ∷ mark_form ∷ moved_form ∷ []

@@ -1,7 +1,8 @@
--- The arguments of a command that runs a trace.
+-- The arguments of a command that runs a trace, and of `audit`.
 use Rattle.std.specs.Prelude.{◌≡◌, ℕ, ◌≤◌, Bool, List, Some, codes}
 use Rattle.command_line.specs.Forms.{fresh, mutators, run_form}
 use Rattle.command_line.specs.Given.{IsChosen, IsCommandWith, Use, is_among, text_given}
+use Rattle.command_line.specs.declared.audit.AuditRun.{AuditRun}
 use Rattle.command_line.specs.declared.words.TraceRun.{TraceRun}
 
 -- the paths of an image, of a trace, and of the dump that is written; the numbers of mutators and of fresh pages; and
@@ -34,3 +35,16 @@ pub record IsLawfulRun (run : Run) : Type 0 where
   pub some : 1 ≤ run.count
   pub few : run.count ≤ 64
   pub within : run.pages ≤ 4096
+
+-- the paths of an image and of what is judged; whether each compacted page must be built too; whether what is judged is a
+-- file of words and roots; and whether heaps of edition three are read as well
+pub record Audit : Type 0 where
+  pub image : List ℕ
+  pub dump : List ℕ
+  pub whole : Bool
+  pub words : Bool
+  pub large : Bool
+
+-- the arguments of `audit` in a task
+abbrev pub audit_of : AuditRun → Audit
+audit_of a = record { image = a.image.now; dump = a.dump.now; whole = a.whole; words = a.words; large = a.large }

@@ -1,7 +1,7 @@
 //! The options and arguments of the commands.
 ghost use Rattle.std.specs.Prelude.{◌≡◌, false, codes, IfOk};
 ghost use Rattle.clap.specs.Words.{app_of, new_app, rule_of, with_rule, App, Rule};
-ghost use Rattle.command_line.specs.Forms.{fresh, large, mutators, number, number_within, reachable, roots, text, workers};
+ghost use Rattle.command_line.specs.Forms.{fresh, large, mutators, number, number_within, reachable, roots, switch, text, workers};
 ghost use Rattle.command_line.specs.Parser.{option_rule, optional_rule, rule, switch_rule};
 
 use clap::builder::ValueParser;
@@ -96,10 +96,11 @@ pub(crate) fn large_switch<'a>(alloc: Global) -> Arg<'a>
     ensures rule { rule_of result ≡ switch_rule large }
     ensures local { result.global ≡ false }
 {
-    Arg::new(alloc, "large")
-        .long("large")
-        .action(ArgAction::SetTrue)
-        .help("Reads heaps of edition three as well, of up to 2^31 words")
+    switch_of(
+        alloc,
+        "large",
+        "Reads heaps of edition three as well, of up to 2^31 words",
+    )
 }
 
 /// The switch `--reachable`, which takes no value.
@@ -107,10 +108,22 @@ pub(crate) fn reachable_switch<'a>(alloc: Global) -> Arg<'a>
     ensures rule { rule_of result ≡ switch_rule reachable }
     ensures local { result.global ≡ false }
 {
-    Arg::new(alloc, "reachable")
-        .long("reachable")
+    switch_of(
+        alloc,
+        "reachable",
+        "Marks the new heap by what its roots reach; then no MARKS is given",
+    )
+}
+
+/// A switch of this name and help, which takes no value.
+pub(crate) fn switch_of<'a>(alloc: Global, name: &'a str, help: &'a str) -> Arg<'a>
+    ensures rule { rule_of result ≡ switch_rule (switch name.entry.now) }
+    ensures local { result.global ≡ false }
+{
+    Arg::new(alloc, name)
+        .long(name)
         .action(ArgAction::SetTrue)
-        .help("Marks the new heap by what its roots reach; then no MARKS is given")
+        .help(help)
 }
 
 /// The argument `IMAGE`, a path.

@@ -2,9 +2,11 @@
 #![tactic(auto)]
 
 mod arguments;
+mod audit;
 mod next;
 mod values;
 mod words;
 
+pub use audit::AuditRun;
 pub use next::{NextMarks, NextRun};
 pub use words::{Task, TraceRun, VERSION_LINE, read_task};

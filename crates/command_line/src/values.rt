@@ -51,5 +51,12 @@ pub(crate) fn count_of(found: &ArgMatches, id: &str, default: u64) -> u64
 pub(crate) fn is_large(found: &ArgMatches) -> bool
     ensures { IsFlag (one_text (found_of found.now) (codes "large")) result }
 {
-    found.get_flag("large")
+    is_given(found, "large")
+}
+
+/// Whether this switch was given.
+pub(crate) fn is_given(found: &ArgMatches, id: &str) -> bool
+    ensures { IsFlag (one_text (found_of found.now) id.now) result }
+{
+    found.get_flag(id)
 }

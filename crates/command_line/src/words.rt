@@ -4,7 +4,7 @@ ghost use Rattle.std.specs.String.{string_bytes};
 ghost use Rattle.clap.specs.Words.{app_of, fault_of, found_of, kind_of, subcommand_of, subcommand_rows_of, with_subcommand, App};
 ghost use Rattle.clap.specs.declared.error.kind.ErrorKind.TheVariants.{DisplayHelp, DisplayVersion, OutOfMemory};
 ghost use Rattle.command_line.specs.Asked.{Asks, AsksNoCommand, HasLawfulCounts, IsAnswerOf};
-ghost use Rattle.command_line.specs.Forms.{audit_form, compact_form, mark_form, plan_form, race_form, replay_form, run_form, standing, word_form};
+ghost use Rattle.command_line.specs.Forms.{compact_form, mark_form, moved_form, plan_form, race_form, replay_form, run_form, standing, word_form};
 ghost use Rattle.command_line.specs.Finds.{IsRunRequest, IsRunFound};
 ghost use Rattle.command_line.specs.Nexts.{says_reachable};
 ghost use Rattle.command_line.specs.Parser.{bare_program, command as command_of, program};
@@ -15,6 +15,7 @@ use crate::arguments::{
     mutators_option, named_command, new_argument, path_argument, trace_argument, with_argument,
     workers_option,
 };
+use crate::audit::{AuditRun, audit_command, audit_run};
 use crate::next::{NextRun, next_command, next_run, says_reachable};
 use crate::values::{
     DEFAULT_FRESH, DEFAULT_MUTATORS, DEFAULT_WORKERS, count_of, is_large, number_of, text_of,
@@ -52,18 +53,20 @@ pub enum Task<'a> {
         large: bool,
     },
     /// Audit the dump at a path against the heap in an image.
-    Audit {
-        image: &'a str,
-        dump: &'a str,
-        /// Whether heaps of edition three are read as well.
-        large: bool,
-    },
+    Audit(AuditRun<'a>),
     /// Run a trace as `replay` does, then make the next heap with the new marks, and write its image to a path.
     Next(NextRun<'a>),
     /// Mark the objects that the roots of the heap in an image reach, and write the new image to a path.
     Mark {
         image: &'a str,
         new: &'a str,
+        /// Whether heaps of edition three are read as well.
+        large: bool,
+    },
+    /// Judge what any moving collection left of the heap in an image.
+    Moved {
+        image: &'a str,
+        moved: &'a str,
         /// Whether heaps of edition three are read as well.
         large: bool,
     },
@@ -143,15 +146,16 @@ fn task_of<'a>(words: &'a [String], matches: &ArgMatches<'a>, reaches: bool) -> 
             workers: count_of(found, "workers", DEFAULT_WORKERS) as u8,
             large: is_large(found),
         },
-        "audit" => Task::Audit {
-            image: text_of(found, "IMAGE"),
-            dump: text_of(found, "DUMP"),
-            large: is_large(found),
-        },
+        "audit" => Task::Audit(audit_run(found)),
         "next" => Task::Next(next_run(found, reaches)),
         "mark" => Task::Mark {
             image: text_of(found, "IMAGE"),
             new: text_of(found, "NEW"),
+            large: is_large(found),
+        },
+        "moved" => Task::Moved {
+            image: text_of(found, "IMAGE"),
+            moved: text_of(found, "MOVED"),
             large: is_large(found),
         },
         _ => unreachable!(),
@@ -201,7 +205,8 @@ fn command<'a>(alloc: Global, reaches: bool) -> Made<'a>
     let compacting = with_command(racing, compact_command(alloc));
     let auditing = with_command(compacting, audit_command(alloc));
     let running = with_command(auditing, next_command(alloc, reaches));
-    with_command(running, mark_command(alloc))
+    let marking = with_command(running, mark_command(alloc));
+    with_command(marking, moved_command(alloc))
 }
 
 // Adds a command to the program.
@@ -299,16 +304,6 @@ fn compact_command<'a>(alloc: Global) -> Made<'a>
     with_argument(of_image, dump_argument(alloc))
 }
 
-// The command `audit`, as defined for clap.
-fn audit_command<'a>(alloc: Global) -> Made<'a>
-    ensures { IfOk result (λ made. app_of made ≡ command_of audit_form) }
-{
-    let audit = named_command(alloc, "audit", "Judges the dump of a compaction of a heap");
-    let of_switch = with_argument(audit, large_switch(alloc));
-    let of_image = with_argument(of_switch, image_argument(alloc));
-    with_argument(of_image, path_argument(alloc, "DUMP", "The dump"))
-}
-
 // The command `mark`, as defined for clap.
 fn mark_command<'a>(alloc: Global) -> Made<'a>
     ensures { IfOk result (λ made. app_of made ≡ command_of mark_form) }
@@ -321,4 +316,18 @@ fn mark_command<'a>(alloc: Global) -> Made<'a>
     let of_switch = with_argument(mark, large_switch(alloc));
     let of_image = with_argument(of_switch, image_argument(alloc));
     with_argument(of_image, new_argument(alloc))
+}
+
+// The command `moved`, as defined for clap.
+fn moved_command<'a>(alloc: Global) -> Made<'a>
+    ensures { IfOk result (λ made. app_of made ≡ command_of moved_form) }
+{
+    let moved = named_command(
+        alloc,
+        "moved",
+        "Judges what any moving collection left of a heap",
+    );
+    let of_switch = with_argument(moved, large_switch(alloc));
+    let of_image = with_argument(of_switch, image_argument(alloc));
+    with_argument(of_image, path_argument(alloc, "MOVED", "The moved heap"))
 }

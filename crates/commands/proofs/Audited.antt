@@ -4,9 +4,10 @@ use Rattle.std.proofs.KnownBytes.{Appends-kept}
 use Rattle.std.specs.Io.KnownBytes.{Appends, Keeps}
 use Rattle.heap_layout.specs.Heap.{Heap}
 use Rattle.comp_dump.specs.Dumped.{Dumped}
-use Rattle.comp_audit.specs.Judged.{faults, Judges}
+use Rattle.comp_audit.specs.Judged.{Judges}
 use Rattle.comp_audit.specs.declared.verdict.Verdict.TheVariants.{Yes}
-use Rattle.commands.specs.Audits.{HasPassed, IsDumpAt, IsDumpIn, Passes, RefusesAudit, SomeAudit}
+use Rattle.command_line.specs.Runs as runs
+use Rattle.commands.specs.Audits.{faults_by, HasPassed, IsDumpAt, IsDumpIn, Passes, RefusesAudit, SomeAudit}
 use Rattle.command_io.specs.Disk.{Disk, SomeFile}
 use Rattle.command_io.specs.Images.{IsHeapAt}
 use Rattle.command_io.specs.declared.refusal.Input.TheVariants as inputs
@@ -15,48 +16,48 @@ use Rattle.command_io.specs.declared.refusal.CommandRefusal.{CommandRefusal}
 use Rattle.command_io.specs.declared.refusal.CommandRefusal.TheVariants.{CannotPrint}
 use Rattle.command_io.proofs.Imaged.{of_image}
 
-module _ {F W : Type 0} (disk : Disk F W) (large : Bool) (image path : List ℕ) where
+module _ {F W : Type 0} (disk : Disk F W) (asked : runs.Audit) where
   -- what holds of the heap and of the dump that were read holds of those of the files
-  pub of_both : (heap : Heap) → IsHeapAt disk large image heap → (dump : Dumped) → IsDumpAt disk large path dump → (P : Heap → Dumped → Type 0) → P heap dump → SomeAudit disk large image path P
+  pub of_both : (heap : Heap) → IsHeapAt disk asked.large asked.image heap → (dump : Dumped) → IsDumpAt disk asked dump → (P : Heap → Dumped → Type 0) → P heap dump → SomeAudit disk asked P
   of_both heap found dump file P p =
-      let read : SomeFile disk inputs.Dump path (IsDumpIn large (P heap)) = (file.0, file.1, (file.2.0, file.2.1, file.2.2, subst (P heap) (sym file.2.3) p)) in (
+      let read : SomeFile disk inputs.Dump asked.dump (IsDumpIn asked (P heap)) = (file.0, file.1, (file.2.0, file.2.1, file.2.2, subst (P heap) (sym file.2.3) p)) in (
         found.0,
         found.1,
-        of_image large (λ other. other ≡ heap) (λ other. SomeFile disk inputs.Dump path (IsDumpIn large (P other))) found.0
-            (λ other same. subst (λ (h : Heap). SomeFile disk inputs.Dump path (IsDumpIn large (P h))) (sym same) read) found.2,
+        of_image asked.large (λ other. other ≡ heap) (λ other. SomeFile disk inputs.Dump asked.dump (IsDumpIn asked (P other))) found.0
+            (λ other same. subst (λ (h : Heap). SomeFile disk inputs.Dump asked.dump (IsDumpIn asked (P h))) (sym same) read) found.2,
       )
 
   -- and what follows from it
-  weaker : (P Q : Heap → Dumped → Type 0) → ((heap : Heap) (dump : Dumped) → P heap dump → Q heap dump) → SomeAudit disk large image path P → SomeAudit disk large image path Q
+  weaker : (P Q : Heap → Dumped → Type 0) → ((heap : Heap) (dump : Dumped) → P heap dump → Q heap dump) → SomeAudit disk asked P → SomeAudit disk asked Q
   weaker P Q f (bytes, is_there, found) = (
     bytes,
     is_there,
-    of_image large (λ heap. SomeFile disk inputs.Dump path (IsDumpIn large (P heap))) (λ heap. SomeFile disk inputs.Dump path (IsDumpIn large (Q heap))) bytes
+    of_image asked.large (λ heap. SomeFile disk inputs.Dump asked.dump (IsDumpIn asked (P heap))) (λ heap. SomeFile disk inputs.Dump asked.dump (IsDumpIn asked (Q heap))) bytes
         (λ heap file. (file.0, file.1, (file.2.0, file.2.1, file.2.2, f heap file.2.0 file.2.3))) found,
   )
 
   -- a dump that passed still has if the output is flushed after its line
-  pub flushed_audit : (before between after : Option (List ℕ)) → Keeps between after → SomeAudit disk large image path (Passes before between) → SomeAudit disk large image path (Passes before after)
-  flushed_audit before between after kept passed = weaker (Passes before between) (Passes before after)
+  pub flushed_audit : (before between after : Option (List ℕ)) → Keeps between after → SomeAudit disk asked (Passes asked.whole before between) → SomeAudit disk asked (Passes asked.whole before after)
+  flushed_audit before between after kept passed = weaker (Passes asked.whole before between) (Passes asked.whole before after)
       (λ heap dump h. record { judged = h.judged; printed = Appends-kept before between after _ h.printed kept }) passed
 
   -- and if it is not
-  pub unflushed_audit : (before between : Option (List ℕ)) → SomeAudit disk large image path (Passes before between) → SomeAudit disk large image path (λ heap dump. Judges (faults heap dump) Yes)
-  unflushed_audit before between passed = weaker (Passes before between) (λ heap dump. Judges (faults heap dump) Yes) (λ heap dump h. h.judged) passed
+  pub unflushed_audit : (before between : Option (List ℕ)) → SomeAudit disk asked (Passes asked.whole before between) → SomeAudit disk asked (λ heap dump. Judges (faults_by asked.whole heap dump) Yes)
+  unflushed_audit before between passed = weaker (Passes asked.whole before between) (λ heap dump. Judges (faults_by asked.whole heap dump) Yes) (λ heap dump h. h.judged) passed
 
   -- its line was printed, or a call of the output failed
-  pub printed_audit : (words : ℕ) (before after : Option (List ℕ)) (result : Result (Unit {0}) CommandRefusal) → SomeAudit disk large image path (HasPassed words)
-      → OnOk result (Appends before after (named (codes "ok ") words)) → OnOk result (SomeAudit disk large image path (Passes before after))
-  printed_audit words before after (Ok _) passed printed = weaker (HasPassed words) (Passes before after)
+  pub printed_audit : (words : ℕ) (before after : Option (List ℕ)) (result : Result (Unit {0}) CommandRefusal) → SomeAudit disk asked (HasPassed asked.whole words)
+      → OnOk result (Appends before after (named (codes "ok ") words)) → OnOk result (SomeAudit disk asked (Passes asked.whole before after))
+  printed_audit words before after (Ok _) passed printed = weaker (HasPassed asked.whole words) (Passes asked.whole before after)
       (λ heap dump h. record { judged = h.judged; printed = subst (λ (n : ℕ). Appends before after (named (codes "ok ") n)) h.total printed }) passed
   printed_audit words before after (Err refusal) passed printed = tt
 
-  pub unprinted_audit : (words : ℕ) (result : Result (Unit {0}) CommandRefusal) → SomeAudit disk large image path (HasPassed words) → OnErr result (result ≡ Err CannotPrint)
-      → IfErr result (RefusesAudit disk large image path)
+  pub unprinted_audit : (words : ℕ) (result : Result (Unit {0}) CommandRefusal) → SomeAudit disk asked (HasPassed asked.whole words) → OnErr result (result ≡ Err CannotPrint)
+      → IfErr result (RefusesAudit disk asked)
   unprinted_audit words (Ok _) passed cause = tt
   unprinted_audit words (Err refusal) passed cause =
       let is : refusal ≡ CannotPrint = cc in
-      subst (RefusesAudit disk large image path) (sym is) (weaker (HasPassed words) (λ heap dump. Judges (faults heap dump) Yes) (λ heap dump h. h.judged) passed)
+      subst (RefusesAudit disk asked) (sym is) (weaker (HasPassed asked.whole words) (λ heap dump. Judges (faults_by asked.whole heap dump) Yes) (λ heap dump h. h.judged) passed)
 
 -- a line that was not printed
 pub unprinted_line : (before after : Option (List ℕ)) (result : Result (Unit {0}) CommandRefusal) → OnErr result (result ≡ Err CannotPrint) → RefusedUnprinted before after result

@@ -18,7 +18,7 @@ use Rattle.command_io.specs.Texts.{HasLines, HasLinesAt, RefusesText, RefusesTex
 use Rattle.command_io.specs.declared.refusal.Input.TheVariants as inputs
 use Rattle.command_io.specs.declared.refusal.Output.TheVariants as outputs
 use Rattle.command_io.specs.declared.refusal.CommandRefusal.{CommandRefusal}
-use Rattle.command_io.specs.declared.refusal.CommandRefusal.TheVariants.{Layout, Mutator, Sweep, Trace, Dump, Audit, CannotOpen, CannotCreate, ReadFailed, CannotPrint, NoSuchWord, BadMarks, OutOfMemory, BadRoots}
+use Rattle.command_io.specs.declared.refusal.CommandRefusal.TheVariants.{Layout, Mutator, Sweep, Trace, Dump, Audit, Moved, CannotOpen, CannotCreate, ReadFailed, CannotPrint, NoSuchWord, BadMarks, OutOfMemory, BadRoots}
 use Rattle.command_io.proofs.Imaged.{of_heap}
 use Rattle.commands.specs.Outcomes.{IsHaltedBy, IsWritten, RefusesInputs, RefusesOutcome}
 use Rattle.commands.specs.Replays.{dumped_of, shown_lines, IsHaltedRun, IsOfWritingRun, PrintsRun, RefusesRun, RefusesTrace, RefusesTraced, SomeRun, StopsRun, Way}
@@ -60,11 +60,13 @@ module _ {F W : Type 0} (way : Way) (disk : Disk F W) (asked : TraceRun) (from t
   of_image (Trace fault) h = absurd h.2
   of_image (Dump fault) h = absurd h.2
   of_image (Audit fault) h = absurd h.2
+  of_image (Moved fault) h = absurd h.2
   of_image (CannotOpen inputs.Image) h = h
   of_image (CannotOpen inputs.Trace) h = absurd h.2
   of_image (CannotOpen inputs.Dump) h = absurd h.2
   of_image (CannotOpen inputs.Marks) h = absurd h.2
   of_image (CannotOpen inputs.Roots) h = absurd h.2
+  of_image (CannotOpen inputs.Moved) h = absurd h.2
   of_image (CannotCreate output) h = absurd h.2
   of_image (ReadFailed input) h = absurd h.2
   of_image CannotPrint h = absurd h.2
@@ -82,17 +84,20 @@ module _ {F W : Type 0} (way : Way) (disk : Disk F W) (asked : TraceRun) (from t
     by_trace kept (Trace fault) h = inl (some_refused disk asked heap image (Trace fault) h, kept)
     by_trace kept (Dump fault) h = absurd h.2
     by_trace kept (Audit fault) h = absurd h.2
+    by_trace kept (Moved fault) h = absurd h.2
     by_trace kept (CannotOpen inputs.Image) h = absurd h.2
     by_trace kept (CannotOpen inputs.Trace) h = (h, some_heap disk asked heap image)
     by_trace kept (CannotOpen inputs.Dump) h = absurd h.2
     by_trace kept (CannotOpen inputs.Marks) h = absurd h.2
     by_trace kept (CannotOpen inputs.Roots) h = absurd h.2
+    by_trace kept (CannotOpen inputs.Moved) h = absurd h.2
     by_trace kept (CannotCreate output) h = absurd h.2
     by_trace kept (ReadFailed inputs.Image) h = absurd h.2
     by_trace kept (ReadFailed inputs.Trace) h = some_refused disk asked heap image (ReadFailed inputs.Trace) h
     by_trace kept (ReadFailed inputs.Dump) h = absurd h.2
     by_trace kept (ReadFailed inputs.Marks) h = absurd h.2
     by_trace kept (ReadFailed inputs.Roots) h = absurd h.2
+    by_trace kept (ReadFailed inputs.Moved) h = absurd h.2
     by_trace kept CannotPrint h = absurd h.2
     by_trace kept (NoSuchWord index) h = absurd h.2
     by_trace kept (BadMarks line) h = absurd h.2
@@ -113,6 +118,7 @@ module _ {F W : Type 0} (way : Way) (disk : Disk F W) (asked : TraceRun) (from t
           inr (some_run disk asked heap image (StopsRun way before after fault) lines trace (shown, h, printed))
       of_halt shown printed (Dump fault) h = absurd h
       of_halt shown printed (Audit fault) h = absurd h
+      of_halt shown printed (Moved fault) h = absurd h
       of_halt shown printed (CannotOpen input) h = absurd h
       of_halt shown printed (CannotCreate output) h = absurd h
       of_halt shown printed (ReadFailed input) h = absurd h
@@ -139,6 +145,7 @@ module _ {F W : Type 0} (way : Way) (disk : Disk F W) (asked : TraceRun) (from t
       of_writing left (Dump faults.OutOfMemory) w = absurd w
       of_writing left (Dump Device) w = by_run (Dump Device) (left, w)
       of_writing left (Audit fault) w = absurd w
+      of_writing left (Moved fault) w = absurd w
       of_writing left (CannotOpen input) w = absurd w
       of_writing left (CannotCreate output) w = by_run (CannotCreate output) (w.0, w.1, left)
       of_writing left (ReadFailed input) w = absurd w
@@ -186,6 +193,7 @@ halted_by cuts lines heap shown cut (Sweep fault) h = absurd h
 halted_by cuts lines heap shown cut (Trace fault) h = cut fault h
 halted_by cuts lines heap shown cut (Dump fault) h = absurd h
 halted_by cuts lines heap shown cut (Audit fault) h = absurd h
+halted_by cuts lines heap shown cut (Moved fault) h = absurd h
 halted_by cuts lines heap shown cut (CannotOpen input) h = absurd h
 halted_by cuts lines heap shown cut (CannotCreate output) h = absurd h
 halted_by cuts lines heap shown cut (ReadFailed input) h = absurd h

@@ -1,13 +1,15 @@
 //! The command `audit`.
 ghost use Rattle.std.specs.Prelude.{◌≡◌, ◌-◌, ◌^◌, ◌<◌, IfOk, IfErr, OnOk};
 ghost use Rattle.heap_layout.specs.Counted.{inner_of, failures_of, writer_of};
-ghost use Rattle.comp_audit.specs.Judged.{faults, Judges};
-ghost use Rattle.commands.specs.Audits.{FailsAudit, HasPassed, IsDumpAt, Passes, RefusesAudit, RefusesDumpAt, SomeAudit};
+ghost use Rattle.comp_audit.specs.Judged.{Judges};
+ghost use Rattle.command_line.specs.Runs.{audit_of};
+ghost use Rattle.commands.specs.Audits.{faults_by, FailsAudit, HasPassed, IsDumpAt, Passes, RefusesAudit, RefusesDumpAt, SomeAudit};
 ghost use Rattle.command_io.specs.Printing.{CountsPrint, RefusedUnprinted};
 ghost use Rattle.command_io.specs.declared.refusal.CommandRefusal.TheVariants as refusals;
 
 use command_io::{CommandRefusal, Files, Input, heap_at, print_line};
-use comp_audit::{Dump, Verdict, audit, read_dump, read_large_dump};
+use command_line::AuditRun;
+use comp_audit::{Dump, Verdict, audit, audit_whole, read_dump, read_large_dump, read_words};
 use comp_dump::dump_is_read_again;
 use heap_layout::{Counted, MarkedHeap};
 use page_plan::Plan;
@@ -15,77 +17,81 @@ use std::alloc::Global;
 use std::io::Write;
 use std::thread::Threads;
 
-/// Audits the dump at `dump` against the heap image at `image`, which is read first. Both are of edition three only if
-/// `large`. If the dump is lawful, prints `ok`
-/// and its live words; else the refusal is its first fault (`Audit`). A refusal other than `CannotPrint` prints
-/// nothing. Fewer than `u64::MAX` calls of the output must have failed before.
+/// Audits the dump at `run.dump` against the heap image at `run.image`, which is read first. Both are of edition three
+/// only if `run.large`. With `run.words` it is a file of words and roots, which stands for a dump. With `run.whole` each
+/// compacted page must be built too. If the dump passes, prints `ok` and its live words; else the refusal is its first
+/// fault (`Audit`). A refusal other than `CannotPrint` prints nothing. Fewer than `u64::MAX` calls of the output must
+/// have failed before.
 pub fn print_audit<F: Files, O: Write>(
     alloc: Global,
     rt: &(impl Threads + Sync),
     files: &F,
-    image: &str,
-    dump: &str,
-    large: bool,
+    run: AuditRun,
     out: &mut Counted<&mut O>,
 ) -> Result<(), CommandRefusal>
     requires written { failures_of out.old < 2 ^ 64 - 1 }
-    ensures passed { OnOk result (SomeAudit (F.disk files.now) large image.now dump.now (Passes (O.contents (inner_of out.old).now) (O.contents (inner_of out.new).now))) }
-    ensures cause { IfErr result (RefusesAudit (F.disk files.now) large image.now dump.now) }
+    ensures passed { OnOk result (SomeAudit (F.disk files.now) (audit_of run.entry) (Passes run.entry.whole (O.contents (inner_of out.old).now) (O.contents (inner_of out.new).now))) }
+    ensures cause { IfErr result (RefusesAudit (F.disk files.now) (audit_of run.entry)) }
     ensures counts { CountsPrint (failures_of out.old) (failures_of out.new) result }
     ensures same_writer { writer_of out.new ≡ writer_of out.old }
     ensures unprinted { RefusedUnprinted (O.contents (inner_of out.old).now) (O.contents (inner_of out.new).now) result }
 {
-    let words = audited_words(alloc, rt, files, image, dump, large)?;
+    let words = audited_words(alloc, rt, files, &run)?;
     print_line("ok ", words, out)
 }
 
-// The live words of the dump at `dump`, if it is lawful for the heap image at `image`. The image is read first.
+// The live words of what is audited, if it passes. The image is read first.
 fn audited_words<F: Files>(
     alloc: Global,
     rt: &(impl Threads + Sync),
     files: &F,
-    image: &str,
-    dump: &str,
-    large: bool,
+    run: &AuditRun,
 ) -> Result<u64, CommandRefusal>
-    ensures passed { IfOk result (λ words. SomeAudit (F.disk files.now) large image.now dump.now (HasPassed words)) }
-    ensures cause { IfErr result (FailsAudit (F.disk files.now) large image.now dump.now) }
+    ensures passed { IfOk result (λ words. SomeAudit (F.disk files.now) (audit_of run.now) (HasPassed run.now.whole words)) }
+    ensures cause { IfErr result (FailsAudit (F.disk files.now) (audit_of run.now)) }
 {
-    let heap = heap_at(alloc, files, image, large)?;
-    let judged = dump_at(alloc, files, dump, large)?;
-    match verdict_of(alloc, rt, heap, &judged)? {
+    let heap = heap_at(alloc, files, run.image, run.large)?;
+    let judged = dump_at(alloc, files, run)?;
+    match verdict_of(alloc, rt, heap, &judged, run.whole)? {
         Verdict::Yes => Ok(judged.live_words()),
         Verdict::No(fault) => Err(CommandRefusal::Audit(fault)),
     }
 }
 
-// Whether a compaction of the heap can have left the dump. It fails only if memory runs out.
+// Whether a compaction of the heap can have left the dump, with each compacted page built if it is to be `whole`. It
+// fails only if memory runs out.
 fn verdict_of(
     alloc: Global,
     rt: &(impl Threads + Sync),
     heap: MarkedHeap,
     dump: &Dump<'_>,
+    whole: bool,
 ) -> Result<Verdict, CommandRefusal>
-    ensures verdict { IfOk result (Judges (faults heap dump.now)) }
+    ensures verdict { IfOk result (Judges (faults_by whole heap dump.now)) }
     ensures cause { IfErr result (λ refusal. refusal ≡ refusals.OutOfMemory) }
 {
     let plan = Plan::new(alloc, rt, heap)?;
-    Ok(audit(alloc, &plan, dump)?)
+    if whole {
+        Ok(audit_whole(alloc, &plan, dump)?)
+    } else {
+        Ok(audit(alloc, &plan, dump)?)
+    }
 }
 
-// Reads the dump at a path, of edition three only if `large`.
+// Reads what is audited: a file of words and roots, or a dump.
 fn dump_at<F: Files>(
     alloc: Global,
     files: &F,
-    path: &str,
-    large: bool,
+    run: &AuditRun,
 ) -> Result<Dump<'static>, CommandRefusal>
-    ensures dump { IfOk result (IsDumpAt (F.disk files.now) large path.now) }
-    ensures cause { IfErr result (RefusesDumpAt (F.disk files.now) large path.now) }
+    ensures dump { IfOk result (IsDumpAt (F.disk files.now) (audit_of run.now)) }
+    ensures cause { IfErr result (RefusesDumpAt (F.disk files.now) (audit_of run.now)) }
 {
-    let mut reader = Counted::new(files.open(Input::Dump, path)?);
+    let mut reader = Counted::new(files.open(Input::Dump, run.dump)?);
     dump_is_read_again();
-    if large {
+    if run.words {
+        Ok(read_words(alloc, &mut reader, run.large)?)
+    } else if run.large {
         Ok(read_large_dump(alloc, &mut reader)?)
     } else {
         Ok(read_dump(alloc, &mut reader)?)

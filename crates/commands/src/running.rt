@@ -16,6 +16,7 @@ ghost use Rattle.commands.specs.declared.running.Unanswered.TheVariants.{Misused
 use crate::audit::print_audit;
 use crate::compact::print_compact;
 use crate::mark::print_mark;
+use crate::moved::print_moved;
 use crate::next::print_next;
 use crate::plan::print_plan;
 use crate::race::print_race;
@@ -175,11 +176,14 @@ fn print_task<R: Threads + Wait + Sync, F: Files, O: Write>(
             workers,
             large,
         } => print_compact(alloc, rt, files, image, dump, workers, large, out),
-        Task::Audit { image, dump, large } => {
-            print_audit(alloc, rt, &*files, image, dump, large, out)
-        }
+        Task::Audit(run) => print_audit(alloc, rt, &*files, run, out),
         Task::Next(run) => print_next(alloc, rt, files, run, out),
         Task::Mark { image, new, large } => print_mark(alloc, rt, files, image, new, large, out),
+        Task::Moved {
+            image,
+            moved,
+            large,
+        } => print_moved(alloc, &*files, image, moved, large, out),
         Task::Help { text } => print_help(&text, out),
         Task::Version => print_text(VERSION_LINE, out),
     }

@@ -5,11 +5,13 @@ use Rattle.clap.specs.Words.{fault_of, found_of, one_text, rows_of, subcommand_n
 use Rattle.clap.specs.declared.parser.matches.ArgMatches.{ArgMatches}
 use Rattle.clap.specs.declared.parser.matches.Found.{Found}
 use Rattle.command_line.specs.Parser.{program}
-use Rattle.command_line.specs.Forms.{Form, audit_form, compact_form, mark_form, next_form, plan_form, race_form, replay_form, standing, text, word_form}
+use Rattle.command_line.specs.Forms.{Form, audit_form, compact_form, mark_form, moved_form, next_form, plan_form, race_form, replay_form, standing, text, word_form}
 use Rattle.command_line.specs.Nexts.{next_of}
-use Rattle.command_line.specs.Runs.{run_of}
-use Rattle.command_line.proofs.TopLevel.{IsCommand, standing_audit, standing_compact, standing_mark, standing_next, standing_plan, standing_program, standing_race, standing_replay, standing_word}
-use Rattle.command_line.proofs.Found.{CommandAsked, argument_there, audit_asked, bounded_number, command_asked, compact_asked, entered_as, index_there, mark_asked, none_entered, none_of_standing, plan_asked, run_asked, run_found, same_name, texts_utf8, word_asked, workers_fit, workers_within}
+use Rattle.command_line.specs.Runs.{audit_of, run_of}
+use Rattle.command_line.proofs.TopLevel.{IsCommand, standing_audit, standing_compact, standing_mark, standing_moved, standing_next, standing_plan, standing_program, standing_race, standing_replay, standing_word}
+use Rattle.command_line.proofs.Found.{CommandAsked, argument_there, bounded_number, command_asked, compact_asked, entered_as, index_there, mark_asked, none_entered, none_of_standing, plan_asked, run_asked, run_found, same_name, texts_utf8, word_asked, workers_fit, workers_within}
+use Rattle.command_line.proofs.AuditFound.{audit_asked, audit_found}
+use Rattle.command_line.proofs.MovedFound.{moved_asked}
 use Rattle.command_line.proofs.NextFound.{next_asked, next_found}
 use Rattle.command_line.proofs.words.task_of.Goals as goal
 
@@ -94,17 +96,11 @@ text_of-requires-in-compact-2 c =
     let given = given_to c.args.reaches compact_form (standing_compact c.args.reaches) c.args.words.now c.args.matches.now c.in-Some.name.now f c.in-compact.is c.requires.taken c.requires.found c.in-Some.ensures.name c.in-Some.ensures.rows in
     argument_there (map string_bytes c.args.words.now) f compact_form given (text (codes "DUMP")) refl
 
-pub text_of-requires-in-audit : goal.text_of-requires-in-audit
-text_of-requires-in-audit c =
+pub audit_run-requires : goal.audit_run-requires
+audit_run-requires c =
     let f = found_of c.in-Some.found.now in
     let given = given_to c.args.reaches audit_form (standing_audit c.args.reaches) c.args.words.now c.args.matches.now c.in-Some.name.now f c.in-audit.is c.requires.taken c.requires.found c.in-Some.ensures.name c.in-Some.ensures.rows in
-    argument_there (map string_bytes c.args.words.now) f audit_form given (text (codes "IMAGE")) refl
-
-pub text_of-requires-in-audit-2 : goal.text_of-requires-in-audit-2
-text_of-requires-in-audit-2 c =
-    let f = found_of c.in-Some.found.now in
-    let given = given_to c.args.reaches audit_form (standing_audit c.args.reaches) c.args.words.now c.args.matches.now c.in-Some.name.now f c.in-audit.is c.requires.taken c.requires.found c.in-Some.ensures.name c.in-Some.ensures.rows in
-    argument_there (map string_bytes c.args.words.now) f audit_form given (text (codes "DUMP")) refl
+    audit_found (map string_bytes c.args.words.now) f given
 
 pub count_of-requires : goal.count_of-requires
 count_of-requires c =
@@ -135,8 +131,7 @@ pub returns-in-audit-clause-asked : goal.returns-in-audit-clause-asked
 returns-in-audit-clause-asked c =
     let f = found_of c.in-Some.found.now in
     let given = given_to c.args.reaches audit_form (standing_audit c.args.reaches) c.args.words.now c.args.matches.now c.in-Some.name.now f c.in-audit.is c.requires.taken c.requires.found c.in-Some.ensures.name c.in-Some.ensures.rows in
-    audit_asked (map string_bytes c.args.words.now) f given c.text_of-in-audit.result.now c.text_of-in-audit-2.result.now c.is_large-in-audit.result
-    c.text_of-in-audit.ensures c.text_of-in-audit-2.ensures c.is_large-in-audit.ensures
+    audit_asked (map string_bytes c.args.words.now) f given (audit_of c.audit_run.result) c.audit_run.ensures
 
 pub next_run-requires : goal.next_run-requires
 next_run-requires c =
@@ -172,13 +167,32 @@ returns-in-mark-clause-asked c =
     mark_asked (map string_bytes c.args.words.now) f given c.text_of-in-mark.result.now c.text_of-in-mark-2.result.now c.is_large-in-mark.result
     c.text_of-in-mark.ensures c.text_of-in-mark-2.ensures c.is_large-in-mark.ensures
 
+pub text_of-requires-in-moved : goal.text_of-requires-in-moved
+text_of-requires-in-moved c =
+    let f = found_of c.in-Some.found.now in
+    let given = given_to c.args.reaches moved_form (standing_moved c.args.reaches) c.args.words.now c.args.matches.now c.in-Some.name.now f c.in-moved.is c.requires.taken c.requires.found c.in-Some.ensures.name c.in-Some.ensures.rows in
+    argument_there (map string_bytes c.args.words.now) f moved_form given (text (codes "IMAGE")) refl
+
+pub text_of-requires-in-moved-2 : goal.text_of-requires-in-moved-2
+text_of-requires-in-moved-2 c =
+    let f = found_of c.in-Some.found.now in
+    let given = given_to c.args.reaches moved_form (standing_moved c.args.reaches) c.args.words.now c.args.matches.now c.in-Some.name.now f c.in-moved.is c.requires.taken c.requires.found c.in-Some.ensures.name c.in-Some.ensures.rows in
+    argument_there (map string_bytes c.args.words.now) f moved_form given (text (codes "MOVED")) refl
+
+pub returns-in-moved-clause-asked : goal.returns-in-moved-clause-asked
+returns-in-moved-clause-asked c =
+    let f = found_of c.in-Some.found.now in
+    let given = given_to c.args.reaches moved_form (standing_moved c.args.reaches) c.args.words.now c.args.matches.now c.in-Some.name.now f c.in-moved.is c.requires.taken c.requires.found c.in-Some.ensures.name c.in-Some.ensures.rows in
+    moved_asked (map string_bytes c.args.words.now) f given c.text_of-in-moved.result.now c.text_of-in-moved-2.result.now c.is_large-in-moved.result
+    c.text_of-in-moved.ensures c.text_of-in-moved-2.ensures c.is_large-in-moved.ensures
+
 -- no command was entered, which cannot be
 pub unreachable-requires : goal.unreachable-requires
 unreachable-requires c =
     let words = map string_bytes c.args.words.now in
     let found = none_entered c.args.matches.now (subcommand_of (program (standing c.args.reaches)) words) c.requires.found c.in_default.ensures.name in
     none_of_standing c.args.reaches words None (texts_utf8 c.args.words.now) c.requires.taken found (λ rows e. cc) (λ rows e. cc) (λ rows e. cc) (λ rows e. cc)
-    (λ rows e. cc) (λ rows e. cc) (λ rows e. cc) (λ rows e. cc)
+    (λ rows e. cc) (λ rows e. cc) (λ rows e. cc) (λ rows e. cc) (λ rows e. cc)
 
 -- or one by another name
 pub unreachable-requires-in_default-name : goal.unreachable-requires-in_default-name
@@ -193,3 +207,4 @@ unreachable-requires-in_default-name c =
     (λ rows e. other.not-replay (same_name _ name _ mine rows refl e)) (λ rows e. other.not-race (same_name _ name _ mine rows refl e))
     (λ rows e. other.not-compact (same_name _ name _ mine rows refl e)) (λ rows e. other.not-audit (same_name _ name _ mine rows refl e))
     (λ rows e. other.not-next (same_name _ name _ mine rows refl e)) (λ rows e. other.not-mark (same_name _ name _ mine rows refl e))
+    (λ rows e. other.not-moved (same_name _ name _ mine rows refl e))

@@ -1,8 +1,9 @@
 use Rattle.std.proofs.Common.{subst}
-use Rattle.comp_audit.specs.Judged.{faults, Judges}
+use Rattle.command_line.specs.Runs.{audit_of}
+use Rattle.comp_audit.specs.Judged.{Judges}
 use Rattle.comp_audit.specs.declared.verdict.Verdict.{Verdict}
 use Rattle.comp_audit.specs.declared.verdict.Verdict.TheVariants.{No}
-use Rattle.commands.specs.Audits.{HasPassed}
+use Rattle.commands.specs.Audits.{faults_by, HasPassed}
 use Rattle.commands.proofs.Audited.{of_both}
 use Rattle.commands.proofs.audit.audited_words.Goals as goal
 
@@ -10,13 +11,13 @@ pub returns-in-Yes-clause-passed : goal.returns-in-Yes-clause-passed
 returns-in-Yes-clause-passed g c =
     let heap = c.in_ok-heap.heap in
     let dump = c.in_ok-judged.judged in
-    let yes = subst (λ (v : Verdict). Judges (faults heap dump) v) c.in-Yes.is c.in_ok-verdict_of.ensures.verdict in
-    of_both (g.F.Files.disk c.args.files.now) c.args.large c.args.image.now c.args.dump.now heap c.in_ok-heap.ensures.heap dump c.in_ok-judged.ensures.dump (HasPassed c.live_words.result)
+    let yes = subst (λ (v : Verdict). Judges (faults_by c.args.run.now.whole heap dump) v) c.in-Yes.is c.in_ok-verdict_of.ensures.verdict in
+    of_both (g.F.Files.disk c.args.files.now) (audit_of c.args.run.now) heap c.in_ok-heap.ensures.heap dump c.in_ok-judged.ensures.dump (HasPassed c.args.run.now.whole c.live_words.result)
     (record { judged = yes; total = c.live_words.ensures.total })
 
 pub returns-clause-cause : goal.returns-clause-cause
 returns-clause-cause g c =
     let heap = c.in_ok-heap.heap in
     let dump = c.in_ok-judged.judged in
-    let no = subst (λ (v : Verdict). Judges (faults heap dump) v) c.in-No.is c.in_ok-verdict_of.ensures.verdict in
-    of_both (g.F.Files.disk c.args.files.now) c.args.large c.args.image.now c.args.dump.now heap c.in_ok-heap.ensures.heap dump c.in_ok-judged.ensures.dump (λ h d. Judges (faults h d) (No c.in-No.fault)) no
+    let no = subst (λ (v : Verdict). Judges (faults_by c.args.run.now.whole heap dump) v) c.in-No.is c.in_ok-verdict_of.ensures.verdict in
+    of_both (g.F.Files.disk c.args.files.now) (audit_of c.args.run.now) heap c.in_ok-heap.ensures.heap dump c.in_ok-judged.ensures.dump (λ h d. Judges (faults_by c.args.run.now.whole h d) (No c.in-No.fault)) no

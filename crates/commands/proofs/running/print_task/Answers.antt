@@ -57,9 +57,17 @@ pub returns-in-Audit-clause-done : goal.returns-in-Audit-clause-done
 returns-in-Audit-clause-done g c =
     subst (λ (task : Task). OnOk c.print_audit.result (DoesTask (g.F.Files.disk c.args.files.now) c.args.files.now (g.O.Write.contents (inner_of c.args.out.now).now) (g.O.Write.contents (inner_of c.print_audit.new.out).now) task)) (sym c.in-Audit.is) c.print_audit.ensures.passed
 
+pub returns-in-Moved-clause-done : goal.returns-in-Moved-clause-done
+returns-in-Moved-clause-done g c =
+    subst (λ (task : Task). OnOk c.print_moved.result (DoesTask (g.F.Files.disk c.args.files.now) c.args.files.now (g.O.Write.contents (inner_of c.args.out.now).now) (g.O.Write.contents (inner_of c.print_moved.new.out).now) task)) (sym c.in-Moved.is) c.print_moved.ensures.passed
+
 pub returns-in-Audit-clause-cause : goal.returns-in-Audit-clause-cause
 returns-in-Audit-clause-cause g c =
     subst (λ (task : Task). IfErr c.print_audit.result (RefusesTask (g.F.Files.disk c.args.files.now) c.args.files.now c.args.files.now (g.O.Write.contents (inner_of c.args.out.now).now) (g.O.Write.contents (inner_of c.print_audit.new.out).now) task)) (sym c.in-Audit.is) c.print_audit.ensures.cause
+
+pub returns-in-Moved-clause-cause : goal.returns-in-Moved-clause-cause
+returns-in-Moved-clause-cause g c =
+    subst (λ (task : Task). IfErr c.print_moved.result (RefusesTask (g.F.Files.disk c.args.files.now) c.args.files.now c.args.files.now (g.O.Write.contents (inner_of c.args.out.now).now) (g.O.Write.contents (inner_of c.print_moved.new.out).now) task)) (sym c.in-Moved.is) c.print_moved.ensures.cause
 
 pub returns-in-Next-clause-done : goal.returns-in-Next-clause-done
 returns-in-Next-clause-done g c =
@@ -133,8 +141,14 @@ returns-in-Compact-clause-same_writer g c = c.print_compact.ensures.same_writer
 pub returns-in-Audit-clause-counts : goal.returns-in-Audit-clause-counts
 returns-in-Audit-clause-counts g c = c.print_audit.ensures.counts
 
+pub returns-in-Moved-clause-counts : goal.returns-in-Moved-clause-counts
+returns-in-Moved-clause-counts g c = c.print_moved.ensures.counts
+
 pub returns-in-Audit-clause-same_writer : goal.returns-in-Audit-clause-same_writer
 returns-in-Audit-clause-same_writer g c = c.print_audit.ensures.same_writer
+
+pub returns-in-Moved-clause-same_writer : goal.returns-in-Moved-clause-same_writer
+returns-in-Moved-clause-same_writer g c = c.print_moved.ensures.same_writer
 
 pub returns-in-Mark-clause-counts : goal.returns-in-Mark-clause-counts
 returns-in-Mark-clause-counts g c = c.print_mark.ensures.counts
@@ -177,6 +191,9 @@ returns-in-Word-clause-uncreated g c = unmade_anyway (g.F.Files.disk c.args.file
 
 pub returns-in-Audit-clause-uncreated : goal.returns-in-Audit-clause-uncreated
 returns-in-Audit-clause-uncreated g c = unmade_anyway (g.F.Files.disk c.args.files.now) c.args.files.now c.print_audit.result
+
+pub returns-in-Moved-clause-uncreated : goal.returns-in-Moved-clause-uncreated
+returns-in-Moved-clause-uncreated g c = unmade_anyway (g.F.Files.disk c.args.files.now) c.args.files.now c.print_moved.result
 
 pub returns-in-Help-clause-uncreated : goal.returns-in-Help-clause-uncreated
 returns-in-Help-clause-uncreated g c = unmade_anyway (g.F.Files.disk c.args.files.now) c.args.files.now c.print_help.result

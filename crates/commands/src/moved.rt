@@ -1,0 +1,96 @@
+//! The command `moved`.
+ghost use Rattle.std.specs.Prelude.{◌≡◌, ◌-◌, ◌^◌, ◌<◌, IfOk, IfErr, OnOk, OnErr, Err};
+ghost use Rattle.std.specs.Io.KnownBytes.{Appends};
+ghost use Rattle.heap_layout.specs.Counted.{inner_of, failures_of, writer_of};
+ghost use Rattle.command_io.specs.Printing.{CountsPrint, RefusedUnprinted};
+ghost use Rattle.command_io.specs.declared.refusal.CommandRefusal.TheVariants as refusals;
+ghost use Rattle.commands.specs.Moving.{moves_lines, refusal_of, FailsMoved, HasMoved, IsMovedAt, PrintsMoves, RefusesMoved, RefusesMovedAt, SomeMove};
+
+use command_io::{CommandRefusal, Files, Input, heap_at, print_line};
+use heap_layout::Counted;
+use moved_heaps::{MovedFault, MovedHeap, Moves, judge, moved_is_read_again, read_moved};
+use std::alloc::Global;
+use std::io::Write;
+
+/// Judges the moved heap at `moved` against the heap image at `image`, which is read first. Both are of edition three only
+/// if `large`. If a collection may have left it, prints `ok` and the words of the objects that moved, and then `objects`
+/// and how many these are; else the refusal is its first fault (`Moved`), but `OutOfMemory` if memory ran out. A refusal
+/// other than `CannotPrint` prints nothing. Fewer than `u64::MAX` calls of the output must have failed before.
+pub fn print_moved<F: Files, O: Write>(
+    alloc: Global,
+    files: &F,
+    image: &str,
+    moved: &str,
+    large: bool,
+    out: &mut Counted<&mut O>,
+) -> Result<(), CommandRefusal>
+    requires written { failures_of out.old < 2 ^ 64 - 1 }
+    ensures passed { OnOk result (SomeMove (F.disk files.now) large image.now moved.now (PrintsMoves (O.contents (inner_of out.old).now) (O.contents (inner_of out.new).now))) }
+    ensures cause { IfErr result (RefusesMoved (F.disk files.now) large image.now moved.now) }
+    ensures counts { CountsPrint (failures_of out.old) (failures_of out.new) result }
+    ensures same_writer { writer_of out.new ≡ writer_of out.old }
+    ensures unprinted { RefusedUnprinted (O.contents (inner_of out.old).now) (O.contents (inner_of out.new).now) result }
+{
+    let moves = moves_at(alloc, files, image, moved, large)?;
+    print_moves(moves, out)
+}
+
+// Prints the words that moved, and how many objects.
+fn print_moves<O: Write>(moves: Moves, out: &mut Counted<&mut O>) -> Result<(), CommandRefusal>
+    requires { failures_of out.old < 2 ^ 64 - 1 }
+    ensures printed { OnOk result (Appends (O.contents (inner_of out.old).now) (O.contents (inner_of out.new).now) (moves_lines moves.words moves.objects)) }
+    ensures cause { OnErr result (result ≡ Err refusals.CannotPrint) }
+    ensures counts { CountsPrint (failures_of out.old) (failures_of out.new) result }
+    ensures same_writer { writer_of out.new ≡ writer_of out.old }
+{
+    print_line("ok ", moves.words, out)?;
+    print_line("objects ", moves.objects, out)
+}
+
+// What moved, if a collection of the heap image at `image` may have left the moved heap at `path`. The image is read first.
+fn moves_at<F: Files>(
+    alloc: Global,
+    files: &F,
+    image: &str,
+    path: &str,
+    large: bool,
+) -> Result<Moves, CommandRefusal>
+    ensures passed { IfOk result (λ moves. SomeMove (F.disk files.now) large image.now path.now (HasMoved moves)) }
+    ensures cause { IfErr result (FailsMoved (F.disk files.now) large image.now path.now) }
+{
+    let heap = heap_at(alloc, files, image, large)?;
+    let moved = moved_at(alloc, files, path, large)?;
+    match judge(alloc, &heap, &moved) {
+        Ok(moves) => Ok(moves),
+        Err(fault) => Err(refusal_of(fault)),
+    }
+}
+
+// How the command refuses a moved heap with this fault.
+fn refusal_of(fault: MovedFault) -> CommandRefusal
+    ensures { result ≡ refusal_of fault }
+{
+    match fault {
+        MovedFault::OutOfMemory => CommandRefusal::OutOfMemory,
+        MovedFault::WrongHead(_)
+        | MovedFault::PlaceOutside(_)
+        | MovedFault::Overlap(_, _)
+        | MovedFault::WrongRoot(_)
+        | MovedFault::WrongWord(_, _) => CommandRefusal::Moved(fault),
+    }
+}
+
+// Reads the moved heap at a path, of edition three only if `large`.
+fn moved_at<F: Files>(
+    alloc: Global,
+    files: &F,
+    path: &str,
+    large: bool,
+) -> Result<MovedHeap, CommandRefusal>
+    ensures moved { IfOk result (IsMovedAt (F.disk files.now) large path.now) }
+    ensures cause { IfErr result (RefusesMovedAt (F.disk files.now) large path.now) }
+{
+    let mut reader = Counted::new(files.open(Input::Moved, path)?);
+    moved_is_read_again();
+    Ok(read_moved(alloc, &mut reader, large)?)
+}
