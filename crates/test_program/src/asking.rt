@@ -55,7 +55,7 @@ fn expect_rows(rt: &(impl Abort + AllocGlobal), rows: &[Row]) {
 }
 
 // Lines and the tasks that they ask for.
-static TASKS: [Row; 41] = [
+static TASKS: [Row; 48] = [
     (
         "plan three.img",
         "Plan { image: \"three.img\", large: false }",
@@ -127,15 +127,15 @@ static TASKS: [Row; 41] = [
     ),
     (
         "audit three.img forged.dump",
-        "Audit { image: \"three.img\", dump: \"forged.dump\", large: false }",
+        "Audit(AuditRun { image: \"three.img\", dump: \"forged.dump\", whole: false, words: false, large: false })",
     ),
     (
         "audit a -- -b",
-        "Audit { image: \"a\", dump: \"-b\", large: false }",
+        "Audit(AuditRun { image: \"a\", dump: \"-b\", whole: false, words: false, large: false })",
     ),
     (
         "audit -- --help --",
-        "Audit { image: \"--help\", dump: \"--\", large: false }",
+        "Audit(AuditRun { image: \"--help\", dump: \"--\", whole: false, words: false, large: false })",
     ),
     (
         "next three.img t18 m new",
@@ -175,7 +175,23 @@ static TASKS: [Row; 41] = [
     ),
     (
         "audit a --large b",
-        "Audit { image: \"a\", dump: \"b\", large: true }",
+        "Audit(AuditRun { image: \"a\", dump: \"b\", whole: false, words: false, large: true })",
+    ),
+    (
+        "audit --whole a b",
+        "Audit(AuditRun { image: \"a\", dump: \"b\", whole: true, words: false, large: false })",
+    ),
+    (
+        "audit a b --words",
+        "Audit(AuditRun { image: \"a\", dump: \"b\", whole: false, words: true, large: false })",
+    ),
+    (
+        "audit --words a --large b --whole",
+        "Audit(AuditRun { image: \"a\", dump: \"b\", whole: true, words: true, large: true })",
+    ),
+    (
+        "audit a -- --words",
+        "Audit(AuditRun { image: \"a\", dump: \"--words\", whole: false, words: false, large: false })",
     ),
     (
         "mark three.img new.img",
@@ -192,6 +208,18 @@ static TASKS: [Row; 41] = [
     (
         "mark -- mark --",
         "Mark { image: \"mark\", new: \"--\", large: false }",
+    ),
+    (
+        "moved three.img three.moved",
+        "Moved { image: \"three.img\", moved: \"three.moved\", large: false }",
+    ),
+    (
+        "moved --large a b",
+        "Moved { image: \"a\", moved: \"b\", large: true }",
+    ),
+    (
+        "moved a -- --large",
+        "Moved { image: \"a\", moved: \"--large\", large: false }",
     ),
     (
         "next --large a t m n",
@@ -225,7 +253,7 @@ fn words_ask_for_these_tasks(rt: HostRuntime) {
 }
 
 // Lines that ask for help.
-static HELPS: [&str; 18] = [
+static HELPS: [&str; 20] = [
     "--help",
     "-h",
     "-hx",
@@ -243,6 +271,8 @@ static HELPS: [&str; 18] = [
     "audit a --help",
     "help mark",
     "mark a -h",
+    "help moved",
+    "moved a -h",
     "next --reachable --help",
 ];
 
@@ -266,7 +296,7 @@ fn version_is_printed_for_these_words(rt: HostRuntime) {
 }
 
 // Lines that are no command.
-static NO_COMMANDS: [&str; 77] = [
+static NO_COMMANDS: [&str; 86] = [
     "plan --large",
     "plan --large --large a",
     "audit --large=1 a b",
@@ -323,12 +353,21 @@ static NO_COMMANDS: [&str; 77] = [
     "audit --workers 2 a b",
     "audit a b --fresh 2",
     "audit a -b",
+    "audit --whole --whole a b",
+    "audit --words=1 a b",
+    "audit --words a",
+    "plan --whole a",
     "mark",
     "mark a",
     "mark a b c",
     "mark --large --large a b",
     "mark a b --mutators 1",
     "mark a -b",
+    "moved",
+    "moved a",
+    "moved a b c",
+    "moved --whole a b",
+    "moved a -b",
     "plan --workers 2 three.img",
     "--workers 2 compact a b",
     "next a t n",

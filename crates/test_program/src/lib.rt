@@ -15,6 +15,8 @@ mod launching;
 #[cfg(test)]
 mod marking;
 #[cfg(test)]
+mod moving;
+#[cfg(test)]
 mod printing;
 #[cfg(test)]
 mod programs;
@@ -30,3 +32,5 @@ mod runs;
 mod tables;
 #[cfg(test)]
 mod weak;
+#[cfg(test)]
+mod wording;

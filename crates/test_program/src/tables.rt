@@ -1,7 +1,9 @@
 //! The tables of all runs. One test runs all of them, since that costs its proof less than a test for each.
 use crate::printing::{LINES, REMOVED, WRITTEN, expect_lines};
 use crate::runs::take_steps;
-use crate::{cycling, judging, large, marking, programs, racing, reaching, replaying, weak};
+use crate::{
+    cycling, judging, large, marking, moving, programs, racing, reaching, replaying, weak, wording,
+};
 use std::rt::Files;
 use std::sync::Wait;
 use std::test::Fail;
@@ -10,12 +12,14 @@ use test_support::Step;
 
 // All tables. The last one writes the files that `LINES` read. As a constant they would cost the proof of the test five
 // times as much.
-fn tables() -> [&'static [Step]; 25] {
+fn tables() -> [&'static [Step]; 30] {
     [
         programs::STEPS,
         judging::PASSED,
         judging::JUDGED,
         judging::FORGED,
+        wording::WHOLES,
+        wording::WORDED,
         racing::RACED,
         racing::HALTED,
         replaying::REPLAYED,
@@ -29,6 +33,9 @@ fn tables() -> [&'static [Step]; 25] {
         marking::MARKED,
         marking::EDITIONS,
         marking::REFUSED,
+        moving::LAWFUL,
+        moving::UNLAWFUL,
+        moving::REFUSED,
         reaching::REACHED,
         reaching::ROOTS_NAMED,
         reaching::REFUSED,

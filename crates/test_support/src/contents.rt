@@ -2,8 +2,9 @@
 //! it.
 use crate::changes::{Change, VERSION, WEAK_WORD, make_change};
 use crate::images::{
-    BAD_ROOT_IMAGE, EMPTY_IMAGE, FRESH_DUMP, MARKED_IMAGE, THREE_IMAGE, TWENTY_IMAGE, WEAK_DUMP,
-    WEAK_IMAGE, WEAK_SWEPT_DUMP,
+    BAD_ROOT_IMAGE, EMPTY_IMAGE, FRESH_DUMP, LARGE_WORDS, LONGER_WORDS, MARKED_IMAGE, MOVED,
+    THREE_IMAGE, THREE_WORDS, TWENTY_IMAGE, UNBUILT_DUMP, WEAK_DUMP, WEAK_IMAGE, WEAK_MOVED,
+    WEAK_SWEPT_DUMP,
 };
 use crate::parts::{Part, bytes_of};
 use std::alloc::{AllocError, Global};
@@ -48,6 +49,18 @@ pub enum Content {
     LargeImage,
     /// The dump after the same run in edition three.
     LargeDump,
+    /// What a collection left that moved the three objects backwards, with two changes.
+    ForgedMoved(Change, Change),
+    /// What a collection left that moved the three objects of edition two backwards, with two changes.
+    ForgedWeakMoved(Change, Change),
+    /// A dump of the three objects of which no page was built, with a change.
+    UnbuiltDump(Change),
+    /// The words of the three objects after sliding, with a change.
+    ThreeWords(Change),
+    /// The same words with a word 0 after them.
+    LongerWords,
+    /// The words of the three objects of edition two after sliding, in edition three.
+    LargeWords,
 }
 
 const SEEN_TRACE: &[u8] =
@@ -88,6 +101,12 @@ pub fn bytes_in(alloc: Global, content: Content) -> Result<Vec<u8>, AllocError> 
             changed(alloc, &WEAK_IMAGE, Change::Byte(VERSION, 3), Change::None)
         }
         Content::LargeDump => changed(alloc, &WEAK_DUMP, Change::Byte(VERSION, 3), Change::None),
+        Content::ForgedMoved(first, second) => changed(alloc, &MOVED, first, second),
+        Content::ForgedWeakMoved(first, second) => changed(alloc, &WEAK_MOVED, first, second),
+        Content::UnbuiltDump(change) => changed(alloc, &UNBUILT_DUMP, change, Change::None),
+        Content::ThreeWords(change) => changed(alloc, &THREE_WORDS, change, Change::None),
+        Content::LongerWords => bytes_of(alloc, &LONGER_WORDS),
+        Content::LargeWords => bytes_of(alloc, &LARGE_WORDS),
     }
 }
 

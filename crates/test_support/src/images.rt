@@ -140,3 +140,84 @@ pub const BAD_ROOT_IMAGE: [Part; 5] = [
     Part::Numbers(&[0, 5]),
     Part::Words(&[4_294_967_297]),
 ];
+
+/// What a collection left of the three objects that moved them backwards: the last is at 0, the second at 3 and the first
+/// at 7. The words at 2 and 6 are free.
+pub const MOVED: [Part; 5] = [
+    Part::Bytes(b"COMPMOVE"),
+    Part::Numbers(&[1, 3, 1, 9]),
+    Part::Numbers(&[7, 3, 0]),
+    Part::Words(&[8_589_934_592]),
+    Part::Words(&[
+        12_884_901_889,
+        8_589_934_599,
+        77,
+        8_590_000_129,
+        0,
+        22,
+        77,
+        4_295_032_832,
+        11,
+    ]),
+];
+
+/// What a collection left of the three objects of edition two that moved the last to 0 and the first to 2.
+pub const WEAK_MOVED: [Part; 5] = [
+    Part::Bytes(b"COMPMOVE"),
+    Part::Numbers(&[2, 2, 1, 6]),
+    Part::Numbers(&[2, 0]),
+    Part::Words(&[8_589_934_592]),
+    Part::Words(&[
+        844_424_930_131_969,
+        8_589_934_594,
+        281_483_566_710_784,
+        0,
+        8_589_934_592,
+        9,
+    ]),
+];
+
+/// A dump of the three objects of which no page was built: 49 bytes.
+pub const UNBUILT_DUMP: [Part; 6] = [
+    Part::Bytes(b"COMPDUMP"),
+    Part::Numbers(&[1, 1, 0, 1, 1]),
+    Part::Words(&[8_589_934_594]),
+    Part::Bytes(&[0]),
+    Part::Numbers(&[0]),
+    Part::Words(&[4]),
+];
+
+/// The words of the three objects after sliding, with their root: 60 bytes.
+pub const THREE_WORDS: [Part; 4] = [
+    Part::Bytes(b"COMPWORD"),
+    Part::Numbers(&[1, 4, 1]),
+    Part::Words(&[8_589_934_594]),
+    SLID_OBJECTS,
+];
+
+/// The same words with a word 0 after them.
+pub const LONGER_WORDS: [Part; 5] = [
+    Part::Bytes(b"COMPWORD"),
+    Part::Numbers(&[1, 5, 1]),
+    Part::Words(&[8_589_934_594]),
+    SLID_OBJECTS,
+    Part::Words(&[0]),
+];
+
+// The words of the two marked objects after sliding.
+const SLID_OBJECTS: Part = Part::Words(&[4_295_032_832, 11, 12_884_901_889, 8_589_934_592]);
+
+/// The words of the three objects of edition two after sliding, in edition three, with their root: 76 bytes.
+pub const LARGE_WORDS: [Part; 4] = [
+    Part::Bytes(b"COMPWORD"),
+    Part::Numbers(&[3, 6, 1]),
+    Part::Words(&[8_589_934_596]),
+    Part::Words(&[
+        281_483_566_710_784,
+        0,
+        8_589_934_596,
+        9,
+        844_424_930_131_969,
+        8_589_934_592,
+    ]),
+];
