@@ -12,6 +12,7 @@ from pathlib import Path
 
 HERE = Path(__file__).resolve().parent
 FROM = 1 << 32
+TO = 1 << 33
 BEFORE = b"what was there before"
 NAMED = re.compile(
     r"compressor: (P7 OutOfMemory|H11 OutOfMemory|B5 OutOfMemory|T7 OutOfMemory|M8 OutOfMemory|W1 OutOfMemory\(\d+\)|W3 Resources"
@@ -30,7 +31,9 @@ TWENTY = image(([639 << 16] + [0] * 639) * 2, [0, 640], [])
 SEEN = b"0 root 0 0\n0 load 1 0 0\n0 put 1 0 7\n1 root 0 0\n1 load 1 0 0\n1 get 1 0\n"
 FRESH = b"0 root 0 0\n0 new 1 0 0 0\n0 store 0 0 1\n"
 KEPT = b"2\n64\n"
-FILES = {"three.img": THREE, "large.img": LARGE, "twenty.img": TWENTY, "seen.trace": SEEN, "fresh.trace": FRESH, "kept.marks": KEPT, "new.roots": b"0 1\n"}
+WORDS = b"COMPWORD" + struct.pack("<III5Q", 1, 4, 1, TO + 2, 65536 + FROM, 11, 1 + 3 * FROM, TO)
+COPIED = b"COMPMOVE" + struct.pack("<IIII2IQ4Q", 1, 2, 1, 4, 2, 0, TO, 1 + 3 * FROM, TO + 2, 65536 + FROM, 11)
+FILES = {"three.img": THREE, "three.words": WORDS, "three.moved": COPIED, "large.img": LARGE, "twenty.img": TWENTY, "seen.trace": SEEN, "fresh.trace": FRESH, "kept.marks": KEPT, "new.roots": b"0 1\n"}
 
 # the words of a command, what it prints, and how long its dump or its new image is, if it writes one
 COMMANDS = [
@@ -42,6 +45,9 @@ COMMANDS = [
     ("replay --mutators 1 --fresh 2 three.img fresh.trace left.dump", ["live 5\n"], 1129),
     ("race three.img seen.trace left.dump", ["6 7\nlive 4\n", "6 11\nlive 4\n"], 656),
     ("audit three.img fresh.dump", ["ok 5\n"], None),
+    ("audit --whole three.img fresh.dump", ["ok 5\n"], None),
+    ("audit --words three.img three.words", ["ok 4\n"], None),
+    ("moved three.img three.moved", ["ok 4\nobjects 2\n"], None),
     ("next --mutators 1 --fresh 2 three.img fresh.trace kept.marks left.dump", ["live 3\n"], 1576),
     ("next --reachable --mutators 1 --fresh 2 three.img fresh.trace left.dump", ["live 3\n"], 1576),
     ("next --reachable --roots new.roots --mutators 1 --fresh 2 three.img fresh.trace left.dump", ["live 1\n"], 1572),

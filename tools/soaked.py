@@ -11,6 +11,8 @@ import tempfile
 import time
 from pathlib import Path
 
+import elsewhere
+
 FROM = 1 << 32
 TO = 1 << 33
 SECONDS = 60
@@ -178,12 +180,36 @@ class Soak:
             return None
         return self.fault(seed, f"{' '.join(words)}: status {ran.returncode}, {err.strip()!r}")
 
-    def audited(self, seed, what, printed):
-        """The dump that a run left passes, and has the live words that it printed."""
+    def judged(self, seed, told, *words):
+        """A judge says this: a line on standard output, or the name of a fault."""
+        self.runs += 1
+        asked = [self.program, words[0], *self.large, *words[1:]]
+        ran = subprocess.run(asked, cwd=self.folder, capture_output=True, timeout=SECONDS, text=True)
+        wanted = (0, told, "") if told.endswith("\n") else (1, "", f"compressor: {told}\n")
+        if (ran.returncode, ran.stdout, ran.stderr) != wanted:
+            self.fault(seed, f"{' '.join(words)}: {ran.stdout!r}, {ran.stderr!r} in place of {told!r}")
+
+    def audited(self, seed, what, printed, slid):
+        """The dump that a run left passes, and has the live words that it printed; it is whole if all compacted pages were built."""
         live = printed.splitlines()[-1].removeprefix("live ")
         judged = self.run(seed, "audit", "heap.img", "left.dump")
         if judged is not None and judged != f"ok {live}\n":
             self.fault(seed, f"{what}: live {live}, and the audit says {judged!r}")
+        pages = left((self.folder / "left.dump").read_bytes())[1][: -(-slid // 64)]
+        missing = [p for p, page in enumerate(pages) if page is None]
+        self.judged(seed, f"A9 PageMissing({missing[0]})" if missing else f"ok {live}\n", "audit", "--whole", "heap.img", "left.dump")
+
+    def elsewhere(self, seed, draw, image, live):
+        """What other collectors left of the heap: right, and with one fault."""
+        bare, moved = elsewhere.slid(image), elsewhere.scattered(draw, image)
+        lines = f"ok {live}\nobjects {len(moved.places)}\n"
+        for wrong in (False, True):
+            told = elsewhere.break_bare(draw, bare) if wrong else f"ok {live}\n"
+            (self.folder / "heap.words").write_bytes(bare.bare())
+            self.judged(seed, told, "audit", "--words", "heap.img", "heap.words")
+            told = elsewhere.break_moved(draw, moved) if wrong else lines
+            (self.folder / "heap.moved").write_bytes(moved.moved())
+            self.judged(seed, told, "moved", "heap.img", "heap.moved")
 
     def followed(self, seed, draw, edition, slid, swept, few, held, printed):
         """The next cycle after a replay, by marks that look random: its heap is planned, compacted and audited. Then by what the roots
@@ -253,12 +279,13 @@ class Soak:
         self.large = ("--large",) if edition == 3 else ()
         (self.folder / "heap.img").write_bytes(image)
         self.marked(seed, "mark", "heap.img")
+        self.elsewhere(seed, random.Random(-seed), image, live)
         workers = draw.choice((1, 2, 3, 4, 8, 64))
         printed = self.run(seed, "compact", "--workers", str(workers), "heap.img", "left.dump")
         if printed is not None:
             if printed != f"live {live}\n":
                 self.fault(seed, f"compact: {printed!r} in place of live {live}")
-            self.audited(seed, "compact", printed)
+            self.audited(seed, "compact", printed, live)
         swept = left((self.folder / "left.dump").read_bytes())[1] if printed is not None else None
         mutators = draw.choice((1, 2, 4, 16, 64))
         text, held = trace(draw, edition, mutators, roots)
@@ -273,7 +300,7 @@ class Soak:
                 if dump.read_bytes() != BEFORE:
                     self.fault(seed, f"{command}: what was at the path is lost")
             else:
-                self.audited(seed, command, printed)
+                self.audited(seed, command, printed, live)
                 if command == "replay" and swept is not None:
                     self.followed(seed, draw, edition, slid, swept, few, held, printed)
             shown.append(printed)
