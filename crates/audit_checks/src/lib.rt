@@ -18,6 +18,7 @@ mod totals;
 
 pub use checks::check;
 pub use fault::CheckEnd;
+pub use kinds::is_word_of;
 pub use page_words::right_words;
 pub use record::journal_of;
 pub use setting::Setting;

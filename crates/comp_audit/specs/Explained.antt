@@ -17,6 +17,8 @@ use Rattle.comp_dump.specs.declared.fault.AuditFault.{AuditFault}
 use Rattle.comp_dump.specs.declared.fault.AuditFault.TheVariants as fault
 use Rattle.audit_checks.specs.Checks.{all_entries, all_stamps, setup_for}
 use Rattle.comp_audit.specs.Meant.{built_count, journals_of, page_of}
+pub use Rattle.comp_audit.specs.Causes.{maker_of, setup_of, stamp_before}
+use Rattle.comp_audit.specs.Causes.{HasNoCause, IsCauseOf}
 use Rattle.comp_audit.specs.declared.explanation.DumpCounts.{DumpCounts}
 use Rattle.comp_audit.specs.declared.explanation.SlidObject.{SlidObject}
 use Rattle.comp_audit.specs.declared.explanation.OutOfPlace.{OutOfPlace}
@@ -33,10 +35,6 @@ use Rattle.comp_audit.specs.declared.explanation.Claims.{Claims}
 use Rattle.comp_audit.specs.declared.explanation.MissingPage.{MissingPage}
 use Rattle.comp_audit.specs.declared.explanation.Explanation.{Explanation}
 use Rattle.comp_audit.specs.declared.explanation.Explanation.TheVariants as told
-
--- to-space as the heap defines it, with the fresh pages and mutators of a dump
-abbrev pub setup_of : Heap → Dumped → Setup
-setup_of heap dump = setup_for heap dump.fresh dump.mutators
 
 -- how many pages a dump has, how many of them are built, and how many entries these have
 pub record AreCountsOf (dump : Dumped) (counts : DumpCounts) : Type 0 where
@@ -139,16 +137,7 @@ pub record AreClaims (dump : Dumped) (p : ℕ) (claims : Claims) : Type 0 where
   pub second : IfSome claims.first (λ k. IsNextClaim dump.builds p (k + 1) claims.second)
   pub no_second : IfNone claims.first (claims.second ≡ None)
 
--- the stamp of the entry before entry k
-abbrev pub stamp_before : List Entry → ℕ → Option ℕ
-stamp_before journal zero = None
-stamp_before journal (suc k) = option_map (λ (e : Entry). e.stamp) (slice_get journal k)
-
--- the mutator that makes objects on page p; None if it is a compacted page
-abbrev pub maker_of : Setup → ℕ → Option ℕ
-maker_of u p = cond (nat_lt p u.compacted) None (Some ((p - u.compacted) % u.mutators))
-
--- entry k of page p, the stamp of the one before it, and what its page has before it
+-- entry k of page p, the stamp of the one before it, what its page has before it, and why it does not fit
 pub record IsEntryExplained (heap : Heap) (dump : Dumped) (p k : ℕ) (bad : BadEntryAt) : Type 0 where
   pub page : bad.page ≡ p
   pub number : bad.number ≡ k
@@ -156,6 +145,7 @@ pub record IsEntryExplained (heap : Heap) (dump : Dumped) (p k : ℕ) (bad : Bad
   pub stamp_before : bad.stamp_before ≡ stamp_before (journals_of dump p) k
   pub maker : bad.maker ≡ maker_of (setup_of heap dump) p
   pub filled : bad.filled ≡ filled heap.edition (take k (journals_of dump p))
+  pub cause : IsCauseOf heap dump p bad.stamp_before (take k (journals_of dump p)) bad.entry bad.cause
 
 -- how many entries of page p have stamp s
 abbrev pub stamped_on : Dumped → ℕ → ℕ → ℕ
@@ -197,7 +187,7 @@ Explains heap dump (fault.WrongWord a) told.NoSuchFault = word_in dump a ≡ Non
 Explains heap dump (fault.LooseReference a) (told.LooseReference word) = IsLooseExplained dump a word
 Explains heap dump (fault.LooseReference a) told.NoSuchFault = word_in dump a ≡ None
 Explains heap dump (fault.BadEntry p k) (told.BadEntry bad) = IsEntryExplained heap dump p k bad
-Explains heap dump (fault.BadEntry p k) told.NoSuchFault = slice_get (journals_of dump p) k ≡ None
+Explains heap dump (fault.BadEntry p k) told.NoSuchFault = IfSome (slice_get (journals_of dump p) k) (HasNoCause heap dump p (stamp_before (journals_of dump p) k) (take k (journals_of dump p)))
 Explains heap dump (fault.StampRepeated s) (told.StampRepeated uses) = AreUses dump s uses
 Explains heap dump (fault.StampRepeated s) told.NoSuchFault = IsFirstUse dump s None
 Explains heap dump (fault.StampMissing s) (told.StampMissing lost) = IsLost dump s lost

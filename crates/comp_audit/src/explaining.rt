@@ -2,9 +2,11 @@
 ghost use Rattle.std.specs.Prelude.{IfOk};
 ghost use Rattle.comp_audit.specs.Explained.{Explains};
 
+mod causes;
 mod claims;
 mod entries;
 mod heads;
+mod made;
 mod objects;
 mod stamps;
 mod sums;

@@ -1,6 +1,6 @@
 //! What the audit says of a fault: what is in the dump, and what should be there.
 use comp_journal::Entry;
-use heap_layout::Edition;
+use heap_layout::{Edition, Kind};
 
 /// How much a dump has: of how many pages how many are built, and how many entries they have.
 #[derive(Clone, Copy, Debug, PartialEq, Eq)]
@@ -106,7 +106,29 @@ pub struct StampLost {
     pub entries: u64,
 }
 
-/// An entry that does not fit: its page, its number there, the entry, and what it is held against.
+/// Why an entry does not fit: the first that holds of these causes, in the order of the checks.
+#[derive(Clone, Copy, Debug, PartialEq, Eq)]
+pub enum EntryCause {
+    /// Its stamp is not above that of the entry before it on its page, which is this.
+    StampNotAbove(u64),
+    /// It writes a header, and its page is compacted, or past the last page.
+    NoFreshPage,
+    /// It writes a header, and this other mutator makes the objects of its page.
+    OtherMaker(u64),
+    /// It writes a header elsewhere than at this offset, where the objects before it end.
+    NotNext(u64),
+    /// It writes the header of an object that ends at this offset, past its page.
+    PastPage(u64),
+    /// The word at its offset is of this kind and not of the entry's; None if the word belongs to no object.
+    OtherWord(Option<Kind>),
+    /// It fits where it is, and writes the address of no object.
+    LeadsNowhere,
+    /// It fits where it is, and writes the address of a new object whose header is not older: this is the least stamp
+    /// of a header there.
+    LeadsAhead(u64),
+}
+
+/// An entry that does not fit: its page, its number there, the entry, what it is held against, and the cause.
 #[derive(Clone, Copy, Debug, PartialEq, Eq)]
 pub struct BadEntryAt {
     pub page: u64,
@@ -118,6 +140,7 @@ pub struct BadEntryAt {
     pub maker: Option<u64>,
     /// How many words of the page belong to the objects that the entries before it made.
     pub filled: u64,
+    pub cause: EntryCause,
 }
 
 /// A compacted page that was never built, and how many compacted pages there are.

@@ -1,7 +1,7 @@
-//! How an explanation reads: one or two lines in plain words, with numbers, without a line feed at the end.
+//! How an explanation reads: a few lines in plain words, with numbers, without a line feed at the end.
 use crate::explanation::{
-    BadEntryAt, Claims, DumpCounts, Explanation, HeadCause, LooseWordAt, MissingPage, OutOfPlace,
-    RootAt, SlidObject, StampLost, StampUses, Totals, WrongWordAt,
+    BadEntryAt, Claims, DumpCounts, EntryCause, Explanation, HeadCause, LooseWordAt, MissingPage,
+    OutOfPlace, RootAt, SlidObject, StampLost, StampUses, Totals, WrongWordAt,
 };
 use heap_layout::{Edition, Kind};
 use std::fmt::{Display, Formatter, Result, Write};
@@ -155,12 +155,44 @@ impl Display for BadEntryAt {
             write!(f, "\nthe entry before it has stamp {stamp}")?;
         }
         match self.maker {
-            None => write!(f, "\nits page is compacted"),
+            None => write!(f, "\nits page is compacted")?,
             Some(maker) => write!(
                 f,
                 "\nits page is of mutator {maker}, and the objects before it end at offset {}",
                 self.filled
-            ),
+            )?,
+        }
+        write!(f, "\nwhy: {}", self.cause)
+    }
+}
+
+impl Display for EntryCause {
+    fn fmt<W: Write>(&self, f: &mut Formatter<W>) -> Result {
+        match self {
+            EntryCause::StampNotAbove(stamp) => write!(f, "its stamp is not above {stamp}"),
+            EntryCause::NoFreshPage => f.write_str("it is a header, and its page is not fresh"),
+            EntryCause::OtherMaker(maker) => {
+                write!(f, "it is a header, and its page is of mutator {maker}")
+            }
+            EntryCause::NotNext(end) => {
+                write!(
+                    f,
+                    "it is a header, and the objects before it end at offset {end}"
+                )
+            }
+            EntryCause::PastPage(end) => {
+                write!(f, "its object would end at offset {end}, past the page")
+            }
+            EntryCause::OtherWord(None) => {
+                f.write_str("the word at its offset belongs to no object")
+            }
+            EntryCause::OtherWord(Some(kind)) => {
+                write!(f, "the word at its offset is a {}", kind_name(*kind))
+            }
+            EntryCause::LeadsNowhere => f.write_str("no object starts at its value"),
+            EntryCause::LeadsAhead(stamp) => {
+                write!(f, "it leads to an object whose header has stamp {stamp}")
+            }
         }
     }
 }

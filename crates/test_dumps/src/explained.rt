@@ -1,24 +1,22 @@
-//! What is said of the first fault of dumps with some fields changed. All numbers are worked by hand: after the slide
+//! What is said of the first fault of dumps with some fields changed; entries.rt has those of entries. All numbers are worked by hand: after the slide
 //! the three objects are the first at word 0 and the last at word 2, and the new object is on page 1.
 use crate::dumped::read;
 use crate::encoded::{Change, Whole, changed};
 use crate::expected::expect_eq;
 use comp_audit::{
-    BadEntryAt, Claims, Dump, DumpCounts, Explanation, HeadCause, LooseWordAt, OutOfPlace, RootAt,
-    SlidObject, StampLost, StampUses, Totals, Verdict, WrongWordAt, audit, count, explain,
+    Claims, Dump, DumpCounts, Explanation, HeadCause, LooseWordAt, OutOfPlace, RootAt, SlidObject,
+    StampLost, StampUses, Totals, Verdict, WrongWordAt, audit, count, explain,
 };
-use comp_journal::Entry;
-use heap_layout::{Edition, Kind};
+use heap_layout::Edition;
 use page_plan::Plan;
 use std::alloc::Global;
 use std::process::Abort;
 use test_support::{
-    At, FIRST_DATA, HEADER_OFFSET, HEADER_STAMP, LAST_WORD, REFERENCE, REFERENCE_STAMP,
-    REFERENCE_VALUE, ROOT, T, TOTAL, VERSION,
+    At, FIRST_DATA, LAST_WORD, REFERENCE, REFERENCE_STAMP, REFERENCE_VALUE, ROOT, T, TOTAL, VERSION,
 };
 
 /// A dump, the changes of it, and what is said of its first fault; None if it has none.
-pub struct Told(Whole, &'static [Change], Option<Explanation>);
+pub struct Told(pub Whole, pub &'static [Change], pub Option<Explanation>);
 
 // Positions in the dump after a new object: the number of fresh pages, the number of roots, the header of the last
 // object, word 5 of the page of the new object, and the list of builds.
@@ -55,25 +53,8 @@ const LAST_OUT_OF_PLACE: OutOfPlace = OutOfPlace {
     is: 5,
 };
 
-// The entry of the new object's header, at offset 1, and the entry that stores it, with stamp 0.
-const GAP_ENTRY: Entry = Entry {
-    stamp: 0,
-    writer: 0,
-    kind: Kind::Header,
-    offset: 1,
-    value: 0,
-};
-
-const LINK_ENTRY: Entry = Entry {
-    stamp: 0,
-    writer: 0,
-    kind: Kind::Reference,
-    offset: 3,
-    value: T + 64,
-};
-
 /// For the plan of the three objects.
-pub static TOLD: [Told; 21] = [
+pub static TOLD: [Told; 19] = [
     Told(Whole::Linked, &[], None),
     // Word: 12 for 11.
     Told(
@@ -187,34 +168,6 @@ pub static TOLD: [Told; 21] = [
             page: 0,
             offset: 3,
             is: T + 1,
-        })),
-    ),
-    // Entry: a gap before it; a reference to an object that was made later.
-    Told(
-        Whole::Linked,
-        &[Change(HEADER_OFFSET, 1, 1, 1)],
-        Some(Explanation::BadEntry(BadEntryAt {
-            page: 1,
-            number: 0,
-            entry: GAP_ENTRY,
-            stamp_before: None,
-            maker: Some(0),
-            filled: 0,
-        })),
-    ),
-    Told(
-        Whole::Linked,
-        &[
-            Change(REFERENCE_STAMP, 8, 8, 0),
-            Change(HEADER_STAMP, 8, 8, 1),
-        ],
-        Some(Explanation::BadEntry(BadEntryAt {
-            page: 0,
-            number: 0,
-            entry: LINK_ENTRY,
-            stamp_before: None,
-            maker: None,
-            filled: 0,
         })),
     ),
     // Stamps 0 and 0; stamps 0 and 2.
@@ -338,10 +291,10 @@ pub fn expect_told(rt: &impl Abort, alloc: Global, plan: &Plan, rows: &[Told]) {
 }
 
 /// An explanation, and how it reads.
-pub struct Worded(Explanation, &'static str);
+pub struct Worded(pub Explanation, pub &'static str);
 
-/// Each arm, and each line that is left out if there is nothing to say.
-pub static WORDED: [Worded; 15] = [
+/// Each arm but that of an entry, and each line that is left out if there is nothing to say.
+pub static WORDED: [Worded; 13] = [
     Worded(
         Explanation::WrongWord(WrongWordAt {
             page: 3,
@@ -371,28 +324,6 @@ pub static WORDED: [Worded; 15] = [
             is: T + 1,
         }),
         "page 0 offset 3 has 8589934593, where no object starts",
-    ),
-    Worded(
-        Explanation::BadEntry(BadEntryAt {
-            page: 1,
-            number: 4,
-            entry: GAP_ENTRY,
-            stamp_before: Some(3),
-            maker: Some(0),
-            filled: 2,
-        }),
-        "entry 4 of page 1: stamp 0, writer 0, header, offset 1, value 0\nthe entry before it has stamp 3\nits page is of mutator 0, and the objects before it end at offset 2",
-    ),
-    Worded(
-        Explanation::BadEntry(BadEntryAt {
-            page: 0,
-            number: 0,
-            entry: LINK_ENTRY,
-            stamp_before: None,
-            maker: None,
-            filled: 0,
-        }),
-        "entry 0 of page 0: stamp 0, writer 0, reference, offset 3, value 8589934656\nits page is compacted",
     ),
     Worded(
         Explanation::StampRepeated(StampUses {

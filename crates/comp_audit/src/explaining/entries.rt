@@ -1,17 +1,19 @@
 //! An entry that does not fit.
 ghost use Rattle.std.specs.Prelude.{◌≡◌, ◌^◌, ◌<◌, ◌≤◌, length};
-ghost use Rattle.comp_dump.specs.Lawful.{filled, kinds_by};
+ghost use Rattle.comp_dump.specs.Lawful.{filled};
 ghost use Rattle.comp_dump.specs.declared.fault.AuditFault.TheVariants as fault;
-ghost use Rattle.comp_audit.specs.Explained.{maker_of, setup_of, Explains};
+ghost use Rattle.comp_audit.specs.Explained.{maker_of, setup_of, stamp_before, Explains};
 
+use crate::explaining::causes::cause_of;
+use crate::explaining::made::words_made;
 use crate::explanation::{BadEntryAt, Explanation};
 use audit_checks::journal_of;
 use comp_dump::{Dump, dump_is_stored};
 use comp_journal::Entry;
-use heap_layout::{Edition, Header, Kind};
+use heap_layout::Edition;
 use page_plan::Plan;
 
-/// What is said of an entry that does not fit: the entry, and what it is held against.
+/// What is said of an entry that does not fit: the entry, what it is held against, and why it does not.
 pub fn explain_entry(plan: &Plan, dump: &Dump<'_>, p: u64, number: u64) -> Explanation
     ensures { Explains plan.now dump.now (fault.BadEntry p number) result }
 {
@@ -20,18 +22,40 @@ pub fn explain_entry(plan: &Plan, dump: &Dump<'_>, p: u64, number: u64) -> Expla
     let Some(entry) = journal.get(number as usize) else {
         return Explanation::NoSuchFault;
     };
-    let stamp_before = match number {
-        0 => None,
-        _ => Some(journal[number as usize - 1].stamp),
-    };
-    Explanation::BadEntry(BadEntryAt {
-        page: p,
-        number,
-        entry: *entry,
+    let stamp_before = stamp_before(journal, number as usize);
+    let filled = filled_by(plan.heap().edition(), &journal[..number as usize]);
+    let cause = cause_of(
+        plan,
+        dump,
+        p,
+        *entry,
+        &journal[..number as usize],
         stamp_before,
-        maker: maker(plan, dump, p),
-        filled: filled_by(plan.heap().edition(), &journal[..number as usize]),
-    })
+        filled,
+    );
+    match cause {
+        None => Explanation::NoSuchFault,
+        Some(cause) => Explanation::BadEntry(BadEntryAt {
+            page: p,
+            number,
+            entry: *entry,
+            stamp_before,
+            maker: maker(plan, dump, p),
+            filled,
+            cause,
+        }),
+    }
+}
+
+// The stamp of the entry before entry `number`.
+fn stamp_before(journal: &[Entry], number: usize) -> Option<u64>
+    requires { number < length journal.now }
+    ensures { result ≡ stamp_before journal.now number }
+{
+    match number {
+        0 => None,
+        _ => Some(journal[number - 1].stamp),
+    }
 }
 
 // The mutator that makes objects on page `p`; None if it is a compacted page.
@@ -48,24 +72,12 @@ fn maker(plan: &Plan, dump: &Dump<'_>, p: u64) -> Option<u64>
 // How many words the objects have that these entries make.
 fn filled_by(edition: Edition, journal: &[Entry]) -> u64
     requires { length journal.now ≤ 1024 }
-    ensures { result ≡ filled edition journal.now }
+    ensures filled { result ≡ filled edition journal.now }
+    ensures few { result < 2 ^ 63 }
 {
     let mut filled = 0;
     for entry in journal {
         filled += words_made(edition, *entry);
     }
     filled
-}
-
-// How many words the object has that an entry makes, 0 if it makes none.
-fn words_made(edition: Edition, entry: Entry) -> u64
-    ensures words { result ≡ length (kinds_by edition entry.kind entry.value) }
-    ensures few { result < 2 ^ 32 }
-{
-    match entry.kind {
-        Kind::Header => u64::from(Header::from_word_of(edition, entry.value).size()),
-        Kind::Reference => 0,
-        Kind::Weak => 0,
-        Kind::Data => 0,
-    }
 }
