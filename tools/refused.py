@@ -46,6 +46,7 @@ COMMANDS = [
     ("race three.img seen.trace left.dump", ["6 7\nlive 4\n", "6 11\nlive 4\n"], 656),
     ("audit three.img fresh.dump", ["ok 5\n"], None),
     ("audit --whole three.img fresh.dump", ["ok 5\n"], None),
+    ("audit --explain three.img fresh.dump", ["built 2 of 3 pages\nentries 2\nok 5\n"], None),
     ("audit --words three.img three.words", ["ok 4\n"], None),
     ("moved three.img three.moved", ["ok 4\nobjects 2\n"], None),
     ("next --mutators 1 --fresh 2 three.img fresh.trace kept.marks left.dump", ["live 3\n"], 1576),

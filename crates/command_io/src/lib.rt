@@ -21,7 +21,9 @@ pub use memory::{MemoryFile, MemoryFiles, written_is_there};
 pub use new_images::write_image_to;
 pub use opening::{Files, RuntimeFiles};
 pub use output_files::OutputFile;
-pub use print::{flush, print_bytes, print_help, print_line, print_numbered, print_text};
+pub use print::{
+    flush, print_bytes, print_digits, print_help, print_line, print_numbered, print_text,
+};
 pub use refusal::{CommandRefusal, Input, Output};
 pub use roots::roots_at;
 pub use traces::trace_at;

@@ -34,8 +34,8 @@ pub fn print_text<O: Write>(text: &str, out: &mut Counted<&mut O>) -> Result<(),
     print_bytes(text.as_bytes(), out)
 }
 
-// Prints the decimal digits of a number.
-fn print_digits<O: Write>(number: u64, out: &mut Counted<&mut O>) -> Result<(), CommandRefusal>
+/// Prints the decimal digits of a number.
+pub fn print_digits<O: Write>(number: u64, out: &mut Counted<&mut O>) -> Result<(), CommandRefusal>
     requires { failures_of out.old < 2 ^ 64 - 1 }
     ensures printed { OnOk result (Appends (O.contents (inner_of out.old).now) (O.contents (inner_of out.new).now) (decimal number)) }
     ensures cause { OnErr result (result ≡ Err CommandRefusal.CannotPrint) }

@@ -4,7 +4,7 @@ use Rattle.clap.specs.declared.parser.matches.Found.{Found}
 use Rattle.command_line.specs.Asked.{AsksAudit}
 use Rattle.command_line.specs.Finds.{IsAuditFound, IsAuditRequest}
 use Rattle.command_line.specs.Forms as forms
-use Rattle.command_line.specs.Forms.{audit_form, large, text, whole}
+use Rattle.command_line.specs.Forms.{audit_form, explain, large, text, whole}
 use Rattle.command_line.specs.Runs.{Audit}
 use Rattle.command_line.proofs.Found.{CommandAsked, argument_reported, argument_there, switch_among}
 
@@ -23,7 +23,8 @@ module _ (words : List (List ℕ)) (f : Found) (asked : CommandAsked words f aud
     is_command = asked.is_command;
     with_image = argument_reported words f audit_form asked (text (codes "IMAGE")) refl audit.image is.image_is;
     with_dump = argument_reported words f audit_form asked (text (codes "DUMP")) refl audit.dump is.dump_is;
-    with_whole = switch_among words f audit_form asked (large ∷ []) whole (forms.words ∷ []) refl refl refl refl audit.whole is.whole_is;
-    with_words = switch_among words f audit_form asked (large ∷ whole ∷ []) forms.words [] refl refl refl refl audit.words is.words_is;
-    with_large = switch_among words f audit_form asked [] large (whole ∷ forms.words ∷ []) refl refl refl refl audit.large is.large_is;
+    with_whole = switch_among words f audit_form asked (large ∷ []) whole (forms.words ∷ explain ∷ []) refl refl refl refl audit.whole is.whole_is;
+    with_words = switch_among words f audit_form asked (large ∷ whole ∷ []) forms.words (explain ∷ []) refl refl refl refl audit.words is.words_is;
+    with_explain = switch_among words f audit_form asked (large ∷ whole ∷ forms.words ∷ []) explain [] refl refl refl refl audit.explain is.explain_is;
+    with_large = switch_among words f audit_form asked [] large (whole ∷ forms.words ∷ explain ∷ []) refl refl refl refl audit.large is.large_is;
   }

@@ -48,7 +48,7 @@ pub record AsksCompact (words : List (List ℕ)) (image dump : List ℕ) (n : �
   pub with_workers : IsChosen workers uses n
   pub with_large : is_large ≡ is_among (codes "large") uses
 
--- the words are `audit [--large] [--whole] [--words] IMAGE DUMP`, with these arguments
+-- the words are `audit [--large] [--whole] [--words] [--explain] IMAGE DUMP`, with these arguments
 pub record AsksAudit (words : List (List ℕ)) (audit : Audit) : Type 0 where
   pub uses : List Use
   pub is_command : IsCommandWith audit_form words uses
@@ -56,6 +56,7 @@ pub record AsksAudit (words : List (List ℕ)) (audit : Audit) : Type 0 where
   pub with_dump : text_given (codes "DUMP") uses ≡ Some audit.dump
   pub with_whole : audit.whole ≡ is_among (codes "whole") uses
   pub with_words : audit.words ≡ is_among (codes "words") uses
+  pub with_explain : audit.explain ≡ is_among (codes "explain") uses
   pub with_large : audit.large ≡ is_among (codes "large") uses
 
 -- the words are `mark [--large] IMAGE NEW`, with these paths of an image and of the new image, and with the switch or

@@ -34,4 +34,5 @@ pub record IsAuditFound (found : Found) (audit : Audit) : Type 0 where
   pub dump_is : Some audit.dump ≡ first_value found (codes "DUMP")
   pub whole_is : IsFlag (one_text found (codes "whole")) audit.whole
   pub words_is : IsFlag (one_text found (codes "words")) audit.words
+  pub explain_is : IsFlag (one_text found (codes "explain")) audit.explain
   pub large_is : IsFlag (one_text found (codes "large")) audit.large

@@ -96,12 +96,16 @@ whole = switch (codes "whole")
 abbrev pub words : Parameter
 words = switch (codes "words")
 
--- `audit [--large] [--whole] [--words] IMAGE DUMP`
+-- `--explain`, which `audit` has
+abbrev pub explain : Parameter
+explain = switch (codes "explain")
+
+-- `audit [--large] [--whole] [--words] [--explain] IMAGE DUMP`
 abbrev pub audit_form : Form
 audit_form = record {
   name = codes "audit";
   options = [];
-  switches = large ∷ whole ∷ words ∷ [];
+  switches = large ∷ whole ∷ words ∷ explain ∷ [];
   arguments = text (codes "IMAGE") ∷ text (codes "DUMP") ∷ [];
 }
 

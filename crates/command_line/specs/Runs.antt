@@ -37,14 +37,15 @@ pub record IsLawfulRun (run : Run) : Type 0 where
   pub within : run.pages ≤ 4096
 
 -- the paths of an image and of what is judged; whether each compacted page must be built too; whether what is judged is a
--- file of words and roots; and whether heaps of edition three are read as well
+-- file of words and roots; whether what was compared is printed; and whether heaps of edition three are read as well
 pub record Audit : Type 0 where
   pub image : List ℕ
   pub dump : List ℕ
   pub whole : Bool
   pub words : Bool
+  pub explain : Bool
   pub large : Bool
 
 -- the arguments of `audit` in a task
 abbrev pub audit_of : AuditRun → Audit
-audit_of a = record { image = a.image.now; dump = a.dump.now; whole = a.whole; words = a.words; large = a.large }
+audit_of a = record { image = a.image.now; dump = a.dump.now; whole = a.whole; words = a.words; explain = a.explain; large = a.large }

@@ -24,6 +24,8 @@ pub struct AuditRun<'a> {
     pub whole: bool,
     /// Whether `dump` is the path of a file of words and roots, without pages and journals.
     pub words: bool,
+    /// Whether what was compared is printed, and what is wrong where.
+    pub explain: bool,
     /// Whether heaps of edition three are read as well.
     pub large: bool,
 }
@@ -38,6 +40,7 @@ pub(crate) fn audit_run<'a>(found: &ArgMatches<'a>) -> AuditRun<'a>
         dump: text_of(found, "DUMP"),
         whole: is_given(found, "whole"),
         words: is_given(found, "words"),
+        explain: is_given(found, "explain"),
         large: is_large(found),
     }
 }
@@ -59,7 +62,13 @@ pub(crate) fn audit_command<'a>(alloc: Global) -> Made<'a>
         "words",
         "DUMP is a file of words and roots, without pages and journals",
     );
-    let of_switches = with_argument(of_whole, words);
+    let of_words = with_argument(of_whole, words);
+    let explain = switch_of(
+        alloc,
+        "explain",
+        "Prints what was compared, and what is wrong where",
+    );
+    let of_switches = with_argument(of_words, explain);
     let of_image = with_argument(of_switches, image_argument(alloc));
     with_argument(of_image, path_argument(alloc, "DUMP", "The dump"))
 }

@@ -1,5 +1,5 @@
 -- The heap of an image and a dump that were read, of which something holds.
-use Rattle.std.proofs.Common.{◌≡◌, ℕ, Bool, List, Option, Result, Ok, Err, IfErr, OnErr, OnOk, codes, sym, subst}
+use Rattle.std.proofs.Common.{◌≡◌, ℕ, Bool, true, false, List, Option, Result, Ok, Err, IfErr, OnErr, OnOk, codes, inl, inr, sym, subst}
 use Rattle.std.proofs.KnownBytes.{Appends-kept}
 use Rattle.std.specs.Io.KnownBytes.{Appends, Keeps}
 use Rattle.heap_layout.specs.Heap.{Heap}
@@ -7,7 +7,7 @@ use Rattle.comp_dump.specs.Dumped.{Dumped}
 use Rattle.comp_audit.specs.Judged.{Judges}
 use Rattle.comp_audit.specs.declared.verdict.Verdict.TheVariants.{Yes}
 use Rattle.command_line.specs.Runs as runs
-use Rattle.commands.specs.Audits.{faults_by, HasPassed, IsDumpAt, IsDumpIn, Passes, RefusesAudit, SomeAudit}
+use Rattle.commands.specs.Audits.{faults_by, passed_lines, HasPassed, IsDumpAt, IsDumpIn, IsPrinted, Passes, RefusesAudit, SomeAudit}
 use Rattle.command_io.specs.Disk.{Disk, SomeFile}
 use Rattle.command_io.specs.Images.{IsHeapAt}
 use Rattle.command_io.specs.declared.refusal.Input.TheVariants as inputs
@@ -28,7 +28,7 @@ module _ {F W : Type 0} (disk : Disk F W) (asked : runs.Audit) where
       )
 
   -- and what follows from it
-  weaker : (P Q : Heap → Dumped → Type 0) → ((heap : Heap) (dump : Dumped) → P heap dump → Q heap dump) → SomeAudit disk asked P → SomeAudit disk asked Q
+  pub weaker : (P Q : Heap → Dumped → Type 0) → ((heap : Heap) (dump : Dumped) → P heap dump → Q heap dump) → SomeAudit disk asked P → SomeAudit disk asked Q
   weaker P Q f (bytes, is_there, found) = (
     bytes,
     is_there,
@@ -37,27 +37,30 @@ module _ {F W : Type 0} (disk : Disk F W) (asked : runs.Audit) where
   )
 
   -- a dump that passed still has if the output is flushed after its line
-  pub flushed_audit : (before between after : Option (List ℕ)) → Keeps between after → SomeAudit disk asked (Passes asked.whole before between) → SomeAudit disk asked (Passes asked.whole before after)
-  flushed_audit before between after kept passed = weaker (Passes asked.whole before between) (Passes asked.whole before after)
+  pub flushed_audit : (before between after : Option (List ℕ)) → Keeps between after → SomeAudit disk asked (Passes asked before between) → SomeAudit disk asked (Passes asked before after)
+  flushed_audit before between after kept passed = weaker (Passes asked before between) (Passes asked before after)
       (λ heap dump h. record { judged = h.judged; printed = Appends-kept before between after _ h.printed kept }) passed
 
   -- and if it is not
-  pub unflushed_audit : (before between : Option (List ℕ)) → SomeAudit disk asked (Passes asked.whole before between) → SomeAudit disk asked (λ heap dump. Judges (faults_by asked.whole heap dump) Yes)
-  unflushed_audit before between passed = weaker (Passes asked.whole before between) (λ heap dump. Judges (faults_by asked.whole heap dump) Yes) (λ heap dump h. h.judged) passed
+  pub unflushed_audit : (before between : Option (List ℕ)) → SomeAudit disk asked (Passes asked before between) → SomeAudit disk asked (IsPrinted asked)
+  unflushed_audit before between passed = weaker (Passes asked before between) (IsPrinted asked) (λ heap dump h. inl h.judged) passed
 
   -- its line was printed, or a call of the output failed
-  pub printed_audit : (words : ℕ) (before after : Option (List ℕ)) (result : Result (Unit {0}) CommandRefusal) → SomeAudit disk asked (HasPassed asked.whole words)
-      → OnOk result (Appends before after (named (codes "ok ") words)) → OnOk result (SomeAudit disk asked (Passes asked.whole before after))
-  printed_audit words before after (Ok _) passed printed = weaker (HasPassed asked.whole words) (Passes asked.whole before after)
-      (λ heap dump h. record { judged = h.judged; printed = subst (λ (n : ℕ). Appends before after (named (codes "ok ") n)) h.total printed }) passed
-  printed_audit words before after (Err refusal) passed printed = tt
+  pub printed_audit : asked.explain ≡ false → (words : ℕ) (before after : Option (List ℕ)) (result : Result (Unit {0}) CommandRefusal) → SomeAudit disk asked (HasPassed asked.whole words)
+      → OnOk result (Appends before after (named (codes "ok ") words)) → OnOk result (SomeAudit disk asked (Passes asked before after))
+  printed_audit plain words before after (Ok _) passed printed = weaker (HasPassed asked.whole words) (Passes asked before after)
+      (λ heap dump h. record {
+        judged = h.judged;
+        printed = subst (λ (b : Bool). Appends before after (passed_lines b dump)) (sym plain) (subst (λ (n : ℕ). Appends before after (named (codes "ok ") n)) h.total printed);
+      }) passed
+  printed_audit plain words before after (Err refusal) passed printed = tt
 
   pub unprinted_audit : (words : ℕ) (result : Result (Unit {0}) CommandRefusal) → SomeAudit disk asked (HasPassed asked.whole words) → OnErr result (result ≡ Err CannotPrint)
       → IfErr result (RefusesAudit disk asked)
   unprinted_audit words (Ok _) passed cause = tt
   unprinted_audit words (Err refusal) passed cause =
       let is : refusal ≡ CannotPrint = cc in
-      subst (RefusesAudit disk asked) (sym is) (weaker (HasPassed asked.whole words) (λ heap dump. Judges (faults_by asked.whole heap dump) Yes) (λ heap dump h. h.judged) passed)
+      subst (RefusesAudit disk asked) (sym is) (weaker (HasPassed asked.whole words) (IsPrinted asked) (λ heap dump h. inl h.judged) passed)
 
 -- a line that was not printed
 pub unprinted_line : (before after : Option (List ℕ)) (result : Result (Unit {0}) CommandRefusal) → OnErr result (result ≡ Err CannotPrint) → RefusedUnprinted before after result

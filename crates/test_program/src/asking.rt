@@ -55,7 +55,7 @@ fn expect_rows(rt: &(impl Abort + AllocGlobal), rows: &[Row]) {
 }
 
 // Lines and the tasks that they ask for.
-static TASKS: [Row; 48] = [
+static TASKS: [Row; 50] = [
     (
         "plan three.img",
         "Plan { image: \"three.img\", large: false }",
@@ -127,15 +127,15 @@ static TASKS: [Row; 48] = [
     ),
     (
         "audit three.img forged.dump",
-        "Audit(AuditRun { image: \"three.img\", dump: \"forged.dump\", whole: false, words: false, large: false })",
+        "Audit(AuditRun { image: \"three.img\", dump: \"forged.dump\", whole: false, words: false, explain: false, large: false })",
     ),
     (
         "audit a -- -b",
-        "Audit(AuditRun { image: \"a\", dump: \"-b\", whole: false, words: false, large: false })",
+        "Audit(AuditRun { image: \"a\", dump: \"-b\", whole: false, words: false, explain: false, large: false })",
     ),
     (
         "audit -- --help --",
-        "Audit(AuditRun { image: \"--help\", dump: \"--\", whole: false, words: false, large: false })",
+        "Audit(AuditRun { image: \"--help\", dump: \"--\", whole: false, words: false, explain: false, large: false })",
     ),
     (
         "next three.img t18 m new",
@@ -175,23 +175,31 @@ static TASKS: [Row; 48] = [
     ),
     (
         "audit a --large b",
-        "Audit(AuditRun { image: \"a\", dump: \"b\", whole: false, words: false, large: true })",
+        "Audit(AuditRun { image: \"a\", dump: \"b\", whole: false, words: false, explain: false, large: true })",
     ),
     (
         "audit --whole a b",
-        "Audit(AuditRun { image: \"a\", dump: \"b\", whole: true, words: false, large: false })",
+        "Audit(AuditRun { image: \"a\", dump: \"b\", whole: true, words: false, explain: false, large: false })",
     ),
     (
         "audit a b --words",
-        "Audit(AuditRun { image: \"a\", dump: \"b\", whole: false, words: true, large: false })",
+        "Audit(AuditRun { image: \"a\", dump: \"b\", whole: false, words: true, explain: false, large: false })",
     ),
     (
         "audit --words a --large b --whole",
-        "Audit(AuditRun { image: \"a\", dump: \"b\", whole: true, words: true, large: true })",
+        "Audit(AuditRun { image: \"a\", dump: \"b\", whole: true, words: true, explain: false, large: true })",
+    ),
+    (
+        "audit --explain a b",
+        "Audit(AuditRun { image: \"a\", dump: \"b\", whole: false, words: false, explain: true, large: false })",
+    ),
+    (
+        "audit --words --explain a b --large --whole",
+        "Audit(AuditRun { image: \"a\", dump: \"b\", whole: true, words: true, explain: true, large: true })",
     ),
     (
         "audit a -- --words",
-        "Audit(AuditRun { image: \"a\", dump: \"--words\", whole: false, words: false, large: false })",
+        "Audit(AuditRun { image: \"a\", dump: \"--words\", whole: false, words: false, explain: false, large: false })",
     ),
     (
         "mark three.img new.img",
@@ -296,7 +304,7 @@ fn version_is_printed_for_these_words(rt: HostRuntime) {
 }
 
 // Lines that are no command.
-static NO_COMMANDS: [&str; 86] = [
+static NO_COMMANDS: [&str; 87] = [
     "plan --large",
     "plan --large --large a",
     "audit --large=1 a b",
@@ -356,6 +364,7 @@ static NO_COMMANDS: [&str; 86] = [
     "audit --whole --whole a b",
     "audit --words=1 a b",
     "audit --words a",
+    "audit --explain=1 a b",
     "plan --whole a",
     "mark",
     "mark a",

@@ -57,7 +57,7 @@ fn expect_cut_off<R: Files + AllocGlobal + Threads + Wait + Sync>(
 }
 
 /// Lines, and the least number of bytes that they print.
-pub const LINES: [(&str, usize); 11] = [
+pub const LINES: [(&str, usize); 12] = [
     ("word print.tests.img 2", 12),
     ("plan print.tests.img", 48),
     (
@@ -66,6 +66,7 @@ pub const LINES: [(&str, usize); 11] = [
     ),
     ("race print.tests.img print.tests.trace print.tests.out", 11),
     ("audit print.tests.img print.tests.dump", 5),
+    ("audit --explain print.tests.img print.tests.dump", 34),
     ("compact print.tests.img print.tests.out", 7),
     (
         "next --fresh 0 print.tests.img print.tests.trace print.tests.marks print.tests.new",

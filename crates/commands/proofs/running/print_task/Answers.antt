@@ -1,9 +1,12 @@
 use Rattle.std.proofs.Common.{IfErr, OnOk, refl, subst, sym}
 use Rattle.heap_layout.specs.Counted.{inner_of}
 use Rattle.command_line.specs.declared.words.Task.{Task}
+use Rattle.command_line.specs.Runs.{audit_of}
+use Rattle.commands.specs.Audits.{RefusedUnexplained, RefusesAudit}
 use Rattle.commands.specs.Tasks.{DoesTask, RefusesTask}
 use Rattle.command_io.proofs.Outcomes.{unmade_too}
 use Rattle.commands.proofs.ReplayRuns.{unmade_anyway, unprinted_line}
+use Rattle.commands.proofs.ComparedAudits.{both_err, left_unprinted}
 use Rattle.commands.proofs.Performed.{err_by}
 use Rattle.commands.proofs.running.print_task.Goals as goal
 
@@ -63,7 +66,16 @@ returns-in-Moved-clause-done g c =
 
 pub returns-in-Audit-clause-cause : goal.returns-in-Audit-clause-cause
 returns-in-Audit-clause-cause g c =
-    subst (λ (task : Task). IfErr c.print_audit.result (RefusesTask (g.F.Files.disk c.args.files.now) c.args.files.now c.args.files.now (g.O.Write.contents (inner_of c.args.out.now).now) (g.O.Write.contents (inner_of c.print_audit.new.out).now) task)) (sym c.in-Audit.is) c.print_audit.ensures.cause
+    let disk = g.F.Files.disk c.args.files.now in
+    let before = g.O.Write.contents (inner_of c.args.out.now).now in
+    let after = g.O.Write.contents (inner_of c.print_audit.new.out).now in
+    subst (λ (task : Task). IfErr c.print_audit.result (RefusesTask disk c.args.files.now c.args.files.now before after task)) (sym c.in-Audit.is)
+    (both_err (RefusesAudit disk (audit_of c.in-Audit.run')) (RefusedUnexplained disk (audit_of c.in-Audit.run') before after) c.print_audit.result c.print_audit.ensures.cause c.print_audit.ensures.unexplained)
+
+pub returns-in-Audit-clause-unprinted : goal.returns-in-Audit-clause-unprinted
+returns-in-Audit-clause-unprinted g c =
+    left_unprinted (g.F.Files.disk c.args.files.now) (audit_of c.in-Audit.run') (g.O.Write.contents (inner_of c.args.out.now).now) (g.O.Write.contents (inner_of c.print_audit.new.out).now)
+    c.print_audit.result c.print_audit.ensures.unexplained
 
 pub returns-in-Moved-clause-cause : goal.returns-in-Moved-clause-cause
 returns-in-Moved-clause-cause g c =

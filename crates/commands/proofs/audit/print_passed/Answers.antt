@@ -1,15 +1,15 @@
 use Rattle.command_line.specs.Runs.{audit_of}
 use Rattle.commands.proofs.Audited.{printed_audit, unprinted_audit, unprinted_line}
-use Rattle.commands.proofs.audit.print_audit.Goals as goal
+use Rattle.commands.proofs.audit.print_passed.Goals as goal
 
 -- The dump passed.
 pub returns-clause-passed : goal.returns-clause-passed
 returns-clause-passed g c =
-    printed_audit (g.F.Files.disk c.args.files.now) (audit_of c.args.run) c.in_ok-words.words _ _ c.print_line.result c.in_ok-words.ensures.passed c.print_line.ensures.printed
+    printed_audit (g.F.Files.disk c.args.files.now) (audit_of c.args.run.now) c.requires.plain c.in_ok-words.words _ _ c.print_line.result c.in_ok-words.ensures.passed c.print_line.ensures.printed
 
 pub returns-clause-cause : goal.returns-clause-cause
 returns-clause-cause g c =
-    unprinted_audit (g.F.Files.disk c.args.files.now) (audit_of c.args.run) c.in_ok-words.words c.print_line.result c.in_ok-words.ensures.passed c.print_line.ensures.cause
+    unprinted_audit (g.F.Files.disk c.args.files.now) (audit_of c.args.run.now) c.in_ok-words.words c.print_line.result c.in_ok-words.ensures.passed c.print_line.ensures.cause
 
 pub returns-clause-unprinted : goal.returns-clause-unprinted
 returns-clause-unprinted g c = unprinted_line _ _ c.print_line.result c.print_line.ensures.cause

@@ -1,0 +1,171 @@
+-- What was compared, and what was printed of it.
+use Rattle.std.proofs.Common.{◌≡◌, ℕ, Bool, true, false, List, ◌++◌, length, Option, Result, Ok, Err, IfOk, IfErr, OnOk, codes, inl, inr, sym, subst}
+use Rattle.std.specs.Io.KnownBytes.{Appends, Keeps}
+use Rattle.heap_layout.specs.Heap.{Heap}
+use Rattle.audit_checks.specs.Checks.{all_entries}
+use Rattle.comp_dump.specs.Dumped.{Dumped}
+use Rattle.comp_dump.specs.Lists.{total}
+use Rattle.comp_audit.specs.Explained.{AreCountsOf}
+use Rattle.comp_audit.specs.Meant.{built_count}
+use Rattle.comp_audit.specs.Judged.{Judges}
+use Rattle.comp_audit.specs.declared.verdict.Verdict.TheVariants.{No}
+use Rattle.comp_dump.specs.declared.fault.AuditFault.{AuditFault}
+use Rattle.comp_trace.specs.TraceFault.TheVariants as traces
+use Rattle.command_line.specs.Runs as runs
+use Rattle.command_io.specs.Disk.{Disk}
+use Rattle.command_io.specs.Images.{IsHeapAt}
+use Rattle.command_io.specs.Printing.{named, RefusedUnprinted}
+use Rattle.command_io.specs.declared.refusal.CommandRefusal.{CommandRefusal}
+use Rattle.command_io.specs.declared.refusal.CommandRefusal.TheVariants.{Audit, BadMarks, BadRoots, CannotCreate, CannotOpen, CannotPrint, Dump, Layout, Moved, Mutator, NoSuchWord, OutOfMemory, ReadFailed, Sweep, Trace}
+use Rattle.commands.specs.Audits.{compared_lines, counts_lines, counts_text, faults_by, passed_lines, FailsCompared, IsCompared, IsDumpAt, IsExplained, IsFound, IsPrinted, Passes, PrintsCompared, RefusedUnexplained, RefusesAudit, RefusesCompared, SomeAudit}
+use Rattle.commands.specs.Replays.{StopsUnprinted}
+use Rattle.commands.specs.declared.explained.Compared.{Compared}
+use Rattle.commands.specs.declared.explained.Found.{Found}
+use Rattle.commands.specs.declared.explained.Found.TheVariants.{Failed, Passed}
+use Rattle.commands.proofs.Audited.{of_both, weaker}
+
+-- lines after the counts that were compared are lines after the counts of the dump
+after_counts : (compared : Compared) (dump : Dumped) → AreCountsOf dump compared.counts → (before after : Option (List ℕ)) (rest : List ℕ) → Appends before after (compared_lines compared rest)
+    → Appends before after (counts_lines dump ++ rest)
+after_counts compared dump counts before after rest printed =
+    let one = subst (λ (n : ℕ). Appends before after (counts_text n compared.counts.pages compared.counts.entries ++ rest)) counts.built printed in
+    let two = subst (λ (n : ℕ). Appends before after (counts_text (total built_count dump.pages) n compared.counts.entries ++ rest)) counts.pages one in
+    subst (λ (n : ℕ). Appends before after (counts_text (total built_count dump.pages) (length dump.pages) n ++ rest)) counts.entries two
+
+module _ {F W : Type 0} (disk : Disk F W) (asked : runs.Audit) (explained : asked.explain ≡ true) (compared : Compared) (before after : Option (List ℕ)) where
+  -- a dump that passed
+  passed : (words : ℕ) → compared.found ≡ Passed words → Appends before after (compared_lines compared (named (codes "ok ") words))
+      → (heap : Heap) (dump : Dumped) → IsCompared asked.whole compared heap dump → Passes asked before after heap dump
+  passed words is printed heap dump h =
+      let found = subst (IsFound asked.whole heap dump) is h.found in
+      let lines = after_counts compared dump h.counts before after (named (codes "ok ") words) printed in
+      let of_total = subst (λ (n : ℕ). Appends before after (counts_lines dump ++ named (codes "ok ") n)) found.1 lines in
+      record { judged = found.0; printed = subst (λ (b : Bool). Appends before after (passed_lines b dump)) (sym explained) of_total }
+
+  pub compared_passed : (result : Result (Unit {0}) CommandRefusal) → SomeAudit disk asked (IsCompared asked.whole compared) → OnOk result (PrintsCompared before after compared)
+      → OnOk result (SomeAudit disk asked (Passes asked before after))
+  compared_passed (Ok _) found (words, is, printed) = weaker disk asked (IsCompared asked.whole compared) (Passes asked before after) (passed words is printed) found
+  compared_passed (Err refusal) found printed = tt
+
+  -- lines are printed of whatever was found
+  has_lines : (heap : Heap) (dump : Dumped) (found : Found) → IsFound asked.whole heap dump found → IsPrinted asked heap dump
+  has_lines heap dump (Passed words) is = inl is.0
+  has_lines heap dump (Failed fault explanation) is = inr (explained, (fault, is.0))
+
+  -- why what was compared was not printed, or has a fault
+  compared_refused : (refusal : CommandRefusal) → SomeAudit disk asked (IsCompared asked.whole compared) → RefusesCompared before after compared refusal → RefusesAudit disk asked refusal
+  compared_refused (Audit fault) found (explanation, is, text, printed) = weaker disk asked (IsCompared asked.whole compared) (λ heap dump. Judges (faults_by asked.whole heap dump) (No fault))
+      (λ heap dump h. (subst (IsFound asked.whole heap dump) is h.found).0) found
+  compared_refused CannotPrint found cause = weaker disk asked (IsCompared asked.whole compared) (IsPrinted asked) (λ heap dump h. has_lines heap dump compared.found h.found) found
+  compared_refused OutOfMemory found cause = tt
+  compared_refused (Layout fault) found cause = absurd cause
+  compared_refused (Mutator refusal) found cause = absurd cause
+  compared_refused (Sweep fault) found cause = absurd cause
+  compared_refused (Trace fault) found cause = absurd cause
+  compared_refused (Dump fault) found cause = absurd cause
+  compared_refused (Moved fault) found cause = absurd cause
+  compared_refused (CannotOpen input) found cause = absurd cause
+  compared_refused (CannotCreate output) found cause = absurd cause
+  compared_refused (ReadFailed input) found cause = absurd cause
+  compared_refused (NoSuchWord index) found cause = absurd cause
+  compared_refused (BadMarks line) found cause = absurd cause
+  compared_refused (BadRoots line) found cause = absurd cause
+
+  pub compared_cause : (result : Result (Unit {0}) CommandRefusal) → SomeAudit disk asked (IsCompared asked.whole compared) → IfErr result (RefusesCompared before after compared)
+      → IfErr result (RefusesAudit disk asked)
+  compared_cause (Ok _) found cause = tt
+  compared_cause (Err refusal) found cause = compared_refused refusal found cause
+
+  -- and what that left of the output
+  compared_leaves : (refusal : CommandRefusal) → SomeAudit disk asked (IsCompared asked.whole compared) → RefusesCompared before after compared refusal
+      → RefusedUnexplained disk asked before after refusal
+  compared_leaves (Audit fault) found (explanation, is, text, printed) = inr (
+    explained,
+    weaker disk asked (IsCompared asked.whole compared) (IsExplained asked before after fault)
+        (λ heap dump h. record {
+          judged = (subst (IsFound asked.whole heap dump) is h.found).0;
+          text = text;
+          printed = after_counts compared dump h.counts before after text printed;
+        }) found,
+  )
+  compared_leaves CannotPrint found cause = tt
+  compared_leaves OutOfMemory found cause = cause
+  compared_leaves (Layout fault) found cause = absurd cause
+  compared_leaves (Mutator refusal) found cause = absurd cause
+  compared_leaves (Sweep fault) found cause = absurd cause
+  compared_leaves (Trace fault) found cause = absurd cause
+  compared_leaves (Dump fault) found cause = absurd cause
+  compared_leaves (Moved fault) found cause = absurd cause
+  compared_leaves (CannotOpen input) found cause = absurd cause
+  compared_leaves (CannotCreate output) found cause = absurd cause
+  compared_leaves (ReadFailed input) found cause = absurd cause
+  compared_leaves (NoSuchWord index) found cause = absurd cause
+  compared_leaves (BadMarks line) found cause = absurd cause
+  compared_leaves (BadRoots line) found cause = absurd cause
+
+  pub compared_left : (result : Result (Unit {0}) CommandRefusal) → SomeAudit disk asked (IsCompared asked.whole compared) → IfErr result (RefusesCompared before after compared)
+      → IfErr result (RefusedUnexplained disk asked before after)
+  compared_left (Ok _) found cause = tt
+  compared_left (Err refusal) found cause = compared_leaves refusal found cause
+
+-- what was compared of the heap and of the dump that were read is that of those of the files
+pub of_compared : {F W : Type 0} (disk : Disk F W) (asked : runs.Audit) (heap : Heap) → IsHeapAt disk asked.large asked.image heap → (dump : Dumped) → IsDumpAt disk asked dump → (result : Result Compared CommandRefusal)
+    → IfOk result (λ compared. IsCompared asked.whole compared heap dump) → IfOk result (λ compared. SomeAudit disk asked (IsCompared asked.whole compared))
+of_compared disk asked heap found dump file (Ok compared) is = of_both disk asked heap found dump file (IsCompared asked.whole compared) is
+of_compared disk asked heap found dump file (Err refusal) is = tt
+
+-- two facts of one refusal
+pub both_err : (P Q : CommandRefusal → Type 0) (result : Result (Unit {0}) CommandRefusal) → IfErr result P → IfErr result Q → IfErr result (λ refusal. P refusal × Q refusal)
+both_err P Q (Ok _) p q = tt
+both_err P Q (Err refusal) p q = (p, q)
+
+module _ {F W : Type 0} (disk : Disk F W) (asked : runs.Audit) (before after : Option (List ℕ)) where
+  -- a refusal other than a fault left the output as it was, unless a call of the output failed
+  unprinted : (refusal : CommandRefusal) → RefusedUnexplained disk asked before after refusal → StopsUnprinted {T = Unit {0}} before after (Err refusal)
+  unprinted (Audit fault) h = tt
+  unprinted CannotPrint h = tt
+  unprinted OutOfMemory h = h
+  unprinted (Layout fault) h = h
+  unprinted (Mutator refusal) h = h
+  unprinted (Sweep fault) h = h
+  unprinted (Trace (traces.Refused number refusal)) h = tt
+  unprinted (Trace (traces.BadLine number)) h = h
+  unprinted (Trace (traces.NoSuchMutator number)) h = h
+  unprinted (Trace (traces.NoSuchRegister number)) h = h
+  unprinted (Trace (traces.NumberTooLarge number)) h = h
+  unprinted (Trace (traces.NoSuchRoot number)) h = h
+  unprinted (Trace traces.OutOfMemory) h = h
+  unprinted (Dump fault) h = h
+  unprinted (Moved fault) h = h
+  unprinted (CannotOpen input) h = h
+  unprinted (CannotCreate output) h = h
+  unprinted (ReadFailed input) h = h
+  unprinted (NoSuchWord index) h = h
+  unprinted (BadMarks line) h = h
+  unprinted (BadRoots line) h = h
+
+  -- and if what was compared is not explained, a fault did too
+  plain_leaves : asked.explain ≡ false → (refusal : CommandRefusal) → RefusedUnprinted {T = Unit {0}} before after (Err refusal) → RefusedUnexplained disk asked before after refusal
+  plain_leaves plain (Audit fault) h = inl (plain, h)
+  plain_leaves plain CannotPrint h = tt
+  plain_leaves plain OutOfMemory h = h
+  plain_leaves plain (Layout fault) h = h
+  plain_leaves plain (Mutator refusal) h = h
+  plain_leaves plain (Sweep fault) h = h
+  plain_leaves plain (Trace fault) h = h
+  plain_leaves plain (Dump fault) h = h
+  plain_leaves plain (Moved fault) h = h
+  plain_leaves plain (CannotOpen input) h = h
+  plain_leaves plain (CannotCreate output) h = h
+  plain_leaves plain (ReadFailed input) h = h
+  plain_leaves plain (NoSuchWord index) h = h
+  plain_leaves plain (BadMarks line) h = h
+  plain_leaves plain (BadRoots line) h = h
+
+  pub plain_left : asked.explain ≡ false → (result : Result (Unit {0}) CommandRefusal) → RefusedUnprinted before after result → IfErr result (RefusedUnexplained disk asked before after)
+  plain_left plain (Ok _) h = tt
+  plain_left plain (Err refusal) h = plain_leaves plain refusal h
+
+  pub left_unprinted : (result : Result (Unit {0}) CommandRefusal) → IfErr result (RefusedUnexplained disk asked before after) → StopsUnprinted before after result
+  left_unprinted (Ok _) h = tt
+  left_unprinted (Err refusal) h = unprinted refusal h

@@ -1,0 +1,15 @@
+use Rattle.command_line.specs.Runs.{audit_of}
+use Rattle.commands.proofs.ComparedAudits.{compared_cause, compared_left, compared_passed}
+use Rattle.commands.proofs.explained.print_explained.Goals as goal
+
+pub returns-clause-passed : goal.returns-clause-passed
+returns-clause-passed g c =
+    compared_passed (g.F.Files.disk c.args.files.now) (audit_of c.args.run.now) c.requires.explained c.in_ok-compared.compared _ _ c.print_compared.result c.in_ok-compared.ensures.compared c.print_compared.ensures.printed
+
+pub returns-clause-cause : goal.returns-clause-cause
+returns-clause-cause g c =
+    compared_cause (g.F.Files.disk c.args.files.now) (audit_of c.args.run.now) c.requires.explained c.in_ok-compared.compared _ _ c.print_compared.result c.in_ok-compared.ensures.compared c.print_compared.ensures.cause
+
+pub returns-clause-unexplained : goal.returns-clause-unexplained
+returns-clause-unexplained g c =
+    compared_left (g.F.Files.disk c.args.files.now) (audit_of c.args.run.now) c.requires.explained c.in_ok-compared.compared _ _ c.print_compared.result c.in_ok-compared.ensures.compared c.print_compared.ensures.cause

@@ -1,0 +1,159 @@
+//! What `audit --explain` prints: how much the dump has, and what is wrong where, or that nothing is.
+ghost use Rattle.std.specs.Prelude.{◌≡◌, ◌-◌, ◌^◌, ◌<◌, ◌++◌, true, IfOk, IfErr, OnOk, OnErr, Err};
+ghost use Rattle.std.specs.Io.KnownBytes.{Appends};
+ghost use Rattle.heap_layout.specs.Counted.{inner_of, failures_of, is_flushed_of, writer_of};
+ghost use Rattle.command_line.specs.Runs.{audit_of};
+ghost use Rattle.command_io.specs.Printing.{CountsPrint};
+ghost use Rattle.command_io.specs.declared.refusal.CommandRefusal.TheVariants as refusals;
+ghost use Rattle.commands.specs.Audits.{counts_text, FailsCompared, IsCompared, IsFound, Passes, PrintsCompared, RefusedUnexplained, RefusesAudit, RefusesCompared, SomeAudit};
+
+use crate::audit::{dump_at, verdict_by};
+use command_io::{CommandRefusal, Files, flush, heap_at, print_digits, print_line, print_text};
+use command_line::AuditRun;
+use comp_audit::{AuditFault, Dump, DumpCounts, Explanation, Verdict, count, explain};
+use heap_layout::{Counted, MarkedHeap, OutOfMemory};
+use page_plan::Plan;
+use std::alloc::Global;
+use std::io::Write;
+use std::thread::Threads;
+
+/// How much a dump has, and what its audit found.
+#[derive(Drop)]
+pub struct Compared {
+    pub counts: DumpCounts,
+    pub found: Found,
+}
+
+/// What an audit found: the live words of a dump that passes, or its first fault, and what is said of it.
+#[derive(Drop)]
+pub enum Found {
+    Passed(u64),
+    Failed(AuditFault, Explanation),
+}
+
+/// Audits the dump at `run.dump` against the heap image at `run.image`, as `print_audit` does, and explains what it
+/// compared. Prints how many of its pages are built and how many entries they have; then, if the dump passes, `ok` and
+/// its live words. Else it prints what is wrong where, and flushes the output, and the refusal is the first fault
+/// (`Audit`). A refusal other than that and `CannotPrint` prints nothing.
+pub(crate) fn print_explained<F: Files, O: Write>(
+    alloc: Global,
+    rt: &(impl Threads + Sync),
+    files: &F,
+    run: &AuditRun,
+    out: &mut Counted<&mut O>,
+) -> Result<(), CommandRefusal>
+    requires explained { run.now.explain ≡ true }
+    requires written { failures_of out.old < 2 ^ 64 - 1 }
+    ensures passed { OnOk result (SomeAudit (F.disk files.now) (audit_of run.now) (Passes (audit_of run.now) (O.contents (inner_of out.old).now) (O.contents (inner_of out.new).now))) }
+    ensures cause { IfErr result (RefusesAudit (F.disk files.now) (audit_of run.now)) }
+    ensures unexplained { IfErr result (RefusedUnexplained (F.disk files.now) (audit_of run.now) (O.contents (inner_of out.old).now) (O.contents (inner_of out.new).now)) }
+    ensures counts { CountsPrint (failures_of out.old) (failures_of out.new) result }
+    ensures same_writer { writer_of out.new ≡ writer_of out.old }
+{
+    let compared = compared_at(alloc, rt, files, run)?;
+    print_compared(alloc, &compared, out)
+}
+
+// How much what is audited has, and what its audit finds. The image is read first.
+fn compared_at<F: Files>(
+    alloc: Global,
+    rt: &(impl Threads + Sync),
+    files: &F,
+    run: &AuditRun,
+) -> Result<Compared, CommandRefusal>
+    ensures compared { IfOk result (λ compared. SomeAudit (F.disk files.now) (audit_of run.now) (IsCompared run.now.whole compared)) }
+    ensures cause { IfErr result (FailsCompared (F.disk files.now) (audit_of run.now)) }
+{
+    let heap = heap_at(alloc, files, run.image, run.large)?;
+    let dump = dump_at(alloc, files, run)?;
+    compare(alloc, rt, heap, &dump, run.whole)
+}
+
+// How much a dump has, and what its audit finds. It fails only if memory runs out.
+fn compare(
+    alloc: Global,
+    rt: &(impl Threads + Sync),
+    heap: MarkedHeap,
+    dump: &Dump<'_>,
+    whole: bool,
+) -> Result<Compared, CommandRefusal>
+    ensures compared { IfOk result (λ compared. IsCompared whole compared heap dump.now) }
+    ensures cause { IfErr result (λ refusal. refusal ≡ refusals.OutOfMemory) }
+{
+    let plan = Plan::new(alloc, rt, heap)?;
+    let found = found_by(alloc, &plan, dump, whole)?;
+    let counts = count(dump);
+    Ok(Compared { counts, found })
+}
+
+// What the audit of a dump finds. Err if out of memory.
+fn found_by(alloc: Global, plan: &Plan, dump: &Dump<'_>, whole: bool) -> Result<Found, OutOfMemory>
+    ensures { IfOk result (IsFound whole plan.now dump.now) }
+{
+    match verdict_by(alloc, plan, dump, whole)? {
+        Verdict::Yes => Ok(Found::Passed(dump.live_words())),
+        Verdict::No(fault) => Ok(Found::Failed(fault, explain(alloc, plan, dump, fault)?)),
+    }
+}
+
+// Prints what was compared. A fault is the refusal; then the output is flushed, since nothing is printed after it.
+fn print_compared<O: Write>(
+    alloc: Global,
+    compared: &Compared,
+    out: &mut Counted<&mut O>,
+) -> Result<(), CommandRefusal>
+    requires { failures_of out.old < 2 ^ 64 - 1 }
+    ensures printed { OnOk result (PrintsCompared (O.contents (inner_of out.old).now) (O.contents (inner_of out.new).now) compared.now) }
+    ensures cause { IfErr result (RefusesCompared (O.contents (inner_of out.old).now) (O.contents (inner_of out.new).now) compared.now) }
+    ensures counts { CountsPrint (failures_of out.old) (failures_of out.new) result }
+    ensures same_writer { writer_of out.new ≡ writer_of out.old }
+{
+    match compared.found {
+        Found::Passed(words) => {
+            print_counts(compared.counts, out)?;
+            print_line("ok ", words, out)
+        }
+        Found::Failed(fault, explanation) => {
+            let text = format!(in alloc; "{explanation}\n")?;
+            send_fault(compared.counts, &text, out)?;
+            Err(CommandRefusal::Audit(fault))
+        }
+    }
+}
+
+// Prints counts and a text after them, and flushes the output.
+fn send_fault<O: Write>(
+    counts: DumpCounts,
+    text: &str,
+    out: &mut Counted<&mut O>,
+) -> Result<(), CommandRefusal>
+    requires { failures_of out.old < 2 ^ 64 - 1 }
+    ensures printed { OnOk result (Appends (O.contents (inner_of out.old).now) (O.contents (inner_of out.new).now) (counts_text counts.built counts.pages counts.entries ++ text.now)) }
+    ensures cause { OnErr result (result ≡ Err refusals.CannotPrint) }
+    ensures counts { CountsPrint (failures_of out.old) (failures_of out.new) result }
+    ensures flushed { OnOk result (is_flushed_of out.new ≡ true) }
+    ensures same_writer { writer_of out.new ≡ writer_of out.old }
+{
+    print_counts(counts, out)?;
+    print_text(text, out)?;
+    flush(out)
+}
+
+// Prints the lines of counts: of how many pages how many are built, and the entries.
+fn print_counts<O: Write>(
+    counts: DumpCounts,
+    out: &mut Counted<&mut O>,
+) -> Result<(), CommandRefusal>
+    requires { failures_of out.old < 2 ^ 64 - 1 }
+    ensures printed { OnOk result (Appends (O.contents (inner_of out.old).now) (O.contents (inner_of out.new).now) (counts_text counts.built counts.pages counts.entries)) }
+    ensures cause { OnErr result (result ≡ Err refusals.CannotPrint) }
+    ensures counts { CountsPrint (failures_of out.old) (failures_of out.new) result }
+    ensures same_writer { writer_of out.new ≡ writer_of out.old }
+{
+    print_text("built ", out)?;
+    print_digits(counts.built, out)?;
+    print_text(" of ", out)?;
+    print_digits(counts.pages, out)?;
+    print_text(" pages\n", out)?;
+    print_line("entries ", counts.entries, out)
+}
