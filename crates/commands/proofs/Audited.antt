@@ -1,13 +1,11 @@
 -- The heap of an image and a dump that were read, of which something holds.
-use Rattle.std.proofs.Common.{◌≡◌, ℕ, Bool, true, false, List, Option, Result, Ok, Err, IfErr, OnErr, OnOk, codes, inl, inr, sym, subst}
+use Rattle.std.proofs.Common.{◌≡◌, ℕ, Bool, false, List, Option, Result, Ok, Err, IfErr, OnErr, OnOk, codes, inl, sym, subst}
 use Rattle.std.proofs.KnownBytes.{Appends-kept}
 use Rattle.std.specs.Io.KnownBytes.{Appends, Keeps}
 use Rattle.heap_layout.specs.Heap.{Heap}
 use Rattle.comp_dump.specs.Dumped.{Dumped}
-use Rattle.comp_audit.specs.Judged.{Judges}
-use Rattle.comp_audit.specs.declared.verdict.Verdict.TheVariants.{Yes}
 use Rattle.command_line.specs.Runs as runs
-use Rattle.commands.specs.Audits.{faults_by, passed_lines, HasPassed, IsDumpAt, IsDumpIn, IsPrinted, Passes, RefusesAudit, SomeAudit}
+use Rattle.commands.specs.Audits.{passed_lines, HasPassed, IsDumpAt, IsDumpIn, IsPrinted, Passes, RefusesAudit, SomeAudit}
 use Rattle.command_io.specs.Disk.{Disk, SomeFile}
 use Rattle.command_io.specs.Images.{IsHeapAt}
 use Rattle.command_io.specs.declared.refusal.Input.TheVariants as inputs

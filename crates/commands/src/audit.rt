@@ -4,7 +4,7 @@ ghost use Rattle.heap_layout.specs.Counted.{inner_of, failures_of, writer_of};
 ghost use Rattle.comp_audit.specs.Judged.{Judges};
 ghost use Rattle.command_line.specs.Runs.{audit_of};
 ghost use Rattle.commands.specs.Audits.{faults_by, FailsAudit, HasPassed, IsDumpAt, Passes, RefusedUnexplained, RefusesAudit, RefusesDumpAt, SomeAudit};
-ghost use Rattle.command_io.specs.Printing.{CountsPrint, RefusedUnprinted};
+ghost use Rattle.command_io.specs.Printing.{CountsPrint};
 ghost use Rattle.command_io.specs.declared.refusal.CommandRefusal.TheVariants as refusals;
 
 use crate::explained::print_explained;
@@ -47,7 +47,8 @@ pub fn print_audit<F: Files, O: Write>(
     }
 }
 
-// Prints `ok` and the live words of what is audited, if it passes, and explains nothing.
+// Prints `ok` and the live words of what is audited, if it passes, and explains nothing. A refusal other than
+// `CannotPrint` prints nothing.
 fn print_plain<F: Files, O: Write>(
     alloc: Global,
     rt: &(impl Threads + Sync),
@@ -62,25 +63,6 @@ fn print_plain<F: Files, O: Write>(
     ensures unexplained { IfErr result (RefusedUnexplained (F.disk files.now) (audit_of run.now) (O.contents (inner_of out.old).now) (O.contents (inner_of out.new).now)) }
     ensures counts { CountsPrint (failures_of out.old) (failures_of out.new) result }
     ensures same_writer { writer_of out.new ≡ writer_of out.old }
-{
-    print_passed(alloc, rt, files, run, out)
-}
-
-// Prints the line of what is audited, if it passes. A refusal other than `CannotPrint` prints nothing.
-fn print_passed<F: Files, O: Write>(
-    alloc: Global,
-    rt: &(impl Threads + Sync),
-    files: &F,
-    run: &AuditRun,
-    out: &mut Counted<&mut O>,
-) -> Result<(), CommandRefusal>
-    requires plain { run.now.explain ≡ false }
-    requires written { failures_of out.old < 2 ^ 64 - 1 }
-    ensures passed { OnOk result (SomeAudit (F.disk files.now) (audit_of run.now) (Passes (audit_of run.now) (O.contents (inner_of out.old).now) (O.contents (inner_of out.new).now))) }
-    ensures cause { IfErr result (RefusesAudit (F.disk files.now) (audit_of run.now)) }
-    ensures counts { CountsPrint (failures_of out.old) (failures_of out.new) result }
-    ensures same_writer { writer_of out.new ≡ writer_of out.old }
-    ensures unprinted { RefusedUnprinted (O.contents (inner_of out.old).now) (O.contents (inner_of out.new).now) result }
 {
     let words = audited_words(alloc, rt, files, run)?;
     print_line("ok ", words, out)

@@ -1,19 +1,19 @@
 //! What `audit --explain` prints: how much the dump has, and what is wrong where, or that nothing is.
-ghost use Rattle.std.specs.Prelude.{◌≡◌, ◌-◌, ◌^◌, ◌<◌, ◌++◌, true, IfOk, IfErr, OnOk, OnErr, Err};
-ghost use Rattle.std.specs.Io.KnownBytes.{Appends};
-ghost use Rattle.heap_layout.specs.Counted.{inner_of, failures_of, is_flushed_of, writer_of};
+ghost use Rattle.std.specs.Prelude.{◌≡◌, ◌-◌, ◌^◌, ◌<◌, true, IfOk, IfErr, OnOk, Some};
+ghost use Rattle.heap_layout.specs.Counted.{inner_of, failures_of, writer_of};
 ghost use Rattle.command_line.specs.Runs.{audit_of};
 ghost use Rattle.command_io.specs.Printing.{CountsPrint};
 ghost use Rattle.command_io.specs.declared.refusal.CommandRefusal.TheVariants as refusals;
-ghost use Rattle.commands.specs.Audits.{counts_text, FailsCompared, IsCompared, IsFound, Passes, PrintsCompared, RefusedUnexplained, RefusesAudit, RefusesCompared, SomeAudit};
+ghost use Rattle.commands.specs.Audits.{compared_lines, found_lines, FailsCompared, IsCompared, IsFound, Passes, PrintsCompared, RefusedUnexplained, RefusesAudit, RefusesCompared, SomeAudit};
 
 use crate::audit::{dump_at, verdict_by};
-use command_io::{CommandRefusal, Files, flush, heap_at, print_digits, print_line, print_text};
+use command_io::{CommandRefusal, Files, flush, heap_at, print_text};
 use command_line::AuditRun;
 use comp_audit::{AuditFault, Dump, DumpCounts, Explanation, Verdict, count, explain};
 use heap_layout::{Counted, MarkedHeap, OutOfMemory};
 use page_plan::Plan;
 use std::alloc::Global;
+use std::fmt::{self, Display, Formatter};
 use std::io::Write;
 use std::thread::Threads;
 
@@ -29,6 +29,25 @@ pub struct Compared {
 pub enum Found {
     Passed(u64),
     Failed(AuditFault, Explanation),
+}
+
+impl Display for Found {
+    ghost output = { λ found. Some (found_lines found) };
+
+    fn fmt<W: fmt::Write>(&self, f: &mut Formatter<W>) -> fmt::Result {
+        match self {
+            Found::Passed(words) => writeln!(f, "ok {words}"),
+            Found::Failed(_, explanation) => writeln!(f, "{explanation}"),
+        }
+    }
+}
+
+impl Display for Compared {
+    ghost output = { λ compared. Some (compared_lines compared) };
+
+    fn fmt<W: fmt::Write>(&self, f: &mut Formatter<W>) -> fmt::Result {
+        write!(f, "{}\n{}", self.counts, self.found)
+    }
 }
 
 /// Audits the dump at `run.dump` against the heap image at `run.image`, as `print_audit` does, and explains what it
@@ -108,52 +127,13 @@ fn print_compared<O: Write>(
     ensures counts { CountsPrint (failures_of out.old) (failures_of out.new) result }
     ensures same_writer { writer_of out.new ≡ writer_of out.old }
 {
+    let text = format!(in alloc; "{compared}")?;
+    print_text(&text, out)?;
     match compared.found {
-        Found::Passed(words) => {
-            print_counts(compared.counts, out)?;
-            print_line("ok ", words, out)
-        }
-        Found::Failed(fault, explanation) => {
-            let text = format!(in alloc; "{explanation}\n")?;
-            send_fault(compared.counts, &text, out)?;
+        Found::Passed(_) => Ok(()),
+        Found::Failed(fault, _) => {
+            flush(out)?;
             Err(CommandRefusal::Audit(fault))
         }
     }
-}
-
-// Prints counts and a text after them, and flushes the output.
-fn send_fault<O: Write>(
-    counts: DumpCounts,
-    text: &str,
-    out: &mut Counted<&mut O>,
-) -> Result<(), CommandRefusal>
-    requires { failures_of out.old < 2 ^ 64 - 1 }
-    ensures printed { OnOk result (Appends (O.contents (inner_of out.old).now) (O.contents (inner_of out.new).now) (counts_text counts.built counts.pages counts.entries ++ text.now)) }
-    ensures cause { OnErr result (result ≡ Err refusals.CannotPrint) }
-    ensures counts { CountsPrint (failures_of out.old) (failures_of out.new) result }
-    ensures flushed { OnOk result (is_flushed_of out.new ≡ true) }
-    ensures same_writer { writer_of out.new ≡ writer_of out.old }
-{
-    print_counts(counts, out)?;
-    print_text(text, out)?;
-    flush(out)
-}
-
-// Prints the lines of counts: of how many pages how many are built, and the entries.
-fn print_counts<O: Write>(
-    counts: DumpCounts,
-    out: &mut Counted<&mut O>,
-) -> Result<(), CommandRefusal>
-    requires { failures_of out.old < 2 ^ 64 - 1 }
-    ensures printed { OnOk result (Appends (O.contents (inner_of out.old).now) (O.contents (inner_of out.new).now) (counts_text counts.built counts.pages counts.entries)) }
-    ensures cause { OnErr result (result ≡ Err refusals.CannotPrint) }
-    ensures counts { CountsPrint (failures_of out.old) (failures_of out.new) result }
-    ensures same_writer { writer_of out.new ≡ writer_of out.old }
-{
-    print_text("built ", out)?;
-    print_digits(counts.built, out)?;
-    print_text(" of ", out)?;
-    print_digits(counts.pages, out)?;
-    print_text(" pages\n", out)?;
-    print_line("entries ", counts.entries, out)
 }

@@ -1,9 +1,9 @@
 -- The words of pages, joined: pages of some words are those words with zeros after them.
-use Rattle.std.proofs.Common.{◌≡◌, ◌∙◌, ◌+◌, ◌-◌, ◌*◌, ◌<◌, ◌≤◌, ℕ, zero, suc, inl, inr, List, [], ◌∷◌, ◌++◌, length, take, drop, replicate, get_or, Option, None, ap, ap₂, append-nil, append_assoc, arith, length-append, length-drop, refl, sym, take-append-drop}
+use Rattle.std.proofs.Common.{◌≡◌, ◌∙◌, ◌+◌, ◌-◌, ◌*◌, ◌<◌, ◌≤◌, ℕ, zero, suc, inl, inr, List, [], ◌∷◌, ◌++◌, length, take, drop, replicate, get_or, Option, None, ap, ap₂, append_assoc, arith, length-drop, refl, sym, take-append-drop}
 use Rattle.std.specs.List.{flat_map, range_with_len}
 use Rattle.std.proofs.Math.Seq.{take-append-add}
 use Rattle.std.proofs.lemmas.Bool.{cases_lt}
-use Rattle.std.proofs.lemmas.List.{drop_all, drop-drop, drop-replicate, nil_from_length, take_all, take-append-le, take-replicate}
+use Rattle.std.proofs.lemmas.List.{drop_all, drop-drop, drop-replicate, nil_from_length, take-append-le, take-replicate}
 use Rattle.comp_dump.specs.Dumped.{BuiltPage}
 use Rattle.comp_audit.specs.Whole.{words_of}
 

@@ -1,5 +1,5 @@
 -- Which compacted pages were never built.
-use Rattle.std.proofs.Common.{◌≡◌, ◌∙◌, ◌+◌, ◌<◌, ℕ, inl, inr, Bool, true, false, List, [], get_or, is_some, Option, None, ap, arith, refl, subst, sym}
+use Rattle.std.proofs.Common.{◌≡◌, ◌+◌, ◌<◌, ℕ, inl, inr, Bool, true, false, List, [], get_or, is_some, Option, None, ap, arith, refl, subst, sym}
 use Rattle.std.proofs.lemmas.Bool.{cases_lt}
 use Rattle.heap_layout.specs.Faults.{unless, IsFirst}
 use Rattle.comp_dump.specs.Dumped.{BuiltPage}

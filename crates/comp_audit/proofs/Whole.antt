@@ -1,6 +1,6 @@
 -- What the whole audit's yes means.
-use Rattle.std.proofs.Common.{◌≡◌, ◌∙◌, ◌+◌, ◌-◌, ◌*◌, ◌/◌, ◌<◌, ◌≤◌, ℕ, Bool, true, false, List, [], ◌++◌, cond, length, take, drop, replicate, get_or, ltb, is_some, Option, Some, None, ap, arith, refl, subst, sym, true≢false}
-use Rattle.std.specs.List.{flat_map, range_with_len}
+use Rattle.std.proofs.Common.{◌≡◌, ◌∙◌, ◌-◌, ◌*◌, ◌<◌, ℕ, Bool, true, List, [], ◌++◌, cond, length, take, replicate, get_or, is_some, Option, Some, None, ap, arith, refl, sym, true≢false}
+use Rattle.std.specs.List.{flat_map}
 use Rattle.std.proofs.lemmas.Bool.{lt-ltb}
 use Rattle.heap_layout.specs.Heap.{Heap, live, IsClosed}
 use Rattle.heap_layout.proofs.Rows.{append-none, unless-none}
@@ -14,7 +14,7 @@ use Rattle.comp_dump.specs.Dumped.{BuiltPage, Dumped, IsStored}
 use Rattle.comp_dump.specs.declared.fault.AuditFault.TheVariants.{PageMissing}
 use Rattle.audit_checks.specs.Checks.{journal_of, setup_for}
 use Rattle.comp_audit.specs.Judged.{whole_faults}
-use Rattle.comp_audit.specs.Meant.{journals_of, IsLawfulDump, IsSound}
+use Rattle.comp_audit.specs.Meant.{journals_of, IsLawfulDump}
 use Rattle.comp_audit.specs.Whole.{replayed_words, words_of, IsUnwritten, UnwrittenIsSlid, WholeIsReplayed}
 use Rattle.comp_audit.proofs.Clock.{range_none}
 use Rattle.comp_audit.proofs.Joined.{all_pages, joined_from, range_same}

@@ -1,5 +1,5 @@
 -- Why an entry does not fit, in the order of the checks: its stamp, then what it writes, then where it leads.
-use Rattle.std.specs.Prelude.{◌≡◌, ◌≢◌, ℕ, zero, suc, ◌+◌, ◌-◌, ◌%◌, ◌<◌, ◌≤◌, ◌⊎◌, cond, nat_lt, Bool, true, false, is_some, IfSome, List, take, slice_get, Option, Some, None}
+use Rattle.std.specs.Prelude.{◌≡◌, ◌≢◌, ℕ, zero, suc, ◌+◌, ◌-◌, ◌%◌, ◌<◌, ◌≤◌, ◌⊎◌, cond, nat_lt, Bool, true, false, is_some, IfSome, List, slice_get, Option, Some, None}
 use Rattle.std.specs.List.{list_any}
 use Rattle.std.specs.Option.{option_map}
 use Rattle.heap_layout.specs.Header.{header_of, size_of}
@@ -10,9 +10,8 @@ use Rattle.comp_dump.specs.Entry.{Entry}
 use Rattle.comp_dump.specs.Lawful.{filled, kind_at}
 use Rattle.comp_dump.specs.Setup.{Setup, pages}
 use Rattle.comp_dump.specs.Dumped.{Dumped}
-use Rattle.audit_checks.specs.Checks.{all_entries, fits, is_forwarding_address, is_fresh_of, is_kind, is_led, is_made_before, is_start, makes, setup_for}
+use Rattle.audit_checks.specs.Checks.{all_entries, fits, is_fresh_of, is_kind, is_led, is_made_before, is_start, makes, setup_for}
 use Rattle.audit_checks.specs.Noted.{is_below}
-use Rattle.comp_audit.specs.Meant.{journals_of}
 use Rattle.comp_audit.specs.declared.explanation.EntryCause.{EntryCause}
 use Rattle.comp_audit.specs.declared.explanation.EntryCause.TheVariants as why
 

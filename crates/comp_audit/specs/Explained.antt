@@ -1,5 +1,5 @@
 -- What the audit says of a fault: for each fault, what is in the dump and what should be there.
-use Rattle.std.specs.Prelude.{◌≡◌, ◌≢◌, ℕ, zero, suc, ◌+◌, ◌-◌, ◌%◌, ◌<◌, ◌≤◌, cond, nat_lt, is_some, true, IfSome, IfNone, List, [], length, map, take, slice_get, slice_index, slice_index_or, Option, Some, None}
+use Rattle.std.specs.Prelude.{◌≡◌, ◌≢◌, ℕ, ◌+◌, ◌-◌, ◌<◌, ◌≤◌, cond, nat_lt, is_some, true, IfSome, List, [], length, map, take, slice_get, slice_index, slice_index_or, Option, Some, None}
 use Rattle.std.specs.Option.{option_map}
 use Rattle.heap_layout.specs.Heap.{Heap, live}
 use Rattle.page_plan.specs.Sliding as sliding
@@ -8,14 +8,14 @@ use Rattle.page_plan.specs.Planned.{Covers}
 use Rattle.comp_dump.specs.Entry.{Entry}
 use Rattle.comp_dump.specs.Lawful.{filled}
 use Rattle.comp_dump.specs.Lists.{times, total}
-use Rattle.comp_dump.specs.Setup.{Setup, pages}
+use Rattle.comp_dump.specs.Setup.{pages}
 use Rattle.comp_dump.specs.Objects.{offset_at, page_at, word_on}
 use Rattle.comp_dump.specs.Shares.{allocated}
 use Rattle.comp_dump.specs.Builds.{named}
 use Rattle.comp_dump.specs.Dumped.{BuiltPage, Dumped}
 use Rattle.comp_dump.specs.declared.fault.AuditFault.{AuditFault}
 use Rattle.comp_dump.specs.declared.fault.AuditFault.TheVariants as fault
-use Rattle.audit_checks.specs.Checks.{all_entries, all_stamps, setup_for}
+use Rattle.audit_checks.specs.Checks.{all_entries, all_stamps}
 use Rattle.comp_audit.specs.Meant.{built_count, journals_of, page_of}
 pub use Rattle.comp_audit.specs.Causes.{maker_of, setup_of, stamp_before}
 use Rattle.comp_audit.specs.Causes.{HasNoCause, IsCauseOf}
@@ -24,6 +24,8 @@ use Rattle.comp_audit.specs.declared.explanation.SlidObject.{SlidObject}
 use Rattle.comp_audit.specs.declared.explanation.OutOfPlace.{OutOfPlace}
 use Rattle.comp_audit.specs.declared.explanation.WrongWordAt.{WrongWordAt}
 use Rattle.comp_audit.specs.declared.explanation.LooseWordAt.{LooseWordAt}
+use Rattle.comp_audit.specs.declared.explanation.LooseEntry.{LooseEntry}
+use Rattle.comp_audit.specs.declared.explanation.EntryCause.{EntryCause}
 use Rattle.comp_audit.specs.declared.explanation.HeadCause.{HeadCause}
 use Rattle.comp_audit.specs.declared.explanation.HeadCause.TheVariants as head
 use Rattle.comp_audit.specs.declared.explanation.RootAt.{RootAt}
@@ -82,11 +84,38 @@ pub record IsWordExplained (heap : Heap) (dump : Dumped) (a : ℕ) (word : Wrong
   pub object : IsOwner heap (a - to_address 0) word.object
   pub out_of_place : IsOutOfPlace heap dump word.out_of_place
 
--- the word at this address
-pub record IsLooseExplained (dump : Dumped) (a : ℕ) (word : LooseWordAt) : Type 0 where
+-- why entry e, which has number k on page p, does not fit; None if none of the causes holds of it
+abbrev pub IsCauseAt : Heap → Dumped → ℕ → ℕ → Entry → Option EntryCause → Type 0
+IsCauseAt heap dump p k e None = HasNoCause heap dump p (stamp_before (journals_of dump p) k) (take k (journals_of dump p)) e
+IsCauseAt heap dump p k e (Some cause) = IsCauseOf heap dump p (stamp_before (journals_of dump p) k) (take k (journals_of dump p)) e cause
+
+-- no entry of the journal from number `low` on is at this offset
+abbrev pub NoneAt : List Entry → ℕ → ℕ → Type 0
+NoneAt journal offset low = (k : ℕ) (e : Entry) → low ≤ k → slice_get journal k ≡ Some e → e.offset ≢ offset
+
+-- entry k of the journal is this one and is at this offset, and no later entry is
+pub record IsLastEntry (journal : List Entry) (offset k : ℕ) (e : Entry) : Type 0 where
+  pub entry : slice_get journal k ≡ Some e
+  pub here : e.offset ≡ offset
+  pub last : NoneAt journal offset (k + 1)
+
+-- the last entry of the journal at this offset, with its number; None if no entry is at it
+abbrev pub IsLastAt : List Entry → ℕ → Option (ℕ × Entry) → Type 0
+IsLastAt journal offset None = NoneAt journal offset 0
+IsLastAt journal offset (Some found) = IsLastEntry journal offset found.0 found.1
+
+-- the last entry of page p at this offset, and why it does not fit; None if no entry of the page is at it
+abbrev pub IsLooseEntry : Heap → Dumped → ℕ → ℕ → Option LooseEntry → Type 0
+IsLooseEntry heap dump p offset None = NoneAt (journals_of dump p) offset 0
+IsLooseEntry heap dump p offset (Some found) =
+    IsLastEntry (journals_of dump p) offset found.number found.entry × IsCauseAt heap dump p found.number found.entry found.cause
+
+-- the word at this address, and the last entry of its page at its offset
+pub record IsLooseExplained (heap : Heap) (dump : Dumped) (a : ℕ) (word : LooseWordAt) : Type 0 where
   pub page : word.page ≡ page_at a
   pub offset : word.offset ≡ offset_at a
   pub is : word_in dump a ≡ Some word.is
+  pub entry : IsLooseEntry heap dump word.page word.offset word.entry
 
 -- The head is compared in this order: the edition, the number of pages, the number of roots, each root.
 pub record HasItsPages (heap : Heap) (dump : Dumped) : Type 0 where
@@ -122,20 +151,16 @@ pub record AreTotals (heap : Heap) (dump : Dumped) (totals : Totals) : Type 0 wh
   pub is : totals.is ≡ dump.total
   pub should_be : totals.should_be ≡ live_words (live heap) + allocated heap.edition (all_entries dump.pages)
 
--- of the mutators from number `low` on, the first whose list of builds names page p; None if there is none
-abbrev pub IsNextClaim : List (List ℕ) → ℕ → ℕ → Option ℕ → Type 0
-IsNextClaim builds p low None = (k : ℕ) → low ≤ k → k < length builds → times p (slice_index_or builds k []) ≡ 0
-IsNextClaim builds p low (Some found) =
-    (low ≤ found) × (found < length builds) × (0 < times p (slice_index_or builds found [])) × ((k : ℕ) → low ≤ k → k < found → times p (slice_index_or builds k []) ≡ 0)
+-- how often the list of builds of each mutator names page p; 0 past the last list
+abbrev pub AreNamings : List (List ℕ) → ℕ → List ℕ → Type 0
+AreNamings builds p by = (k : ℕ) → k < 64 → slice_index by k ≡ times p (slice_index_or builds k [])
 
 -- who says that page p was built
 pub record AreClaims (dump : Dumped) (p : ℕ) (claims : Claims) : Type 0 where
   pub page : claims.page ≡ p
   pub is_built : claims.is_built ≡ is_some (page_of dump p)
   pub named : claims.named ≡ named p dump.builds
-  pub first : IsNextClaim dump.builds p 0 claims.first
-  pub second : IfSome claims.first (λ k. IsNextClaim dump.builds p (k + 1) claims.second)
-  pub no_second : IfNone claims.first (claims.second ≡ None)
+  pub by : AreNamings dump.builds p claims.by
 
 -- entry k of page p, the stamp of the one before it, what its page has before it, and why it does not fit
 pub record IsEntryExplained (heap : Heap) (dump : Dumped) (p k : ℕ) (bad : BadEntryAt) : Type 0 where
@@ -145,7 +170,7 @@ pub record IsEntryExplained (heap : Heap) (dump : Dumped) (p k : ℕ) (bad : Bad
   pub stamp_before : bad.stamp_before ≡ stamp_before (journals_of dump p) k
   pub maker : bad.maker ≡ maker_of (setup_of heap dump) p
   pub filled : bad.filled ≡ filled heap.edition (take k (journals_of dump p))
-  pub cause : IsCauseOf heap dump p bad.stamp_before (take k (journals_of dump p)) bad.entry bad.cause
+  pub cause : IsCauseAt heap dump p k bad.entry (Some bad.cause)
 
 -- how many entries of page p have stamp s
 abbrev pub stamped_on : Dumped → ℕ → ℕ → ℕ
@@ -184,10 +209,10 @@ pub record IsMissing (heap : Heap) (dump : Dumped) (p : ℕ) (missing : MissingP
 abbrev pub Explains : Heap → Dumped → AuditFault → Explanation → Type 0
 Explains heap dump (fault.WrongWord a) (told.WrongWord word) = IsWordExplained heap dump a word
 Explains heap dump (fault.WrongWord a) told.NoSuchFault = word_in dump a ≡ None
-Explains heap dump (fault.LooseReference a) (told.LooseReference word) = IsLooseExplained dump a word
+Explains heap dump (fault.LooseReference a) (told.LooseReference word) = IsLooseExplained heap dump a word
 Explains heap dump (fault.LooseReference a) told.NoSuchFault = word_in dump a ≡ None
 Explains heap dump (fault.BadEntry p k) (told.BadEntry bad) = IsEntryExplained heap dump p k bad
-Explains heap dump (fault.BadEntry p k) told.NoSuchFault = IfSome (slice_get (journals_of dump p) k) (HasNoCause heap dump p (stamp_before (journals_of dump p) k) (take k (journals_of dump p)))
+Explains heap dump (fault.BadEntry p k) told.NoSuchFault = IfSome (slice_get (journals_of dump p) k) (λ e. IsCauseAt heap dump p k e None)
 Explains heap dump (fault.StampRepeated s) (told.StampRepeated uses) = AreUses dump s uses
 Explains heap dump (fault.StampRepeated s) told.NoSuchFault = IsFirstUse dump s None
 Explains heap dump (fault.StampMissing s) (told.StampMissing lost) = IsLost dump s lost

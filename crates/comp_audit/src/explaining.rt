@@ -32,7 +32,7 @@ pub fn explain(
 {
     match fault {
         AuditFault::WrongWord(address) => words::explain_word(alloc, plan, dump, address),
-        AuditFault::LooseReference(address) => Ok(words::explain_loose(dump, address)),
+        AuditFault::LooseReference(address) => Ok(words::explain_loose(plan, dump, address)),
         AuditFault::BadEntry(page, number) => Ok(entries::explain_entry(plan, dump, page, number)),
         AuditFault::StampRepeated(stamp) => Ok(stamps::explain_repeated(dump, stamp)),
         AuditFault::StampMissing(stamp) => Ok(stamps::explain_missing(dump, stamp)),

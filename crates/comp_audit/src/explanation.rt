@@ -48,6 +48,17 @@ pub struct LooseWordAt {
     pub page: u64,
     pub offset: u64,
     pub is: u64,
+    /// The last entry of the page at the offset; None if no entry of the page is at it.
+    pub entry: Option<LooseEntry>,
+}
+
+/// The last entry at the offset of a loose word: its number on its page, the entry, and why it does not fit; None if
+/// nothing is wrong with it.
+#[derive(Clone, Copy, Debug, PartialEq, Eq)]
+pub struct LooseEntry {
+    pub number: u64,
+    pub entry: Entry,
+    pub cause: Option<EntryCause>,
 }
 
 /// What is wrong with the head of a dump.
@@ -79,15 +90,15 @@ pub struct Totals {
     pub should_be: u128,
 }
 
-/// Who says that a page was built: whether it was, how often the lists of builds name it, and the first two mutators
-/// whose lists name it.
+/// Who says that a page was built: whether it was, how often all lists of builds name it, and how often each of them
+/// does.
 #[derive(Clone, Copy, Debug, PartialEq, Eq)]
 pub struct Claims {
     pub page: u64,
     pub is_built: bool,
     pub named: u64,
-    pub first: Option<u64>,
-    pub second: Option<u64>,
+    /// How often the list of each mutator names the page, by the number of the mutator; 0 past the last list.
+    pub by: [u32; 64],
 }
 
 /// The entries that have a stamp: how many they are, and the first and the last page with one of them.

@@ -1,12 +1,21 @@
 //! How an explanation reads: a few lines in plain words, with numbers, without a line feed at the end.
+ghost use Rattle.std.specs.Prelude.{◌≡◌, Some};
+ghost use Rattle.heap_layout.specs.Versions.{version_of};
+ghost use Rattle.comp_audit.specs.Wording.{counts_text, explanation_text, head_text, lost_text, missing_text, root_text, totals_text, uses_text};
+
+mod claims;
+mod entries;
+mod words;
+
 use crate::explanation::{
-    BadEntryAt, Claims, DumpCounts, EntryCause, Explanation, HeadCause, LooseWordAt, MissingPage,
-    OutOfPlace, RootAt, SlidObject, StampLost, StampUses, Totals, WrongWordAt,
+    DumpCounts, Explanation, HeadCause, MissingPage, RootAt, StampLost, StampUses, Totals,
 };
-use heap_layout::{Edition, Kind};
+use heap_layout::Edition;
 use std::fmt::{Display, Formatter, Result, Write};
 
 impl Display for DumpCounts {
+    ghost output = { λ counts. Some (counts_text counts.built counts.pages counts.entries) };
+
     fn fmt<W: Write>(&self, f: &mut Formatter<W>) -> Result {
         write!(
             f,
@@ -16,55 +25,9 @@ impl Display for DumpCounts {
     }
 }
 
-impl Display for SlidObject {
-    fn fmt<W: Write>(&self, f: &mut Formatter<W>) -> Result {
-        write!(
-            f,
-            "object {} at index {}, address {}, header {}",
-            self.number, self.index, self.address, self.header
-        )
-    }
-}
-
-impl Display for OutOfPlace {
-    fn fmt<W: Write>(&self, f: &mut Formatter<W>) -> Result {
-        let object = self.object;
-        write!(
-            f,
-            "first out of place: object {} at index {}, should start at {}, there is {}",
-            object.number, object.index, object.address, self.is
-        )
-    }
-}
-
-impl Display for WrongWordAt {
-    fn fmt<W: Write>(&self, f: &mut Formatter<W>) -> Result {
-        write!(
-            f,
-            "page {} offset {} has {}, not {}",
-            self.page, self.offset, self.is, self.should_be
-        )?;
-        if let Some(object) = self.object {
-            write!(f, "\n{object}")?;
-        }
-        if let Some(found) = self.out_of_place {
-            write!(f, "\n{found}")?;
-        }
-        Ok(())
-    }
-}
-
-impl Display for LooseWordAt {
-    fn fmt<W: Write>(&self, f: &mut Formatter<W>) -> Result {
-        write!(
-            f,
-            "page {} offset {} has {}, where no object starts",
-            self.page, self.offset, self.is
-        )
-    }
-}
-
 impl Display for RootAt {
+    ghost output = { λ root. Some (root_text root) };
+
     fn fmt<W: Write>(&self, f: &mut Formatter<W>) -> Result {
         write!(
             f,
@@ -75,6 +38,8 @@ impl Display for RootAt {
 }
 
 impl Display for HeadCause {
+    ghost output = { λ cause. Some (head_text cause) };
+
     fn fmt<W: Write>(&self, f: &mut Formatter<W>) -> Result {
         match self {
             HeadCause::Edition(is, should_be) => {
@@ -93,30 +58,16 @@ impl Display for HeadCause {
 }
 
 impl Display for Totals {
+    ghost output = { λ totals. Some (totals_text totals) };
+
     fn fmt<W: Write>(&self, f: &mut Formatter<W>) -> Result {
         write!(f, "live words {}, not {}", self.is, self.should_be)
     }
 }
 
-impl Display for Claims {
-    fn fmt<W: Write>(&self, f: &mut Formatter<W>) -> Result {
-        let built = if self.is_built { "built" } else { "not built" };
-        write!(
-            f,
-            "page {} is {built}, and named {} times",
-            self.page, self.named
-        )?;
-        if let Some(first) = self.first {
-            write!(f, "\nnamed by mutator {first}")?;
-        }
-        if let Some(second) = self.second {
-            write!(f, " and by mutator {second}")?;
-        }
-        Ok(())
-    }
-}
-
 impl Display for StampUses {
+    ghost output = { λ uses. Some (uses_text uses) };
+
     fn fmt<W: Write>(&self, f: &mut Formatter<W>) -> Result {
         write!(
             f,
@@ -127,6 +78,8 @@ impl Display for StampUses {
 }
 
 impl Display for StampLost {
+    ghost output = { λ lost. Some (lost_text lost) };
+
     fn fmt<W: Write>(&self, f: &mut Formatter<W>) -> Result {
         write!(
             f,
@@ -136,68 +89,9 @@ impl Display for StampLost {
     }
 }
 
-impl Display for BadEntryAt {
-    fn fmt<W: Write>(&self, f: &mut Formatter<W>) -> Result {
-        let entry = self.entry;
-        write!(
-            f,
-            "entry {} of page {}: stamp {}, writer {}, ",
-            self.number, self.page, entry.stamp, entry.writer
-        )?;
-        write!(
-            f,
-            "{}, offset {}, value {}",
-            kind_name(entry.kind),
-            entry.offset,
-            entry.value
-        )?;
-        if let Some(stamp) = self.stamp_before {
-            write!(f, "\nthe entry before it has stamp {stamp}")?;
-        }
-        match self.maker {
-            None => write!(f, "\nits page is compacted")?,
-            Some(maker) => write!(
-                f,
-                "\nits page is of mutator {maker}, and the objects before it end at offset {}",
-                self.filled
-            )?,
-        }
-        write!(f, "\nwhy: {}", self.cause)
-    }
-}
-
-impl Display for EntryCause {
-    fn fmt<W: Write>(&self, f: &mut Formatter<W>) -> Result {
-        match self {
-            EntryCause::StampNotAbove(stamp) => write!(f, "its stamp is not above {stamp}"),
-            EntryCause::NoFreshPage => f.write_str("it is a header, and its page is not fresh"),
-            EntryCause::OtherMaker(maker) => {
-                write!(f, "it is a header, and its page is of mutator {maker}")
-            }
-            EntryCause::NotNext(end) => {
-                write!(
-                    f,
-                    "it is a header, and the objects before it end at offset {end}"
-                )
-            }
-            EntryCause::PastPage(end) => {
-                write!(f, "its object would end at offset {end}, past the page")
-            }
-            EntryCause::OtherWord(None) => {
-                f.write_str("the word at its offset belongs to no object")
-            }
-            EntryCause::OtherWord(Some(kind)) => {
-                write!(f, "the word at its offset is a {}", kind_name(*kind))
-            }
-            EntryCause::LeadsNowhere => f.write_str("no object starts at its value"),
-            EntryCause::LeadsAhead(stamp) => {
-                write!(f, "it leads to an object whose header has stamp {stamp}")
-            }
-        }
-    }
-}
-
 impl Display for MissingPage {
+    ghost output = { λ missing. Some (missing_text missing) };
+
     fn fmt<W: Write>(&self, f: &mut Formatter<W>) -> Result {
         write!(
             f,
@@ -208,6 +102,8 @@ impl Display for MissingPage {
 }
 
 impl Display for Explanation {
+    ghost output = { λ explanation. Some (explanation_text explanation) };
+
     fn fmt<W: Write>(&self, f: &mut Formatter<W>) -> Result {
         match self {
             Explanation::WrongWord(word) => write!(f, "{word}"),
@@ -225,20 +121,12 @@ impl Display for Explanation {
 }
 
 // The number of an edition.
-fn edition_number(edition: Edition) -> u8 {
+fn edition_number(edition: Edition) -> u32
+    ensures { result ≡ version_of edition }
+{
     match edition {
         Edition::One => 1,
         Edition::Two => 2,
         Edition::Three => 3,
-    }
-}
-
-// What an entry writes.
-fn kind_name(kind: Kind) -> &'static str {
-    match kind {
-        Kind::Header => "header",
-        Kind::Reference => "reference",
-        Kind::Weak => "weak word",
-        Kind::Data => "data word",
     }
 }

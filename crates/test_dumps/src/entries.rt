@@ -1,7 +1,8 @@
 //! What is said of entries that do not fit, and how it reads: a row for each cause. All numbers are worked by hand.
 use crate::encoded::{Change, Whole};
 use crate::expected::expect_eq;
-use crate::explained::{Told, Worded};
+use crate::explained::Told;
+use crate::phrases::Worded;
 use comp_audit::{BadEntryAt, EntryCause, Explanation};
 use comp_journal::Entry;
 use heap_layout::Kind;
@@ -11,16 +12,17 @@ use test_support::{
     At, HEADER_OFFSET, HEADER_STAMP, REFERENCE, REFERENCE_KIND, REFERENCE_STAMP, REFERENCE_VALUE, T,
 };
 
-// Positions in the dump after a new object: the number of mutators; on page 0, the number of entries, and the offset
-// and the end of its entry; on page 1, the same, and the writer, the kind and the value of its entry; the end of the
-// list of builds.
+/// The number of entries of page 0 in the dump after a new object.
+pub const ENTRIES: usize = 549;
+
+/// The end of its entry.
+pub const REFERENCE_END: usize = 572;
+
+// Other positions in this dump: the number of mutators; on page 0, the offset of its entry; on page 1, the number of
+// entries, and the writer, the kind, the value and the end of its entry; the end of the list of builds.
 const MUTATORS: usize = 12;
 
-const ENTRIES: usize = 549;
-
 const REFERENCE_OFFSET: usize = 563;
-
-const REFERENCE_END: usize = 572;
 
 const NEW_ENTRIES: usize = 1_085;
 
@@ -34,10 +36,11 @@ const HEADER_END: usize = 1_108;
 
 const BUILDS_END: usize = 1_121;
 
-// No entry on page 0, or on page 1: 23 bytes, the number of entries and one entry, are the number 0.
+// No entry on page 0: 23 bytes, the number of entries and one entry, are the number 0.
 const NONE_ON_0: Change = Change(ENTRIES, 23, 4, 0);
 
-const NONE_ON_1: Change = Change(NEW_ENTRIES, 23, 4, 0);
+/// No entry on page 1.
+pub const NONE_ON_1: Change = Change(NEW_ENTRIES, 23, 4, 0);
 
 /// For the plan of the three objects.
 pub static BAD_ENTRIES: [Told; 11] = [

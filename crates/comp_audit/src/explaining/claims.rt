@@ -5,7 +5,7 @@ ghost use Rattle.comp_dump.specs.CellEnds.{lists as items_of};
 ghost use Rattle.comp_dump.specs.Builds.{named};
 ghost use Rattle.comp_dump.specs.Lists.{times};
 ghost use Rattle.comp_dump.specs.declared.fault.AuditFault.TheVariants as fault;
-ghost use Rattle.comp_audit.specs.Explained.{Explains, IsNextClaim};
+ghost use Rattle.comp_audit.specs.Explained.{AreNamings, Explains};
 
 use crate::explanation::{Claims, Explanation, MissingPage};
 use comp_dump::{Dump, dump_is_stored};
@@ -16,18 +16,12 @@ pub fn explain_claims(dump: &Dump<'_>, p: u64) -> Explanation
     ensures { (heap : Heap) → Explains heap dump.now (fault.BuildUnclaimed p) result }
 {
     dump_is_stored(dump);
-    let builds = dump.builds();
-    let first = next_claim(builds, p, 0);
-    let second = match first {
-        None => None,
-        Some(number) => next_claim(builds, p, number as usize + 1),
-    };
+    let by = named_by(dump.builds(), p);
     Explanation::BuildUnclaimed(Claims {
         page: p,
         is_built: dump.pages().page(p as usize).is_some(),
-        named: named_in(builds, p),
-        first,
-        second,
+        named: named_in(dump.builds(), p),
+        by,
     })
 }
 
@@ -44,16 +38,17 @@ pub fn explain_missing_page(plan: &Plan, dump: &Dump<'_>, p: u64) -> Explanation
     }
 }
 
-// Of the mutators from number `low` on, the first whose list of builds names page `p`.
-fn next_claim(builds: &[Vec<u32>], p: u64, low: usize) -> Option<u64>
-    ensures { IsNextClaim (items_of builds.now) p low result }
+// How often each of these lists names page `p`; 0 past the last list.
+fn named_by(builds: &[Vec<u32>], p: u64) -> [u32; 64]
+    requires lists { length builds.now ≤ 64 }
+    requires few { All (λ list. length list < 2 ^ 32) (items_of builds.now) }
+    ensures { AreNamings (items_of builds.now) p result }
 {
-    for number in low..builds.len() {
-        if times_in(&builds[number], p) != 0 {
-            return Some(number as u64);
-        }
+    let mut by = [0; 64];
+    for (number, list) in builds.iter().enumerate() {
+        by[number] = times_in(list, p);
     }
-    None
+    by
 }
 
 // How often these lists name page `p`.
@@ -64,13 +59,14 @@ fn named_in(builds: &[Vec<u32>], p: u64) -> u64
 {
     let mut named = 0;
     for list in builds {
-        named += times_in(list, p);
+        named += u64::from(times_in(list, p));
     }
     named
 }
 
 // How often a list names page `p`.
-fn times_in(list: &[u32], p: u64) -> u64
+fn times_in(list: &[u32], p: u64) -> u32
+    requires { length list.now < 2 ^ 32 }
     ensures times { result ≡ times p list.now }
     ensures few { result ≤ length list.now }
 {

@@ -1,12 +1,13 @@
-//! An entry that does not fit.
-ghost use Rattle.std.specs.Prelude.{◌≡◌, ◌^◌, ◌<◌, ◌≤◌, length};
+//! Entries: one that does not fit, and the last one at an offset.
+ghost use Rattle.std.specs.Prelude.{◌≡◌, ◌^◌, ◌<◌, ◌≤◌, length, slice_get, Some};
 ghost use Rattle.comp_dump.specs.Lawful.{filled};
 ghost use Rattle.comp_dump.specs.declared.fault.AuditFault.TheVariants as fault;
-ghost use Rattle.comp_audit.specs.Explained.{maker_of, setup_of, stamp_before, Explains};
+ghost use Rattle.comp_audit.specs.Meant.{journals_of};
+ghost use Rattle.comp_audit.specs.Explained.{maker_of, setup_of, stamp_before, Explains, IsCauseAt, IsLastAt, IsLooseEntry};
 
 use crate::explaining::causes::cause_of;
 use crate::explaining::made::words_made;
-use crate::explanation::{BadEntryAt, Explanation};
+use crate::explanation::{BadEntryAt, EntryCause, Explanation, LooseEntry};
 use audit_checks::journal_of;
 use comp_dump::{Dump, dump_is_stored};
 use comp_journal::Entry;
@@ -22,29 +23,65 @@ pub fn explain_entry(plan: &Plan, dump: &Dump<'_>, p: u64, number: u64) -> Expla
     let Some(entry) = journal.get(number as usize) else {
         return Explanation::NoSuchFault;
     };
-    let stamp_before = stamp_before(journal, number as usize);
-    let filled = filled_by(plan.heap().edition(), &journal[..number as usize]);
-    let cause = cause_of(
-        plan,
-        dump,
-        p,
-        *entry,
-        &journal[..number as usize],
-        stamp_before,
-        filled,
-    );
-    match cause {
+    match cause_at(plan, dump, p, number as usize, *entry) {
         None => Explanation::NoSuchFault,
         Some(cause) => Explanation::BadEntry(BadEntryAt {
             page: p,
             number,
             entry: *entry,
-            stamp_before,
+            stamp_before: stamp_before(journal, number as usize),
             maker: maker(plan, dump, p),
-            filled,
+            filled: filled_by(plan.heap().edition(), &journal[..number as usize]),
             cause,
         }),
     }
+}
+
+/// The last entry of page `p` at this offset, and why it does not fit; None if no entry of the page is at it.
+pub fn loose_entry(plan: &Plan, dump: &Dump<'_>, p: u64, offset: u64) -> Option<LooseEntry>
+    ensures { IsLooseEntry plan.now dump.now p offset result }
+{
+    let journal = journal_of(dump.pages(), p as usize);
+    let Some((number, entry)) = last_at(journal, offset) else {
+        return None;
+    };
+    Some(LooseEntry {
+        number: number as u64,
+        entry,
+        cause: cause_at(plan, dump, p, number, entry),
+    })
+}
+
+// The last of these entries at this offset, with its number; None if none is at it.
+fn last_at(journal: &[Entry], offset: u64) -> Option<(usize, Entry)>
+    ensures { IsLastAt journal.now offset result }
+{
+    let mut last = None;
+    for (number, &entry) in journal.iter().enumerate() {
+        if u64::from(entry.offset) == offset {
+            last = Some((number, entry));
+        }
+    }
+    last
+}
+
+// Why this entry, which has this number on page `p`, does not fit; None if nothing is wrong with it.
+fn cause_at(plan: &Plan, dump: &Dump<'_>, p: u64, number: usize, entry: Entry) -> Option<EntryCause>
+    requires { slice_get (journals_of dump.now p) number ≡ Some entry }
+    ensures { IsCauseAt plan.now dump.now p number entry result }
+{
+    dump_is_stored(dump);
+    let journal = journal_of(dump.pages(), p as usize);
+    let before = &journal[..number];
+    cause_of(
+        plan,
+        dump,
+        p,
+        entry,
+        before,
+        stamp_before(journal, number),
+        filled_by(plan.heap().edition(), before),
+    )
 }
 
 // The stamp of the entry before entry `number`.

@@ -1,11 +1,11 @@
 //! Words of a dump: a wrong word, and a loose one.
 ghost use Rattle.std.specs.Prelude.{◌≡◌, ◌<◌, IfOk};
-ghost use Rattle.heap_layout.specs.Heap.{Heap};
 ghost use Rattle.comp_dump.specs.Objects.{word_on};
 ghost use Rattle.comp_dump.specs.declared.fault.AuditFault.TheVariants as fault;
 ghost use Rattle.comp_audit.specs.Meant.{journals_of};
 ghost use Rattle.comp_audit.specs.Explained.{setup_of, word_in, Explains};
 
+use crate::explaining::entries::loose_entry;
 use crate::explaining::objects::{out_of_place, owner};
 use crate::explanation::{Explanation, LooseWordAt, WrongWordAt};
 use audit_checks::{Setting, journal_of, right_words};
@@ -75,9 +75,9 @@ fn right_word(
     Ok(words.get(offset as u8))
 }
 
-/// What is said of a loose reference or weak word at this address.
-pub fn explain_loose(dump: &Dump<'_>, address: u64) -> Explanation
-    ensures { (heap : Heap) → Explains heap dump.now (fault.LooseReference address) result }
+/// What is said of a loose reference or weak word at this address: the word, and the last entry at its offset.
+pub fn explain_loose(plan: &Plan, dump: &Dump<'_>, address: u64) -> Explanation
+    ensures { Explains plan.now dump.now (fault.LooseReference address) result }
 {
     let new_index = address.saturating_sub(TO_SPACE);
     match word_in(dump, address) {
@@ -86,6 +86,7 @@ pub fn explain_loose(dump: &Dump<'_>, address: u64) -> Explanation
             page: new_index / 64,
             offset: new_index % 64,
             is,
+            entry: loose_entry(plan, dump, new_index / 64, new_index % 64),
         }),
     }
 }

@@ -1,4 +1,4 @@
-use Rattle.std.proofs.Common.{◌≡◌, ◌∙◌, ℕ, Option, ap, arith, is_some, sym}
+use Rattle.std.proofs.Common.{◌∙◌, Option, ap, arith, is_some, sym}
 use Rattle.comp_dump.specs.Dumped.{BuiltPage}
 use Rattle.comp_audit.proofs.Missing.{built_next, first_page_missing, no_page_missing}
 use Rattle.comp_audit.proofs.auditing.missing_page.Goals as goal

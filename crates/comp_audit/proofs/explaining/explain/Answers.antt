@@ -5,7 +5,7 @@ use Rattle.comp_audit.proofs.explaining.explain.Goals as goal
 
 pub returns-in-LooseReference : goal.returns-in-LooseReference
 returns-in-LooseReference c =
-    subst (λ (f : AuditFault). Explains c.args.plan.now c.args.dump.now f c.explain_loose.result) (sym c.in-LooseReference.is) (c.explain_loose.ensures c.args.plan.now)
+    subst (λ (f : AuditFault). Explains c.args.plan.now c.args.dump.now f c.explain_loose.result) (sym c.in-LooseReference.is) c.explain_loose.ensures
 
 pub returns-in-BadEntry : goal.returns-in-BadEntry
 returns-in-BadEntry c =
