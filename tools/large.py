@@ -91,7 +91,7 @@ def run(program, words, expected):
 def main():
     program, words, folder = sys.argv[1], int(sys.argv[2]), sys.argv[3]
     heap = Heap(words)
-    image, dump = os.path.join(folder, "large.img"), os.path.join(folder, "large.dump")
+    image, dump, picture = (os.path.join(folder, name) for name in ("large.img", "large.dump", "large.svg"))
     with open(image, "wb") as file:
         heap.write(file)
     live = heap.words - SMALL
@@ -101,10 +101,12 @@ def main():
     word = TO_SPACE + heap.rest - SMALL
     rows = [("plan", ["plan", "--large", image], f"live {live}\n")]
     rows.append(("word", ["word", "--large", image, "1"], f"{word}\n"))
+    rows.append(("map", ["map", "--large", image, picture], f"live {live}\n"))
     for workers in range(1, 5):
         asked = ["compact", "--large", "--workers", str(workers), image, dump]
         rows.append((f"compact, {workers} workers", asked, f"live {live}\n"))
         rows.append(("audit of it", ["audit", "--large", image, dump], f"ok {live}\n"))
+    rows.append(("map of the last dump", ["map", "--large", "--dump", dump, image, picture], f"live {live}\n"))
     failed = False
     for name, asked, expected in rows:
         answer = run(program, asked, expected)
@@ -113,7 +115,8 @@ def main():
             continue
         busy, passed, peak = answer
         print(f"{name}: {busy:.2f} s of the processor, {passed:.2f} s, {peak / 1e6:.0f} MB, {peak / size:.2f} of from-space")
-    for path in (image, dump):
+    print(f"the last picture: {os.path.getsize(picture) if os.path.exists(picture) else 0} bytes")
+    for path in (image, dump, picture):
         if os.path.exists(path):
             os.remove(path)
     sys.exit(1 if failed else 0)

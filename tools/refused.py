@@ -35,7 +35,10 @@ WORDS = b"COMPWORD" + struct.pack("<III5Q", 1, 4, 1, TO + 2, 65536 + FROM, 11, 1
 COPIED = b"COMPMOVE" + struct.pack("<IIII2IQ4Q", 1, 2, 1, 4, 2, 0, TO, 1 + 3 * FROM, TO + 2, 65536 + FROM, 11)
 FILES = {"three.img": THREE, "three.words": WORDS, "three.moved": COPIED, "large.img": LARGE, "twenty.img": TWENTY, "seen.trace": SEEN, "fresh.trace": FRESH, "kept.marks": KEPT, "new.roots": b"0 1\n"}
 
-# the words of a command, what it prints, and how long its dump or its new image is, if it writes one
+# the length of a picture: it is as long as it is
+PICTURE = -1
+
+# the words of a command, what it prints, and how long its dump, its new image or its picture is, if it writes one
 COMMANDS = [
     ("word three.img 2", ["12884901889\n"], None),
     ("plan three.img", ["live 4\npages 1\npage 0 first 0\nroot 0 8589934594\n"], None),
@@ -53,6 +56,9 @@ COMMANDS = [
     ("next --reachable --mutators 1 --fresh 2 three.img fresh.trace left.dump", ["live 3\n"], 1576),
     ("next --reachable --roots new.roots --mutators 1 --fresh 2 three.img fresh.trace left.dump", ["live 1\n"], 1572),
     ("mark three.img left.dump", ["live 4\n"], 96),
+    ("map three.img left.dump", ["live 4\n"], PICTURE),
+    ("map --dump fresh.dump three.img left.dump", ["live 4\n"], PICTURE),
+    ("map --dump wrong.dump three.img left.dump", ["live 4\n"], PICTURE),
     ("word --large large.img 2", ["844424930131969\n"], None),
     ("compact --large --workers 1 large.img left.dump", ["live 4\n"], 569),
     ("--help", None, None),
@@ -135,7 +141,11 @@ class Refusing:
             shown = [b"", b"6 7\n", b"6 11\n"] if line.startswith("race ") and b"T6 Refused(" in ran.stderr else [b""]
             return None if ran.stdout in shown else "printed something else"
 
-        if len(wanted) != (len(BEFORE) if length is None else length):
+        if length == PICTURE:
+            whole = wanted.rstrip().endswith(b"</svg>")
+        else:
+            whole = len(wanted) == (len(BEFORE) if length is None else length)
+        if not whole:
             self.fault(line, 0, f"{len(wanted)} bytes if nothing is refused")
         self.each(line, words, judge, prepare)
 
@@ -148,6 +158,8 @@ def main():
             (refusing.folder / name).write_bytes(content)
         words = "replay --mutators 1 --fresh 2 three.img fresh.trace fresh.dump"
         subprocess.run([program, *words.split()], cwd=folder, check=True, capture_output=True)
+        # the same with another word where 11 was
+        (refusing.folder / "wrong.dump").write_bytes((refusing.folder / "fresh.dump").read_bytes().replace(struct.pack("<Q", 11), struct.pack("<Q", 12), 1))
         whole, _ = refusing.run(0, [runs])
         if whole is None or whole.returncode or b"NOT" in whole.stdout:
             refusing.fault("refused_runs", 0, "not as it has to be if nothing is refused")

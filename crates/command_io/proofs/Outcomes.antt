@@ -6,9 +6,10 @@ use Rattle.comp_dump.specs.Dumped.{BuiltPage, Dumped}
 use Rattle.command_io.specs.Disk.{Disk, IsUnkept}
 use Rattle.command_io.specs.Dumps.{IsOfDumping, RefusedUncreated}
 use Rattle.command_io.specs.NewImages.{IsOfWritingImage, RefusedUnmade}
+use Rattle.command_io.specs.Pictures.{IsOfDrawing}
 use Rattle.command_io.specs.Printing.{CountsPrint, RefusedUnprinted}
 use Rattle.command_io.specs.declared.refusal.CommandRefusal.{CommandRefusal}
-use Rattle.command_io.specs.declared.refusal.CommandRefusal.TheVariants.{Layout, Mutator, Sweep, Trace, Dump, Audit, Moved, CannotOpen, CannotCreate, ReadFailed, CannotPrint, NoSuchWord, BadMarks, OutOfMemory, BadRoots}
+use Rattle.command_io.specs.declared.refusal.CommandRefusal.TheVariants.{Layout, Mutator, Sweep, Trace, Dump, Audit, Moved, CannotWrite, CannotOpen, CannotCreate, ReadFailed, CannotPrint, NoSuchWord, BadMarks, OutOfMemory, BadRoots}
 
 -- a refusal for another cause than the output counts no failed call of the output
 pub uncounted_by : (old new : ℕ) (refusal : CommandRefusal) → new ≡ old → (refusal ≡ CannotPrint → ⊥) → CountsPrint {T = Unit {0}} old new (Err refusal)
@@ -19,6 +20,7 @@ uncounted_by old new (Trace fault) same other = same
 uncounted_by old new (Dump fault) same other = same
 uncounted_by old new (Audit fault) same other = same
 uncounted_by old new (Moved fault) same other = same
+uncounted_by old new (CannotWrite output) same other = same
 uncounted_by old new (CannotOpen input) same other = same
 uncounted_by old new (CannotCreate output) same other = same
 uncounted_by old new (ReadFailed input) same other = same
@@ -41,6 +43,7 @@ unprinted before (Trace fault) = Keeps-refl before
 unprinted before (Dump fault) = Keeps-refl before
 unprinted before (Audit fault) = Keeps-refl before
 unprinted before (Moved fault) = Keeps-refl before
+unprinted before (CannotWrite output) = Keeps-refl before
 unprinted before (CannotOpen input) = Keeps-refl before
 unprinted before (CannotCreate output) = Keeps-refl before
 unprinted before (ReadFailed input) = Keeps-refl before
@@ -59,6 +62,7 @@ uncreated disk files (Trace fault) = refl
 uncreated disk files (Dump fault) = inl refl
 uncreated disk files (Audit fault) = refl
 uncreated disk files (Moved fault) = refl
+uncreated disk files (CannotWrite output) = inl refl
 uncreated disk files (CannotOpen input) = refl
 uncreated disk files (CannotCreate output) = inl refl
 uncreated disk files (ReadFailed input) = refl
@@ -78,6 +82,7 @@ uncreated_by disk path bytes from to (Trace fault) unkept h = absurd h
 uncreated_by disk path bytes from to (Dump fault) unkept h = unkept
 uncreated_by disk path bytes from to (Audit fault) unkept h = absurd h
 uncreated_by disk path bytes from to (Moved fault) unkept h = absurd h
+uncreated_by disk path bytes from to (CannotWrite output) unkept h = absurd h
 uncreated_by disk path bytes from to (CannotOpen input) unkept h = absurd h
 uncreated_by disk path bytes from to (CannotCreate output) unkept h = unkept
 uncreated_by disk path bytes from to (ReadFailed input) unkept h = absurd h
@@ -104,6 +109,7 @@ unmade_too disk from to (Err (Trace fault)) h = h
 unmade_too disk from to (Err (Dump fault)) h = h
 unmade_too disk from to (Err (Audit fault)) h = h
 unmade_too disk from to (Err (Moved fault)) h = h
+unmade_too disk from to (Err (CannotWrite output)) h = h
 unmade_too disk from to (Err (CannotOpen input)) h = h
 unmade_too disk from to (Err (CannotCreate output)) h = h
 unmade_too disk from to (Err (ReadFailed input)) h = h
@@ -127,6 +133,7 @@ unmade_by disk path bytes from to (Trace fault) unkept h = absurd h
 unmade_by disk path bytes from to (Dump fault) unkept h = absurd h
 unmade_by disk path bytes from to (Audit fault) unkept h = absurd h
 unmade_by disk path bytes from to (Moved fault) unkept h = absurd h
+unmade_by disk path bytes from to (CannotWrite output) unkept h = absurd h
 unmade_by disk path bytes from to (CannotOpen input) unkept h = absurd h
 unmade_by disk path bytes from to (CannotCreate output) unkept h = unkept
 unmade_by disk path bytes from to (ReadFailed input) unkept h = absurd h
@@ -143,6 +150,30 @@ unmade_line disk from to result h = unmade_too disk from to result (created_line
 -- a refusal for the new image is not one for the output
 pub uncounted_image : {F W : Type 0} (disk : Disk F W) (path bytes : List ℕ) (n : ℕ) (refusal : CommandRefusal) → IsOfWritingImage disk path bytes refusal → CountsPrint {T = Unit {0}} n n (Err refusal)
 uncounted_image disk path bytes n refusal h = uncounted_by n n refusal refl (λ e. subst (IsOfWritingImage disk path bytes) e h)
+
+-- a refusal for the picture, which was not kept
+pub unmade_map : {F W : Type 0} (disk : Disk F W) (path : List ℕ) (from to : F) (refusal : CommandRefusal) → IsUnkept disk from to → IsOfDrawing disk path refusal
+    → RefusedUnmade {T = Unit {0}} disk from to (Err refusal)
+unmade_map disk path from to (Layout fault) unkept h = absurd h
+unmade_map disk path from to (Mutator refused) unkept h = absurd h
+unmade_map disk path from to (Sweep fault) unkept h = absurd h
+unmade_map disk path from to (Trace fault) unkept h = absurd h
+unmade_map disk path from to (Dump fault) unkept h = absurd h
+unmade_map disk path from to (Audit fault) unkept h = absurd h
+unmade_map disk path from to (Moved fault) unkept h = absurd h
+unmade_map disk path from to (CannotWrite output) unkept h = unkept
+unmade_map disk path from to (CannotOpen input) unkept h = absurd h
+unmade_map disk path from to (CannotCreate output) unkept h = unkept
+unmade_map disk path from to (ReadFailed input) unkept h = absurd h
+unmade_map disk path from to CannotPrint unkept h = tt
+unmade_map disk path from to (NoSuchWord index) unkept h = absurd h
+unmade_map disk path from to (BadMarks line) unkept h = absurd h
+unmade_map disk path from to (BadRoots line) unkept h = absurd h
+unmade_map disk path from to OutOfMemory unkept h = unkept
+
+-- and it is not one for the output
+pub uncounted_map : {F W : Type 0} (disk : Disk F W) (path : List ℕ) (n : ℕ) (refusal : CommandRefusal) → IsOfDrawing disk path refusal → CountsPrint {T = Unit {0}} n n (Err refusal)
+uncounted_map disk path n refusal h = uncounted_by n n refusal refl (λ e. subst (IsOfDrawing disk path) e h)
 
 -- dumps that have the same parts are the same
 pub same_parts : (e e' : Edition) (m m' n n' t t' : ℕ) (r r' : List ℕ) (p p' : List (Option BuiltPage)) (b b' : List (List ℕ))

@@ -1,5 +1,5 @@
--- What a writer of a dump, or of a new image, took.
-use Rattle.std.proofs.Common.{◌≡◌, ◌+◌, ℕ, List, Option, Err, true, length, sym, subst, ◌∙◌, arith}
+-- What a writer of a dump, of a new image, or of a picture, took.
+use Rattle.std.proofs.Common.{◌≡◌, ◌+◌, ℕ, List, Option, Err, true, length, refl, sym, subst, ◌∙◌, arith}
 use Rattle.std.proofs.KnownBytes.{Appends-kept}
 use Rattle.std.proofs.lemmas.List.{take_all}
 use Rattle.std.specs.Io.KnownBytes.{Appends, Keeps}
@@ -14,9 +14,10 @@ use Rattle.heap_layout.specs.declared.fault.LayoutFault.TheVariants as layout
 use Rattle.command_io.specs.Disk.{Disk, WritesBeginning, WritesWhole}
 use Rattle.command_io.specs.Dumps.{IsOfDumping}
 use Rattle.command_io.specs.NewImages.{IsOfWritingImage}
+use Rattle.command_io.specs.Pictures.{IsOfDrawing}
 use Rattle.command_io.specs.declared.refusal.Output.{Output}
 use Rattle.command_io.specs.declared.refusal.Output.TheVariants as outputs
-use Rattle.command_io.specs.declared.refusal.CommandRefusal.TheVariants.{Dump, Layout}
+use Rattle.command_io.specs.declared.refusal.CommandRefusal.TheVariants.{CannotWrite, Dump, Layout}
 
 -- if only the flush failed, all bytes were taken
 pub unflushed : (a b c : Option (List ℕ)) (bytes : List ℕ) → Appends a b bytes → Keeps b c → AppendsSome a c bytes
@@ -71,3 +72,10 @@ module _ {F W : Type 0} (disk : Disk F W) (contents : W → Option (List ℕ)) (
   image_cut_off given fault is appended counts =
       let one : one_more (failures_of old) ≡ failures_of old + 1 = omega (arith, none) in
       (is, beginning disk contents same outputs.New path bytes made old new given inner none appended (counts ∙ one))
+
+  -- a picture was not written whole
+  pub map_cut_off : disk.makes outputs.Map path made → AppendsSome (contents (inner_of old)) (contents (inner_of new)) bytes
+      → failures_of new ≡ one_more (failures_of old) → IsOfDrawing disk path (CannotWrite outputs.Map)
+  map_cut_off given appended counts =
+      let one : one_more (failures_of old) ≡ failures_of old + 1 = omega (arith, none) in
+      (refl, (bytes, beginning disk contents same outputs.Map path bytes made old new given inner none appended (counts ∙ one)))

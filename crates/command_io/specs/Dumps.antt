@@ -4,7 +4,7 @@ use Rattle.comp_dump.specs.declared.fault.DumpFault.TheVariants.{Device}
 use Rattle.command_io.specs.Disk.{Disk, IsUnkept, WritesBeginning}
 use Rattle.command_io.specs.declared.refusal.Output.TheVariants as outputs
 use Rattle.command_io.specs.declared.refusal.CommandRefusal.{CommandRefusal}
-use Rattle.command_io.specs.declared.refusal.CommandRefusal.TheVariants.{CannotCreate, CannotPrint, Dump, OutOfMemory}
+use Rattle.command_io.specs.declared.refusal.CommandRefusal.TheVariants.{CannotCreate, CannotPrint, Dump, CannotWrite, OutOfMemory}
 
 -- why these bytes of a dump were not written: there is no place for them, or a call of the writer failed, or memory ran
 -- out
@@ -20,6 +20,7 @@ abbrev pub RefusedUncreated : {T F W : Type 0} → Disk F W → F → F → Resu
 RefusedUncreated disk from to (Ok _) = Unit {0}
 RefusedUncreated disk from to (Err (CannotCreate output)) = IsUnkept disk from to
 RefusedUncreated disk from to (Err (Dump fault)) = IsUnkept disk from to
+RefusedUncreated disk from to (Err (CannotWrite output)) = IsUnkept disk from to
 RefusedUncreated disk from to (Err CannotPrint) = Unit {0}
 RefusedUncreated disk from to (Err OutOfMemory) = IsUnkept disk from to
 RefusedUncreated disk from to (Err _) = to ≡ from

@@ -8,3 +8,4 @@ pub mod Texts
 pub mod Marks
 pub mod Roots
 pub mod NewImages
+pub mod Pictures

@@ -1,5 +1,5 @@
 -- What is known of the new image that is written to a path.
-use Rattle.std.specs.Prelude.{◌≡◌, ◌⊎◌, ℕ, List, Result, Ok, Err}
+use Rattle.std.specs.Prelude.{◌≡◌, ◌⊎◌, ℕ, List, Result, Err}
 use Rattle.heap_layout.specs.declared.fault.LayoutFault.TheVariants.{Device}
 use Rattle.command_io.specs.Disk.{Disk, IsUnkept, WritesBeginning}
 use Rattle.command_io.specs.Dumps.{RefusedUncreated}

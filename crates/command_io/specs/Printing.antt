@@ -23,6 +23,7 @@ input_name Moved = codes "moved"
 abbrev pub output_name : Output → List ℕ
 output_name outputs.Dump = codes "dump"
 output_name outputs.New = codes "new"
+output_name outputs.Map = codes "map"
 
 -- a number as it is printed: its decimal digits and a line feed
 abbrev pub line_of : ℕ → List ℕ

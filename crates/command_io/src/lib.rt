@@ -8,6 +8,7 @@ mod memory;
 mod new_images;
 mod opening;
 mod output_files;
+mod pictures;
 mod print;
 mod refusal;
 mod roots;
@@ -21,6 +22,7 @@ pub use memory::{MemoryFile, MemoryFiles, written_is_there};
 pub use new_images::write_image_to;
 pub use opening::{Files, RuntimeFiles};
 pub use output_files::OutputFile;
+pub use pictures::write_map_to;
 pub use print::{
     flush, print_bytes, print_digits, print_help, print_line, print_numbered, print_text,
 };

@@ -1,4 +1,4 @@
-//! The files of dumps and of new images. Once such a file is whole, it replaces what was at its path.
+//! The files of dumps, of new images and of pictures. Once such a file is whole, it replaces what was at its path.
 ghost use Rattle.std.specs.Prelude.{◌≡◌, IfErr};
 ghost use Rattle.command_io.specs.Disk.{IsOfCreating};
 ghost use Rattle.command_io.specs.declared.refusal.CommandRefusal.TheVariants as refusal;
@@ -19,7 +19,7 @@ const MAX_NAMES: u32 = 1_000;
 // The bits of a mode that say who may read, write and run a file.
 const MODE_BITS: u32 = 0o777;
 
-/// The file of a dump or of a new image, written through a buffer.
+/// The file of a dump, of a new image or of a picture, written through a buffer.
 ///
 /// If a regular file or nothing is at its path, this is a file beside the path. Its first flush renames it onto the
 /// path. If that flush or a call before it fails, the file is removed, and what is at the path stays as it was. If

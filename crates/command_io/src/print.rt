@@ -1,5 +1,8 @@
 //! Prints to the program's output, and counts its calls that fail. Each function here requires that fewer than
 //! `u64::MAX` calls have failed so far.
+//!
+//! All is printed in parts: std's `write!` promises nothing of an error, so a refused print could not be traced to a
+//! call that failed. A part is not tried again after an error.
 ghost use Rattle.std.specs.Prelude.{◌≡◌, ◌-◌, ◌^◌, ◌<◌, true, OnOk, OnErr, Err};
 ghost use Rattle.std.specs.Fmt.{decimal};
 ghost use Rattle.std.specs.Io.KnownBytes.{Appends, Keeps};

@@ -43,6 +43,7 @@ impl fmt::Display for Input {
 pub enum Output {
     Dump,
     New,
+    Map,
 }
 
 impl fmt::Display for Output {
@@ -54,6 +55,7 @@ impl fmt::Display for Output {
         f.write_str(match self {
             Output::Dump => "dump",
             Output::New => "new",
+            Output::Map => "map",
         })
     }
 }
@@ -106,6 +108,10 @@ pub enum CommandRefusal {
     /// The line with this number, counted from 1, is no root.
     #[error("P8 BadRoots({0})")]
     BadRoots(u64),
+    /// A call of the writer of this file, a picture, failed: it returned an error (an interrupted call too), or took no
+    /// byte of what was to be written.
+    #[error("P9 CannotWrite({0})")]
+    CannotWrite(Output),
 }
 
 impl From<LayoutFault> for CommandRefusal {

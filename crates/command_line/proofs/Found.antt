@@ -19,14 +19,14 @@ use Rattle.clap.specs.declared.parser.matches.Found.{Found}
 use Rattle.clap.specs.Walk.{row_text, with_default}
 use Rattle.clap.proofs.WalkLemmas.{both, first_value-rows, one_text-rows}
 use Rattle.command_line.specs.Asked.{Asks, AsksCompact, AsksHelp, AsksMark, AsksNoCommand, AsksPlan, AsksVersion, AsksWord, HasLawfulCounts, IsAnswerOf}
-use Rattle.command_line.specs.Forms.{Choice, Form, Parameter, audit_form, compact_form, fresh, large, mark_form, moved_form, mutators, next_form, number, plan_form, race_form, replay_form, run_form, standing, text, word_form, workers}
+use Rattle.command_line.specs.Forms.{Choice, Form, Parameter, audit_form, compact_form, fresh, large, map_form, mark_form, moved_form, mutators, next_form, number, plan_form, race_form, replay_form, run_form, standing, text, word_form, workers}
 use Rattle.command_line.specs.Given.{HasOption, HasSwitch, IsChosen, IsCommandWith, IsFlag, IsNumber, IsNumberOr, Takes, Use, is_among, text_given}
 use Rattle.command_line.specs.Finds.{IsRunRequest, IsRunFound}
 use Rattle.command_line.specs.Nexts.{says_reachable}
 use Rattle.command_line.specs.Parser.{program}
 use Rattle.command_line.specs.Runs.{AsksRun, Run}
 use Rattle.command_line.specs.declared.words.Task.{Task}
-use Rattle.command_line.specs.declared.words.Task.TheVariants.{Plan, Word, Replay, Race, Compact, Audit, Next, Mark, Moved, Help, Version}
+use Rattle.command_line.specs.declared.words.Task.TheVariants.{Plan, Word, Replay, Race, Compact, Audit, Next, Mark, Moved, Map, Help, Version}
 use Rattle.command_line.proofs.Chosen.{HasArgument, among_used, argument_fits, argument_off, first_found, one_found, option_fits, option_off, switch_found}
 use Rattle.command_line.proofs.Firsts.{found_holds}
 use Rattle.command_line.proofs.FormLevel.{IsReadable}
@@ -294,8 +294,8 @@ abbrev pub EnteredAs : Entered → Form → Type 0
 EnteredAs o form = (rows : List Row) → o ≡ Some (form.name, rows) → ⊥
 
 pub none_of_standing : (r : Bool) (words : List (List ℕ)) (o : Entered) → All IsUtf8 words → fault_of (program (standing r)) words ≡ [] → subcommand_of (program (standing r)) words ≡ o
-    → EnteredAs o plan_form → EnteredAs o word_form → EnteredAs o replay_form → EnteredAs o race_form → EnteredAs o compact_form → EnteredAs o audit_form → EnteredAs o (next_form r) → EnteredAs o mark_form → EnteredAs o moved_form → ⊥
-none_of_standing r words o utf8 taken found plan word replay race compact audit next mark moved = go (entered_one (standing r) (standing_program r) words o utf8 taken found)
+    → EnteredAs o plan_form → EnteredAs o word_form → EnteredAs o replay_form → EnteredAs o race_form → EnteredAs o compact_form → EnteredAs o audit_form → EnteredAs o (next_form r) → EnteredAs o mark_form → EnteredAs o moved_form → EnteredAs o map_form → ⊥
+none_of_standing r words o utf8 taken found plan word replay race compact audit next mark moved mapped = go (entered_one (standing r) (standing_program r) words o utf8 taken found)
   where
     go : (form : Form) × (rows : List Row) × IsOneOf (standing r) form × (o ≡ Some (form.name, rows)) → ⊥
     go (form, rows, inl same, is) = plan rows (is ∙ ap (λ (x : Form). Some (x.name, rows)) same)
@@ -307,7 +307,8 @@ none_of_standing r words o utf8 taken found plan word replay race compact audit 
     go (form, rows, inr (inr (inr (inr (inr (inr (inl same)))))), is) = next rows (is ∙ ap (λ (x : Form). Some (x.name, rows)) same)
     go (form, rows, inr (inr (inr (inr (inr (inr (inr (inl same))))))), is) = mark rows (is ∙ ap (λ (x : Form). Some (x.name, rows)) same)
     go (form, rows, inr (inr (inr (inr (inr (inr (inr (inr (inl same)))))))), is) = moved rows (is ∙ ap (λ (x : Form). Some (x.name, rows)) same)
-    go (form, rows, inr (inr (inr (inr (inr (inr (inr (inr (inr none)))))))), is) = none
+    go (form, rows, inr (inr (inr (inr (inr (inr (inr (inr (inr (inl same))))))))), is) = mapped rows (is ∙ ap (λ (x : Form). Some (x.name, rows)) same)
+    go (form, rows, inr (inr (inr (inr (inr (inr (inr (inr (inr (inr none))))))))), is) = none
 
 -- ---- what is answered in place of a task
 
@@ -353,6 +354,7 @@ answer_counts error (Ok (Audit audit)) answer = _
 answer_counts error (Ok (Next next)) answer = absurd answer
 answer_counts error (Ok (Mark image new b)) answer = _
 answer_counts error (Ok (Moved image moved b)) answer = _
+answer_counts error (Ok (Map run)) answer = _
 answer_counts error (Ok (Help text)) answer = _
 answer_counts error (Ok Version) answer = _
 answer_counts error (Err reported) answer = _
@@ -377,6 +379,7 @@ module _ (forms : List Form) (is : IsProgram forms) (words : List (List ℕ)) (s
   answer_reported error (Ok (Next next)) kind answer = absurd answer
   answer_reported error (Ok (Mark image new b)) kind answer = absurd answer
   answer_reported error (Ok (Moved image moved b)) kind answer = absurd answer
+  answer_reported error (Ok (Map run)) kind answer = absurd answer
   answer_reported error (Ok (Help text)) kind answer = help_asked (among_kinds _ error DisplayHelp kind answer (λ e. cc))
   answer_reported error (Ok Version) kind answer = version_asked (among_kinds _ error DisplayVersion kind answer (λ e. cc))
   answer_reported error (Err reported) kind answer = _

@@ -1,12 +1,12 @@
 -- `--reachable` is given if and only if a word before the first `--` says so.
-use Rattle.std.proofs.Common.{arith, ◌≡◌, ◌∙◌, ◌⊎◌, ◌&&◌, ◌||◌, ◌++◌, ℕ, Bool, cond, true, false, not, refl, sym, ap, subst, List, [], ◌∷◌, Some, None, codes, inl, inr, slice_index, true≢false}
-use Rattle.std.specs.Prelude.{find, is_some}
+use Rattle.std.proofs.Common.{arith, ◌≡◌, ◌∙◌, ◌⊎◌, ◌||◌, ◌++◌, ℕ, Bool, cond, true, false, refl, sym, ap, subst, List, [], ◌∷◌, Some, None, codes, inl, inr, slice_index, true≢false}
+use Rattle.std.specs.Prelude.{find}
 use Rattle.std.specs.Str.{bytes_eq}
 use Rattle.std.proofs.lemmas.Bool.{or_from}
 use Rattle.std.proofs.lemmas.Option.{same_Some}
 use Rattle.std.proofs.lemmas.Slice.Eq.{bytes_eq-Decides}
-use Rattle.command_line.specs.Forms.{Choice, Form, Parameter, fresh, large, mutators, next_form, next_paths, reachable, roots}
-use Rattle.command_line.specs.Given.{Gives, HasOption, HasSwitch, IsCommandWith, Use, is_among, is_flag}
+use Rattle.command_line.specs.Forms.{Choice, Parameter, fresh, large, mutators, next_form, next_paths, reachable, roots}
+use Rattle.command_line.specs.Given.{Gives, HasOption, IsCommandWith, Use, is_among, is_flag}
 use Rattle.command_line.specs.Given.Gives.{apart, joined, no_word, switched, then_values, to_next}
 use Rattle.command_line.specs.Nexts.{says_reachable}
 

@@ -6,6 +6,7 @@ use Rattle.clap.specs.declared.error.kind.ErrorKind.{ErrorKind}
 use Rattle.clap.specs.declared.error.kind.ErrorKind.TheVariants.{DisplayHelp, DisplayVersion}
 use Rattle.command_line.specs.Forms.{audit_form, compact_form, mark_form, moved_form, plan_form, word_form, workers}
 use Rattle.command_line.specs.Given.{IsChosen, IsCommandWith, IsNumber, Use, is_among, text_given}
+use Rattle.command_line.specs.Maps.{AsksMap, Mapping, map_of}
 use Rattle.command_line.specs.Nexts.{AsksNext, IsLawfulNext, Next, next_of}
 use Rattle.command_line.specs.Runs.{AsksRun, Audit, IsLawfulRun, Run, audit_of, run_of}
 use Rattle.command_line.specs.declared.words.Task.{Task}
@@ -88,6 +89,7 @@ pub record AsksNoCommand (words : List (List ℕ)) : Type 0 where
   pub no_next : (next : Next) → ¬ (AsksNext words next)
   pub no_mark : (image new : List ℕ) (is_large : Bool) → ¬ (AsksMark words image new is_large)
   pub no_moved : (image moved : List ℕ) (is_large : Bool) → ¬ (AsksMoved words image moved is_large)
+  pub no_map : (mapping : Mapping) → ¬ (AsksMap words mapping)
 
 -- `help`, `--help`, or a flag that begins with `-h`
 abbrev pub is_help : List ℕ → Bool
@@ -116,6 +118,7 @@ Asks words (tasks.Audit audit) = AsksAudit words (audit_of audit)
 Asks words (tasks.Next next) = AsksNext words (next_of next)
 Asks words (Mark image new is_large) = AsksMark words image.now new.now is_large
 Asks words (Moved image moved is_large) = AsksMoved words image.now moved.now is_large
+Asks words (tasks.Map run) = AsksMap words (map_of run)
 Asks words (Help text) = AsksHelp words
 Asks words Version = AsksVersion words
 
@@ -130,6 +133,7 @@ HasLawfulCounts (tasks.Audit audit) = Unit {0}
 HasLawfulCounts (tasks.Next next) = IsLawfulNext (next_of next)
 HasLawfulCounts (Mark image new is_large) = Unit {0}
 HasLawfulCounts (Moved image moved is_large) = Unit {0}
+HasLawfulCounts (tasks.Map run) = Unit {0}
 HasLawfulCounts (Help text) = Unit {0}
 HasLawfulCounts Version = Unit {0}
 
@@ -144,5 +148,6 @@ IsAnswerOf kind (tasks.Audit audit) = ⊥
 IsAnswerOf kind (tasks.Next next) = ⊥
 IsAnswerOf kind (Mark image new is_large) = ⊥
 IsAnswerOf kind (Moved image moved is_large) = ⊥
+IsAnswerOf kind (tasks.Map run) = ⊥
 IsAnswerOf kind (Help text) = kind ≡ DisplayHelp
 IsAnswerOf kind Version = kind ≡ DisplayVersion

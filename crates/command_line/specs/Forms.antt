@@ -141,7 +141,15 @@ mark_form = record { name = codes "mark"; options = []; switches = large ∷ [];
 abbrev pub moved_form : Form
 moved_form = record { name = codes "moved"; options = []; switches = large ∷ []; arguments = text (codes "IMAGE") ∷ text (codes "MOVED") ∷ [] }
 
+-- `--dump DUMP`, the path of a dump, which `map` has; nothing counts if it is left out
+abbrev pub dumped : Choice
+dumped = record { takes = text (codes "dump"); default = 0 }
+
+-- `map [--dump DUMP] [--large] IMAGE OUT`
+abbrev pub map_form : Form
+map_form = record { name = codes "map"; options = dumped ∷ []; switches = large ∷ []; arguments = text (codes "IMAGE") ∷ text (codes "OUT") ∷ [] }
+
 -- the commands of the program, for words with `--reachable` and for others
 abbrev pub standing : Bool → List Form
 standing by_reach =
-    plan_form ∷ word_form ∷ replay_form ∷ race_form ∷ compact_form ∷ audit_form ∷ next_form by_reach ∷ mark_form ∷ moved_form ∷ []
+    plan_form ∷ word_form ∷ replay_form ∷ race_form ∷ compact_form ∷ audit_form ∷ next_form by_reach ∷ mark_form ∷ moved_form ∷ map_form ∷ []

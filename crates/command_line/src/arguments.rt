@@ -1,7 +1,7 @@
 //! The options and arguments of the commands.
 ghost use Rattle.std.specs.Prelude.{◌≡◌, false, codes, IfOk};
 ghost use Rattle.clap.specs.Words.{app_of, new_app, rule_of, with_rule, App, Rule};
-ghost use Rattle.command_line.specs.Forms.{fresh, large, mutators, number, number_within, reachable, roots, switch, text, workers};
+ghost use Rattle.command_line.specs.Forms.{dumped, fresh, large, mutators, number, number_within, reachable, roots, switch, text, workers};
 ghost use Rattle.command_line.specs.Parser.{option_rule, optional_rule, rule, switch_rule};
 
 use clap::builder::ValueParser;
@@ -77,6 +77,17 @@ pub(crate) fn roots_option<'a>(alloc: Global) -> Arg<'a>
         .long("roots")
         .value_name("ROOTS")
         .help("The roots of the new heap, which stay by default")
+}
+
+/// The option `--dump`, which takes a path.
+pub(crate) fn dump_option<'a>(alloc: Global) -> Arg<'a>
+    ensures rule { rule_of result ≡ option_rule dumped }
+    ensures local { result.global ≡ false }
+{
+    Arg::new(alloc, "dump")
+        .long("dump")
+        .value_name("DUMP")
+        .help("The dump that is drawn too")
 }
 
 // An option of this name and help that takes a number from `low` to `high`.

@@ -3,10 +3,12 @@
 
 mod arguments;
 mod audit;
+mod mapping;
 mod next;
 mod values;
 mod words;
 
 pub use audit::AuditRun;
+pub use mapping::MapRun;
 pub use next::{NextMarks, NextRun};
 pub use words::{Task, TraceRun, VERSION_LINE, read_task};

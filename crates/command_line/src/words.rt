@@ -16,6 +16,7 @@ use crate::arguments::{
     workers_option,
 };
 use crate::audit::{AuditRun, audit_command, audit_run};
+use crate::mapping::{MapRun, map_command, map_run};
 use crate::next::{NextRun, next_command, next_run, says_reachable};
 use crate::values::{
     DEFAULT_FRESH, DEFAULT_MUTATORS, DEFAULT_WORKERS, count_of, is_large, number_of, text_of,
@@ -70,6 +71,8 @@ pub enum Task<'a> {
         /// Whether heaps of edition three are read as well.
         large: bool,
     },
+    /// Draw the heap in an image before and after it is compacted, and write the picture to a path.
+    Map(MapRun<'a>),
     /// Print this text of help.
     Help {
         text: String,
@@ -98,7 +101,7 @@ pub struct TraceRun<'a> {
 /// The program's name and version, as a line.
 pub const VERSION_LINE: &str = "compressor 0.1.0\n";
 
-// The version, as defined for clap.
+// The version, as defined for clap. The line is the program's own, since nothing is promised of clap's text.
 const VERSION: &str = "0.1.0";
 
 /// Reads the words after the program's name, and answers the task that they ask for. It fails if they ask for none, or
@@ -110,6 +113,7 @@ pub fn read_task<'a>(alloc: Global, words: &'a [String]) -> Result<Task<'a>, Err
     ensures no_help { IfErr result (λ error. kind_of error ≢ DisplayHelp) }
     ensures no_version { IfErr result (λ error. kind_of error ≢ DisplayVersion) }
 {
+    // clap has no path that depends on a switch (docs/DECISIONS.md, 42)
     let reaches = says_reachable(words);
     match command(alloc, reaches)?.try_get_matches_from(words) {
         Ok(matches) => Ok(task_of(words, &matches, reaches)),
@@ -158,6 +162,7 @@ fn task_of<'a>(words: &'a [String], matches: &ArgMatches<'a>, reaches: bool) -> 
             moved: text_of(found, "MOVED"),
             large: is_large(found),
         },
+        "map" => Task::Map(map_run(found)),
         _ => unreachable!(),
     }
 }
@@ -206,7 +211,8 @@ fn command<'a>(alloc: Global, reaches: bool) -> Made<'a>
     let auditing = with_command(compacting, audit_command(alloc));
     let running = with_command(auditing, next_command(alloc, reaches));
     let marking = with_command(running, mark_command(alloc));
-    with_command(marking, moved_command(alloc))
+    let judging = with_command(marking, moved_command(alloc));
+    with_command(judging, map_command(alloc))
 }
 
 // Adds a command to the program.

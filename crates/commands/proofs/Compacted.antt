@@ -19,7 +19,7 @@ use Rattle.command_io.specs.declared.refusal.Input.TheVariants.{Image}
 use Rattle.command_io.specs.declared.refusal.Input.TheVariants as inputs
 use Rattle.command_io.specs.declared.refusal.Output.TheVariants as outputs
 use Rattle.command_io.specs.declared.refusal.CommandRefusal.{CommandRefusal}
-use Rattle.command_io.specs.declared.refusal.CommandRefusal.TheVariants.{Layout, Mutator, Sweep, Trace, Dump, Audit, Moved, CannotOpen, CannotCreate, ReadFailed, CannotPrint, NoSuchWord, BadMarks, OutOfMemory, BadRoots}
+use Rattle.command_io.specs.declared.refusal.CommandRefusal.TheVariants.{Layout, Mutator, Sweep, Trace, Dump, Audit, Moved, CannotWrite, CannotOpen, CannotCreate, ReadFailed, CannotPrint, NoSuchWord, BadMarks, OutOfMemory, BadRoots}
 use Rattle.command_io.proofs.Imaged.{of_image}
 use Rattle.command_io.proofs.Outcomes.{same_parts, uncounted_by}
 
@@ -63,6 +63,7 @@ module _ {F W : Type 0} (disk : Disk F W) (large : Bool) (image path : List ℕ)
   of_sweep (Dump fault) h = absurd h.2
   of_sweep (Audit fault) h = absurd h.2
   of_sweep (Moved fault) h = absurd h.2
+  of_sweep (CannotWrite output) h = absurd h.2
   of_sweep (CannotOpen Image) h = h
   of_sweep (CannotOpen inputs.Trace) h = absurd h.2
   of_sweep (CannotOpen inputs.Dump) h = absurd h.2
@@ -92,6 +93,7 @@ module _ {F W : Type 0} (disk : Disk F W) (large : Bool) (image path : List ℕ)
     of_dumping (Dump Device) h = (swept.0, swept.1, of_image large (IsSweptHeap workers f) (BeginsDump disk path workers) swept.0 (λ heap s. begins workers f dump parts heap s disk path h) swept.2)
     of_dumping (Audit fault) h = absurd h
     of_dumping (Moved fault) h = absurd h
+    of_dumping (CannotWrite output) h = absurd h
     of_dumping (CannotOpen input) h = absurd h
     of_dumping (CannotCreate output) h = (swept.0, swept.1, (h.0, h.1, of_image large (IsSweptHeap workers f) (WasSwept workers) swept.0 (λ heap s. (f, s)) swept.2))
     of_dumping (ReadFailed input) h = absurd h

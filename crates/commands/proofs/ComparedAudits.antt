@@ -1,11 +1,13 @@
 -- What was compared, and what was printed of it.
-use Rattle.std.proofs.Common.{◌≡◌, ℕ, Bool, true, false, List, ◌++◌, length, Option, Result, Ok, Err, IfOk, IfErr, OnOk, codes, inl, inr, sym, subst}
-use Rattle.std.specs.Io.KnownBytes.{Appends, Keeps}
+use Rattle.std.proofs.Common.{◌≡◌, ℕ, Bool, true, false, List, ◌++◌, length, Option, Result, Ok, Err, IfOk, IfErr, OnOk, codes, inl, inr, sym, ap, ◌∙◌, subst, append_assoc}
+use Rattle.std.specs.Io.KnownBytes.{Appends}
 use Rattle.heap_layout.specs.Heap.{Heap}
 use Rattle.audit_checks.specs.Checks.{all_entries}
 use Rattle.comp_dump.specs.Dumped.{Dumped}
 use Rattle.comp_dump.specs.Lists.{total}
 use Rattle.comp_audit.specs.Explained.{AreCountsOf}
+use Rattle.comp_audit.specs.Wording.{counts_text, explanation_text}
+use Rattle.comp_audit.specs.declared.explanation.Explanation.{Explanation}
 use Rattle.comp_audit.specs.Meant.{built_count}
 use Rattle.comp_audit.specs.Judged.{Judges}
 use Rattle.comp_audit.specs.declared.verdict.Verdict.TheVariants.{No}
@@ -16,31 +18,51 @@ use Rattle.command_io.specs.Disk.{Disk}
 use Rattle.command_io.specs.Images.{IsHeapAt}
 use Rattle.command_io.specs.Printing.{named, RefusedUnprinted}
 use Rattle.command_io.specs.declared.refusal.CommandRefusal.{CommandRefusal}
-use Rattle.command_io.specs.declared.refusal.CommandRefusal.TheVariants.{Audit, BadMarks, BadRoots, CannotCreate, CannotOpen, CannotPrint, Dump, Layout, Moved, Mutator, NoSuchWord, OutOfMemory, ReadFailed, Sweep, Trace}
-use Rattle.commands.specs.Audits.{compared_lines, counts_lines, counts_text, faults_by, passed_lines, FailsCompared, IsCompared, IsDumpAt, IsExplained, IsFound, IsPrinted, Passes, PrintsCompared, RefusedUnexplained, RefusesAudit, RefusesCompared, SomeAudit}
+use Rattle.command_io.specs.declared.refusal.CommandRefusal.TheVariants.{Audit, BadMarks, BadRoots, CannotCreate, CannotOpen, CannotPrint, Dump, Layout, CannotWrite, Moved, Mutator, NoSuchWord, OutOfMemory, ReadFailed, Sweep, Trace}
+use Rattle.commands.specs.Audits.{compared_lines, counts_lines, faults_by, found_lines, passed_lines, IsCompared, IsDumpAt, IsExplained, IsFound, IsPrinted, Passes, PrintsCompared, RefusedUnexplained, RefusesAudit, RefusesCompared, SomeAudit}
 use Rattle.commands.specs.Replays.{StopsUnprinted}
 use Rattle.commands.specs.declared.explained.Compared.{Compared}
 use Rattle.commands.specs.declared.explained.Found.{Found}
 use Rattle.commands.specs.declared.explained.Found.TheVariants.{Failed, Passed}
 use Rattle.commands.proofs.Audited.{of_both, weaker}
 
--- lines after the counts that were compared are lines after the counts of the dump
-after_counts : (compared : Compared) (dump : Dumped) → AreCountsOf dump compared.counts → (before after : Option (List ℕ)) (rest : List ℕ) → Appends before after (compared_lines compared rest)
-    → Appends before after (counts_lines dump ++ rest)
-after_counts compared dump counts before after rest printed =
-    let one = subst (λ (n : ℕ). Appends before after (counts_text n compared.counts.pages compared.counts.entries ++ rest)) counts.built printed in
-    let two = subst (λ (n : ℕ). Appends before after (counts_text (total built_count dump.pages) n compared.counts.entries ++ rest)) counts.pages one in
-    subst (λ (n : ℕ). Appends before after (counts_text (total built_count dump.pages) (length dump.pages) n ++ rest)) counts.entries two
+-- the lines of what was compared are those of the counts of the dump, and what is said of what was found
+lines_of : (compared : Compared) (dump : Dumped) → AreCountsOf dump compared.counts → compared_lines compared ≡ counts_lines dump ++ found_lines compared.found
+lines_of compared dump counts =
+    let found = found_lines compared.found in
+    let one = ap (λ (n : ℕ). counts_text n compared.counts.pages compared.counts.entries) counts.built in
+    let two = ap (λ (n : ℕ). counts_text (total built_count dump.pages) n compared.counts.entries) counts.pages in
+    let three = ap (λ (n : ℕ). counts_text (total built_count dump.pages) (length dump.pages) n) counts.entries in
+    let same = one ∙ two ∙ three in
+    ap (λ (l : List ℕ). l ++ (codes "\n" ++ found)) same ∙ sym (append_assoc (counts_text (total built_count dump.pages) (length dump.pages) (length (all_entries dump.pages))) (codes "\n") found)
+
+-- these lines were printed, for what was found
+printed_of : (compared : Compared) (dump : Dumped) → AreCountsOf dump compared.counts → (before after : Option (List ℕ)) (found : Found) → compared.found ≡ found → Appends before after (compared_lines compared)
+    → Appends before after (counts_lines dump ++ found_lines found)
+printed_of compared dump counts before after found is printed =
+    subst (λ (f : Found). Appends before after (counts_lines dump ++ found_lines f)) is (subst (Appends before after) (lines_of compared dump counts) printed)
 
 module _ {F W : Type 0} (disk : Disk F W) (asked : runs.Audit) (explained : asked.explain ≡ true) (compared : Compared) (before after : Option (List ℕ)) where
   -- a dump that passed
-  passed : (words : ℕ) → compared.found ≡ Passed words → Appends before after (compared_lines compared (named (codes "ok ") words))
-      → (heap : Heap) (dump : Dumped) → IsCompared asked.whole compared heap dump → Passes asked before after heap dump
+  passed : (words : ℕ) → compared.found ≡ Passed words → Appends before after (compared_lines compared) → (heap : Heap) (dump : Dumped) → IsCompared asked.whole compared heap dump → Passes asked before after heap dump
   passed words is printed heap dump h =
       let found = subst (IsFound asked.whole heap dump) is h.found in
-      let lines = after_counts compared dump h.counts before after (named (codes "ok ") words) printed in
+      let lines = printed_of compared dump h.counts before after (Passed words) is printed in
       let of_total = subst (λ (n : ℕ). Appends before after (counts_lines dump ++ named (codes "ok ") n)) found.1 lines in
       record { judged = found.0; printed = subst (λ (b : Bool). Appends before after (passed_lines b dump)) (sym explained) of_total }
+
+  -- a dump with a fault that is explained
+  told : (fault : AuditFault) (explanation : Explanation) → compared.found ≡ Failed fault explanation → Appends before after (compared_lines compared)
+      → (heap : Heap) (dump : Dumped) → IsCompared asked.whole compared heap dump → IsExplained asked before after fault heap dump
+  told fault explanation is printed heap dump h =
+      let found = subst (IsFound asked.whole heap dump) is h.found in
+      let lines = printed_of compared dump h.counts before after (Failed fault explanation) is printed in
+      record {
+        judged = found.0;
+        explanation = explanation;
+        explains = found.1;
+        printed = subst (Appends before after) (sym (append_assoc (counts_lines dump) (explanation_text explanation) (codes "\n"))) lines;
+      }
 
   pub compared_passed : (result : Result (Unit {0}) CommandRefusal) → SomeAudit disk asked (IsCompared asked.whole compared) → OnOk result (PrintsCompared before after compared)
       → OnOk result (SomeAudit disk asked (Passes asked before after))
@@ -54,7 +76,7 @@ module _ {F W : Type 0} (disk : Disk F W) (asked : runs.Audit) (explained : aske
 
   -- why what was compared was not printed, or has a fault
   compared_refused : (refusal : CommandRefusal) → SomeAudit disk asked (IsCompared asked.whole compared) → RefusesCompared before after compared refusal → RefusesAudit disk asked refusal
-  compared_refused (Audit fault) found (explanation, is, text, printed) = weaker disk asked (IsCompared asked.whole compared) (λ heap dump. Judges (faults_by asked.whole heap dump) (No fault))
+  compared_refused (Audit fault) found (explanation, is, printed) = weaker disk asked (IsCompared asked.whole compared) (λ heap dump. Judges (faults_by asked.whole heap dump) (No fault))
       (λ heap dump h. (subst (IsFound asked.whole heap dump) is h.found).0) found
   compared_refused CannotPrint found cause = weaker disk asked (IsCompared asked.whole compared) (IsPrinted asked) (λ heap dump h. has_lines heap dump compared.found h.found) found
   compared_refused OutOfMemory found cause = tt
@@ -64,6 +86,7 @@ module _ {F W : Type 0} (disk : Disk F W) (asked : runs.Audit) (explained : aske
   compared_refused (Trace fault) found cause = absurd cause
   compared_refused (Dump fault) found cause = absurd cause
   compared_refused (Moved fault) found cause = absurd cause
+  compared_refused (CannotWrite output) found cause = absurd cause
   compared_refused (CannotOpen input) found cause = absurd cause
   compared_refused (CannotCreate output) found cause = absurd cause
   compared_refused (ReadFailed input) found cause = absurd cause
@@ -79,15 +102,7 @@ module _ {F W : Type 0} (disk : Disk F W) (asked : runs.Audit) (explained : aske
   -- and what that left of the output
   compared_leaves : (refusal : CommandRefusal) → SomeAudit disk asked (IsCompared asked.whole compared) → RefusesCompared before after compared refusal
       → RefusedUnexplained disk asked before after refusal
-  compared_leaves (Audit fault) found (explanation, is, text, printed) = inr (
-    explained,
-    weaker disk asked (IsCompared asked.whole compared) (IsExplained asked before after fault)
-        (λ heap dump h. record {
-          judged = (subst (IsFound asked.whole heap dump) is h.found).0;
-          text = text;
-          printed = after_counts compared dump h.counts before after text printed;
-        }) found,
-  )
+  compared_leaves (Audit fault) found (explanation, is, printed) = inr (explained, weaker disk asked (IsCompared asked.whole compared) (IsExplained asked before after fault) (told fault explanation is printed) found)
   compared_leaves CannotPrint found cause = tt
   compared_leaves OutOfMemory found cause = cause
   compared_leaves (Layout fault) found cause = absurd cause
@@ -96,6 +111,7 @@ module _ {F W : Type 0} (disk : Disk F W) (asked : runs.Audit) (explained : aske
   compared_leaves (Trace fault) found cause = absurd cause
   compared_leaves (Dump fault) found cause = absurd cause
   compared_leaves (Moved fault) found cause = absurd cause
+  compared_leaves (CannotWrite output) found cause = absurd cause
   compared_leaves (CannotOpen input) found cause = absurd cause
   compared_leaves (CannotCreate output) found cause = absurd cause
   compared_leaves (ReadFailed input) found cause = absurd cause
@@ -137,6 +153,7 @@ module _ {F W : Type 0} (disk : Disk F W) (asked : runs.Audit) (before after : O
   unprinted (Trace traces.OutOfMemory) h = h
   unprinted (Dump fault) h = h
   unprinted (Moved fault) h = h
+  unprinted (CannotWrite output) h = h
   unprinted (CannotOpen input) h = h
   unprinted (CannotCreate output) h = h
   unprinted (ReadFailed input) h = h
@@ -155,6 +172,7 @@ module _ {F W : Type 0} (disk : Disk F W) (asked : runs.Audit) (before after : O
   plain_leaves plain (Trace fault) h = h
   plain_leaves plain (Dump fault) h = h
   plain_leaves plain (Moved fault) h = h
+  plain_leaves plain (CannotWrite output) h = h
   plain_leaves plain (CannotOpen input) h = h
   plain_leaves plain (CannotCreate output) h = h
   plain_leaves plain (ReadFailed input) h = h

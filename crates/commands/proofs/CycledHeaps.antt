@@ -11,7 +11,7 @@ use Rattle.comp_trace.specs.RootsNamed.{word_named, words_named}
 use Rattle.comp_trace.specs.Shown.{Shown}
 use Rattle.comp_trace.specs.Line.{Line}
 use Rattle.command_io.specs.declared.refusal.CommandRefusal.{CommandRefusal}
-use Rattle.command_io.specs.declared.refusal.CommandRefusal.TheVariants.{Layout, Mutator, Sweep, Trace, Dump, Audit, Moved, CannotOpen, CannotCreate, ReadFailed, CannotPrint, NoSuchWord, BadMarks, OutOfMemory, BadRoots}
+use Rattle.command_io.specs.declared.refusal.CommandRefusal.TheVariants.{Layout, Mutator, Sweep, Trace, Dump, Audit, Moved, CannotWrite, CannotOpen, CannotCreate, ReadFailed, CannotPrint, NoSuchWord, BadMarks, OutOfMemory, BadRoots}
 use Rattle.commands.specs.Outcomes.{IsHaltedBy}
 use Rattle.commands.proofs.ReplayRuns.{cut_by}
 use Rattle.commands.specs.Cycled.{cycle_by, Given, IsCycledHeap, IsNextHeap, IsUncycled, IsUnmarked}
@@ -59,6 +59,7 @@ module _ (mutators fresh : ℕ) (lines : List Line) (given : Given) (heap : Heap
   uncycled values f run shown none (Dump fault) h = absurd h
   uncycled values f run shown none (Audit fault) h = absurd h
   uncycled values f run shown none (Moved fault) h = absurd h
+  uncycled values f run shown none (CannotWrite output) h = absurd h
   uncycled values f run shown none (CannotOpen input) h = absurd h
   uncycled values f run shown none (CannotCreate output) h = absurd h
   uncycled values f run shown none (ReadFailed input) h = absurd h
@@ -83,6 +84,7 @@ module _ (mutators fresh : ℕ) (lines : List Line) (given : Given) (heap : Heap
   halted_cycle shown (Dump fault) h = absurd h
   halted_cycle shown (Audit fault) h = absurd h
   halted_cycle shown (Moved fault) h = absurd h
+  halted_cycle shown (CannotWrite output) h = absurd h
   halted_cycle shown (CannotOpen input) h = absurd h
   halted_cycle shown (CannotCreate output) h = absurd h
   halted_cycle shown (ReadFailed input) h = absurd h

@@ -1,5 +1,5 @@
 -- What the command `next` does and refuses, from what its parts do and refuse.
-use Rattle.std.proofs.Common.{◌≡◌, ℕ, List, Option, Some, None, Result, Ok, Err, IfErr, IfOk, OnErr, OnOk, refl, sym, subst, inl, inr}
+use Rattle.std.proofs.Common.{◌≡◌, ℕ, List, Option, Result, Ok, Err, IfErr, IfOk, OnErr, OnOk, refl, sym, subst, inl, inr}
 use Rattle.std.proofs.KnownBytes.{Appends-kept}
 use Rattle.std.specs.Io.KnownBytes.{Keeps}
 use Rattle.heap_layout.specs.Heap.{Heap}
@@ -15,7 +15,7 @@ use Rattle.command_io.specs.NewImages.{IsOfWritingImage}
 use Rattle.command_io.specs.Printing.{CountsPrint}
 use Rattle.command_io.specs.declared.refusal.Output.TheVariants as outputs
 use Rattle.command_io.specs.declared.refusal.CommandRefusal.{CommandRefusal}
-use Rattle.command_io.specs.declared.refusal.CommandRefusal.TheVariants.{Layout, Mutator, Sweep, Trace, Dump, Audit, Moved, CannotOpen, CannotCreate, ReadFailed, CannotPrint, NoSuchWord, BadMarks, OutOfMemory, BadRoots}
+use Rattle.command_io.specs.declared.refusal.CommandRefusal.TheVariants.{Layout, Mutator, Sweep, Trace, Dump, Audit, Moved, CannotWrite, CannotOpen, CannotCreate, ReadFailed, CannotPrint, NoSuchWord, BadMarks, OutOfMemory, BadRoots}
 use Rattle.command_io.proofs.Outcomes.{uncounted_by}
 use Rattle.commands.specs.declared.replays.PrintedHalt.{PrintedHalt}
 use Rattle.commands.specs.Cycled.{Given, IsCycledHeap, IsUncycled}
@@ -46,6 +46,7 @@ writing_image disk path bytes to (Trace fault) h = h
 writing_image disk path bytes to (Dump fault) h = h
 writing_image disk path bytes to (Audit fault) h = h
 writing_image disk path bytes to (Moved fault) h = h
+writing_image disk path bytes to (CannotWrite output) h = h
 writing_image disk path bytes to (CannotOpen input) h = h
 writing_image disk path bytes to (CannotCreate output) h = h
 writing_image disk path bytes to (ReadFailed input) h = h

@@ -9,7 +9,7 @@ use Rattle.command_io.specs.Images.{IsHeapAt, RefusesAt, SomeHeapAt}
 use Rattle.command_io.specs.Printing.{line_of}
 use Rattle.command_io.specs.declared.refusal.Input.TheVariants as inputs
 use Rattle.command_io.specs.declared.refusal.CommandRefusal.{CommandRefusal}
-use Rattle.command_io.specs.declared.refusal.CommandRefusal.TheVariants.{Layout, Mutator, Sweep, Trace, Dump, Audit, Moved, CannotOpen, CannotCreate, ReadFailed, CannotPrint, NoSuchWord, BadMarks, OutOfMemory, BadRoots}
+use Rattle.command_io.specs.declared.refusal.CommandRefusal.TheVariants.{Layout, Mutator, Sweep, Trace, Dump, Audit, Moved, CannotWrite, CannotOpen, CannotCreate, ReadFailed, CannotPrint, NoSuchWord, BadMarks, OutOfMemory, BadRoots}
 use Rattle.command_io.proofs.Imaged.{at_heap}
 use Rattle.commands.specs.Compact.{IsOfSweeping, RefusesSweep}
 use Rattle.commands.specs.Plan.{IsOfPrinting, RefusesPlan}
@@ -26,6 +26,7 @@ module _ {F W : Type 0} (disk : Disk F W) (large : Bool) (path : List ℕ) where
     of_plan (Dump fault) h = absurd h
     of_plan (Audit fault) h = absurd h
     of_plan (Moved fault) h = absurd h
+    of_plan (CannotWrite output) h = absurd h
     of_plan (CannotOpen input) h = absurd h
     of_plan (CannotCreate output) h = absurd h
     of_plan (ReadFailed input) h = absurd h
@@ -44,6 +45,7 @@ module _ {F W : Type 0} (disk : Disk F W) (large : Bool) (path : List ℕ) where
     of_past index (Dump fault) h = absurd h
     of_past index (Audit fault) h = absurd h
     of_past index (Moved fault) h = absurd h
+    of_past index (CannotWrite output) h = absurd h
     of_past index (CannotOpen input) h = absurd h
     of_past index (CannotCreate output) h = absurd h
     of_past index (ReadFailed input) h = absurd h
@@ -64,6 +66,7 @@ module _ {F W : Type 0} (disk : Disk F W) (large : Bool) (path : List ℕ) where
     of_sweeping (Dump fault) h = absurd h
     of_sweeping (Audit fault) h = absurd h
     of_sweeping (Moved fault) h = absurd h
+    of_sweeping (CannotWrite output) h = absurd h
     of_sweeping (CannotOpen input) h = absurd h
     of_sweeping (CannotCreate output) h = absurd h
     of_sweeping (ReadFailed input) h = absurd h
@@ -83,6 +86,7 @@ module _ {F W : Type 0} (disk : Disk F W) (large : Bool) (path : List ℕ) where
     of_word (Dump fault) h = absurd h.2
     of_word (Audit fault) h = absurd h.2
     of_word (Moved fault) h = absurd h.2
+    of_word (CannotWrite output) h = absurd h.2
     of_word (CannotOpen inputs.Image) h = h
     of_word (CannotOpen inputs.Trace) h = absurd h.2
     of_word (CannotOpen inputs.Dump) h = absurd h.2

@@ -27,7 +27,7 @@ use Rattle.commands.specs.Replays.{dumped_of, replaying, shown_lines, CutsReplay
 use Rattle.command_io.specs.Texts.{HasLinesAt, RefusesTextAt}
 use Rattle.command_io.specs.declared.refusal.Output.TheVariants as outputs
 use Rattle.command_io.specs.declared.refusal.CommandRefusal.{CommandRefusal}
-use Rattle.command_io.specs.declared.refusal.CommandRefusal.TheVariants.{Layout, Mutator, Sweep, Trace, Dump, Audit, Moved, CannotOpen, CannotCreate, ReadFailed, CannotPrint, NoSuchWord, BadMarks, OutOfMemory, BadRoots}
+use Rattle.command_io.specs.declared.refusal.CommandRefusal.TheVariants.{Layout, Mutator, Sweep, Trace, Dump, Audit, Moved, CannotWrite, CannotOpen, CannotCreate, ReadFailed, CannotPrint, NoSuchWord, BadMarks, OutOfMemory, BadRoots}
 use Rattle.command_io.proofs.Outcomes.{same_parts, uncounted_by, uncreated, unmade_too}
 use Rattle.commands.specs.Outcomes.{IsHaltedBy, IsWritten, RefusesInputs, RefusesOutcome}
 use Rattle.commands.specs.declared.replays.PrintedHalt.{PrintedHalt}
@@ -93,6 +93,7 @@ unprinted_halt before (Trace fault) = unprinted_trace before fault
 unprinted_halt before (Dump fault) = Keeps-refl before
 unprinted_halt before (Audit fault) = tt
 unprinted_halt before (Moved fault) = Keeps-refl before
+unprinted_halt before (CannotWrite output) = Keeps-refl before
 unprinted_halt before (CannotOpen input) = Keeps-refl before
 unprinted_halt before (CannotCreate output) = Keeps-refl before
 unprinted_halt before (ReadFailed input) = Keeps-refl before
@@ -143,6 +144,7 @@ halt_unprinted before after shown printed (Trace traces.OutOfMemory) h = none_pr
 halt_unprinted before after shown printed (Dump fault) h = none_printed before after shown h printed
 halt_unprinted before after shown printed (Audit fault) h = tt
 halt_unprinted before after shown printed (Moved fault) h = none_printed before after shown h printed
+halt_unprinted before after shown printed (CannotWrite output) h = none_printed before after shown h printed
 halt_unprinted before after shown printed (CannotOpen input) h = none_printed before after shown h printed
 halt_unprinted before after shown printed (CannotCreate output) h = none_printed before after shown h printed
 halt_unprinted before after shown printed (ReadFailed input) h = none_printed before after shown h printed
@@ -180,6 +182,7 @@ writing_of disk path bytes to (Trace fault) h = h
 writing_of disk path bytes to (Dump fault) h = h
 writing_of disk path bytes to (Audit fault) h = h
 writing_of disk path bytes to (Moved fault) h = h
+writing_of disk path bytes to (CannotWrite output) h = h
 writing_of disk path bytes to (CannotOpen input) h = h
 writing_of disk path bytes to (CannotCreate output) h = h
 writing_of disk path bytes to (ReadFailed input) h = h

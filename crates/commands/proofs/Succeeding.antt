@@ -22,7 +22,6 @@ use Rattle.comp_trace.specs.Bytes.{flipped, no_entries}
 use Rattle.comp_trace.specs.Grammar.{parts}
 use Rattle.comp_trace.specs.Line.{Line}
 use Rattle.comp_trace.specs.Markings.{IsMarkedBy}
-use Rattle.comp_trace.specs.Marks.{marks_of}
 use Rattle.comp_trace.specs.NewRoot.{NewRoot}
 use Rattle.comp_trace.specs.RootsNamed.{words_named}
 use Rattle.comp_trace.specs.Runs.{MayBegin}

@@ -15,6 +15,7 @@ ghost use Rattle.commands.specs.declared.running.Unanswered.TheVariants.{Misused
 
 use crate::audit::print_audit;
 use crate::compact::print_compact;
+use crate::mapping::print_map;
 use crate::mark::print_mark;
 use crate::moved::print_moved;
 use crate::next::print_next;
@@ -184,6 +185,7 @@ fn print_task<R: Threads + Wait + Sync, F: Files, O: Write>(
             moved,
             large,
         } => print_moved(alloc, &*files, image, moved, large, out),
+        Task::Map(run) => print_map(alloc, rt, files, run, out),
         Task::Help { text } => print_help(&text, out),
         Task::Version => print_text(VERSION_LINE, out),
     }

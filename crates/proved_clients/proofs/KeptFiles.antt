@@ -9,7 +9,7 @@ use Rattle.command_io.specs.Memory.{memory_disk, HasPut, WrittenIsThere}
 use Rattle.command_io.specs.declared.memory.MemoryFiles.{MemoryFiles}
 use Rattle.command_io.specs.declared.refusal.Output.TheVariants as outputs
 use Rattle.command_io.specs.declared.refusal.CommandRefusal.{CommandRefusal}
-use Rattle.command_io.specs.declared.refusal.CommandRefusal.TheVariants.{Layout, Mutator, Sweep, Trace, Dump, Audit, Moved, CannotOpen, CannotCreate, ReadFailed, CannotPrint, NoSuchWord, BadMarks, OutOfMemory, BadRoots}
+use Rattle.command_io.specs.declared.refusal.CommandRefusal.TheVariants.{Layout, CannotWrite, Mutator, Sweep, Trace, Dump, Audit, Moved, CannotOpen, CannotCreate, ReadFailed, CannotPrint, NoSuchWord, BadMarks, OutOfMemory, BadRoots}
 use Rattle.commands.specs.Races.{dump_of_race, Races, RefusesRace}
 use Rattle.commands.specs.Replays.{dump_of_run, Replays, RefusesReplay, SomeRun}
 use Rattle.proved_clients.specs.Kept.{KeepsRaced, KeepsReplayed, KeptOrNot}
@@ -29,6 +29,7 @@ unchanged from to (Err (Trace fault)) h = λ other. h
 unchanged from to (Err (Dump fault)) h = λ other. same_files from to h
 unchanged from to (Err (Audit fault)) h = λ other. h
 unchanged from to (Err (Moved fault)) h = λ other. h
+unchanged from to (Err (CannotWrite output)) h = λ other. same_files from to h
 unchanged from to (Err (CannotOpen input)) h = λ other. h
 unchanged from to (Err (CannotCreate output)) h = λ other. same_files from to h
 unchanged from to (Err (ReadFailed input)) h = λ other. h

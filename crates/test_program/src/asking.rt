@@ -3,14 +3,14 @@ use command_line::{VERSION_LINE, read_task};
 use std::process::Abort;
 use test_support::words_of;
 
-// The expected text about a line.
+/// The expected text about a line.
 #[derive(Clone, Copy, Debug)]
-enum Answer<'a> {
-    // This task, as `Debug` prints it.
+pub enum Answer<'a> {
+    /// This task, as `Debug` prints it.
     Task(&'a str),
-    // The help of the program.
+    /// The help of the program.
     Help,
-    // An error: the words are no command.
+    /// An error: the words are no command.
     Error,
 }
 
@@ -37,8 +37,8 @@ fn expect_answer(rt: &(impl Abort + AllocGlobal), line: &str, wanted: Answer) {
     );
 }
 
-// Checks each of these lines.
-fn expect_lines(rt: &(impl Abort + AllocGlobal), lines: &[&str], wanted: Answer) {
+/// Checks each of these lines.
+pub fn expect_lines(rt: &(impl Abort + AllocGlobal), lines: &[&str], wanted: Answer) {
     for line in lines {
         expect_answer(rt, line, wanted);
     }
@@ -55,7 +55,7 @@ fn expect_rows(rt: &(impl Abort + AllocGlobal), rows: &[Row]) {
 }
 
 // Lines and the tasks that they ask for.
-static TASKS: [Row; 50] = [
+static TASKS: [Row; 54] = [
     (
         "plan three.img",
         "Plan { image: \"three.img\", large: false }",
@@ -230,6 +230,22 @@ static TASKS: [Row; 50] = [
         "Moved { image: \"a\", moved: \"--large\", large: false }",
     ),
     (
+        "map three.img out.svg",
+        "Map(MapRun { image: \"three.img\", dump: None, out: \"out.svg\", large: false })",
+    ),
+    (
+        "map --dump d --large a b",
+        "Map(MapRun { image: \"a\", dump: Some(\"d\"), out: \"b\", large: true })",
+    ),
+    (
+        "map a --dump= b",
+        "Map(MapRun { image: \"a\", dump: Some(\"\"), out: \"b\", large: false })",
+    ),
+    (
+        "map a -- --dump",
+        "Map(MapRun { image: \"a\", dump: None, out: \"--dump\", large: false })",
+    ),
+    (
         "next --large a t m n",
         "Next(NextRun { image: \"a\", trace: \"t\", marks: Given(\"m\"), new: \"n\", mutators: 2, fresh: 64, large: true })",
     ),
@@ -261,7 +277,7 @@ fn words_ask_for_these_tasks(rt: HostRuntime) {
 }
 
 // Lines that ask for help.
-static HELPS: [&str; 20] = [
+static HELPS: [&str; 22] = [
     "--help",
     "-h",
     "-hx",
@@ -281,6 +297,8 @@ static HELPS: [&str; 20] = [
     "mark a -h",
     "help moved",
     "moved a -h",
+    "help map",
+    "map --dump d -h",
     "next --reachable --help",
 ];
 
@@ -301,100 +319,4 @@ static VERSIONS: [Row; 4] = [
 fn version_is_printed_for_these_words(rt: HostRuntime) {
     expect_rows(&rt, &VERSIONS);
     assert!(rt; VERSION_LINE == "compressor 0.1.0\n");
-}
-
-// Lines that are no command.
-static NO_COMMANDS: [&str; 87] = [
-    "plan --large",
-    "plan --large --large a",
-    "audit --large=1 a b",
-    "word --large a",
-    "",
-    "--",
-    "-- word three.img 2",
-    "sweep three.img",
-    "help sweep",
-    "version",
-    "--version=1",
-    "word --version",
-    "plan -V",
-    "plan",
-    "plan three.img 1",
-    "plan --image three.img",
-    "word three.img",
-    "word three.img x",
-    "word three.img -1",
-    "word three.img -- -2",
-    "word three.img 18446744073709551616",
-    "word three.img 1 2",
-    "replay",
-    "replay a t",
-    "replay a t d e",
-    "replay --workers 2 a t d",
-    "replay --mutators 0 a t d",
-    "replay --mutators 65 a t d",
-    "replay --mutators 1 --mutators 1 a t d",
-    "race a t",
-    "race --fresh 4097 a t d",
-    "race --fresh -1 a t d",
-    "race --fresh 2 a t d --fresh=2",
-    "race --mutators a t d",
-    "race --threads 1 a t d",
-    "compact",
-    "compact a",
-    "compact a b c",
-    "compact --workers 0 a b",
-    "compact --workers 65 a b",
-    "compact --workers x a b",
-    "compact --workers= a b",
-    "compact --workers a b",
-    "compact a b --workers",
-    "compact --workers -- a b",
-    "compact --workers 2 --workers 3 a b",
-    "compact --workers=2 a --workers=2 b",
-    "compact -w 2 a b",
-    "compact --worker 2 a b",
-    "compact --fresh 2 a b",
-    "audit",
-    "audit a",
-    "audit a b c",
-    "audit --workers 2 a b",
-    "audit a b --fresh 2",
-    "audit a -b",
-    "audit --whole --whole a b",
-    "audit --words=1 a b",
-    "audit --words a",
-    "audit --explain=1 a b",
-    "plan --whole a",
-    "mark",
-    "mark a",
-    "mark a b c",
-    "mark --large --large a b",
-    "mark a b --mutators 1",
-    "mark a -b",
-    "moved",
-    "moved a",
-    "moved a b c",
-    "moved --whole a b",
-    "moved a -b",
-    "plan --workers 2 three.img",
-    "--workers 2 compact a b",
-    "next a t n",
-    "next --reachable a t",
-    "next --reachable a t m n",
-    "next --reachable -- a t m n",
-    "next --reachable=1 a t n",
-    "next --reachable --reachable a t n",
-    "next -- --reachable a t",
-    "next --roots r a t m n",
-    "next --roots r a t n",
-    "next --reachable --roots a t n",
-    "next --reachable --roots r --roots s a t n",
-    "plan --reachable a",
-    "--reachable next a t n",
-];
-
-#[test]
-fn words_that_are_no_command_are_refused(rt: HostRuntime) {
-    expect_lines(&rt, &NO_COMMANDS, Answer::Error);
 }

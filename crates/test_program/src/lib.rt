@@ -13,7 +13,11 @@ mod large;
 #[cfg(test)]
 mod launching;
 #[cfg(test)]
+mod mapping;
+#[cfg(test)]
 mod marking;
+#[cfg(test)]
+mod misused;
 #[cfg(test)]
 mod moving;
 #[cfg(test)]

@@ -2,7 +2,8 @@
 use crate::printing::{LINES, REMOVED, WRITTEN, expect_lines};
 use crate::runs::take_steps;
 use crate::{
-    cycling, judging, large, marking, moving, programs, racing, reaching, replaying, weak, wording,
+    cycling, judging, large, mapping, marking, moving, programs, racing, reaching, replaying, weak,
+    wording,
 };
 use std::rt::Files;
 use std::sync::Wait;
@@ -12,7 +13,7 @@ use test_support::Step;
 
 // All tables. The last one writes the files that `LINES` read. As a constant they would cost the proof of the test five
 // times as much.
-fn tables() -> [&'static [Step]; 30] {
+fn tables() -> [&'static [Step]; 32] {
     [
         programs::STEPS,
         judging::PASSED,
@@ -30,6 +31,8 @@ fn tables() -> [&'static [Step]; 30] {
         cycling::CYCLED,
         cycling::UNMARKED,
         cycling::ORDERED,
+        mapping::MAPPED,
+        mapping::REFUSED,
         marking::MARKED,
         marking::EDITIONS,
         marking::REFUSED,

@@ -5,12 +5,14 @@ use Rattle.clap.specs.Words.{fault_of, found_of, one_text, rows_of, subcommand_n
 use Rattle.clap.specs.declared.parser.matches.ArgMatches.{ArgMatches}
 use Rattle.clap.specs.declared.parser.matches.Found.{Found}
 use Rattle.command_line.specs.Parser.{program}
-use Rattle.command_line.specs.Forms.{Form, audit_form, compact_form, mark_form, moved_form, next_form, plan_form, race_form, replay_form, standing, text, word_form}
+use Rattle.command_line.specs.Forms.{Form, audit_form, compact_form, map_form, mark_form, moved_form, next_form, plan_form, race_form, replay_form, standing, text, word_form}
+use Rattle.command_line.specs.Maps.{map_of}
 use Rattle.command_line.specs.Nexts.{next_of}
 use Rattle.command_line.specs.Runs.{audit_of, run_of}
-use Rattle.command_line.proofs.TopLevel.{IsCommand, standing_audit, standing_compact, standing_mark, standing_moved, standing_next, standing_plan, standing_program, standing_race, standing_replay, standing_word}
+use Rattle.command_line.proofs.TopLevel.{IsCommand, standing_audit, standing_compact, standing_map, standing_mark, standing_moved, standing_next, standing_plan, standing_program, standing_race, standing_replay, standing_word}
 use Rattle.command_line.proofs.Found.{CommandAsked, argument_there, bounded_number, command_asked, compact_asked, entered_as, index_there, mark_asked, none_entered, none_of_standing, plan_asked, run_asked, run_found, same_name, texts_utf8, word_asked, workers_fit, workers_within}
 use Rattle.command_line.proofs.AuditFound.{audit_asked, audit_found}
+use Rattle.command_line.proofs.MapFound.{map_asked, map_found}
 use Rattle.command_line.proofs.MovedFound.{moved_asked}
 use Rattle.command_line.proofs.NextFound.{next_asked, next_found}
 use Rattle.command_line.proofs.words.task_of.Goals as goal
@@ -186,13 +188,25 @@ returns-in-moved-clause-asked c =
     moved_asked (map string_bytes c.args.words.now) f given c.text_of-in-moved.result.now c.text_of-in-moved-2.result.now c.is_large-in-moved.result
     c.text_of-in-moved.ensures c.text_of-in-moved-2.ensures c.is_large-in-moved.ensures
 
+pub map_run-requires : goal.map_run-requires
+map_run-requires c =
+    let f = found_of c.in-Some.found.now in
+    let given = given_to c.args.reaches map_form (standing_map c.args.reaches) c.args.words.now c.args.matches.now c.in-Some.name.now f c.in-map.is c.requires.taken c.requires.found c.in-Some.ensures.name c.in-Some.ensures.rows in
+    map_found (map string_bytes c.args.words.now) f given
+
+pub returns-in-map-clause-asked : goal.returns-in-map-clause-asked
+returns-in-map-clause-asked c =
+    let f = found_of c.in-Some.found.now in
+    let given = given_to c.args.reaches map_form (standing_map c.args.reaches) c.args.words.now c.args.matches.now c.in-Some.name.now f c.in-map.is c.requires.taken c.requires.found c.in-Some.ensures.name c.in-Some.ensures.rows in
+    map_asked (map string_bytes c.args.words.now) f given (map_of c.map_run.result) c.map_run.ensures
+
 -- no command was entered, which cannot be
 pub unreachable-requires : goal.unreachable-requires
 unreachable-requires c =
     let words = map string_bytes c.args.words.now in
     let found = none_entered c.args.matches.now (subcommand_of (program (standing c.args.reaches)) words) c.requires.found c.in_default.ensures.name in
     none_of_standing c.args.reaches words None (texts_utf8 c.args.words.now) c.requires.taken found (λ rows e. cc) (λ rows e. cc) (λ rows e. cc) (λ rows e. cc)
-    (λ rows e. cc) (λ rows e. cc) (λ rows e. cc) (λ rows e. cc) (λ rows e. cc)
+    (λ rows e. cc) (λ rows e. cc) (λ rows e. cc) (λ rows e. cc) (λ rows e. cc) (λ rows e. cc)
 
 -- or one by another name
 pub unreachable-requires-in_default-name : goal.unreachable-requires-in_default-name
@@ -207,4 +221,4 @@ unreachable-requires-in_default-name c =
     (λ rows e. other.not-replay (same_name _ name _ mine rows refl e)) (λ rows e. other.not-race (same_name _ name _ mine rows refl e))
     (λ rows e. other.not-compact (same_name _ name _ mine rows refl e)) (λ rows e. other.not-audit (same_name _ name _ mine rows refl e))
     (λ rows e. other.not-next (same_name _ name _ mine rows refl e)) (λ rows e. other.not-mark (same_name _ name _ mine rows refl e))
-    (λ rows e. other.not-moved (same_name _ name _ mine rows refl e))
+    (λ rows e. other.not-moved (same_name _ name _ mine rows refl e)) (λ rows e. other.not-map (same_name _ name _ mine rows refl e))

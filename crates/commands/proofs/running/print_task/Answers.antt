@@ -212,3 +212,20 @@ returns-in-Help-clause-uncreated g c = unmade_anyway (g.F.Files.disk c.args.file
 
 pub returns-in-Version-clause-uncreated : goal.returns-in-Version-clause-uncreated
 returns-in-Version-clause-uncreated g c = unmade_anyway (g.F.Files.disk c.args.files.now) c.args.files.now c.print_text.result
+
+pub returns-in-Map-clause-done : goal.returns-in-Map-clause-done
+returns-in-Map-clause-done g c =
+    subst (λ (task : Task). OnOk c.print_map.result (DoesTask (g.F.Files.disk c.args.files.now) c.print_map.new.files (g.O.Write.contents (inner_of c.args.out.now).now) (g.O.Write.contents (inner_of c.print_map.new.out).now) task)) (sym c.in-Map.is) c.print_map.ensures.mapped
+
+pub returns-in-Map-clause-cause : goal.returns-in-Map-clause-cause
+returns-in-Map-clause-cause g c =
+    subst (λ (task : Task). IfErr c.print_map.result (RefusesTask (g.F.Files.disk c.args.files.now) c.args.files.now c.print_map.new.files (g.O.Write.contents (inner_of c.args.out.now).now) (g.O.Write.contents (inner_of c.print_map.new.out).now) task)) (sym c.in-Map.is) c.print_map.ensures.cause
+
+pub returns-in-Map-clause-counts : goal.returns-in-Map-clause-counts
+returns-in-Map-clause-counts g c = c.print_map.ensures.counts
+
+pub returns-in-Map-clause-same_writer : goal.returns-in-Map-clause-same_writer
+returns-in-Map-clause-same_writer g c = c.print_map.ensures.same_writer
+
+pub returns-in-Map-clause-uncreated : goal.returns-in-Map-clause-uncreated
+returns-in-Map-clause-uncreated g c = c.print_map.ensures.unmade

@@ -1,0 +1,21 @@
+-- What is known of the picture of a heap that is written to a path. Which bytes it has is tested, not stated.
+use Rattle.std.specs.Prelude.{◌≡◌, ℕ, List}
+use Rattle.command_io.specs.Disk.{Disk, WritesBeginning, WritesWhole}
+use Rattle.command_io.specs.declared.refusal.Output.TheVariants as outputs
+use Rattle.command_io.specs.declared.refusal.CommandRefusal.{CommandRefusal}
+use Rattle.command_io.specs.declared.refusal.CommandRefusal.TheVariants.{CannotCreate, CannotWrite, OutOfMemory}
+
+-- some bytes, those of a picture, were written whole to the path, and these are the files since
+abbrev pub DrawsWhole : {F W : Type 0} → Disk F W → List ℕ → F → Type 0
+DrawsWhole disk path to = (picture : List ℕ) × WritesWhole disk outputs.Map path picture to
+
+-- a beginning of some bytes, those of a picture, was written, and then one call of their writer failed
+abbrev pub DrawsBeginning : {F W : Type 0} → Disk F W → List ℕ → Type 0
+DrawsBeginning disk path = (picture : List ℕ) × WritesBeginning disk outputs.Map path picture
+
+-- why a picture was not written: there is no place for it, or a call of its writer failed, or memory ran out
+abbrev pub IsOfDrawing : {F W : Type 0} → Disk F W → List ℕ → CommandRefusal → Type 0
+IsOfDrawing disk path (CannotCreate output) = (output ≡ outputs.Map) × disk.bars outputs.Map path
+IsOfDrawing disk path (CannotWrite output) = (output ≡ outputs.Map) × DrawsBeginning disk path
+IsOfDrawing disk path OutOfMemory = Unit {0}
+IsOfDrawing disk path _ = ⊥

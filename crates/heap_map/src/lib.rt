@@ -1,0 +1,22 @@
+//! The picture of a heap: from-space above and to-space below, as an SVG.
+#![tactic(auto)]
+
+mod arrows;
+mod drawing;
+mod dumped;
+mod faulty;
+mod frame;
+mod grid;
+mod laws;
+mod layout;
+mod legend;
+mod markup;
+mod pages;
+mod palette;
+mod view;
+mod words;
+
+pub use drawing::draw;
+pub use laws::words_have_cells_of_their_own;
+pub use layout::{Cell, Scale};
+pub use view::DumpView;
