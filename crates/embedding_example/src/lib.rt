@@ -4,6 +4,6 @@
 mod cycle;
 mod cycles;
 #[cfg(test)]
-mod lived;
+mod one_cycle;
 #[cfg(test)]
-mod three;
+mod two_cycles;

@@ -1,8 +1,8 @@
 //! Calls that are made again if memory is refused.
 ghost use Rattle.comp_mutator.specs.Mutators.{IsMutatorOf};
 
+use crate::answered_calls::{AnsweredCall, Call};
 use crate::making::Making;
-use crate::rows::{Call, Row};
 use comp_journal::Entry;
 use comp_mutator::{Mutator, Refusal, Space, Touched};
 use heap_layout::Kind;
@@ -103,7 +103,7 @@ fn is_unknown<L: Named>(
     alloc: Global,
     space: &Space<L, Making>,
     m: &mut Mutator<L>,
-    row: &Row,
+    row: &AnsweredCall,
 ) -> bool
     requires of { IsMutatorOf space.now m.old }
     ensures of { IsMutatorOf space.now m.new }
@@ -121,7 +121,7 @@ fn is_as_long<L: Named>(
     alloc: Global,
     space: &Space<L, Making>,
     m: &mut Mutator<L>,
-    row: &Row,
+    row: &AnsweredCall,
 ) -> bool
     requires of { IsMutatorOf space.now m.old }
     ensures of { IsMutatorOf space.now m.new }
@@ -148,7 +148,7 @@ pub fn is_answered<L: Named>(
     space: &Space<L, Making>,
     m: &mut Mutator<L>,
     making: &Making,
-    row: &Row,
+    row: &AnsweredCall,
 ) -> bool
     requires of { IsMutatorOf space.now m.old }
     ensures of { IsMutatorOf space.now m.new }

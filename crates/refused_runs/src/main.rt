@@ -3,6 +3,7 @@
 //! allocation fails.
 #![tactic(auto)]
 
+mod answered_calls;
 mod answers;
 mod cycling;
 mod finishing;
@@ -10,10 +11,9 @@ mod flipped;
 mod judging;
 mod ledgers;
 mod making;
-mod playing;
+mod mutator_runs;
 mod replaying;
-mod rows;
-mod tables;
+mod worked_runs;
 
 use std::sync::Wait;
 use std::thread::Threads;
@@ -34,8 +34,8 @@ fn report<R: Print>(rt: &R, name: &str, well: bool) {
 // with the same status.
 fn run_all<R: Print + AllocGlobal + Threads + Wait + Sync>(rt: &R) {
     let alloc = rt.alloc();
-    for case in tables::cases() {
-        report(rt, case.name, playing::is_played(rt, alloc, case));
+    for run in worked_runs::all() {
+        report(rt, run.name, mutator_runs::is_played(rt, alloc, run));
     }
     report(rt, "a ledger", ledgers::is_kept(rt, alloc));
     report(rt, "a replay", replaying::is_replayed(rt, alloc));

@@ -1,5 +1,5 @@
 //! The fights: how many mutators write into the first data word of a heap, how often, and what is left.
-use crate::judged::fight_named;
+use crate::whole_fight::fight_named;
 use std::alloc::Global;
 use std::marker::Brand;
 use std::process::Abort;
@@ -35,7 +35,8 @@ impl Fight {
     }
 }
 
-static FIGHTS: [Fight; 4] = [
+// All writes wait while the page is busy.
+static FILLING: [Fight; 2] = [
     Fight {
         name: "sixty-four mutators fill a journal",
         heap: Worked::Three,
@@ -45,6 +46,19 @@ static FIGHTS: [Fight; 4] = [
         waits: true,
         fills: true,
     },
+    Fight {
+        name: "sixteen mutators fill a journal of edition three",
+        heap: Worked::Mixed,
+        offset: 3,
+        mutators: 16,
+        writes: 64,
+        waits: true,
+        fills: true,
+    },
+];
+
+// No write waits.
+static TRYING: [Fight; 2] = [
     Fight {
         name: "eight mutators try a hundred times",
         heap: Worked::Three,
@@ -63,15 +77,6 @@ static FIGHTS: [Fight; 4] = [
         waits: false,
         fills: false,
     },
-    Fight {
-        name: "sixteen mutators fill a journal of edition three",
-        heap: Worked::Mixed,
-        offset: 3,
-        mutators: 16,
-        writes: 64,
-        waits: true,
-        fills: true,
-    },
 ];
 
 // Runs a fight on its heap.
@@ -84,8 +89,15 @@ fn fight_out<R: Abort + Threads + Wait + Sync>(rt: &R, alloc: Global, fight: &Fi
 }
 
 #[test]
-fn racing_writes_each_have_one_entry(rt: HostRuntime) {
-    for each in &FIGHTS {
-        fight_out(&rt, rt.alloc(), each);
+fn racing_writes_that_wait_fill_a_journal(rt: HostRuntime) {
+    for fight in &FILLING {
+        fight_out(&rt, rt.alloc(), fight);
+    }
+}
+
+#[test]
+fn racing_writes_that_do_not_wait_have_an_entry_or_find_the_page_busy(rt: HostRuntime) {
+    for fight in &TRYING {
+        fight_out(&rt, rt.alloc(), fight);
     }
 }

@@ -8,6 +8,6 @@ mod fights;
 #[cfg(test)]
 mod journals;
 #[cfg(test)]
-mod judged;
+mod whole_fight;
 #[cfg(test)]
 mod writing;

@@ -1,7 +1,7 @@
 //! Images of next heaps.
-use crate::chains::follow;
 use crate::expected::{expect_eq, expect_so};
-use crate::rows::linked;
+use crate::next_heaps::follow;
+use crate::three_objects::linked;
 use heap_layout::{Counted, Edition, MarkedHeap, read_large_image, write_image};
 use std::alloc::Global;
 use std::process::Abort;

@@ -3,32 +3,32 @@
 #![tactic(auto)]
 
 #[cfg(test)]
-mod chains;
+mod audited_cycles;
 #[cfg(test)]
 mod expected;
 #[cfg(test)]
 mod images;
 #[cfg(test)]
-mod judged;
-#[cfg(test)]
-mod large;
+mod limits;
 #[cfg(test)]
 mod long_life;
 #[cfg(test)]
-mod marking;
-#[cfg(test)]
-mod marks;
-#[cfg(test)]
-mod memory;
+mod mark_texts;
 #[cfg(test)]
 mod new_roots;
 #[cfg(test)]
-mod one_call;
+mod next_heaps;
 #[cfg(test)]
-mod plain;
+mod past_cycles;
+#[cfg(test)]
+mod plain_life;
 #[cfg(test)]
 mod random_chains;
 #[cfg(test)]
-mod rows;
+mod reachable_marks;
 #[cfg(test)]
-mod weak;
+mod refused_memory;
+#[cfg(test)]
+mod three_objects;
+#[cfg(test)]
+mod weak_words;

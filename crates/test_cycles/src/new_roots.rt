@@ -1,9 +1,9 @@
 //! The next heap with roots that are handed in.
 ghost use Rattle.comp_cycles.specs.Ends.{IsEndOf};
 
-use crate::chains::ran;
 use crate::expected::{expect_eq, expect_so};
-use crate::rows::linked;
+use crate::next_heaps::ran;
+use crate::three_objects::linked;
 use comp_cycles::{NotCycled, moved_words};
 use comp_trace::Ran;
 use heap_layout::{LayoutFault, MarkedHeap};
@@ -45,17 +45,17 @@ fn moved_rooted(
 
 // Marks and roots, and the roots of the next heap. Objects start at T, T + 2 and T + 64, and the first two are live at
 // the flip.
-struct Taken(&'static [u32], &'static [u64], &'static [u64]);
+struct TakenRoots(&'static [u32], &'static [u64], &'static [u64]);
 
-static TAKEN: [Taken; 4] = [
-    Taken(&[2, 64], &[], &[]),
-    Taken(&[64], &[T + 64], &[F + 64]),
-    Taken(
+static TAKEN: [TakenRoots; 4] = [
+    TakenRoots(&[2, 64], &[], &[]),
+    TakenRoots(&[64], &[T + 64], &[F + 64]),
+    TakenRoots(
         &[2, 64],
         &[0, T + 64, T + 2, T + 64],
         &[0, F + 64, F + 2, F + 64],
     ),
-    Taken(&[0, 2, 64], &[T], &[F]),
+    TakenRoots(&[0, 2, 64], &[T], &[F]),
 ];
 
 #[test]
@@ -77,20 +77,20 @@ fn next_heap_has_the_roots_that_are_handed_in(rt: HostRuntime) {
 }
 
 // Marks and roots, and the fault that refuses them.
-struct Refused(&'static [u32], &'static [u64], LayoutFault);
+struct RefusedRoots(&'static [u32], &'static [u64], LayoutFault);
 
-static REFUSED: [Refused; 7] = [
+static REFUSED: [RefusedRoots; 7] = [
     // No mark keeps the object.
-    Refused(&[64], &[T + 64, T + 2], LayoutFault::BadRoot(1)),
+    RefusedRoots(&[64], &[T + 64, T + 2], LayoutFault::BadRoot(1)),
     // Words that are no to-space addresses are not taken as null.
-    Refused(&[64], &[5], LayoutFault::BadRoot(0)),
-    Refused(&[64], &[0, F], LayoutFault::BadRoot(1)),
-    Refused(&[64], &[F + 64], LayoutFault::BadRoot(0)),
+    RefusedRoots(&[64], &[5], LayoutFault::BadRoot(0)),
+    RefusedRoots(&[64], &[0, F], LayoutFault::BadRoot(1)),
+    RefusedRoots(&[64], &[F + 64], LayoutFault::BadRoot(0)),
     // The address is inside an object.
-    Refused(&[2, 64], &[T + 3], LayoutFault::BadRoot(0)),
+    RefusedRoots(&[2, 64], &[T + 3], LayoutFault::BadRoot(0)),
     // Marks are checked before roots, and roots before references.
-    Refused(&[65], &[5], LayoutFault::MarkNotStart(65)),
-    Refused(&[2], &[5], LayoutFault::BadRoot(0)),
+    RefusedRoots(&[65], &[5], LayoutFault::MarkNotStart(65)),
+    RefusedRoots(&[2], &[5], LayoutFault::BadRoot(0)),
 ];
 
 #[test]

@@ -1,5 +1,5 @@
 //! Objects of edition three over a thousand pages each: their first, inner and last pages, each built alone.
-use crate::rows::{Case, Row};
+use crate::plan_answers::{PlanAnswer, PlannedHeap, expect_planned};
 use heap_layout::Kind;
 use test_support::{F, MANY_DATA, MANY_REFERENCES, MANY_WEAK, T, Worked};
 
@@ -39,93 +39,103 @@ const LAST_KINDS: [Kind; 23] = [
     Kind::Data,
 ];
 
-/// The pages and the objects of the heap with many fields, and the objects of edition two in edition three.
-pub static CASES: [Case; 2] = [
-    Case {
-        name: "objects with many fields",
-        heap: Worked::ManyFields,
-        rows: &[
-            Row::Counts(210_007, 3_282),
-            Row::LiveWords(210_007),
-            Row::Roots(&[8_589_934_592, 0, 8_590_074_597]),
-            Row::Forward(F, None),
-            Row::Forward(F + 1, Some(T)),
-            Row::Forward(F + 2, None),
-            Row::Forward(DATA, Some(8_590_004_595)),
-            Row::Forward(WEAK, Some(8_590_074_597)),
-            Row::Forward(F + 210_008, None),
-            Row::Place(0, None),
-            Row::Place(1, Some(0)),
-            Row::Place(70_003, Some(70_002)),
-            Row::Place(210_007, Some(210_006)),
-            Row::Place(210_008, None),
-            Row::Shape(T, Some((70_000, 0, 2, 1))),
-            Row::Shape(SLID_DATA, Some((1, 0, 70_000, 2))),
-            Row::Shape(SLID_WEAK, Some((0, 70_000, 1, 3))),
-            Row::Shape(T + 65_537, None),
-            Row::First(0, Some(1)),
-            Row::First(1_024, Some(1)),
-            Row::First(1_093, Some(1)),
-            Row::First(1_094, Some(70_004)),
-            Row::First(2_187, Some(70_004)),
-            Row::First(2_188, Some(140_006)),
-            Row::First(3_281, Some(140_006)),
-            Row::First(3_282, None),
-            // The last page: the last weak words, of which only the very last leads to an object, and the data word.
-            Row::Page(
-                3_281,
-                &[
-                    0, 0, 0, 0, 0, 0, 0, 0, 0, 0, 0, 0, 0, 0, 0, 0, 0, 0, 0, 0, 0, T, 14,
-                ],
-            ),
-            // Inner pages: references number 65,535 and number 65,536, and none that is not null.
-            Row::Page(1_024, &[SLID_WEAK, T]),
-            Row::Page(500, &[]),
-            Row::Page(0, &[MANY_REFERENCES, SLID_DATA]),
-            // The page on which the first object ends and the second one begins.
-            Row::Word(1_093, 47, 0),
-            Row::Word(1_093, 48, 8_590_004_595),
-            Row::Word(1_093, 49, 5),
-            Row::Word(1_093, 50, 6),
-            Row::Word(1_093, 51, MANY_DATA),
-            Row::Word(1_093, 52, 8_589_934_592),
-            Row::Word(1_093, 53, 10),
-            Row::Word(1_093, 54, 0),
-            // Data words number 65,535 and number 65,536.
-            Row::Word(2_117, 52, 11),
-            Row::Word(2_117, 53, 12),
-            // The page on which the second object ends and the third one begins.
-            Row::Word(2_187, 36, 13),
-            Row::Word(2_187, 37, MANY_WEAK),
-            Row::Word(2_187, 38, 0),
-            // Weak words number 65,535 and number 65,536.
-            Row::Word(3_211, 37, 8_590_004_595),
-            Row::Word(3_211, 38, 0),
-            Row::Kinds(3_281, &LAST_KINDS),
-            Row::Kinds(500, &[Kind::Reference; 64]),
-            Row::Kinds(2_000, &[Kind::Data; 64]),
-            Row::Kinds(3_000, &[Kind::Weak; 64]),
-        ],
-    },
-    Case {
-        name: "the objects of edition two in edition three",
-        heap: Worked::Mixed,
-        rows: &[
-            Row::Counts(6, 1),
-            Row::Roots(&[8_589_934_596]),
-            Row::Page(
+// The pages and the objects of the heap with many fields.
+static MANY_FIELDS: [PlannedHeap; 1] = [PlannedHeap {
+    name: "objects with many fields",
+    heap: Worked::ManyFields,
+    answers: &[
+        PlanAnswer::Counts(210_007, 3_282),
+        PlanAnswer::LiveWords(210_007),
+        PlanAnswer::Roots(&[8_589_934_592, 0, 8_590_074_597]),
+        PlanAnswer::Forward(F, None),
+        PlanAnswer::Forward(F + 1, Some(T)),
+        PlanAnswer::Forward(F + 2, None),
+        PlanAnswer::Forward(DATA, Some(8_590_004_595)),
+        PlanAnswer::Forward(WEAK, Some(8_590_074_597)),
+        PlanAnswer::Forward(F + 210_008, None),
+        PlanAnswer::Place(0, None),
+        PlanAnswer::Place(1, Some(0)),
+        PlanAnswer::Place(70_003, Some(70_002)),
+        PlanAnswer::Place(210_007, Some(210_006)),
+        PlanAnswer::Place(210_008, None),
+        PlanAnswer::Shape(T, Some((70_000, 0, 2, 1))),
+        PlanAnswer::Shape(SLID_DATA, Some((1, 0, 70_000, 2))),
+        PlanAnswer::Shape(SLID_WEAK, Some((0, 70_000, 1, 3))),
+        PlanAnswer::Shape(T + 65_537, None),
+        PlanAnswer::First(0, Some(1)),
+        PlanAnswer::First(1_024, Some(1)),
+        PlanAnswer::First(1_093, Some(1)),
+        PlanAnswer::First(1_094, Some(70_004)),
+        PlanAnswer::First(2_187, Some(70_004)),
+        PlanAnswer::First(2_188, Some(140_006)),
+        PlanAnswer::First(3_281, Some(140_006)),
+        PlanAnswer::First(3_282, None),
+        // The last page: the last weak words, of which only the very last leads to an object, and the data word.
+        PlanAnswer::Page(
+            3_281,
+            &[
+                0, 0, 0, 0, 0, 0, 0, 0, 0, 0, 0, 0, 0, 0, 0, 0, 0, 0, 0, 0, 0, T, 14,
+            ],
+        ),
+        // Inner pages: references number 65,535 and number 65,536, and none that is not null.
+        PlanAnswer::Page(1_024, &[SLID_WEAK, T]),
+        PlanAnswer::Page(500, &[]),
+        PlanAnswer::Page(0, &[MANY_REFERENCES, SLID_DATA]),
+        // The page on which the first object ends and the second one begins.
+        PlanAnswer::Word(1_093, 47, 0),
+        PlanAnswer::Word(1_093, 48, 8_590_004_595),
+        PlanAnswer::Word(1_093, 49, 5),
+        PlanAnswer::Word(1_093, 50, 6),
+        PlanAnswer::Word(1_093, 51, MANY_DATA),
+        PlanAnswer::Word(1_093, 52, 8_589_934_592),
+        PlanAnswer::Word(1_093, 53, 10),
+        PlanAnswer::Word(1_093, 54, 0),
+        // Data words number 65,535 and number 65,536.
+        PlanAnswer::Word(2_117, 52, 11),
+        PlanAnswer::Word(2_117, 53, 12),
+        // The page on which the second object ends and the third one begins.
+        PlanAnswer::Word(2_187, 36, 13),
+        PlanAnswer::Word(2_187, 37, MANY_WEAK),
+        PlanAnswer::Word(2_187, 38, 0),
+        // Weak words number 65,535 and number 65,536.
+        PlanAnswer::Word(3_211, 37, 8_590_004_595),
+        PlanAnswer::Word(3_211, 38, 0),
+        PlanAnswer::Kinds(3_281, &LAST_KINDS),
+        PlanAnswer::Kinds(500, &[Kind::Reference; 64]),
+        PlanAnswer::Kinds(2_000, &[Kind::Data; 64]),
+        PlanAnswer::Kinds(3_000, &[Kind::Weak; 64]),
+    ],
+}];
+
+#[test]
+fn objects_with_70_000_fields_slide_over_a_thousand_pages(rt: HostRuntime) {
+    expect_planned(&rt, &MANY_FIELDS);
+}
+
+// The objects of edition two in edition three.
+static OF_EDITION_TWO: [PlannedHeap; 1] = [PlannedHeap {
+    name: "the objects of edition two in edition three",
+    heap: Worked::Mixed,
+    answers: &[
+        PlanAnswer::Counts(6, 1),
+        PlanAnswer::Roots(&[8_589_934_596]),
+        PlanAnswer::Page(
+            0,
+            &[
+                281_483_566_710_784,
                 0,
-                &[
-                    281_483_566_710_784,
-                    0,
-                    8_589_934_596,
-                    9,
-                    844_424_930_131_969,
-                    8_589_934_592,
-                ],
-            ),
-            Row::Shape(T, Some((0, 2, 1, 1))),
-            Row::Shape(T + 4, Some((1, 0, 0, 3))),
-        ],
-    },
-];
+                8_589_934_596,
+                9,
+                844_424_930_131_969,
+                8_589_934_592,
+            ],
+        ),
+        PlanAnswer::Shape(T, Some((0, 2, 1, 1))),
+        PlanAnswer::Shape(T + 4, Some((1, 0, 0, 3))),
+    ],
+}];
+
+#[test]
+fn objects_of_edition_two_slide_alike_in_edition_three(rt: HostRuntime) {
+    expect_planned(&rt, &OF_EDITION_TWO);
+}

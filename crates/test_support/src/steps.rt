@@ -29,6 +29,8 @@ pub enum Step {
     Holds(&'static str, Content),
     /// The file at this path has this number of bytes.
     Length(&'static str, usize),
+    /// The file at this path (the first) is a text that contains the second one.
+    Has(&'static str, &'static str),
     /// There is no file at this path.
     Absent(&'static str),
     /// There is a symbolic link at this path (the first), and it leads to the second one.
@@ -70,6 +72,7 @@ pub fn take_file_step<R: Files + AllocGlobal>(rt: &R, step: &Step) -> Result<(),
         Step::Link(path, target) => Ok(symlink(rt, target, path)?),
         Step::Holds(path, content) => expect_file(rt, path, *content),
         Step::Length(path, length) => expect_length(rt, path, *length),
+        Step::Has(path, piece) => expect_piece(rt, path, piece),
         Step::Absent(path) => expect_absent(rt, path),
         Step::Leads(path, target) => expect_link(rt, path, target),
         Step::Remove(path) => Ok(fs::remove_file(rt, path)?),
@@ -104,6 +107,15 @@ fn expect_length<R: Files + AllocGlobal>(rt: &R, path: &str, length: usize) -> R
         return Ok(());
     }
     Err(Fail::new(format_args!("{path}: found {found} bytes, wanted {length}")))
+}
+
+// Fails unless the file at a path is a text that contains this one.
+fn expect_piece<R: Files + AllocGlobal>(rt: &R, path: &str, piece: &str) -> Result<(), Fail> {
+    let found = fs::read_to_string(rt, path)?;
+    if found.contains(piece) {
+        return Ok(());
+    }
+    Err(Fail::new(format_args!("{path}: does not contain {piece}")))
 }
 
 // Fails if there is a file at a path.

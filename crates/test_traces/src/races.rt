@@ -1,9 +1,8 @@
-//! Races: what lines show and refuse with one thread a mutator. Each row is a text that all its mutators race, and the
-//! live words at the end.
+//! Races: what lines show and refuse with one thread a mutator.
 use crate::expected::{expect_eq, expect_so};
-use crate::flipped::Case;
-use crate::ran::raced;
-use crate::replays::{WEAK_TEXT, replay_root_rows, replay_rows, replay_weak_rows};
+use crate::finished_runs::raced;
+use crate::replays::WEAK_TEXT;
+use crate::text_runs::TextRun;
 use comp_mutator::{Builder, Finished, Refusal};
 use comp_trace::{RefusedLine, Run};
 use heap_layout::Header;
@@ -26,17 +25,17 @@ enum Wanted {
     Refused(u64, Refusal),
 }
 
-// A text and the expected runs.
-struct Row {
-    case: Case<'static>,
+// A text that all its mutators race, the expected runs, and the live words at the end.
+struct RacedText {
+    case: TextRun<'static>,
     runs: &'static [Wanted],
     live_words: u64,
 }
 
 // On the three objects.
-static ROWS: [Row; 5] = [
-    Row {
-        case: Case {
+static ON_THREE: [RacedText; 5] = [
+    RacedText {
+        case: TextRun {
             name: "shows what is read beside a write",
             mutators: 2,
             fresh_pages: 0,
@@ -45,8 +44,8 @@ static ROWS: [Row; 5] = [
         runs: &[Wanted::Nothing, Wanted::Shows(6, 7, 11)],
         live_words: 4,
     },
-    Row {
-        case: Case {
+    RacedText {
+        case: TextRun {
             name: "shows what the same mutator wrote",
             mutators: 2,
             fresh_pages: 0,
@@ -55,8 +54,8 @@ static ROWS: [Row; 5] = [
         runs: &[Wanted::Shows(5, 7, 7), Wanted::Nothing],
         live_words: 4,
     },
-    Row {
-        case: Case {
+    RacedText {
+        case: TextRun {
             name: "ends at a refused line",
             mutators: 2,
             fresh_pages: 0,
@@ -65,8 +64,8 @@ static ROWS: [Row; 5] = [
         runs: &[Wanted::Refused(2, Refusal::Null), Wanted::Nothing],
         live_words: 4,
     },
-    Row {
-        case: Case {
+    RacedText {
+        case: TextRun {
             name: "refuses an object that is too large",
             mutators: 2,
             fresh_pages: 0,
@@ -75,8 +74,8 @@ static ROWS: [Row; 5] = [
         runs: &[Wanted::Refused(1, Refusal::ObjectTooLarge), Wanted::Nothing],
         live_words: 4,
     },
-    Row {
-        case: Case {
+    RacedText {
+        case: TextRun {
             name: "makes an object alone, and stores it",
             mutators: 1,
             fresh_pages: 2,
@@ -88,9 +87,9 @@ static ROWS: [Row; 5] = [
 ];
 
 // On the three objects of edition two.
-static WEAK_ROWS: [Row; 3] = [
-    Row {
-        case: Case {
+static ON_WEAK: [RacedText; 3] = [
+    RacedText {
+        case: TextRun {
             name: "writes a weak word that leads to a new object, and reads it",
             mutators: 1,
             fresh_pages: 1,
@@ -99,8 +98,8 @@ static WEAK_ROWS: [Row; 3] = [
         runs: &[Wanted::Shows(6, 9, 9)],
         live_words: 8,
     },
-    Row {
-        case: Case {
+    RacedText {
+        case: TextRun {
             name: "reads a weak word beside a write",
             mutators: 2,
             fresh_pages: 0,
@@ -109,8 +108,8 @@ static WEAK_ROWS: [Row; 3] = [
         runs: &[Wanted::Nothing, Wanted::Shows(7, 9, 9)],
         live_words: 6,
     },
-    Row {
-        case: Case {
+    RacedText {
+        case: TextRun {
             name: "refuses a tag of 17 bits",
             mutators: 2,
             fresh_pages: 1,
@@ -126,8 +125,8 @@ static WEAK_ROWS: [Row; 3] = [
 
 // On the three objects of edition two in edition three, with 70,000 roots, of which number 65,536 and the last refer to
 // the last object and all others are null.
-static ROOT_ROWS: [Row; 1] = [Row {
-    case: Case {
+static ON_MANY_ROOTS: [RacedText; 1] = [RacedText {
+    case: TextRun {
         name: "reads roots far from the first beside one another",
         mutators: 2,
         fresh_pages: 0,
@@ -138,8 +137,8 @@ static ROOT_ROWS: [Row; 1] = [Row {
 }];
 
 // On an object of four pages. Two of them are only built at the same time.
-static SIDE_BY_SIDE: Row = Row {
-    case: Case {
+static SIDE_BY_SIDE: RacedText = RacedText {
+    case: TextRun {
         name: "runs lines side by side",
         mutators: 2,
         fresh_pages: 0,
@@ -174,8 +173,8 @@ fn is_run(run: &Run, wanted: &Wanted) -> bool {
     }
 }
 
-// Checks that all runs and the live words are as the row says.
-fn expect_row(rt: &impl Abort, row: &Row, runs: &[Run], finished: &Finished) {
+// Checks that all runs and the live words are as expected.
+fn expect_runs(rt: &impl Abort, row: &RacedText, runs: &[Run], finished: &Finished) {
     let at = At::new(row.case.name, 0);
     expect_eq(rt, at, runs.len(), row.runs.len());
     expect_eq(rt, at, finished.live_words(), row.live_words);
@@ -184,17 +183,17 @@ fn expect_row(rt: &impl Abort, row: &Row, runs: &[Run], finished: &Finished) {
     }
 }
 
-// Races the text of a row on the heap of this builder, which this plan compacted, and finishes.
-fn race_row<B: Builder, R: Abort + Threads + Wait + Sync>(
+// Races the text on the heap of this builder, which this plan compacted, and finishes.
+fn race_one<B: Builder, R: Abort + Threads + Wait + Sync>(
     rt: &R,
     alloc: Global,
     builder: B,
     plan: &Plan,
-    row: &Row,
+    row: &RacedText,
 ) {
     let blank = Blank::new(u64::from(row.case.mutators));
     let (runs, finished) = raced::<Brand, B, R>(rt, alloc, blank, row.case, builder, plan);
-    expect_row(rt, row, &runs, &finished);
+    expect_runs(rt, row, &runs, &finished);
 }
 
 // The plan of one object of 255 data words, which are 0.
@@ -205,48 +204,43 @@ fn zeros(rt: &(impl Abort + Threads + Sync), alloc: Global) -> Plan {
     Plan::new(alloc, rt, heap).expect(rt, "a plan")
 }
 
-// All rows on the three objects, which have this plan.
-fn race_rows<R: Abort + Threads + Wait + Sync>(rt: &R, alloc: Global, plan: &Plan) {
-    for row in &ROWS {
-        let builder = plan_of(rt, alloc, Worked::Three).expect(rt, "a plan");
-        race_row(rt, alloc, builder, plan, row);
+// Races each of these texts on this heap.
+fn race_all<R: Abort + Threads + Wait + Sync>(
+    rt: &R,
+    alloc: Global,
+    heap: Worked,
+    texts: &[RacedText],
+) {
+    let plan = plan_of(rt, alloc, heap).expect(rt, "a plan");
+    for text in texts {
+        let builder = plan_of(rt, alloc, heap).expect(rt, "a plan");
+        race_one(rt, alloc, builder, &plan, text);
     }
-}
-
-// All rows on the three objects of edition two, which have this plan.
-fn race_weak_rows<R: Abort + Threads + Wait + Sync>(rt: &R, alloc: Global, plan: &Plan) {
-    for row in &WEAK_ROWS {
-        let builder = plan_of(rt, alloc, Worked::Weak).expect(rt, "a plan");
-        race_row(rt, alloc, builder, plan, row);
-    }
-}
-
-// All rows on the objects with many roots, which have this plan.
-fn race_root_rows<R: Abort + Threads + Wait + Sync>(rt: &R, alloc: Global, plan: &Plan) {
-    for row in &ROOT_ROWS {
-        let builder = plan_of(rt, alloc, Worked::ManyRoots(70_000)).expect(rt, "a plan");
-        race_row(rt, alloc, builder, plan, row);
-    }
-}
-
-// The row on the object of four pages.
-fn race_side_by_side<R: Abort + Threads + Wait + Sync>(rt: &R, alloc: Global) {
-    let plan = zeros(rt, alloc);
-    let builder = Meeting::new(zeros(rt, alloc));
-    race_row(rt, alloc, builder, &plan, &SIDE_BY_SIDE);
 }
 
 #[test]
-fn replays_and_races_show_and_leave_what_was_worked_by_hand(rt: HostRuntime) {
-    let alloc = rt.alloc();
-    let plan = plan_of(&rt, alloc, Worked::Three).expect(&rt, "a plan");
-    replay_rows(&rt, alloc, &plan);
-    race_rows(&rt, alloc, &plan);
-    race_side_by_side(&rt, alloc);
-    let plan = plan_of(&rt, alloc, Worked::Weak).expect(&rt, "a plan");
-    replay_weak_rows(&rt, alloc, &plan);
-    race_weak_rows(&rt, alloc, &plan);
-    let plan = plan_of(&rt, alloc, Worked::ManyRoots(70_000)).expect(&rt, "a plan");
-    replay_root_rows(&rt, alloc, &plan);
-    race_root_rows(&rt, alloc, &plan);
+fn races_show_and_leave_what_their_lines_do(rt: HostRuntime) {
+    race_all(&rt, rt.alloc(), Worked::Three, &ON_THREE);
+}
+
+#[test]
+fn races_read_and_write_weak_words(rt: HostRuntime) {
+    race_all(&rt, rt.alloc(), Worked::Weak, &ON_WEAK);
+}
+
+#[test]
+fn races_read_roots_far_from_the_first(rt: HostRuntime) {
+    race_all(&rt, rt.alloc(), Worked::ManyRoots(70_000), &ON_MANY_ROOTS);
+}
+
+// On the object of four pages.
+fn race_side_by_side<R: Abort + Threads + Wait + Sync>(rt: &R, alloc: Global) {
+    let plan = zeros(rt, alloc);
+    let builder = Meeting::new(zeros(rt, alloc));
+    race_one(rt, alloc, builder, &plan, &SIDE_BY_SIDE);
+}
+
+#[test]
+fn lines_of_two_mutators_run_side_by_side(rt: HostRuntime) {
+    race_side_by_side(&rt, rt.alloc());
 }

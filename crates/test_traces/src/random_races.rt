@@ -1,9 +1,9 @@
 //! Pseudorandom traces, raced by one mutator, which must do as the plain model does, and by several, whose history must
 //! be a run of the model.
-use crate::drawn::Drawn;
+use crate::drawn_traces::Drawn;
 use crate::expected::{expect_eq, expect_so};
-use crate::finished::{expect_pages, take_history};
-use crate::ran::raced;
+use crate::finished_heaps::{expect_pages, take_history};
+use crate::finished_runs::raced;
 use crate::random_traces::case_of;
 use comp_journal::Entry;
 use comp_mutator::{Finished, Refusal};

@@ -1,12 +1,12 @@
 //! Pseudorandom traces: of editions one and two a thousand each are replayed by one thread, and 1,200 each are raced; of
 //! edition three 100 and 100. A replay must do as the plain model does.
-use crate::drawn::{Drawn, draw_trace};
-use crate::finished::expect_pages;
-use crate::flipped::Case;
-use crate::ran::replayed;
+use crate::drawn_traces::{Drawn, draw_trace};
+use crate::finished_heaps::expect_pages;
+use crate::finished_runs::replayed;
 use crate::random_races::race_drawn;
 use crate::replays::expect_replay;
-use crate::texts::expect_lines;
+use crate::text_runs::TextRun;
+use crate::trace_texts::expect_lines;
 use comp_mutator::Finished;
 use comp_trace::{Shown, Stopped, TraceFault};
 use heap_layout::Edition;
@@ -48,8 +48,8 @@ static LARGE_DRAWS: [Draws; 4] = [
 ];
 
 /// The case of a trace for `n` mutators.
-pub fn case_of(drawn: &Drawn, n: u8) -> Case<'_> {
-    Case {
+pub fn case_of(drawn: &Drawn, n: u8) -> TextRun<'_> {
+    TextRun {
         name: &drawn.name,
         mutators: n,
         fresh_pages: 6,
@@ -133,9 +133,16 @@ fn run_all<R: Abort + Threads + Wait + Sync>(
 }
 
 #[test]
-fn random_replays_agree_with_the_plain_model_and_races_have_one_history(rt: HostRuntime) {
-    let alloc = rt.alloc();
-    run_all(&rt, alloc, Edition::One, &DRAWS);
-    run_all(&rt, alloc, Edition::Two, &DRAWS);
-    run_all(&rt, alloc, Edition::Three, &LARGE_DRAWS);
+fn random_traces_of_edition_one_run_as_in_the_plain_model(rt: HostRuntime) {
+    run_all(&rt, rt.alloc(), Edition::One, &DRAWS);
+}
+
+#[test]
+fn random_traces_of_edition_two_run_as_in_the_plain_model(rt: HostRuntime) {
+    run_all(&rt, rt.alloc(), Edition::Two, &DRAWS);
+}
+
+#[test]
+fn random_traces_of_edition_three_run_as_in_the_plain_model(rt: HostRuntime) {
+    run_all(&rt, rt.alloc(), Edition::Three, &LARGE_DRAWS);
 }

@@ -1,8 +1,7 @@
-//! Replays: what lines show, write and refuse, one after another. Each row is a text that is replayed on the three
-//! objects, and the finished heap.
+//! Replays: what lines show, write and refuse, one after another.
 use crate::expected::{expect_eq, expect_so};
-use crate::flipped::Case;
-use crate::ran::replayed;
+use crate::finished_runs::replayed;
+use crate::text_runs::TextRun;
 use comp_journal::Entry;
 use comp_mutator::{Finished, Refusal};
 use comp_trace::{Shown, Stopped, TraceFault};
@@ -18,18 +17,19 @@ use test_support::{At, Worked, plan_of};
 // The only entry of a page, by mutator 0: the number of the page, and the stamp, kind, offset and value of the entry.
 struct Only(usize, u64, Kind, u8, u64);
 
-// A text and its expected replay.
-struct Row {
-    case: Case<'static>,
+// A text, what its replay shows, and the finished heap.
+struct ReplayedText {
+    case: TextRun<'static>,
     shown: &'static [Shown],
     fault: Option<TraceFault>,
     live_words: u64,
     entries: &'static [Only],
 }
 
-static ROWS: [Row; 11] = [
-    Row {
-        case: Case {
+// On the three objects.
+static ON_THREE: [ReplayedText; 11] = [
+    ReplayedText {
+        case: TextRun {
             name: "shows what another mutator wrote, and leaves it to the words that slid",
             mutators: 2,
             fresh_pages: 2,
@@ -40,8 +40,8 @@ static ROWS: [Row; 11] = [
         live_words: 4,
         entries: &[Only(0, 0, Kind::Data, 1, 7)],
     },
-    Row {
-        case: Case {
+    ReplayedText {
+        case: TextRun {
             name: "shows what another mutator wrote, without fresh pages",
             mutators: 2,
             fresh_pages: 0,
@@ -52,8 +52,8 @@ static ROWS: [Row; 11] = [
         live_words: 4,
         entries: &[],
     },
-    Row {
-        case: Case {
+    ReplayedText {
+        case: TextRun {
             name: "writes an object and then a reference to it",
             mutators: 1,
             fresh_pages: 2,
@@ -67,8 +67,8 @@ static ROWS: [Row; 11] = [
             Only(0, 1, Kind::Reference, 3, 8_589_934_656),
         ],
     },
-    Row {
-        case: Case {
+    ReplayedText {
+        case: TextRun {
             name: "shows nothing without lines",
             mutators: 2,
             fresh_pages: 0,
@@ -79,8 +79,8 @@ static ROWS: [Row; 11] = [
         live_words: 4,
         entries: &[],
     },
-    Row {
-        case: Case {
+    ReplayedText {
+        case: TextRun {
             name: "shows what was there and what was written",
             mutators: 2,
             fresh_pages: 0,
@@ -91,8 +91,8 @@ static ROWS: [Row; 11] = [
         live_words: 4,
         entries: &[],
     },
-    Row {
-        case: Case {
+    ReplayedText {
+        case: TextRun {
             name: "stops at a null register",
             mutators: 2,
             fresh_pages: 0,
@@ -103,8 +103,8 @@ static ROWS: [Row; 11] = [
         live_words: 4,
         entries: &[],
     },
-    Row {
-        case: Case {
+    ReplayedText {
+        case: TextRun {
             name: "keeps what was shown before a stop",
             mutators: 2,
             fresh_pages: 0,
@@ -115,8 +115,8 @@ static ROWS: [Row; 11] = [
         live_words: 4,
         entries: &[],
     },
-    Row {
-        case: Case {
+    ReplayedText {
+        case: TextRun {
             name: "stops at an object that is too large",
             mutators: 2,
             fresh_pages: 0,
@@ -127,8 +127,8 @@ static ROWS: [Row; 11] = [
         live_words: 4,
         entries: &[],
     },
-    Row {
-        case: Case {
+    ReplayedText {
+        case: TextRun {
             name: "stops at an object with a weak word, which edition one has not",
             mutators: 1,
             fresh_pages: 0,
@@ -139,8 +139,8 @@ static ROWS: [Row; 11] = [
         live_words: 4,
         entries: &[],
     },
-    Row {
-        case: Case {
+    ReplayedText {
+        case: TextRun {
             name: "stops at a weak field, which no object of edition one has",
             mutators: 1,
             fresh_pages: 1,
@@ -151,8 +151,8 @@ static ROWS: [Row; 11] = [
         live_words: 6,
         entries: &[Only(1, 0, Kind::Header, 0, 281_474_976_776_192)],
     },
-    Row {
-        case: Case {
+    ReplayedText {
+        case: TextRun {
             name: "stops at a text that is none",
             mutators: 2,
             fresh_pages: 0,
@@ -166,9 +166,9 @@ static ROWS: [Row; 11] = [
 ];
 
 // On the three objects of edition two.
-static WEAK_ROWS: [Row; 4] = [
-    Row {
-        case: Case {
+static ON_WEAK: [ReplayedText; 4] = [
+    ReplayedText {
+        case: TextRun {
             name: "writes a weak word that leads to a new object, and reads it",
             mutators: 1,
             fresh_pages: 1,
@@ -182,8 +182,8 @@ static WEAK_ROWS: [Row; 4] = [
             Only(0, 1, Kind::Weak, 1, 8_589_934_656),
         ],
     },
-    Row {
-        case: Case {
+    ReplayedText {
+        case: TextRun {
             name: "reads a weak word that is null since its object did not slide",
             mutators: 2,
             fresh_pages: 0,
@@ -194,8 +194,8 @@ static WEAK_ROWS: [Row; 4] = [
         live_words: 6,
         entries: &[],
     },
-    Row {
-        case: Case {
+    ReplayedText {
+        case: TextRun {
             name: "stops at a weak field that is not there",
             mutators: 1,
             fresh_pages: 0,
@@ -206,8 +206,8 @@ static WEAK_ROWS: [Row; 4] = [
         live_words: 6,
         entries: &[],
     },
-    Row {
-        case: Case {
+    ReplayedText {
+        case: TextRun {
             name: "stops at a tag of 17 bits",
             mutators: 1,
             fresh_pages: 0,
@@ -227,9 +227,9 @@ pub const WEAK_TEXT: &[u8] =
 
 // On the three objects of edition two in edition three, with 70,000 roots, of which number 65,536 and the last refer to
 // the last object and all others are null.
-static ROOT_ROWS: [Row; 5] = [
-    Row {
-        case: Case {
+static ON_MANY_ROOTS: [ReplayedText; 5] = [
+    ReplayedText {
+        case: TextRun {
             name: "reads a root far from the first",
             mutators: 1,
             fresh_pages: 1,
@@ -240,8 +240,8 @@ static ROOT_ROWS: [Row; 5] = [
         live_words: 6,
         entries: &[],
     },
-    Row {
-        case: Case {
+    ReplayedText {
+        case: TextRun {
             name: "reads the last root, and stores it",
             mutators: 2,
             fresh_pages: 4_097,
@@ -255,8 +255,8 @@ static ROOT_ROWS: [Row; 5] = [
             Only(1, 1, Kind::Header, 0, 0x3fff_0001_0001_0001),
         ],
     },
-    Row {
-        case: Case {
+    ReplayedText {
+        case: TextRun {
             name: "stops at a tag of 15 bits",
             mutators: 1,
             fresh_pages: 1,
@@ -267,8 +267,8 @@ static ROOT_ROWS: [Row; 5] = [
         live_words: 6,
         entries: &[],
     },
-    Row {
-        case: Case {
+    ReplayedText {
+        case: TextRun {
             name: "stops at a root after the last",
             mutators: 1,
             fresh_pages: 0,
@@ -279,8 +279,8 @@ static ROOT_ROWS: [Row; 5] = [
         live_words: 6,
         entries: &[],
     },
-    Row {
-        case: Case {
+    ReplayedText {
+        case: TextRun {
             name: "stops at a root of 33 bits",
             mutators: 1,
             fresh_pages: 0,
@@ -294,8 +294,8 @@ static ROOT_ROWS: [Row; 5] = [
 ];
 
 // Its text is followed by 1,025 lines `0 put 1 0 7`.
-static FULL: Row = Row {
-    case: Case {
+static FULL: ReplayedText = ReplayedText {
+    case: TextRun {
         name: "stops at a full journal",
         mutators: 2,
         fresh_pages: 0,
@@ -340,7 +340,7 @@ fn has_only(finished: &Finished, only: &Only) -> bool {
 }
 
 // Checks the live words and the entries of the finished heap.
-fn expect_finished(rt: &impl Abort, row: &Row, finished: &Finished) {
+fn expect_finished(rt: &impl Abort, row: &ReplayedText, finished: &Finished) {
     let live = finished.live_words();
     expect_eq(rt, At::new(row.case.name, 0), live, row.live_words);
     for (k, only) in row.entries.iter().enumerate() {
@@ -348,47 +348,65 @@ fn expect_finished(rt: &impl Abort, row: &Row, finished: &Finished) {
     }
 }
 
-// Replays this text of a row on the heap of this builder, which this plan compacted, and finishes.
-fn replay_row(rt: &impl Abort, alloc: Global, builder: Plan, plan: &Plan, row: &Row, text: &[u8]) {
-    let case = Case { text, ..row.case };
+// Replays this text, of which the case says what comes of it, on the heap of this builder, which this plan compacted,
+// and finishes.
+fn replay_one(
+    rt: &impl Abort,
+    alloc: Global,
+    builder: Plan,
+    plan: &Plan,
+    row: &ReplayedText,
+    text: &[u8],
+) {
+    let case = TextRun { text, ..row.case };
     let blank = Blank::new(u64::from(row.case.mutators));
     let (run, finished) = replayed::<Brand>(rt, alloc, blank, case, builder, plan);
     expect_replay(rt, row.case.name, &run, row.shown, row.fault);
     expect_finished(rt, row, &finished);
 }
 
+// Replays each of these texts on this heap.
+fn replay_all(
+    rt: &(impl Abort + Threads + Sync),
+    alloc: Global,
+    heap: Worked,
+    texts: &[ReplayedText],
+) {
+    let plan = plan_of(rt, alloc, heap).expect(rt, "a plan");
+    for text in texts {
+        let builder = plan_of(rt, alloc, heap).expect(rt, "a plan");
+        replay_one(rt, alloc, builder, &plan, text, text.case.text);
+    }
+}
+
+#[test]
+fn replays_show_and_leave_what_their_lines_do(rt: HostRuntime) {
+    replay_all(&rt, rt.alloc(), Worked::Three, &ON_THREE);
+}
+
+#[test]
+fn replays_read_and_write_weak_words(rt: HostRuntime) {
+    replay_all(&rt, rt.alloc(), Worked::Weak, &ON_WEAK);
+}
+
+#[test]
+fn replays_read_roots_far_from_the_first(rt: HostRuntime) {
+    replay_all(&rt, rt.alloc(), Worked::ManyRoots(70_000), &ON_MANY_ROOTS);
+}
+
 // More writes to one page than its journal holds.
-fn replay_full(rt: &(impl Abort + Threads + Sync), alloc: Global, plan: &Plan) {
+fn replay_full(rt: &(impl Abort + Threads + Sync), alloc: Global) {
+    let plan = plan_of(rt, alloc, Worked::Three).expect(rt, "a plan");
     let mut text = FULL.case.text.to_vec(alloc).expect(rt, "a text");
     for _ in 0..1_025 {
         text.extend_from_slice(b"0 put 1 0 7\n")
             .expect(rt, "a line");
     }
     let builder = plan_of(rt, alloc, Worked::Three).expect(rt, "a plan");
-    replay_row(rt, alloc, builder, plan, &FULL, &text);
+    replay_one(rt, alloc, builder, &plan, &FULL, &text);
 }
 
-/// All rows on the three objects, which have this plan.
-pub fn replay_rows(rt: &(impl Abort + Threads + Sync), alloc: Global, plan: &Plan) {
-    for row in &ROWS {
-        let builder = plan_of(rt, alloc, Worked::Three).expect(rt, "a plan");
-        replay_row(rt, alloc, builder, plan, row, row.case.text);
-    }
-    replay_full(rt, alloc, plan);
-}
-
-/// All rows on the objects with many roots, which have this plan.
-pub fn replay_root_rows(rt: &(impl Abort + Threads + Sync), alloc: Global, plan: &Plan) {
-    for row in &ROOT_ROWS {
-        let builder = plan_of(rt, alloc, Worked::ManyRoots(70_000)).expect(rt, "a plan");
-        replay_row(rt, alloc, builder, plan, row, row.case.text);
-    }
-}
-
-/// All rows on the three objects of edition two, which have this plan.
-pub fn replay_weak_rows(rt: &(impl Abort + Threads + Sync), alloc: Global, plan: &Plan) {
-    for row in &WEAK_ROWS {
-        let builder = plan_of(rt, alloc, Worked::Weak).expect(rt, "a plan");
-        replay_row(rt, alloc, builder, plan, row, row.case.text);
-    }
+#[test]
+fn a_replay_stops_at_a_full_journal(rt: HostRuntime) {
+    replay_full(&rt, rt.alloc());
 }

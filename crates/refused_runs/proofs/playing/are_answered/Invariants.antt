@@ -1,5 +1,0 @@
-use Rattle.comp_mutator.specs.Mutators.{AreMutatorsOf}
-use Rattle.refused_runs.proofs.playing.are_answered.Given as goal
-
-abbrev pub invariant-loop-row : goal.invariant-loop-row
-invariant-loop-row g l = AreMutatorsOf l.space l.mutators.items

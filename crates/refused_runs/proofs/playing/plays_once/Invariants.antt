@@ -1,4 +1,0 @@
-use Rattle.refused_runs.proofs.playing.plays_once.Given as goal
-
-abbrev pub ghosts-plays_named : goal.ghosts-plays_named
-ghosts-plays_named g a = record { name = a.blank.name; parts = a.blank.parts }

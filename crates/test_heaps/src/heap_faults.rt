@@ -1,0 +1,250 @@
+//! Why heaps are refused.
+use crate::expected::expect_eq;
+use heap_layout::{Edition, LayoutFault};
+use std::process::Abort;
+use test_support::{At, F, THREE, WEAK, judged};
+
+// The words, the marks and the roots of a heap, and its first fault, or `None` if it has none.
+type JudgedHeap = (
+    &'static [u64],
+    &'static [u32],
+    &'static [u64],
+    Option<LayoutFault>,
+);
+
+// The three objects. The last refers to the one that is not marked.
+const INNER: [u64; 7] = [
+    4_295_032_832,
+    11,
+    8_590_000_129,
+    0,
+    22,
+    12_884_901_889,
+    F + 2,
+];
+
+static JUDGED: [JudgedHeap; 10] = [
+    (&THREE, &[0, 5], &[F + 5], None),
+    (&THREE, &[0, 5], &[F + 1], Some(LayoutFault::BadRoot(0))),
+    (
+        &INNER,
+        &[0, 5],
+        &[F + 5],
+        Some(LayoutFault::UnmarkedTarget(6)),
+    ),
+    (
+        &THREE,
+        &[0, 1],
+        &[F + 5],
+        Some(LayoutFault::MarkNotStart(1)),
+    ),
+    (
+        &THREE,
+        &[0, 7],
+        &[F + 5],
+        Some(LayoutFault::MarkNotStart(7)),
+    ),
+    (
+        &THREE,
+        &[5, 0],
+        &[F + 5],
+        Some(LayoutFault::MarksNotRising(0)),
+    ),
+    (
+        &THREE,
+        &[5, 5],
+        &[F + 5],
+        Some(LayoutFault::MarksNotRising(5)),
+    ),
+    (&[67_108_864], &[], &[], Some(LayoutFault::ObjectTooLong(0))),
+    (&[65_536], &[], &[], Some(LayoutFault::ObjectPastEnd(0))),
+    (&[], &[], &[], None),
+];
+
+// The first fault of a heap, or `None`.
+fn first_fault(
+    rt: &(impl Abort + AllocGlobal),
+    edition: Edition,
+    words: &[u64],
+    marks: &[u32],
+    roots: &[u64],
+) -> Option<LayoutFault> {
+    judged(rt.alloc(), edition, words, marks, roots)
+        .expect(rt, "memory for a heap")
+        .err()
+}
+
+#[test]
+fn a_heap_is_refused_for_its_first_fault(rt: HostRuntime) {
+    for (row, (words, marks, roots, wanted)) in JUDGED.iter().enumerate() {
+        let found = first_fault(&rt, Edition::One, words, marks, roots);
+        expect_eq(&rt, At::new("the first fault", row), found, *wanted);
+    }
+}
+
+// The three objects of edition two with the words at these indices changed and with these marks: the first fault then,
+// or `None`.
+type ChangedWeak = (&'static [(usize, u64)], &'static [u32], Option<LayoutFault>);
+
+// The first object and the last one.
+const BOTH: &[u32] = &[0, 5];
+
+// The last one alone.
+const LAST: &[u32] = &[5];
+
+static CHANGED: [ChangedWeak; 29] = [
+    (&[], BOTH, None),
+    // The first weak word: null, and each object, marked or not.
+    (&[(1, 0)], BOTH, None),
+    (&[(1, F)], BOTH, None),
+    (&[(1, F + 4)], BOTH, None),
+    (&[(1, F + 5)], BOTH, None),
+    // Inside an object, after the last word, and at no address of from-space.
+    (&[(1, F + 1)], BOTH, Some(LayoutFault::BadWeak(1))),
+    (&[(1, F + 6)], BOTH, Some(LayoutFault::BadWeak(1))),
+    (&[(1, F + 7)], BOTH, Some(LayoutFault::BadWeak(1))),
+    (&[(1, F + 64)], BOTH, Some(LayoutFault::BadWeak(1))),
+    (&[(1, 1)], BOTH, Some(LayoutFault::BadWeak(1))),
+    (&[(1, F - 1)], BOTH, Some(LayoutFault::BadWeak(1))),
+    (&[(1, F + 1_048_576)], BOTH, Some(LayoutFault::BadWeak(1))),
+    (&[(1, 8_589_934_592)], BOTH, Some(LayoutFault::BadWeak(1))),
+    (&[(1, 8_589_934_596)], BOTH, Some(LayoutFault::BadWeak(1))),
+    (&[(1, u64::MAX)], BOTH, Some(LayoutFault::BadWeak(1))),
+    // The second weak word, and both.
+    (&[(2, F + 2)], BOTH, Some(LayoutFault::BadWeak(2))),
+    (
+        &[(1, F + 3), (2, F + 2)],
+        BOTH,
+        Some(LayoutFault::BadWeak(1)),
+    ),
+    // A data word may be anything.
+    (&[(3, F + 1)], BOTH, None),
+    // References are checked before all weak words.
+    (&[(6, F + 4)], BOTH, Some(LayoutFault::UnmarkedTarget(6))),
+    (
+        &[(1, F + 1), (6, F + 4)],
+        BOTH,
+        Some(LayoutFault::UnmarkedTarget(6)),
+    ),
+    // The last object has a weak word in place of its reference, or beside it. The first has two references in place of
+    // its weak words.
+    (&[(5, 844_429_225_099_264), (6, F + 4)], BOTH, None),
+    (
+        &[(5, 844_429_225_099_264), (6, F + 3)],
+        BOTH,
+        Some(LayoutFault::BadWeak(6)),
+    ),
+    (
+        &[(5, 844_429_225_099_265)],
+        BOTH,
+        Some(LayoutFault::ObjectPastEnd(5)),
+    ),
+    (
+        &[(0, 281_474_976_776_194)],
+        BOTH,
+        Some(LayoutFault::UnmarkedTarget(1)),
+    ),
+    // The object is one word shorter, so that its data word becomes a header.
+    (
+        &[(0, 281_483_566_645_248)],
+        BOTH,
+        Some(LayoutFault::ObjectPastEnd(3)),
+    ),
+    // 512 weak words and 512 data words.
+    (
+        &[(0, 2_199_056_809_984)],
+        BOTH,
+        Some(LayoutFault::ObjectTooLong(0)),
+    ),
+    // The weak words of an object that is not marked are not checked.
+    (&[(6, F + 5), (1, F + 1)], LAST, None),
+    (&[(6, F + 5), (1, 7), (2, u64::MAX)], LAST, None),
+    (&[(1, F + 1)], LAST, Some(LayoutFault::UnmarkedTarget(6))),
+];
+
+// The three objects with these words changed.
+fn changed(words: &[(usize, u64)]) -> [u64; 7] {
+    let mut all = WEAK;
+    for (at, word) in words {
+        if let Some(place) = all.get_mut(*at) {
+            *place = *word;
+        }
+    }
+    all
+}
+
+// Checks the first fault of each of these heaps.
+fn expect_changed(rt: &(impl Abort + AllocGlobal), rows: &[ChangedWeak]) {
+    for (row, (words, marks, wanted)) in rows.iter().enumerate() {
+        let found = first_fault(rt, Edition::Two, &changed(words), marks, &[F + 5]);
+        expect_eq(
+            rt,
+            At::new("the first fault beside weak words", row),
+            found,
+            *wanted,
+        );
+    }
+}
+
+#[test]
+fn a_heap_with_weak_words_is_refused_for_its_first_fault(rt: HostRuntime) {
+    expect_changed(&rt, &CHANGED);
+}
+
+// A list of `count` zeros.
+fn zeros(rt: &(impl Abort + AllocGlobal), count: usize) -> Vec<u64> {
+    vec![in rt.alloc(); 0u64; count].expect(rt, "memory for zeros")
+}
+
+// The first fault of a heap of `words` empty objects, none of them marked, and `roots` null roots.
+fn fault_of_many(
+    rt: &(impl Abort + AllocGlobal),
+    edition: Edition,
+    words: usize,
+    roots: usize,
+) -> Option<LayoutFault> {
+    first_fault(rt, edition, &zeros(rt, words), &[], &zeros(rt, roots))
+}
+
+// The most words and roots, and one more of each.
+static MANY: [(usize, usize, Option<LayoutFault>); 3] = [
+    (1_048_576, 4_096, None),
+    (1_048_577, 0, Some(LayoutFault::TooLarge)),
+    (0, 4_097, Some(LayoutFault::TooLarge)),
+];
+
+#[test]
+fn a_heap_with_more_words_or_roots_than_the_most_is_refused(rt: HostRuntime) {
+    for (row, (words, roots, wanted)) in MANY.iter().enumerate() {
+        let at = At::new("too large", row);
+        let found = fault_of_many(&rt, Edition::One, *words, *roots);
+        let weak = fault_of_many(&rt, Edition::Two, *words, *roots);
+        expect_eq(&rt, at, found, *wanted);
+        expect_eq(&rt, at, weak, *wanted);
+    }
+}
+
+static TEXTS: [(LayoutFault, &str); 13] = [
+    (LayoutFault::TooLarge, "H1 TooLarge"),
+    (LayoutFault::ObjectPastEnd(0), "H2 ObjectPastEnd(0)"),
+    (LayoutFault::ObjectTooLong(1), "H3 ObjectTooLong(1)"),
+    (LayoutFault::MarkNotStart(2), "H4 MarkNotStart(2)"),
+    (LayoutFault::MarksNotRising(3), "H5 MarksNotRising(3)"),
+    (LayoutFault::BadRoot(4), "H6 BadRoot(4)"),
+    (LayoutFault::UnmarkedTarget(5), "H7 UnmarkedTarget(5)"),
+    (LayoutFault::Truncated, "H8 Truncated"),
+    (LayoutFault::TrailingBytes, "H9 TrailingBytes"),
+    (LayoutFault::BadMagic, "H10 BadMagic"),
+    (LayoutFault::OutOfMemory, "H11 OutOfMemory"),
+    (LayoutFault::Device, "H12 Device"),
+    (LayoutFault::BadWeak(6), "H13 BadWeak(6)"),
+];
+
+#[test]
+fn layout_faults_are_printed_with_number_and_name(rt: HostRuntime) {
+    for (row, (fault, wanted)) in TEXTS.iter().enumerate() {
+        let at = At::new("printed faults", row);
+        let text = fault.to_string(rt.alloc()).expect(&rt, "memory for a text");
+        expect_eq(&rt, at, text.as_str(), *wanted);
+    }
+}

@@ -1,5 +1,0 @@
-use Rattle.comp_mutator.specs.Mutators.{IsMutatorOf}
-use Rattle.test_mutators.proofs.sweeping.looked.look_on.Given as goal
-
-abbrev pub invariant-loop : goal.invariant-loop
-invariant-loop g l = IsMutatorOf l.space l.m

@@ -1,4 +1,0 @@
-use Rattle.test_mutators.proofs.sweeping.played.play_built.Given as goal
-
-abbrev pub ghosts-play : goal.ghosts-play
-ghosts-play g a = record { name = a.blank.name; parts = a.blank.parts }

@@ -1,4 +1,0 @@
-use Rattle.test_traces.proofs.races.race_row.Given as goal
-
-abbrev pub ghosts-raced : goal.ghosts-raced
-ghosts-raced g a = record { name = a.blank.name; parts = a.blank.parts }
