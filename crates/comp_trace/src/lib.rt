@@ -2,14 +2,23 @@
 //! threads, and a chain of cycles.
 #![tactic(auto)]
 
-pub use trace_cycles::{
+mod cycles;
+mod races;
+mod replays;
+mod steps;
+mod text;
+
+pub use cycles::{
     CycleFault, CycleHalt, CyclesStopped, Marking, Ran, next_marked, replay_cycles, replay_marked,
     root_words, run_cycle,
 };
-pub use trace_race::{NotRaced, Raced, Run, race};
-pub use trace_replay::{Halt, Replayed, Stopped, replay, replay_registers, replay_text, run_over};
-pub use trace_steps::Shown;
-pub use trace_text::{
+pub use races::{NotRaced, Raced, Run, race};
+pub use replays::{
+    Halt, Replayed, Stopped, refusals_are_of_runs, replay, replay_registers, replay_text,
+    replays_show_once, run_over, runs_are_determined,
+};
+pub use steps::Shown;
+pub use text::{
     Action, Line, MarksFault, NewRoot, RefusedLine, RootsFault, Trace, TraceFault, parse,
     read_marks, read_roots,
 };

@@ -1,0 +1,256 @@
+//! Runs several cycles, with a trace over each.
+ghost use Rattle.std.specs.Prelude.{◌≡◌, ℕ, ◌^◌, ◌<◌, ◌≤◌, ◌++◌, All, IfErr, IfOk, List, length, map, vec_capacity};
+ghost use Rattle.comp_cycles.specs.Ends.{IsEndOf};
+ghost use Rattle.comp_cycles.specs.Finishes.{IsOfFlip};
+ghost use Rattle.heap_layout.specs.Heap.{Heap};
+ghost use Rattle.comp_trace.specs.declared.text.line.Line.{Line};
+ghost use Rattle.comp_trace.specs.Traces.{lines_of};
+ghost use Rattle.comp_trace.specs.CycleRuns.{CyclesRan, IsCycleHaltOf, IsNextRun, IsParsedFor};
+ghost use Rattle.comp_trace.specs.Markings.{marks_given};
+ghost use Rattle.comp_trace.specs.Stops.{further_by, marking_and_lines, marks_and_lines, some_values, values_of, IsNotNext, IsNotRunOver, StopsCycles};
+
+use crate::cycles::cycle::{CycleHalt, Ran, run_cycle};
+use crate::cycles::fault::CycleFault;
+use crate::cycles::marking::{Marking, Marks, next_marked};
+use crate::replays::Halt;
+use crate::steps::Shown;
+use crate::text::Trace;
+use comp_cycles::{Finished, one_life, one_writing};
+use heap_layout::MarkedHeap;
+use page_plan::Plan;
+use std::alloc::Global;
+use std::sync::Arc;
+use std::thread::Threads;
+
+/// What is left after cycles with traces.
+#[derive(Drop)]
+pub struct CyclesRun {
+    /// For each cycle, the values that its `get` lines showed, in the order of the lines.
+    pub shown: Vec<Vec<Shown>>,
+    /// The heap at the end of the last cycle.
+    pub finished: Finished,
+}
+
+/// Why cycles were not run to their end.
+#[derive(Drop)]
+pub struct CyclesStopped {
+    /// The values of each cycle that came to its end. If a further cycle was flipped, the values of its lines so far
+    /// follow as one list more.
+    pub shown: Vec<Vec<Shown>>,
+    /// The fault, with the number of the cycle, from 0.
+    pub fault: CycleFault,
+}
+
+// Why a cycle was not run to its end, and the values that it had shown, if it was flipped.
+#[derive(Drop)]
+struct NotRun {
+    shown: Option<Vec<Shown>>,
+    fault: CycleFault,
+}
+
+// Why cycle `c` was not run to its end.
+fn not_run(c: u64, halt: CycleHalt) -> NotRun
+    ensures { (mutators fresh : ℕ) (lines : List Line) (heap : Heap) → IsCycleHaltOf mutators fresh lines heap halt → IsNotRunOver mutators fresh lines heap c result.shown result.fault }
+{
+    match halt {
+        CycleHalt::Halted(Halt::Cut(stopped)) => NotRun {
+            shown: Some(stopped.shown),
+            fault: CycleFault::Stopped(c, stopped.fault),
+        },
+        CycleHalt::Halted(Halt::Unfinished(shown)) => NotRun {
+            shown: Some(shown),
+            fault: CycleFault::OutOfMemory(c),
+        },
+        CycleHalt::Halted(Halt::Unflipped) | CycleHalt::Unplanned => NotRun {
+            shown: None,
+            fault: CycleFault::OutOfMemory(c),
+        },
+    }
+}
+
+// Runs the cycle after cycle `c`: makes the next heap of what is left of cycle `c`, marked so, and runs the trace over
+// it.
+fn run_next(
+    alloc: Global,
+    rt: &(impl Threads + Sync),
+    plan: Arc<Plan>,
+    finished: Finished,
+    marking: Marking,
+    trace: &Trace,
+    mutators: u8,
+    fresh: u32,
+    c: u64,
+) -> Result<Ran, NotRun>
+    requires mutators { (1 ≤ mutators) × (mutators ≤ 64) }
+    requires fresh { fresh ≤ 4096 }
+    requires count { c < 2 ^ 63 }
+    requires end { IsEndOf plan.value finished }
+    requires parsed { IsParsedFor mutators (length plan.value.roots) trace.now }
+    ensures next { IfOk result (λ next. IsNextRun mutators fresh plan.value finished (marks_given marking) (lines_of trace.now) next.plan.value next.shown.items next.finished) }
+    ensures flipped { IfOk result (λ next. IsOfFlip mutators fresh next.finished) }
+    ensures refused { IfErr result (λ not. IsNotNext mutators fresh plan.value finished (marks_given marking) (lines_of trace.now) c not.shown not.fault) }
+{
+    match next_marked(finished, alloc, &*plan, marking) {
+        Ok(heap) => match run_cycle(alloc, rt, heap, trace, mutators, fresh) {
+            Ok(ran) => Ok(ran),
+            Err(halt) => Err(not_run(c + 1, halt)),
+        },
+        Err(left) => Err(NotRun {
+            shown: None,
+            fault: CycleFault::NotMarked(c, left.fault),
+        }),
+    }
+}
+
+// Runs the cycle after cycle `c`, with a copy of these marks.
+fn run_further<M: Marks>(
+    alloc: Global,
+    rt: &(impl Threads + Sync),
+    plan: Arc<Plan>,
+    finished: Finished,
+    further: &(M, Trace),
+    mutators: u8,
+    fresh: u32,
+    c: u64,
+) -> Result<Ran, NotRun>
+    requires mutators { (1 ≤ mutators) × (mutators ≤ 64) }
+    requires fresh { fresh ≤ 4096 }
+    requires count { c < 2 ^ 63 }
+    requires end { IsEndOf plan.value finished }
+    requires parsed { IsParsedFor mutators (length plan.value.roots) further.now.1 }
+    ensures next { IfOk result (λ next. IsNextRun mutators fresh plan.value finished (M.given further.now.0) (lines_of further.now.1) next.plan.value next.shown.items next.finished) }
+    ensures flipped { IfOk result (λ next. IsOfFlip mutators fresh next.finished) }
+    ensures refused { IfErr result (λ not. IsNotNext mutators fresh plan.value finished (M.given further.now.0) (lines_of further.now.1) c not.shown not.fault) }
+{
+    let Ok(marking) = further.0.marking(alloc) else {
+        return Err(NotRun {
+            shown: None,
+            fault: CycleFault::OutOfMemory(c),
+        });
+    };
+    run_next(
+        alloc, rt, plan, finished, marking, &further.1, mutators, fresh, c,
+    )
+}
+
+// Adds the values of the cycle that was not run to its end, if there are any, after the values shown before. Requires
+// room for one more list.
+fn stopped(mut shown: Vec<Vec<Shown>>, not: NotRun) -> CyclesStopped
+    requires { length shown.items < vec_capacity shown }
+    ensures shown { values_of result.shown.items ≡ values_of shown.items ++ some_values not.shown }
+    ensures fault { result.fault ≡ not.fault }
+{
+    let NotRun { shown: last, fault } = not;
+    if let Some(values) = last {
+        shown.push_reserved(values);
+    }
+    CyclesStopped { shown, fault }
+}
+
+/// Runs cycles, one after the other, by one thread. The first cycle runs the trace `first` over the heap. Each pair of
+/// `rest` is one cycle more: its marks make the next heap, as in `Finished::next_cycle`, and its trace runs over that
+/// heap. Each cycle is flipped for this number of mutators and fresh pages.
+///
+/// An Err names a cycle `c`, counted from 0: `Stopped(c, ..)` if its trace was stopped, `NotMarked(c, ..)` if the marks
+/// that were handed in after it are refused, and `OutOfMemory(c)` if memory ran out elsewhere. It has the values that
+/// were shown until then; the heap is dropped.
+///
+/// Requires 1 to 64 mutators, at most 4,096 fresh pages, and traces that were parsed for these mutators and for the
+/// heap's number of roots.
+pub fn replay_cycles(
+    alloc: Global,
+    rt: &(impl Threads + Sync),
+    heap: MarkedHeap,
+    first: &Trace,
+    rest: &[(Vec<u32>, Trace)],
+    mutators: u8,
+    fresh_pages: u32,
+) -> Result<CyclesRun, CyclesStopped>
+    requires mutators { (1 ≤ mutators) × (mutators ≤ 64) }
+    requires fresh { fresh_pages ≤ 4096 }
+    requires first { IsParsedFor mutators (length heap.roots) first.now }
+    requires rest { All (λ further. IsParsedFor mutators (length heap.roots) further.1) rest.now }
+    ensures ran { IfOk result (λ run. CyclesRan mutators fresh_pages heap (lines_of first.now) (map marks_and_lines rest.now) (values_of run.shown.items) run.finished) }
+    ensures flipped { IfOk result (λ run. IsOfFlip mutators fresh_pages run.finished) }
+    ensures stopped { IfErr result (λ stopped. StopsCycles mutators fresh_pages heap (lines_of first.now) (map marks_and_lines rest.now) (values_of stopped.shown.items) stopped.fault) }
+{
+    replay_all(alloc, rt, heap, first, rest, mutators, fresh_pages)
+}
+
+/// Runs cycles as `replay_cycles` does. Each pair of `rest` says how the next heap is marked, and has the trace that
+/// runs over that heap. A heap that is marked by what its roots reach is refused only if it has too many words, or if
+/// memory runs out.
+pub fn replay_marked(
+    alloc: Global,
+    rt: &(impl Threads + Sync),
+    heap: MarkedHeap,
+    first: &Trace,
+    rest: &[(Marking, Trace)],
+    mutators: u8,
+    fresh_pages: u32,
+) -> Result<CyclesRun, CyclesStopped>
+    requires mutators { (1 ≤ mutators) × (mutators ≤ 64) }
+    requires fresh { fresh_pages ≤ 4096 }
+    requires first { IsParsedFor mutators (length heap.roots) first.now }
+    requires rest { All (λ further. IsParsedFor mutators (length heap.roots) further.1) rest.now }
+    ensures ran { IfOk result (λ run. CyclesRan mutators fresh_pages heap (lines_of first.now) (map marking_and_lines rest.now) (values_of run.shown.items) run.finished) }
+    ensures flipped { IfOk result (λ run. IsOfFlip mutators fresh_pages run.finished) }
+    ensures stopped { IfErr result (λ stopped. StopsCycles mutators fresh_pages heap (lines_of first.now) (map marking_and_lines rest.now) (values_of stopped.shown.items) stopped.fault) }
+{
+    replay_all(alloc, rt, heap, first, rest, mutators, fresh_pages)
+}
+
+// Runs cycles, each next heap marked as its pair says.
+fn replay_all<M: Marks>(
+    alloc: Global,
+    rt: &(impl Threads + Sync),
+    heap: MarkedHeap,
+    first: &Trace,
+    rest: &[(M, Trace)],
+    mutators: u8,
+    fresh_pages: u32,
+) -> Result<CyclesRun, CyclesStopped>
+    requires mutators { (1 ≤ mutators) × (mutators ≤ 64) }
+    requires fresh { fresh_pages ≤ 4096 }
+    requires first { IsParsedFor mutators (length heap.roots) first.now }
+    requires rest { All (λ further. IsParsedFor mutators (length heap.roots) further.1) rest.now }
+    ensures ran { IfOk result (λ run. CyclesRan mutators fresh_pages heap (lines_of first.now) (map (further_by M.given) rest.now) (values_of run.shown.items) run.finished) }
+    ensures flipped { IfOk result (λ run. IsOfFlip mutators fresh_pages run.finished) }
+    ensures stopped { IfErr result (λ stopped. StopsCycles mutators fresh_pages heap (lines_of first.now) (map (further_by M.given) rest.now) (values_of stopped.shown.items) stopped.fault) }
+{
+    one_life();
+    one_writing();
+    let Ok(mut shown) = Vec::with_capacity(alloc, rest.len() + 1) else {
+        return Err(CyclesStopped {
+            shown: Vec::new(alloc),
+            fault: CycleFault::OutOfMemory(0),
+        });
+    };
+    let (mut plan, mut finished) = match run_cycle(alloc, rt, heap, first, mutators, fresh_pages) {
+        Ok(ran) => {
+            shown.push_reserved(ran.shown);
+            (ran.plan, ran.finished)
+        }
+        Err(halt) => return Err(stopped(shown, not_run(0, halt))),
+    };
+    for (c, further) in rest.iter().enumerate() {
+        match run_further(
+            alloc,
+            rt,
+            plan,
+            finished,
+            further,
+            mutators,
+            fresh_pages,
+            c as u64,
+        ) {
+            Ok(ran) => {
+                shown.push_reserved(ran.shown);
+                plan = ran.plan;
+                finished = ran.finished;
+            }
+            Err(not) => return Err(stopped(shown, not)),
+        }
+    }
+    Ok(CyclesRun { shown, finished })
+}

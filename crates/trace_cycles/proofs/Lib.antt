@@ -1,3 +1,0 @@
-pub mod LastRuns
-pub mod Runs
-pub mod Stopping

@@ -1,4 +1,0 @@
-pub mod CycleRuns
-pub mod Markings
-pub mod Stops
-pub mod RootsNamed

@@ -1,4 +1,0 @@
-pub mod Races
-pub mod Runners
-pub mod Chains
-pub mod Inventions

@@ -1,9 +1,0 @@
-//! Races: the mutators run their own lines of a trace side by side, and wait for busy pages.
-#![tactic(auto)]
-
-mod chains;
-mod racing;
-mod runner;
-mod waiting;
-
-pub use racing::{NotRaced, Raced, Run, race};

@@ -1,9 +1,0 @@
-use Rattle.std.proofs.Common.{◌≡◌, ◌≤◌, replicate, vec_len, vec_capacity}
-use Rattle.trace_steps.specs.Acting.{null_registers}
-use Rattle.trace_replay.proofs.replaying.all_null.Given as goal
-
-abbrev pub invariant-loop-i : goal.invariant-loop-i
-invariant-loop-i l = record {
-  items : l.registers.items ≡ replicate l._i null_registers;
-  room : (vec_len l.registers ≡ l._i) × (l.n ≤ vec_capacity l.registers);
-}
