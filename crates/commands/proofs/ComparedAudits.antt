@@ -2,7 +2,7 @@
 use Rattle.std.proofs.Common.{◌≡◌, ℕ, Bool, true, false, List, ◌++◌, length, Option, Result, Ok, Err, IfOk, IfErr, OnOk, codes, inl, inr, sym, ap, ◌∙◌, subst, append_assoc}
 use Rattle.std.specs.Io.KnownBytes.{Appends}
 use Rattle.heap_layout.specs.Heap.{Heap}
-use Rattle.audit_checks.specs.Checks.{all_entries}
+use Rattle.comp_audit.specs.Checks.{all_entries}
 use Rattle.comp_dump.specs.Dumped.{Dumped}
 use Rattle.comp_dump.specs.Lists.{total}
 use Rattle.comp_audit.specs.Explained.{AreCountsOf}

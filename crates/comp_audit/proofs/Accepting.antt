@@ -33,17 +33,17 @@ use Rattle.comp_dump.proofs.CompHistoryPages.{below_in}
 use Rattle.comp_dump.specs.Builds.{named}
 use Rattle.comp_dump.specs.Dumped.{BuiltPage, Dumped}
 use Rattle.comp_dump.specs.declared.fault.AuditFault.TheVariants.{WrongHead, WrongWord, WrongTotal, BuildUnclaimed, BadEntry, LooseReference, StampRepeated, StampMissing}
-use Rattle.audit_checks.specs.Checks.{setup_for, unless, all_stamps, journal_of, journals_in, above, is_edition, head_faults, is_claimed, build_faults, journal_faults, same_words, word_faults, each_built, some_refers, makes, is_start, is_made_before, is_led, reference_faults, late_on, late_with, late_faults, repeat_faults, missing_faults, total_faults}
+use Rattle.comp_audit.specs.Checks.{setup_for, unless, all_stamps, journal_of, journals_in, above, is_edition, head_faults, is_claimed, build_faults, journal_faults, same_words, word_faults, each_built, some_refers, makes, is_start, is_made_before, is_led, reference_faults, late_on, late_with, late_faults, repeat_faults, missing_faults, total_faults}
 use Rattle.comp_audit.specs.Meant.{built_count, page_of, IsLawfulDump, LawfulIsYes}
-use Rattle.audit_checks.proofs.Reporting.{both_pass, none_items}
-use Rattle.audit_checks.proofs.Meanings.{true_and, faultless_is_lawful, holds, left_holds, right_holds, holds_or_not}
-use Rattle.audit_checks.proofs.Noting.{makes_here}
-use Rattle.audit_checks.proofs.Ranges.{none_in_range}
-use Rattle.audit_checks.proofs.Built.{none_built}
-use Rattle.audit_checks.proofs.Unwritten.{start_tested}
+use Rattle.comp_audit.proofs.Reporting.{both_pass, none_items}
+use Rattle.comp_audit.proofs.Meanings.{true_and, faultless_is_lawful, holds, left_holds, right_holds, holds_or_not}
+use Rattle.comp_audit.proofs.Noting.{makes_here}
+use Rattle.comp_audit.proofs.Ranges.{none_in_range}
+use Rattle.comp_audit.proofs.Built.{none_built}
+use Rattle.comp_audit.proofs.Unwritten.{start_tested}
 use Rattle.comp_audit.proofs.Clock.{stamps_counted, stamps_long}
 use Rattle.comp_audit.proofs.Sound.{page_long, total_merged}
-use Rattle.audit_checks.proofs.Earliest.{both_none}
+use Rattle.comp_audit.proofs.Earliest.{both_none}
 
 claim_tested : (builds : List (List ℕ)) (p : ℕ) (kept : Option BuiltPage) → named p builds ≡ built_count kept → is_claimed builds (p, kept) ≡ true
 claim_tested builds p None e = eq-eqb _ _ e

@@ -11,7 +11,7 @@ use Rattle.comp_dump.specs.Entry.{Entry}
 use Rattle.comp_dump.specs.Lawful.{kind_at, kinds_by, kinds_in, kinds_of_header}
 use Rattle.comp_dump.specs.Setup.{Setup}
 use Rattle.comp_dump.proofs.Heads.{get_behind, kinds_long}
-use Rattle.audit_checks.specs.Checks.{fits, is_kind}
+use Rattle.comp_audit.specs.Checks.{fits, is_kind}
 use Rattle.comp_audit.specs.Causes.{IsCauseFor}
 use Rattle.comp_audit.specs.declared.explanation.EntryCause.TheVariants.{OtherWord}
 

@@ -11,9 +11,9 @@ use Rattle.comp_dump.specs.Merged.{entries_below, stamp_of, with_page}
 use Rattle.comp_dump.proofs.CompHistoryPages.{total_below}
 use Rattle.comp_dump.specs.declared.fault.AuditFault.{AuditFault}
 use Rattle.comp_dump.specs.declared.fault.AuditFault.TheVariants.{StampRepeated, StampMissing}
-use Rattle.audit_checks.specs.Checks.{unless, above, repeat_faults, missing_faults}
+use Rattle.comp_audit.specs.Checks.{unless, above, repeat_faults, missing_faults}
 use Rattle.heap_layout.proofs.Rows.{append-none, unless-none}
-use Rattle.audit_checks.proofs.Ranges.{somewhere, all_below}
+use Rattle.comp_audit.proofs.Ranges.{somewhere, all_below}
 
 times_stamps : (s : ℕ) (all : List (ℕ × Entry)) → times s (map stamp_of all) ≡ total (λ (x : ℕ × Entry). only s (stamp_of x)) all
 times_stamps s [] = refl

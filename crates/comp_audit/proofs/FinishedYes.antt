@@ -18,9 +18,9 @@ use Rattle.comp_dump.specs.Finishes.{pages_of, there, IsOfFlip}
 use Rattle.comp_dump.specs.Finished.{Finished}
 use Rattle.comp_dump.specs.Dumped.{BuiltPage, Dumped}
 use Rattle.comp_dump.specs.Lent.{record_of, built_of}
-use Rattle.audit_checks.specs.Checks.{setup_for, journal_of}
+use Rattle.comp_audit.specs.Checks.{setup_for, journal_of}
 use Rattle.comp_audit.specs.Meant.{built_count, page_of, journals_of, IsLawfulDump, IsDumpOf, FinishedIsYes}
-use Rattle.audit_checks.proofs.Reporting.{are_forwarded}
+use Rattle.comp_audit.proofs.Reporting.{are_forwarded}
 use Rattle.comp_audit.proofs.Accepting.{lawful_is_yes}
 
 record_journal : (slot : Slot) → journal_of (record_of slot) ≡ journal_in slot

@@ -5,7 +5,7 @@ use Rattle.heap_layout.specs.Faults.{unless, IsFirst}
 use Rattle.comp_dump.specs.Dumped.{BuiltPage}
 use Rattle.comp_dump.specs.declared.fault.AuditFault.{AuditFault}
 use Rattle.comp_dump.specs.declared.fault.AuditFault.TheVariants.{PageMissing}
-use Rattle.audit_checks.proofs.Ranges.{first_in_range, none_in_range}
+use Rattle.comp_audit.proofs.Ranges.{first_in_range, none_in_range}
 use Rattle.comp_audit.specs.Judged.{missing_pages}
 
 -- the pages below p were built

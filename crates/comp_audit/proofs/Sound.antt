@@ -39,15 +39,15 @@ use Rattle.comp_dump.proofs.Legal.{one_history}
 use Rattle.comp_dump.specs.Builds.{named}
 use Rattle.comp_dump.specs.Dumped.{BuiltPage, IsStoredRecord}
 use Rattle.comp_dump.specs.declared.fault.AuditFault.TheVariants.{WrongHead, WrongTotal, BuildUnclaimed, BadEntry}
-use Rattle.audit_checks.specs.Checks.{setup_for, unless, all_entries, all_stamps, journal_of, journals_in, above, is_edition, head_faults, is_claimed, build_faults, journal_faults, same_words, word_faults, each_built, is_kind, makes, is_forwarding_address, is_made_before, is_led, late_on, late_with, late_faults, repeat_faults, missing_faults}
+use Rattle.comp_audit.specs.Checks.{setup_for, unless, all_entries, all_stamps, journal_of, journals_in, above, is_edition, head_faults, is_claimed, build_faults, journal_faults, same_words, word_faults, each_built, is_kind, makes, is_forwarding_address, is_made_before, is_led, late_on, late_with, late_faults, repeat_faults, missing_faults}
 use Rattle.comp_audit.specs.Meant.{built_count, journals_of, IsLawfulDump, YesIsSound}
 use Rattle.heap_layout.proofs.Rows.{append-none, unless-none}
-use Rattle.audit_checks.proofs.Reporting.{item_none}
-use Rattle.audit_checks.proofs.Meanings.{and_true, kind_means}
-use Rattle.audit_checks.proofs.Built.{built_none, built_inside, lawful_records, rising_records}
+use Rattle.comp_audit.proofs.Reporting.{item_none}
+use Rattle.comp_audit.proofs.Meanings.{and_true, kind_means}
+use Rattle.comp_audit.proofs.Built.{built_none, built_inside, lawful_records, rising_records}
 use Rattle.comp_audit.proofs.Clock.{stamps_counted, stamps_long, stamps_once, stamps_there, stamps_no_more, range_none}
-use Rattle.audit_checks.proofs.Entries.{stamp_below}
-use Rattle.audit_checks.proofs.Unwritten.{word_means}
+use Rattle.comp_audit.proofs.Entries.{stamp_below}
+use Rattle.comp_audit.proofs.Unwritten.{word_means}
 
 -- the head
 edition_means : (a b : Edition) → is_edition a b ≡ true → a ≡ b

@@ -12,8 +12,8 @@ use Rattle.comp_dump.specs.Builds.{named}
 use Rattle.comp_dump.specs.Lists.{only, times}
 use Rattle.comp_dump.specs.Merged.{entries_below, stamp_of}
 use Rattle.comp_dump.proofs.CompHistoryPages.{total_append}
-use Rattle.audit_checks.specs.Checks.{journal_of, journals_in}
-use Rattle.audit_checks.proofs.Entries.{page_more, stamps_more}
+use Rattle.comp_audit.specs.Checks.{journal_of, journals_in}
+use Rattle.comp_audit.proofs.Entries.{page_more, stamps_more}
 
 -- one more page has so many entries more with stamp s
 pub uses_next : (records : List (Option BuiltPage)) (s p : ℕ)

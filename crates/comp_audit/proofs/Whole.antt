@@ -12,7 +12,7 @@ use Rattle.comp_dump.specs.Entry.{Entry}
 use Rattle.comp_dump.specs.Setup.{Setup, base_of}
 use Rattle.comp_dump.specs.Dumped.{BuiltPage, Dumped, IsStored}
 use Rattle.comp_dump.specs.declared.fault.AuditFault.TheVariants.{PageMissing}
-use Rattle.audit_checks.specs.Checks.{journal_of, setup_for}
+use Rattle.comp_audit.specs.Checks.{journal_of, setup_for}
 use Rattle.comp_audit.specs.Judged.{whole_faults}
 use Rattle.comp_audit.specs.Meant.{journals_of, IsLawfulDump}
 use Rattle.comp_audit.specs.Whole.{replayed_words, words_of, IsUnwritten, UnwrittenIsSlid, WholeIsReplayed}

@@ -10,8 +10,8 @@ use Rattle.comp_dump.specs.Entry.{Entry}
 use Rattle.comp_dump.specs.Lawful.{filled, kind_at}
 use Rattle.comp_dump.specs.Setup.{Setup, pages}
 use Rattle.comp_dump.specs.Dumped.{Dumped}
-use Rattle.audit_checks.specs.Checks.{all_entries, fits, is_fresh_of, is_kind, is_led, is_made_before, is_start, makes, setup_for}
-use Rattle.audit_checks.specs.Noted.{is_below}
+use Rattle.comp_audit.specs.Checks.{all_entries, fits, is_fresh_of, is_kind, is_led, is_made_before, is_start, makes, setup_for}
+use Rattle.comp_audit.specs.Noted.{is_below}
 use Rattle.comp_audit.specs.declared.explanation.EntryCause.{EntryCause}
 use Rattle.comp_audit.specs.declared.explanation.EntryCause.TheVariants as why
 

@@ -15,7 +15,7 @@ use Rattle.comp_dump.specs.Builds.{named}
 use Rattle.comp_dump.specs.Dumped.{BuiltPage, Dumped}
 use Rattle.comp_dump.specs.declared.fault.AuditFault.{AuditFault}
 use Rattle.comp_dump.specs.declared.fault.AuditFault.TheVariants as fault
-use Rattle.audit_checks.specs.Checks.{all_entries, all_stamps}
+use Rattle.comp_audit.specs.Checks.{all_entries, all_stamps}
 use Rattle.comp_audit.specs.Meant.{built_count, journals_of, page_of}
 pub use Rattle.comp_audit.specs.Causes.{maker_of, setup_of, stamp_before}
 use Rattle.comp_audit.specs.Causes.{HasNoCause, IsCauseOf}

@@ -6,8 +6,8 @@ use Rattle.heap_layout.specs.Heap.{Heap, live}
 use Rattle.page_plan.specs.Sliding as sliding
 use Rattle.comp_dump.specs.Dumped.{BuiltPage}
 use Rattle.comp_dump.specs.Dumped.{Dumped}
-use Rattle.audit_checks.specs.Checks.{setup_for}
-use Rattle.audit_checks.specs.Reported.{faults_for, IsFirst}
+use Rattle.comp_audit.specs.Checks.{setup_for}
+use Rattle.comp_audit.specs.Reported.{faults_for, IsFirst}
 use Rattle.comp_dump.specs.declared.fault.AuditFault.{AuditFault}
 use Rattle.comp_dump.specs.declared.fault.AuditFault.TheVariants.{PageMissing}
 use Rattle.comp_audit.specs.declared.verdict.Verdict.{Verdict}

@@ -1,7 +1,10 @@
+pub mod Checks
+pub mod Reported
+pub mod Noted
+pub mod Faultless
 pub mod Judged
 pub mod Meant
 pub mod Causes
 pub mod Explained
 pub mod Wording
 pub mod Whole
-pub use Rattle.audit_checks.specs.Reported

@@ -13,7 +13,7 @@ use Rattle.comp_dump.specs.Finishes.{builds_in, edition_in, live_of, pages_of, r
 use Rattle.comp_dump.specs.Finished.{Finished}
 use Rattle.comp_dump.specs.Dumped.{BuiltPage, Dumped, IsStored}
 use Rattle.comp_dump.specs.Lent.{record_of}
-use Rattle.audit_checks.specs.Checks.{setup_for, journals_in}
+use Rattle.comp_audit.specs.Checks.{setup_for, journals_in}
 use Rattle.comp_audit.specs.Judged.{faults}
 
 -- 1 if the page was built, 0 if it never was

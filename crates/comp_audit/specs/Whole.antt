@@ -7,7 +7,7 @@ use Rattle.page_plan.specs.Sliding.{slid_words}
 use Rattle.comp_dump.specs.Journal.{replayed}
 use Rattle.comp_dump.specs.Setup.{base_of}
 use Rattle.comp_dump.specs.Dumped.{BuiltPage, Dumped, IsStored}
-use Rattle.audit_checks.specs.Checks.{setup_for}
+use Rattle.comp_audit.specs.Checks.{setup_for}
 use Rattle.comp_audit.specs.Judged.{whole_faults}
 use Rattle.comp_audit.specs.Meant.{journals_of}
 

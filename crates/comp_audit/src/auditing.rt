@@ -3,7 +3,7 @@ ghost use Rattle.std.specs.Prelude.{IfOk};
 ghost use Rattle.comp_audit.specs.Judged.{faults, missing_pages, whole_faults, Judges};
 
 use crate::verdict::Verdict;
-use audit_checks::{CheckEnd, Setting, check};
+use crate::checks::{CheckEnd, Setting, check};
 use comp_dump::{AuditFault, Dump, DumpedPages, dump_is_stored};
 use heap_layout::OutOfMemory;
 use page_plan::Plan;

@@ -1,5 +1,5 @@
 //! Laws of the audit. Each is the contract of a function that does nothing.
-ghost use Rattle.audit_checks.specs.Faultless.{FaultlessIsLawful};
+ghost use Rattle.comp_audit.specs.Faultless.{FaultlessIsLawful};
 ghost use Rattle.comp_audit.specs.Meant.{FinishedIsYes, LawfulIsYes, YesIsSound};
 ghost use Rattle.comp_audit.specs.Whole.{UnwrittenIsSlid, WholeIsReplayed};
 

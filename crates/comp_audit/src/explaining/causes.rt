@@ -11,7 +11,7 @@ ghost use Rattle.comp_audit.specs.Causes.{fits_after, leads_back, setup_of, HasN
 
 use crate::explaining::made::{header_stamp, kind_made, words_made};
 use crate::explanation::EntryCause;
-use audit_checks::is_word_of;
+use crate::checks::is_word_of;
 use comp_dump::{Dump, dump_is_stored};
 use comp_journal::Entry;
 use heap_layout::Kind;

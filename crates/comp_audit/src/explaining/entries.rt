@@ -8,7 +8,7 @@ ghost use Rattle.comp_audit.specs.Explained.{maker_of, setup_of, stamp_before, E
 use crate::explaining::causes::cause_of;
 use crate::explaining::made::words_made;
 use crate::explanation::{BadEntryAt, EntryCause, Explanation, LooseEntry};
-use audit_checks::journal_of;
+use crate::checks::journal_of;
 use comp_dump::{Dump, dump_is_stored};
 use comp_journal::Entry;
 use heap_layout::Edition;

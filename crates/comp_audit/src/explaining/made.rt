@@ -4,11 +4,11 @@ ghost use Rattle.heap_layout.specs.Header.{size_of};
 ghost use Rattle.comp_dump.specs.Entry.{Entry};
 ghost use Rattle.comp_dump.specs.Lawful.{kinds_by, kinds_in, kinds_of_header};
 ghost use Rattle.comp_dump.specs.Merged.{with_page};
-ghost use Rattle.audit_checks.specs.Checks.{all_entries, makes};
-ghost use Rattle.audit_checks.specs.Noted.{is_below};
+ghost use Rattle.comp_audit.specs.Checks.{all_entries, makes};
+ghost use Rattle.comp_audit.specs.Noted.{is_below};
 ghost use Rattle.comp_audit.specs.Causes.{IsHeaderStamp};
 
-use audit_checks::journal_of;
+use crate::checks::journal_of;
 use comp_dump::{Dump, dump_is_stored};
 use comp_journal::Entry;
 use heap_layout::{Edition, Header, Kind};

@@ -4,12 +4,12 @@ ghost use Rattle.heap_layout.specs.Heap.{Heap};
 ghost use Rattle.comp_dump.specs.Entry.{Entry};
 ghost use Rattle.comp_dump.specs.Lists.{times};
 ghost use Rattle.comp_dump.specs.declared.fault.AuditFault.TheVariants as fault;
-ghost use Rattle.audit_checks.specs.Checks.{all_stamps};
+ghost use Rattle.comp_audit.specs.Checks.{all_stamps};
 ghost use Rattle.comp_audit.specs.Explained.{Explains, IsFirstUse, IsLastUse};
 
 use crate::explaining::sums::count;
 use crate::explanation::{Explanation, StampLost, StampUses};
-use audit_checks::journal_of;
+use crate::checks::journal_of;
 use comp_dump::{Dump, dump_is_stored};
 use comp_journal::Entry;
 

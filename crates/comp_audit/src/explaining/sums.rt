@@ -4,7 +4,7 @@ ghost use Rattle.comp_dump.specs.declared.fault.AuditFault.TheVariants as fault;
 ghost use Rattle.comp_audit.specs.Explained.{AreCountsOf, Explains};
 
 use crate::explanation::{DumpCounts, Explanation, Totals};
-use audit_checks::{journal_of, right_total};
+use crate::checks::{journal_of, right_total};
 use comp_dump::{Dump, dump_is_stored};
 use page_plan::Plan;
 

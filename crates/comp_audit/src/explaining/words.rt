@@ -8,7 +8,7 @@ ghost use Rattle.comp_audit.specs.Explained.{setup_of, word_in, Explains};
 use crate::explaining::entries::loose_entry;
 use crate::explaining::objects::{out_of_place, owner};
 use crate::explanation::{Explanation, LooseWordAt, WrongWordAt};
-use audit_checks::{Setting, journal_of, right_words};
+use crate::checks::{Setting, journal_of, right_words};
 use comp_dump::{Dump, dump_is_stored};
 use heap_layout::OutOfMemory;
 use page_plan::{Plan, TO_SPACE};

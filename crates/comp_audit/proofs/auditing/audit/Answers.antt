@@ -2,13 +2,13 @@ use Rattle.std.proofs.Common.{◌≡◌, ◌∙◌, ℕ, List, Option, Result, E
 use Rattle.heap_layout.specs.Heap.{Heap}
 use Rattle.heap_layout.specs.declared.edition.Edition.{Edition}
 use Rattle.comp_dump.specs.CellEnds.{lists as items_of}
-use Rattle.audit_checks.specs.Checks.{setup_for}
+use Rattle.comp_audit.specs.Checks.{setup_for}
 use Rattle.comp_dump.specs.Dumped.{BuiltPage, Dumped}
-use Rattle.audit_checks.specs.Reported.{faults_for, IsFirst, Reports}
+use Rattle.comp_audit.specs.Reported.{faults_for, IsFirst, Reports}
 use Rattle.comp_audit.specs.Judged.{faults}
 use Rattle.comp_dump.specs.declared.fault.AuditFault.{AuditFault}
-use Rattle.audit_checks.specs.declared.fault.CheckEnd.{CheckEnd}
-use Rattle.audit_checks.specs.declared.fault.CheckEnd.TheVariants as stop
+use Rattle.comp_audit.specs.declared.checks.fault.CheckEnd.{CheckEnd}
+use Rattle.comp_audit.specs.declared.checks.fault.CheckEnd.TheVariants as stop
 use Rattle.comp_audit.proofs.auditing.audit.Goals as goal
 
 -- the faults of a dump are those of its parts

@@ -2,7 +2,7 @@ use Rattle.std.proofs.Common.{◌≡◌, ◌∙◌, ap, length, sym, arith}
 use Rattle.heap_layout.specs.Heap.{Heap, live}
 use Rattle.page_plan.specs.Sliding.{forward}
 use Rattle.comp_dump.specs.Setup.{pages}
-use Rattle.audit_checks.proofs.Reporting.{are_forwarded}
+use Rattle.comp_audit.proofs.Reporting.{are_forwarded}
 use Rattle.comp_audit.specs.Explained.{setup_of}
 use Rattle.comp_audit.proofs.explaining.heads.explain_head.Goals as goal
 

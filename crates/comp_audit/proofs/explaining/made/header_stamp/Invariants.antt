@@ -1,5 +1,5 @@
 use Rattle.comp_dump.specs.Merged.{entries_below}
-use Rattle.audit_checks.specs.Checks.{journals_in}
+use Rattle.comp_audit.specs.Checks.{journals_in}
 use Rattle.comp_audit.specs.Causes.{IsHeaderStamp}
 use Rattle.comp_audit.proofs.explaining.made.header_stamp.Given as goal
 

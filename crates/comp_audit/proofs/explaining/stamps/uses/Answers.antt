@@ -1,6 +1,6 @@
 use Rattle.std.proofs.Common.{◌≡◌, ◌∙◌, ◌<◌, List, Option, ap, length, arith}
 use Rattle.comp_dump.specs.Dumped.{BuiltPage}
-use Rattle.audit_checks.specs.Checks.{journals_in}
+use Rattle.comp_audit.specs.Checks.{journals_in}
 use Rattle.comp_audit.proofs.Told.{few_entries, uses_more}
 use Rattle.comp_audit.proofs.explaining.stamps.uses.Goals as goal
 

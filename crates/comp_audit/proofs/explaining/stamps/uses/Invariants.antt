@@ -1,7 +1,7 @@
 use Rattle.std.proofs.Common.{◌≡◌, ◌*◌, ◌≤◌, map}
 use Rattle.comp_dump.specs.Lists.{times}
 use Rattle.comp_dump.specs.Merged.{entries_below, stamp_of}
-use Rattle.audit_checks.specs.Checks.{journals_in}
+use Rattle.comp_audit.specs.Checks.{journals_in}
 use Rattle.comp_audit.proofs.explaining.stamps.uses.Given as goal
 
 abbrev pub invariant-loop-p : goal.invariant-loop-p

@@ -1,7 +1,7 @@
 use Rattle.std.proofs.Common.{◌≡◌, ◌+◌, ◌*◌, ◌≤◌, drop, length}
 use Rattle.comp_dump.specs.Lists.{total}
 use Rattle.comp_dump.specs.Merged.{entries_below}
-use Rattle.audit_checks.specs.Checks.{journals_in}
+use Rattle.comp_audit.specs.Checks.{journals_in}
 use Rattle.comp_audit.specs.Meant.{built_count}
 use Rattle.comp_audit.proofs.explaining.sums.count.Given as goal
 

@@ -1,4 +1,0 @@
-pub mod Checks
-pub mod Reported
-pub mod Noted
-pub mod Faultless

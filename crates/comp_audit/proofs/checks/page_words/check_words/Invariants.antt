@@ -1,0 +1,11 @@
+use Rattle.std.proofs.Common.{◌≡◌, drop}
+use Rattle.std.specs.List.{flat_map, enumerate_from}
+use Rattle.comp_audit.specs.Checks.{of_built, each_built, word_faults}
+use Rattle.comp_audit.specs.Noted.{setup_at}
+use Rattle.comp_audit.proofs.checks.page_words.check_words.Given as goal
+
+-- the pages that are left have the faults of all
+abbrev pub invariant-loop-p : goal.invariant-loop-p
+invariant-loop-p l =
+    let faults = word_faults (setup_at l.setting) in
+    flat_map (of_built faults) (enumerate_from l.p (drop l.p l.records)) ≡ each_built faults l.records
