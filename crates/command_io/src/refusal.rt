@@ -68,7 +68,7 @@ pub enum CommandRefusal {
     Layout(LayoutFault),
     /// A call of a mutator, the flip or the finish is refused. In every command the cause is out of memory.
     #[error(transparent)]
-    Mutator(call_refusals::Refusal),
+    Mutator(comp_access::Refusal),
     /// The heap was not swept.
     #[error(transparent)]
     Sweep(SweepFault),
@@ -122,10 +122,10 @@ impl From<LayoutFault> for CommandRefusal {
     }
 }
 
-impl From<call_refusals::Refusal> for CommandRefusal {
+impl From<comp_access::Refusal> for CommandRefusal {
     ghost from_gives = { λ refused given. given ≡ refusal.Mutator refused };
 
-    fn from(refused: call_refusals::Refusal) -> CommandRefusal {
+    fn from(refused: comp_access::Refusal) -> CommandRefusal {
         CommandRefusal::Mutator(refused)
     }
 }

@@ -9,11 +9,11 @@ ghost use Rattle.page_cells.specs.Calls.{Grows, WroteNothing};
 ghost use Rattle.comp_access.specs.Fields.{field_address, IsFreshObject};
 ghost use Rattle.comp_access.specs.Finds.{HoldsField, IsEarly, IsFound, IsFreshField};
 ghost use Rattle.comp_access.specs.Reads.{FieldRefused, KnowsBuilt, MayBuildTouched, Reads};
-ghost use Rattle.call_refusals.specs.declared.refusal.Refusal.TheVariants.{Busy};
+ghost use Rattle.comp_access.specs.declared.refusal.Refusal.TheVariants.{Busy};
 
 use crate::addresses::{offset_at, page_at};
+use crate::refusal::Refusal;
 use crate::taking::{load, take};
-use call_refusals::Refusal;
 use cell_steps::Pass;
 use heap_layout::{Header, Kind};
 use page_cells::{Cells, Taken};

@@ -2,8 +2,8 @@
 ghost use Rattle.std.specs.Prelude.{IfOk};
 ghost use Rattle.comp_audit.specs.Judged.{faults, missing_pages, whole_faults, Judges};
 
-use crate::verdict::Verdict;
 use crate::checks::{CheckEnd, Setting, check};
+use crate::verdict::Verdict;
 use comp_dump::{AuditFault, Dump, DumpedPages, dump_is_stored};
 use heap_layout::OutOfMemory;
 use page_plan::Plan;

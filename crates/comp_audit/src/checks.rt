@@ -32,12 +32,12 @@ use crate::checks::stamps::check_stamps;
 use crate::checks::starts::starts_of;
 use crate::checks::totals::check_total;
 use comp_dump::DumpedPages;
-use std::alloc::Global;
 pub use fault::CheckEnd;
 pub use kinds::is_word_of;
 pub use page_words::right_words;
 pub use record::journal_of;
 pub use setting::Setting;
+use std::alloc::Global;
 pub use totals::right_total;
 
 /// Checks a dump of edition `setting.edition` with these roots, lists of builds, pages and total. If there are faults,

@@ -20,7 +20,7 @@ pub use Rattle.cell_steps.specs.Passes
 pub use Rattle.cell_steps.specs.Setup
 pub use Rattle.cell_steps.specs.Starts
 pub use Rattle.cell_steps.specs.declared.pass.Pass
-pub use Rattle.call_refusals.specs.declared.refusal.Refusal
+pub use Rattle.comp_access.specs.declared.refusal.Refusal
 pub use Rattle.cell_steps.specs.View
 pub use Rattle.cell_steps.specs.Journal
 pub use Rattle.comp_access.specs.declared.pages.PageCopy

@@ -9,12 +9,11 @@ ghost use Rattle.comp_access.specs.Allocations.{asked_size, AllocatesAsked, Aske
 ghost use Rattle.comp_access.specs.Copies.{builds_after, CopyRefused, IsCopy, PageRefused};
 ghost use Rattle.comp_access.specs.Reads.{KnowsBuilt, MayBuild};
 ghost use Rattle.comp_access.specs.declared.pages.Touched.TheVariants.{AlreadyBuilt};
-ghost use Rattle.call_refusals.specs.declared.refusal.Refusal.TheVariants.{Busy};
+ghost use Rattle.comp_access.specs.declared.refusal.Refusal.TheVariants.{Busy};
 ghost use Rattle.comp_crew.specs.Members.{crew_of, made_of, pass_of, setup_of, IsMember};
 
 use crate::member::Member;
-use call_refusals::Refusal;
-use comp_access::{PageCopy, Touched};
+use comp_access::{PageCopy, Refusal, Touched};
 use comp_hand::asked_header;
 use std::alloc::Global;
 

@@ -8,11 +8,11 @@ ghost use Rattle.cell_steps.specs.Starts.{IsForwardingAddress};
 ghost use Rattle.page_cells.specs.Calls.{Grows};
 ghost use Rattle.comp_access.specs.Reads.{FieldRefused, KnowsBuilt, MayBuildTouched, Reads};
 ghost use Rattle.comp_access.specs.Writes.{DataRefused, ReferenceRefused, Writes};
-ghost use Rattle.call_refusals.specs.declared.refusal.Refusal.TheVariants.{Busy};
+ghost use Rattle.comp_access.specs.declared.refusal.Refusal.TheVariants.{Busy};
 ghost use Rattle.comp_crew.specs.Members.{crew_of, made_of, pass_of, setup_of, IsMember};
 
 use crate::member::Member;
-use call_refusals::Refusal;
+use comp_access::Refusal;
 use heap_layout::Kind;
 use std::alloc::Global;
 

@@ -12,8 +12,7 @@ mod flipping;
 mod meeting;
 mod member;
 
-pub use call_refusals::Refusal;
-pub use comp_access::{PageCopy, Touched};
+pub use comp_access::{PageCopy, Refusal, Touched};
 pub use comp_cycles::Finished;
 pub use crew::Crew;
 pub use fault::{CrewFault, FinishFault};

@@ -14,7 +14,7 @@ use Rattle.page_cells.specs.Objects.{offset_at, page_at}
 use Rattle.comp_history.specs.Shares.{allocated, words_by}
 use Rattle.comp_access.specs.Allocations.{own_page, used, Allocates, Counts}
 use Rattle.comp_access.specs.Writes.{entry_by, Writes}
-use Rattle.call_refusals.specs.declared.refusal.Refusal.{Refusal}
+use Rattle.comp_access.specs.declared.refusal.Refusal.{Refusal}
 use Rattle.comp_access.proofs.OwnPages.{filled_append, on_append, read_back}
 use Rattle.heap_layout.specs.declared.edition.Edition.{Edition}
 

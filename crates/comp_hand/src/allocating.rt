@@ -5,12 +5,11 @@ ghost use Rattle.cell_steps.specs.Passes.{did};
 ghost use Rattle.page_cells.specs.CellViews.{setup_of};
 ghost use Rattle.page_cells.specs.Calls.{Grows};
 ghost use Rattle.comp_access.specs.Allocations.{AllocationRefused, Allocates};
-ghost use Rattle.call_refusals.specs.declared.refusal.Refusal.TheVariants.{Busy, NotInEdition};
+ghost use Rattle.comp_access.specs.declared.refusal.Refusal.TheVariants.{Busy, NotInEdition};
 ghost use Rattle.comp_hand.specs.Hands.{made_of, pass_of, IsHandOf};
 
 use crate::hand::Hand;
-use call_refusals::Refusal;
-use comp_access::count_made;
+use comp_access::{Refusal, count_made};
 use heap_layout::Header;
 use page_cells::Cells;
 use page_plan::Builder;

@@ -7,12 +7,11 @@ ghost use Rattle.page_cells.specs.Calls.{Grows, WroteNothing};
 ghost use Rattle.comp_access.specs.Copies.{builds_after, CopyRefused, IsCopy, PageRefused};
 ghost use Rattle.comp_access.specs.Reads.{KnowsBuilt, MayBuild};
 ghost use Rattle.comp_access.specs.declared.pages.Touched.TheVariants.{AlreadyBuilt};
-ghost use Rattle.call_refusals.specs.declared.refusal.Refusal.TheVariants.{Busy};
+ghost use Rattle.comp_access.specs.declared.refusal.Refusal.TheVariants.{Busy};
 ghost use Rattle.comp_hand.specs.Hands.{made_of, pass_of, IsHandOf};
 
 use crate::hand::Hand;
-use call_refusals::Refusal;
-use comp_access::{PageCopy, Touched};
+use comp_access::{PageCopy, Refusal, Touched};
 use page_cells::Cells;
 use page_plan::Builder;
 use std::alloc::Global;

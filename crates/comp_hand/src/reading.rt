@@ -7,11 +7,11 @@ ghost use Rattle.cell_steps.specs.Passes.{did, seen, HasSeenBuilt, MayRefer};
 ghost use Rattle.page_cells.specs.CellViews.{setup_of};
 ghost use Rattle.page_cells.specs.Calls.{Grows};
 ghost use Rattle.comp_access.specs.Reads.{FieldRefused, KnowsBuilt, MayBuildTouched, Reads};
-ghost use Rattle.call_refusals.specs.declared.refusal.Refusal.TheVariants.{Busy};
+ghost use Rattle.comp_access.specs.declared.refusal.Refusal.TheVariants.{Busy};
 ghost use Rattle.comp_hand.specs.Hands.{made_of, pass_of, IsHandOf};
 
 use crate::hand::Hand;
-use call_refusals::Refusal;
+use comp_access::Refusal;
 use heap_layout::Kind;
 use page_cells::Cells;
 use page_plan::Builder;

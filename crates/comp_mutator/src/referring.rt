@@ -8,12 +8,12 @@ ghost use Rattle.page_cells.specs.Calls.{Grows};
 ghost use Rattle.comp_mutator.specs.Mutators.{pass_of, setup_of, unposted_of, IsMutatorOf};
 ghost use Rattle.comp_access.specs.Reads.{FieldRefused, KnowsBuilt, MayBuildTouched, Reads};
 ghost use Rattle.comp_access.specs.Writes.{ReferenceRefused, Writes};
-ghost use Rattle.call_refusals.specs.declared.refusal.Refusal.TheVariants.{Busy};
+ghost use Rattle.comp_access.specs.declared.refusal.Refusal.TheVariants.{Busy};
 
 use crate::mutator::Mutator;
 use crate::retried;
 use crate::space::Space;
-use call_refusals::Refusal;
+use comp_access::Refusal;
 use heap_layout::Kind;
 use page_plan::Builder;
 use std::alloc::Global;

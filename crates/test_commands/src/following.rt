@@ -1,9 +1,9 @@
 //! Cycles on files in memory: the image of the next heap and the printed lines, also with writers that fail.
 use crate::places::{Memory, Place};
-use call_refusals::Refusal;
 use command_io::{CommandRefusal, Input, Output};
 use command_line::{NextMarks, NextRun};
 use commands::print_next;
+use comp_access::Refusal;
 use comp_trace::TraceFault;
 use heap_layout::{Counted, LayoutFault};
 use std::process::Abort;

@@ -1,7 +1,7 @@
 //! If an allocation is refused, as a switch of the test run asks, cycles report that they are out of memory and show
 //! what they showed before.
 use crate::expected::{expect_eq, expect_so};
-use call_refusals::Refusal;
+use comp_access::Refusal;
 use comp_trace::{CycleFault, CyclesStopped, Shown, TraceFault, parse, replay_cycles};
 use heap_layout::{Edition, LayoutFault, MarkedHeap};
 use std::alloc::Global;

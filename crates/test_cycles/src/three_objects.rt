@@ -3,7 +3,7 @@ ghost use Rattle.comp_cycles.specs.Ends.{IsEndOf};
 
 use crate::expected::{expect_eq, expect_so};
 use crate::next_heaps::{first_page, follow, followed, ran, three};
-use call_refusals::Refusal;
+use comp_access::Refusal;
 use comp_trace::{CycleFault, Ran, TraceFault, parse, replay_cycles};
 use heap_layout::LayoutFault;
 use page_plan::Plan;

@@ -9,9 +9,9 @@ ghost use Rattle.heap_layout.specs.Heap.{live};
 ghost use Rattle.heap_layout.specs.declared.kind.Kind.TheVariants as sorts;
 ghost use Rattle.comp_audit.specs.Causes.{fits_after, leads_back, setup_of, HasNoCause, IsCauseOf, IsLate, IsMisfit};
 
+use crate::checks::is_word_of;
 use crate::explaining::made::{header_stamp, kind_made, words_made};
 use crate::explanation::EntryCause;
-use crate::checks::is_word_of;
 use comp_dump::{Dump, dump_is_stored};
 use comp_journal::Entry;
 use heap_layout::Kind;

@@ -5,10 +5,10 @@ ghost use Rattle.comp_dump.specs.declared.fault.AuditFault.TheVariants as fault;
 ghost use Rattle.comp_audit.specs.Meant.{journals_of};
 ghost use Rattle.comp_audit.specs.Explained.{maker_of, setup_of, stamp_before, Explains, IsCauseAt, IsLastAt, IsLooseEntry};
 
+use crate::checks::journal_of;
 use crate::explaining::causes::cause_of;
 use crate::explaining::made::words_made;
 use crate::explanation::{BadEntryAt, EntryCause, Explanation, LooseEntry};
-use crate::checks::journal_of;
 use comp_dump::{Dump, dump_is_stored};
 use comp_journal::Entry;
 use heap_layout::Edition;

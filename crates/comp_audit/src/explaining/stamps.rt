@@ -7,9 +7,9 @@ ghost use Rattle.comp_dump.specs.declared.fault.AuditFault.TheVariants as fault;
 ghost use Rattle.comp_audit.specs.Checks.{all_stamps};
 ghost use Rattle.comp_audit.specs.Explained.{Explains, IsFirstUse, IsLastUse};
 
+use crate::checks::journal_of;
 use crate::explaining::sums::count;
 use crate::explanation::{Explanation, StampLost, StampUses};
-use crate::checks::journal_of;
 use comp_dump::{Dump, dump_is_stored};
 use comp_journal::Entry;
 

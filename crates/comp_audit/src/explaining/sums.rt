@@ -3,8 +3,8 @@ ghost use Rattle.std.specs.Prelude.{◌≡◌};
 ghost use Rattle.comp_dump.specs.declared.fault.AuditFault.TheVariants as fault;
 ghost use Rattle.comp_audit.specs.Explained.{AreCountsOf, Explains};
 
-use crate::explanation::{DumpCounts, Explanation, Totals};
 use crate::checks::{journal_of, right_total};
+use crate::explanation::{DumpCounts, Explanation, Totals};
 use comp_dump::{Dump, dump_is_stored};
 use page_plan::Plan;
 

@@ -5,10 +5,10 @@ ghost use Rattle.comp_dump.specs.declared.fault.AuditFault.TheVariants as fault;
 ghost use Rattle.comp_audit.specs.Meant.{journals_of};
 ghost use Rattle.comp_audit.specs.Explained.{setup_of, word_in, Explains};
 
+use crate::checks::{Setting, journal_of, right_words};
 use crate::explaining::entries::loose_entry;
 use crate::explaining::objects::{out_of_place, owner};
 use crate::explanation::{Explanation, LooseWordAt, WrongWordAt};
-use crate::checks::{Setting, journal_of, right_words};
 use comp_dump::{Dump, dump_is_stored};
 use heap_layout::OutOfMemory;
 use page_plan::{Plan, TO_SPACE};

@@ -1,7 +1,7 @@
 ghost use Rattle.std.specs.Prelude.{◌≡◌};
 ghost use Rattle.comp_trace.specs.declared.text.fault.TraceFault.TheVariants as faults;
 
-use call_refusals::Refusal;
+use comp_access::Refusal;
 use std::alloc::{AllocError, AllocFailed};
 use thiserror::Error;
 

@@ -1,7 +1,7 @@
 //! What a fight leaves on the page.
-use crate::expected::{expect_eq, expect_so};
 use crate::contention::fights::Fight;
 use crate::contention::writing::value_at;
+use crate::expected::{expect_eq, expect_so};
 use comp_journal::Entry;
 use comp_mutator::{ClosedPage, Finished};
 use heap_layout::Kind;

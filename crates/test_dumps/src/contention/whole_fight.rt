@@ -3,10 +3,10 @@ ghost use Rattle.std.specs.Prelude.{◌≡◌};
 ghost use Rattle.comp_mutator.specs.Finishes.{IsOfFlip};
 ghost use Rattle.comp_mutator.specs.Mutators.{setup_of, AreMutatorsOf};
 
-use crate::expected::expect_eq;
 use crate::contention::fights::Fight;
 use crate::contention::journals::expect_page;
 use crate::contention::writing::{count_entries, expect_full, write_at_once};
+use crate::expected::expect_eq;
 use comp_audit::{Dump, Verdict, audit};
 use comp_mutator::{Finished, Mutator, Space, flip};
 use page_plan::Plan;

@@ -1,8 +1,8 @@
 //! Writes of many threads at once into the first data word of a heap.
 ghost use Rattle.comp_mutator.specs.Mutators.{AreMutatorsOf, IsMutatorOf};
 
-use crate::expected::{expect_eq, expect_so};
 use crate::contention::fights::Fight;
+use crate::expected::{expect_eq, expect_so};
 use comp_mutator::{Builder, Mutator, Refusal, Space};
 use std::alloc::Global;
 use std::process::Abort;
