@@ -113,7 +113,7 @@ pub fn read_task<'a>(alloc: Global, words: &'a [String]) -> Result<Task<'a>, Err
     ensures no_help { IfErr result (λ error. kind_of error ≢ DisplayHelp) }
     ensures no_version { IfErr result (λ error. kind_of error ≢ DisplayVersion) }
 {
-    // clap has no path that depends on a switch (docs/DECISIONS.md, 42)
+    // `next` with the switch has other paths, and clap has no path that depends on a switch
     let reaches = says_reachable(words);
     match command(alloc, reaches)?.try_get_matches_from(words) {
         Ok(matches) => Ok(task_of(words, &matches, reaches)),
