@@ -4,7 +4,7 @@
     ./run.py                                          # JDK 17, a full collection of SerialGC
     ./run.py --collection g1-young --shape mixed      # a young collection of G1 by four workers
     ./run.py --broken                                 # and the results, broken in eleven ways
-    ./run.py --all > results.md                       # the table of README.md
+    ./run.py --all > results.md                       # all rows, those of README.md too
 
 The status is 0 only if all was judged as it should be."""
 
