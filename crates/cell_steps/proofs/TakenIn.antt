@@ -1,13 +1,12 @@
 -- What a pass knows after it heard what another one knew, and took it in.
 use Rattle.std.proofs.Common.{◌≡◌, ℕ, ◌%◌, ◌≤◌, Bool, true, false, cond, List, [], ◌∷◌, sym, refl, ap, ◌∙◌, arith, subst, eqb, ltb, ne_eqb, true≢false, ◌≢◌}
-use mathlib.Core.Option as maybe
 use Rattle.cell_steps.specs.Setup.{Setup, pages}
 use Rattle.cell_steps.specs.Lists.{look, times, only, by, on, longer, StartsWith}
 use Rattle.cell_steps.specs.View.{Known}
 use Rattle.cell_steps.specs.Locks.{seen_of}
 use Rattle.cell_steps.specs.Starts.{NamesFresh}
 use Rattle.cell_steps.specs.Knowing.{Grows, TakesIn, TakesTurns}
-use Rattle.cell_steps.specs.Plays.{is_others, noticing, Counted, after_load, after_first, hearing, taking_in, heard_of, Agrees}
+use Rattle.cell_steps.specs.Plays.{is_others, noticing, Counted, after_load, after_first, taking_in, heard_of, Agrees}
 use Rattle.cell_steps.specs.declared.view.View.{View}
 use Rattle.cell_steps.proofs.Sums.{total-append}
 use Rattle.cell_steps.proofs.Noticed.{counted}
