@@ -1,17 +1,22 @@
 //! What a pass that is alone finds in the cell of a page.
 ghost use Rattle.std.specs.Prelude.{◌≡◌, ◌≤◌, IfSome};
-ghost use Rattle.cell_steps.specs.Passes.{building_word};
+ghost use Rattle.cell_steps.specs.declared.state.CellState.TheVariants.{Empty, BuiltBy};
 
-use cell_steps::Steps;
+use cell_steps::{CellState, Steps};
 use page_plan::Plan;
 use std::alloc::Global;
 
 /// Makes cells for one pass, which begins to build a page, loads the state word of the page, and gives the build up. If
-/// there is memory and a page `p`, it found the cell empty, and then the word that says that it builds the page.
-pub fn claim_and_load(alloc: Global, plan: &Plan, fresh: u32, p: u64) -> Option<(u64, u64)>
+/// there is memory and a page `p`, it found the cell empty, and then that it builds the page.
+pub fn claim_and_load(
+    alloc: Global,
+    plan: &Plan,
+    fresh: u32,
+    p: u64,
+) -> Option<(CellState, CellState)>
     requires fresh { fresh ≤ 4096 }
-    ensures empty { IfSome result (λ found. found.0 ≡ 0) }
-    ensures builds { IfSome result (λ found. found.1 ≡ building_word 0) }
+    ensures empty { IfSome result (λ found. found.0 ≡ Empty) }
+    ensures builds { IfSome result (λ found. found.1 ≡ BuiltBy 0) }
 {
     let Ok((steps, mut pass)) = Steps::new(alloc, plan, fresh, 1) else {
         return None;
