@@ -1,6 +1,6 @@
 -- If all mutators are in hand and meet before a line and after it, no page is busy in its call: all of them rest
 -- meanwhile.
-use Rattle.std.proofs.Common.{◌≡◌, ◌≢◌, ℕ, ◌+◌, ◌%◌, ◌<◌, ◌≤◌, List, None, Some, get_or, inl, inr, sym, ap, subst, ◌∙◌, arith}
+use Rattle.std.proofs.Common.{◌≡◌, ◌≢◌, ℕ, ◌%◌, ◌<◌, ◌≤◌, List, None, Some, get_or, inl, inr, sym, ap, subst, ◌∙◌, arith}
 use Rattle.std.specs.Prelude.{Option}
 use Rattle.std.proofs.lemmas.Bool.{cases_lt}
 use native.Mathlib.Decide.{ℕ_discrete}
@@ -14,9 +14,7 @@ use Rattle.comp_mutator.specs.Pass.{Pass}
 use Rattle.comp_mutator.specs.Steps.{Steps}
 use Rattle.comp_mutator.specs.Calls.{Grows}
 use Rattle.comp_mutator.specs.Allocations.{AskedRefused}
-use Rattle.comp_mutator.specs.Reads.{FieldRefused}
 use Rattle.comp_mutator.specs.Writes.{DataRefused, ReferenceRefused}
-use Rattle.comp_mutator.specs.Refusal.{Refusal}
 use Rattle.comp_mutator.specs.Refusal.TheVariants.{Busy}
 use Rattle.comp_trace.specs.Acting.{Refuses}
 use Rattle.comp_trace.specs.Builds.{kind_if}

@@ -1,4 +1,4 @@
-use Rattle.std.proofs.Common.{ℕ, ◌<◌, subst, arith}
+use Rattle.std.proofs.Common.{arith}
 use Rattle.comp_access.proofs.LowPages.{low_noted}
 use Rattle.comp_access.proofs.allocating.find_room.Goals as goal
 

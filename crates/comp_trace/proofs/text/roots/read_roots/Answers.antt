@@ -1,4 +1,4 @@
-use Rattle.std.proofs.Common.{◌≡◌, All, List, ℕ, ◌+◌, ◌∷◌, ◌++◌, [], ◌∙◌, ap, arith, rules, subst, sym}
+use Rattle.std.proofs.Common.{All, List, ◌+◌, ◌∙◌, ap, arith, rules, subst, sym}
 use Rattle.std.proofs.lemmas.List.Elements.{All-push}
 use Rattle.comp_trace.specs.Grammar.{parts}
 use Rattle.comp_trace.specs.Roots.{new_roots_from, IsRootWithin}
