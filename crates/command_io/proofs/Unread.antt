@@ -1,6 +1,6 @@
 -- Texts that were not read whole.
 use Rattle.std.proofs.Common.{ℕ, [], List, Option, None, Some, refl}
-use Rattle.comp_trace.specs.TraceFault.TheVariants as traces
+use Rattle.comp_trace.specs.declared.text.fault.TraceFault.TheVariants as traces
 use Rattle.command_io.specs.Texts.{RefusesText}
 use Rattle.command_io.specs.declared.refusal.CommandRefusal.TheVariants.{Trace}
 

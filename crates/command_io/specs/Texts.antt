@@ -1,7 +1,7 @@
 -- What is known of the trace at a path, and of any text that is read whole.
 use Rattle.std.specs.Prelude.{◌≡◌, ℕ, ◌+◌, List, Option, IfSome, Result, Ok, Err}
 use Rattle.comp_trace.specs.Grammar.{trace_of, IsReadAs}
-use Rattle.comp_trace.specs.Line.{Line}
+use Rattle.comp_trace.specs.declared.text.line.Line.{Line}
 use Rattle.command_io.specs.Disk.{Disk, SomeFile}
 use Rattle.command_io.specs.declared.refusal.Input.TheVariants as inputs
 use Rattle.command_io.specs.declared.refusal.CommandRefusal.{CommandRefusal}

@@ -12,7 +12,7 @@ use Rattle.comp_audit.specs.Meant.{built_count}
 use Rattle.comp_audit.specs.Judged.{Judges}
 use Rattle.comp_audit.specs.declared.verdict.Verdict.TheVariants.{No}
 use Rattle.comp_dump.specs.declared.fault.AuditFault.{AuditFault}
-use Rattle.comp_trace.specs.TraceFault.TheVariants as traces
+use Rattle.comp_trace.specs.declared.text.fault.TraceFault.TheVariants as traces
 use Rattle.command_line.specs.Runs as runs
 use Rattle.command_io.specs.Disk.{Disk}
 use Rattle.command_io.specs.Images.{IsHeapAt}

@@ -6,10 +6,10 @@ use Rattle.comp_mutator.specs.Finished.{Finished}
 use Rattle.comp_trace.specs.Bytes.{flipped}
 use Rattle.comp_trace.specs.CycleRuns.{IsLastRun, IsLastRunWith, IsRun}
 use Rattle.comp_trace.specs.Replays.{Hold}
-use Rattle.comp_trace.specs.NewRoot.{NewRoot}
+use Rattle.comp_trace.specs.declared.text.roots.NewRoot.{NewRoot}
 use Rattle.comp_trace.specs.RootsNamed.{word_named, words_named}
-use Rattle.comp_trace.specs.Shown.{Shown}
-use Rattle.comp_trace.specs.Line.{Line}
+use Rattle.comp_trace.specs.declared.steps.shown.Shown.{Shown}
+use Rattle.comp_trace.specs.declared.text.line.Line.{Line}
 use Rattle.command_io.specs.declared.refusal.CommandRefusal.{CommandRefusal}
 use Rattle.command_io.specs.declared.refusal.CommandRefusal.TheVariants.{Layout, Mutator, Sweep, Trace, Dump, Audit, Moved, CannotWrite, CannotOpen, CannotCreate, ReadFailed, CannotPrint, NoSuchWord, BadMarks, OutOfMemory, BadRoots}
 use Rattle.commands.specs.Outcomes.{IsHaltedBy}

@@ -19,8 +19,8 @@ use Rattle.comp_mutator.specs.Finished.{Finished}
 use Rattle.comp_dump.specs.Lent.{record_of}
 use Rattle.comp_trace.specs.Bytes.{flipped}
 use Rattle.comp_trace.specs.Heaps.{HasRunOver}
-use Rattle.comp_trace.specs.Shown.{Shown}
-use Rattle.comp_trace.specs.Line.{Line}
+use Rattle.comp_trace.specs.declared.steps.shown.Shown.{Shown}
+use Rattle.comp_trace.specs.declared.text.line.Line.{Line}
 use Rattle.commands.specs.Replays.{dumped_of, page_in, times_built, IsDumpAfter, IsPageAfter, IsReplayedHeap}
 use Rattle.command_io.proofs.Lines.{each-given}
 

@@ -5,9 +5,9 @@ use Rattle.heap_layout.specs.Faults.{IsAccepted}
 use Rattle.heap_layout.specs.Heap.{live, Heap, IsStored}
 use Rattle.page_plan.specs.Sliding.{live_words}
 use Rattle.comp_trace.specs.Marks.{marks_of}
-use Rattle.comp_trace.specs.NewRoot.{NewRoot}
+use Rattle.comp_trace.specs.declared.text.roots.NewRoot.{NewRoot}
 use Rattle.comp_trace.specs.Roots.{new_roots_of}
-use Rattle.comp_trace.specs.Shown.{Shown}
+use Rattle.comp_trace.specs.declared.steps.shown.Shown.{Shown}
 use Rattle.command_line.specs.Nexts.{marks_path, roots_path}
 use Rattle.command_line.specs.declared.next.NextRun.{NextRun}
 use Rattle.command_io.specs.Disk.{Disk, WritesWhole}

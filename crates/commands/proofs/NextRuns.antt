@@ -3,7 +3,7 @@ use Rattle.std.proofs.Common.{◌≡◌, ℕ, List, Option, Result, Ok, Err, IfE
 use Rattle.std.proofs.KnownBytes.{Appends-kept}
 use Rattle.std.specs.Io.KnownBytes.{Keeps}
 use Rattle.heap_layout.specs.Heap.{Heap}
-use Rattle.comp_trace.specs.Line.{Line}
+use Rattle.comp_trace.specs.declared.text.line.Line.{Line}
 use Rattle.command_line.specs.declared.next.NextRun.{NextRun}
 use Rattle.command_io.specs.Disk.{Disk, WritesWhole}
 use Rattle.command_io.specs.Images.{SomeHeapOf}

@@ -13,8 +13,8 @@ use Rattle.comp_mutator.specs.Merged.{stamp_of}
 use Rattle.comp_trace.specs.Bytes.{flipped, no_entries}
 use Rattle.comp_trace.specs.Grammar.{parts}
 use Rattle.comp_trace.specs.Runs.{beginning, unstamped_on, AreAlike, MayBegin, Moment, Runs}
-use Rattle.comp_trace.specs.Line.{Line}
-use Rattle.comp_trace.specs.Shown.{Shown}
+use Rattle.comp_trace.specs.declared.text.line.Line.{Line}
+use Rattle.comp_trace.specs.declared.steps.shown.Shown.{Shown}
 use Rattle.comp_trace.proofs.Determined.{determined}
 use Rattle.comp_trace.proofs.Inside.{ok_is, read_inside}
 use Rattle.comp_dump.specs.Dumped.{BuiltPage, Dumped}

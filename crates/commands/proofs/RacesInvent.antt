@@ -9,9 +9,9 @@ use Rattle.comp_mutator.specs.Passes.{did}
 use Rattle.comp_mutator.specs.Setup.{Setup}
 use Rattle.comp_mutator.proofs.Sums.{is_inside, there_at}
 use Rattle.comp_trace.specs.Inventions.{InventNothing, IsOfLines}
-use Rattle.comp_trace.specs.Line.{Line}
+use Rattle.comp_trace.specs.declared.text.line.Line.{Line}
 use Rattle.comp_trace.specs.Races.{numbered, own_lines, RanAndMet}
-use Rattle.comp_trace.specs.Run.{Run}
+use Rattle.comp_trace.specs.declared.races.racing.Run.{Run}
 use Rattle.comp_trace.proofs.Inventions.{in_by, in_on, met_full, met_read, met_wrote}
 use Rattle.commands.specs.Races.{RanTheirLines}
 

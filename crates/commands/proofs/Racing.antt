@@ -18,10 +18,10 @@ use Rattle.comp_mutator.specs.declared.mutator.Mutator.{Mutator}
 use Rattle.comp_mutator.specs.declared.space.Space.{Space}
 use Rattle.comp_trace.specs.Grammar.{parts}
 use Rattle.comp_trace.specs.Races.{numbered, own_lines, HaveRaced, RanAndMet}
-use Rattle.comp_trace.specs.RefusedLine.{RefusedLine}
-use Rattle.comp_trace.specs.Line.{Line}
-use Rattle.comp_trace.specs.Run.{Run}
-use Rattle.comp_trace.specs.Shown.{Shown}
+use Rattle.comp_trace.specs.declared.text.fault.RefusedLine.{RefusedLine}
+use Rattle.comp_trace.specs.declared.text.line.Line.{Line}
+use Rattle.comp_trace.specs.declared.races.racing.Run.{Run}
+use Rattle.comp_trace.specs.declared.steps.shown.Shown.{Shown}
 use Rattle.comp_trace.proofs.Inside.{read_inside}
 use Rattle.commands.specs.ByLine.{AreByLine, AreOwn, HasEnded, IsLeastRefusedLine}
 use Rattle.commands.specs.Races.{RanTheirLines, IsRacedHeap, IsStoppedRace}

@@ -9,11 +9,11 @@ use Rattle.comp_mutator.specs.Shares.{allocated}
 use Rattle.comp_mutator.specs.Finishes.{edition_in, builds_in, live_of, pages_of, roots_of}
 use Rattle.comp_mutator.specs.Finished.{Finished}
 use Rattle.comp_trace.specs.Bytes.{flipped, CutsShort}
-use Rattle.comp_trace.specs.TraceFault.{TraceFault}
-use Rattle.comp_trace.specs.TraceFault.TheVariants.{BadLine, NoSuchMutator, NoSuchRegister, NumberTooLarge, NoSuchRoot, Refused}
-use Rattle.comp_trace.specs.TraceFault.TheVariants as traces
-use Rattle.comp_trace.specs.Line.{Line}
-use Rattle.comp_trace.specs.Shown.{Shown}
+use Rattle.comp_trace.specs.declared.text.fault.TraceFault.{TraceFault}
+use Rattle.comp_trace.specs.declared.text.fault.TraceFault.TheVariants.{BadLine, NoSuchMutator, NoSuchRegister, NumberTooLarge, NoSuchRoot, Refused}
+use Rattle.comp_trace.specs.declared.text.fault.TraceFault.TheVariants as traces
+use Rattle.comp_trace.specs.declared.text.line.Line.{Line}
+use Rattle.comp_trace.specs.declared.steps.shown.Shown.{Shown}
 use Rattle.comp_dump.specs.Dumped.{Dumped}
 use Rattle.comp_dump.specs.DumpEncoding.{dump_bytes}
 use Rattle.comp_dump.specs.Lent.{record_of}

@@ -20,12 +20,12 @@ use Rattle.comp_mutator.specs.Setup.{base_of, pages, Setup}
 use Rattle.comp_mutator.proofs.Merging.{pages_all, stamps_all}
 use Rattle.comp_trace.specs.Bytes.{flipped, no_entries}
 use Rattle.comp_trace.specs.Grammar.{parts}
-use Rattle.comp_trace.specs.Line.{Line}
+use Rattle.comp_trace.specs.declared.text.line.Line.{Line}
 use Rattle.comp_trace.specs.Markings.{IsMarkedBy}
-use Rattle.comp_trace.specs.NewRoot.{NewRoot}
+use Rattle.comp_trace.specs.declared.text.roots.NewRoot.{NewRoot}
 use Rattle.comp_trace.specs.RootsNamed.{words_named}
 use Rattle.comp_trace.specs.Runs.{MayBegin}
-use Rattle.comp_trace.specs.Shown.{Shown}
+use Rattle.comp_trace.specs.declared.steps.shown.Shown.{Shown}
 use Rattle.comp_trace.proofs.Determined.{determined}
 use Rattle.comp_trace.proofs.Inside.{ok_is, read_inside}
 use Rattle.command_io.specs.Texts.{HasLines}

@@ -13,12 +13,12 @@ use Rattle.comp_mutator.proofs.Sums.{at_last, but-other, but-same, each-append, 
 use Rattle.comp_mutator.proofs.Sorted.{at_in, in_at, in_front, in_behind, in_parts, In}
 use Rattle.comp_trace.specs.Acting.{null_registers, registers_after, shown_at}
 use Rattle.comp_trace.specs.Races.{numbered, own_lines, Ran, Went}
-use Rattle.comp_trace.specs.RefusedLine.{RefusedLine}
-use Rattle.comp_trace.specs.Action.{Action}
-use Rattle.comp_trace.specs.Action.TheVariants.{Root, Load, Get, Store, Put, New, Nil}
-use Rattle.comp_trace.specs.Line.{Line}
-use Rattle.comp_trace.specs.Run.{Run}
-use Rattle.comp_trace.specs.Shown.{Shown}
+use Rattle.comp_trace.specs.declared.text.fault.RefusedLine.{RefusedLine}
+use Rattle.comp_trace.specs.declared.text.line.Action.{Action}
+use Rattle.comp_trace.specs.declared.text.line.Action.TheVariants.{Root, Load, Get, Store, Put, New, Nil}
+use Rattle.comp_trace.specs.declared.text.line.Line.{Line}
+use Rattle.comp_trace.specs.declared.races.racing.Run.{Run}
+use Rattle.comp_trace.specs.declared.steps.shown.Shown.{Shown}
 use Rattle.commands.specs.ByLine.{earlier_of, printed_at, AreByLine, AreOf, AreOwn, HasEnded, IsFirstRefusedLine, IsLeastRefusedLine, LinesRise}
 
 -- ---- the walk

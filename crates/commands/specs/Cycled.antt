@@ -13,12 +13,12 @@ use Rattle.comp_mutator.specs.Finished.{Finished}
 use Rattle.comp_trace.specs.Bytes.{flipped, CutsShort}
 use Rattle.comp_trace.specs.CycleRuns.{IsLastRun, IsPart}
 use Rattle.comp_trace.specs.Markings.{marks_given, IsMarkedCycle, IsUnmarkable, KeepsReached}
-use Rattle.comp_trace.specs.NewRoot.{NewRoot}
+use Rattle.comp_trace.specs.declared.text.roots.NewRoot.{NewRoot}
 use Rattle.comp_trace.specs.Roots.{IsRootWithin}
 use Rattle.comp_trace.specs.RootsNamed.{words_named}
 use Rattle.reachable_cycles.specs.NextRoots.{IsRefusedWith}
-use Rattle.comp_trace.specs.Shown.{Shown}
-use Rattle.comp_trace.specs.Line.{Line}
+use Rattle.comp_trace.specs.declared.steps.shown.Shown.{Shown}
+use Rattle.comp_trace.specs.declared.text.line.Line.{Line}
 use Rattle.command_io.specs.declared.refusal.CommandRefusal.{CommandRefusal}
 use Rattle.command_io.specs.declared.refusal.CommandRefusal.TheVariants.{Layout, Mutator, OutOfMemory, Trace}
 use Rattle.commands.specs.declared.cycling.Handed.{Handed}

@@ -3,9 +3,9 @@ use Rattle.std.specs.Prelude.{◌≡◌, ◌⊎◌, ℕ, List, length, Option, S
 use Rattle.heap_layout.specs.Encoding.{encoding}
 use Rattle.heap_layout.specs.Heap.{live, Heap}
 use Rattle.page_plan.specs.Sliding.{live_words}
-use Rattle.comp_trace.specs.Shown.{Shown}
-use Rattle.comp_trace.specs.Line.{Line}
-use Rattle.comp_trace.specs.NewRoot.{NewRoot}
+use Rattle.comp_trace.specs.declared.steps.shown.Shown.{Shown}
+use Rattle.comp_trace.specs.declared.text.line.Line.{Line}
+use Rattle.comp_trace.specs.declared.text.roots.NewRoot.{NewRoot}
 use Rattle.command_line.specs.Nexts.{marks_path, roots_path}
 use Rattle.command_line.specs.declared.next.NextMarks.{NextMarks}
 use Rattle.command_line.specs.declared.next.NextMarks.TheVariants as asking

@@ -16,11 +16,11 @@ use Rattle.comp_trace.specs.Bytes.{flipped}
 use Rattle.comp_trace.specs.AllMet.{HaveAllMet}
 use Rattle.comp_trace.specs.Inventions.{InventNothing}
 use Rattle.comp_trace.specs.Races.{numbered, own_lines, RanAndMet}
-use Rattle.comp_trace.specs.TraceFault.{TraceFault}
-use Rattle.comp_trace.specs.TraceFault.TheVariants as faults
-use Rattle.comp_trace.specs.Line.{Line}
-use Rattle.comp_trace.specs.Run.{Run}
-use Rattle.comp_trace.specs.Shown.{Shown}
+use Rattle.comp_trace.specs.declared.text.fault.TraceFault.{TraceFault}
+use Rattle.comp_trace.specs.declared.text.fault.TraceFault.TheVariants as faults
+use Rattle.comp_trace.specs.declared.text.line.Line.{Line}
+use Rattle.comp_trace.specs.declared.races.racing.Run.{Run}
+use Rattle.comp_trace.specs.declared.steps.shown.Shown.{Shown}
 use Rattle.comp_dump.specs.DumpEncoding.{dump_bytes}
 use Rattle.commands.specs.ByLine.{AreByLine, HasEnded, IsLeastRefusedLine}
 use Rattle.command_line.specs.declared.words.TraceRun.{TraceRun}

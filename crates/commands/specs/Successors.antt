@@ -5,10 +5,10 @@ use Rattle.heap_layout.specs.Faults.{IsAccepted}
 use Rattle.heap_layout.specs.Heap.{Heap, IsStored}
 use Rattle.comp_mutator.specs.Cycles.{Cycle, Follow, IsOneLife}
 use Rattle.comp_trace.specs.Marks.{marks_of}
-use Rattle.comp_trace.specs.NewRoot.{NewRoot}
+use Rattle.comp_trace.specs.declared.text.roots.NewRoot.{NewRoot}
 use Rattle.comp_trace.specs.Roots.{new_roots_of}
-use Rattle.comp_trace.specs.Line.{Line}
-use Rattle.comp_trace.specs.Shown.{Shown}
+use Rattle.comp_trace.specs.declared.text.line.Line.{Line}
+use Rattle.comp_trace.specs.declared.steps.shown.Shown.{Shown}
 use Rattle.command_io.specs.Texts.{HasLines}
 use Rattle.commands.specs.Cycled.{Given, IsCycledHeap}
 

@@ -1,7 +1,7 @@
 -- What a run over files in memory left there.
 use Rattle.std.proofs.Common.{◌≡◌, ◌≢◌, ℕ, List, Option, Result, Ok, Err, IfErr, OnOk, inl, inr, refl, subst}
 use Rattle.heap_layout.specs.Heap.{Heap}
-use Rattle.comp_trace.specs.Line.{Line}
+use Rattle.comp_trace.specs.declared.text.line.Line.{Line}
 use Rattle.command_line.specs.declared.words.TraceRun.{TraceRun}
 use Rattle.command_io.specs.Disk.{IsUnkept}
 use Rattle.command_io.specs.Dumps.{RefusedUncreated}

@@ -8,7 +8,7 @@ use Rattle.command_io.specs.declared.refusal.Output.TheVariants as outputs
 use Rattle.command_io.specs.declared.refusal.CommandRefusal.{CommandRefusal}
 use Rattle.command_line.specs.Nexts.{marks_path, roots_path}
 use Rattle.commands.specs.Nexts.{AreMarksGiven, AreRootsGiven, MakesNext}
-use Rattle.comp_trace.specs.NewRoot.{NewRoot}
+use Rattle.comp_trace.specs.declared.text.roots.NewRoot.{NewRoot}
 use Rattle.commands.specs.Successors.{TwoAreOneLife}
 use Rattle.commands.proofs.NextBytes.{known_next, AreKnownAt, AreRootsKnownAt}
 use Rattle.proved_clients.specs.Lives.{AreListedAt, KeepsNext, LivesOn}

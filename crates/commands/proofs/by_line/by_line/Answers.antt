@@ -1,9 +1,9 @@
 use Rattle.std.proofs.Common.{◌≡◌, ◌+◌, ◌<◌, ◌≤◌, ℕ, List, [], ◌∷◌, ◌++◌, length, length-append, length-set, replicate, drop, get_or, Option, Some, None, Vec, Global, vec_capacity, refl, sym, ap, subst, ◌∙◌, arith, append-nil}
 use Rattle.std.proofs.lemmas.List.{drop_all, length-replicate}
 use Rattle.std.proofs.lemmas.List.Elements.{All-get_or}
-use Rattle.comp_trace.specs.Line.{Line}
-use Rattle.comp_trace.specs.Action.TheVariants.{Root}
-use Rattle.comp_trace.specs.Shown.{Shown}
+use Rattle.comp_trace.specs.declared.text.line.Line.{Line}
+use Rattle.comp_trace.specs.declared.text.line.Action.TheVariants.{Root}
+use Rattle.comp_trace.specs.declared.steps.shown.Shown.{Shown}
 use Rattle.commands.specs.ByLine.{AreByLine}
 use Rattle.commands.proofs.Walking.{left_all, left_of, listed, none_there, shown_by, printed_after, printed_by_line, walk_on, walked}
 use Rattle.commands.proofs.by_line.by_line.Goals as goal

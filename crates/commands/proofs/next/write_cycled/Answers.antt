@@ -9,7 +9,7 @@ use Rattle.command_io.specs.Disk.{WritesWhole}
 use Rattle.command_io.specs.NewImages.{IsOfWritingImage}
 use Rattle.command_io.specs.declared.refusal.Output.TheVariants as outputs
 use Rattle.command_io.proofs.Outcomes.{uncounted_image, unmade_by, unmade_line}
-use Rattle.comp_trace.specs.Shown.{Shown}
+use Rattle.comp_trace.specs.declared.steps.shown.Shown.{Shown}
 use Rattle.commands.specs.Replays.{PrintsRun}
 use Rattle.commands.proofs.ReplayRuns.{unprinted_halt, unprinted_line}
 use Rattle.commands.proofs.NextRuns.{unprinted_next, writing_image}

@@ -2,9 +2,9 @@ use Rattle.std.proofs.Common.{◌<◌, List, All, length, refl, sym, subst, ap, 
 use Rattle.comp_mutator.specs.Mutators.{setup_of}
 use Rattle.comp_mutator.specs.Lists.{Each}
 use Rattle.comp_trace.specs.Traces.{lines_of}
-use Rattle.comp_trace.specs.Line.{Line}
+use Rattle.comp_trace.specs.declared.text.line.Line.{Line}
 use Rattle.comp_trace.proofs.Callers.{all_of}
-use Rattle.comp_trace.specs.Run.{Run}
+use Rattle.comp_trace.specs.declared.races.racing.Run.{Run}
 use Rattle.commands.specs.ByLine.{AreByLine, AreOwn, HasEnded, IsLeastRefusedLine}
 use Rattle.commands.proofs.Racing.{all_inside, each_own, many_runs, raced_heap, stopped_race}
 use Rattle.comp_trace.proofs.Runnings.{all_row, all_there}

@@ -2,7 +2,7 @@ use Rattle.std.proofs.Common.{Err, List, inl, inr, refl, subst}
 use Rattle.std.proofs.lemmas.Result.{err_from_is_err_and}
 use Rattle.std.specs.Io.KnownBytes.{Appends}
 use Rattle.heap_layout.specs.Counted.{failures_of, inner_of}
-use Rattle.comp_trace.specs.Shown.{Shown}
+use Rattle.comp_trace.specs.declared.steps.shown.Shown.{Shown}
 use Rattle.commands.specs.Replays.{shown_lines}
 use Rattle.commands.proofs.ReplayRuns.{halt_counted, halt_unprinted, of_unprinted}
 use Rattle.commands.proofs.replay.print_halted.Goals as goal

@@ -9,7 +9,7 @@ use Rattle.command_io.specs.Disk.{WritesWhole}
 use Rattle.command_io.specs.Dumps.{IsOfDumping}
 use Rattle.command_io.specs.declared.refusal.Output.TheVariants as outputs
 use Rattle.command_io.proofs.Outcomes.{created_line, uncounted_dump, uncreated_by}
-use Rattle.comp_trace.specs.Shown.{Shown}
+use Rattle.comp_trace.specs.declared.steps.shown.Shown.{Shown}
 use Rattle.commands.specs.Replays.{PrintsRun}
 use Rattle.commands.proofs.ReplayRuns.{dumped_same, unprinted_halt, unprinted_line, unprinted_run, writing_of}
 use Rattle.commands.proofs.replay.write_run.Goals as goal
