@@ -6,8 +6,8 @@ use Rattle.heap_layout.specs.Heap.{Heap, live}
 use Rattle.page_plan.specs.Sliding as sliding
 use Rattle.comp_dump.specs.Dumped.{BuiltPage}
 use Rattle.comp_dump.specs.Dumped.{Dumped}
-use Rattle.comp_audit.specs.Checks.{setup_for}
-use Rattle.comp_audit.specs.Reported.{faults_for, IsFirst}
+use Rattle.comp_audit.specs.Checks.{head_faults, setup_for, total_faults}
+use Rattle.comp_audit.specs.Reported.{history_faults, page_faults, IsFirst}
 use Rattle.comp_dump.specs.declared.fault.AuditFault.{AuditFault}
 use Rattle.comp_dump.specs.declared.fault.AuditFault.TheVariants.{PageMissing}
 use Rattle.comp_audit.specs.declared.verdict.Verdict.{Verdict}
@@ -15,7 +15,12 @@ use Rattle.comp_audit.specs.declared.verdict.Verdict.TheVariants.{Yes, No}
 
 -- all faults of a dump, if this heap was compacted
 abbrev pub faults : Heap → Dumped → List AuditFault
-faults heap dump = faults_for (setup_for heap dump.fresh dump.mutators) dump.edition dump.roots dump.builds dump.pages dump.total
+faults heap dump =
+    let u = setup_for heap dump.fresh dump.mutators in
+    head_faults u dump.edition dump.roots dump.pages
+    ++ (page_faults u dump.builds dump.pages
+    ++ (history_faults u dump.pages
+    ++ total_faults heap dump.total dump.pages))
 
 -- the first n pages that were never built
 abbrev pub missing_pages : ℕ → List (Option BuiltPage) → List AuditFault

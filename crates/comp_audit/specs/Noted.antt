@@ -12,9 +12,9 @@ use Rattle.comp_dump.specs.declared.fault.AuditFault.TheVariants.{BadEntry}
 use Rattle.comp_audit.specs.declared.checks.late.Late.{Late}
 use Rattle.comp_audit.specs.declared.checks.setting.Setting.{Setting}
 
--- what a dump is checked against
+-- to-space as the heap defines it, with the fresh pages and mutators of the dump
 abbrev pub setup_at : Setting → Setup
-setup_at setting = setup_for setting.plan.now setting.fresh setting.mutators
+setup_at setting = setup_for setting.plan.now setting.dump.now.fresh setting.dump.now.mutators
 
 -- for each word from an address on, the least stamp of a header that was written there
 pub record Stamped : Type 0 where

@@ -1,10 +1,9 @@
 -- What the checks answer. The faults of a dump stand in one list, in the order of the checks.
 use Rattle.std.specs.Prelude.{◌≡◌, ℕ, List, [], ◌++◌, Option, Result, Ok, Err}
 pub use Rattle.heap_layout.specs.Faults.{IsFirst}
-use Rattle.heap_layout.specs.declared.edition.Edition.{Edition}
 use Rattle.comp_history.specs.Setup.{Setup}
 use Rattle.comp_dump.specs.Dumped.{BuiltPage}
-use Rattle.comp_audit.specs.Checks.{all_entries, all_stamps, each_built, head_faults, build_faults, journal_faults, word_faults, is_start, reference_faults, repeat_faults, missing_faults, is_made_before, is_led, late_faults, total_faults}
+use Rattle.comp_audit.specs.Checks.{all_entries, all_stamps, each_built, build_faults, journal_faults, word_faults, is_start, reference_faults, repeat_faults, missing_faults, is_made_before, is_led, late_faults}
 use Rattle.comp_dump.specs.declared.fault.AuditFault.{AuditFault}
 use Rattle.comp_audit.specs.declared.checks.fault.CheckEnd.{CheckEnd}
 use Rattle.comp_audit.specs.declared.checks.fault.CheckEnd.TheVariants as stop
@@ -23,14 +22,6 @@ history_faults u records =
     ++ (repeat_faults (all_stamps records)
     ++ (missing_faults (all_stamps records)
     ++ late_faults (is_led u.heap (is_made_before (all_entries records))) records))
-
--- all faults of a dump of this edition, with these roots, lists of builds, pages and total
-abbrev pub faults_for : Setup → Edition → List ℕ → List (List ℕ) → List (Option BuiltPage) → ℕ → List AuditFault
-faults_for u edition roots builds records total =
-    head_faults u edition roots records
-    ++ (page_faults u builds records
-    ++ (history_faults u records
-    ++ total_faults u.heap total records))
 
 -- a check passes if there is no fault, and else answers the first; it may end early if memory runs out
 abbrev pub Reports : List AuditFault → Result (Unit {0}) CheckEnd → Type 0

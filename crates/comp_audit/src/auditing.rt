@@ -4,7 +4,7 @@ ghost use Rattle.comp_audit.specs.Judged.{faults, missing_pages, whole_faults, J
 
 use crate::checks::{CheckEnd, Setting, check};
 use crate::verdict::Verdict;
-use comp_dump::{AuditFault, Dump, DumpedPages, dump_is_stored};
+use comp_dump::{AuditFault, Dump, DumpedPages};
 use heap_layout::OutOfMemory;
 use page_plan::Plan;
 use std::alloc::Global;
@@ -18,22 +18,7 @@ use std::alloc::Global;
 pub fn audit(alloc: Global, plan: &Plan, dump: &Dump<'_>) -> Result<Verdict, OutOfMemory>
     ensures { IfOk result (Judges (faults plan.now dump.now)) }
 {
-    dump_is_stored(dump);
-    let setting = Setting {
-        plan,
-        edition: dump.edition(),
-        fresh: dump.fresh_pages(),
-        mutators: dump.mutators(),
-    };
-    let found = check(
-        alloc,
-        setting,
-        dump.roots(),
-        dump.builds(),
-        dump.pages(),
-        dump.live_words(),
-    );
-    match found {
+    match check(alloc, Setting { plan, dump }) {
         Ok(()) => Ok(Verdict::Yes),
         Err(CheckEnd::Fault(fault)) => Ok(Verdict::No(fault)),
         Err(CheckEnd::OutOfMemory) => Err(OutOfMemory),

@@ -1,12 +1,11 @@
 //! The nine checks of a dump, in the order of their faults. Each answers its first fault.
-ghost use Rattle.std.specs.Prelude.{◌≡◌, ◌^◌, ◌<◌, ◌≤◌, [], All, length};
+ghost use Rattle.std.specs.Prelude.{◌≡◌, [], length};
 ghost use Rattle.comp_history.specs.Setup.{pages};
-ghost use Rattle.comp_history.specs.CellEnds.{lists as items_of};
 ghost use Rattle.comp_history.specs.Objects.{AreLawful};
-ghost use Rattle.comp_dump.specs.Dumped.{IsStoredList, IsStoredRecord};
 ghost use Rattle.comp_audit.specs.Checks.{each_built, journals_in, word_faults};
+ghost use Rattle.comp_audit.specs.Judged.{faults};
 ghost use Rattle.comp_audit.specs.Noted.{setup_at};
-ghost use Rattle.comp_audit.specs.Reported.{faults_for, history_faults, page_faults, Reports};
+ghost use Rattle.comp_audit.specs.Reported.{history_faults, page_faults, Reports};
 
 mod claims;
 mod fault;
@@ -31,7 +30,6 @@ use crate::checks::references::check_references;
 use crate::checks::stamps::check_stamps;
 use crate::checks::starts::starts_of;
 use crate::checks::totals::check_total;
-use comp_dump::DumpedPages;
 pub use fault::CheckEnd;
 pub use kinds::is_word_of;
 pub use page_words::right_words;
@@ -40,63 +38,37 @@ pub use setting::Setting;
 use std::alloc::Global;
 pub use totals::right_total;
 
-/// Checks a dump of edition `setting.edition` with these roots, lists of builds, pages and total. If there are faults,
-/// answers the first of them in the order of the nine checks. It may stop early if memory runs out. Requires at least
-/// one mutator, at most 2^26 pages, and pages and lists of builds whose numbers are in the ranges of a dump.
-pub fn check(
-    alloc: Global,
-    setting: Setting<'_>,
-    roots: &[u64],
-    builds: &[Vec<u32>],
-    records: &DumpedPages<'_>,
-    total: u64,
-) -> Result<(), CheckEnd>
-    requires some { 0 < setting.mutators }
-    requires few { length records.now ≤ 2 ^ 26 }
-    requires pages { All (IsStoredRecord setting.edition setting.mutators) records.now }
-    requires builds { All (IsStoredList (length records.now)) (items_of builds.now) }
-    ensures { Reports (faults_for (setup_at setting.entry) setting.entry.edition roots.now (items_of builds.now) records.now total) result }
+/// Checks whether a compaction by the plan can have left the dump. If there are faults, answers the first of them in the
+/// order of the nine checks. It may stop early if memory runs out.
+pub fn check(alloc: Global, setting: Setting<'_>) -> Result<(), CheckEnd>
+    ensures { Reports (faults setting.entry.plan.now setting.entry.dump.now) result }
 {
-    check_head(alloc, setting, roots, records)?;
-    check_pages(alloc, setting, builds, records)?;
-    check_history(alloc, setting, records)?;
-    check_total(setting.plan, total, records)
+    check_head(alloc, setting)?;
+    check_pages(alloc, setting)?;
+    check_history(alloc, setting)?;
+    check_total(setting.plan, setting.dump)
 }
 
 // The checks of single pages: who built them, their journals and their words.
-fn check_pages(
-    alloc: Global,
-    setting: Setting<'_>,
-    builds: &[Vec<u32>],
-    records: &DumpedPages<'_>,
-) -> Result<(), CheckEnd>
-    requires some { 0 < setting.mutators }
-    requires few { length records.now ≤ 2 ^ 26 }
-    requires slots { length records.now ≡ pages (setup_at setting) }
-    requires pages { All (IsStoredRecord setting.edition setting.mutators) records.now }
-    requires builds { All (IsStoredList (length records.now)) (items_of builds.now) }
-    ensures { Reports (page_faults (setup_at setting.entry) (items_of builds.now) records.now) result }
+fn check_pages(alloc: Global, setting: Setting<'_>) -> Result<(), CheckEnd>
+    requires { length setting.dump.now.pages ≡ pages (setup_at setting) }
+    ensures { Reports (page_faults (setup_at setting.entry) setting.entry.dump.now.builds setting.entry.dump.now.pages) result }
 {
-    check_builds(alloc, builds, records)?;
-    check_journals(alloc, setting, records)?;
-    check_words(alloc, setting, records)
+    check_builds(alloc, setting.dump)?;
+    check_journals(alloc, setting)?;
+    check_words(alloc, setting)
 }
 
 // The checks between pages: the targets of references and weak words, the stamps, and the age of the targets.
-fn check_history(
-    alloc: Global,
-    setting: Setting<'_>,
-    records: &DumpedPages<'_>,
-) -> Result<(), CheckEnd>
-    requires few { length records.now ≤ 2 ^ 26 }
-    requires slots { length records.now ≡ pages (setup_at setting) }
-    requires pages { All (IsStoredRecord setting.edition setting.mutators) records.now }
-    requires lawful { AreLawful (setup_at setting) (journals_in records.now) }
-    requires words { each_built (word_faults (setup_at setting)) records.now ≡ [] }
-    ensures { Reports (history_faults (setup_at setting.entry) records.now) result }
+fn check_history(alloc: Global, setting: Setting<'_>) -> Result<(), CheckEnd>
+    requires slots { length setting.dump.now.pages ≡ pages (setup_at setting) }
+    requires lawful { AreLawful (setup_at setting) (journals_in setting.dump.now.pages) }
+    requires words { each_built (word_faults (setup_at setting)) setting.dump.now.pages ≡ [] }
+    ensures { Reports (history_faults (setup_at setting.entry) setting.entry.dump.now.pages) result }
 {
-    let starts = starts_of(alloc, setting, records)?;
-    check_references(alloc, setting, &starts, records)?;
+    let starts = starts_of(alloc, setting)?;
+    check_references(alloc, setting, &starts)?;
+    let records = setting.dump.pages();
     check_stamps(alloc, records)?;
     check_late(setting.plan, &starts, records)
 }

@@ -1,5 +1,5 @@
 //! The second check: the lists of builds name each page that was built, exactly once, and no other page.
-ghost use Rattle.std.specs.Prelude.{◌≡◌, ◌^◌, ℕ, List, ◌+◌, ◌<◌, ◌≤◌, All, IfOk, length, min, slice_index};
+ghost use Rattle.std.specs.Prelude.{◌≡◌, ℕ, List, ◌+◌, ◌<◌, ◌≤◌, All, IfOk, length, min, slice_index};
 ghost use Rattle.comp_history.specs.Lists.{times};
 ghost use Rattle.comp_history.specs.CellEnds.{lists as items_of};
 ghost use Rattle.comp_history.specs.Builds.{named};
@@ -8,20 +8,16 @@ ghost use Rattle.comp_dump.specs.Dumped.{IsStoredList};
 ghost use Rattle.comp_audit.specs.Reported.{Reports};
 
 use crate::checks::fault::CheckEnd;
-use comp_dump::{AuditFault, DumpedPage, DumpedPages};
+use comp_dump::{AuditFault, Dump, DumpedPage};
 use std::alloc::{AllocError, Global};
 
 /// Checks that the lists of builds name each page that was built exactly once, and no other page.
-pub fn check_builds(
-    alloc: Global,
-    builds: &[Vec<u32>],
-    records: &DumpedPages<'_>,
-) -> Result<(), CheckEnd>
-    requires few { length records.now ≤ 2 ^ 26 }
-    requires builds { All (IsStoredList (length records.now)) (items_of builds.now) }
-    ensures { Reports (build_faults (items_of builds.now) records.now) result }
+pub fn check_builds(alloc: Global, dump: &Dump<'_>) -> Result<(), CheckEnd>
+    ensures { Reports (build_faults dump.now.builds dump.now.pages) result }
 {
-    let counts = count_builds(alloc, records.len(), builds)?;
+    comp_dump::dump_is_stored(dump);
+    let records = dump.pages();
+    let counts = count_builds(alloc, records.len(), dump.builds())?;
     for p in 0..records.len() {
         if !is_claimed(counts[p], &records.page(p)) {
             return Err(CheckEnd::Fault(AuditFault::BuildUnclaimed(p as u64)));

@@ -1,36 +1,31 @@
 //! The third check: each entry of a page fits the entries before it.
-ghost use Rattle.std.specs.Prelude.{◌≡◌, ◌^◌, ℕ, List, ◌+◌, ◌*◌, ◌<◌, ◌≤◌, [], All, None, length, slice_index_or, true};
+ghost use Rattle.std.specs.Prelude.{◌≡◌, ℕ, List, ◌+◌, ◌*◌, ◌<◌, ◌≤◌, [], All, None, length, slice_index_or, true};
 ghost use Rattle.heap_layout.specs.Heap.{Heap, live};
 ghost use Rattle.page_plan.specs.Sliding.{kind};
 ghost use Rattle.comp_journal.specs.declared.entry.Entry.{Entry};
 ghost use Rattle.comp_history.specs.Setup.{fresh_page, pages, Setup};
 ghost use Rattle.comp_history.specs.Lawful.{kinds_by, kinds_in};
 ghost use Rattle.comp_audit.specs.Checks.{each_built, entry_faults, fits, journal_faults, setup_for};
-ghost use Rattle.comp_dump.specs.Dumped.{IsStoredEntry, IsStoredRecord};
+ghost use Rattle.comp_dump.specs.Dumped.{IsStoredEntry};
 ghost use Rattle.comp_audit.specs.Reported.{Reports};
 ghost use Rattle.comp_audit.specs.Noted.{setup_at};
 
 use crate::checks::fault::CheckEnd;
 use crate::checks::kinds::{is_of, is_word_of};
 use crate::checks::setting::Setting;
-use comp_dump::{AuditFault, DumpedPages};
+use comp_dump::AuditFault;
 use comp_history::add_kinds;
 use comp_journal::Entry;
 use heap_layout::{Edition, Header, Kind};
 use std::alloc::Global;
 
 /// Checks that the journal of each page that was built is lawful, and that its stamps rise.
-pub fn check_journals(
-    alloc: Global,
-    setting: Setting<'_>,
-    records: &DumpedPages<'_>,
-) -> Result<(), CheckEnd>
-    requires some { 0 < setting.mutators }
-    requires few { length records.now ≤ 2 ^ 26 }
-    requires slots { length records.now ≡ pages (setup_at setting) }
-    requires pages { All (IsStoredRecord setting.edition setting.mutators) records.now }
-    ensures { Reports (each_built (journal_faults (setup_at setting.entry)) records.now) result }
+pub fn check_journals(alloc: Global, setting: Setting<'_>) -> Result<(), CheckEnd>
+    requires { length setting.dump.now.pages ≡ pages (setup_at setting) }
+    ensures { Reports (each_built (journal_faults (setup_at setting.entry)) setting.entry.dump.now.pages) result }
 {
+    comp_dump::dump_is_stored(setting.dump);
+    let records = setting.dump.pages();
     for p in 0..records.len() {
         if let Some(page) = records.page(p) {
             check_journal(alloc, setting, p as u64, page.journal())?;
@@ -46,11 +41,11 @@ fn check_journal(
     p: u64,
     journal: &[Entry],
 ) -> Result<(), CheckEnd>
-    requires some { 0 < setting.mutators }
     requires inside { p < pages (setup_at setting) }
-    requires stored { All (IsStoredEntry setting.edition setting.mutators) journal.now }
+    requires stored { All (IsStoredEntry setting.dump.now.edition setting.dump.now.mutators) journal.now }
     ensures { Reports (entry_faults (setup_at setting.entry) p 0 0 [] journal.now) result }
 {
+    comp_dump::dump_is_stored(setting.dump);
     let compacted = setting.plan.pages();
     if p < compacted {
         check_compacted(setting, p, journal)
@@ -62,7 +57,7 @@ fn check_journal(
 // The same for a compacted page.
 fn check_compacted(setting: Setting<'_>, p: u64, journal: &[Entry]) -> Result<(), CheckEnd>
     requires compacted { p < (setup_at setting).compacted }
-    requires stored { All (IsStoredEntry setting.edition setting.mutators) journal.now }
+    requires stored { All (IsStoredEntry setting.dump.now.edition setting.dump.now.mutators) journal.now }
     ensures { Reports (entry_faults (setup_at setting.entry) p 0 0 [] journal.now) result }
 {
     if journal.is_empty() {
@@ -104,19 +99,18 @@ fn check_fresh(
     p: u64,
     journal: &[Entry],
 ) -> Result<(), CheckEnd>
-    requires some { 0 < setting.mutators }
     requires number { p ≡ fresh_page (setup_at setting) number }
-    requires fresh { number < setting.fresh }
-    requires stored { All (IsStoredEntry setting.edition setting.mutators) journal.now }
+    requires fresh { number < setting.dump.now.fresh }
+    requires stored { All (IsStoredEntry setting.dump.now.edition setting.dump.now.mutators) journal.now }
     ensures { Reports (entry_faults (setup_at setting.entry) p 0 0 [] journal.now) result }
 {
+    comp_dump::dump_is_stored(setting.dump);
     let edition = setting.plan.heap().edition();
+    let mutators = setting.dump.mutators();
     let mut kinds = Vec::with_capacity(alloc, 64)?;
     let mut low = 0;
     for (k, &entry) in journal.iter().enumerate() {
-        if u128::from(entry.stamp) < low
-            || !may_follow(&kinds, edition, number, entry, setting.mutators)
-        {
+        if u128::from(entry.stamp) < low || !may_follow(&kinds, edition, number, entry, mutators) {
             return Err(CheckEnd::Fault(AuditFault::BadEntry(p, k as u64)));
         }
         add_kinds(&mut kinds, edition, entry);

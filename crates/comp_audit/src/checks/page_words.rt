@@ -1,30 +1,26 @@
 //! The fourth check: the words of each page are what its journal makes of its base.
-ghost use Rattle.std.specs.Prelude.{◌≡◌, ◌^◌, ◌<◌, ◌≤◌, All, IfOk, length};
+ghost use Rattle.std.specs.Prelude.{◌≡◌, ◌^◌, ◌<◌, All, IfOk, length};
 ghost use Rattle.comp_journal.specs.Journal.{replayed};
 ghost use Rattle.comp_history.specs.Setup.{base_of};
 ghost use Rattle.comp_audit.specs.Checks.{each_built, same_words, word_faults};
-ghost use Rattle.comp_dump.specs.Dumped.{IsStoredPage, IsStoredRecord};
+ghost use Rattle.comp_dump.specs.Dumped.{IsStoredPage};
 ghost use Rattle.comp_audit.specs.Reported.{Reports};
 ghost use Rattle.comp_audit.specs.Noted.{setup_at};
 
 use crate::checks::fault::CheckEnd;
 use crate::checks::setting::Setting;
-use comp_dump::{AuditFault, DumpedPage, DumpedPages};
+use comp_dump::{AuditFault, DumpedPage};
 use comp_journal::Entry;
 use heap_layout::{OutOfMemory, PageWords};
 use page_plan::TO_SPACE;
 use std::alloc::Global;
 
 /// Checks that the words of each page that was built are what its journal makes of its base.
-pub fn check_words(
-    alloc: Global,
-    setting: Setting<'_>,
-    records: &DumpedPages<'_>,
-) -> Result<(), CheckEnd>
-    requires few { length records.now ≤ 2 ^ 26 }
-    requires pages { All (IsStoredRecord setting.edition setting.mutators) records.now }
-    ensures { Reports (each_built (word_faults (setup_at setting.entry)) records.now) result }
+pub fn check_words(alloc: Global, setting: Setting<'_>) -> Result<(), CheckEnd>
+    ensures { Reports (each_built (word_faults (setup_at setting.entry)) setting.entry.dump.now.pages) result }
 {
+    comp_dump::dump_is_stored(setting.dump);
+    let records = setting.dump.pages();
     for p in 0..records.len() {
         if let Some(page) = records.page(p) {
             check_page(alloc, setting, p as u64, &page)?;
@@ -41,7 +37,7 @@ fn check_page(
     page: &DumpedPage<'_>,
 ) -> Result<(), CheckEnd>
     requires inside { p < 2 ^ 26 }
-    requires stored { IsStoredPage setting.edition setting.mutators page.now }
+    requires stored { IsStoredPage setting.dump.now.edition setting.dump.now.mutators page.now }
     ensures { Reports (word_faults (setup_at setting.entry) p page.now) result }
 {
     let right = right_words(alloc, setting, p, page.journal())?;

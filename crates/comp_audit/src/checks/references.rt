@@ -1,10 +1,10 @@
 //! The fifth check: each reference and weak word is null, or the address of an object.
-ghost use Rattle.std.specs.Prelude.{◌≡◌, ◌^◌, ◌<◌, ◌≤◌, [], All, length, slice_index_or, None};
+ghost use Rattle.std.specs.Prelude.{◌≡◌, ◌^◌, ◌<◌, [], length, slice_index_or, None};
 ghost use Rattle.comp_history.specs.Lawful.{IsLawful};
 ghost use Rattle.comp_history.specs.Setup.{pages};
 ghost use Rattle.comp_history.specs.Objects.{AreLawful};
 ghost use Rattle.comp_audit.specs.Checks.{each_built, some_refers, journals_in, loose_faults, reference_faults, word_faults};
-ghost use Rattle.comp_dump.specs.Dumped.{IsStoredPage, IsStoredRecord};
+ghost use Rattle.comp_dump.specs.Dumped.{IsStoredPage};
 ghost use Rattle.comp_audit.specs.Reported.{Reports};
 ghost use Rattle.comp_audit.specs.Noted.{leads, setup_at};
 
@@ -12,7 +12,7 @@ use crate::checks::fault::CheckEnd;
 use crate::checks::kinds::refers;
 use crate::checks::setting::Setting;
 use crate::checks::starts::Starts;
-use comp_dump::{AuditFault, DumpedPage, DumpedPages};
+use comp_dump::{AuditFault, DumpedPage};
 use comp_history::kinds_on;
 use heap_layout::Kind;
 use page_plan::{Plan, TO_SPACE};
@@ -24,15 +24,14 @@ pub fn check_references(
     alloc: Global,
     setting: Setting<'_>,
     starts: &Starts,
-    records: &DumpedPages<'_>,
 ) -> Result<(), CheckEnd>
-    requires few { length records.now ≤ 2 ^ 26 }
-    requires slots { length records.now ≡ pages (setup_at setting) }
-    requires pages { All (IsStoredRecord setting.edition setting.mutators) records.now }
-    requires lawful { AreLawful (setup_at setting) (journals_in records.now) }
-    requires words { each_built (word_faults (setup_at setting)) records.now ≡ [] }
-    ensures { Reports (each_built (reference_faults (leads setting.entry.plan.now starts.now) (setup_at setting.entry)) records.now) result }
+    requires slots { length setting.dump.now.pages ≡ pages (setup_at setting) }
+    requires lawful { AreLawful (setup_at setting) (journals_in setting.dump.now.pages) }
+    requires words { each_built (word_faults (setup_at setting)) setting.dump.now.pages ≡ [] }
+    ensures { Reports (each_built (reference_faults (leads setting.entry.plan.now starts.now) (setup_at setting.entry)) setting.entry.dump.now.pages) result }
 {
+    comp_dump::dump_is_stored(setting.dump);
+    let records = setting.dump.pages();
     for p in 0..records.len() {
         if let Some(page) = records.page(p) {
             check_page(alloc, setting, starts, p as u64, &page)?;
@@ -52,7 +51,7 @@ fn check_page(
 ) -> Result<(), CheckEnd>
     requires few { p < 2 ^ 26 }
     requires inside { p < pages (setup_at setting) }
-    requires stored { IsStoredPage setting.edition setting.mutators page.now }
+    requires stored { IsStoredPage setting.dump.now.edition setting.dump.now.mutators page.now }
     requires lawful { IsLawful (setup_at setting) p page.now.journal }
     requires words { word_faults (setup_at setting) p page.now ≡ [] }
     ensures { Reports (reference_faults (leads setting.entry.plan.now starts.now) (setup_at setting.entry) p page.now) result }

@@ -1,12 +1,9 @@
-use heap_layout::Edition;
+use comp_dump::Dump;
 use page_plan::Plan;
 
-/// What a dump is checked against: the plan of the compaction, and of the dump itself the edition and the numbers of
-/// fresh pages and mutators.
+/// What is checked: the plan of a compaction, and the dump that it may have left.
 #[derive(Clone, Copy)]
 pub struct Setting<'a> {
     pub plan: &'a Plan,
-    pub edition: Edition,
-    pub fresh: u32,
-    pub mutators: u8,
+    pub dump: &'a Dump<'a>,
 }

@@ -6,12 +6,10 @@ ghost use Rattle.comp_history.specs.Setup.{address, pages};
 ghost use Rattle.comp_history.specs.Objects.{AreLawful};
 ghost use Rattle.comp_history.specs.Merged.{with_page};
 ghost use Rattle.comp_audit.specs.Checks.{all_entries, journals_in};
-ghost use Rattle.comp_dump.specs.Dumped.{IsStoredRecord};
 ghost use Rattle.comp_audit.specs.Noted.{is_below, is_noted_before, leads, setup_at, stamp_at, Covers, Notes};
 
 use crate::checks::record::journal_of;
 use crate::checks::setting::Setting;
-use comp_dump::DumpedPages;
 use comp_journal::Entry;
 use heap_layout::Kind;
 use page_plan::{Plan, TO_SPACE};
@@ -98,19 +96,16 @@ fn lesser(noted: Option<u64>, stamp: u64) -> u64
 }
 
 /// The starts of all new objects.
-pub fn starts_of(
-    alloc: Global,
-    setting: Setting<'_>,
-    records: &DumpedPages<'_>,
-) -> Result<Starts, AllocError>
-    requires few { length records.now ≤ 2 ^ 26 }
-    requires slots { length records.now ≡ pages (setup_at setting) }
-    requires pages { All (IsStoredRecord setting.edition setting.mutators) records.now }
-    requires lawful { AreLawful (setup_at setting) (journals_in records.now) }
-    ensures { IfOk result (λ starts. Notes starts (all_entries records.now)) }
+pub fn starts_of(alloc: Global, setting: Setting<'_>) -> Result<Starts, AllocError>
+    requires slots { length setting.dump.now.pages ≡ pages (setup_at setting) }
+    requires lawful { AreLawful (setup_at setting) (journals_in setting.dump.now.pages) }
+    ensures { IfOk result (λ starts. Notes starts (all_entries setting.entry.dump.now.pages)) }
 {
-    let first = TO_SPACE + 64 * setting.plan.pages();
-    let mut starts = Starts::new(alloc, first, 64 * setting.fresh as usize)?;
+    comp_dump::dump_is_stored(setting.dump);
+    let Setting { plan, dump } = setting;
+    let first = TO_SPACE + 64 * plan.pages();
+    let mut starts = Starts::new(alloc, first, 64 * dump.fresh_pages() as usize)?;
+    let records = dump.pages();
     for p in 0..records.len() {
         note_page(&mut starts, p as u64, journal_of(records, p));
     }

@@ -11,30 +11,27 @@ ghost use Rattle.comp_audit.specs.Reported.{Reports};
 
 use crate::checks::fault::CheckEnd;
 use crate::checks::record::journal_of;
-use comp_dump::{AuditFault, DumpedPages};
+use comp_dump::{AuditFault, Dump, DumpedPages};
 use comp_journal::Entry;
 use heap_layout::{Edition, Header, Kind};
 use page_plan::Plan;
 
 /// Checks that the total is the number of words that slid and of words of new objects.
-pub fn check_total(plan: &Plan, total: u64, records: &DumpedPages<'_>) -> Result<(), CheckEnd>
-    requires few { length records.now ≤ 2 ^ 26 }
-    requires pages { All HasFewEntries records.now }
-    ensures { Reports (total_faults plan.now total records.now) result }
+pub fn check_total(plan: &Plan, dump: &Dump<'_>) -> Result<(), CheckEnd>
+    ensures { Reports (total_faults plan.now dump.now.total dump.now.pages) result }
 {
-    if u128::from(total) != right_total(plan, records) {
+    if u128::from(dump.live_words()) != right_total(plan, dump) {
         return Err(CheckEnd::Fault(AuditFault::WrongTotal));
     }
     Ok(())
 }
 
 /// The number of words that slid and of words of new objects.
-pub fn right_total(plan: &Plan, records: &DumpedPages<'_>) -> u128
-    requires few { length records.now ≤ 2 ^ 26 }
-    requires pages { All HasFewEntries records.now }
-    ensures { result ≡ live_words (live plan.now) + allocated plan.now.edition (all_entries records.now) }
+pub fn right_total(plan: &Plan, dump: &Dump<'_>) -> u128
+    ensures { result ≡ live_words (live plan.now) + allocated plan.now.edition (all_entries dump.now.pages) }
 {
-    u128::from(plan.live_words()) + all_words(plan.heap().edition(), records)
+    comp_dump::dump_is_stored(dump);
+    u128::from(plan.live_words()) + all_words(plan.heap().edition(), dump.pages())
 }
 
 // The words of the objects that all entries make.

@@ -12,7 +12,7 @@ ghost use Rattle.comp_audit.specs.Causes.{fits_after, leads_back, setup_of, HasN
 use crate::checks::is_word_of;
 use crate::explaining::made::{header_stamp, kind_made, words_made};
 use crate::explanation::EntryCause;
-use comp_dump::{Dump, dump_is_stored};
+use comp_dump::Dump;
 use comp_journal::Entry;
 use heap_layout::Kind;
 use page_plan::Plan;
@@ -90,7 +90,7 @@ fn header_misfit(plan: &Plan, dump: &Dump<'_>, p: u64, entry: Entry, end: u64) -
     ensures some { IfSome result (λ cause. (before : List Entry) → end ≡ filled plan.now.edition before → IsMisfit (setup_of plan.now dump.now) p before entry cause) }
     ensures none { IfNone result ((before : List Entry) → end ≡ filled plan.now.edition before → fits_after (setup_of plan.now dump.now) p before entry ≡ true) }
 {
-    dump_is_stored(dump);
+    comp_dump::dump_is_stored(dump);
     if p < plan.pages() || p >= plan.pages() + u64::from(dump.fresh_pages()) {
         return Some(EntryCause::NoFreshPage);
     }

@@ -8,14 +8,14 @@ ghost use Rattle.comp_dump.specs.declared.fault.AuditFault.TheVariants as fault;
 ghost use Rattle.comp_audit.specs.Explained.{AreNamings, Explains};
 
 use crate::explanation::{Claims, Explanation, MissingPage};
-use comp_dump::{Dump, dump_is_stored};
+use comp_dump::Dump;
 use page_plan::Plan;
 
 /// What is said of a page that was built, if the lists of builds do not name it once; or that was not, if they name it.
 pub fn explain_claims(dump: &Dump<'_>, p: u64) -> Explanation
     ensures { (heap : Heap) → Explains heap dump.now (fault.BuildUnclaimed p) result }
 {
-    dump_is_stored(dump);
+    comp_dump::dump_is_stored(dump);
     let by = named_by(dump.builds(), p);
     Explanation::BuildUnclaimed(Claims {
         page: p,

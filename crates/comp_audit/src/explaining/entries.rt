@@ -9,7 +9,7 @@ use crate::checks::journal_of;
 use crate::explaining::causes::cause_of;
 use crate::explaining::made::words_made;
 use crate::explanation::{BadEntryAt, EntryCause, Explanation, LooseEntry};
-use comp_dump::{Dump, dump_is_stored};
+use comp_dump::Dump;
 use comp_journal::Entry;
 use heap_layout::Edition;
 use page_plan::Plan;
@@ -18,7 +18,7 @@ use page_plan::Plan;
 pub fn explain_entry(plan: &Plan, dump: &Dump<'_>, p: u64, number: u64) -> Explanation
     ensures { Explains plan.now dump.now (fault.BadEntry p number) result }
 {
-    dump_is_stored(dump);
+    comp_dump::dump_is_stored(dump);
     let journal = journal_of(dump.pages(), p as usize);
     let Some(entry) = journal.get(number as usize) else {
         return Explanation::NoSuchFault;
@@ -70,7 +70,7 @@ fn cause_at(plan: &Plan, dump: &Dump<'_>, p: u64, number: usize, entry: Entry) -
     requires { slice_get (journals_of dump.now p) number ≡ Some entry }
     ensures { IsCauseAt plan.now dump.now p number entry result }
 {
-    dump_is_stored(dump);
+    comp_dump::dump_is_stored(dump);
     let journal = journal_of(dump.pages(), p as usize);
     let before = &journal[..number];
     cause_of(
@@ -99,7 +99,7 @@ fn stamp_before(journal: &[Entry], number: usize) -> Option<u64>
 fn maker(plan: &Plan, dump: &Dump<'_>, p: u64) -> Option<u64>
     ensures { result ≡ maker_of (setup_of plan.now dump.now) p }
 {
-    dump_is_stored(dump);
+    comp_dump::dump_is_stored(dump);
     if p < plan.pages() {
         return None;
     }

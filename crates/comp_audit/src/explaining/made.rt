@@ -9,7 +9,7 @@ ghost use Rattle.comp_audit.specs.Noted.{is_below};
 ghost use Rattle.comp_audit.specs.Causes.{IsHeaderStamp};
 
 use crate::checks::journal_of;
-use comp_dump::{Dump, dump_is_stored};
+use comp_dump::Dump;
 use comp_journal::Entry;
 use heap_layout::{Edition, Header, Kind};
 use page_plan::TO_SPACE;
@@ -62,7 +62,7 @@ fn kind_within(header: Header, n: u32) -> Kind
 pub fn header_stamp(dump: &Dump<'_>, address: u64) -> Option<u64>
     ensures { IsHeaderStamp (all_entries dump.now.pages) address result }
 {
-    dump_is_stored(dump);
+    comp_dump::dump_is_stored(dump);
     let mut least = None;
     for p in 0..dump.pages().len() {
         least = least_on(p as u64, journal_of(dump.pages(), p), address, least);

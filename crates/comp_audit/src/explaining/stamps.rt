@@ -10,7 +10,7 @@ ghost use Rattle.comp_audit.specs.Explained.{Explains, IsFirstUse, IsLastUse};
 use crate::checks::journal_of;
 use crate::explaining::sums::count;
 use crate::explanation::{Explanation, StampLost, StampUses};
-use comp_dump::{Dump, dump_is_stored};
+use comp_dump::Dump;
 use comp_journal::Entry;
 
 /// What is said of a stamp that stands twice.
@@ -67,7 +67,7 @@ fn last_use(dump: &Dump<'_>, stamp: u64) -> u64
 fn uses(dump: &Dump<'_>, stamp: u64) -> u64
     ensures { result ≡ times stamp (all_stamps dump.now.pages) }
 {
-    dump_is_stored(dump);
+    comp_dump::dump_is_stored(dump);
     let mut uses = 0;
     for p in 0..dump.pages().len() {
         uses += uses_on(journal_of(dump.pages(), p), stamp);

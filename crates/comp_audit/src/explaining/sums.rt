@@ -5,14 +5,14 @@ ghost use Rattle.comp_audit.specs.Explained.{AreCountsOf, Explains};
 
 use crate::checks::{journal_of, right_total};
 use crate::explanation::{DumpCounts, Explanation, Totals};
-use comp_dump::{Dump, dump_is_stored};
+use comp_dump::Dump;
 use page_plan::Plan;
 
 /// How many pages a dump has, how many of them are built, and how many entries these have.
 pub fn count(dump: &Dump<'_>) -> DumpCounts
     ensures { AreCountsOf dump.now result }
 {
-    dump_is_stored(dump);
+    comp_dump::dump_is_stored(dump);
     let pages = dump.pages();
     let mut built = 0;
     let mut entries = 0;
@@ -33,9 +33,8 @@ pub fn count(dump: &Dump<'_>) -> DumpCounts
 pub fn explain_total(plan: &Plan, dump: &Dump<'_>) -> Explanation
     ensures { Explains plan.now dump.now fault.WrongTotal result }
 {
-    dump_is_stored(dump);
     Explanation::WrongTotal(Totals {
         is: dump.live_words(),
-        should_be: right_total(plan, dump.pages()),
+        should_be: right_total(plan, dump),
     })
 }

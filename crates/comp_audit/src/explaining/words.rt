@@ -9,7 +9,7 @@ use crate::checks::{Setting, journal_of, right_words};
 use crate::explaining::entries::loose_entry;
 use crate::explaining::objects::{out_of_place, owner};
 use crate::explanation::{Explanation, LooseWordAt, WrongWordAt};
-use comp_dump::{Dump, dump_is_stored};
+use comp_dump::Dump;
 use heap_layout::OutOfMemory;
 use page_plan::{Plan, TO_SPACE};
 use std::alloc::Global;
@@ -63,15 +63,9 @@ fn right_word(
     requires { offset < 64 }
     ensures { IfOk result (λ word. word ≡ word_on (setup_of plan.now dump.now) (journals_of dump.now) p offset) }
 {
-    dump_is_stored(dump);
-    let setting = Setting {
-        plan,
-        edition: dump.edition(),
-        fresh: dump.fresh_pages(),
-        mutators: dump.mutators(),
-    };
+    comp_dump::dump_is_stored(dump);
     let journal = journal_of(dump.pages(), p as usize);
-    let words = right_words(alloc, setting, p, journal)?;
+    let words = right_words(alloc, Setting { plan, dump }, p, journal)?;
     Ok(words.get(offset as u8))
 }
 

@@ -1,4 +1,4 @@
-use Rattle.std.proofs.Common.{◌≡◌, ◌∙◌, true, sym, ap, arith, map, length}
+use Rattle.std.proofs.Common.{◌≡◌, ◌∙◌, true, ℕ, List, sym, ap, arith, map, length}
 use Rattle.std.specs.Prelude.{bytes_eq}
 use Rattle.std.proofs.lemmas.Bool.{not-true, not-false, eq-eqb}
 use Rattle.heap_layout.specs.Heap.{Heap, live}
@@ -16,15 +16,17 @@ pub returns-then-ne-clause-reported : goal.returns-then-ne-clause-reported
 returns-then-ne-clause-reported c =
     let heap = c.args.setting.plan.now in
     let right : c.in_ok-forwarded.forwarded.items ≡ map (forwarded (live heap)) heap.roots = are_forwarded (forward (live heap)) _ _ c.in_ok-forwarded.ensures in
-    let there = ap (bytes_eq c.args.roots.now) (c.as_slice.ensures.value ∙ right) in
+    let there = ap (λ (l : List ℕ). bytes_eq l c.as_slice.result.now) c.roots.ensures ∙ ap (bytes_eq c.args.setting.dump.now.roots) (c.as_slice.ensures.value ∙ right) in
     second_fails _ _ _ (and_false _ _ (sym there ∙ not-true _ (sym c.ne.ensures ∙ c.if-ne.true)))
 
 pub returns-clause-reported : goal.returns-clause-reported
 returns-clause-reported c =
     let heap = c.args.setting.plan.now in
     let right : c.in_ok-forwarded.forwarded.items ≡ map (forwarded (live heap)) heap.roots = are_forwarded (forward (live heap)) _ _ c.in_ok-forwarded.ensures in
-    let there = ap (bytes_eq c.args.roots.now) (c.as_slice.ensures.value ∙ right) in
-    let one : is_edition c.args.setting.edition heap.edition ≡ true =
-    ap (λ (e : Edition). is_edition c.args.setting.edition e) (sym (c.edition.ensures ∙ ap (λ (h : Heap). h.edition) c.heap.ensures)) ∙ sym c.is_edition.ensures ∙ c.if-not-is_edition.false in
-    let long : length c.args.records.now ≡ pages (setup_at c.args.setting) = omega (arith, c.if-len-pages.false, c.len.ensures, c.pages.ensures.pages, c.from.ensures) in
+    let there = ap (λ (l : List ℕ). bytes_eq l c.as_slice.result.now) c.roots.ensures ∙ ap (bytes_eq c.args.setting.dump.now.roots) (c.as_slice.ensures.value ∙ right) in
+    let one : is_edition c.args.setting.dump.now.edition heap.edition ≡ true =
+    ap (λ (e : Edition). is_edition e heap.edition) (sym c.edition.ensures)
+    ∙ ap (λ (e : Edition). is_edition c.edition.result e) (sym (c.edition-2.ensures ∙ ap (λ (h : Heap). h.edition) c.heap.ensures)) ∙ sym c.is_edition.ensures ∙ c.if-not-is_edition.false in
+    let long : length c.args.setting.dump.now.pages ≡ pages (setup_at c.args.setting) =
+    omega (arith, c.if-len-pages.false, c.len.ensures, ap length c.pages.ensures, c.pages-2.ensures.pages, c.from.ensures, c.fresh_pages.ensures) in
     both_pass _ _ _ one (true_and _ _ (eq-eqb _ _ long) (sym there ∙ not-false _ (sym c.ne.ensures ∙ c.if-ne.false)))

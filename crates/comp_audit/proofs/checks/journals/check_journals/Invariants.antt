@@ -8,4 +8,4 @@ use Rattle.comp_audit.proofs.checks.journals.check_journals.Given as goal
 abbrev pub invariant-loop-p : goal.invariant-loop-p
 invariant-loop-p l =
     let faults = journal_faults (setup_at l.setting) in
-    flat_map (of_built faults) (enumerate_from l.p (drop l.p l.records)) ≡ each_built faults l.records
+    flat_map (of_built faults) (enumerate_from l.p (drop l.p l.setting.dump.now.pages)) ≡ each_built faults l.setting.dump.now.pages

@@ -8,6 +8,6 @@ use Rattle.comp_audit.proofs.checks.starts.starts_of.Given as goal
 -- the headers of the pages so far are noted
 abbrev pub invariant-loop-p : goal.invariant-loop-p
 invariant-loop-p l = record {
-  covers : Covers l.starts (to_address (64 * (setup_at l.fn.setting).compacted)) (64 * l.fn.setting.fresh);
-  noted : Notes l.starts (entries_below (journals_in l.records) l.p);
+  covers : Covers l.starts (to_address (64 * (setup_at l.fn.setting).compacted)) (64 * l.fn.setting.dump.now.fresh);
+  noted : Notes l.starts (entries_below (journals_in l.fn.setting.dump.now.pages) l.p);
 }
