@@ -15,7 +15,7 @@ use crate::cycles::marking::{Marking, Marks, next_marked};
 use crate::replays::Halt;
 use crate::steps::Shown;
 use crate::text::Trace;
-use comp_cycles::{Finished, one_life, one_writing};
+use comp_cycles::Finished;
 use heap_layout::MarkedHeap;
 use page_plan::Plan;
 use std::alloc::Global;
@@ -218,8 +218,8 @@ fn replay_all<M: Marks>(
     ensures flipped { IfOk result (λ run. IsOfFlip mutators fresh_pages run.finished) }
     ensures stopped { IfErr result (λ stopped. StopsCycles mutators fresh_pages heap (lines_of first.now) (map (further_by M.given) rest.now) (values_of stopped.shown.items) stopped.fault) }
 {
-    one_life();
-    one_writing();
+    comp_cycles::one_life();
+    comp_cycles::one_writing();
     let Ok(mut shown) = Vec::with_capacity(alloc, rest.len() + 1) else {
         return Err(CyclesStopped {
             shown: Vec::new(alloc),

@@ -6,8 +6,6 @@ ghost use Rattle.comp_trace.specs.Causes.{AreOfRuns};
 ghost use Rattle.comp_trace.specs.Runs.{IsDetermined};
 ghost use Rattle.comp_trace.specs.declared.text.line.Line.{Line};
 
-use heap_layout::images_differ;
-
 /// The run of a trace by one thread is determined by the heap, the numbers of mutators and of fresh pages, the entries
 /// at the start, and the lines. That is: the values shown, the words in registers, which mutator builds which page, and
 /// the entries added, except for their stamps.
@@ -20,7 +18,7 @@ pub fn runs_are_determined()
 pub fn replays_show_once()
     ensures { ShowOnce }
 {
-    images_differ();
+    heap_layout::images_differ();
 }
 
 /// A line that cuts a run short has the cause of its refusal in the run before it: the lines before it made an object

@@ -13,7 +13,7 @@ use crate::replays::replaying::{Stopped, replay_registers};
 use crate::steps::Shown;
 use crate::text::Trace;
 use comp_mutator::{FinishFault, Finished, FlipFault, Mutator, Space, flip};
-use page_plan::{Plan, heap_is_closed};
+use page_plan::Plan;
 use std::alloc::Global;
 use std::marker::Brand;
 use std::sync::Arc;
@@ -58,7 +58,7 @@ pub fn run_over(
     ensures flipped { IfOk result (λ run. IsOfFlip mutators fresh run.finished) }
     ensures halted { IfErr result (IsHaltOf mutators fresh (lines_of trace.now) plan.value) }
 {
-    heap_is_closed(&plan);
+    page_plan::heap_is_closed(&plan);
     flipped_and_run::<Brand>(
         alloc,
         Blank::new(u64::from(mutators)),
@@ -116,6 +116,7 @@ fn run_and_finish<L: Ledger>(
     ensures flipped { IfOk result (λ run. IsOfFlip (setup_of space).mutators (setup_of space).fresh run.finished) }
     ensures halted { IfErr result (IsHaltOf (setup_of space).mutators (setup_of space).fresh (lines_of trace.now) (setup_of space).heap) }
 {
+    // For the proof alone: the lines name only mutators and roots that are there.
     let _ = trace.lines();
     match replay_registers(alloc, trace, &space, &mut mutators) {
         Ok(ran) => match space.finish(alloc, mutators) {
