@@ -1,7 +1,7 @@
 //! Dumps with each byte changed to each other value.
-use crate::encoded::{Change, Whole, changed};
+use crate::dump_bytes::{Change, Whole, changed};
 use crate::expected::expect_eq;
-use crate::judged::{Report, report_on, report_on_large};
+use crate::judged_dumps::{Report, report_on, report_on_large};
 use comp_audit::{AuditFault, DumpFault, Verdict};
 use page_plan::Plan;
 use std::alloc::Global;
@@ -42,7 +42,7 @@ fn reckoned(rule: &Rule, at: usize, found: Report) -> Report {
 /// What is known of a dump: its bytes are those of this one with these changes, it is read with those of edition three
 /// or not, and the rules for each byte, of which the first counts.
 #[derive(Clone, Copy)]
-pub struct Known<'a> {
+pub struct KnownDump<'a> {
     pub dump: &'a Whole,
     pub changes: &'a [Change],
     pub large: bool,
@@ -69,7 +69,7 @@ fn rule_for(rules: &[Rule], at: usize, byte: u8) -> Option<&Rule> {
 }
 
 // Checks the report for this byte at that position.
-fn expect_reckoned(rt: &impl Abort, known: &Known<'_>, found: Report, at: usize, byte: u8) {
+fn expect_reckoned(rt: &impl Abort, known: &KnownDump<'_>, found: Report, at: usize, byte: u8) {
     let own = rule_for(known.own_rules, at, byte);
     let Some(rule) = own.or(rule_for(known.rules, at, byte)) else {
         rt.panic("no rule")
@@ -82,7 +82,13 @@ fn expect_reckoned(rt: &impl Abort, known: &Known<'_>, found: Report, at: usize,
 
 // Checks each other value at each position of a dump with these bytes. The last value at a position is the right one,
 // which stays.
-fn expect_each(rt: &impl Abort, alloc: Global, plan: &Plan, known: &Known<'_>, bytes: &mut [u8]) {
+fn expect_each(
+    rt: &impl Abort,
+    alloc: Global,
+    plan: &Plan,
+    known: &KnownDump<'_>,
+    bytes: &mut [u8],
+) {
     let mut right = 0;
     let mut byte = 0u8;
     for n in 0..bytes.len().saturating_mul(256) {
@@ -104,7 +110,7 @@ fn expect_each(rt: &impl Abort, alloc: Global, plan: &Plan, known: &Known<'_>, b
 
 /// Checks that the dump has its number of bytes, that each change of a byte is reported as the first rule for it says,
 /// and that the dump is lawful with all bytes right again.
-pub fn expect_bytes(rt: &impl Abort, alloc: Global, plan: &Plan, known: &Known<'_>) {
+pub fn expect_bytes(rt: &impl Abort, alloc: Global, plan: &Plan, known: &KnownDump<'_>) {
     let mut bytes = changed(rt, alloc, known.dump, known.changes);
     expect_eq(rt, At::new("bytes", 0), bytes.len(), known.length);
     expect_each(rt, alloc, plan, known, &mut bytes);

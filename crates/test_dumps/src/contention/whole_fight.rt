@@ -4,8 +4,8 @@ ghost use Rattle.comp_mutator.specs.Finishes.{IsOfFlip};
 ghost use Rattle.comp_mutator.specs.Mutators.{setup_of, AreMutatorsOf};
 
 use crate::contention::fights::Fight;
-use crate::contention::journals::expect_page;
-use crate::contention::writing::{count_entries, expect_full, write_at_once};
+use crate::contention::left_journals::expect_page;
+use crate::contention::racing_writes::{count_entries, expect_full, write_at_once};
 use crate::expected::expect_eq;
 use comp_audit::{Dump, Verdict, audit};
 use comp_mutator::{Finished, Mutator, Space, flip};

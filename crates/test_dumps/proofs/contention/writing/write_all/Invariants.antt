@@ -1,5 +1,0 @@
-use Rattle.comp_mutator.specs.Mutators.{IsMutatorOf}
-use Rattle.test_dumps.proofs.contention.writing.write_all.Given as goal
-
-abbrev pub invariant-loop-step : goal.invariant-loop-step
-invariant-loop-step g l = IsMutatorOf l.space l.m

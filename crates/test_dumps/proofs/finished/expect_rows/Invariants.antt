@@ -1,5 +1,0 @@
-use Rattle.comp_mutator.specs.Mutators.{AreMutatorsOf}
-use Rattle.test_dumps.proofs.finished.expect_rows.Given as goal
-
-abbrev pub invariant-loop-at : goal.invariant-loop-at
-invariant-loop-at g l = AreMutatorsOf l.space l.mutators

@@ -1,4 +1,0 @@
-use Rattle.test_dumps.proofs.finished.expect_run.Given as goal
-
-abbrev pub ghosts-expect_run_of : goal.ghosts-expect_run_of
-ghosts-expect_run_of g a = record { name = a.blank.name; parts = a.blank.parts }

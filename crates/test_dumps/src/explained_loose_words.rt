@@ -1,0 +1,152 @@
+//! What is said of loose references: the word, and the last entry at its offset. All numbers are worked by hand.
+use crate::dump_bytes::{Change, Whole, encoded};
+use crate::dumps_in_memory::read;
+use crate::expected::expect_eq;
+use crate::explained_entries::{ENTRIES, NONE_ON_1, REFERENCE_END};
+use crate::explained_faults::{ExplainedDump, expect_explained};
+use comp_audit::{AuditFault, EntryCause, Explanation, LooseEntry, LooseWordAt, explain};
+use comp_journal::Entry;
+use heap_layout::Kind;
+use page_plan::Plan;
+use std::alloc::Global;
+use std::process::Abort;
+use test_support::{At, REFERENCE, REFERENCE_VALUE, T, Worked, plan_of};
+
+// The end of an entry that writes T + 1: the writer is 0, the kind 1, the offset 3, and (T + 1) * 2^24 is 2^57 + 2^24.
+const INTO_FIRST: u64 = 144_115_188_092_829_952;
+
+// For the plan of the three objects.
+static LOOSE: [ExplainedDump; 2] = [
+    // A reference into an object, by the one entry of page 0.
+    ExplainedDump(
+        Whole::Linked,
+        &[
+            Change(REFERENCE, 8, 8, T + 1),
+            Change(REFERENCE_VALUE, 8, 8, T + 1),
+        ],
+        Some(Explanation::LooseReference(LooseWordAt {
+            page: 0,
+            offset: 3,
+            is: T + 1,
+            entry: Some(LooseEntry {
+                number: 0,
+                entry: Entry {
+                    stamp: 1,
+                    writer: 0,
+                    kind: Kind::Reference,
+                    offset: 3,
+                    value: T + 1,
+                },
+                cause: Some(EntryCause::LeadsNowhere),
+            }),
+        })),
+    ),
+    // By the second of two entries, after one that leads to an object.
+    ExplainedDump(
+        Whole::Linked,
+        &[
+            Change(REFERENCE, 8, 8, T + 1),
+            Change(ENTRIES, 4, 4, 2),
+            Change(REFERENCE_VALUE, 8, 8, T),
+            Change(REFERENCE_END, 0, 8, 2),
+            Change(REFERENCE_END, 0, 11, INTO_FIRST),
+            NONE_ON_1,
+        ],
+        Some(Explanation::LooseReference(LooseWordAt {
+            page: 0,
+            offset: 3,
+            is: T + 1,
+            entry: Some(LooseEntry {
+                number: 1,
+                entry: Entry {
+                    stamp: 2,
+                    writer: 0,
+                    kind: Kind::Reference,
+                    offset: 3,
+                    value: T + 1,
+                },
+                cause: Some(EntryCause::LeadsNowhere),
+            }),
+        })),
+    ),
+];
+
+#[test]
+fn a_loose_reference_is_explained_by_the_last_entry_at_its_offset(rt: HostRuntime) {
+    expect_explained(&rt, &LOOSE);
+}
+
+// An address in the dump after a new object, and what is said if it is asked for as a loose reference.
+struct AskedWord(u64, Explanation);
+
+static ASKED: [AskedWord; 5] = [
+    // No entry of page 0 is at offset 0, where page 1 has one.
+    AskedWord(
+        T,
+        Explanation::LooseReference(LooseWordAt {
+            page: 0,
+            offset: 0,
+            is: 4_295_032_832,
+            entry: None,
+        }),
+    ),
+    // Nothing is wrong with these entries.
+    AskedWord(
+        T + 3,
+        Explanation::LooseReference(LooseWordAt {
+            page: 0,
+            offset: 3,
+            is: T + 64,
+            entry: Some(LooseEntry {
+                number: 0,
+                entry: Entry {
+                    stamp: 1,
+                    writer: 0,
+                    kind: Kind::Reference,
+                    offset: 3,
+                    value: T + 64,
+                },
+                cause: None,
+            }),
+        }),
+    ),
+    AskedWord(
+        T + 64,
+        Explanation::LooseReference(LooseWordAt {
+            page: 1,
+            offset: 0,
+            is: 0,
+            entry: Some(LooseEntry {
+                number: 0,
+                entry: Entry {
+                    stamp: 0,
+                    writer: 0,
+                    kind: Kind::Header,
+                    offset: 0,
+                    value: 0,
+                },
+                cause: None,
+            }),
+        }),
+    ),
+    // A page that was never built, and below to-space.
+    AskedWord(T + 128, Explanation::NoSuchFault),
+    AskedWord(0, Explanation::NoSuchFault),
+];
+
+// Checks what is said of words that lead to an object or to nothing, too.
+fn expect_asked(rt: &impl Abort, alloc: Global, plan: &Plan) {
+    let bytes = encoded(rt, alloc, &Whole::Linked);
+    let dump = read(alloc, &bytes).expect(rt, "a dump");
+    for (at, AskedWord(address, wanted)) in ASKED.iter().enumerate() {
+        let fault = AuditFault::LooseReference(*address);
+        let found = explain(alloc, plan, &dump, fault).expect(rt, "an explanation");
+        expect_eq(rt, At::new("asked", at), found, *wanted);
+    }
+}
+
+#[test]
+fn a_word_that_is_asked_for_is_explained_if_its_page_was_built(rt: HostRuntime) {
+    let plan = plan_of(&rt, rt.alloc(), Worked::Three).expect(&rt, "a plan");
+    expect_asked(&rt, rt.alloc(), &plan);
+}
