@@ -211,12 +211,6 @@ unprinted_run disk path bytes to (Err refusal) cause written =
     let is : refusal ≡ CannotPrint = cc in
     subst (IsOfWritingRun disk path bytes to) (sym is) written
 
-pub unprinted_line : (before after : Option (List ℕ)) (result : Result (Unit {0}) CommandRefusal) → OnErr result (result ≡ Err CannotPrint) → StopsUnprinted before after result
-unprinted_line before after (Ok _) cause = tt
-unprinted_line before after (Err refusal) cause =
-    let is : refusal ≡ CannotPrint = cc in
-    subst (λ (r : CommandRefusal). StopsUnprinted {T = Unit {0}} before after (Err r)) (sym is) tt
-
 pub of_unprinted : (result : Result (Unit {0}) CommandRefusal) (refusal : CommandRefusal) → result ≡ Err refusal → result ≡ Err CannotPrint → refusal ≡ CannotPrint
 of_unprinted result refusal is cause = cc
 

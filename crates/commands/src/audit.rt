@@ -1,11 +1,11 @@
 //! The command `audit`.
 ghost use Rattle.std.specs.Prelude.{◌≡◌, ◌-◌, ◌^◌, ◌<◌, false, IfOk, IfErr, OnOk};
-ghost use Rattle.heap_layout.specs.Counted.{inner_of, failures_of, writer_of};
+ghost use Rattle.heap_layout.specs.Counted.{inner_of, failures_of};
 ghost use Rattle.comp_audit.specs.Judged.{Judges};
 ghost use Rattle.command_line.specs.Runs.{audit_of};
-ghost use Rattle.commands.specs.Audits.{faults_by, FailsAudit, HasPassed, IsDumpAt, Passes, RefusedUnexplained, RefusesAudit, RefusesDumpAt, SomeAudit};
-ghost use Rattle.command_io.specs.Printing.{CountsPrint};
+ghost use Rattle.commands.specs.Audits.{faults_by, FailsAudit, HasPassed, IsDumpAt, Passes, RefusesAudit, RefusesDumpAt, SomeAudit, LeavesUnexplained};
 ghost use Rattle.command_io.specs.declared.refusal.CommandRefusal.TheVariants as refusals;
+ghost use Rattle.commands.specs.Leaving.{LeavesOutput};
 
 use crate::explained::print_explained;
 use command_io::{CommandRefusal, Files, Input, heap_at, print_line};
@@ -36,9 +36,7 @@ pub fn print_audit<F: Files, O: Write>(
     requires written { failures_of out.old < 2 ^ 64 - 1 }
     ensures passed { OnOk result (SomeAudit (F.disk files.now) (audit_of run.entry) (Passes (audit_of run.entry) (O.contents (inner_of out.old).now) (O.contents (inner_of out.new).now))) }
     ensures cause { IfErr result (RefusesAudit (F.disk files.now) (audit_of run.entry)) }
-    ensures unexplained { IfErr result (RefusedUnexplained (F.disk files.now) (audit_of run.entry) (O.contents (inner_of out.old).now) (O.contents (inner_of out.new).now)) }
-    ensures counts { CountsPrint (failures_of out.old) (failures_of out.new) result }
-    ensures same_writer { writer_of out.new ≡ writer_of out.old }
+    ensures output { LeavesOutput (LeavesUnexplained (F.disk files.now) (audit_of run.entry)) O.contents out.old out.new result }
 {
     if run.explain {
         print_explained(alloc, rt, files, &run, out)
@@ -60,9 +58,7 @@ fn print_plain<F: Files, O: Write>(
     requires written { failures_of out.old < 2 ^ 64 - 1 }
     ensures passed { OnOk result (SomeAudit (F.disk files.now) (audit_of run.now) (Passes (audit_of run.now) (O.contents (inner_of out.old).now) (O.contents (inner_of out.new).now))) }
     ensures cause { IfErr result (RefusesAudit (F.disk files.now) (audit_of run.now)) }
-    ensures unexplained { IfErr result (RefusedUnexplained (F.disk files.now) (audit_of run.now) (O.contents (inner_of out.old).now) (O.contents (inner_of out.new).now)) }
-    ensures counts { CountsPrint (failures_of out.old) (failures_of out.new) result }
-    ensures same_writer { writer_of out.new ≡ writer_of out.old }
+    ensures output { LeavesOutput (LeavesUnexplained (F.disk files.now) (audit_of run.now)) O.contents out.old out.new result }
 {
     let words = audited_words(alloc, rt, files, run)?;
     print_line("ok ", words, out)

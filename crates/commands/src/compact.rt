@@ -1,6 +1,6 @@
 //! The command `compact`.
 ghost use Rattle.std.specs.Prelude.{◌≡◌, ◌-◌, ◌^◌, ◌<◌, ◌≤◌, map, IfOk, IfErr, OnOk};
-ghost use Rattle.heap_layout.specs.Counted.{inner_of, failures_of, writer_of};
+ghost use Rattle.heap_layout.specs.Counted.{inner_of, failures_of};
 ghost use Rattle.heap_layout.specs.Heap.{live};
 ghost use Rattle.page_plan.specs.Sliding.{pages};
 ghost use Rattle.comp_mutator.specs.CellViews.{steps_of, AreNew};
@@ -9,7 +9,8 @@ ghost use Rattle.comp_mutator.specs.Mutators.{cells_of, pass_of, setup_of, AreMu
 ghost use Rattle.commands.specs.Compact.{Compacts, IsOfSweeping, IsSweptHeap, RefusesCompact, RefusesSweep};
 ghost use Rattle.command_io.specs.Dumps.{RefusedUncreated};
 ghost use Rattle.command_io.specs.Images.{SomeHeapAt, RefusesAt};
-ghost use Rattle.command_io.specs.Printing.{CountsPrint, RefusedUnprinted};
+ghost use Rattle.command_io.specs.Printing.{RefusedUnprinted};
+ghost use Rattle.commands.specs.Leaving.{LeavesOutput};
 
 use crate::flipping::{finish_all, flip_plan, plan_heap};
 use command_io::{CommandRefusal, Files, heap_at, print_line, write_dump_to};
@@ -46,9 +47,7 @@ pub fn print_compact<R: Threads + Wait + Sync, F: Files, O: Write>(
     ensures compacted { OnOk result (SomeHeapAt (F.disk files.old) large image.now (Compacts (F.disk files.old) dump.now workers files.new (O.contents (inner_of out.old).now) (O.contents (inner_of out.new).now))) }
     ensures cause { IfErr result (RefusesAt (F.disk files.old) large image.now (RefusesCompact (F.disk files.old) dump.now workers files.new)) }
     ensures uncreated { RefusedUncreated (F.disk files.old) files.old files.new result }
-    ensures counts { CountsPrint (failures_of out.old) (failures_of out.new) result }
-    ensures same_writer { writer_of out.new ≡ writer_of out.old }
-    ensures unprinted { RefusedUnprinted (O.contents (inner_of out.old).now) (O.contents (inner_of out.new).now) result }
+    ensures output { LeavesOutput RefusedUnprinted O.contents out.old out.new result }
 {
     let finished = swept_heap(alloc, rt, &*files, image, workers, large)?;
     let made = Dump::of(alloc, &finished, u32::from(workers), 0)?;

@@ -1,10 +1,11 @@
 //! What `audit --explain` prints: how much the dump has, and what is wrong where, or that nothing is.
 ghost use Rattle.std.specs.Prelude.{◌≡◌, ◌-◌, ◌^◌, ◌<◌, true, IfOk, IfErr, OnOk, Some};
-ghost use Rattle.heap_layout.specs.Counted.{inner_of, failures_of, writer_of};
+ghost use Rattle.heap_layout.specs.Counted.{inner_of, failures_of};
 ghost use Rattle.command_line.specs.Runs.{audit_of};
-ghost use Rattle.command_io.specs.Printing.{CountsPrint};
 ghost use Rattle.command_io.specs.declared.refusal.CommandRefusal.TheVariants as refusals;
-ghost use Rattle.commands.specs.Audits.{compared_lines, found_lines, FailsCompared, IsCompared, IsFound, Passes, PrintsCompared, RefusedUnexplained, RefusesAudit, RefusesCompared, SomeAudit};
+ghost use Rattle.commands.specs.Audits.{compared_lines, found_lines, FailsCompared, IsCompared, IsFound, Passes, PrintsCompared, RefusesAudit, RefusesCompared, SomeAudit, LeavesUnexplained};
+ghost use Rattle.commands.specs.Leaving.{LeavesOutput};
+ghost use Rattle.commands.specs.Replays.{StopsUnprinted};
 
 use crate::audit::{dump_at, verdict_by};
 use command_io::{CommandRefusal, Files, flush, heap_at, print_text};
@@ -65,9 +66,7 @@ pub(crate) fn print_explained<F: Files, O: Write>(
     requires written { failures_of out.old < 2 ^ 64 - 1 }
     ensures passed { OnOk result (SomeAudit (F.disk files.now) (audit_of run.now) (Passes (audit_of run.now) (O.contents (inner_of out.old).now) (O.contents (inner_of out.new).now))) }
     ensures cause { IfErr result (RefusesAudit (F.disk files.now) (audit_of run.now)) }
-    ensures unexplained { IfErr result (RefusedUnexplained (F.disk files.now) (audit_of run.now) (O.contents (inner_of out.old).now) (O.contents (inner_of out.new).now)) }
-    ensures counts { CountsPrint (failures_of out.old) (failures_of out.new) result }
-    ensures same_writer { writer_of out.new ≡ writer_of out.old }
+    ensures output { LeavesOutput (LeavesUnexplained (F.disk files.now) (audit_of run.now)) O.contents out.old out.new result }
 {
     let compared = compared_at(alloc, rt, files, run)?;
     print_compared(alloc, &compared, out)
@@ -124,8 +123,7 @@ fn print_compared<O: Write>(
     requires { failures_of out.old < 2 ^ 64 - 1 }
     ensures printed { OnOk result (PrintsCompared (O.contents (inner_of out.old).now) (O.contents (inner_of out.new).now) compared.now) }
     ensures cause { IfErr result (RefusesCompared (O.contents (inner_of out.old).now) (O.contents (inner_of out.new).now) compared.now) }
-    ensures counts { CountsPrint (failures_of out.old) (failures_of out.new) result }
-    ensures same_writer { writer_of out.new ≡ writer_of out.old }
+    ensures output { LeavesOutput StopsUnprinted O.contents out.old out.new result }
 {
     let text = format!(in alloc; "{compared}")?;
     print_text(&text, out)?;

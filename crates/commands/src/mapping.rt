@@ -1,14 +1,15 @@
 //! The command `map`.
 ghost use Rattle.std.specs.Prelude.{◌≡◌, ◌-◌, ◌^◌, ◌<◌, IfErr, IfOk, OnOk};
-ghost use Rattle.heap_layout.specs.Counted.{inner_of, failures_of, writer_of};
+ghost use Rattle.heap_layout.specs.Counted.{inner_of, failures_of};
 ghost use Rattle.comp_audit.specs.Judged.{faults, Judges};
 ghost use Rattle.command_line.specs.Maps.{map_of};
 ghost use Rattle.command_line.specs.Runs.{audit_of};
 ghost use Rattle.command_io.specs.NewImages.{RefusedUnmade};
-ghost use Rattle.command_io.specs.Printing.{CountsPrint, RefusedUnprinted};
+ghost use Rattle.command_io.specs.Printing.{RefusedUnprinted};
 ghost use Rattle.command_io.specs.declared.refusal.CommandRefusal.TheVariants as refusals;
 ghost use Rattle.commands.specs.Audits.{FailsCompared, SomeAudit};
 ghost use Rattle.commands.specs.Mapping.{audit_for, verdict_of, FailsMap, IsOfWritingMap, Maps, RefusesMap, SomeMap};
+ghost use Rattle.commands.specs.Leaving.{LeavesOutput};
 
 use crate::audit::dump_at;
 use command_io::{CommandRefusal, Files, heap_at, print_line, write_map_to};
@@ -72,9 +73,7 @@ pub fn print_map<F: Files, O: Write>(
     ensures mapped { OnOk result (SomeMap (F.disk files.old) (map_of run.entry) (Maps (F.disk files.old) run.entry.out.now files.new (O.contents (inner_of out.old).now) (O.contents (inner_of out.new).now))) }
     ensures cause { IfErr result (RefusesMap (F.disk files.old) (map_of run.entry) files.old files.new) }
     ensures unmade { RefusedUnmade (F.disk files.old) files.old files.new result }
-    ensures counts { CountsPrint (failures_of out.old) (failures_of out.new) result }
-    ensures same_writer { writer_of out.new ≡ writer_of out.old }
-    ensures unprinted { RefusedUnprinted (O.contents (inner_of out.old).now) (O.contents (inner_of out.new).now) result }
+    ensures output { LeavesOutput RefusedUnprinted O.contents out.old out.new result }
 {
     let drawn = drawn_at(alloc, rt, &*files, &run)?;
     write_drawn(alloc, files, run.out, &drawn, out)
@@ -181,9 +180,7 @@ fn write_drawn<F: Files, O: Write>(
     ensures mapped { OnOk result (Maps (F.disk files.old) path.now files.new (O.contents (inner_of out.old).now) (O.contents (inner_of out.new).now) drawn.now.plan) }
     ensures cause { IfErr result (IsOfWritingMap (F.disk files.old) path.now files.new) }
     ensures unmade { RefusedUnmade (F.disk files.old) files.old files.new result }
-    ensures counts { CountsPrint (failures_of out.old) (failures_of out.new) result }
-    ensures same_writer { writer_of out.new ≡ writer_of out.old }
-    ensures unprinted { RefusedUnprinted (O.contents (inner_of out.old).now) (O.contents (inner_of out.new).now) result }
+    ensures output { LeavesOutput RefusedUnprinted O.contents out.old out.new result }
 {
     let view = drawn.view();
     write_map_to(alloc, files, path, &drawn.plan, view.as_ref())?;

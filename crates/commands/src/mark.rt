@@ -1,16 +1,17 @@
 //! The command `mark`.
 ghost use Rattle.std.specs.Prelude.{◌≡◌, ◌-◌, ◌^◌, ◌<◌, IfErr, IfOk, OnOk};
-ghost use Rattle.heap_layout.specs.Counted.{inner_of, failures_of, writer_of};
+ghost use Rattle.heap_layout.specs.Counted.{inner_of, failures_of};
 ghost use Rattle.heap_layout.specs.Encoding.{encoding};
 ghost use Rattle.heap_layout.specs.ImageParts.{heap_in};
 ghost use Rattle.command_io.specs.Disk.{WritesWhole};
 ghost use Rattle.command_io.specs.ImageParts.{SomePartsAt};
 ghost use Rattle.command_io.specs.NewImages.{RefusedUnmade};
-ghost use Rattle.command_io.specs.Printing.{CountsPrint, RefusedUnprinted};
+ghost use Rattle.command_io.specs.Printing.{RefusedUnprinted};
 ghost use Rattle.command_io.specs.declared.refusal.Output.TheVariants as outputs;
 ghost use Rattle.commands.specs.Compact.{PrintsLive};
 ghost use Rattle.commands.specs.Marking.{IsMarkedHeap, IsUnmarkable, Marks, RefusesMark, RefusesMarking};
 ghost use Rattle.commands.specs.Nexts.{IsOfWritingNext};
+ghost use Rattle.commands.specs.Leaving.{LeavesOutput};
 
 use command_io::{CommandRefusal, Files, parts_at, print_line, write_image_to};
 use heap_layout::{Counted, ImageParts};
@@ -42,9 +43,7 @@ pub fn print_mark<F: Files, O: Write>(
     ensures marked { OnOk result (SomePartsAt (F.disk files.old) large image.now (Marks (F.disk files.old) new.now files.new (O.contents (inner_of out.old).now) (O.contents (inner_of out.new).now))) }
     ensures cause { IfErr result (RefusesMark (F.disk files.old) large image.now new.now files.old files.new) }
     ensures unmade { RefusedUnmade (F.disk files.old) files.old files.new result }
-    ensures counts { CountsPrint (failures_of out.old) (failures_of out.new) result }
-    ensures same_writer { writer_of out.new ≡ writer_of out.old }
-    ensures unprinted { RefusedUnprinted (O.contents (inner_of out.old).now) (O.contents (inner_of out.new).now) result }
+    ensures output { LeavesOutput RefusedUnprinted O.contents out.old out.new result }
 {
     let plan = marked_plan(alloc, rt, &*files, image, large)?;
     write_marked(files, new, &plan, out)
@@ -92,9 +91,7 @@ fn write_marked<F: Files, O: Write>(
     ensures printed { OnOk result (PrintsLive (O.contents (inner_of out.old).now) (O.contents (inner_of out.new).now) plan.now) }
     ensures cause { IfErr result (IsOfWritingNext (F.disk files.old) path.now (encoding plan.now) files.new) }
     ensures unmade { RefusedUnmade (F.disk files.old) files.old files.new result }
-    ensures counts { CountsPrint (failures_of out.old) (failures_of out.new) result }
-    ensures same_writer { writer_of out.new ≡ writer_of out.old }
-    ensures unprinted { RefusedUnprinted (O.contents (inner_of out.old).now) (O.contents (inner_of out.new).now) result }
+    ensures output { LeavesOutput RefusedUnprinted O.contents out.old out.new result }
 {
     write_image_to(files, path, plan.heap())?;
     print_line("live ", plan.live_words(), out)

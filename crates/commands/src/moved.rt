@@ -1,10 +1,11 @@
 //! The command `moved`.
 ghost use Rattle.std.specs.Prelude.{◌≡◌, ◌-◌, ◌^◌, ◌<◌, IfOk, IfErr, OnOk, OnErr, Err};
 ghost use Rattle.std.specs.Io.KnownBytes.{Appends};
-ghost use Rattle.heap_layout.specs.Counted.{inner_of, failures_of, writer_of};
-ghost use Rattle.command_io.specs.Printing.{CountsPrint, RefusedUnprinted};
+ghost use Rattle.heap_layout.specs.Counted.{inner_of, failures_of};
+ghost use Rattle.command_io.specs.Printing.{RefusedUnprinted};
 ghost use Rattle.command_io.specs.declared.refusal.CommandRefusal.TheVariants as refusals;
 ghost use Rattle.commands.specs.Moving.{moves_lines, refusal_of, FailsMoved, HasMoved, IsMovedAt, PrintsMoves, RefusesMoved, RefusesMovedAt, SomeMove};
+ghost use Rattle.commands.specs.Leaving.{LeavesOutput};
 
 use command_io::{CommandRefusal, Files, Input, heap_at, print_line};
 use heap_layout::Counted;
@@ -27,9 +28,7 @@ pub fn print_moved<F: Files, O: Write>(
     requires written { failures_of out.old < 2 ^ 64 - 1 }
     ensures passed { OnOk result (SomeMove (F.disk files.now) large image.now moved.now (PrintsMoves (O.contents (inner_of out.old).now) (O.contents (inner_of out.new).now))) }
     ensures cause { IfErr result (RefusesMoved (F.disk files.now) large image.now moved.now) }
-    ensures counts { CountsPrint (failures_of out.old) (failures_of out.new) result }
-    ensures same_writer { writer_of out.new ≡ writer_of out.old }
-    ensures unprinted { RefusedUnprinted (O.contents (inner_of out.old).now) (O.contents (inner_of out.new).now) result }
+    ensures output { LeavesOutput RefusedUnprinted O.contents out.old out.new result }
 {
     let moves = moves_at(alloc, files, image, moved, large)?;
     print_moves(moves, out)
@@ -40,8 +39,7 @@ fn print_moves<O: Write>(moves: Moves, out: &mut Counted<&mut O>) -> Result<(), 
     requires { failures_of out.old < 2 ^ 64 - 1 }
     ensures printed { OnOk result (Appends (O.contents (inner_of out.old).now) (O.contents (inner_of out.new).now) (moves_lines moves.words moves.objects)) }
     ensures cause { OnErr result (result ≡ Err refusals.CannotPrint) }
-    ensures counts { CountsPrint (failures_of out.old) (failures_of out.new) result }
-    ensures same_writer { writer_of out.new ≡ writer_of out.old }
+    ensures output { LeavesOutput RefusedUnprinted O.contents out.old out.new result }
 {
     print_line("ok ", moves.words, out)?;
     print_line("objects ", moves.objects, out)

@@ -1,17 +1,17 @@
 //! The command `next`.
 ghost use Rattle.std.specs.Prelude.{◌≡◌, ◌-◌, ◌^◌, ◌<◌, ◌≤◌, IfErr, IfOk, OnOk};
-ghost use Rattle.heap_layout.specs.Counted.{inner_of, failures_of, writer_of};
+ghost use Rattle.heap_layout.specs.Counted.{inner_of, failures_of};
 ghost use Rattle.heap_layout.specs.Encoding.{encoding};
 ghost use Rattle.heap_layout.specs.Heap.{live};
 ghost use Rattle.page_plan.specs.Sliding.{live_words};
 ghost use Rattle.command_io.specs.Disk.{WritesWhole};
 ghost use Rattle.command_io.specs.NewImages.{RefusedUnmade};
-ghost use Rattle.command_io.specs.Printing.{CountsPrint};
 ghost use Rattle.command_io.specs.declared.refusal.Output.TheVariants as outputs;
 ghost use Rattle.commands.specs.Outcomes.{IsHaltedBy};
 ghost use Rattle.commands.specs.Replays.{PrintsRun, StopsUnprinted};
 ghost use Rattle.commands.specs.Nexts.{IsGivenAt, IsOfWritingNext, IsWrittenNext, MakesNext, RefusesGivenAt, RefusesNext, RefusesWriting};
 ghost use Rattle.commands.specs.Cycled.{given_by, IsGivenWithin};
+ghost use Rattle.commands.specs.Leaving.{LeavesOutput};
 
 use crate::cycling::{Cycled, Handed, cycle_heap};
 use crate::replay::{inputs_at, print_halted};
@@ -50,9 +50,7 @@ pub fn print_next<F: Files, O: Write>(
     ensures made { OnOk result (MakesNext (F.disk files.old) asked.entry files.new (O.contents (inner_of out.old).now) (O.contents (inner_of out.new).now)) }
     ensures cause { IfErr result (RefusesNext (F.disk files.old) asked.entry files.old files.new (O.contents (inner_of out.old).now) (O.contents (inner_of out.new).now)) }
     ensures unmade { RefusedUnmade (F.disk files.old) files.old files.new result }
-    ensures counts { CountsPrint (failures_of out.old) (failures_of out.new) result }
-    ensures same_writer { writer_of out.new ≡ writer_of out.old }
-    ensures unprinted { StopsUnprinted (O.contents (inner_of out.old).now) (O.contents (inner_of out.new).now) result }
+    ensures output { LeavesOutput StopsUnprinted O.contents out.old out.new result }
 {
     let inputs = inputs_at(
         alloc,
@@ -111,9 +109,7 @@ fn write_made<F: Files, O: Write>(
     ensures done { OnOk result (IsWrittenNext (F.disk files.old) path.now files.new (O.contents (inner_of out.old).now) (O.contents (inner_of out.new).now) made) }
     ensures cause { IfErr result (RefusesWriting (F.disk files.old) path.now files.old files.new (O.contents (inner_of out.old).now) (O.contents (inner_of out.new).now) made) }
     ensures unmade { RefusedUnmade (F.disk files.old) files.old files.new result }
-    ensures counts { CountsPrint (failures_of out.old) (failures_of out.new) result }
-    ensures same_writer { writer_of out.new ≡ writer_of out.old }
-    ensures unprinted { StopsUnprinted (O.contents (inner_of out.old).now) (O.contents (inner_of out.new).now) result }
+    ensures output { LeavesOutput StopsUnprinted O.contents out.old out.new result }
 {
     match made {
         Ok(cycled) => write_cycled(files, path, &cycled, out),
@@ -133,9 +129,7 @@ fn write_cycled<F: Files, O: Write>(
     ensures printed { OnOk result (PrintsRun (O.contents (inner_of out.old).now) (O.contents (inner_of out.new).now) cycled.now.shown.items (live_words (live cycled.now.plan))) }
     ensures cause { IfErr result (IsOfWritingNext (F.disk files.old) path.now (encoding cycled.now.plan) files.new) }
     ensures unmade { RefusedUnmade (F.disk files.old) files.old files.new result }
-    ensures counts { CountsPrint (failures_of out.old) (failures_of out.new) result }
-    ensures same_writer { writer_of out.new ≡ writer_of out.old }
-    ensures unprinted { StopsUnprinted (O.contents (inner_of out.old).now) (O.contents (inner_of out.new).now) result }
+    ensures output { LeavesOutput StopsUnprinted O.contents out.old out.new result }
 {
     write_image_to(files, path, cycled.plan.heap())?;
     print_run(&cycled.shown, cycled.plan.live_words(), out)

@@ -1,11 +1,12 @@
 //! The command `plan`.
 ghost use Rattle.std.specs.Prelude.{◌≡◌, ◌-◌, ◌^◌, ◌<◌, IfErr, OnOk, OnErr, Err};
 ghost use Rattle.std.specs.Io.KnownBytes.{Appends};
-ghost use Rattle.heap_layout.specs.Counted.{inner_of, failures_of, writer_of};
+ghost use Rattle.heap_layout.specs.Counted.{inner_of, failures_of};
 ghost use Rattle.heap_layout.specs.Heap.{live};
-ghost use Rattle.command_io.specs.Printing.{CountsPrint, RefusedUnprinted};
+ghost use Rattle.command_io.specs.Printing.{RefusedUnprinted};
 ghost use Rattle.commands.specs.Plan.{plan_text, count_lines, page_lines, root_lines, IsOfPrinting, PrintsPlan, RefusesPlan};
 ghost use Rattle.command_io.specs.Images.{SomeHeapAt, RefusesAt};
+ghost use Rattle.commands.specs.Leaving.{LeavesOutput};
 
 use command_io::{CommandRefusal, Files, heap_at, print_line, print_numbered};
 use heap_layout::Counted;
@@ -28,9 +29,7 @@ pub fn print_plan<F: Files, O: Write>(
     requires { failures_of out.old < 2 ^ 64 - 1 }
     ensures printed { OnOk result (SomeHeapAt (F.disk files.now) large path.now (PrintsPlan (O.contents (inner_of out.old).now) (O.contents (inner_of out.new).now))) }
     ensures cause { IfErr result (RefusesAt (F.disk files.now) large path.now RefusesPlan) }
-    ensures counts { CountsPrint (failures_of out.old) (failures_of out.new) result }
-    ensures same_writer { writer_of out.new ≡ writer_of out.old }
-    ensures unprinted { RefusedUnprinted (O.contents (inner_of out.old).now) (O.contents (inner_of out.new).now) result }
+    ensures output { LeavesOutput RefusedUnprinted O.contents out.old out.new result }
 {
     let heap = heap_at(alloc, files, path, large)?;
     let plan = Plan::new(alloc, rt, heap)?;
@@ -46,9 +45,7 @@ fn write_plan<O: Write>(
     requires { failures_of out.old < 2 ^ 64 - 1 }
     ensures printed { OnOk result (Appends (O.contents (inner_of out.old).now) (O.contents (inner_of out.new).now) (plan_text plan.now)) }
     ensures cause { IfErr result IsOfPrinting }
-    ensures counts { CountsPrint (failures_of out.old) (failures_of out.new) result }
-    ensures same_writer { writer_of out.new ≡ writer_of out.old }
-    ensures unprinted { RefusedUnprinted (O.contents (inner_of out.old).now) (O.contents (inner_of out.new).now) result }
+    ensures output { LeavesOutput RefusedUnprinted O.contents out.old out.new result }
 {
     let roots = plan.forward_roots(alloc)?;
     write_counts(plan, out)?;
@@ -61,8 +58,7 @@ fn write_counts<O: Write>(plan: &Plan, out: &mut Counted<&mut O>) -> Result<(), 
     requires { failures_of out.old < 2 ^ 64 - 1 }
     ensures printed { OnOk result (Appends (O.contents (inner_of out.old).now) (O.contents (inner_of out.new).now) (count_lines (live plan.now))) }
     ensures cause { OnErr result (result ≡ Err CommandRefusal.CannotPrint) }
-    ensures counts { CountsPrint (failures_of out.old) (failures_of out.new) result }
-    ensures same_writer { writer_of out.new ≡ writer_of out.old }
+    ensures output { LeavesOutput RefusedUnprinted O.contents out.old out.new result }
 {
     print_line("live ", plan.live_words(), out)?;
     print_line("pages ", plan.pages(), out)
@@ -73,8 +69,7 @@ fn write_pages<O: Write>(plan: &Plan, out: &mut Counted<&mut O>) -> Result<(), C
     requires { failures_of out.old < 2 ^ 64 - 1 }
     ensures printed { OnOk result (Appends (O.contents (inner_of out.old).now) (O.contents (inner_of out.new).now) (page_lines (live plan.now))) }
     ensures cause { OnErr result (result ≡ Err CommandRefusal.CannotPrint) }
-    ensures counts { CountsPrint (failures_of out.old) (failures_of out.new) result }
-    ensures same_writer { writer_of out.new ≡ writer_of out.old }
+    ensures output { LeavesOutput RefusedUnprinted O.contents out.old out.new result }
 {
     for p in 0..plan.pages() {
         let first = plan.first_object(p).unwrap_or(0);
@@ -88,8 +83,7 @@ fn write_roots<O: Write>(roots: &[u64], out: &mut Counted<&mut O>) -> Result<(),
     requires { failures_of out.old < 2 ^ 64 - 1 }
     ensures printed { OnOk result (Appends (O.contents (inner_of out.old).now) (O.contents (inner_of out.new).now) (root_lines roots.now)) }
     ensures cause { OnErr result (result ≡ Err CommandRefusal.CannotPrint) }
-    ensures counts { CountsPrint (failures_of out.old) (failures_of out.new) result }
-    ensures same_writer { writer_of out.new ≡ writer_of out.old }
+    ensures output { LeavesOutput RefusedUnprinted O.contents out.old out.new result }
 {
     for (number, address) in roots.iter().enumerate() {
         print_numbered("root ", number as u64, " ", *address, out)?;

@@ -1,10 +1,10 @@
 //! The command `race`.
 ghost use Rattle.std.specs.Prelude.{◌≡◌, ◌-◌, ◌^◌, ◌<◌, ◌≤◌, IfErr, OnOk};
-ghost use Rattle.heap_layout.specs.Counted.{inner_of, failures_of, writer_of};
+ghost use Rattle.heap_layout.specs.Counted.{inner_of, failures_of};
 ghost use Rattle.command_io.specs.Dumps.{RefusedUncreated};
-ghost use Rattle.command_io.specs.Printing.{CountsPrint};
 ghost use Rattle.commands.specs.Races.{Races, RefusesRace};
 ghost use Rattle.commands.specs.Replays.{SomeRun, StopsUnprinted};
+ghost use Rattle.commands.specs.Leaving.{LeavesOutput};
 
 use crate::races::race_heap;
 use crate::replay::{inputs_at, write_outcome};
@@ -36,9 +36,7 @@ pub fn print_race<R: Threads + Wait + Sync, F: Files, O: Write>(
     ensures raced { OnOk result (SomeRun (F.disk files.old) asked.entry (Races (F.disk files.old) asked.entry files.new (O.contents (inner_of out.old).now) (O.contents (inner_of out.new).now))) }
     ensures cause { IfErr result (RefusesRace (F.disk files.old) asked.entry files.old files.new (O.contents (inner_of out.old).now) (O.contents (inner_of out.new).now)) }
     ensures uncreated { RefusedUncreated (F.disk files.old) files.old files.new result }
-    ensures counts { CountsPrint (failures_of out.old) (failures_of out.new) result }
-    ensures same_writer { writer_of out.new ≡ writer_of out.old }
-    ensures unprinted { StopsUnprinted (O.contents (inner_of out.old).now) (O.contents (inner_of out.new).now) result }
+    ensures output { LeavesOutput StopsUnprinted O.contents out.old out.new result }
 {
     let inputs = inputs_at(
         alloc,

@@ -1,17 +1,17 @@
 //! The command `replay`.
 ghost use Rattle.std.specs.Prelude.{◌≡◌, ◌-◌, ◌^◌, ◌<◌, ◌≤◌, length, IfErr, IfOk, OnOk};
-ghost use Rattle.heap_layout.specs.Counted.{inner_of, failures_of, writer_of};
+ghost use Rattle.heap_layout.specs.Counted.{inner_of, failures_of};
 ghost use Rattle.comp_mutator.specs.Finishes.{live_of, IsOfFlip};
 ghost use Rattle.comp_dump.specs.DumpEncoding.{dump_bytes};
 ghost use Rattle.command_io.specs.Disk.{WritesWhole};
 ghost use Rattle.command_io.specs.Dumps.{RefusedUncreated};
 ghost use Rattle.command_io.specs.Images.{IsHeapAt};
-ghost use Rattle.command_io.specs.Printing.{CountsPrint};
 ghost use Rattle.command_io.specs.Texts.{HasLinesAt};
 ghost use Rattle.command_io.specs.declared.refusal.Output.TheVariants as outputs;
 ghost use Rattle.comp_trace.specs.Traces.{lines_of, mutators_of, roots_of};
 ghost use Rattle.commands.specs.Outcomes.{IsHaltedBy, IsOfHalt, IsWritten, RefusesInputs, RefusesOutcome};
 ghost use Rattle.commands.specs.Replays.{dumped_of, IsOfWritingRun, PrintsRun, RefusesReplay, Replays, SomeRun, StopsUnprinted};
+ghost use Rattle.commands.specs.Leaving.{LeavesOutput};
 
 use crate::replays::{PrintedHalt, Replayed, replay_heap};
 use crate::shown::{print_run, send_shown};
@@ -42,9 +42,7 @@ pub fn print_replay<F: Files, O: Write>(
     ensures replayed { OnOk result (SomeRun (F.disk files.old) asked.entry (Replays (F.disk files.old) asked.entry files.new (O.contents (inner_of out.old).now) (O.contents (inner_of out.new).now))) }
     ensures cause { IfErr result (RefusesReplay (F.disk files.old) asked.entry files.old files.new (O.contents (inner_of out.old).now) (O.contents (inner_of out.new).now)) }
     ensures uncreated { RefusedUncreated (F.disk files.old) files.old files.new result }
-    ensures counts { CountsPrint (failures_of out.old) (failures_of out.new) result }
-    ensures same_writer { writer_of out.new ≡ writer_of out.old }
-    ensures unprinted { StopsUnprinted (O.contents (inner_of out.old).now) (O.contents (inner_of out.new).now) result }
+    ensures output { LeavesOutput StopsUnprinted O.contents out.old out.new result }
 {
     let inputs = inputs_at(
         alloc,
@@ -106,9 +104,7 @@ pub(crate) fn write_outcome<F: Files, O: Write>(
     ensures done { OnOk result (IsWritten (F.disk files.old) asked.entry files.new (O.contents (inner_of out.old).now) (O.contents (inner_of out.new).now) outcome) }
     ensures cause { IfErr result (RefusesOutcome (F.disk files.old) asked.entry files.old files.new (O.contents (inner_of out.old).now) (O.contents (inner_of out.new).now) outcome) }
     ensures uncreated { RefusedUncreated (F.disk files.old) files.old files.new result }
-    ensures counts { CountsPrint (failures_of out.old) (failures_of out.new) result }
-    ensures same_writer { writer_of out.new ≡ writer_of out.old }
-    ensures unprinted { StopsUnprinted (O.contents (inner_of out.old).now) (O.contents (inner_of out.new).now) result }
+    ensures output { LeavesOutput StopsUnprinted O.contents out.old out.new result }
 {
     match outcome {
         Ok(run) => write_run(alloc, files, asked, &run, out),
@@ -125,9 +121,7 @@ pub fn print_halted<O: Write>(
     requires written { failures_of out.old < 2 ^ 64 - 1 }
     ensures never { OnOk result ⊥ }
     ensures cause { IfErr result (IsOfHalt (O.contents (inner_of out.old).now) (O.contents (inner_of out.new).now) halted.now) }
-    ensures counts { CountsPrint (failures_of out.old) (failures_of out.new) result }
-    ensures same_writer { writer_of out.new ≡ writer_of out.old }
-    ensures unprinted { StopsUnprinted (O.contents (inner_of out.old).now) (O.contents (inner_of out.new).now) result }
+    ensures output { LeavesOutput StopsUnprinted O.contents out.old out.new result }
 {
     send_shown(&halted.shown, out)?;
     Err(halted.refusal)
@@ -147,9 +141,7 @@ fn write_run<F: Files, O: Write>(
     ensures printed { OnOk result (PrintsRun (O.contents (inner_of out.old).now) (O.contents (inner_of out.new).now) run.now.shown.items (live_of run.now.finished)) }
     ensures cause { IfErr result (IsOfWritingRun (F.disk files.old) asked.entry.dump.now (dump_bytes (dumped_of asked.entry.mutators asked.entry.fresh run.now.finished)) files.new) }
     ensures uncreated { RefusedUncreated (F.disk files.old) files.old files.new result }
-    ensures counts { CountsPrint (failures_of out.old) (failures_of out.new) result }
-    ensures same_writer { writer_of out.new ≡ writer_of out.old }
-    ensures unprinted { StopsUnprinted (O.contents (inner_of out.old).now) (O.contents (inner_of out.new).now) result }
+    ensures output { LeavesOutput StopsUnprinted O.contents out.old out.new result }
 {
     let dump = Dump::of(alloc, &run.finished, u32::from(asked.mutators), asked.fresh)?;
     write_dump_to(files, asked.dump, &dump)?;

@@ -6,12 +6,12 @@ ghost use Rattle.clap.specs.declared.error.kind.ErrorKind.TheVariants as kind;
 ghost use Rattle.heap_layout.specs.Counted.{inner_of, failures_of, is_flushed_of, writer_of};
 ghost use Rattle.command_line.specs.Asked.{AsksNoCommand, HasLawfulCounts};
 ghost use Rattle.command_io.specs.NewImages.{RefusedUnmade};
-ghost use Rattle.command_io.specs.Printing.{CountsPrint};
 ghost use Rattle.command_io.specs.declared.refusal.CommandRefusal.TheVariants.{OutOfMemory};
 ghost use Rattle.commands.specs.Replays.{StopsUnprinted};
 ghost use Rattle.commands.specs.Tasks.{DoesTask, HasAnswered, RefusesTask};
 ghost use Rattle.commands.specs.Answers.{status_of, DoesAsked, IsUnanswered};
 ghost use Rattle.commands.specs.declared.running.Unanswered.TheVariants.{Misused, Refused};
+ghost use Rattle.commands.specs.Leaving.{LeavesOutput};
 
 use crate::audit::print_audit;
 use crate::compact::print_compact;
@@ -136,10 +136,8 @@ fn perform<R: Threads + Wait + Sync, F: Files, O: Write>(
     ensures done { OnOk result (DoesTask (F.disk files.old) files.new (O.contents (inner_of out.old).now) (O.contents (inner_of out.new).now) task.entry) }
     ensures cause { IfErr result (RefusesTask (F.disk files.old) files.old files.new (O.contents (inner_of out.old).now) (O.contents (inner_of out.new).now) task.entry) }
     ensures flushed { OnOk result (is_flushed_of out.new ≡ true) }
-    ensures counts { CountsPrint (failures_of out.old) (failures_of out.new) result }
-    ensures same_writer { writer_of out.new ≡ writer_of out.old }
+    ensures output { LeavesOutput StopsUnprinted O.contents out.old out.new result }
     ensures uncreated { RefusedUnmade (F.disk files.old) files.old files.new result }
-    ensures unprinted { StopsUnprinted (O.contents (inner_of out.old).now) (O.contents (inner_of out.new).now) result }
 {
     print_task(alloc, rt, files, task, out)?;
     flush(out)
@@ -157,10 +155,8 @@ fn print_task<R: Threads + Wait + Sync, F: Files, O: Write>(
     requires counts { HasLawfulCounts task }
     ensures done { OnOk result (DoesTask (F.disk files.old) files.new (O.contents (inner_of out.old).now) (O.contents (inner_of out.new).now) task.entry) }
     ensures cause { IfErr result (RefusesTask (F.disk files.old) files.old files.new (O.contents (inner_of out.old).now) (O.contents (inner_of out.new).now) task.entry) }
-    ensures counts { CountsPrint (failures_of out.old) (failures_of out.new) result }
-    ensures same_writer { writer_of out.new ≡ writer_of out.old }
+    ensures output { LeavesOutput StopsUnprinted O.contents out.old out.new result }
     ensures uncreated { RefusedUnmade (F.disk files.old) files.old files.new result }
-    ensures unprinted { StopsUnprinted (O.contents (inner_of out.old).now) (O.contents (inner_of out.new).now) result }
 {
     match task {
         Task::Plan { image, large } => print_plan(alloc, rt, &*files, image, large, out),

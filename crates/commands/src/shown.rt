@@ -1,9 +1,10 @@
 //! Prints the values that the lines of a trace showed, and the line of live words after them.
 ghost use Rattle.std.specs.Prelude.{◌≡◌, ◌-◌, ◌^◌, ◌<◌, drop, true, OnOk, OnErr, Err};
 ghost use Rattle.std.specs.Io.KnownBytes.{Appends};
-ghost use Rattle.heap_layout.specs.Counted.{inner_of, failures_of, is_flushed_of, writer_of};
-ghost use Rattle.command_io.specs.Printing.{CountsPrint};
+ghost use Rattle.heap_layout.specs.Counted.{inner_of, failures_of, is_flushed_of};
 ghost use Rattle.commands.specs.Replays.{shown_line, shown_lines, PrintsRun};
+ghost use Rattle.commands.specs.Leaving.{LeavesOutput};
+ghost use Rattle.command_io.specs.Printing.{RefusedUnprinted};
 
 use command_io::{CommandRefusal, flush, print_bytes, print_line};
 use comp_trace::Shown;
@@ -24,8 +25,7 @@ pub fn print_run<O: Write>(
     requires { failures_of out.old < 2 ^ 64 - 1 }
     ensures printed { OnOk result (PrintsRun (O.contents (inner_of out.old).now) (O.contents (inner_of out.new).now) shown.now live) }
     ensures cause { OnErr result (result ≡ Err CommandRefusal.CannotPrint) }
-    ensures counts { CountsPrint (failures_of out.old) (failures_of out.new) result }
-    ensures same_writer { writer_of out.new ≡ writer_of out.old }
+    ensures output { LeavesOutput RefusedUnprinted O.contents out.old out.new result }
 {
     print_shown(shown, out)?;
     print_line("live ", live, out)
@@ -36,8 +36,7 @@ fn print_shown<O: Write>(shown: &[Shown], out: &mut Counted<&mut O>) -> Result<(
     requires { failures_of out.old < 2 ^ 64 - 1 }
     ensures printed { OnOk result (Appends (O.contents (inner_of out.old).now) (O.contents (inner_of out.new).now) (shown_lines shown.now)) }
     ensures cause { OnErr result (result ≡ Err CommandRefusal.CannotPrint) }
-    ensures counts { CountsPrint (failures_of out.old) (failures_of out.new) result }
-    ensures same_writer { writer_of out.new ≡ writer_of out.old }
+    ensures output { LeavesOutput RefusedUnprinted O.contents out.old out.new result }
 {
     for value in shown {
         print_value(*value, out)?;
@@ -53,9 +52,8 @@ pub fn send_shown<O: Write>(
     requires { failures_of out.old < 2 ^ 64 - 1 }
     ensures printed { OnOk result (Appends (O.contents (inner_of out.old).now) (O.contents (inner_of out.new).now) (shown_lines shown.now)) }
     ensures cause { OnErr result (result ≡ Err CommandRefusal.CannotPrint) }
-    ensures counts { CountsPrint (failures_of out.old) (failures_of out.new) result }
+    ensures output { LeavesOutput RefusedUnprinted O.contents out.old out.new result }
     ensures flushed { OnOk result (is_flushed_of out.new ≡ true) }
-    ensures same_writer { writer_of out.new ≡ writer_of out.old }
 {
     print_shown(shown, out)?;
     flush(out)
@@ -66,8 +64,7 @@ fn print_value<O: Write>(shown: Shown, out: &mut Counted<&mut O>) -> Result<(), 
     requires { failures_of out.old < 2 ^ 64 - 1 }
     ensures printed { OnOk result (Appends (O.contents (inner_of out.old).now) (O.contents (inner_of out.new).now) (shown_line shown)) }
     ensures cause { OnErr result (result ≡ Err CommandRefusal.CannotPrint) }
-    ensures counts { CountsPrint (failures_of out.old) (failures_of out.new) result }
-    ensures same_writer { writer_of out.new ≡ writer_of out.old }
+    ensures output { LeavesOutput RefusedUnprinted O.contents out.old out.new result }
 {
     let mut room = [0; LONGEST];
     let start = fill_line(shown, &mut room);

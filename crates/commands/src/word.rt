@@ -1,9 +1,10 @@
 //! The command `word`.
 ghost use Rattle.std.specs.Prelude.{◌≡◌, ◌-◌, ◌^◌, ◌<◌, IfOk, IfErr, OnOk};
-ghost use Rattle.heap_layout.specs.Counted.{inner_of, failures_of, writer_of};
-ghost use Rattle.command_io.specs.Printing.{CountsPrint, RefusedUnprinted};
+ghost use Rattle.heap_layout.specs.Counted.{inner_of, failures_of};
+ghost use Rattle.command_io.specs.Printing.{RefusedUnprinted};
 ghost use Rattle.command_io.specs.Images.{SomeHeapAt, RefusesAt};
 ghost use Rattle.commands.specs.Word.{IsWordAt, IsPast, PrintsWordAt, RefusesWord, RefusesPrint};
+ghost use Rattle.commands.specs.Leaving.{LeavesOutput};
 
 use crate::flipping::plan_heap;
 use command_io::{CommandRefusal, Files, heap_at, print_line};
@@ -29,9 +30,7 @@ pub fn print_word<F: Files, O: Write>(
     requires { failures_of out.old < 2 ^ 64 - 1 }
     ensures printed { OnOk result (SomeHeapAt (F.disk files.now) large path.now (PrintsWordAt index (O.contents (inner_of out.old).now) (O.contents (inner_of out.new).now))) }
     ensures cause { IfErr result (RefusesAt (F.disk files.now) large path.now (RefusesPrint index)) }
-    ensures counts { CountsPrint (failures_of out.old) (failures_of out.new) result }
-    ensures same_writer { writer_of out.new ≡ writer_of out.old }
-    ensures unprinted { RefusedUnprinted (O.contents (inner_of out.old).now) (O.contents (inner_of out.new).now) result }
+    ensures output { LeavesOutput RefusedUnprinted O.contents out.old out.new result }
 {
     let word = word_at(alloc, rt, files, path, large, index)?;
     print_line("", word, out)

@@ -3,7 +3,8 @@ use Rattle.std.proofs.lemmas.Result.{err_from_is_err_and, on_ok_weaker}
 use Rattle.heap_layout.specs.Counted.{inner_of, failures_of}
 use Rattle.comp_dump.specs.DumpEncoding.{dump_bytes}
 use Rattle.commands.proofs.Compacted.{of_all, of_dumping, of_line, of_sweep, uncounted, IsDumpOf}
-use Rattle.command_io.proofs.Outcomes.{created_line, uncounted_dump, uncreated, uncreated_by, unprinted}
+use Rattle.command_io.proofs.Outcomes.{created_line, uncounted_dump, uncreated, uncreated_by}
+use Rattle.commands.proofs.Leavings.{untouched}
 use Rattle.commands.proofs.compact.print_compact.Goals as goal
 
 -- The heap was not swept.
@@ -13,15 +14,10 @@ returns-in_err-finished-clause-cause g c =
     rw (p.1, p.2) (of_sweep (g.F.Files.disk c.args.files.now) c.args.large c.args.image.now c.args.dump.now c.args.workers c.args.files.now
     _ c.in_err-finished.ensures.cause)
 
-pub returns-in_err-finished-clause-counts : goal.returns-in_err-finished-clause-counts
-returns-in_err-finished-clause-counts g c =
+pub returns-in_err-finished-clause-output : goal.returns-in_err-finished-clause-output
+returns-in_err-finished-clause-output g c =
     let p = err_from_is_err_and c.from_residual.result c.from_residual.ensures.1 in
-    rw (p.1, p.2) (uncounted (g.F.Files.disk c.args.files.now) c.args.large c.args.image.now (failures_of c.args.out.now) _ c.in_err-finished.ensures.cause)
-
-pub returns-in_err-finished-clause-unprinted : goal.returns-in_err-finished-clause-unprinted
-returns-in_err-finished-clause-unprinted g c =
-    let p = err_from_is_err_and c.from_residual.result c.from_residual.ensures.1 in
-    rw (p.1, p.2) (unprinted (g.O.Write.contents (inner_of c.args.out.now).now) _)
+    rw (p.1, p.2) (untouched g.O.Write.contents c.args.out.now _ (uncounted (g.F.Files.disk c.args.files.now) c.args.large c.args.image.now (failures_of c.args.out.now) _ c.in_err-finished.ensures.cause))
 
 pub returns-in_err-finished-clause-uncreated : goal.returns-in_err-finished-clause-uncreated
 returns-in_err-finished-clause-uncreated g c =
@@ -45,15 +41,10 @@ returns-in_err-write_dump_to-clause-cause g c =
     rw (p.1, p.2) (of_dumping (g.F.Files.disk c.args.files.now) c.args.large c.args.image.now c.args.dump.now c.args.workers c.write_dump_to.new.files
     c.in_ok-finished.finished c.in_ok-made.made parts c.in_ok-finished.ensures.swept _ c.in_err-write_dump_to.ensures.cause)
 
-pub returns-in_err-write_dump_to-clause-counts : goal.returns-in_err-write_dump_to-clause-counts
-returns-in_err-write_dump_to-clause-counts g c =
+pub returns-in_err-write_dump_to-clause-output : goal.returns-in_err-write_dump_to-clause-output
+returns-in_err-write_dump_to-clause-output g c =
     let p = err_from_is_err_and c.from_residual-in_err-write_dump_to.result c.from_residual-in_err-write_dump_to.ensures.1 in
-    rw (p.1, p.2) (uncounted_dump (g.F.Files.disk c.args.files.now) c.args.dump.now (dump_bytes c.in_ok-made.made) (failures_of c.args.out.now) _ c.in_err-write_dump_to.ensures.cause)
-
-pub returns-in_err-write_dump_to-clause-unprinted : goal.returns-in_err-write_dump_to-clause-unprinted
-returns-in_err-write_dump_to-clause-unprinted g c =
-    let p = err_from_is_err_and c.from_residual-in_err-write_dump_to.result c.from_residual-in_err-write_dump_to.ensures.1 in
-    rw (p.1, p.2) (unprinted (g.O.Write.contents (inner_of c.args.out.now).now) _)
+    rw (p.1, p.2) (untouched g.O.Write.contents c.args.out.now _ (uncounted_dump (g.F.Files.disk c.args.files.now) c.args.dump.now (dump_bytes c.in_ok-made.made) (failures_of c.args.out.now) _ c.in_err-write_dump_to.ensures.cause))
 
 pub returns-in_err-write_dump_to-clause-uncreated : goal.returns-in_err-write_dump_to-clause-uncreated
 returns-in_err-write_dump_to-clause-uncreated g c =

@@ -10,6 +10,13 @@ pub returns-clause-cause : goal.returns-clause-cause
 returns-clause-cause g c =
     compared_cause (g.F.Files.disk c.args.files.now) (audit_of c.args.run.now) c.requires.explained c.in_ok-compared.compared _ _ c.print_compared.result c.in_ok-compared.ensures.compared c.print_compared.ensures.cause
 
-pub returns-clause-unexplained : goal.returns-clause-unexplained
-returns-clause-unexplained g c =
-    compared_left (g.F.Files.disk c.args.files.now) (audit_of c.args.run.now) c.requires.explained c.in_ok-compared.compared _ _ c.print_compared.result c.in_ok-compared.ensures.compared c.print_compared.ensures.cause
+pub returns-clause-output : goal.returns-clause-output
+returns-clause-output g c =
+    let disk = g.F.Files.disk c.args.files.now in
+    let asked = audit_of c.args.run.now in
+    let left = c.print_compared.ensures.output in
+    record {
+      counts = left.counts;
+      same_writer = left.same_writer;
+      printed = compared_left disk asked c.requires.explained c.in_ok-compared.compared _ _ c.print_compared.result c.in_ok-compared.ensures.compared c.print_compared.ensures.cause;
+    }

@@ -1,9 +1,10 @@
 use Rattle.std.proofs.Common.{inl, refl}
 use Rattle.std.proofs.lemmas.Result.{err_from_is_err_and}
 use Rattle.heap_layout.specs.Counted.{inner_of, failures_of}
-use Rattle.command_io.proofs.Outcomes.{unmade, unprinted}
+use Rattle.command_io.proofs.Outcomes.{unmade}
 use Rattle.command_line.specs.Maps.{map_of}
 use Rattle.commands.proofs.MapRuns.{made_map, refused_map, undrawn_uncounted}
+use Rattle.commands.proofs.Leavings.{untouched}
 use Rattle.commands.proofs.mapping.print_map.Goals as goal
 
 -- There is nothing to draw.
@@ -12,15 +13,10 @@ returns-in_err-drawn-clause-cause g c =
     let p = err_from_is_err_and c.from_residual.result c.from_residual.ensures.1 in
     rw (p.1, p.2) (inl (refl, c.in_err-drawn.ensures.cause))
 
-pub returns-in_err-drawn-clause-counts : goal.returns-in_err-drawn-clause-counts
-returns-in_err-drawn-clause-counts g c =
+pub returns-in_err-drawn-clause-output : goal.returns-in_err-drawn-clause-output
+returns-in_err-drawn-clause-output g c =
     let p = err_from_is_err_and c.from_residual.result c.from_residual.ensures.1 in
-    rw (p.1, p.2) (undrawn_uncounted (g.F.Files.disk c.args.files.now) (map_of c.args.run) (failures_of c.args.out.now) _ c.in_err-drawn.ensures.cause)
-
-pub returns-in_err-drawn-clause-unprinted : goal.returns-in_err-drawn-clause-unprinted
-returns-in_err-drawn-clause-unprinted g c =
-    let p = err_from_is_err_and c.from_residual.result c.from_residual.ensures.1 in
-    rw (p.1, p.2) (unprinted (g.O.Write.contents (inner_of c.args.out.now).now) _)
+    rw (p.1, p.2) (untouched g.O.Write.contents c.args.out.now _ (undrawn_uncounted (g.F.Files.disk c.args.files.now) (map_of c.args.run) (failures_of c.args.out.now) _ c.in_err-drawn.ensures.cause))
 
 pub returns-in_err-drawn-clause-unmade : goal.returns-in_err-drawn-clause-unmade
 returns-in_err-drawn-clause-unmade g c =

@@ -3,8 +3,9 @@ use Rattle.std.proofs.lemmas.Result.{err_from_is_err_and}
 use Rattle.std.specs.Io.KnownBytes.{Appends}
 use Rattle.heap_layout.specs.Counted.{inner_of, failures_of}
 use Rattle.command_io.specs.Printing.{named}
-use Rattle.command_io.proofs.Outcomes.{uncounted_map, unmade_line, unmade_map, unprinted}
+use Rattle.command_io.proofs.Outcomes.{uncounted_map, unmade_line, unmade_map}
 use Rattle.commands.proofs.MapRuns.{mapped_ok, unprinted_map, writing_map}
+use Rattle.commands.proofs.Leavings.{untouched}
 use Rattle.commands.proofs.mapping.write_drawn.Goals as goal
 
 -- The picture was not written.
@@ -13,15 +14,10 @@ returns-in_err-write_map_to-clause-cause g c =
     let p = err_from_is_err_and c.from_residual.result c.from_residual.ensures.1 in
     rw (p.1, p.2) (writing_map (g.F.Files.disk c.args.files.now) c.args.path.now c.write_map_to.new.files _ c.in_err-write_map_to.ensures.cause)
 
-pub returns-in_err-write_map_to-clause-counts : goal.returns-in_err-write_map_to-clause-counts
-returns-in_err-write_map_to-clause-counts g c =
+pub returns-in_err-write_map_to-clause-output : goal.returns-in_err-write_map_to-clause-output
+returns-in_err-write_map_to-clause-output g c =
     let p = err_from_is_err_and c.from_residual.result c.from_residual.ensures.1 in
-    rw (p.1, p.2) (uncounted_map (g.F.Files.disk c.args.files.now) c.args.path.now (failures_of c.args.out.now) _ c.in_err-write_map_to.ensures.cause)
-
-pub returns-in_err-write_map_to-clause-unprinted : goal.returns-in_err-write_map_to-clause-unprinted
-returns-in_err-write_map_to-clause-unprinted g c =
-    let p = err_from_is_err_and c.from_residual.result c.from_residual.ensures.1 in
-    rw (p.1, p.2) (unprinted (g.O.Write.contents (inner_of c.args.out.now).now) _)
+    rw (p.1, p.2) (untouched g.O.Write.contents c.args.out.now _ (uncounted_map (g.F.Files.disk c.args.files.now) c.args.path.now (failures_of c.args.out.now) _ c.in_err-write_map_to.ensures.cause))
 
 pub returns-in_err-write_map_to-clause-unmade : goal.returns-in_err-write_map_to-clause-unmade
 returns-in_err-write_map_to-clause-unmade g c =

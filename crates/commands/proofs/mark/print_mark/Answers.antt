@@ -1,8 +1,9 @@
 use Rattle.std.proofs.Common.{inl, refl}
 use Rattle.std.proofs.lemmas.Result.{err_from_is_err_and}
 use Rattle.heap_layout.specs.Counted.{inner_of, failures_of}
-use Rattle.command_io.proofs.Outcomes.{unmade, unprinted}
+use Rattle.command_io.proofs.Outcomes.{unmade}
 use Rattle.commands.proofs.MarkRuns.{made_mark, refused_mark, uncounted_marking}
+use Rattle.commands.proofs.Leavings.{untouched}
 use Rattle.commands.proofs.mark.print_mark.Goals as goal
 
 -- There is no marked heap.
@@ -11,15 +12,10 @@ returns-in_err-plan-clause-cause g c =
     let p = err_from_is_err_and c.from_residual.result c.from_residual.ensures.1 in
     rw (p.1, p.2) (inl (refl, c.in_err-plan.ensures.cause))
 
-pub returns-in_err-plan-clause-counts : goal.returns-in_err-plan-clause-counts
-returns-in_err-plan-clause-counts g c =
+pub returns-in_err-plan-clause-output : goal.returns-in_err-plan-clause-output
+returns-in_err-plan-clause-output g c =
     let p = err_from_is_err_and c.from_residual.result c.from_residual.ensures.1 in
-    rw (p.1, p.2) (uncounted_marking (g.F.Files.disk c.args.files.now) c.args.large c.args.image.now (failures_of c.args.out.now) _ c.in_err-plan.ensures.cause)
-
-pub returns-in_err-plan-clause-unprinted : goal.returns-in_err-plan-clause-unprinted
-returns-in_err-plan-clause-unprinted g c =
-    let p = err_from_is_err_and c.from_residual.result c.from_residual.ensures.1 in
-    rw (p.1, p.2) (unprinted (g.O.Write.contents (inner_of c.args.out.now).now) _)
+    rw (p.1, p.2) (untouched g.O.Write.contents c.args.out.now _ (uncounted_marking (g.F.Files.disk c.args.files.now) c.args.large c.args.image.now (failures_of c.args.out.now) _ c.in_err-plan.ensures.cause))
 
 pub returns-in_err-plan-clause-unmade : goal.returns-in_err-plan-clause-unmade
 returns-in_err-plan-clause-unmade g c =

@@ -9,8 +9,9 @@ use Rattle.command_io.specs.Disk.{WritesWhole}
 use Rattle.command_io.specs.NewImages.{IsOfWritingImage}
 use Rattle.command_io.specs.Printing.{named}
 use Rattle.command_io.specs.declared.refusal.Output.TheVariants as outputs
-use Rattle.command_io.proofs.Outcomes.{uncounted_image, unmade_by, unmade_line, unprinted}
+use Rattle.command_io.proofs.Outcomes.{uncounted_image, unmade_by, unmade_line}
 use Rattle.commands.proofs.NextRuns.{unprinted_next, writing_image}
+use Rattle.commands.proofs.Leavings.{untouched}
 use Rattle.commands.proofs.mark.write_marked.Goals as goal
 
 -- The image was not written.
@@ -21,15 +22,10 @@ returns-in_err-write_image_to-clause-cause g c =
     rw (p.1, p.2) (writing_image disk c.args.path.now _ c.write_image_to.new.files _
     (subst (λ (heap : Heap). IsOfWritingImage disk c.args.path.now (encoding heap) c.in_err-write_image_to.field-0.0) c.heap.ensures c.in_err-write_image_to.ensures.cause))
 
-pub returns-in_err-write_image_to-clause-counts : goal.returns-in_err-write_image_to-clause-counts
-returns-in_err-write_image_to-clause-counts g c =
+pub returns-in_err-write_image_to-clause-output : goal.returns-in_err-write_image_to-clause-output
+returns-in_err-write_image_to-clause-output g c =
     let p = err_from_is_err_and c.from_residual.result c.from_residual.ensures.1 in
-    rw (p.1, p.2) (uncounted_image (g.F.Files.disk c.args.files.now) c.args.path.now (encoding c.heap.result.now) (failures_of c.args.out.now) _ c.in_err-write_image_to.ensures.cause)
-
-pub returns-in_err-write_image_to-clause-unprinted : goal.returns-in_err-write_image_to-clause-unprinted
-returns-in_err-write_image_to-clause-unprinted g c =
-    let p = err_from_is_err_and c.from_residual.result c.from_residual.ensures.1 in
-    rw (p.1, p.2) (unprinted (g.O.Write.contents (inner_of c.args.out.now).now) _)
+    rw (p.1, p.2) (untouched g.O.Write.contents c.args.out.now _ (uncounted_image (g.F.Files.disk c.args.files.now) c.args.path.now (encoding c.heap.result.now) (failures_of c.args.out.now) _ c.in_err-write_image_to.ensures.cause))
 
 pub returns-in_err-write_image_to-clause-unmade : goal.returns-in_err-write_image_to-clause-unmade
 returns-in_err-write_image_to-clause-unmade g c =

@@ -1,4 +1,3 @@
-use Rattle.commands.proofs.Audited.{unprinted_line}
 use Rattle.commands.proofs.MovedRuns.{printed_moved, unprinted_moved}
 use Rattle.commands.proofs.moved.print_moved.Goals as goal
 
@@ -10,5 +9,5 @@ pub returns-clause-cause : goal.returns-clause-cause
 returns-clause-cause g c =
     unprinted_moved (g.F.Files.disk c.args.files.now) c.args.large c.args.image.now c.args.moved.now c.in_ok-moves.moves c.print_moves.result c.in_ok-moves.ensures.passed c.print_moves.ensures.cause
 
-pub returns-clause-unprinted : goal.returns-clause-unprinted
-returns-clause-unprinted g c = unprinted_line _ _ c.print_moves.result c.print_moves.ensures.cause
+pub returns-clause-output : goal.returns-clause-output
+returns-clause-output g c = c.print_moves.ensures.output

@@ -3,11 +3,12 @@ use Rattle.std.proofs.lemmas.Result.{err_from_is_err_and, IfErr-weaker}
 use Rattle.heap_layout.specs.Counted.{inner_of, failures_of}
 use Rattle.comp_trace.specs.Traces.{lines_of}
 use Rattle.command_io.proofs.Outcomes.{unmade}
-use Rattle.commands.proofs.ReplayRuns.{inputs_uncounted, unprinted_halt}
+use Rattle.commands.proofs.ReplayRuns.{inputs_uncounted}
 use Rattle.commands.specs.Nexts.{MakesNext, Nexts, RefusesNext, RefusesWriting}
 use Rattle.commands.specs.Cycled.{given_by}
 use Rattle.commands.proofs.CycledHeaps.{halted_cycle}
 use Rattle.commands.proofs.NextRuns.{err_then, made_err, made_ok, given_uncounted, ok_then}
+use Rattle.commands.proofs.Leavings.{untouched_run}
 use Rattle.commands.proofs.next.print_next.Goals as goal
 
 -- There is no heap, or no trace for it.
@@ -16,16 +17,11 @@ returns-in_err-inputs-clause-cause g c =
     let p = err_from_is_err_and c.from_residual.result c.from_residual.ensures.1 in
     rw (p.1, p.2) (inl c.in_err-inputs.ensures.cause)
 
-pub returns-in_err-inputs-clause-counts : goal.returns-in_err-inputs-clause-counts
-returns-in_err-inputs-clause-counts g c =
+pub returns-in_err-inputs-clause-output : goal.returns-in_err-inputs-clause-output
+returns-in_err-inputs-clause-output g c =
     let p = err_from_is_err_and c.from_residual.result c.from_residual.ensures.1 in
     let asked = c.args.asked in
-    rw (p.1, p.2) (inputs_uncounted (g.F.Files.disk c.args.files.now) asked.large asked.image.now asked.trace.now asked.mutators (failures_of c.args.out.now) _ c.in_err-inputs.ensures.cause)
-
-pub returns-in_err-inputs-clause-unprinted : goal.returns-in_err-inputs-clause-unprinted
-returns-in_err-inputs-clause-unprinted g c =
-    let p = err_from_is_err_and c.from_residual.result c.from_residual.ensures.1 in
-    rw (p.1, p.2) (unprinted_halt (g.O.Write.contents (inner_of c.args.out.now).now) _)
+    rw (p.1, p.2) (untouched_run g.O.Write.contents c.args.out.now _ (inputs_uncounted (g.F.Files.disk c.args.files.now) asked.large asked.image.now asked.trace.now asked.mutators (failures_of c.args.out.now) _ c.in_err-inputs.ensures.cause))
 
 pub returns-in_err-inputs-clause-unmade : goal.returns-in_err-inputs-clause-unmade
 returns-in_err-inputs-clause-unmade g c =
@@ -40,15 +36,10 @@ returns-in_err-handed-clause-cause g c =
     let read = c.in_ok-inputs.ensures in
     rw (p.1, p.2) (inr (inl (inputs.heap, read.heap, (lines_of inputs.trace, read.lines, c.in_err-handed.ensures.cause))))
 
-pub returns-in_err-handed-clause-counts : goal.returns-in_err-handed-clause-counts
-returns-in_err-handed-clause-counts g c =
+pub returns-in_err-handed-clause-output : goal.returns-in_err-handed-clause-output
+returns-in_err-handed-clause-output g c =
     let p = err_from_is_err_and c.from_residual-in_err-handed.result c.from_residual-in_err-handed.ensures.1 in
-    rw (p.1, p.2) (given_uncounted (g.F.Files.disk c.args.files.now) c.args.asked.mutators c.args.asked.marks (failures_of c.args.out.now) _ c.in_err-handed.ensures.cause)
-
-pub returns-in_err-handed-clause-unprinted : goal.returns-in_err-handed-clause-unprinted
-returns-in_err-handed-clause-unprinted g c =
-    let p = err_from_is_err_and c.from_residual-in_err-handed.result c.from_residual-in_err-handed.ensures.1 in
-    rw (p.1, p.2) (unprinted_halt (g.O.Write.contents (inner_of c.args.out.now).now) _)
+    rw (p.1, p.2) (untouched_run g.O.Write.contents c.args.out.now _ (given_uncounted (g.F.Files.disk c.args.files.now) c.args.asked.mutators c.args.asked.marks (failures_of c.args.out.now) _ c.in_err-handed.ensures.cause))
 
 pub returns-in_err-handed-clause-unmade : goal.returns-in_err-handed-clause-unmade
 returns-in_err-handed-clause-unmade g c =
@@ -110,11 +101,5 @@ returns-clause-cause g c =
 pub returns-clause-unmade : goal.returns-clause-unmade
 returns-clause-unmade g c = c.write_made.ensures.unmade
 
-pub returns-clause-counts : goal.returns-clause-counts
-returns-clause-counts g c = c.write_made.ensures.counts
-
-pub returns-clause-same_writer : goal.returns-clause-same_writer
-returns-clause-same_writer g c = c.write_made.ensures.same_writer
-
-pub returns-clause-unprinted : goal.returns-clause-unprinted
-returns-clause-unprinted g c = c.write_made.ensures.unprinted
+pub returns-clause-output : goal.returns-clause-output
+returns-clause-output g c = c.write_made.ensures.output

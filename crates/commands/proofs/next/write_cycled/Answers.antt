@@ -11,8 +11,8 @@ use Rattle.command_io.specs.declared.refusal.Output.TheVariants as outputs
 use Rattle.command_io.proofs.Outcomes.{uncounted_image, unmade_by, unmade_line}
 use Rattle.comp_trace.specs.declared.steps.shown.Shown.{Shown}
 use Rattle.commands.specs.Replays.{PrintsRun}
-use Rattle.commands.proofs.ReplayRuns.{unprinted_halt, unprinted_line}
 use Rattle.commands.proofs.NextRuns.{unprinted_next, writing_image}
+use Rattle.commands.proofs.Leavings.{untouched_run, left_stopped}
 use Rattle.commands.proofs.next.write_cycled.Goals as goal
 
 -- The image was not written.
@@ -23,15 +23,10 @@ returns-in_err-write_image_to-clause-cause g c =
     rw (p.1, p.2) (writing_image disk c.args.path.now _ c.write_image_to.new.files _
     (subst (λ (heap : Heap). IsOfWritingImage disk c.args.path.now (encoding heap) c.in_err-write_image_to.field-0.0) c.heap.ensures c.in_err-write_image_to.ensures.cause))
 
-pub returns-in_err-write_image_to-clause-counts : goal.returns-in_err-write_image_to-clause-counts
-returns-in_err-write_image_to-clause-counts g c =
+pub returns-in_err-write_image_to-clause-output : goal.returns-in_err-write_image_to-clause-output
+returns-in_err-write_image_to-clause-output g c =
     let p = err_from_is_err_and c.from_residual.result c.from_residual.ensures.1 in
-    rw (p.1, p.2) (uncounted_image (g.F.Files.disk c.args.files.now) c.args.path.now (encoding c.heap.result.now) (failures_of c.args.out.now) _ c.in_err-write_image_to.ensures.cause)
-
-pub returns-in_err-write_image_to-clause-unprinted : goal.returns-in_err-write_image_to-clause-unprinted
-returns-in_err-write_image_to-clause-unprinted g c =
-    let p = err_from_is_err_and c.from_residual.result c.from_residual.ensures.1 in
-    rw (p.1, p.2) (unprinted_halt (g.O.Write.contents (inner_of c.args.out.now).now) _)
+    rw (p.1, p.2) (untouched_run g.O.Write.contents c.args.out.now _ (uncounted_image (g.F.Files.disk c.args.files.now) c.args.path.now (encoding c.heap.result.now) (failures_of c.args.out.now) _ c.in_err-write_image_to.ensures.cause))
 
 pub returns-in_err-write_image_to-clause-unmade : goal.returns-in_err-write_image_to-clause-unmade
 returns-in_err-write_image_to-clause-unmade g c =
@@ -57,8 +52,8 @@ returns-clause-cause g c =
     unprinted_next disk c.args.path.now _ c.write_image_to.new.files c.print_run.result c.print_run.ensures.cause
     (subst (λ (heap : Heap). WritesWhole disk outputs.New c.args.path.now (encoding heap) c.write_image_to.new.files) c.heap.ensures c.in_ok-write_image_to.ensures.written)
 
-pub returns-clause-unprinted : goal.returns-clause-unprinted
-returns-clause-unprinted g c = unprinted_line _ _ c.print_run.result c.print_run.ensures.cause
+pub returns-clause-output : goal.returns-clause-output
+returns-clause-output g c = left_stopped g.O.Write.contents c.args.out.now c.print_run.new.out c.print_run.result c.print_run.ensures.output
 
 pub returns-clause-unmade : goal.returns-clause-unmade
 returns-clause-unmade g c = unmade_line (g.F.Files.disk c.args.files.now) c.args.files.now c.write_image_to.new.files c.print_run.result c.print_run.ensures.cause

@@ -5,8 +5,9 @@ use Rattle.comp_trace.specs.Traces.{lines_of}
 use Rattle.command_io.proofs.Outcomes.{uncreated}
 use Rattle.commands.specs.Races.{racing}
 use Rattle.commands.proofs.RaceRuns.{of_outcome_err, of_outcome_ok, race_halted_by}
-use Rattle.commands.proofs.ReplayRuns.{inputs_uncounted, unprinted_halt}
+use Rattle.commands.proofs.ReplayRuns.{inputs_uncounted}
 use Rattle.commands.proofs.TraceRuns.{of_inputs}
+use Rattle.commands.proofs.Leavings.{untouched_run}
 use Rattle.commands.proofs.race.print_race.Goals as goal
 
 -- There is no heap, or no trace for it.
@@ -16,16 +17,11 @@ returns-in_err-inputs-clause-cause g c =
     let output = g.O.Write.contents (inner_of c.args.out.now).now in
     rw (p.1, p.2) (of_inputs (racing c.args.asked.mutators c.args.asked.fresh) (g.F.Files.disk c.args.files.now) c.args.asked c.args.files.now c.args.files.now output output (Keeps-refl output) _ c.in_err-inputs.ensures.cause)
 
-pub returns-in_err-inputs-clause-counts : goal.returns-in_err-inputs-clause-counts
-returns-in_err-inputs-clause-counts g c =
+pub returns-in_err-inputs-clause-output : goal.returns-in_err-inputs-clause-output
+returns-in_err-inputs-clause-output g c =
     let p = err_from_is_err_and c.from_residual.result c.from_residual.ensures.1 in
     let paths = c.args.asked in
-    rw (p.1, p.2) (inputs_uncounted (g.F.Files.disk c.args.files.now) paths.large paths.image.now paths.trace.now paths.mutators (failures_of c.args.out.now) _ c.in_err-inputs.ensures.cause)
-
-pub returns-in_err-inputs-clause-unprinted : goal.returns-in_err-inputs-clause-unprinted
-returns-in_err-inputs-clause-unprinted g c =
-    let p = err_from_is_err_and c.from_residual.result c.from_residual.ensures.1 in
-    rw (p.1, p.2) (unprinted_halt (g.O.Write.contents (inner_of c.args.out.now).now) _)
+    rw (p.1, p.2) (untouched_run g.O.Write.contents c.args.out.now _ (inputs_uncounted (g.F.Files.disk c.args.files.now) paths.large paths.image.now paths.trace.now paths.mutators (failures_of c.args.out.now) _ c.in_err-inputs.ensures.cause))
 
 pub returns-in_err-inputs-clause-uncreated : goal.returns-in_err-inputs-clause-uncreated
 returns-in_err-inputs-clause-uncreated g c =
@@ -62,11 +58,5 @@ returns-clause-cause g c =
 pub returns-clause-uncreated : goal.returns-clause-uncreated
 returns-clause-uncreated g c = c.write_outcome.ensures.uncreated
 
-pub returns-clause-counts : goal.returns-clause-counts
-returns-clause-counts g c = c.write_outcome.ensures.counts
-
-pub returns-clause-same_writer : goal.returns-clause-same_writer
-returns-clause-same_writer g c = c.write_outcome.ensures.same_writer
-
-pub returns-clause-unprinted : goal.returns-clause-unprinted
-returns-clause-unprinted g c = c.write_outcome.ensures.unprinted
+pub returns-clause-output : goal.returns-clause-output
+returns-clause-output g c = c.write_outcome.ensures.output

@@ -5,9 +5,15 @@ use Rattle.heap_layout.specs.Counted.{failures_of, inner_of}
 use Rattle.comp_trace.specs.declared.steps.shown.Shown.{Shown}
 use Rattle.commands.specs.Replays.{shown_lines}
 use Rattle.commands.proofs.ReplayRuns.{halt_counted, halt_unprinted, of_unprinted}
+use Rattle.commands.proofs.Leavings.{left_stopped}
 use Rattle.commands.proofs.replay.print_halted.Goals as goal
 
 -- A call of the output failed.
+pub returns-in_err-send_shown-clause-output : goal.returns-in_err-send_shown-clause-output
+returns-in_err-send_shown-clause-output g c =
+    let p = err_from_is_err_and c.from_residual.result c.from_residual.ensures.1 in
+    rw (p.1, p.2) (left_stopped g.O.Write.contents c.args.out.now c.send_shown.new.out (Err c.in_err-send_shown.field-0.0) c.in_err-send_shown.ensures.output)
+
 pub returns-in_err-send_shown-clause-cause : goal.returns-in_err-send_shown-clause-cause
 returns-in_err-send_shown-clause-cause g c =
     let p = err_from_is_err_and c.from_residual.result c.from_residual.ensures.1 in
@@ -22,15 +28,15 @@ returns-clause-cause g c = inl (
       c.in_ok-send_shown.ensures.printed,
 )
 
-pub returns-clause-counts : goal.returns-clause-counts
-returns-clause-counts g c =
-    let halted = c.args.halted.now in
-    halt_counted halted.shown.items (failures_of c.args.out.now) (failures_of c.send_shown.new.out) halted.refusal c.in_ok-send_shown.ensures.counts c.requires.halted
-
-pub returns-clause-unprinted : goal.returns-clause-unprinted
-returns-clause-unprinted g c =
+pub returns-clause-output : goal.returns-clause-output
+returns-clause-output g c =
     let halted = c.args.halted.now in
     let before = g.O.Write.contents (inner_of c.args.out.now).now in
     let after = g.O.Write.contents (inner_of c.send_shown.new.out).now in
-    halt_unprinted before after halted.shown.items
-    (subst (λ (shown : List Shown). Appends before after (shown_lines shown)) c.deref.ensures.value c.in_ok-send_shown.ensures.printed) halted.refusal c.requires.halted
+    let sent = c.in_ok-send_shown.ensures in
+    record {
+      counts = halt_counted halted.shown.items (failures_of c.args.out.now) (failures_of c.send_shown.new.out) halted.refusal sent.output.counts c.requires.halted;
+      same_writer = sent.output.same_writer;
+      printed = halt_unprinted before after halted.shown.items
+          (subst (λ (shown : List Shown). Appends before after (shown_lines shown)) c.deref.ensures.value sent.printed) halted.refusal c.requires.halted;
+    }

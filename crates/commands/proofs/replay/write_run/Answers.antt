@@ -11,7 +11,8 @@ use Rattle.command_io.specs.declared.refusal.Output.TheVariants as outputs
 use Rattle.command_io.proofs.Outcomes.{created_line, uncounted_dump, uncreated_by}
 use Rattle.comp_trace.specs.declared.steps.shown.Shown.{Shown}
 use Rattle.commands.specs.Replays.{PrintsRun}
-use Rattle.commands.proofs.ReplayRuns.{dumped_same, unprinted_halt, unprinted_line, unprinted_run, writing_of}
+use Rattle.commands.proofs.ReplayRuns.{dumped_same, unprinted_run, writing_of}
+use Rattle.commands.proofs.Leavings.{untouched_run, left_stopped}
 use Rattle.commands.proofs.replay.write_run.Goals as goal
 
 -- The dump was not written.
@@ -26,16 +27,11 @@ returns-in_err-write_dump_to-clause-cause g c =
     rw (p.1, p.2) (writing_of disk asked.dump.now _ c.write_dump_to.new.files _
     (subst (λ (d : Dumped). IsOfDumping disk asked.dump.now (dump_bytes d) c.in_err-write_dump_to.field-0.0) same c.in_err-write_dump_to.ensures.cause))
 
-pub returns-in_err-write_dump_to-clause-counts : goal.returns-in_err-write_dump_to-clause-counts
-returns-in_err-write_dump_to-clause-counts g c =
+pub returns-in_err-write_dump_to-clause-output : goal.returns-in_err-write_dump_to-clause-output
+returns-in_err-write_dump_to-clause-output g c =
     let p = err_from_is_err_and c.from_residual-in_err-write_dump_to.result c.from_residual-in_err-write_dump_to.ensures.1 in
     let path = c.args.asked.dump.now in
-    rw (p.1, p.2) (uncounted_dump (g.F.Files.disk c.args.files.now) path (dump_bytes c.in_ok-dump.dump) (failures_of c.args.out.now) _ c.in_err-write_dump_to.ensures.cause)
-
-pub returns-in_err-write_dump_to-clause-unprinted : goal.returns-in_err-write_dump_to-clause-unprinted
-returns-in_err-write_dump_to-clause-unprinted g c =
-    let p = err_from_is_err_and c.from_residual-in_err-write_dump_to.result c.from_residual-in_err-write_dump_to.ensures.1 in
-    rw (p.1, p.2) (unprinted_halt (g.O.Write.contents (inner_of c.args.out.now).now) _)
+    rw (p.1, p.2) (untouched_run g.O.Write.contents c.args.out.now _ (uncounted_dump (g.F.Files.disk c.args.files.now) path (dump_bytes c.in_ok-dump.dump) (failures_of c.args.out.now) _ c.in_err-write_dump_to.ensures.cause))
 
 pub returns-in_err-write_dump_to-clause-uncreated : goal.returns-in_err-write_dump_to-clause-uncreated
 returns-in_err-write_dump_to-clause-uncreated g c =
@@ -68,8 +64,8 @@ returns-clause-cause g c =
     unprinted_run disk asked.dump.now _ c.write_dump_to.new.files c.print_run.result c.print_run.ensures.cause
     (subst (λ (d : Dumped). WritesWhole disk outputs.Dump asked.dump.now (dump_bytes d) c.write_dump_to.new.files) same c.in_ok-write_dump_to.ensures.written)
 
-pub returns-clause-unprinted : goal.returns-clause-unprinted
-returns-clause-unprinted g c = unprinted_line _ _ c.print_run.result c.print_run.ensures.cause
+pub returns-clause-output : goal.returns-clause-output
+returns-clause-output g c = left_stopped g.O.Write.contents c.args.out.now c.print_run.new.out c.print_run.result c.print_run.ensures.output
 
 pub returns-clause-uncreated : goal.returns-clause-uncreated
 returns-clause-uncreated g c = created_line (g.F.Files.disk c.args.files.now) c.args.files.now c.write_dump_to.new.files c.print_run.result c.print_run.ensures.cause

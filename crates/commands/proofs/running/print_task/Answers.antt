@@ -2,12 +2,14 @@ use Rattle.std.proofs.Common.{IfErr, OnOk, refl, subst, sym}
 use Rattle.heap_layout.specs.Counted.{inner_of}
 use Rattle.command_line.specs.declared.words.Task.{Task}
 use Rattle.command_line.specs.Runs.{audit_of}
-use Rattle.commands.specs.Audits.{RefusedUnexplained, RefusesAudit}
+use Rattle.commands.specs.Audits.{RefusedUnexplained, RefusesAudit, LeavesUnexplained}
 use Rattle.commands.specs.Tasks.{DoesTask, RefusesTask}
 use Rattle.command_io.proofs.Outcomes.{unmade_too}
-use Rattle.commands.proofs.ReplayRuns.{unmade_anyway, unprinted_line}
+use Rattle.commands.proofs.ReplayRuns.{unmade_anyway}
 use Rattle.commands.proofs.ComparedAudits.{both_err, left_unprinted}
 use Rattle.commands.proofs.Performed.{err_by}
+use Rattle.commands.specs.Replays.{StopsUnprinted}
+use Rattle.commands.proofs.Leavings.{line_left, left_by, left_stopped}
 use Rattle.commands.proofs.running.print_task.Goals as goal
 
 pub returns-in-Plan-clause-done : goal.returns-in-Plan-clause-done
@@ -34,9 +36,6 @@ pub returns-in-Replay-clause-cause : goal.returns-in-Replay-clause-cause
 returns-in-Replay-clause-cause g c =
     subst (λ (task : Task). IfErr c.print_replay.result (RefusesTask (g.F.Files.disk c.args.files.now) c.args.files.now c.print_replay.new.files (g.O.Write.contents (inner_of c.args.out.now).now) (g.O.Write.contents (inner_of c.print_replay.new.out).now) task)) (sym c.in-Replay.is) c.print_replay.ensures.cause
 
-pub returns-in-Replay-clause-unprinted : goal.returns-in-Replay-clause-unprinted
-returns-in-Replay-clause-unprinted g c = c.print_replay.ensures.unprinted
-
 pub returns-in-Race-clause-done : goal.returns-in-Race-clause-done
 returns-in-Race-clause-done g c =
     subst (λ (task : Task). OnOk c.print_race.result (DoesTask (g.F.Files.disk c.args.files.now) c.print_race.new.files (g.O.Write.contents (inner_of c.args.out.now).now) (g.O.Write.contents (inner_of c.print_race.new.out).now) task)) (sym c.in-Race.is) c.print_race.ensures.raced
@@ -44,9 +43,6 @@ returns-in-Race-clause-done g c =
 pub returns-in-Race-clause-cause : goal.returns-in-Race-clause-cause
 returns-in-Race-clause-cause g c =
     subst (λ (task : Task). IfErr c.print_race.result (RefusesTask (g.F.Files.disk c.args.files.now) c.args.files.now c.print_race.new.files (g.O.Write.contents (inner_of c.args.out.now).now) (g.O.Write.contents (inner_of c.print_race.new.out).now) task)) (sym c.in-Race.is) c.print_race.ensures.cause
-
-pub returns-in-Race-clause-unprinted : goal.returns-in-Race-clause-unprinted
-returns-in-Race-clause-unprinted g c = c.print_race.ensures.unprinted
 
 pub returns-in-Compact-clause-done : goal.returns-in-Compact-clause-done
 returns-in-Compact-clause-done g c =
@@ -70,12 +66,7 @@ returns-in-Audit-clause-cause g c =
     let before = g.O.Write.contents (inner_of c.args.out.now).now in
     let after = g.O.Write.contents (inner_of c.print_audit.new.out).now in
     subst (λ (task : Task). IfErr c.print_audit.result (RefusesTask disk c.args.files.now c.args.files.now before after task)) (sym c.in-Audit.is)
-    (both_err (RefusesAudit disk (audit_of c.in-Audit.run')) (RefusedUnexplained disk (audit_of c.in-Audit.run') before after) c.print_audit.result c.print_audit.ensures.cause c.print_audit.ensures.unexplained)
-
-pub returns-in-Audit-clause-unprinted : goal.returns-in-Audit-clause-unprinted
-returns-in-Audit-clause-unprinted g c =
-    left_unprinted (g.F.Files.disk c.args.files.now) (audit_of c.in-Audit.run') (g.O.Write.contents (inner_of c.args.out.now).now) (g.O.Write.contents (inner_of c.print_audit.new.out).now)
-    c.print_audit.result c.print_audit.ensures.unexplained
+    (both_err (RefusesAudit disk (audit_of c.in-Audit.run')) (RefusedUnexplained disk (audit_of c.in-Audit.run') before after) c.print_audit.result c.print_audit.ensures.cause c.print_audit.ensures.output.printed)
 
 pub returns-in-Moved-clause-cause : goal.returns-in-Moved-clause-cause
 returns-in-Moved-clause-cause g c =
@@ -89,14 +80,8 @@ pub returns-in-Next-clause-cause : goal.returns-in-Next-clause-cause
 returns-in-Next-clause-cause g c =
     subst (λ (task : Task). IfErr c.print_next.result (RefusesTask (g.F.Files.disk c.args.files.now) c.args.files.now c.print_next.new.files (g.O.Write.contents (inner_of c.args.out.now).now) (g.O.Write.contents (inner_of c.print_next.new.out).now) task)) (sym c.in-Next.is) c.print_next.ensures.cause
 
-pub returns-in-Next-clause-unprinted : goal.returns-in-Next-clause-unprinted
-returns-in-Next-clause-unprinted g c = c.print_next.ensures.unprinted
-
-pub returns-in-Next-clause-counts : goal.returns-in-Next-clause-counts
-returns-in-Next-clause-counts g c = c.print_next.ensures.counts
-
-pub returns-in-Next-clause-same_writer : goal.returns-in-Next-clause-same_writer
-returns-in-Next-clause-same_writer g c = c.print_next.ensures.same_writer
+pub returns-in-Next-clause-output : goal.returns-in-Next-clause-output
+returns-in-Next-clause-output g c = c.print_next.ensures.output
 
 pub returns-in-Mark-clause-done : goal.returns-in-Mark-clause-done
 returns-in-Mark-clause-done g c =
@@ -110,75 +95,47 @@ pub returns-in-Help-clause-cause : goal.returns-in-Help-clause-cause
 returns-in-Help-clause-cause g c =
     subst (λ (task : Task). IfErr c.print_help.result (RefusesTask (g.F.Files.disk c.args.files.now) c.args.files.now c.args.files.now (g.O.Write.contents (inner_of c.args.out.now).now) (g.O.Write.contents (inner_of c.print_help.new.out).now) task)) (sym c.in-Help.is) (err_by _ c.print_help.result c.print_help.ensures.cause refl)
 
-pub returns-in-Help-clause-unprinted : goal.returns-in-Help-clause-unprinted
-returns-in-Help-clause-unprinted g c = unprinted_line _ _ c.print_help.result c.print_help.ensures.cause
-
 pub returns-in-Version-clause-cause : goal.returns-in-Version-clause-cause
 returns-in-Version-clause-cause g c =
     subst (λ (task : Task). IfErr c.print_text.result (RefusesTask (g.F.Files.disk c.args.files.now) c.args.files.now c.args.files.now (g.O.Write.contents (inner_of c.args.out.now).now) (g.O.Write.contents (inner_of c.print_text.new.out).now) task)) (sym c.in-Version.is) (err_by _ c.print_text.result c.print_text.ensures.cause refl)
 
-pub returns-in-Version-clause-unprinted : goal.returns-in-Version-clause-unprinted
-returns-in-Version-clause-unprinted g c = unprinted_line _ _ c.print_text.result c.print_text.ensures.cause
+pub returns-in-Plan-clause-output : goal.returns-in-Plan-clause-output
+returns-in-Plan-clause-output g c = left_stopped g.O.Write.contents c.args.out.now c.print_plan.new.out c.print_plan.result c.print_plan.ensures.output
 
-pub returns-in-Plan-clause-counts : goal.returns-in-Plan-clause-counts
-returns-in-Plan-clause-counts g c = c.print_plan.ensures.counts
+pub returns-in-Word-clause-output : goal.returns-in-Word-clause-output
+returns-in-Word-clause-output g c = left_stopped g.O.Write.contents c.args.out.now c.print_word.new.out c.print_word.result c.print_word.ensures.output
 
-pub returns-in-Plan-clause-same_writer : goal.returns-in-Plan-clause-same_writer
-returns-in-Plan-clause-same_writer g c = c.print_plan.ensures.same_writer
+pub returns-in-Replay-clause-output : goal.returns-in-Replay-clause-output
+returns-in-Replay-clause-output g c = c.print_replay.ensures.output
 
-pub returns-in-Word-clause-counts : goal.returns-in-Word-clause-counts
-returns-in-Word-clause-counts g c = c.print_word.ensures.counts
+pub returns-in-Race-clause-output : goal.returns-in-Race-clause-output
+returns-in-Race-clause-output g c = c.print_race.ensures.output
 
-pub returns-in-Word-clause-same_writer : goal.returns-in-Word-clause-same_writer
-returns-in-Word-clause-same_writer g c = c.print_word.ensures.same_writer
+pub returns-in-Compact-clause-output : goal.returns-in-Compact-clause-output
+returns-in-Compact-clause-output g c = left_stopped g.O.Write.contents c.args.out.now c.print_compact.new.out c.print_compact.result c.print_compact.ensures.output
 
-pub returns-in-Replay-clause-counts : goal.returns-in-Replay-clause-counts
-returns-in-Replay-clause-counts g c = c.print_replay.ensures.counts
+pub returns-in-Audit-clause-output : goal.returns-in-Audit-clause-output
+returns-in-Audit-clause-output g c =
+    let disk = g.F.Files.disk c.args.files.now in
+    let asked = audit_of c.in-Audit.run' in
+    left_by g.O.Write.contents c.args.out.now c.print_audit.new.out c.print_audit.result (LeavesUnexplained disk asked) StopsUnprinted
+    (left_unprinted disk asked (g.O.Write.contents (inner_of c.args.out.now).now) (g.O.Write.contents (inner_of c.print_audit.new.out).now) c.print_audit.result) c.print_audit.ensures.output
 
-pub returns-in-Replay-clause-same_writer : goal.returns-in-Replay-clause-same_writer
-returns-in-Replay-clause-same_writer g c = c.print_replay.ensures.same_writer
+pub returns-in-Moved-clause-output : goal.returns-in-Moved-clause-output
+returns-in-Moved-clause-output g c = left_stopped g.O.Write.contents c.args.out.now c.print_moved.new.out c.print_moved.result c.print_moved.ensures.output
 
-pub returns-in-Race-clause-counts : goal.returns-in-Race-clause-counts
-returns-in-Race-clause-counts g c = c.print_race.ensures.counts
+pub returns-in-Mark-clause-output : goal.returns-in-Mark-clause-output
+returns-in-Mark-clause-output g c = left_stopped g.O.Write.contents c.args.out.now c.print_mark.new.out c.print_mark.result c.print_mark.ensures.output
 
-pub returns-in-Race-clause-same_writer : goal.returns-in-Race-clause-same_writer
-returns-in-Race-clause-same_writer g c = c.print_race.ensures.same_writer
+pub returns-in-Help-clause-output : goal.returns-in-Help-clause-output
+returns-in-Help-clause-output g c =
+    left_stopped g.O.Write.contents c.args.out.now c.print_help.new.out c.print_help.result
+    (line_left g.O.Write.contents c.args.out.now c.print_help.new.out c.print_help.result c.print_help.ensures.cause c.print_help.ensures.counts c.print_help.ensures.same_writer)
 
-pub returns-in-Compact-clause-counts : goal.returns-in-Compact-clause-counts
-returns-in-Compact-clause-counts g c = c.print_compact.ensures.counts
-
-pub returns-in-Compact-clause-same_writer : goal.returns-in-Compact-clause-same_writer
-returns-in-Compact-clause-same_writer g c = c.print_compact.ensures.same_writer
-
-pub returns-in-Audit-clause-counts : goal.returns-in-Audit-clause-counts
-returns-in-Audit-clause-counts g c = c.print_audit.ensures.counts
-
-pub returns-in-Moved-clause-counts : goal.returns-in-Moved-clause-counts
-returns-in-Moved-clause-counts g c = c.print_moved.ensures.counts
-
-pub returns-in-Audit-clause-same_writer : goal.returns-in-Audit-clause-same_writer
-returns-in-Audit-clause-same_writer g c = c.print_audit.ensures.same_writer
-
-pub returns-in-Moved-clause-same_writer : goal.returns-in-Moved-clause-same_writer
-returns-in-Moved-clause-same_writer g c = c.print_moved.ensures.same_writer
-
-pub returns-in-Mark-clause-counts : goal.returns-in-Mark-clause-counts
-returns-in-Mark-clause-counts g c = c.print_mark.ensures.counts
-
-pub returns-in-Mark-clause-same_writer : goal.returns-in-Mark-clause-same_writer
-returns-in-Mark-clause-same_writer g c = c.print_mark.ensures.same_writer
-
-pub returns-in-Help-clause-counts : goal.returns-in-Help-clause-counts
-returns-in-Help-clause-counts g c = c.print_help.ensures.counts
-
-pub returns-in-Help-clause-same_writer : goal.returns-in-Help-clause-same_writer
-returns-in-Help-clause-same_writer g c = c.print_help.ensures.same_writer
-
-pub returns-in-Version-clause-counts : goal.returns-in-Version-clause-counts
-returns-in-Version-clause-counts g c = c.print_text.ensures.counts
-
-pub returns-in-Version-clause-same_writer : goal.returns-in-Version-clause-same_writer
-returns-in-Version-clause-same_writer g c = c.print_text.ensures.same_writer
+pub returns-in-Version-clause-output : goal.returns-in-Version-clause-output
+returns-in-Version-clause-output g c =
+    left_stopped g.O.Write.contents c.args.out.now c.print_text.new.out c.print_text.result
+    (line_left g.O.Write.contents c.args.out.now c.print_text.new.out c.print_text.result c.print_text.ensures.cause c.print_text.ensures.counts c.print_text.ensures.same_writer)
 
 pub returns-in-Replay-clause-uncreated : goal.returns-in-Replay-clause-uncreated
 returns-in-Replay-clause-uncreated g c = unmade_too (g.F.Files.disk c.args.files.now) c.args.files.now c.print_replay.new.files c.print_replay.result c.print_replay.ensures.uncreated
@@ -221,11 +178,8 @@ pub returns-in-Map-clause-cause : goal.returns-in-Map-clause-cause
 returns-in-Map-clause-cause g c =
     subst (λ (task : Task). IfErr c.print_map.result (RefusesTask (g.F.Files.disk c.args.files.now) c.args.files.now c.print_map.new.files (g.O.Write.contents (inner_of c.args.out.now).now) (g.O.Write.contents (inner_of c.print_map.new.out).now) task)) (sym c.in-Map.is) c.print_map.ensures.cause
 
-pub returns-in-Map-clause-counts : goal.returns-in-Map-clause-counts
-returns-in-Map-clause-counts g c = c.print_map.ensures.counts
-
-pub returns-in-Map-clause-same_writer : goal.returns-in-Map-clause-same_writer
-returns-in-Map-clause-same_writer g c = c.print_map.ensures.same_writer
+pub returns-in-Map-clause-output : goal.returns-in-Map-clause-output
+returns-in-Map-clause-output g c = left_stopped g.O.Write.contents c.args.out.now c.print_map.new.out c.print_map.result c.print_map.ensures.output
 
 pub returns-in-Map-clause-uncreated : goal.returns-in-Map-clause-uncreated
 returns-in-Map-clause-uncreated g c = c.print_map.ensures.unmade

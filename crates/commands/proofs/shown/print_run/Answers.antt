@@ -1,7 +1,8 @@
-use Rattle.std.proofs.Common.{ℕ, subst, ◌∙◌}
-use Rattle.heap_layout.specs.Counted.{inner_of, failures_of}
-use Rattle.command_io.specs.Printing.{CountsPrint}
+use Rattle.std.proofs.Common.{◌∙◌}
+use Rattle.heap_layout.specs.Counted.{inner_of}
 use Rattle.commands.proofs.ReplayRuns.{printed_run}
+use Rattle.command_io.proofs.Printings.{counted_then}
+use Rattle.commands.proofs.Leavings.{line_left}
 use Rattle.commands.proofs.shown.print_run.Goals as goal
 
 pub returns-clause-printed : goal.returns-clause-printed
@@ -9,8 +10,8 @@ returns-clause-printed g c =
     printed_run (g.O.Write.contents (inner_of c.args.out.now).now) (g.O.Write.contents (inner_of c.print_shown.new.out).now) (g.O.Write.contents (inner_of c.print_line.new.out).now) _ _
     c.print_line.result c.in_ok-print_shown.ensures.printed c.print_line.ensures.printed
 
-pub returns-clause-counts : goal.returns-clause-counts
-returns-clause-counts g c = subst (λ (n : ℕ). CountsPrint n (failures_of c.print_line.new.out) c.print_line.result) c.in_ok-print_shown.ensures.counts c.print_line.ensures.counts
-
-pub returns-clause-same_writer : goal.returns-clause-same_writer
-returns-clause-same_writer g c = c.print_line.ensures.same_writer ∙ c.in_ok-print_shown.ensures.same_writer
+pub returns-clause-output : goal.returns-clause-output
+returns-clause-output g c =
+    let shown = c.in_ok-print_shown.ensures.output in
+    line_left g.O.Write.contents c.args.out.now c.print_line.new.out c.print_line.result c.print_line.ensures.cause (counted_then _ _ _ _ shown.counts c.print_line.ensures.counts)
+    (c.print_line.ensures.same_writer ∙ shown.same_writer)
