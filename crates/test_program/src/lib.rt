@@ -3,38 +3,38 @@
 #![tactic(auto)]
 
 #[cfg(test)]
-mod asking;
+mod all_runs;
 #[cfg(test)]
-mod cycling;
+mod asked_tasks;
 #[cfg(test)]
-mod judging;
+mod audit_runs;
 #[cfg(test)]
-mod large;
+mod begun_runs;
 #[cfg(test)]
-mod launching;
+mod edition_three_runs;
 #[cfg(test)]
-mod mapping;
+mod edition_two_runs;
 #[cfg(test)]
-mod marking;
+mod map_runs;
 #[cfg(test)]
-mod misused;
+mod mark_runs;
 #[cfg(test)]
-mod moving;
+mod misused_words;
 #[cfg(test)]
-mod printing;
+mod moved_runs;
 #[cfg(test)]
-mod programs;
+mod narrow_outputs;
 #[cfg(test)]
-mod racing;
+mod next_runs;
 #[cfg(test)]
-mod reaching;
+mod race_runs;
 #[cfg(test)]
-mod replaying;
+mod reachable_runs;
 #[cfg(test)]
-mod runs;
+mod replay_runs;
 #[cfg(test)]
-mod tables;
+mod taken_steps;
 #[cfg(test)]
-mod weak;
+mod whole_and_words_audits;
 #[cfg(test)]
-mod wording;
+mod word_plan_and_compact_runs;

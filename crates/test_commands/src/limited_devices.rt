@@ -22,19 +22,19 @@ struct Device<'a, R> {
 
 // A file that has room for a number of bytes, and may refuse permissions.
 #[derive(Drop)]
-struct Small<F: Read + Write + Seek + OpenFile + Drop> {
+struct SmallFile<F: Read + Write + Seek + OpenFile + Drop> {
     file: F,
     room: usize,
     permits: bool,
 }
 
-impl<F: Read + Write + Seek + OpenFile + Drop> Read for Small<F> {
+impl<F: Read + Write + Seek + OpenFile + Drop> Read for SmallFile<F> {
     fn read(&mut self, buf: &mut [u8]) -> IoResult<usize> {
         self.file.read(buf)
     }
 }
 
-impl<F: Read + Write + Seek + OpenFile + Drop> Write for Small<F> {
+impl<F: Read + Write + Seek + OpenFile + Drop> Write for SmallFile<F> {
     fn write(&mut self, buf: &[u8]) -> IoResult<usize> {
         let (taken, _) = buf.split_at(buf.len().min(self.room));
         if taken.is_empty() {
@@ -50,13 +50,13 @@ impl<F: Read + Write + Seek + OpenFile + Drop> Write for Small<F> {
     }
 }
 
-impl<F: Read + Write + Seek + OpenFile + Drop> Seek for Small<F> {
+impl<F: Read + Write + Seek + OpenFile + Drop> Seek for SmallFile<F> {
     fn seek(&mut self, to: SeekFrom) -> IoResult<u64> {
         self.file.seek(to)
     }
 }
 
-impl<F: Read + Write + Seek + OpenFile + Drop> OpenFile for Small<F> {
+impl<F: Read + Write + Seek + OpenFile + Drop> OpenFile for SmallFile<F> {
     fn metadata(&self) -> IoResult<Metadata> {
         self.file.metadata()
     }
@@ -82,16 +82,16 @@ impl<F: Read + Write + Seek + OpenFile + Drop> OpenFile for Small<F> {
 }
 
 impl<R: rt::Files> rt::Files for Device<'_, R> {
-    type File = Small<R::File>;
+    type File = SmallFile<R::File>;
 
     type Dir = R::Dir;
 
-    fn open_file(&self, how: &OpenOptions, path: &str) -> IoResult<Small<R::File>> {
+    fn open_file(&self, how: &OpenOptions, path: &str) -> IoResult<SmallFile<R::File>> {
         if !self.opens && path == PATH {
             return Err(Error::from(ErrorKind::PermissionDenied));
         }
         let file = self.rt.open_file(how, path)?;
-        Ok(Small {
+        Ok(SmallFile {
             file,
             room: self.room,
             permits: self.permits,
@@ -143,8 +143,8 @@ const PATH: &str = "filling.tests.out";
 
 const PART: &str = ".compressor-0.part";
 
-// A device, and the expected result of a file.
-struct Row {
+// What a device lets be done with its files, and the expected result of a file.
+struct DeviceLimits {
     // The number of bytes of the file that find no room.
     lacks: usize,
     renames: bool,
@@ -154,43 +154,43 @@ struct Row {
     whole: (bool, bool),
 }
 
-static ROWS: [Row; 6] = [
-    Row {
+static LIMITS: [DeviceLimits; 6] = [
+    DeviceLimits {
         lacks: usize::MAX,
         renames: true,
         permits: true,
         opens: true,
         whole: (false, false),
     },
-    Row {
+    DeviceLimits {
         lacks: 1,
         renames: true,
         permits: true,
         opens: true,
         whole: (false, false),
     },
-    Row {
+    DeviceLimits {
         lacks: 0,
         renames: false,
         permits: true,
         opens: true,
         whole: (false, false),
     },
-    Row {
+    DeviceLimits {
         lacks: 0,
         renames: true,
         permits: false,
         opens: true,
         whole: (true, false),
     },
-    Row {
+    DeviceLimits {
         lacks: 0,
         renames: true,
         permits: true,
         opens: false,
         whole: (true, false),
     },
-    Row {
+    DeviceLimits {
         lacks: 0,
         renames: true,
         permits: true,
@@ -229,12 +229,12 @@ fn refused(heap: Option<&MarkedHeap>, created: bool) -> CommandRefusal {
 
 // Writes these bytes to a device. Checks that the path has all of them, or what it had before, and that no file is left
 // beside it.
-fn expect_row<R: Abort + rt::Files + AllocGlobal>(
+fn expect_file<R: Abort + rt::Files + AllocGlobal>(
     rt: &R,
     dump: &Dump<'_>,
     heap: Option<&MarkedHeap>,
     bytes: &[u8],
-    row: &Row,
+    limits: &DeviceLimits,
     before: Option<&[u8]>,
 ) {
     if let Some(before) = before {
@@ -243,21 +243,21 @@ fn expect_row<R: Abort + rt::Files + AllocGlobal>(
     let device = (
         Device {
             rt,
-            room: bytes.len().saturating_sub(row.lacks),
-            renames: row.renames,
-            permits: row.permits,
-            opens: row.opens,
+            room: bytes.len().saturating_sub(limits.lacks),
+            renames: limits.renames,
+            permits: limits.permits,
+            opens: limits.opens,
         },
         rt.alloc(),
     );
     let found = write(&device, dump, heap);
     let whole = match before {
-        None => row.whole.0,
-        Some(_) => row.whole.1,
+        None => limits.whole.0,
+        Some(_) => limits.whole.1,
     };
     let wanted = match whole {
         true => Ok(()),
-        false => Err(refused(heap, (row.permits && row.opens) || before.is_none())),
+        false => Err(refused(heap, (limits.permits && limits.opens) || before.is_none())),
     };
     let left = bytes_at(rt, PATH);
     let is_left = match (&left, whole) {
@@ -266,7 +266,11 @@ fn expect_row<R: Abort + rt::Files + AllocGlobal>(
         (None, whole) => !whole && before.is_none(),
     };
     let clean = bytes_at(rt, PART).is_none();
-    assert!(rt; found == wanted && is_left && clean, "lacks {}", row.lacks);
+    assert!(rt;
+        found == wanted && is_left && clean,
+        "lacks {}",
+        limits.lacks
+    );
     if left.is_some() {
         fs::remove_file(rt, PATH)
             .ok()
@@ -275,15 +279,22 @@ fn expect_row<R: Abort + rt::Files + AllocGlobal>(
 }
 
 // Writes these bytes to each of the devices, over a file and without one.
-fn expect_rows<R: Abort + rt::Files + AllocGlobal>(
+fn expect_files<R: Abort + rt::Files + AllocGlobal>(
     rt: &R,
     dump: &Dump<'_>,
     heap: Option<&MarkedHeap>,
     bytes: &[u8],
 ) {
-    for row in &ROWS {
-        expect_row(rt, dump, heap, bytes, row, None);
-        expect_row(rt, dump, heap, bytes, row, Some(b"what was there before"));
+    for limits in &LIMITS {
+        expect_file(rt, dump, heap, bytes, limits, None);
+        expect_file(
+            rt,
+            dump,
+            heap,
+            bytes,
+            limits,
+            Some(b"what was there before"),
+        );
     }
 }
 
@@ -315,7 +326,7 @@ pub fn expect_filled<R: Abort + rt::Files + AllocGlobal>(rt: &R, dump: &[u8], im
     let _ = fs::remove_file(rt, PATH);
     let made = read_dump(rt.alloc(), &mut Counted::new(dump)).expect(rt, "a dump");
     let heap = read_image(rt.alloc(), &mut Counted::new(image)).expect(rt, "a heap");
-    expect_rows(rt, &made, None, dump);
-    expect_rows(rt, &made, Some(&heap), image);
+    expect_files(rt, &made, None, dump);
+    expect_files(rt, &made, Some(&heap), image);
     expect_given_up(rt);
 }

@@ -1,6 +1,6 @@
 //! Audits of forged dumps.
-use crate::places::{File, Memory};
-use crate::printing::{Asked, is_answered};
+use crate::memory_files::{File, Memory};
+use crate::printed_answers::{Asked, is_answered};
 use command_io::CommandRefusal;
 use comp_dump::{AuditFault, DumpFault};
 use std::process::Abort;

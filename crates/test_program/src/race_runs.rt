@@ -1,5 +1,5 @@
 //! Races of traces: the printed lines, the dump, and what refusals leave.
-use crate::replaying::KEPT;
+use crate::replay_runs::KEPT;
 use test_support::{Content, Step};
 
 // Each of the two mutators shows a value and then reads a field of null: mutator 1 in line 7, and mutator 0 in line 9.

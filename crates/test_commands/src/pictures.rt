@@ -1,6 +1,6 @@
 //! Pictures of heaps on files in memory: how a picture begins and ends, what it says of a dump, and the printed line,
 //! also with writers that fail.
-use crate::places::{File, Place};
+use crate::memory_files::{File, Place};
 use command_io::{CommandRefusal, Input, Output};
 use command_line::MapRun;
 use commands::print_map;
@@ -12,7 +12,7 @@ use test_support::{Failure, Narrow};
 
 // A picture that is asked for, and what comes of it.
 #[derive(Clone, Copy)]
-struct Row {
+struct AskedPicture {
     name: &'static str,
     image: &'static str,
     dump: Option<&'static str>,
@@ -41,11 +41,11 @@ struct Drawn {
     printed: Vec<u8>,
 }
 
-// Asks for the picture of a row, of which the writer takes this number of bytes.
+// Asks for this picture, of which the writer takes this number of bytes.
 fn ask<R: Abort + AllocGlobal + Threads + Sync>(
     rt: &R,
     files: &[File],
-    row: &Row,
+    asked: &AskedPicture,
     room: usize,
 ) -> Drawn {
     let mut picture = Vec::new(rt.alloc());
@@ -56,20 +56,20 @@ fn ask<R: Abort + AllocGlobal + Threads + Sync>(
             taken: &mut picture,
             room,
             at_once: usize::MAX,
-            failure: row.failure,
+            failure: asked.failure,
         }),
         kept: false,
     };
     let mut out = Narrow {
         taken: &mut printed,
-        room: row.printable,
+        room: asked.printable,
         at_once: usize::MAX,
         failure: Failure::TakesNone,
     };
     let run = MapRun {
-        image: row.image,
-        dump: row.dump,
-        out: row.path,
+        image: asked.image,
+        dump: asked.dump,
+        out: asked.path,
         large: false,
     };
     let mut counted = Counted::new(&mut out);
@@ -85,52 +85,56 @@ fn ask<R: Abort + AllocGlobal + Threads + Sync>(
     }
 }
 
-// What is printed if a row is answered so.
-fn printed_of(row: &Row) -> &'static str {
-    match row.answer {
+// What is printed if a picture is answered so.
+fn printed_of(asked: &AskedPicture) -> &'static str {
+    match asked.answer {
         Ok(()) => LINE,
-        Err(CommandRefusal::CannotPrint) => LINE.get(..row.printable).unwrap_or(""),
+        Err(CommandRefusal::CannotPrint) => LINE.get(..asked.printable).unwrap_or(""),
         Err(_) => "",
     }
 }
 
-// Checks a row: `whole` is the picture that is written if nothing fails.
-fn expect_row<R: Abort + AllocGlobal + Threads + Sync>(
+// Checks a picture: `whole` is the one that is written if nothing fails.
+fn expect_picture<R: Abort + AllocGlobal + Threads + Sync>(
     rt: &R,
     files: &[File],
-    row: &Row,
+    asked: &AskedPicture,
     whole: &[u8],
 ) {
-    let room = match row.short {
+    let room = match asked.short {
         Some(short) => whole.len().saturating_sub(short),
         None => usize::MAX,
     };
-    let drawn = ask(rt, files, row, room);
-    let name = row.name;
-    assert!(rt; drawn.answer == row.answer, "{name}: answer");
+    let drawn = ask(rt, files, asked, room);
+    let name = asked.name;
+    assert!(rt; drawn.answer == asked.answer, "{name}: answer");
     assert!(rt;
-        drawn.printed.as_slice() == printed_of(row).as_bytes(),
+        drawn.printed.as_slice() == printed_of(asked).as_bytes(),
         "{name}: printed"
     );
-    assert!(rt; drawn.begun == row.begun, "{name}: begun");
-    let printing = row.answer.is_ok() || row.answer == Err(CommandRefusal::CannotPrint);
-    assert!(rt; drawn.kept == (row.begun && printing), "{name}: kept");
-    let left = if row.begun { whole.len().min(room) } else { 0 };
+    assert!(rt; drawn.begun == asked.begun, "{name}: begun");
+    let printing = asked.answer.is_ok() || asked.answer == Err(CommandRefusal::CannotPrint);
+    assert!(rt; drawn.kept == (asked.begun && printing), "{name}: kept");
+    let left = if asked.begun {
+        whole.len().min(room)
+    } else {
+        0
+    };
     assert!(rt;
         drawn.picture.len() == left && whole.starts_with(drawn.picture.as_slice()),
         "{name}: written"
     );
 }
 
-// The picture of a row, which is not refused. It is an SVG to its end, and has this text in it.
+// A picture that is not refused. It is an SVG to its end, and has this text in it.
 fn picture_with<R: Abort + AllocGlobal + Threads + Sync>(
     rt: &R,
     files: &[File],
-    row: &Row,
+    asked: &AskedPicture,
     text: &str,
 ) -> Vec<u8> {
-    let drawn = ask(rt, files, row, usize::MAX);
-    let name = row.name;
+    let drawn = ask(rt, files, asked, usize::MAX);
+    let name = asked.name;
     assert!(rt; drawn.answer.is_ok(), "{name}: answer");
     match std::str::from_utf8(drawn.picture.as_slice()) {
         Ok(svg) => {
@@ -180,22 +184,22 @@ pub fn expect_maps<'a, R: Abort + AllocGlobal + Threads + Sync>(
     let dumped = picture_with(rt, &files, &DUMPED, "<title");
     let faulty = picture_with(rt, &files, &FAULTY, "page 0 offset 1 has 12, not 11");
     assert!(rt; whole != dumped && dumped != faulty, "other pictures");
-    for row in &ROWS {
-        expect_row(rt, &files, row, &whole);
+    for asked in &PICTURES {
+        expect_picture(rt, &files, asked, &whole);
     }
-    expect_row(rt, &files, &DUMPED, &dumped);
-    expect_row(rt, &files, &FAULTY, &faulty);
+    expect_picture(rt, &files, &DUMPED, &dumped);
+    expect_picture(rt, &files, &FAULTY, &faulty);
     for printable in 0..LINE.len() {
-        let cut = Row {
+        let cut = AskedPicture {
             printable,
             answer: Err(CommandRefusal::CannotPrint),
             ..PLAIN
         };
-        expect_row(rt, &files, &cut, &whole);
+        expect_picture(rt, &files, &cut, &whole);
     }
 }
 
-const PLAIN: Row = Row {
+const PLAIN: AskedPicture = AskedPicture {
     name: "room for all",
     image: "three.img",
     dump: None,
@@ -207,20 +211,20 @@ const PLAIN: Row = Row {
     begun: true,
 };
 
-const DUMPED: Row = Row {
+const DUMPED: AskedPicture = AskedPicture {
     name: "with a dump",
     dump: Some("fresh.dump"),
     ..PLAIN
 };
 
-const FAULTY: Row = Row {
+const FAULTY: AskedPicture = AskedPicture {
     name: "with a dump that has a fault",
     dump: Some("wrong.dump"),
     ..PLAIN
 };
 
 // The picture cannot be flushed.
-const UNFLUSHED: Row = Row {
+const UNFLUSHED: AskedPicture = AskedPicture {
     name: "no flush",
     failure: Failure::Flush,
     answer: Err(CommandRefusal::CannotWrite(Output::Map)),
@@ -228,7 +232,7 @@ const UNFLUSHED: Row = Row {
 };
 
 // There is no image to be read, no dump, and no place for the picture.
-const ABSENT: Row = Row {
+const ABSENT: AskedPicture = AskedPicture {
     name: "no image",
     image: "absent.img",
     dump: Some("absent.dump"),
@@ -238,42 +242,42 @@ const ABSENT: Row = Row {
     ..PLAIN
 };
 
-static ROWS: [Row; 9] = [
+static PICTURES: [AskedPicture; 9] = [
     PLAIN,
     UNFLUSHED,
-    Row {
+    AskedPicture {
         name: "room for 0 bytes",
         short: Some(usize::MAX),
         failure: Failure::Error,
         ..UNFLUSHED
     },
-    Row {
+    AskedPicture {
         name: "no room for the last byte",
         short: Some(1),
         failure: Failure::TakesNone,
         ..UNFLUSHED
     },
     ABSENT,
-    Row {
+    AskedPicture {
         name: "an image that is cut",
         image: "cut.img",
         answer: Err(CommandRefusal::Layout(LayoutFault::Truncated)),
         ..ABSENT
     },
-    Row {
+    AskedPicture {
         name: "no dump",
         image: "three.img",
         answer: Err(CommandRefusal::CannotOpen(Input::Dump)),
         ..ABSENT
     },
-    Row {
+    AskedPicture {
         name: "a dump that is cut",
         image: "three.img",
         dump: Some("cut.dump"),
         answer: Err(CommandRefusal::Dump(DumpFault::Truncated)),
         ..ABSENT
     },
-    Row {
+    AskedPicture {
         name: "no place for the picture",
         image: "three.img",
         dump: Some("wrong.dump"),

@@ -1,6 +1,6 @@
-//! Runs of `mark`: the new image, its live words, and what a refusal leaves. The first and the last of the three objects
-//! are reached from the root, and the second one is not.
-use crate::replaying::KEPT;
+//! Runs of `mark`: the new image, its live words, and what a refusal leaves. The first and the last of the three
+//! objects are reached from the root, and the second one is not.
+use crate::replay_runs::KEPT;
 use test_support::{
     Change, Content, FIRST_MARK, LAST_HEADER, LAST_REFERENCE, MARKED_ROOT, SECOND_DATA_COUNT,
     SECOND_REFERENCE, Step, VERSION,

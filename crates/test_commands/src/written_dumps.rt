@@ -1,7 +1,7 @@
 //! Compactions and replays on files in memory: the dump and the printed line, and the refusals.
-use crate::dumps::{Dump, dump_of};
-use crate::places::{File, Memory, Place};
-use crate::printing::{Asked, is_answered};
+use crate::memory_files::{File, Memory, Place};
+use crate::printed_answers::{Asked, is_answered};
+use crate::whole_dumps::{Dump, agree_but_for_builds, dump_of};
 use command_io::{CommandRefusal, Input};
 use command_line::TraceRun;
 use commands::{print_compact, print_replay};
@@ -23,7 +23,7 @@ enum Writing {
 
 /// A command in memory that writes a dump, and its expected result.
 #[derive(Clone, Copy)]
-pub struct Row {
+pub struct DumpingCommand {
     name: &'static str,
     writing: Writing,
     /// The path of the image, and that of the dump. Only `out` can be created.
@@ -42,23 +42,23 @@ pub struct Row {
     left: usize,
 }
 
-// Writes a dump as a row says.
+// Writes a dump as this command says.
 fn write_dump<R: Abort + AllocGlobal + Threads + Wait + Sync>(
     rt: &R,
-    row: &Row,
+    command: &DumpingCommand,
     place: &mut Place,
     out: &mut Narrow,
 ) -> Result<(), CommandRefusal> {
     let mut counted = Counted::new(out);
-    match row.writing {
+    match command.writing {
         Writing::Compact(workers) => {
             assert!(rt; 1 <= workers && workers <= 64);
             print_compact(
                 rt.alloc(),
                 rt,
                 place,
-                row.image,
-                row.path,
+                command.image,
+                command.path,
                 workers,
                 false,
                 &mut counted,
@@ -67,9 +67,9 @@ fn write_dump<R: Abort + AllocGlobal + Threads + Wait + Sync>(
         Writing::Replay(trace, fresh) => {
             assert!(rt; fresh <= 4_096);
             let asked = TraceRun {
-                image: row.image,
+                image: command.image,
                 trace,
-                dump: row.path,
+                dump: command.path,
                 mutators: 1,
                 fresh,
                 large: false,
@@ -79,22 +79,9 @@ fn write_dump<R: Abort + AllocGlobal + Threads + Wait + Sync>(
     }
 }
 
-// The number of bytes of a dump of the twenty pages before the lists of builds, and after them.
-const BEFORE_BUILDS: usize = 10_368;
-
-const BEHIND_BUILDS: usize = 8;
-
-// Whether these dumps of the twenty pages are equal apart from the lists of builds.
-fn agree_but_for_builds(dumped: &[u8], whole: &[u8]) -> bool {
-    let behind = whole.len().saturating_sub(BEHIND_BUILDS);
-    dumped.len() == whole.len()
-        && dumped.get(..BEFORE_BUILDS) == whole.get(..BEFORE_BUILDS)
-        && dumped.get(behind..) == whole.get(behind..)
-}
-
-// Whether this is the dump of the row, as far as it goes. If several workers sweep, the lists of builds may be any.
-fn is_dump(row: &Row, dumped: &[u8], whole: &[u8]) -> bool {
-    match row.writing {
+// Whether this is the dump of the command, as far as it goes. If several workers sweep, the lists of builds may be any.
+fn is_dump(command: &DumpingCommand, dumped: &[u8], whole: &[u8]) -> bool {
+    match command.writing {
         Writing::Compact(workers) if workers > 1 && !whole.is_empty() => {
             agree_but_for_builds(dumped, whole)
         }
@@ -105,7 +92,7 @@ fn is_dump(row: &Row, dumped: &[u8], whole: &[u8]) -> bool {
 // If several workers swept, checks that the audit accepts the dump.
 fn is_judged(
     rt: &(impl AllocGlobal + Threads + Sync),
-    row: &Row,
+    command: &DumpingCommand,
     image: &[u8],
     dumped: &[u8],
 ) -> bool {
@@ -120,17 +107,17 @@ fn is_judged(
         },
     ];
     let asked = Asked::Audit("heap.img", "left.dump");
-    match row.writing {
-        Writing::Compact(workers) if workers > 1 && row.left > 0 => {
+    match command.writing {
+        Writing::Compact(workers) if workers > 1 && command.left > 0 => {
             is_answered(rt, &Memory { files: &files }, asked, Ok(()), "ok 1280\n")
         }
         _ => true,
     }
 }
 
-// Whether the answer, the output, the creation of the dump and the number of its bytes are as the row says.
+// Whether the answer, the output, the creation of the dump and the number of its bytes are as the command says.
 fn is_so(
-    row: &Row,
+    command: &DumpingCommand,
     found: (Result<(), CommandRefusal>, &[u8]),
     created: bool,
     dumped: &[u8],
@@ -138,69 +125,73 @@ fn is_so(
 ) -> bool {
     let (answer, printed) = found;
     let cut_off = answer == Err(CommandRefusal::Dump(DumpFault::Device));
-    answer == row.answer
-        && printed == row.printed.as_bytes()
+    answer == command.answer
+        && printed == command.printed.as_bytes()
         && created == !whole.is_empty()
-        && dumped.len() == row.left
-        && is_dump(row, dumped, whole)
+        && dumped.len() == command.left
+        && is_dump(command, dumped, whole)
         && (cut_off || dumped.len() == whole.len())
 }
 
-// Checks a row.
-fn expect_row<R: Abort + AllocGlobal + Threads + Wait + Sync>(rt: &R, memory: &Memory, row: &Row) {
-    let whole = dump_of(rt, row.dump);
+// Checks a command.
+fn expect_command<R: Abort + AllocGlobal + Threads + Wait + Sync>(
+    rt: &R,
+    memory: &Memory,
+    command: &DumpingCommand,
+) {
+    let whole = dump_of(rt, command.dump);
     let mut dumped = Vec::new(rt.alloc());
     let mut printed = Vec::new(rt.alloc());
     let mut place = Place {
         files: memory.files,
         writer: Some(Narrow {
             taken: &mut dumped,
-            room: row.room,
+            room: command.room,
             at_once: usize::MAX,
-            failure: row.failure,
+            failure: command.failure,
         }),
         kept: false,
     };
     let mut out = Narrow {
         taken: &mut printed,
-        room: row.printable,
+        room: command.printable,
         at_once: usize::MAX,
         failure: Failure::TakesNone,
     };
-    let answer = write_dump(rt, row, &mut place, &mut out);
+    let answer = write_dump(rt, command, &mut place, &mut out);
     let created = place.writer.is_none();
-    let printing = row.answer.is_ok() || row.answer == Err(CommandRefusal::CannotPrint);
-    assert!(rt; place.kept == (created && printing), "{}: kept", row.name);
+    let printing = command.answer.is_ok() || command.answer == Err(CommandRefusal::CannotPrint);
     assert!(rt;
-        is_so(row, (answer, &printed), created, &dumped, &whole),
+        place.kept == (created && printing),
+        "{}: kept",
+        command.name
+    );
+    assert!(rt;
+        is_so(command, (answer, &printed), created, &dumped, &whole),
         "{}",
-        row.name
+        command.name
     );
     assert!(rt;
-        is_judged(rt, row, memory.bytes_at(row.image).unwrap_or(b""), &dumped),
+        is_judged(
+            rt,
+            command,
+            memory.bytes_at(command.image).unwrap_or(b""),
+            &dumped
+        ),
         "{}: judged",
-        row.name
+        command.name
     );
-}
-
-// Checks these rows.
-fn expect_rows<R: Abort + AllocGlobal + Threads + Wait + Sync>(
-    rt: &R,
-    memory: &Memory,
-    rows: &[Row],
-) {
-    for row in rows {
-        expect_row(rt, memory, row);
-    }
 }
 
 /// Checks compactions and replays on files in memory.
 pub fn expect_dumps<R: Abort + AllocGlobal + Threads + Wait + Sync>(rt: &R, memory: &Memory) {
-    expect_rows(rt, memory, &ROWS);
+    for command in &COMMANDS {
+        expect_command(rt, memory, command);
+    }
 }
 
 // One worker compacts the twenty pages.
-const ALONE: Row = Row {
+const ALONE: DumpingCommand = DumpingCommand {
     name: "one worker",
     writing: Writing::Compact(1),
     image: "twenty.img",
@@ -215,7 +206,7 @@ const ALONE: Row = Row {
 };
 
 // The dump cannot be flushed.
-const UNFLUSHED: Row = Row {
+const UNFLUSHED: DumpingCommand = DumpingCommand {
     name: "no flush",
     failure: Failure::Flush,
     answer: Err(CommandRefusal::Dump(DumpFault::Device)),
@@ -224,7 +215,7 @@ const UNFLUSHED: Row = Row {
 };
 
 // An image that is cut, with two workers.
-const CUT_IMAGE: Row = Row {
+const CUT_IMAGE: DumpingCommand = DumpingCommand {
     name: "an image that is cut off",
     writing: Writing::Compact(2),
     image: "cut.img",
@@ -239,7 +230,7 @@ const CUT_IMAGE: Row = Row {
 };
 
 // A replay whose dump is cut.
-const UNWRITTEN: Row = Row {
+const UNWRITTEN: DumpingCommand = DumpingCommand {
     name: "a replay, and no room",
     writing: Writing::Replay("fresh.trace", 2),
     image: "three.img",
@@ -254,7 +245,7 @@ const UNWRITTEN: Row = Row {
 };
 
 // A weak word is written. It refers to a new object.
-const WEAK: Row = Row {
+const WEAK: DumpingCommand = DumpingCommand {
     name: "weak words",
     writing: Writing::Replay("weak.trace", 1),
     image: "weak.img",
@@ -268,10 +259,10 @@ const WEAK: Row = Row {
     left: 1_128,
 };
 
-static ROWS: [Row; 21] = [
+static COMMANDS: [DumpingCommand; 21] = [
     // By several workers, with just enough room for the dump.
     ALONE,
-    Row {
+    DumpingCommand {
         name: "two workers",
         writing: Writing::Compact(2),
         room: 10_464,
@@ -279,7 +270,7 @@ static ROWS: [Row; 21] = [
         left: 10_464,
         ..ALONE
     },
-    Row {
+    DumpingCommand {
         name: "four workers",
         writing: Writing::Compact(4),
         room: 10_472,
@@ -287,7 +278,7 @@ static ROWS: [Row; 21] = [
         left: 10_472,
         ..ALONE
     },
-    Row {
+    DumpingCommand {
         name: "sixty-four workers",
         writing: Writing::Compact(64),
         room: 10_712,
@@ -296,35 +287,35 @@ static ROWS: [Row; 21] = [
         ..ALONE
     },
     // The dump is cut after this many bytes.
-    Row {
+    DumpingCommand {
         name: "room for 0 bytes",
         room: 0,
         failure: Failure::Error,
         left: 0,
         ..UNFLUSHED
     },
-    Row {
+    DumpingCommand {
         name: "room for 7 bytes",
         room: 7,
         failure: Failure::Error,
         left: 7,
         ..UNFLUSHED
     },
-    Row {
+    DumpingCommand {
         name: "room for 28 bytes",
         room: 28,
         failure: Failure::TakesNone,
         left: 28,
         ..UNFLUSHED
     },
-    Row {
+    DumpingCommand {
         name: "room for 5000 bytes",
         room: 5_000,
         failure: Failure::TakesNone,
         left: 5_000,
         ..UNFLUSHED
     },
-    Row {
+    DumpingCommand {
         name: "room for 10459 bytes",
         room: 10_459,
         failure: Failure::Error,
@@ -334,14 +325,14 @@ static ROWS: [Row; 21] = [
     UNFLUSHED,
     // No dump is created if the image is refused.
     CUT_IMAGE,
-    Row {
+    DumpingCommand {
         name: "an image that is absent",
         image: "absent.img",
         path: "out",
         answer: Err(CommandRefusal::CannotOpen(Input::Image)),
         ..CUT_IMAGE
     },
-    Row {
+    DumpingCommand {
         name: "an image that is absent, and no place for the dump",
         image: "absent.img",
         path: "absent",
@@ -349,7 +340,7 @@ static ROWS: [Row; 21] = [
         ..CUT_IMAGE
     },
     // Three bytes of the line can be printed.
-    Row {
+    DumpingCommand {
         name: "room for 3 bytes of the line",
         printable: 3,
         answer: Err(CommandRefusal::CannotPrint),
@@ -358,21 +349,21 @@ static ROWS: [Row; 21] = [
     },
     // The dump of a replay is cut after this many bytes.
     UNWRITTEN,
-    Row {
+    DumpingCommand {
         name: "a replay, and room for 600 bytes",
         room: 600,
         failure: Failure::TakesNone,
         left: 600,
         ..UNWRITTEN
     },
-    Row {
+    DumpingCommand {
         name: "a replay, and room for 1128 bytes",
         room: 1_128,
         failure: Failure::Error,
         left: 1_128,
         ..UNWRITTEN
     },
-    Row {
+    DumpingCommand {
         name: "a replay, and no flush",
         room: 1_129,
         failure: Failure::Flush,
@@ -381,7 +372,7 @@ static ROWS: [Row; 21] = [
     },
     // Objects with weak words, compacted and replayed, with just enough room for the dump and the lines, and with less.
     WEAK,
-    Row {
+    DumpingCommand {
         name: "weak words, and room for 570 bytes",
         room: 570,
         answer: Err(CommandRefusal::Dump(DumpFault::Device)),
@@ -389,7 +380,7 @@ static ROWS: [Row; 21] = [
         left: 570,
         ..WEAK
     },
-    Row {
+    DumpingCommand {
         name: "weak words that slide",
         writing: Writing::Compact(1),
         room: 569,

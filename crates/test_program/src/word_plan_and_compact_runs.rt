@@ -1,8 +1,8 @@
-//! Runs of the program: output and status.
+//! Runs of `word`, `plan` and `compact`, and of words that are no command or ask for help or the version.
 use test_support::{Content, Step};
 
-/// Words, plans, compactions and audits, and words that are no command.
-pub const STEPS: &[Step] = &[
+/// Words, plans and compactions with audits of their dumps, and words that are no command.
+pub const RUNS: &[Step] = &[
     // Words and plans of the heap of three objects.
     Step::Write("three.tests.img", Content::ThreeImage),
     Step::Prints("word three.tests.img 2", "12884901889\n"),

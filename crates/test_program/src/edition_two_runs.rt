@@ -1,5 +1,5 @@
 //! Runs on objects with weak words.
-use crate::replaying::KEPT;
+use crate::replay_runs::KEPT;
 use test_support::{
     Change, Content, REFERENCE_KIND, REFERENCE_VALUE, SLID_WEAK_WORD, Step, VERSION,
 };

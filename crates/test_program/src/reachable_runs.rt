@@ -1,5 +1,5 @@
 //! Cycles whose next heap is marked by what its roots reach.
-use crate::replaying::KEPT;
+use crate::replay_runs::KEPT;
 use test_support::{Content, Step};
 
 // The last of the three objects gets a reference to a new object, in place of that to the first.

@@ -45,17 +45,17 @@ pub fn expect_lines(rt: &(impl Abort + AllocGlobal), lines: &[&str], wanted: Ans
 }
 
 // A line and the task that it asks for.
-type Row = (&'static str, &'static str);
+type AskedTask = (&'static str, &'static str);
 
 // Checks the tasks of these lines.
-fn expect_rows(rt: &(impl Abort + AllocGlobal), rows: &[Row]) {
-    for (line, task) in rows {
+fn expect_tasks(rt: &(impl Abort + AllocGlobal), asked: &[AskedTask]) {
+    for (line, task) in asked {
         expect_answer(rt, line, Answer::Task(task));
     }
 }
 
 // Lines and the tasks that they ask for.
-static TASKS: [Row; 54] = [
+static TASKS: [AskedTask; 54] = [
     (
         "plan three.img",
         "Plan { image: \"three.img\", large: false }",
@@ -273,7 +273,7 @@ static TASKS: [Row; 54] = [
 
 #[test]
 fn words_ask_for_these_tasks(rt: HostRuntime) {
-    expect_rows(&rt, &TASKS);
+    expect_tasks(&rt, &TASKS);
 }
 
 // Lines that ask for help.
@@ -308,7 +308,7 @@ fn help_is_printed_for_these_words(rt: HostRuntime) {
 }
 
 // Lines that ask for the version.
-static VERSIONS: [Row; 4] = [
+static VERSIONS: [AskedTask; 4] = [
     ("--version", "Version"),
     ("-V", "Version"),
     ("-Vh", "Version"),
@@ -317,6 +317,6 @@ static VERSIONS: [Row; 4] = [
 
 #[test]
 fn version_is_printed_for_these_words(rt: HostRuntime) {
-    expect_rows(&rt, &VERSIONS);
+    expect_tasks(&rt, &VERSIONS);
     assert!(rt; VERSION_LINE == "compressor 0.1.0\n");
 }

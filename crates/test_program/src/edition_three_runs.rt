@@ -1,5 +1,5 @@
 //! Runs on heaps of edition three, which are read if the words ask for it.
-use crate::replaying::KEPT;
+use crate::replay_runs::KEPT;
 use test_support::{Content, Step};
 
 // The audit of the dump written last.

@@ -1,5 +1,5 @@
 //! Markings on files in memory: the new image and the printed line, also with writers that fail.
-use crate::places::{Memory, Place};
+use crate::memory_files::{Memory, Place};
 use command_io::{CommandRefusal, Input, Output};
 use commands::print_mark;
 use heap_layout::{Counted, LayoutFault};
@@ -9,7 +9,7 @@ use test_support::{Content, Failure, Narrow, bytes_in};
 
 // A marking on files in memory and its expected result.
 #[derive(Clone, Copy)]
-struct Row {
+struct Marking {
     name: &'static str,
     image: &'static str,
     // The path of the new image. Only `out` exists.
@@ -28,10 +28,10 @@ struct Row {
 // What is printed of the three objects.
 const LINE: &str = "live 4\n";
 
-// Marks the heap of an image as a row says.
+// Marks the heap of an image as a marking says.
 fn mark(
     rt: &(impl AllocGlobal + Threads + Sync),
-    row: &Row,
+    marking: &Marking,
     place: &mut Place,
     out: &mut Narrow,
 ) -> Result<(), CommandRefusal> {
@@ -40,24 +40,28 @@ fn mark(
         rt.alloc(),
         rt,
         place,
-        row.image,
-        row.path,
+        marking.image,
+        marking.path,
         false,
         &mut counted,
     )
 }
 
-// What is printed if a row is answered so.
-fn printed_of(row: &Row) -> &'static str {
-    match row.answer {
+// What is printed if a marking is answered so.
+fn printed_of(marking: &Marking) -> &'static str {
+    match marking.answer {
         Ok(()) => LINE,
-        Err(CommandRefusal::CannotPrint) => LINE.get(..row.printable).unwrap_or(""),
+        Err(CommandRefusal::CannotPrint) => LINE.get(..marking.printable).unwrap_or(""),
         Err(_) => "",
     }
 }
 
-// Checks a row.
-fn expect_row(rt: &(impl Abort + AllocGlobal + Threads + Sync), memory: &Memory, row: &Row) {
+// Checks a marking.
+fn expect_marking(
+    rt: &(impl Abort + AllocGlobal + Threads + Sync),
+    memory: &Memory,
+    marking: &Marking,
+) {
     let whole = bytes_in(rt.alloc(), Content::ThreeImage).expect(rt, "memory for an image");
     let mut written = Vec::new(rt.alloc());
     let mut printed = Vec::new(rt.alloc());
@@ -65,53 +69,57 @@ fn expect_row(rt: &(impl Abort + AllocGlobal + Threads + Sync), memory: &Memory,
         files: memory.files,
         writer: Some(Narrow {
             taken: &mut written,
-            room: row.room,
+            room: marking.room,
             at_once: usize::MAX,
-            failure: row.failure,
+            failure: marking.failure,
         }),
         kept: false,
     };
     let mut out = Narrow {
         taken: &mut printed,
-        room: row.printable,
+        room: marking.printable,
         at_once: usize::MAX,
         failure: Failure::TakesNone,
     };
-    let answer = mark(rt, row, &mut place, &mut out);
+    let answer = mark(rt, marking, &mut place, &mut out);
     let created = place.writer.is_none();
-    assert!(rt; answer == row.answer, "{}: answer", row.name);
+    assert!(rt; answer == marking.answer, "{}: answer", marking.name);
     assert!(rt;
-        printed.as_slice() == printed_of(row).as_bytes(),
+        printed.as_slice() == printed_of(marking).as_bytes(),
         "{}: printed",
-        row.name
+        marking.name
     );
-    assert!(rt; created == row.created, "{}: created", row.name);
-    let printing = row.answer.is_ok() || row.answer == Err(CommandRefusal::CannotPrint);
-    assert!(rt; place.kept == (created && printing), "{}: kept", row.name);
+    assert!(rt; created == marking.created, "{}: created", marking.name);
+    let printing = marking.answer.is_ok() || marking.answer == Err(CommandRefusal::CannotPrint);
     assert!(rt;
-        written.len() == row.left && whole.starts_with(written.as_slice()),
+        place.kept == (created && printing),
+        "{}: kept",
+        marking.name
+    );
+    assert!(rt;
+        written.len() == marking.left && whole.starts_with(written.as_slice()),
         "{}: written",
-        row.name
+        marking.name
     );
 }
 
 /// Checks markings of the three objects on files in memory, also with an output that takes fewer bytes than the line
 /// has.
 pub fn expect_marked(rt: &(impl Abort + AllocGlobal + Threads + Sync), memory: &Memory) {
-    for row in &ROWS {
-        expect_row(rt, memory, row);
+    for marking in &MARKINGS {
+        expect_marking(rt, memory, marking);
     }
     for printable in 0..LINE.len() {
-        let cut = Row {
+        let cut = Marking {
             printable,
             answer: Err(CommandRefusal::CannotPrint),
             ..WRITTEN
         };
-        expect_row(rt, memory, &cut);
+        expect_marking(rt, memory, &cut);
     }
 }
 
-const WRITTEN: Row = Row {
+const WRITTEN: Marking = Marking {
     name: "room for all",
     image: "three.img",
     path: "out",
@@ -124,7 +132,7 @@ const WRITTEN: Row = Row {
 };
 
 // The image cannot be flushed.
-const UNFLUSHED: Row = Row {
+const UNFLUSHED: Marking = Marking {
     name: "no flush",
     failure: Failure::Flush,
     answer: Err(CommandRefusal::Layout(LayoutFault::Device)),
@@ -132,7 +140,7 @@ const UNFLUSHED: Row = Row {
 };
 
 // There is no image to be read, and no place for the new one.
-const ABSENT: Row = Row {
+const ABSENT: Marking = Marking {
     name: "no image",
     image: "absent.img",
     path: "absent",
@@ -142,17 +150,17 @@ const ABSENT: Row = Row {
     ..WRITTEN
 };
 
-static ROWS: [Row; 8] = [
+static MARKINGS: [Marking; 8] = [
     WRITTEN,
     UNFLUSHED,
-    Row {
+    Marking {
         name: "room for 0 bytes",
         room: 0,
         failure: Failure::Error,
         left: 0,
         ..UNFLUSHED
     },
-    Row {
+    Marking {
         name: "room for 95 bytes",
         room: 95,
         failure: Failure::TakesNone,
@@ -160,19 +168,19 @@ static ROWS: [Row; 8] = [
         ..UNFLUSHED
     },
     ABSENT,
-    Row {
+    Marking {
         name: "an image that is cut",
         image: "cut.img",
         answer: Err(CommandRefusal::Layout(LayoutFault::Truncated)),
         ..ABSENT
     },
-    Row {
+    Marking {
         name: "a weak word for the inside of an object",
         image: "bad_weak.img",
         answer: Err(CommandRefusal::Layout(LayoutFault::BadWeak(1))),
         ..ABSENT
     },
-    Row {
+    Marking {
         name: "no place for the new image",
         image: "three.img",
         answer: Err(CommandRefusal::CannotCreate(Output::New)),

@@ -1,5 +1,5 @@
 //! Words that are no command.
-use crate::asking::{Answer, expect_lines};
+use crate::asked_tasks::{Answer, expect_lines};
 
 // Lines that are no command.
 static NO_COMMANDS: [&str; 94] = [

@@ -1,5 +1,5 @@
 //! Cycles on files in memory: the image of the next heap and the printed lines, also with writers that fail.
-use crate::places::{Memory, Place};
+use crate::memory_files::{Memory, Place};
 use command_io::{CommandRefusal, Input, Output};
 use command_line::{NextMarks, NextRun};
 use commands::print_next;
@@ -12,7 +12,7 @@ use test_support::{Failure, Narrow, Part, bytes_of};
 
 // A cycle on files in memory and its expected result.
 #[derive(Clone, Copy)]
-struct Row {
+struct NextCycle {
     name: &'static str,
     trace: &'static str,
     marks: &'static str,
@@ -42,18 +42,18 @@ const NEW_IMAGE: [Part; 6] = [
     Part::Words(&[4_294_967_298]),
 ];
 
-// Writes the new image as a row says.
+// Writes the new image as a cycle says.
 fn write_next(
     rt: &(impl AllocGlobal + Threads + Sync),
-    row: &Row,
+    cycle: &NextCycle,
     place: &mut Place,
     out: &mut Narrow,
 ) -> Result<(), CommandRefusal> {
     let asked = NextRun {
         image: "three.img",
-        trace: row.trace,
-        marks: NextMarks::Given(row.marks),
-        new: row.path,
+        trace: cycle.trace,
+        marks: NextMarks::Given(cycle.marks),
+        new: cycle.path,
         mutators: 1,
         fresh: 2,
         large: false,
@@ -62,8 +62,12 @@ fn write_next(
     print_next(rt.alloc(), rt, place, asked, &mut counted)
 }
 
-// Checks a row.
-fn expect_row(rt: &(impl Abort + AllocGlobal + Threads + Sync), memory: &Memory, row: &Row) {
+// Checks a cycle.
+fn expect_cycle(
+    rt: &(impl Abort + AllocGlobal + Threads + Sync),
+    memory: &Memory,
+    cycle: &NextCycle,
+) {
     let whole = bytes_of(rt.alloc(), &NEW_IMAGE).expect(rt, "memory for an image");
     let mut written = Vec::new(rt.alloc());
     let mut printed = Vec::new(rt.alloc());
@@ -71,61 +75,65 @@ fn expect_row(rt: &(impl Abort + AllocGlobal + Threads + Sync), memory: &Memory,
         files: memory.files,
         writer: Some(Narrow {
             taken: &mut written,
-            room: row.room,
+            room: cycle.room,
             at_once: usize::MAX,
-            failure: row.failure,
+            failure: cycle.failure,
         }),
         kept: false,
     };
     let mut out = Narrow {
         taken: &mut printed,
-        room: row.printable,
+        room: cycle.printable,
         at_once: usize::MAX,
         failure: Failure::TakesNone,
     };
-    let answer = write_next(rt, row, &mut place, &mut out);
+    let answer = write_next(rt, cycle, &mut place, &mut out);
     let created = place.writer.is_none();
-    assert!(rt; answer == row.answer, "{}: answer", row.name);
+    assert!(rt; answer == cycle.answer, "{}: answer", cycle.name);
     assert!(rt;
-        printed.as_slice() == row.printed.as_bytes(),
+        printed.as_slice() == cycle.printed.as_bytes(),
         "{}: printed",
-        row.name
+        cycle.name
     );
-    assert!(rt; created == row.created, "{}: created", row.name);
-    let printing = row.answer.is_ok() || row.answer == Err(CommandRefusal::CannotPrint);
-    assert!(rt; place.kept == (created && printing), "{}: kept", row.name);
+    assert!(rt; created == cycle.created, "{}: created", cycle.name);
+    let printing = cycle.answer.is_ok() || cycle.answer == Err(CommandRefusal::CannotPrint);
+    assert!(rt; place.kept == (created && printing), "{}: kept", cycle.name);
     assert!(rt;
-        written.len() == row.left && whole.starts_with(written.as_slice()),
+        written.len() == cycle.left && whole.starts_with(written.as_slice()),
         "{}: written",
-        row.name
+        cycle.name
     );
 }
 
-// Checks a row whose text finds room for each smaller number of bytes.
-fn expect_cut(rt: &(impl Abort + AllocGlobal + Threads + Sync), memory: &Memory, row: &Row) {
-    for printable in 0..row.printed.len() {
-        let cut = Row {
+// Checks a cycle whose text finds room for each smaller number of bytes.
+fn expect_cut(
+    rt: &(impl Abort + AllocGlobal + Threads + Sync),
+    memory: &Memory,
+    cycle: &NextCycle,
+) {
+    for printable in 0..cycle.printed.len() {
+        let cut = NextCycle {
             printable,
             answer: Err(CommandRefusal::CannotPrint),
-            printed: row.printed.get(..printable).unwrap_or(""),
-            ..*row
+            printed: cycle.printed.get(..printable).unwrap_or(""),
+            ..*cycle
         };
-        expect_row(rt, memory, &cut);
+        expect_cycle(rt, memory, &cut);
     }
 }
 
 /// Checks cycles of the three objects on files in memory.
 pub fn expect_cycles(rt: &(impl Abort + AllocGlobal + Threads + Sync), memory: &Memory) {
-    for row in &ROWS {
-        expect_row(rt, memory, row);
+    for cycle in &REFUSED {
+        expect_cycle(rt, memory, cycle);
     }
-    for row in &PRINTED {
-        expect_row(rt, memory, row);
-        expect_cut(rt, memory, row);
+    for cycle in &PRINTED {
+        expect_cycle(rt, memory, cycle);
+        expect_cut(rt, memory, cycle);
     }
 }
 
-const WRITTEN: Row = Row {
+const WRITTEN: NextCycle = NextCycle {
     name: "room for all",
     trace: "fresh.trace",
     marks: "fresh.marks",
@@ -140,7 +148,7 @@ const WRITTEN: Row = Row {
 };
 
 // The image cannot be flushed.
-const UNFLUSHED: Row = Row {
+const UNFLUSHED: NextCycle = NextCycle {
     name: "no flush",
     failure: Failure::Flush,
     answer: Err(CommandRefusal::Layout(LayoutFault::Device)),
@@ -149,7 +157,7 @@ const UNFLUSHED: Row = Row {
 };
 
 // The file of marks does not exist.
-const UNMARKED: Row = Row {
+const UNMARKED: NextCycle = NextCycle {
     name: "marks that are absent",
     marks: "absent.marks",
     answer: Err(CommandRefusal::CannotOpen(Input::Marks)),
@@ -161,16 +169,16 @@ const UNMARKED: Row = Row {
 
 // What is printed: after the image is written, also with a value; and a value alone, since line 4 is refused and no
 // image is created.
-static PRINTED: [Row; 3] = [
+static PRINTED: [NextCycle; 3] = [
     WRITTEN,
-    Row {
+    NextCycle {
         name: "a value",
         trace: "shown.trace",
         printable: 12,
         printed: "3 11\nlive 3\n",
         ..WRITTEN
     },
-    Row {
+    NextCycle {
         name: "a value, and a refused line",
         trace: "halted.trace",
         answer: Err(CommandRefusal::Trace(TraceFault::Refused(4, Refusal::NoSuchField))),
@@ -181,23 +189,23 @@ static PRINTED: [Row; 3] = [
     },
 ];
 
-static ROWS: [Row; 7] = [
+static REFUSED: [NextCycle; 7] = [
     UNFLUSHED,
-    Row {
+    NextCycle {
         name: "room for 0 bytes",
         room: 0,
         failure: Failure::Error,
         left: 0,
         ..UNFLUSHED
     },
-    Row {
+    NextCycle {
         name: "room for 28 bytes",
         room: 28,
         failure: Failure::TakesNone,
         left: 28,
         ..UNFLUSHED
     },
-    Row {
+    NextCycle {
         name: "room for 1575 bytes",
         room: 1_575,
         failure: Failure::Error,
@@ -206,14 +214,14 @@ static ROWS: [Row; 7] = [
     },
     UNMARKED,
     // The marks are those of a trace, and there is no place for the image.
-    Row {
+    NextCycle {
         name: "a trace as marks",
         marks: "fresh.trace",
         path: "absent",
         answer: Err(CommandRefusal::BadMarks(1)),
         ..UNMARKED
     },
-    Row {
+    NextCycle {
         name: "no place for the image",
         marks: "fresh.marks",
         path: "absent",
