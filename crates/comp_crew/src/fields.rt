@@ -1,14 +1,10 @@
 //! Reads and writes of fields. None of them waits or retries: the answer is `Busy` if another member won a
 //! compare-and-swap. A refused call wrote no entry; but it may have built its page.
-ghost use Rattle.std.specs.Prelude.{◌≡◌, ℕ, true, IfErr, IfOk, IsErrOf, OnErr, OnOk};
+ghost use Rattle.std.specs.Prelude.{◌≡◌, true};
 ghost use Rattle.heap_layout.specs.Kinds.{refers};
 ghost use Rattle.heap_layout.specs.declared.kind.Kind.TheVariants as kinds;
-ghost use Rattle.cell_steps.specs.Passes.{did, seen, HasSeenBuilt, MayRefer};
-ghost use Rattle.cell_steps.specs.Starts.{IsForwardingAddress};
-ghost use Rattle.page_cells.specs.Calls.{Grows};
-ghost use Rattle.comp_access.specs.Reads.{FieldRefused, KnowsBuilt, MayBuildTouched, Reads};
-ghost use Rattle.comp_access.specs.Writes.{DataRefused, ReferenceRefused, Writes};
-ghost use Rattle.comp_access.specs.declared.refusal.Refusal.TheVariants.{Busy};
+ghost use Rattle.comp_access.specs.ReadCalls.{IsRead};
+ghost use Rattle.comp_access.specs.WriteCalls.{IsWrite};
 ghost use Rattle.comp_crew.specs.Members.{crew_of, made_of, pass_of, setup_of, IsMember};
 
 use crate::member::Member;
@@ -32,15 +28,7 @@ impl Member {
         ensures of { IsMember self.new }
         ensures crew { crew_of self.new ≡ crew_of self.old }
         ensures made { made_of self.new ≡ made_of self.old }
-        ensures grows { Grows (pass_of self.old) (pass_of self.new) × (did (pass_of self.new) ≡ did (pass_of self.old)) }
-        ensures alone { (setup_of self.old).mutators ≡ 1 → (q : ℕ) → IsErrOf result (Busy q) → ⊥ }
-        ensures read { IfOk result (Reads (setup_of self.old) (seen (pass_of self.new)) kind object field) }
-        ensures known { IfOk result (MayRefer (pass_of self.new)) }
-        ensures builds { OnOk result (MayBuildTouched (setup_of self.old) (pass_of self.old) (pass_of self.new) kind object field) }
-        ensures free { (q : ℕ) → IsErrOf result (Busy q) → KnowsBuilt (pass_of self.old) q → ⊥ }
-        ensures slid { (q : ℕ) → IsErrOf result (Busy q) → IsForwardingAddress (setup_of self.old).heap object }
-        ensures unseen { (q : ℕ) → IsErrOf result (Busy q) → HasSeenBuilt (pass_of self.new) q → ⊥ }
-        ensures refused { IfErr result (FieldRefused (setup_of self.old) (pass_of self.old) (pass_of self.new) kind object field) }
+        ensures read { IsRead (setup_of self.old) (pass_of self.old) (pass_of self.new) kind object field result }
     {
         let Member { crew, hand } = self;
         hand.try_read_referring(alloc, &crew.cells, kind, object, field)
@@ -58,14 +46,7 @@ impl Member {
         ensures of { IsMember self.new }
         ensures crew { crew_of self.new ≡ crew_of self.old }
         ensures made { made_of self.new ≡ made_of self.old }
-        ensures grows { Grows (pass_of self.old) (pass_of self.new) × (did (pass_of self.new) ≡ did (pass_of self.old)) }
-        ensures alone { (setup_of self.old).mutators ≡ 1 → (q : ℕ) → IsErrOf result (Busy q) → ⊥ }
-        ensures read { IfOk result (Reads (setup_of self.old) (seen (pass_of self.new)) kinds.Data object field) }
-        ensures builds { OnOk result (MayBuildTouched (setup_of self.old) (pass_of self.old) (pass_of self.new) kinds.Data object field) }
-        ensures free { (q : ℕ) → IsErrOf result (Busy q) → KnowsBuilt (pass_of self.old) q → ⊥ }
-        ensures slid { (q : ℕ) → IsErrOf result (Busy q) → IsForwardingAddress (setup_of self.old).heap object }
-        ensures unseen { (q : ℕ) → IsErrOf result (Busy q) → HasSeenBuilt (pass_of self.new) q → ⊥ }
-        ensures refused { IfErr result (FieldRefused (setup_of self.old) (pass_of self.old) (pass_of self.new) kinds.Data object field) }
+        ensures read { IsRead (setup_of self.old) (pass_of self.old) (pass_of self.new) kinds.Data object field result }
     {
         let Member { crew, hand } = self;
         hand.try_read_data_at(alloc, &crew.cells, object, field)
@@ -88,13 +69,7 @@ impl Member {
         ensures of { IsMember self.new }
         ensures crew { crew_of self.new ≡ crew_of self.old }
         ensures made { made_of self.new ≡ made_of self.old }
-        ensures grows { Grows (pass_of self.old) (pass_of self.new) }
-        ensures alone { (setup_of self.old).mutators ≡ 1 → (q : ℕ) → IsErrOf result (Busy q) → ⊥ }
-        ensures wrote { IfOk result (Writes (setup_of self.old) (pass_of self.old) (pass_of self.new) kind object field value) }
-        ensures target { OnOk result (MayRefer (pass_of self.new) value) }
-        ensures builds { OnOk result (MayBuildTouched (setup_of self.old) (pass_of self.old) (pass_of self.new) kind object field) }
-        ensures did { OnErr result (did (pass_of self.new) ≡ did (pass_of self.old)) }
-        ensures refused { IfErr result (ReferenceRefused (setup_of self.old) (pass_of self.old) (pass_of self.new) kind object field value) }
+        ensures write { IsWrite (setup_of self.old) (pass_of self.old) (pass_of self.new) kind object field value result }
     {
         let Member { crew, hand } = self;
         hand.try_write_referring(alloc, &crew.cells, kind, object, field, value)
@@ -113,12 +88,7 @@ impl Member {
         ensures of { IsMember self.new }
         ensures crew { crew_of self.new ≡ crew_of self.old }
         ensures made { made_of self.new ≡ made_of self.old }
-        ensures grows { Grows (pass_of self.old) (pass_of self.new) }
-        ensures alone { (setup_of self.old).mutators ≡ 1 → (q : ℕ) → IsErrOf result (Busy q) → ⊥ }
-        ensures wrote { IfOk result (Writes (setup_of self.old) (pass_of self.old) (pass_of self.new) kinds.Data object field value) }
-        ensures builds { OnOk result (MayBuildTouched (setup_of self.old) (pass_of self.old) (pass_of self.new) kinds.Data object field) }
-        ensures did { OnErr result (did (pass_of self.new) ≡ did (pass_of self.old)) }
-        ensures refused { IfErr result (DataRefused (setup_of self.old) (pass_of self.old) (pass_of self.new) kinds.Data object field) }
+        ensures write { IsWrite (setup_of self.old) (pass_of self.old) (pass_of self.new) kinds.Data object field value result }
     {
         let Member { crew, hand } = self;
         hand.try_write_data_at(alloc, &crew.cells, object, field, value)

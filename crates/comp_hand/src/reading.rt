@@ -1,13 +1,9 @@
 //! Reads of fields.
-ghost use Rattle.std.specs.Prelude.{◌≡◌, ℕ, true, IfErr, IfOk, IsErrOf, OnOk};
+ghost use Rattle.std.specs.Prelude.{◌≡◌, true};
 ghost use Rattle.heap_layout.specs.Kinds.{refers};
 ghost use Rattle.heap_layout.specs.declared.kind.Kind.TheVariants as kinds;
-ghost use Rattle.cell_steps.specs.Starts.{IsForwardingAddress};
-ghost use Rattle.cell_steps.specs.Passes.{did, seen, HasSeenBuilt, MayRefer};
 ghost use Rattle.page_cells.specs.CellViews.{setup_of};
-ghost use Rattle.page_cells.specs.Calls.{Grows};
-ghost use Rattle.comp_access.specs.Reads.{FieldRefused, KnowsBuilt, MayBuildTouched, Reads};
-ghost use Rattle.comp_access.specs.declared.refusal.Refusal.TheVariants.{Busy};
+ghost use Rattle.comp_access.specs.ReadCalls.{IsRead};
 ghost use Rattle.comp_hand.specs.Hands.{made_of, pass_of, IsHandOf};
 
 use crate::hand::Hand;
@@ -32,16 +28,8 @@ impl Hand {
         requires of { IsHandOf cells.now self.old }
         requires refers { refers kind ≡ true }
         ensures of { IsHandOf cells.now self.new }
-        ensures grows { Grows (pass_of self.old) (pass_of self.new) × (did (pass_of self.new) ≡ did (pass_of self.old)) }
         ensures made { made_of self.new ≡ made_of self.old }
-        ensures alone { (setup_of cells.now).mutators ≡ 1 → (q : ℕ) → IsErrOf result (Busy q) → ⊥ }
-        ensures read { IfOk result (Reads (setup_of cells.now) (seen (pass_of self.new)) kind object field) }
-        ensures known { IfOk result (MayRefer (pass_of self.new)) }
-        ensures builds { OnOk result (MayBuildTouched (setup_of cells.now) (pass_of self.old) (pass_of self.new) kind object field) }
-        ensures free { (q : ℕ) → IsErrOf result (Busy q) → KnowsBuilt (pass_of self.old) q → ⊥ }
-        ensures slid { (q : ℕ) → IsErrOf result (Busy q) → IsForwardingAddress (setup_of cells.now).heap object }
-        ensures unseen { (q : ℕ) → IsErrOf result (Busy q) → HasSeenBuilt (pass_of self.new) q → ⊥ }
-        ensures refused { IfErr result (FieldRefused (setup_of cells.now) (pass_of self.old) (pass_of self.new) kind object field) }
+        ensures read { IsRead (setup_of cells.now) (pass_of self.old) (pass_of self.new) kind object field result }
     {
         let Hand {
             pass,
@@ -63,15 +51,8 @@ impl Hand {
     ) -> Result<u64, Refusal>
         requires { IsHandOf cells.now self.old }
         ensures of { IsHandOf cells.now self.new }
-        ensures grows { Grows (pass_of self.old) (pass_of self.new) × (did (pass_of self.new) ≡ did (pass_of self.old)) }
         ensures made { made_of self.new ≡ made_of self.old }
-        ensures alone { (setup_of cells.now).mutators ≡ 1 → (q : ℕ) → IsErrOf result (Busy q) → ⊥ }
-        ensures read { IfOk result (Reads (setup_of cells.now) (seen (pass_of self.new)) kinds.Data object field) }
-        ensures builds { OnOk result (MayBuildTouched (setup_of cells.now) (pass_of self.old) (pass_of self.new) kinds.Data object field) }
-        ensures free { (q : ℕ) → IsErrOf result (Busy q) → KnowsBuilt (pass_of self.old) q → ⊥ }
-        ensures slid { (q : ℕ) → IsErrOf result (Busy q) → IsForwardingAddress (setup_of cells.now).heap object }
-        ensures unseen { (q : ℕ) → IsErrOf result (Busy q) → HasSeenBuilt (pass_of self.new) q → ⊥ }
-        ensures refused { IfErr result (FieldRefused (setup_of cells.now) (pass_of self.old) (pass_of self.new) kinds.Data object field) }
+        ensures read { IsRead (setup_of cells.now) (pass_of self.old) (pass_of self.new) kinds.Data object field result }
     {
         let Hand {
             pass,

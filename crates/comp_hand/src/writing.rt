@@ -1,13 +1,9 @@
 //! Writes of fields.
-ghost use Rattle.std.specs.Prelude.{◌≡◌, ℕ, true, IfErr, IfOk, IsErrOf, OnErr, OnOk};
+ghost use Rattle.std.specs.Prelude.{◌≡◌, true};
 ghost use Rattle.heap_layout.specs.Kinds.{refers};
 ghost use Rattle.heap_layout.specs.declared.kind.Kind.TheVariants as kinds;
-ghost use Rattle.cell_steps.specs.Passes.{did, MayRefer};
 ghost use Rattle.page_cells.specs.CellViews.{setup_of};
-ghost use Rattle.page_cells.specs.Calls.{Grows};
-ghost use Rattle.comp_access.specs.Reads.{MayBuildTouched};
-ghost use Rattle.comp_access.specs.Writes.{DataRefused, ReferenceRefused, Writes};
-ghost use Rattle.comp_access.specs.declared.refusal.Refusal.TheVariants.{Busy};
+ghost use Rattle.comp_access.specs.WriteCalls.{IsWrite};
 ghost use Rattle.comp_hand.specs.Hands.{made_of, pass_of, IsHandOf};
 
 use crate::hand::Hand;
@@ -34,14 +30,8 @@ impl Hand {
         requires of { IsHandOf cells.now self.old }
         requires refers { refers kind ≡ true }
         ensures of { IsHandOf cells.now self.new }
-        ensures grows { Grows (pass_of self.old) (pass_of self.new) }
         ensures made { made_of self.new ≡ made_of self.old }
-        ensures alone { (setup_of cells.now).mutators ≡ 1 → (q : ℕ) → IsErrOf result (Busy q) → ⊥ }
-        ensures wrote { IfOk result (Writes (setup_of cells.now) (pass_of self.old) (pass_of self.new) kind object field value) }
-        ensures target { OnOk result (MayRefer (pass_of self.new) value) }
-        ensures builds { OnOk result (MayBuildTouched (setup_of cells.now) (pass_of self.old) (pass_of self.new) kind object field) }
-        ensures did { OnErr result (did (pass_of self.new) ≡ did (pass_of self.old)) }
-        ensures refused { IfErr result (ReferenceRefused (setup_of cells.now) (pass_of self.old) (pass_of self.new) kind object field value) }
+        ensures write { IsWrite (setup_of cells.now) (pass_of self.old) (pass_of self.new) kind object field value result }
     {
         let Hand {
             pass,
@@ -64,13 +54,8 @@ impl Hand {
     ) -> Result<u64, Refusal>
         requires { IsHandOf cells.now self.old }
         ensures of { IsHandOf cells.now self.new }
-        ensures grows { Grows (pass_of self.old) (pass_of self.new) }
         ensures made { made_of self.new ≡ made_of self.old }
-        ensures alone { (setup_of cells.now).mutators ≡ 1 → (q : ℕ) → IsErrOf result (Busy q) → ⊥ }
-        ensures wrote { IfOk result (Writes (setup_of cells.now) (pass_of self.old) (pass_of self.new) kinds.Data object field value) }
-        ensures builds { OnOk result (MayBuildTouched (setup_of cells.now) (pass_of self.old) (pass_of self.new) kinds.Data object field) }
-        ensures did { OnErr result (did (pass_of self.new) ≡ did (pass_of self.old)) }
-        ensures refused { IfErr result (DataRefused (setup_of cells.now) (pass_of self.old) (pass_of self.new) kinds.Data object field) }
+        ensures write { IsWrite (setup_of cells.now) (pass_of self.old) (pass_of self.new) kinds.Data object field value result }
     {
         let Hand {
             pass,

@@ -8,12 +8,12 @@ use Rattle.comp_crew.specs.Calls.{Grows, WroteNothing}
 use Rattle.comp_crew.specs.Copies.{builds_after, PageRefused}
 use Rattle.comp_crew.specs.Forwarded.{AreForwarded}
 use Rattle.comp_crew.specs.Members.{crew_of, made_of, pass_of, setup_of}
-use Rattle.comp_crew.specs.Passes.{builds_of, did, edition_of, number_of, seen, HasSeenBuilt, MayRefer}
-use Rattle.comp_crew.specs.Reads.{FieldRefused, KnowsBuilt, MayBuildTouched, Reads}
+use Rattle.comp_crew.specs.Passes.{builds_of, did, edition_of, number_of, HasSeenBuilt}
+use Rattle.comp_crew.specs.ReadCalls.{IsRead}
+use Rattle.comp_crew.specs.Reads.{IsNeverBusy, KnowsBuilt}
 use Rattle.comp_crew.specs.Setup.{pages}
 use Rattle.comp_crew.specs.Shares.{allocated}
-use Rattle.comp_crew.specs.Starts.{IsForwardingAddress}
-use Rattle.comp_crew.specs.Writes.{DataRefused, ReferenceRefused, Writes}
+use Rattle.comp_crew.specs.WriteCalls.{IsWrite}
 use Rattle.comp_crew.specs.declared.member.Member.{Member}
 use Rattle.comp_crew.specs.Touched.{Touched}
 use Rattle.comp_crew.specs.Touched.TheVariants.{Built, AlreadyBuilt}
@@ -28,46 +28,19 @@ use Rattle.comp_handle.specs.declared.kept.Kept.TheVariants.{Nothing, Heap, Plan
 
 -- a mutator that is alone is never refused a busy page
 abbrev pub IsNeverBusyAlone : {T : Type 0} → Member → Result T Refusal → Type 0
-IsNeverBusyAlone m r = (setup_of m).mutators ≡ 1 → (q : ℕ) → IsErrOf r (Busy q) → ⊥
-
--- a busy page that a read was refused: it was not known to be built, the object slid there, and it is not seen built now
-pub record BusyIsUnbuilt (object : ℕ) (m n : Member) (r : Result ℕ Refusal) : Type 0 where
-  pub free : (q : ℕ) → IsErrOf r (Busy q) → KnowsBuilt (pass_of m) q → ⊥
-  pub slid : (q : ℕ) → IsErrOf r (Busy q) → IsForwardingAddress (setup_of m).heap object
-  pub unseen : (q : ℕ) → IsErrOf r (Busy q) → HasSeenBuilt (pass_of n) q → ⊥
+IsNeverBusyAlone m r = (setup_of m).mutators ≡ 1 → IsNeverBusy r
 
 -- a read of a field of this kind
 pub record ReadsField (kind : Kind) (object field : ℕ) (m n : Member) (r : Result ℕ Refusal) : Type 0 where
   pub crew : crew_of n ≡ crew_of m
   pub made : made_of n ≡ made_of m
-  pub grows : Grows (pass_of m) (pass_of n)
-  pub wrote : did (pass_of n) ≡ did (pass_of m)
-  pub read : IfOk r (Reads (setup_of m) (seen (pass_of n)) kind object field)
-  pub builds : OnOk r (MayBuildTouched (setup_of m) (pass_of m) (pass_of n) kind object field)
-  pub alone : IsNeverBusyAlone m r
-  pub busy : BusyIsUnbuilt object m n r
-  pub refused : IfErr r (FieldRefused (setup_of m) (pass_of m) (pass_of n) kind object field)
+  pub read : IsRead (setup_of m) (pass_of m) (pass_of n) kind object field r
 
--- a read of a field that refers: what it answers may be written into such fields from then on
-pub record ReadsReferring (kind : Kind) (object field : ℕ) (m n : Member) (r : Result ℕ Refusal) : Type 0 where
-  pub reads : ReadsField kind object field m n r
-  pub known : IfOk r (MayRefer (pass_of n))
-
--- a write into a field of this kind; `Refused` says why it is refused
-pub record WritesField (kind : Kind) (object field value : ℕ) (m n : Member) (r : Result ℕ Refusal) (Refused : Refusal → Type 0) : Type 0 where
+-- a write into a field of this kind
+pub record WritesField (kind : Kind) (object field value : ℕ) (m n : Member) (r : Result ℕ Refusal) : Type 0 where
   pub crew : crew_of n ≡ crew_of m
   pub made : made_of n ≡ made_of m
-  pub grows : Grows (pass_of m) (pass_of n)
-  pub wrote : IfOk r (Writes (setup_of m) (pass_of m) (pass_of n) kind object field value)
-  pub builds : OnOk r (MayBuildTouched (setup_of m) (pass_of m) (pass_of n) kind object field)
-  pub kept : OnErr r (did (pass_of n) ≡ did (pass_of m))
-  pub alone : IsNeverBusyAlone m r
-  pub refused : IfErr r Refused
-
--- a write into a field that refers: the mutator may store what it wrote
-pub record WritesReferring (kind : Kind) (object field value : ℕ) (m n : Member) (r : Result ℕ Refusal) : Type 0 where
-  pub writes : WritesField kind object field value m n r (ReferenceRefused (setup_of m) (pass_of m) (pass_of n) kind object field value)
-  pub target : OnOk r (MayRefer (pass_of n) value)
+  pub write : IsWrite (setup_of m) (pass_of m) (pass_of n) kind object field value r
 
 -- an allocation of an object with these counts
 pub record Makes (refs weak data_words tag : ℕ) (m n : Member) (r : Result ℕ Refusal) : Type 0 where
@@ -123,12 +96,12 @@ Answers P a = (r : Result ℕ Refusal) × IsAnswer r a × P r
 -- What a call does to the mutator, and what it answers. A count of an allocation that is above 65,535 is taken as
 -- 65,535, so that it is more than an object of a fresh page has.
 abbrev pub Does : Call → Member → Member → Answer → Type 0
-Does (ReadRef object field) m n a = Answers (ReadsReferring kinds.Reference object field m n) a
-Does (ReadWeak object field) m n a = Answers (ReadsReferring kinds.Weak object field m n) a
+Does (ReadRef object field) m n a = Answers (ReadsField kinds.Reference object field m n) a
+Does (ReadWeak object field) m n a = Answers (ReadsField kinds.Weak object field m n) a
 Does (ReadData object field) m n a = Answers (ReadsField kinds.Data object field m n) a
-Does (WriteRef object field value) m n a = Answers (WritesReferring kinds.Reference object field value m n) a
-Does (WriteWeak object field value) m n a = Answers (WritesReferring kinds.Weak object field value m n) a
-Does (WriteData object field value) m n a = Answers (λ r. WritesField kinds.Data object field value m n r (DataRefused (setup_of m) (pass_of m) (pass_of n) kinds.Data object field)) a
+Does (WriteRef object field value) m n a = Answers (WritesField kinds.Reference object field value m n) a
+Does (WriteWeak object field value) m n a = Answers (WritesField kinds.Weak object field value m n) a
+Does (WriteData object field value) m n a = Answers (WritesField kinds.Data object field value m n) a
 Does (Alloc refs weak data_words tag) m n a = Answers (Makes (min refs 65535) (min weak 65535) (min data_words 65535) tag m n) a
 Does (Touch p) m n a = Touches p m n a
 Does (Root i) m n a = (n ≡ m) × IsRoot i m a

@@ -1,14 +1,11 @@
 //! The calls of a mutator on data fields of any number. Some retry while the page is busy; it is not promised that
 //! those return.
-ghost use Rattle.std.specs.Prelude.{◌≡◌, ℕ, IfErr, IfOk, IsErrOf, OnErr, OnOk};
+ghost use Rattle.std.specs.Prelude.{◌≡◌};
 ghost use Rattle.heap_layout.specs.declared.kind.Kind.TheVariants as kinds;
-ghost use Rattle.cell_steps.specs.Starts.{IsForwardingAddress};
-ghost use Rattle.cell_steps.specs.Passes.{did, seen, HasSeenBuilt};
-ghost use Rattle.page_cells.specs.Calls.{Grows};
 ghost use Rattle.comp_mutator.specs.Mutators.{pass_of, setup_of, unposted_of, IsMutatorOf};
-ghost use Rattle.comp_access.specs.Reads.{FieldRefused, KnowsBuilt, MayBuildTouched, Reads};
-ghost use Rattle.comp_access.specs.Writes.{DataRefused, Writes};
-ghost use Rattle.comp_access.specs.declared.refusal.Refusal.TheVariants.{Busy};
+ghost use Rattle.comp_access.specs.Reads.{IsNeverBusy};
+ghost use Rattle.comp_access.specs.ReadCalls.{IsRead};
+ghost use Rattle.comp_access.specs.WriteCalls.{IsWrite};
 
 use crate::mutator::Mutator;
 use crate::retried;
@@ -31,15 +28,8 @@ impl<L: Named, B: Builder> Space<L, B> {
     ) -> Result<u64, Refusal>
         requires { IsMutatorOf self.now m.old }
         ensures of { IsMutatorOf self.now m.new }
-        ensures grows { Grows (pass_of m.old) (pass_of m.new) × (did (pass_of m.new) ≡ did (pass_of m.old)) }
         ensures unposted { unposted_of m.new ≡ unposted_of m.old }
-        ensures alone { (setup_of self.now).mutators ≡ 1 → (q : ℕ) → IsErrOf result (Busy q) → ⊥ }
-        ensures read { IfOk result (Reads (setup_of self.now) (seen (pass_of m.new)) kinds.Data object field) }
-        ensures builds { OnOk result (MayBuildTouched (setup_of self.now) (pass_of m.old) (pass_of m.new) kinds.Data object field) }
-        ensures free { (q : ℕ) → IsErrOf result (Busy q) → KnowsBuilt (pass_of m.old) q → ⊥ }
-        ensures slid { (q : ℕ) → IsErrOf result (Busy q) → IsForwardingAddress (setup_of self.now).heap object }
-        ensures unseen { (q : ℕ) → IsErrOf result (Busy q) → HasSeenBuilt (pass_of m.new) q → ⊥ }
-        ensures refused { IfErr result (FieldRefused (setup_of self.now) (pass_of m.old) (pass_of m.new) kinds.Data object field) }
+        ensures read { IsRead (setup_of self.now) (pass_of m.old) (pass_of m.new) kinds.Data object field result }
     {
         let Mutator { hand, share: _ } = m;
         hand.try_read_data_at(alloc, &self.cells, object, field)
@@ -56,12 +46,9 @@ impl<L: Named, B: Builder> Space<L, B> {
     ) -> Result<u64, Refusal>
         requires { IsMutatorOf self.now m.old }
         ensures of { IsMutatorOf self.now m.new }
-        ensures grows { Grows (pass_of m.old) (pass_of m.new) × (did (pass_of m.new) ≡ did (pass_of m.old)) }
         ensures unposted { unposted_of m.new ≡ unposted_of m.old }
-        ensures busy { (q : ℕ) → IsErrOf result (Busy q) → ⊥ }
-        ensures read { IfOk result (Reads (setup_of self.now) (seen (pass_of m.new)) kinds.Data object field) }
-        ensures builds { OnOk result (MayBuildTouched (setup_of self.now) (pass_of m.old) (pass_of m.new) kinds.Data object field) }
-        ensures refused { IfErr result (FieldRefused (setup_of self.now) (pass_of m.old) (pass_of m.new) kinds.Data object field) }
+        ensures read { IsRead (setup_of self.now) (pass_of m.old) (pass_of m.new) kinds.Data object field result }
+        ensures busy { IsNeverBusy result }
     {
         retried!(rt, self.try_read_data_at(alloc, m, object, field))
     }
@@ -78,13 +65,8 @@ impl<L: Named, B: Builder> Space<L, B> {
     ) -> Result<u64, Refusal>
         requires { IsMutatorOf self.now m.old }
         ensures of { IsMutatorOf self.now m.new }
-        ensures grows { Grows (pass_of m.old) (pass_of m.new) }
         ensures unposted { unposted_of m.new ≡ unposted_of m.old }
-        ensures alone { (setup_of self.now).mutators ≡ 1 → (q : ℕ) → IsErrOf result (Busy q) → ⊥ }
-        ensures wrote { IfOk result (Writes (setup_of self.now) (pass_of m.old) (pass_of m.new) kinds.Data object field value) }
-        ensures builds { OnOk result (MayBuildTouched (setup_of self.now) (pass_of m.old) (pass_of m.new) kinds.Data object field) }
-        ensures did { OnErr result (did (pass_of m.new) ≡ did (pass_of m.old)) }
-        ensures refused { IfErr result (DataRefused (setup_of self.now) (pass_of m.old) (pass_of m.new) kinds.Data object field) }
+        ensures write { IsWrite (setup_of self.now) (pass_of m.old) (pass_of m.new) kinds.Data object field value result }
     {
         let Mutator { hand, share: _ } = m;
         hand.try_write_data_at(alloc, &self.cells, object, field, value)
@@ -102,13 +84,9 @@ impl<L: Named, B: Builder> Space<L, B> {
     ) -> Result<u64, Refusal>
         requires { IsMutatorOf self.now m.old }
         ensures of { IsMutatorOf self.now m.new }
-        ensures grows { Grows (pass_of m.old) (pass_of m.new) }
         ensures unposted { unposted_of m.new ≡ unposted_of m.old }
-        ensures busy { (q : ℕ) → IsErrOf result (Busy q) → ⊥ }
-        ensures wrote { IfOk result (Writes (setup_of self.now) (pass_of m.old) (pass_of m.new) kinds.Data object field value) }
-        ensures builds { OnOk result (MayBuildTouched (setup_of self.now) (pass_of m.old) (pass_of m.new) kinds.Data object field) }
-        ensures did { OnErr result (did (pass_of m.new) ≡ did (pass_of m.old)) }
-        ensures refused { IfErr result (DataRefused (setup_of self.now) (pass_of m.old) (pass_of m.new) kinds.Data object field) }
+        ensures write { IsWrite (setup_of self.now) (pass_of m.old) (pass_of m.new) kinds.Data object field value result }
+        ensures busy { IsNeverBusy result }
     {
         retried!(rt, self.try_write_data_at(alloc, m, object, field, value))
     }

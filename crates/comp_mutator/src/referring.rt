@@ -1,14 +1,11 @@
 //! The calls of a mutator on fields of a kind that refers. Some retry while the page is busy; it is not promised that
 //! those return.
-ghost use Rattle.std.specs.Prelude.{◌≡◌, ℕ, true, IfErr, IfOk, IsErrOf, OnErr, OnOk};
+ghost use Rattle.std.specs.Prelude.{◌≡◌, true};
 ghost use Rattle.heap_layout.specs.Kinds.{refers};
-ghost use Rattle.cell_steps.specs.Starts.{IsForwardingAddress};
-ghost use Rattle.cell_steps.specs.Passes.{did, seen, HasSeenBuilt, MayRefer};
-ghost use Rattle.page_cells.specs.Calls.{Grows};
 ghost use Rattle.comp_mutator.specs.Mutators.{pass_of, setup_of, unposted_of, IsMutatorOf};
-ghost use Rattle.comp_access.specs.Reads.{FieldRefused, KnowsBuilt, MayBuildTouched, Reads};
-ghost use Rattle.comp_access.specs.Writes.{ReferenceRefused, Writes};
-ghost use Rattle.comp_access.specs.declared.refusal.Refusal.TheVariants.{Busy};
+ghost use Rattle.comp_access.specs.Reads.{IsNeverBusy};
+ghost use Rattle.comp_access.specs.ReadCalls.{IsRead};
+ghost use Rattle.comp_access.specs.WriteCalls.{IsWrite};
 
 use crate::mutator::Mutator;
 use crate::retried;
@@ -34,16 +31,8 @@ impl<L: Named, B: Builder> Space<L, B> {
         requires of { IsMutatorOf self.now m.old }
         requires refers { refers kind ≡ true }
         ensures of { IsMutatorOf self.now m.new }
-        ensures grows { Grows (pass_of m.old) (pass_of m.new) × (did (pass_of m.new) ≡ did (pass_of m.old)) }
         ensures unposted { unposted_of m.new ≡ unposted_of m.old }
-        ensures alone { (setup_of self.now).mutators ≡ 1 → (q : ℕ) → IsErrOf result (Busy q) → ⊥ }
-        ensures read { IfOk result (Reads (setup_of self.now) (seen (pass_of m.new)) kind object field) }
-        ensures known { IfOk result (MayRefer (pass_of m.new)) }
-        ensures builds { OnOk result (MayBuildTouched (setup_of self.now) (pass_of m.old) (pass_of m.new) kind object field) }
-        ensures free { (q : ℕ) → IsErrOf result (Busy q) → KnowsBuilt (pass_of m.old) q → ⊥ }
-        ensures slid { (q : ℕ) → IsErrOf result (Busy q) → IsForwardingAddress (setup_of self.now).heap object }
-        ensures unseen { (q : ℕ) → IsErrOf result (Busy q) → HasSeenBuilt (pass_of m.new) q → ⊥ }
-        ensures refused { IfErr result (FieldRefused (setup_of self.now) (pass_of m.old) (pass_of m.new) kind object field) }
+        ensures read { IsRead (setup_of self.now) (pass_of m.old) (pass_of m.new) kind object field result }
     {
         let Mutator { hand, share: _ } = m;
         hand.try_read_referring(alloc, &self.cells, kind, object, field)
@@ -62,13 +51,9 @@ impl<L: Named, B: Builder> Space<L, B> {
         requires of { IsMutatorOf self.now m.old }
         requires refers { refers kind ≡ true }
         ensures of { IsMutatorOf self.now m.new }
-        ensures grows { Grows (pass_of m.old) (pass_of m.new) × (did (pass_of m.new) ≡ did (pass_of m.old)) }
         ensures unposted { unposted_of m.new ≡ unposted_of m.old }
-        ensures busy { (q : ℕ) → IsErrOf result (Busy q) → ⊥ }
-        ensures read { IfOk result (Reads (setup_of self.now) (seen (pass_of m.new)) kind object field) }
-        ensures known { IfOk result (MayRefer (pass_of m.new)) }
-        ensures builds { OnOk result (MayBuildTouched (setup_of self.now) (pass_of m.old) (pass_of m.new) kind object field) }
-        ensures refused { IfErr result (FieldRefused (setup_of self.now) (pass_of m.old) (pass_of m.new) kind object field) }
+        ensures read { IsRead (setup_of self.now) (pass_of m.old) (pass_of m.new) kind object field result }
+        ensures busy { IsNeverBusy result }
     {
         retried!(rt, self.try_read_referring(alloc, m, kind, object, field))
     }
@@ -88,14 +73,8 @@ impl<L: Named, B: Builder> Space<L, B> {
         requires of { IsMutatorOf self.now m.old }
         requires refers { refers kind ≡ true }
         ensures of { IsMutatorOf self.now m.new }
-        ensures grows { Grows (pass_of m.old) (pass_of m.new) }
         ensures unposted { unposted_of m.new ≡ unposted_of m.old }
-        ensures alone { (setup_of self.now).mutators ≡ 1 → (q : ℕ) → IsErrOf result (Busy q) → ⊥ }
-        ensures wrote { IfOk result (Writes (setup_of self.now) (pass_of m.old) (pass_of m.new) kind object field value) }
-        ensures target { OnOk result (MayRefer (pass_of m.new) value) }
-        ensures builds { OnOk result (MayBuildTouched (setup_of self.now) (pass_of m.old) (pass_of m.new) kind object field) }
-        ensures did { OnErr result (did (pass_of m.new) ≡ did (pass_of m.old)) }
-        ensures refused { IfErr result (ReferenceRefused (setup_of self.now) (pass_of m.old) (pass_of m.new) kind object field value) }
+        ensures write { IsWrite (setup_of self.now) (pass_of m.old) (pass_of m.new) kind object field value result }
     {
         let Mutator { hand, share: _ } = m;
         hand.try_write_referring(alloc, &self.cells, kind, object, field, value)
@@ -115,14 +94,9 @@ impl<L: Named, B: Builder> Space<L, B> {
         requires of { IsMutatorOf self.now m.old }
         requires refers { refers kind ≡ true }
         ensures of { IsMutatorOf self.now m.new }
-        ensures grows { Grows (pass_of m.old) (pass_of m.new) }
         ensures unposted { unposted_of m.new ≡ unposted_of m.old }
-        ensures busy { (q : ℕ) → IsErrOf result (Busy q) → ⊥ }
-        ensures wrote { IfOk result (Writes (setup_of self.now) (pass_of m.old) (pass_of m.new) kind object field value) }
-        ensures target { OnOk result (MayRefer (pass_of m.new) value) }
-        ensures builds { OnOk result (MayBuildTouched (setup_of self.now) (pass_of m.old) (pass_of m.new) kind object field) }
-        ensures did { OnErr result (did (pass_of m.new) ≡ did (pass_of m.old)) }
-        ensures refused { IfErr result (ReferenceRefused (setup_of self.now) (pass_of m.old) (pass_of m.new) kind object field value) }
+        ensures write { IsWrite (setup_of self.now) (pass_of m.old) (pass_of m.new) kind object field value result }
+        ensures busy { IsNeverBusy result }
     {
         retried!(
             rt,

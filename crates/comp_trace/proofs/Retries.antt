@@ -16,7 +16,8 @@ use Rattle.comp_mutator.specs.Reads.{BuildsNothing}
 use Rattle.comp_mutator.specs.Refusal.{Refusal}
 use Rattle.comp_mutator.specs.Refusal.TheVariants.{Busy}
 use Rattle.comp_mutator.proofs.Building.{builds_after, builds_then}
-use Rattle.comp_mutator.proofs.BusyPages.{judged_reference, waits_allocation, waits_data, waits_field, waits_none, waits_reference, writes_after, Waits}
+use Rattle.comp_mutator.proofs.BusyPages.{judged_reference, waits_allocation, waits_data, waits_field, waits_none, waits_reference, Waits}
+use Rattle.comp_mutator.proofs.CompAccessGrowing.{writes_after}
 use Rattle.comp_mutator.proofs.Earlier.{reference_refused_then, refused_then, write_refused_then, Saw}
 use Rattle.comp_mutator.proofs.Growing.{grows_none, grows_then}
 use Rattle.comp_mutator.proofs.LowestPages.{allocates_then, allocation_refused_then}

@@ -22,12 +22,12 @@ returns g c =
     let is = is_made u old made u.heap.edition 1 0 1 c.args.tag object (omega arith) (omega arith) (omega arith) c.in_ok-object.ensures.allocated in
     let shape = c.made_objects_start.ensures old made is.header object is.allocates in
     let alone = c.alone_sees_its_own.ensures c.requires.alone in
-    let same : (p : ℕ) → seen read p ≡ seen made p = λ p. alone r.new.m r.ensures.of p ∙ ap (on p) r.ensures.grows.1 ∙ sym (alone n.new.m n.ensures.of p) in
-    let again : (p : ℕ) → seen last p ≡ seen made p = λ p. alone d.new.m d.ensures.of p ∙ ap (on p) (d.ensures.grows.1 ∙ r.ensures.grows.1) ∙ sym (alone n.new.m n.ensures.of p) in
-    let grows = grows_then made read last r.ensures.grows.0 d.ensures.grows.0 in
-    let first = c.fields_keep_their_addresses.ensures (seen made) (seen read) r.ensures.grows.0.seen (λ p. (r.ensures.of.remembers p).lawful) Reference object 0 in
+    let same : (p : ℕ) → seen read p ≡ seen made p = λ p. alone r.new.m r.ensures.of p ∙ ap (on p) r.ensures.read.did ∙ sym (alone n.new.m n.ensures.of p) in
+    let again : (p : ℕ) → seen last p ≡ seen made p = λ p. alone d.new.m d.ensures.of p ∙ ap (on p) (d.ensures.read.did ∙ r.ensures.read.did) ∙ sym (alone n.new.m n.ensures.of p) in
+    let grows = grows_then made read last r.ensures.read.grows d.ensures.read.grows in
+    let first = c.fields_keep_their_addresses.ensures (seen made) (seen read) r.ensures.read.grows.seen (λ p. (r.ensures.of.remembers p).lawful) Reference object 0 in
     let second = c.fields_keep_their_addresses.ensures (seen made) (seen last) grows.seen (λ p. (d.ensures.of.remembers p).lawful) Data object 0 in
     record {
-      null = IfOk-weaker r.result _ _ (λ word. new_field u old made read 1 0 1 object same is shape Reference 0 word (first_there _ is.refs_are) first) r.ensures.read;
-      zero = IfOk-weaker d.result _ _ (λ word. new_field u old made last 1 0 1 object again is shape Data 0 word (first_there _ is.data_are) second) d.ensures.read;
+      null = IfOk-weaker r.result _ _ (λ word. new_field u old made read 1 0 1 object same is shape Reference 0 word (first_there _ is.refs_are) first) r.ensures.read.word;
+      zero = IfOk-weaker d.result _ _ (λ word. new_field u old made last 1 0 1 object again is shape Data 0 word (first_there _ is.data_are) second) d.ensures.read.word;
     }

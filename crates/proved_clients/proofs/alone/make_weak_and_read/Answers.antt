@@ -19,8 +19,8 @@ returns g c =
     let is = is_made u old made u.heap.edition 0 1 0 c.args.tag object (omega arith) (omega arith) (omega arith) c.in_ok-object.ensures.allocated in
     let shape = c.made_objects_start.ensures old made is.header object is.allocates in
     let alone = c.alone_sees_its_own.ensures c.requires.alone in
-    let same : (p : ℕ) → seen read p ≡ seen made p = λ p. alone r.new.m r.ensures.of p ∙ ap (on p) r.ensures.grows.1 ∙ sym (alone n.new.m n.ensures.of p) in
-    let one = c.fields_keep_their_addresses.ensures (seen made) (seen read) r.ensures.grows.0.seen (λ p. (r.ensures.of.remembers p).lawful) Weak object 0 in
+    let same : (p : ℕ) → seen read p ≡ seen made p = λ p. alone r.new.m r.ensures.of p ∙ ap (on p) r.ensures.read.did ∙ sym (alone n.new.m n.ensures.of p) in
+    let one = c.fields_keep_their_addresses.ensures (seen made) (seen read) r.ensures.read.grows.seen (λ p. (r.ensures.of.remembers p).lawful) Weak object 0 in
     record {
-      null = IfOk-weaker r.result _ _ (λ word. new_field u old made read 0 1 0 object same is shape Weak 0 word (first_there _ is.weak_are) one) r.ensures.read;
+      null = IfOk-weaker r.result _ _ (λ word. new_field u old made read 0 1 0 object same is shape Weak 0 word (first_there _ is.weak_are) one) r.ensures.read.word;
     }

@@ -19,9 +19,9 @@ returns g c =
     let object = c.args.object in
     let field = c.args.field in
     let alone = c.alone_sees_its_own.ensures c.requires.alone in
-    let same : (p : ℕ) → seen read p ≡ seen wrote p = λ p. alone r.new.m r.ensures.of p ∙ ap (on p) r.ensures.grows.1 ∙ sym (alone w.new.m w.ensures.of p) in
-    let one = c.fields_keep_their_addresses.ensures (seen wrote) (seen read) r.ensures.grows.0.seen (λ p. (r.ensures.of.remembers p).lawful) Weak object field in
+    let same : (p : ℕ) → seen read p ≡ seen wrote p = λ p. alone r.new.m r.ensures.of p ∙ ap (on p) r.ensures.read.did ∙ sym (alone w.new.m w.ensures.of p) in
+    let one = c.fields_keep_their_addresses.ensures (seen wrote) (seen read) r.ensures.read.grows.seen (λ p. (r.ensures.of.remembers p).lawful) Weak object field in
     record {
-      read = both_ok w.result r.result (Writes u old wrote Weak object field c.args.value) (Reads u (seen read) Weak object field) (λ word. word ≡ c.args.value) w.ensures.wrote r.ensures.read
+      read = both_ok w.result r.result (Writes u old wrote Weak object field c.args.value) (Reads u (seen read) Weak object field) (λ word. word ≡ c.args.value) w.ensures.write.wrote r.ensures.read.word
           (λ stamp word. reads_back u old wrote read Weak object field c.args.value stamp word same one (c.last_written.ensures u));
     }

@@ -22,18 +22,18 @@ returns g c =
     let reader = pass_of c.args.m1.now in
     let object = c.args.object in
     let field = c.args.field in
-    let all : (p : ℕ) → StartsWith (seen wrote p) (seen reader p) = λ p. begins_then (seen reader p) (seen old p) (seen wrote p) (c.requires.seen p) (w.ensures.grows.seen p) in
+    let all : (p : ℕ) → StartsWith (seen wrote p) (seen reader p) = λ p. begins_then (seen reader p) (seen old p) (seen wrote p) (c.requires.seen p) (w.ensures.write.grows.seen p) in
     let same : (p : ℕ) → seen read p ≡ seen wrote p = sees_what_it_met u wrote (pass_of c.meet.new.other) (pass_of c.meet-2.new.other) reader (pass_of c.meet.new.m) read (pass_of c.meet-2.new.m) record {
       two = c.requires.two;
-      first = w.ensures.grows.number ∙ c.requires.first.1;
+      first = w.ensures.write.grows.number ∙ c.requires.first.1;
       second = c.requires.second.1;
       meets_a = c.meet.ensures.other;
       meets_b = c.meet.ensures.m;
       same = c.meet.ensures.same;
       remembers_a = c.meet.ensures.of.0.remembers;
       remembers_b = c.meet.ensures.of.1.remembers;
-      grows = r.ensures.grows.0;
-      wrote_none = r.ensures.grows.1;
+      grows = r.ensures.read.grows;
+      wrote_none = r.ensures.read.did;
       again_a = c.meet-2.ensures.other;
       again_b = c.meet-2.ensures.m;
       same_again = c.meet-2.ensures.same;
@@ -43,6 +43,6 @@ returns g c =
     let grows : (p : ℕ) → StartsWith (seen read p) (seen wrote p) = λ p. subst (λ l. StartsWith l (seen wrote p)) (sym (same p)) (starts-refl (seen wrote p)) in
     let one = c.fields_keep_their_addresses.ensures (seen wrote) (seen read) grows (λ p. (r.ensures.of.remembers p).lawful) Data object field in
     record {
-      read = both_ok w.result r.result (Writes u old wrote Data object field c.args.value) (Reads u (seen read) Data object field) (λ word. word ≡ c.args.value) w.ensures.wrote r.ensures.read
+      read = both_ok w.result r.result (Writes u old wrote Data object field c.args.value) (Reads u (seen read) Data object field) (λ word. word ≡ c.args.value) w.ensures.write.wrote r.ensures.read.word
           (λ stamp word. reads_back u old wrote read Data object field c.args.value stamp word same one (c.last_written.ensures u));
     }

@@ -17,10 +17,10 @@ invariant_of-self g c =
     let new = c.try_write_referring.new.pass in
     let h = c.try_write_referring.ensures in
     let u = setup_of c.args.cells.now in
-    let made = made_nothing c.try_write_referring.result u hand.pass new c.args.kind _ _ _ (no_header c.args.kind c.requires.refers) h.wrote h.did in
+    let made = made_nothing c.try_write_referring.result u hand.pass new c.args.kind _ _ _ (no_header c.args.kind c.requires.refers) h.write.wrote h.write.did in
     record {
       rests = h.of.1;
-      counts = counts_still u hand.pass new hand.fills.items c.requires.of.of.about h.of.0.of.about h.grows.number made hand.counts;
+      counts = counts_still u hand.pass new hand.fills.items c.requires.of.of.about h.of.0.of.about h.write.grows.number made hand.counts;
       low = hand.low;
       bounded = hand.bounded;
       counted = words_still u hand.pass new hand.made c.requires.of.of.about h.of.0.of.about made hand.counted;

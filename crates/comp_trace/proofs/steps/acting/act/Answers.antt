@@ -20,7 +20,7 @@ returns-in_default-clause-refused g c =
     let new = pass_of call.new.m in
     let registers = c.args.registers.now in
     subst (λ (a : Action). IfErr call.result (Refuses u a registers old new)) (sym c.in-Load.is)
-    (unloaded u c.in-Load.weak c.in-Load.object c.in-Load.field registers old new c.kind_if-kind.result c.held.result call.result c.kind_if-kind.ensures.kind c.held.ensures call.ensures.refused)
+    (unloaded u c.in-Load.weak c.in-Load.object c.in-Load.field registers old new c.kind_if-kind.result c.held.result call.result c.kind_if-kind.ensures.kind c.held.ensures call.ensures.read.refused)
 
 pub returns-in-Root : goal.returns-in-Root
 returns-in-Root g c =
@@ -65,8 +65,8 @@ returns-in-Ok g c =
     let is = sym c.in-Load.is in
     record {
       of = told.of;
-      went = subst (λ (a : Action). Steps u a registers old new word) is (loaded u c.in-Load.weak c.in-Load.to c.in-Load.object c.in-Load.field registers old new kind.result c.held.result (Ok word) kind.ensures.kind c.held.ensures told.grows
-          c.in-Ok.ensures.read c.in-Ok.ensures.known c.in-Ok.ensures.builds);
+      went = subst (λ (a : Action). Steps u a registers old new word) is (loaded u c.in-Load.weak c.in-Load.to c.in-Load.object c.in-Load.field registers old new kind.result c.held.result (Ok word) kind.ensures.kind c.held.ensures (told.read.grows, told.read.did)
+          c.in-Ok.ensures.read.word (c.in-Ok.ensures.read.known kind.ensures.refers) c.in-Ok.ensures.read.builds);
       registers = ap (λ to. set registers to word) c.from-in-Ok.ensures ∙ ap (λ (a : Action). registers_after a registers word) is;
       grows = tt;
       did = tt;
@@ -98,16 +98,16 @@ returns-in-Get g c =
     let registers = c.args.registers.now in
     let new = pass_of c.try_read_data.new.m in
     let r = c.try_read_data.result in
-    let told = c.try_read_data.ensures in
+    let told = c.try_read_data.ensures.read in
     let object = c.held-in-Get in
     let field = c.in-Get.field in
     let is = sym c.in-Get.is in
     record {
-      of = told.of;
-      went = subst (λ (a : Action). IfOk r (Steps u a registers old new)) is (got u c.in-Get.object field registers old new object.result r object.ensures told.grows told.read told.builds);
+      of = c.try_read_data.ensures.of;
+      went = subst (λ (a : Action). IfOk r (Steps u a registers old new)) is (got u c.in-Get.object field registers old new object.result r object.ensures (told.grows, told.did) told.word told.builds);
       registers = on_ok r (λ answer. registers ≡ registers_after c.args.action registers answer) (λ answer. ap (λ (a : Action). registers_after a registers answer) is);
-      grows = on_err r (Grows old new) told.grows.0;
-      did = on_err r ((did new ≡ did old) × (registers ≡ registers)) (told.grows.1, refl);
+      grows = on_err r (Grows old new) told.grows;
+      did = on_err r ((did new ≡ did old) × (registers ≡ registers)) (told.did, refl);
       refused = subst (λ (a : Action). IfErr r (Refuses u a registers old new)) is
           (subst (λ (o : ℕ). IfErr r (FieldRefused u old new Data o field)) object.ensures told.refused);
     }
@@ -119,21 +119,21 @@ returns-in-Store g c =
     let registers = c.args.registers.now in
     let new = pass_of c.try_write_referring.new.m in
     let r = c.try_write_referring.result in
-    let told = c.try_write_referring.ensures in
+    let told = c.try_write_referring.ensures.write in
     let object = c.held-in-Store in
     let field = c.in-Store.field in
     let value = c.held-value in
     let kind = c.kind_if-kind-in-Store in
     let is = sym c.in-Store.is in
     record {
-      of = told.of;
+      of = c.try_write_referring.ensures.of;
       went = subst (λ (a : Action). IfOk r (Steps u a registers old new)) is (stored u c.in-Store.weak c.in-Store.object field c.in-Store.value registers old new kind.result object.result value.result r
-          kind.ensures.kind object.ensures value.ensures told.grows told.wrote told.target told.builds);
+          kind.ensures.kind object.ensures value.ensures told.grows told.wrote (told.target kind.ensures.refers) told.builds);
       registers = on_ok r (λ answer. registers ≡ registers_after c.args.action registers answer) (λ answer. ap (λ (a : Action). registers_after a registers answer) is);
       grows = on_err r (Grows old new) told.grows;
       did = on_err_weaker r (λ same. (same, refl)) told.did;
       refused = subst (λ (a : Action). IfErr r (Refuses u a registers old new)) is
-          (unstored u c.in-Store.weak c.in-Store.object field c.in-Store.value registers old new kind.result object.result value.result r kind.ensures.kind object.ensures value.ensures told.refused);
+          (unstored u c.in-Store.weak c.in-Store.object field c.in-Store.value registers old new kind.result object.result value.result r kind.ensures.kind object.ensures value.ensures (told.reference_refused kind.ensures.refers));
     }
 
 pub returns-in-Put : goal.returns-in-Put
@@ -143,18 +143,18 @@ returns-in-Put g c =
     let registers = c.args.registers.now in
     let new = pass_of c.try_write_data.new.m in
     let r = c.try_write_data.result in
-    let told = c.try_write_data.ensures in
+    let told = c.try_write_data.ensures.write in
     let object = c.held-in-Put in
     let field = c.in-Put.field in
     let is = sym c.in-Put.is in
     record {
-      of = told.of;
+      of = c.try_write_data.ensures.of;
       went = subst (λ (a : Action). IfOk r (Steps u a registers old new)) is (put u c.in-Put.object field c.in-Put.value registers old new object.result r object.ensures told.grows told.wrote told.builds);
       registers = on_ok r (λ answer. registers ≡ registers_after c.args.action registers answer) (λ answer. ap (λ (a : Action). registers_after a registers answer) is);
       grows = on_err r (Grows old new) told.grows;
       did = on_err_weaker r (λ same. (same, refl)) told.did;
       refused = subst (λ (a : Action). IfErr r (Refuses u a registers old new)) is
-          (subst (λ (o : ℕ). IfErr r (DataRefused u old new Data o field)) object.ensures told.refused);
+          (subst (λ (o : ℕ). IfErr r (DataRefused u old new Data o field)) object.ensures (told.data_refused refl));
     }
 
 pub returns-in_err-reference-in-New : goal.returns-in_err-reference-in-New
