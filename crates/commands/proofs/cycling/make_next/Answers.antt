@@ -1,4 +1,4 @@
-use Rattle.std.proofs.Common.{◌≡◌, ℕ, List, IfErr, IfOk, length, map, subst, sym}
+use Rattle.std.proofs.Common.{ℕ, List, IfErr, IfOk, length, subst, sym}
 use Rattle.std.proofs.lemmas.Result.{IfErr-weaker, IfOk-weaker}
 use Rattle.comp_trace.specs.Replays.{Hold}
 use Rattle.comp_trace.specs.RootsNamed.{words_named}
