@@ -14,6 +14,7 @@ use Rattle.command_io.specs.declared.refusal.CommandRefusal.{CommandRefusal}
 use Rattle.command_io.specs.declared.refusal.CommandRefusal.TheVariants.{Layout, Mutator, Sweep, Trace, Dump, Audit, Moved, CannotWrite, CannotOpen, CannotCreate, ReadFailed, CannotPrint, NoSuchWord, BadMarks, OutOfMemory, BadRoots}
 use Rattle.commands.specs.Outcomes.{IsHaltedBy}
 use Rattle.commands.proofs.ReplayRuns.{cut_by}
+use Rattle.commands.specs.Replays.{IsPrintedHalt}
 use Rattle.commands.specs.Cycled.{cycle_by, Given, IsCycledHeap, IsNextHeap, IsUncycled, IsUnmarked}
 
 -- the heap that follows, of what the plan was made for
@@ -74,6 +75,25 @@ module _ (mutators fresh : ℕ) (lines : List Line) (given : Given) (heap : Heap
       → ((now : ℕ → List ℕ) → Hold (length registers) registers now → IsUnmarked heap f given.marks (words_named now given.roots) refusal) → IsUncycled mutators fresh lines shown given heap refusal
   not_followed values f registers ran shown none refusal made =
       uncycled values f ran.last shown none refusal (made ran.last.run.end.registers (held mutators fresh lines values heap f registers ran))
+
+  -- a cycle whose run was halted
+  pub halted_run : (shown : List Shown) (refusal : CommandRefusal) → IsPrintedHalt mutators fresh lines shown heap refusal → IsUncycled mutators fresh lines shown given heap refusal
+  halted_run shown (Layout fault) h = absurd h
+  halted_run shown (Mutator refused) h = h
+  halted_run shown (Sweep fault) h = absurd h
+  halted_run shown (Trace fault) h = h
+  halted_run shown (Dump fault) h = absurd h
+  halted_run shown (Audit fault) h = absurd h
+  halted_run shown (Moved fault) h = absurd h
+  halted_run shown (CannotWrite output) h = absurd h
+  halted_run shown (CannotOpen input) h = absurd h
+  halted_run shown (CannotCreate output) h = absurd h
+  halted_run shown (ReadFailed input) h = absurd h
+  halted_run shown CannotPrint h = absurd h
+  halted_run shown (NoSuchWord index) h = absurd h
+  halted_run shown (BadMarks line) h = absurd h
+  halted_run shown (BadRoots line) h = absurd h
+  halted_run shown OutOfMemory h = h
 
   -- what was shown of a cycle that does not come to its end
   pub halted_cycle : (shown : List Shown) (refusal : CommandRefusal) → IsUncycled mutators fresh lines shown given heap refusal → IsHaltedBy shown refusal

@@ -8,12 +8,10 @@ ghost use Rattle.comp_trace.specs.RootsNamed.{words_named};
 ghost use Rattle.comp_trace.specs.Traces.{lines_of};
 ghost use Rattle.commands.specs.Cycled.{given_by, IsCycledHeap, IsGivenWithin, IsNextHeap, IsUncycled, IsUnmarked};
 
-use crate::replays::{PrintedHalt, unshown};
+use crate::replays::{PrintedHalt, printed_halt, unshown};
 use command_io::CommandRefusal;
-use comp_mutator::{Finished, Refusal};
-use comp_trace::{
-    CycleHalt, Halt, Marking, NewRoot, Shown, Trace, next_marked, root_words, run_cycle,
-};
+use comp_mutator::Finished;
+use comp_trace::{Marking, NewRoot, Shown, Trace, next_marked, root_words, run_cycle};
 use heap_layout::MarkedHeap;
 use page_plan::Plan;
 use reachable_cycles::next_reachable_with;
@@ -71,15 +69,7 @@ pub fn cycle_heap(
             }),
             Err(refusal) => Err(unshown(alloc, refusal)),
         },
-        Err(CycleHalt::Unplanned) => Err(unshown(alloc, CommandRefusal::OutOfMemory)),
-        Err(CycleHalt::Halted(Halt::Cut(stopped))) => Err(PrintedHalt {
-            shown: stopped.shown,
-            refusal: CommandRefusal::Trace(stopped.fault),
-        }),
-        Err(CycleHalt::Halted(Halt::Unflipped | Halt::Unfinished(_))) => Err(unshown(
-            alloc,
-            CommandRefusal::Mutator(Refusal::OutOfMemory),
-        )),
+        Err(halt) => Err(printed_halt(alloc, halt)),
     }
 }
 

@@ -1,13 +1,15 @@
 //! Heaps over which one thread runs a trace.
-ghost use Rattle.std.specs.Prelude.{◌≡◌, ◌≤◌, [], length, IfOk, IfErr};
+ghost use Rattle.std.specs.Prelude.{◌≡◌, ◌≤◌, ℕ, List, [], length, IfOk, IfErr};
+ghost use Rattle.heap_layout.specs.Heap.{Heap};
 ghost use Rattle.comp_mutator.specs.Finishes.{IsOfFlip};
+ghost use Rattle.comp_trace.specs.CycleRuns.{IsCycleHaltOf};
+ghost use Rattle.comp_trace.specs.declared.text.line.Line.{Line};
 ghost use Rattle.comp_trace.specs.Traces.{lines_of, mutators_of, roots_of};
 ghost use Rattle.commands.specs.Replays.{IsPrintedHalt, IsReplayedHeap};
 
-use crate::flipping::plan_heap;
 use command_io::CommandRefusal;
 use comp_mutator::{Finished, Refusal};
-use comp_trace::{Halt, Shown, Trace, run_over};
+use comp_trace::{Halt, Shown, Trace, run_cycle};
 use heap_layout::MarkedHeap;
 use std::alloc::Global;
 use std::thread::Threads;
@@ -37,6 +39,24 @@ pub fn unshown(alloc: Global, refusal: CommandRefusal) -> PrintedHalt
     }
 }
 
+/// What is printed of a run that was halted, and its refusal. Only a line that was refused comes with values: those of
+/// the lines before it.
+pub fn printed_halt(alloc: Global, halt: Halt) -> PrintedHalt
+    ensures { (mutators fresh : ℕ) (lines : List Line) (heap : Heap) → IsCycleHaltOf mutators fresh lines heap halt → IsPrintedHalt mutators fresh lines result.shown.items heap result.refusal }
+{
+    match halt {
+        Halt::Unplanned => unshown(alloc, CommandRefusal::OutOfMemory),
+        Halt::Cut(stopped) => PrintedHalt {
+            shown: stopped.shown,
+            refusal: CommandRefusal::Trace(stopped.fault),
+        },
+        Halt::Unflipped | Halt::Unfinished(_) => unshown(
+            alloc,
+            CommandRefusal::Mutator(Refusal::OutOfMemory),
+        ),
+    }
+}
+
 /// Flips a heap, runs a trace over it by one thread, and finishes it. There are 1 to 64 mutators and at most 4,096
 /// fresh pages. The trace was parsed for these mutators and for the heap's roots.
 ///
@@ -58,22 +78,11 @@ pub fn replay_heap(
     ensures flipped { IfOk result (λ run. IsOfFlip mutators fresh run.finished) }
     ensures halted { IfErr result (λ run. IsPrintedHalt mutators fresh (lines_of trace.now) run.shown.items heap run.refusal) }
 {
-    let plan = match plan_heap(alloc, rt, heap) {
-        Ok(plan) => plan,
-        Err(refusal) => return Err(unshown(alloc, refusal)),
-    };
-    match run_over(alloc, plan, trace, mutators, fresh) {
-        Ok(run) => Ok(Replayed {
-            shown: run.shown,
-            finished: run.finished,
+    match run_cycle(alloc, rt, heap, trace, mutators, fresh) {
+        Ok(ran) => Ok(Replayed {
+            shown: ran.shown,
+            finished: ran.finished,
         }),
-        Err(Halt::Cut(stopped)) => Err(PrintedHalt {
-            shown: stopped.shown,
-            refusal: CommandRefusal::Trace(stopped.fault),
-        }),
-        Err(Halt::Unflipped | Halt::Unfinished(_)) => Err(unshown(
-            alloc,
-            CommandRefusal::Mutator(Refusal::OutOfMemory),
-        )),
+        Err(halt) => Err(printed_halt(alloc, halt)),
     }
 }

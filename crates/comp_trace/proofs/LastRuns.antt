@@ -12,9 +12,11 @@ use Rattle.comp_cycles.specs.Finishes.{builds_in, journals_of, pages_of, IsFinis
 use Rattle.comp_cycles.specs.declared.finished.Finished.{Finished}
 use Rattle.comp_trace.specs.declared.steps.shown.Shown.{Shown}
 use Rattle.comp_trace.specs.declared.text.line.Line.{Line}
-use Rattle.comp_trace.specs.Bytes.{flipped}
-use Rattle.comp_trace.specs.Heaps.{HasRunOver, HasRunWith}
-use Rattle.comp_trace.specs.CycleRuns.{IsLastRun, IsLastRunWith}
+use Rattle.comp_trace.specs.Bytes.{flipped, CutsShort, RunsThrough}
+use Rattle.comp_trace.specs.Heaps.{HasRunOver, HasRunWith, IsHaltOf}
+use Rattle.comp_trace.specs.CycleRuns.{IsCycleHaltOf, IsLastRun, IsLastRunWith}
+use Rattle.comp_trace.specs.declared.replays.running.Halt.{Halt}
+use Rattle.comp_trace.specs.declared.replays.running.Halt.TheVariants.{Cut, Unflipped, Unfinished, Unplanned}
 
 abbrev setup_with : Heap → ℕ → ℕ → Setup
 setup_with heap fresh mutators = record { heap = heap; compacted = sliding.pages (live heap); fresh = fresh; mutators = mutators }
@@ -47,3 +49,10 @@ pub last_run_with : (mutators fresh : ℕ) (lines : List Line) (shown : List Sho
     → IsLastRunWith mutators fresh lines shown heap f registers
 unfolding last_run
 last_run_with mutators fresh lines shown heap f registers few h = record { last = last_run mutators fresh lines shown heap f few h.run; registers_are = h.registers_are }
+
+-- a run over the planned heap that was halted halts the cycle
+pub halted_over : (mutators fresh : ℕ) (lines : List Line) (planned heap : Heap) → planned ≡ heap → (halt : Halt) → IsHaltOf mutators fresh lines planned halt → IsCycleHaltOf mutators fresh lines heap halt
+halted_over mutators fresh lines planned heap same Unplanned h = absurd h
+halted_over mutators fresh lines planned heap same Unflipped h = tt
+halted_over mutators fresh lines planned heap same (Cut stopped) h = subst (λ (x : Heap). CutsShort (flipped x mutators fresh) lines stopped.shown.items stopped.fault) same h
+halted_over mutators fresh lines planned heap same (Unfinished shown) h = subst (λ (x : Heap). RunsThrough (flipped x mutators fresh) lines shown.items) same h

@@ -16,8 +16,8 @@ use Rattle.comp_trace.specs.Heaps.{AreRegisters, IsHaltOf}
 use Rattle.comp_trace.specs.Runs.{beginning, Moment, Runs}
 use Rattle.comp_trace.specs.Markings.{IsMarkedBy, IsMarkedCycle}
 use Rattle.comp_trace.specs.RootsNamed.{words_named}
-use Rattle.comp_trace.specs.declared.cycles.cycle.CycleHalt.{CycleHalt}
-use Rattle.comp_trace.specs.declared.cycles.cycle.CycleHalt.TheVariants.{Halted, Unplanned}
+use Rattle.comp_trace.specs.declared.replays.running.Halt.{Halt}
+use Rattle.comp_trace.specs.declared.replays.running.Halt.TheVariants.{Unplanned}
 
 -- the trace was parsed for these numbers of mutators and roots
 abbrev pub IsParsedFor : ℕ → ℕ → Trace → Type 0
@@ -43,9 +43,9 @@ pub record IsLastRunWith (mutators fresh : ℕ) (lines : List Line) (shown : Lis
   pub registers_are : AreRegisters mutators registers last.run.end
 
 -- why a cycle does not come to its end: memory ran out for its plan, or the run over its heap was halted
-abbrev pub IsCycleHaltOf : ℕ → ℕ → List Line → Heap → CycleHalt → Type 0
+abbrev pub IsCycleHaltOf : ℕ → ℕ → List Line → Heap → Halt → Type 0
 IsCycleHaltOf mutators fresh lines heap Unplanned = Unit {0}
-IsCycleHaltOf mutators fresh lines heap (Halted halt) = IsHaltOf mutators fresh lines heap halt
+IsCycleHaltOf mutators fresh lines heap halt = IsHaltOf mutators fresh lines heap halt
 
 -- One of several cycles: these lines were run over the heap and showed these values, and then the next heap was marked
 -- by the marks that were given for it, or by what its roots reach. If roots were named, it has those that they name when

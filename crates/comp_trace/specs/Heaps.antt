@@ -12,7 +12,7 @@ use Rattle.comp_trace.specs.Bytes.{flipped, no_entries, CutsShort, RunsThrough}
 use Rattle.comp_trace.specs.Replays.{Hold}
 use Rattle.comp_trace.specs.Runs.{beginning, Moment, Runs}
 use Rattle.comp_trace.specs.declared.replays.running.Halt.{Halt}
-use Rattle.comp_trace.specs.declared.replays.running.Halt.TheVariants.{Cut, Unflipped, Unfinished}
+use Rattle.comp_trace.specs.declared.replays.running.Halt.TheVariants.{Cut, Unflipped, Unfinished, Unplanned}
 
 -- The heap was flipped for these numbers of mutators and fresh pages, one thread ran these lines, which showed these
 -- values, and this is the heap at the end.
@@ -40,9 +40,10 @@ pub record HasRunWith (mutators fresh : ℕ) (lines : List Line) (shown : List S
   pub run : HasRunOver mutators fresh lines shown heap f
   pub registers_are : AreRegisters mutators registers run.end
 
--- why the run does not come to its end: it was cut short, or memory ran out for the flip, or for the finish after all
--- lines were run
+-- why the run over a heap that is planned does not come to its end: it was cut short, or memory ran out for the flip,
+-- or for the finish after all lines were run
 abbrev pub IsHaltOf : ℕ → ℕ → List Line → Heap → Halt → Type 0
 IsHaltOf mutators fresh lines heap (Cut stopped) = CutsShort (flipped heap mutators fresh) lines stopped.shown.items stopped.fault
+IsHaltOf mutators fresh lines heap Unplanned = ⊥
 IsHaltOf mutators fresh lines heap Unflipped = Unit {0}
 IsHaltOf mutators fresh lines heap (Unfinished shown) = RunsThrough (flipped heap mutators fresh) lines shown.items

@@ -9,13 +9,13 @@ mod steps;
 mod text;
 
 pub use cycles::{
-    CycleFault, CycleHalt, CyclesStopped, Marking, Ran, next_marked, replay_cycles, replay_marked,
-    root_words, run_cycle,
+    CycleFault, CyclesStopped, Marking, Ran, next_marked, replay_cycles, replay_marked, root_words,
+    run_cycle,
 };
 pub use races::{NotRaced, Raced, Run, race};
 pub use replays::{
     Halt, Replayed, Stopped, refusals_are_of_runs, replay, replay_registers, replay_text,
-    replays_show_once, run_over, runs_are_determined,
+    replays_show_once, runs_are_determined,
 };
 pub use steps::Shown;
 pub use text::{

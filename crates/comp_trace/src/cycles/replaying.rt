@@ -9,7 +9,7 @@ ghost use Rattle.comp_trace.specs.CycleRuns.{CyclesRan, IsCycleHaltOf, IsNextRun
 ghost use Rattle.comp_trace.specs.Markings.{marks_given};
 ghost use Rattle.comp_trace.specs.Stops.{further_by, marking_and_lines, marks_and_lines, some_values, values_of, IsNotNext, IsNotRunOver, StopsCycles};
 
-use crate::cycles::cycle::{CycleHalt, Ran, run_cycle};
+use crate::cycles::cycle::{Ran, run_cycle};
 use crate::cycles::fault::CycleFault;
 use crate::cycles::marking::{Marking, Marks, next_marked};
 use crate::replays::Halt;
@@ -49,19 +49,19 @@ struct NotRun {
 }
 
 // Why cycle `c` was not run to its end.
-fn not_run(c: u64, halt: CycleHalt) -> NotRun
+fn not_run(c: u64, halt: Halt) -> NotRun
     ensures { (mutators fresh : ℕ) (lines : List Line) (heap : Heap) → IsCycleHaltOf mutators fresh lines heap halt → IsNotRunOver mutators fresh lines heap c result.shown result.fault }
 {
     match halt {
-        CycleHalt::Halted(Halt::Cut(stopped)) => NotRun {
+        Halt::Cut(stopped) => NotRun {
             shown: Some(stopped.shown),
             fault: CycleFault::Stopped(c, stopped.fault),
         },
-        CycleHalt::Halted(Halt::Unfinished(shown)) => NotRun {
+        Halt::Unfinished(shown) => NotRun {
             shown: Some(shown),
             fault: CycleFault::OutOfMemory(c),
         },
-        CycleHalt::Halted(Halt::Unflipped) | CycleHalt::Unplanned => NotRun {
+        Halt::Unplanned | Halt::Unflipped => NotRun {
             shown: None,
             fault: CycleFault::OutOfMemory(c),
         },

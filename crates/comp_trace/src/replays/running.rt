@@ -30,13 +30,15 @@ pub struct Run {
     pub finished: Finished,
 }
 
-/// Why a run did not come to its end.
+/// Why a run over a heap did not come to its end.
 #[derive(Drop)]
 pub enum Halt {
-    /// A line was refused, or memory ran out for the values.
-    Cut(Stopped),
+    /// Out of memory for the plan of the heap. No line has run.
+    Unplanned,
     /// Out of memory for the flip. No line has run.
     Unflipped,
+    /// A line was refused, or memory ran out for the values.
+    Cut(Stopped),
     /// Out of memory for the finish. All lines were run; these are the values that they showed, in order.
     Unfinished(Vec<Shown>),
 }

@@ -4,7 +4,7 @@ use Rattle.comp_trace.specs.Replays.{Hold}
 use Rattle.comp_trace.specs.RootsNamed.{words_named}
 use Rattle.comp_trace.specs.Traces.{lines_of}
 use Rattle.commands.specs.Cycled.{given_by, IsGivenWithin, IsNextHeap, IsUnmarked}
-use Rattle.commands.proofs.CycledHeaps.{cycled, not_followed}
+use Rattle.commands.proofs.CycledHeaps.{cycled, halted_run, not_followed}
 use Rattle.commands.proofs.cycling.cycle_heap.Goals as goal
 
 pub make_next-requires-clause-within : goal.make_next-requires-clause-within
@@ -23,13 +23,22 @@ returns-in-Ok-make_next-clause-cycled g c =
     (subst (λ (l : List (List ℕ)). (now : ℕ → List ℕ) → Hold (length l) l now → IsNextHeap ran.plan.value ran.finished given.marks (words_named now given.roots) plan) c.deref.ensures.value c.in-Ok-make_next.ensures.next))
 
 -- Or it was refused.
-pub returns-in-Ok-clause-halted : goal.returns-in-Ok-clause-halted
-returns-in-Ok-clause-halted g c =
+pub returns-in-Err-make_next-clause-halted : goal.returns-in-Err-make_next-clause-halted
+returns-in-Err-make_next-clause-halted g c =
     let ran = c.in-Ok.ran in
-    let refusal = c.in-Err.refusal in
+    let refusal = c.in-Err-make_next.refusal in
     let given = given_by c.args.handed in
     let h = not_followed c.args.mutators c.args.fresh (lines_of c.args.trace.now) given c.args.heap ran.shown.items ran.finished ran.registers.items c.in-Ok.ensures.registers
     c.unshown.result.shown.items c.unshown.ensures.none refusal
     (subst (λ (h : Heap). (now : ℕ → List ℕ) → Hold (length ran.registers.items) ran.registers.items now → IsUnmarked h ran.finished given.marks (words_named now given.roots) refusal) c.in-Ok.ensures.plan
-    (subst (λ (l : List (List ℕ)). (now : ℕ → List ℕ) → Hold (length l) l now → IsUnmarked ran.plan.value ran.finished given.marks (words_named now given.roots) refusal) c.deref.ensures.value c.in-Err.ensures.refused)) in
+    (subst (λ (l : List (List ℕ)). (now : ℕ → List ℕ) → Hold (length l) l now → IsUnmarked ran.plan.value ran.finished given.marks (words_named now given.roots) refusal) c.deref.ensures.value c.in-Err-make_next.ensures.refused)) in
     rw c.unshown.ensures.refusal h
+
+-- Or the run was halted.
+pub returns-in-Err-clause-halted : goal.returns-in-Err-clause-halted
+returns-in-Err-clause-halted g c =
+    let m = c.args.mutators in
+    let fresh = c.args.fresh in
+    let lines = lines_of c.args.trace.now in
+    let printed = c.printed_halt.result in
+    halted_run m fresh lines (given_by c.args.handed) c.args.heap printed.shown.items printed.refusal (c.printed_halt.ensures m fresh lines c.args.heap c.in-Err.ensures.halted)

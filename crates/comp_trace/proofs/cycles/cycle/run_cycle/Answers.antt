@@ -2,7 +2,7 @@ use Rattle.std.proofs.Common.{subst, ◌∙◌}
 use Rattle.heap_layout.specs.Heap.{Heap}
 use Rattle.comp_trace.specs.Traces.{lines_of}
 use Rattle.comp_trace.specs.Heaps.{HasRunOver, HasRunWith}
-use Rattle.comp_trace.proofs.LastRuns.{last_run, last_run_with}
+use Rattle.comp_trace.proofs.LastRuns.{halted_over, last_run, last_run_with}
 use Rattle.comp_trace.proofs.cycles.cycle.run_cycle.Goals as goal
 
 pub returns-in-Ok-run_over-clause-run : goal.returns-in-Ok-run_over-clause-run
@@ -32,3 +32,12 @@ returns-in-Ok-run_over-clause-end g c =
     let last = last_run m fresh lines run.shown.items c.in-Ok-new.plan.value run.finished c.requires.fresh
     (subst (λ (heap : Heap). HasRunOver m fresh lines run.shown.items heap run.finished) c.in-Ok-clone.ensures.cases c.in-Ok-run_over.ensures.run) in
     last.end
+
+pub returns-in-Ok-run_over-clause-over : goal.returns-in-Ok-run_over-clause-over
+returns-in-Ok-run_over-clause-over g c =
+    let run = c.in-Ok-run_over.run' in
+    subst (λ (heap : Heap). HasRunOver c.args.mutators c.args.fresh (lines_of c.args.trace.now) run.shown.items heap run.finished) (c.in-Ok-clone.ensures.cases ∙ c.in-Ok-new.ensures.ok ∙ c.in-Ok.ensures) c.in-Ok-run_over.ensures.run
+
+pub returns-in-Err-clause-halted : goal.returns-in-Err-clause-halted
+returns-in-Err-clause-halted g c =
+    halted_over c.args.mutators c.args.fresh (lines_of c.args.trace.now) _ c.args.heap (c.in-Ok-clone.ensures.cases ∙ c.in-Ok-new.ensures.ok ∙ c.in-Ok.ensures) c.in-Err.halt c.in-Err.ensures.halted
