@@ -6,13 +6,11 @@ ghost use Rattle.command_io.specs.Images.{SomeHeapAt, RefusesAt};
 ghost use Rattle.commands.specs.Word.{IsWordAt, IsPast, PrintsWordAt, RefusesWord, RefusesPrint};
 ghost use Rattle.commands.specs.Leaving.{LeavesOutput};
 
-use crate::flipping::plan_heap;
 use command_io::{CommandRefusal, Files, heap_at, print_line};
 use heap_layout::Counted;
 use page_plan::Plan;
 use std::alloc::Global;
 use std::io::Write;
-use std::sync::Arc;
 use std::thread::Threads;
 
 /// Prints the slid word at an index, of the heap whose image is at a path, of edition three only if `large`: its decimal digits and a line feed. After
@@ -49,14 +47,14 @@ fn word_at<F: Files>(
     ensures cause { IfErr result (RefusesAt (F.disk files.now) large path.now (RefusesWord index)) }
 {
     let heap = heap_at(alloc, files, path, large)?;
-    let plan = plan_heap(alloc, rt, heap)?;
-    word_of(alloc, plan, index)
+    let plan = Plan::new(alloc, rt, heap)?;
+    word_of(alloc, &plan, index)
 }
 
 // The slid word at an index. Only its page is built.
-fn word_of(alloc: Global, plan: Arc<Plan>, index: u64) -> Result<u64, CommandRefusal>
-    ensures word { IfOk result (λ word. IsWordAt index word plan.value) }
-    ensures cause { IfErr result (IsPast index plan.value) }
+fn word_of(alloc: Global, plan: &Plan, index: u64) -> Result<u64, CommandRefusal>
+    ensures word { IfOk result (λ word. IsWordAt index word plan.now) }
+    ensures cause { IfErr result (IsPast index plan.now) }
 {
     let p = index / 64;
     if p >= plan.pages() {

@@ -11,7 +11,7 @@ returns-clause-word g c =
     let index = c.args.index in
     IfOk-weaker c.word_of.result _ _
     (λ word h. at_heap (g.F.Files.disk c.args.files.now) c.args.large c.args.path.now c.in_ok-heap.heap (IsWordAt index word) c.in_ok-heap.ensures.heap
-    (subst (λ (heap : Heap). IsWordAt index word heap) c.in_ok-plan.ensures.plan h))
+    (subst (λ (heap : Heap). IsWordAt index word heap) c.in_ok-plan.ensures h))
     c.word_of.ensures.word
 
 pub returns-clause-cause : goal.returns-clause-cause
@@ -19,5 +19,5 @@ returns-clause-cause g c =
     let index = c.args.index in
     IfErr-weaker c.word_of.result _ _
     (λ refusal h. of_past (g.F.Files.disk c.args.files.now) c.args.large c.args.path.now c.in_ok-heap.heap c.in_ok-heap.ensures.heap index refusal
-    (subst (λ (heap : Heap). IsPast index heap refusal) c.in_ok-plan.ensures.plan h))
+    (subst (λ (heap : Heap). IsPast index heap refusal) c.in_ok-plan.ensures h))
     c.word_of.ensures.cause
