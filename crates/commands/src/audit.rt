@@ -11,7 +11,6 @@ use crate::explained::print_explained;
 use command_io::{CommandRefusal, Files, Input, heap_at, print_line};
 use command_line::AuditRun;
 use comp_audit::{Dump, Verdict, audit, audit_whole, read_dump, read_large_dump, read_words};
-use comp_dump::dump_is_read_again;
 use heap_layout::{Counted, MarkedHeap, OutOfMemory};
 use page_plan::Plan;
 use std::alloc::Global;
@@ -125,7 +124,7 @@ pub(crate) fn dump_at<F: Files>(
     ensures cause { IfErr result (RefusesDumpAt (F.disk files.now) (audit_of run.now)) }
 {
     let mut reader = Counted::new(files.open(Input::Dump, run.dump)?);
-    dump_is_read_again();
+    comp_dump::dump_is_read_again();
     if run.words {
         Ok(read_words(alloc, &mut reader, run.large)?)
     } else if run.large {

@@ -3,16 +3,12 @@ ghost use Rattle.commands.specs.Races.{RacesInventNothing};
 ghost use Rattle.commands.specs.Replays.{ReplaysAreOne};
 ghost use Rattle.commands.specs.Successors.{AreOneLife, NextFollows, NextIsOne, TwoAreOneLife};
 
-use comp_cycles::one_life;
-use heap_layout::images_differ;
-use reachability::reachable_once;
-
 /// The bytes of the image and of the trace and the numbers of mutators and of fresh pages determine what `replay`
 /// shows and writes: the values, the whole dump, and so its bytes.
 pub fn replays_are_one()
     ensures { ReplaysAreOne }
 {
-    images_differ();
+    heap_layout::images_differ();
 }
 
 /// The bytes of the image, of the trace, and of the marks or of the roots, if they are given, and the numbers of
@@ -21,8 +17,8 @@ pub fn replays_are_one()
 pub fn next_is_one()
     ensures { NextIsOne }
 {
-    images_differ();
-    reachable_once();
+    heap_layout::images_differ();
+    reachability::reachable_once();
 }
 
 /// Runs of `next`, each over the image that the one before left, are cycles that follow one another, and so one life of
@@ -32,8 +28,8 @@ pub fn nexts_are_one_life()
     ensures life { AreOneLife }
     ensures two { TwoAreOneLife }
 {
-    images_differ();
-    one_life();
+    heap_layout::images_differ();
+    comp_cycles::one_life();
 }
 
 /// A race invents nothing, whether it came to its end or was stopped. There is one journal of each page, the same for

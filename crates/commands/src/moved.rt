@@ -9,7 +9,7 @@ ghost use Rattle.commands.specs.Leaving.{LeavesOutput};
 
 use command_io::{CommandRefusal, Files, Input, heap_at, print_line};
 use heap_layout::Counted;
-use moved_heaps::{MovedFault, MovedHeap, Moves, judge, moved_is_read_again, read_moved};
+use moved_heaps::{MovedFault, MovedHeap, Moves, judge, read_moved};
 use std::alloc::Global;
 use std::io::Write;
 
@@ -89,6 +89,6 @@ fn moved_at<F: Files>(
     ensures cause { IfErr result (RefusesMovedAt (F.disk files.now) large path.now) }
 {
     let mut reader = Counted::new(files.open(Input::Moved, path)?);
-    moved_is_read_again();
+    moved_heaps::moved_is_read_again();
     Ok(read_moved(alloc, &mut reader, large)?)
 }
