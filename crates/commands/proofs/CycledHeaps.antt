@@ -1,5 +1,5 @@
 -- A heap over which a trace was run, and the next heap.
-use Rattle.std.proofs.Common.{◌≡◌, ◌∙◌, ℕ, List, [], None, Option, Some, ap, arith, length, map, refl, subst, sym}
+use Rattle.std.proofs.Common.{◌≡◌, ◌∙◌, ℕ, List, [], None, Option, Some, ap, arith, length, map, refl, subst}
 use Rattle.heap_layout.specs.Heap.{Heap}
 use Rattle.comp_mutator.specs.Ends.{cycle_of}
 use Rattle.comp_mutator.specs.Finished.{Finished}
@@ -16,11 +16,6 @@ use Rattle.commands.specs.Outcomes.{IsHaltedBy}
 use Rattle.commands.proofs.ReplayRuns.{cut_by}
 use Rattle.commands.specs.Replays.{IsPrintedHalt}
 use Rattle.commands.specs.Cycled.{cycle_by, Given, IsCycledHeap, IsNextHeap, IsUncycled, IsUnmarked}
-
--- the heap that follows, of what the plan was made for
-pub next_heap_of : (now heap : Heap) (f : Finished) (given roots : Option (List ℕ)) (made next : Heap) → now ≡ heap → next ≡ made → IsNextHeap now f given roots made → IsNextHeap heap f given roots next
-next_heap_of now heap f given roots made next same is h =
-    subst (λ (n : Heap). IsNextHeap heap f given roots n) (sym is) (subst (λ (n : Heap). IsNextHeap n f given roots made) same h)
 
 -- the registers at the end of a run hold what was handed out
 held : (mutators fresh : ℕ) (lines : List Line) (shown : List Shown) (heap : Heap) (f : Finished) (registers : List (List ℕ)) → (run : IsLastRunWith mutators fresh lines shown heap f registers)

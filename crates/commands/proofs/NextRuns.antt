@@ -75,17 +75,17 @@ err_then P Q f (Err refusal) p = f refusal p
 
 module _ {F W : Type 0} (disk : Disk F W) (asked : NextRun) (from to : F) (before after : Option (List ℕ)) (lines : List Line) (given : Given) (heap : Heap) where
   -- the cycle came to its end, and all was written and printed
-  pub made_ok : (made : Result Cycled PrintedHalt) → IfOk made (λ cycled. IsCycledHeap asked.mutators asked.fresh lines cycled.shown.items given heap cycled.plan)
+  pub made_ok : (made : Result Cycled PrintedHalt) → IfOk made (λ cycled. IsCycledHeap asked.mutators asked.fresh lines cycled.shown.items given heap cycled.heap)
       → (result : Result (Unit {0}) CommandRefusal) → OnOk result (IsWrittenNext disk asked.new.now to before after made) → OnOk result (Nexts disk asked to before after lines given heap)
   made_ok made h (Err refusal) w = tt
-  made_ok (Ok cycled) h (Ok _) w = record { shown = cycled.shown.items; next = cycled.plan; cycled = h; written = w.0; printed = w.1 }
+  made_ok (Ok cycled) h (Ok _) w = record { shown = cycled.shown.items; next = cycled.heap; cycled = h; written = w.0; printed = w.1 }
   made_ok (Err halted) h (Ok _) w = absurd w
 
   -- or it did not
-  pub made_err : (made : Result Cycled PrintedHalt) → IfOk made (λ cycled. IsCycledHeap asked.mutators asked.fresh lines cycled.shown.items given heap cycled.plan)
+  pub made_err : (made : Result Cycled PrintedHalt) → IfOk made (λ cycled. IsCycledHeap asked.mutators asked.fresh lines cycled.shown.items given heap cycled.heap)
       → IfErr made (λ halted. IsUncycled asked.mutators asked.fresh lines halted.shown.items given heap halted.refusal)
       → (refusal : CommandRefusal) → RefusesWriting disk asked.new.now from to before after made refusal → RefusesCycle disk asked from to before after lines given heap refusal
-  made_err (Ok cycled) h u refusal w = inr (cycled.shown.items, cycled.plan, h, w)
+  made_err (Ok cycled) h u refusal w = inr (cycled.shown.items, cycled.heap, h, w)
   made_err (Err halted) h u refusal w = inl (halted, u, w.0, w.1)
 
 -- What the command did, whether the output is flushed after it or not.

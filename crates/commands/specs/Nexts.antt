@@ -109,10 +109,10 @@ RefusesNext disk asked from to before after refusal =
 -- the cycle came to its end: the new image was written, and then what was shown and the live words were printed
 abbrev pub IsWrittenNext : {F W : Type 0} → Disk F W → List ℕ → F → Option (List ℕ) → Option (List ℕ) → Result Cycled PrintedHalt → Type 0
 IsWrittenNext disk path to before after (Ok cycled) =
-    WritesWhole disk outputs.New path (encoding cycled.plan) to × PrintsRun before after cycled.shown.items (live_words (live cycled.plan))
+    WritesWhole disk outputs.New path (encoding cycled.heap) to × PrintsRun before after cycled.shown.items (live_words (live cycled.heap))
 IsWrittenNext disk path to before after (Err halted) = ⊥
 
 -- why it was not written or printed, or was halted, which leaves the files as they were
 abbrev pub RefusesWriting : {F W : Type 0} → Disk F W → List ℕ → F → F → Option (List ℕ) → Option (List ℕ) → Result Cycled PrintedHalt → CommandRefusal → Type 0
-RefusesWriting disk path from to before after (Ok cycled) refusal = IsOfWritingNext disk path (encoding cycled.plan) to refusal
+RefusesWriting disk path from to before after (Ok cycled) refusal = IsOfWritingNext disk path (encoding cycled.heap) to refusal
 RefusesWriting disk path from to before after (Err halted) refusal = (to ≡ from) × IsOfHalt before after halted refusal

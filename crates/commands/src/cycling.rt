@@ -33,8 +33,8 @@ pub enum Handed {
 pub struct Cycled {
     /// The values that the `get` lines showed, in the order of the lines.
     pub shown: Vec<Shown>,
-    /// The plan of the heap with which the next cycle begins.
-    pub plan: Plan,
+    /// The heap with which the next cycle begins.
+    pub heap: MarkedHeap,
 }
 
 /// Flips a heap, runs a trace over it by one thread, finishes it, and makes the heap with which the next cycle begins,
@@ -58,14 +58,14 @@ pub fn cycle_heap(
     requires fresh { fresh ≤ 4096 }
     requires parsed { IsParsedFor mutators (length heap.roots) trace.now }
     requires within { IsGivenWithin mutators (given_by handed) }
-    ensures cycled { IfOk result (λ cycled. IsCycledHeap mutators fresh (lines_of trace.now) cycled.shown.items (given_by handed) heap cycled.plan) }
+    ensures cycled { IfOk result (λ cycled. IsCycledHeap mutators fresh (lines_of trace.now) cycled.shown.items (given_by handed) heap cycled.heap) }
     ensures halted { IfErr result (λ halted. IsUncycled mutators fresh (lines_of trace.now) halted.shown.items (given_by handed) heap halted.refusal) }
 {
     match run_cycle(alloc, rt, heap, trace, mutators, fresh) {
-        Ok(ran) => match make_next(alloc, rt, ran.plan, ran.finished, &ran.registers, handed) {
-            Ok(plan) => Ok(Cycled {
+        Ok(ran) => match make_next(alloc, ran.plan, ran.finished, &ran.registers, handed) {
+            Ok(heap) => Ok(Cycled {
                 shown: ran.shown,
-                plan,
+                heap,
             }),
             Err(refusal) => Err(unshown(alloc, refusal)),
         },
@@ -73,15 +73,14 @@ pub fn cycle_heap(
     }
 }
 
-// The plan of the heap with which the next cycle begins, from what is handed in, if that heap is accepted.
+// The heap with which the next cycle begins, from what is handed in, if it is accepted.
 fn make_next(
     alloc: Global,
-    rt: &(impl Threads + Sync),
     plan: Arc<Plan>,
     finished: Finished,
     registers: &[[u64; 16]],
     handed: Handed,
-) -> Result<Plan, CommandRefusal>
+) -> Result<MarkedHeap, CommandRefusal>
     requires end { IsEndOf plan.value finished }
     requires within { IsGivenWithin (length registers.now) (given_by handed) }
     ensures next { IfOk result (λ next. (now : ℕ → List ℕ) → Hold (length registers.now) registers.now now
@@ -90,46 +89,44 @@ fn make_next(
         → IsUnmarked plan.value finished (given_by handed).marks (words_named now (given_by handed).roots) refusal) }
 {
     match handed {
-        Handed::Marked(marking) => mark_anew(alloc, rt, plan, finished, marking),
+        Handed::Marked(marking) => mark_anew(alloc, plan, finished, marking),
         Handed::Roots(roots) => {
             let words = root_words(alloc, registers, &roots)?;
-            root_anew(alloc, rt, plan, finished, &words)
+            root_anew(alloc, plan, finished, &words)
         }
     }
 }
 
-// The plan of that heap with other roots, marked by what they reach, if it is accepted.
+// That heap with other roots, marked by what they reach, if it is accepted.
 fn root_anew(
     alloc: Global,
-    rt: &(impl Threads + Sync),
     plan: Arc<Plan>,
     finished: Finished,
     roots: &[u64],
-) -> Result<Plan, CommandRefusal>
+) -> Result<MarkedHeap, CommandRefusal>
     requires end { IsEndOf plan.value finished }
     ensures next { IfOk result (IsNextHeap plan.value finished None (Some roots.now)) }
     ensures refused { IfErr result (IsUnmarked plan.value finished None (Some roots.now)) }
 {
     match next_reachable_with(finished, alloc, &*plan, roots) {
-        Ok(heap) => Ok(Plan::new(alloc, rt, heap)?),
+        Ok(heap) => Ok(heap),
         Err(left) => Err(CommandRefusal::Layout(left.fault)),
     }
 }
 
-// The plan of the heap with which the next cycle begins, marked so, if that heap is accepted. The roots stay.
+// The heap with which the next cycle begins, marked so, if it is accepted. The roots stay.
 fn mark_anew(
     alloc: Global,
-    rt: &(impl Threads + Sync),
     plan: Arc<Plan>,
     finished: Finished,
     marking: Marking,
-) -> Result<Plan, CommandRefusal>
+) -> Result<MarkedHeap, CommandRefusal>
     requires end { IsEndOf plan.value finished }
     ensures next { IfOk result (IsNextHeap plan.value finished (marks_given marking) None) }
     ensures refused { IfErr result (IsUnmarked plan.value finished (marks_given marking) None) }
 {
     match next_marked(finished, alloc, &*plan, marking) {
-        Ok(heap) => Ok(Plan::new(alloc, rt, heap)?),
+        Ok(heap) => Ok(heap),
         Err(left) => Err(CommandRefusal::Layout(left.fault)),
     }
 }

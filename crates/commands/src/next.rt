@@ -14,6 +14,7 @@ ghost use Rattle.commands.specs.Cycled.{given_by, IsGivenWithin};
 ghost use Rattle.commands.specs.Leaving.{LeavesOutput};
 
 use crate::cycling::{Cycled, Handed, cycle_heap};
+use crate::live::live_words;
 use crate::replay::{inputs_at, print_halted};
 use crate::replays::PrintedHalt;
 use crate::shown::print_run;
@@ -125,12 +126,12 @@ fn write_cycled<F: Files, O: Write>(
     out: &mut Counted<&mut O>,
 ) -> Result<(), CommandRefusal>
     requires written { failures_of out.old < 2 ^ 64 - 1 }
-    ensures written { OnOk result (WritesWhole (F.disk files.old) outputs.New path.now (encoding cycled.now.plan) files.new) }
-    ensures printed { OnOk result (PrintsRun (O.contents (inner_of out.old).now) (O.contents (inner_of out.new).now) cycled.now.shown.items (live_words (live cycled.now.plan))) }
-    ensures cause { IfErr result (IsOfWritingNext (F.disk files.old) path.now (encoding cycled.now.plan) files.new) }
+    ensures written { OnOk result (WritesWhole (F.disk files.old) outputs.New path.now (encoding cycled.now.heap) files.new) }
+    ensures printed { OnOk result (PrintsRun (O.contents (inner_of out.old).now) (O.contents (inner_of out.new).now) cycled.now.shown.items (live_words (live cycled.now.heap))) }
+    ensures cause { IfErr result (IsOfWritingNext (F.disk files.old) path.now (encoding cycled.now.heap) files.new) }
     ensures unmade { RefusedUnmade (F.disk files.old) files.old files.new result }
     ensures output { LeavesOutput StopsUnprinted O.contents out.old out.new result }
 {
-    write_image_to(files, path, cycled.plan.heap())?;
-    print_run(&cycled.shown, cycled.plan.live_words(), out)
+    write_image_to(files, path, &cycled.heap)?;
+    print_run(&cycled.shown, live_words(&cycled.heap), out)
 }

@@ -175,7 +175,7 @@ fn print_task<R: Threads + Wait + Sync, F: Files, O: Write>(
         } => print_compact(alloc, rt, files, image, dump, workers, large, out),
         Task::Audit(run) => print_audit(alloc, rt, &*files, run, out),
         Task::Next(run) => print_next(alloc, rt, files, run, out),
-        Task::Mark { image, new, large } => print_mark(alloc, rt, files, image, new, large, out),
+        Task::Mark { image, new, large } => print_mark(alloc, files, image, new, large, out),
         Task::Moved {
             image,
             moved,

@@ -38,7 +38,6 @@ fn mark(
     let mut counted = Counted::new(&mut *out);
     print_mark(
         rt.alloc(),
-        rt,
         place,
         marking.image,
         marking.path,

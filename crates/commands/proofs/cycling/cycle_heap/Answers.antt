@@ -8,7 +8,7 @@ use Rattle.commands.proofs.CycledHeaps.{cycled, halted_run, not_followed}
 use Rattle.commands.proofs.cycling.cycle_heap.Goals as goal
 
 pub make_next-requires-clause-within : goal.make_next-requires-clause-within
-make_next-requires-clause-within g c κs within =
+make_next-requires-clause-within g c =
     subst (λ (l : List (List ℕ)). IsGivenWithin (length l) (given_by c.args.handed)) (sym c.deref.ensures.value)
     (subst (λ (n : ℕ). IsGivenWithin n (given_by c.args.handed)) (sym c.in-Ok.ensures.registers.registers_are.count) c.requires.within)
 
@@ -16,11 +16,11 @@ make_next-requires-clause-within g c κs within =
 pub returns-in-Ok-make_next-clause-cycled : goal.returns-in-Ok-make_next-clause-cycled
 returns-in-Ok-make_next-clause-cycled g c =
     let ran = c.in-Ok.ran in
-    let plan = c.in-Ok-make_next.plan in
+    let next = c.in-Ok-make_next.heap in
     let given = given_by c.args.handed in
-    cycled c.args.mutators c.args.fresh (lines_of c.args.trace.now) given c.args.heap ran.shown.items ran.finished ran.registers.items plan c.in-Ok.ensures.registers
-    (subst (λ (h : Heap). (now : ℕ → List ℕ) → Hold (length ran.registers.items) ran.registers.items now → IsNextHeap h ran.finished given.marks (words_named now given.roots) plan) c.in-Ok.ensures.plan
-    (subst (λ (l : List (List ℕ)). (now : ℕ → List ℕ) → Hold (length l) l now → IsNextHeap ran.plan.value ran.finished given.marks (words_named now given.roots) plan) c.deref.ensures.value c.in-Ok-make_next.ensures.next))
+    cycled c.args.mutators c.args.fresh (lines_of c.args.trace.now) given c.args.heap ran.shown.items ran.finished ran.registers.items next c.in-Ok.ensures.registers
+    (subst (λ (h : Heap). (now : ℕ → List ℕ) → Hold (length ran.registers.items) ran.registers.items now → IsNextHeap h ran.finished given.marks (words_named now given.roots) next) c.in-Ok.ensures.plan
+    (subst (λ (l : List (List ℕ)). (now : ℕ → List ℕ) → Hold (length l) l now → IsNextHeap ran.plan.value ran.finished given.marks (words_named now given.roots) next) c.deref.ensures.value c.in-Ok-make_next.ensures.next))
 
 -- Or it was refused.
 pub returns-in-Err-make_next-clause-halted : goal.returns-in-Err-make_next-clause-halted

@@ -3,11 +3,10 @@ use Rattle.std.proofs.Common.{None, subst}
 use Rattle.command_io.specs.declared.refusal.CommandRefusal.TheVariants.{Layout}
 use Rattle.comp_trace.specs.Markings.{marks_given}
 use Rattle.commands.specs.Cycled.{IsNextHeap, IsUnmarked}
-use Rattle.commands.proofs.CycledHeaps.{next_heap_of}
 use Rattle.commands.proofs.cycling.mark_anew.Goals as goal
 
 pub returns-in-Ok-clause-next : goal.returns-in-Ok-clause-next
-returns-in-Ok-clause-next g c =
+returns-in-Ok-clause-next c =
     let made = c.in-Ok.ensures in
     let given = marks_given c.args.marking in
     let next : IsNextHeap c.deref.result.now c.args.finished given None c.in-Ok.heap = record {
@@ -18,8 +17,8 @@ returns-in-Ok-clause-next g c =
       stored = made.stored;
       accepted = made.accepted;
     } in
-    next_heap_of c.deref.result.now c.args.plan.value c.args.finished given None c.in-Ok.heap c.in_ok-new-in-Ok.field-0 c.deref.ensures c.in_ok-new-in-Ok.ensures next
+    subst (λ (heap : Heap). IsNextHeap heap c.args.finished given None c.in-Ok.heap) c.deref.ensures next
 
 pub returns-clause-refused : goal.returns-clause-refused
-returns-clause-refused g c =
+returns-clause-refused c =
     subst (λ (heap : Heap). IsUnmarked heap c.args.finished (marks_given c.args.marking) None (Layout c.in-Err.left.fault)) c.deref.ensures c.in-Err.ensures.refused

@@ -2,11 +2,10 @@ use Rattle.heap_layout.specs.Heap.{Heap}
 use Rattle.std.proofs.Common.{None, Some, subst}
 use Rattle.command_io.specs.declared.refusal.CommandRefusal.TheVariants.{Layout}
 use Rattle.commands.specs.Cycled.{IsNextHeap, IsUnmarked}
-use Rattle.commands.proofs.CycledHeaps.{next_heap_of}
 use Rattle.commands.proofs.cycling.root_anew.Goals as goal
 
 pub returns-in-Ok-clause-next : goal.returns-in-Ok-clause-next
-returns-in-Ok-clause-next g c =
+returns-in-Ok-clause-next c =
     let made = c.in-Ok.ensures in
     let roots = Some c.args.roots.now in
     let next : IsNextHeap c.deref.result.now c.args.finished None roots c.in-Ok.heap = record {
@@ -17,8 +16,8 @@ returns-in-Ok-clause-next g c =
       stored = made.stored;
       accepted = made.accepted;
     } in
-    next_heap_of c.deref.result.now c.args.plan.value c.args.finished None roots c.in-Ok.heap c.in_ok-new-in-Ok.field-0 c.deref.ensures c.in_ok-new-in-Ok.ensures next
+    subst (λ (heap : Heap). IsNextHeap heap c.args.finished None roots c.in-Ok.heap) c.deref.ensures next
 
 pub returns-clause-refused : goal.returns-clause-refused
-returns-clause-refused g c =
+returns-clause-refused c =
     subst (λ (heap : Heap). IsUnmarked heap c.args.finished None (Some c.args.roots.now) (Layout c.in-Err.left.fault)) c.deref.ensures c.in-Err.ensures.refused

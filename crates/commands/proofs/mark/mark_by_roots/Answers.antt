@@ -1,22 +1,18 @@
-use Rattle.std.proofs.Common.{subst, sym}
 use Rattle.std.proofs.lemmas.Result.{err_from_is_err_and}
-use Rattle.heap_layout.specs.Heap.{Heap}
 use Rattle.heap_layout.specs.ImageParts.{heap_in}
-use Rattle.commands.specs.Marking.{IsMarkedHeap}
 use Rattle.commands.proofs.MarkRuns.{marked_heap}
-use Rattle.commands.proofs.mark.plan_by_roots.Goals as goal
+use Rattle.commands.proofs.mark.mark_by_roots.Goals as goal
 
 -- The heap with the reachable marks is refused.
 pub returns-in_err-heap-clause-cause : goal.returns-in_err-heap-clause-cause
-returns-in_err-heap-clause-cause g c =
+returns-in_err-heap-clause-cause c =
     let p = err_from_is_err_and c.from_residual.result c.from_residual.ensures.1 in
     let parts = heap_in c.args.parts in
     let found = c.reachable_once.ensures.some parts.edition parts.words parts.roots in
     rw (p.1, p.2) (found.0, found.1, c.in_err-heap.ensures.refused found.0 found.1)
 
 pub returns-clause-marked : goal.returns-clause-marked
-returns-clause-marked g c =
+returns-clause-marked c =
     let heap = c.in_ok-heap.heap in
     let made = c.in_ok-heap.ensures in
-    let is = marked_heap (heap_in c.args.parts) heap made.made made.reachable made.accepted made.stored in
-    subst (λ (plan : Heap). IsMarkedHeap (heap_in c.args.parts) plan) (sym c.in_ok-new.ensures) is
+    marked_heap (heap_in c.args.parts) heap made.made made.reachable made.accepted made.stored

@@ -3,7 +3,7 @@ use Rattle.std.proofs.lemmas.Result.{err_from_is_err_and, IfErr-weaker, IfOk-wea
 use Rattle.heap_layout.specs.ImageParts.{heap_in}
 use Rattle.command_io.proofs.Imaged.{at_parts}
 use Rattle.commands.specs.Marking.{IsMarkedHeap, IsUnmarkable}
-use Rattle.commands.proofs.mark.marked_plan.Goals as goal
+use Rattle.commands.proofs.mark.marked_heap.Goals as goal
 
 pub returns-in_err-parts-clause-cause : goal.returns-in_err-parts-clause-cause
 returns-in_err-parts-clause-cause g c =
@@ -12,12 +12,12 @@ returns-in_err-parts-clause-cause g c =
 
 pub returns-clause-marked : goal.returns-clause-marked
 returns-clause-marked g c =
-    IfOk-weaker c.plan_by_roots.result _ _
-    (λ plan is. at_parts (g.F.Files.disk c.args.files.now) c.args.large c.args.path.now (heap_in c.in_ok-parts.parts) (λ parts. IsMarkedHeap parts plan) c.in_ok-parts.ensures.parts is)
-    c.plan_by_roots.ensures.marked
+    IfOk-weaker c.mark_by_roots.result _ _
+    (λ heap is. at_parts (g.F.Files.disk c.args.files.now) c.args.large c.args.path.now (heap_in c.in_ok-parts.parts) (λ parts. IsMarkedHeap parts heap) c.in_ok-parts.ensures.parts is)
+    c.mark_by_roots.ensures.marked
 
 pub returns-clause-cause : goal.returns-clause-cause
 returns-clause-cause g c =
-    IfErr-weaker c.plan_by_roots.result _ _
+    IfErr-weaker c.mark_by_roots.result _ _
     (λ refusal h. inr (at_parts (g.F.Files.disk c.args.files.now) c.args.large c.args.path.now (heap_in c.in_ok-parts.parts) (λ parts. IsUnmarkable parts refusal) c.in_ok-parts.ensures.parts h))
-    c.plan_by_roots.ensures.cause
+    c.mark_by_roots.ensures.cause

@@ -7,18 +7,18 @@ use Rattle.commands.proofs.Leavings.{untouched}
 use Rattle.commands.proofs.mark.print_mark.Goals as goal
 
 -- There is no marked heap.
-pub returns-in_err-plan-clause-cause : goal.returns-in_err-plan-clause-cause
-returns-in_err-plan-clause-cause g c =
+pub returns-in_err-heap-clause-cause : goal.returns-in_err-heap-clause-cause
+returns-in_err-heap-clause-cause g c =
     let p = err_from_is_err_and c.from_residual.result c.from_residual.ensures.1 in
-    rw (p.1, p.2) (inl (refl, c.in_err-plan.ensures.cause))
+    rw (p.1, p.2) (inl (refl, c.in_err-heap.ensures.cause))
 
-pub returns-in_err-plan-clause-output : goal.returns-in_err-plan-clause-output
-returns-in_err-plan-clause-output g c =
+pub returns-in_err-heap-clause-output : goal.returns-in_err-heap-clause-output
+returns-in_err-heap-clause-output g c =
     let p = err_from_is_err_and c.from_residual.result c.from_residual.ensures.1 in
-    rw (p.1, p.2) (untouched g.O.Write.contents c.args.out.now _ (uncounted_marking (g.F.Files.disk c.args.files.now) c.args.large c.args.image.now (failures_of c.args.out.now) _ c.in_err-plan.ensures.cause))
+    rw (p.1, p.2) (untouched g.O.Write.contents c.args.out.now _ (uncounted_marking (g.F.Files.disk c.args.files.now) c.args.large c.args.image.now (failures_of c.args.out.now) _ c.in_err-heap.ensures.cause))
 
-pub returns-in_err-plan-clause-unmade : goal.returns-in_err-plan-clause-unmade
-returns-in_err-plan-clause-unmade g c =
+pub returns-in_err-heap-clause-unmade : goal.returns-in_err-heap-clause-unmade
+returns-in_err-heap-clause-unmade g c =
     let p = err_from_is_err_and c.from_residual.result c.from_residual.ensures.1 in
     rw (p.1, p.2) (unmade (g.F.Files.disk c.args.files.now) c.args.files.now _)
 
@@ -27,10 +27,10 @@ pub returns-clause-marked : goal.returns-clause-marked
 returns-clause-marked g c =
     made_mark (g.F.Files.disk c.args.files.now) c.args.large c.args.image.now c.args.new.now c.write_marked.new.files
     (g.O.Write.contents (inner_of c.args.out.now).now) (g.O.Write.contents (inner_of c.write_marked.new.out).now)
-    c.in_ok-plan.plan c.in_ok-plan.ensures.marked c.write_marked.result c.write_marked.ensures.written c.write_marked.ensures.printed
+    c.in_ok-heap.heap c.in_ok-heap.ensures.marked c.write_marked.result c.write_marked.ensures.written c.write_marked.ensures.printed
 
 pub returns-clause-cause : goal.returns-clause-cause
 returns-clause-cause g c =
     refused_mark (g.F.Files.disk c.args.files.now) c.args.large c.args.image.now c.args.new.now c.write_marked.new.files
     (g.O.Write.contents (inner_of c.args.out.now).now) (g.O.Write.contents (inner_of c.write_marked.new.out).now)
-    c.in_ok-plan.plan c.in_ok-plan.ensures.marked c.write_marked.result c.args.files.now c.write_marked.ensures.cause
+    c.in_ok-heap.heap c.in_ok-heap.ensures.marked c.write_marked.result c.args.files.now c.write_marked.ensures.cause
