@@ -5,7 +5,7 @@ ghost use Rattle.heap_layout.specs.Faults.{faults, size_faults, IsAccepted};
 ghost use Rattle.heap_layout.specs.Heap.{IsStored};
 ghost use Rattle.reachability.specs.Reachable.{AreReachable, RefusesFor};
 
-use crate::laws::{reachable_are_least, reachable_once};
+use crate::laws;
 use crate::marker::reachable_marks;
 use heap_layout::{Edition, LayoutFault, MarkedHeap, OutOfMemory};
 use std::alloc::Global;
@@ -40,8 +40,8 @@ pub fn remarked_heap(alloc: Global, heap: &MarkedHeap) -> Result<MarkedHeap, Out
     ensures accepted { IfOk result IsAccepted }
     ensures stored { IfOk result IsStored }
 {
-    reachable_once();
-    reachable_are_least();
+    laws::reachable_once();
+    laws::reachable_are_least();
     let words = Vec::from_slice(alloc, heap.words())?;
     let roots = Vec::from_slice(alloc, heap.roots())?;
     match reachable_heap(alloc, heap.edition(), words, roots) {
