@@ -14,16 +14,16 @@ use std::sync::ledger::Blank;
 use std::thread::Threads;
 use test_support::{At, Worked, plan_of};
 
-// The only entry of a page, by mutator 0: the number of the page, and the stamp, kind, offset and value of the entry.
-struct Only(usize, u64, Kind, u8, u64);
+/// The only entry of a page, by mutator 0: the number of the page, and the stamp, kind, offset and value of the entry.
+pub struct Only(pub usize, pub u64, pub Kind, pub u8, pub u64);
 
-// A text, what its replay shows, and the finished heap.
-struct ReplayedText {
-    case: TextRun<'static>,
-    shown: &'static [Shown],
-    fault: Option<TraceFault>,
-    live_words: u64,
-    entries: &'static [Only],
+/// A text, what its replay shows, and the finished heap.
+pub struct ReplayedText {
+    pub case: TextRun<'static>,
+    pub shown: &'static [Shown],
+    pub fault: Option<TraceFault>,
+    pub live_words: u64,
+    pub entries: &'static [Only],
 }
 
 // On the three objects.
@@ -225,74 +225,6 @@ static ON_WEAK: [ReplayedText; 4] = [
 pub const WEAK_TEXT: &[u8] =
     b"0 root 0 0\n0 load 1 0 0\n0 wnew 2 0 1 0 5\n0 wstore 1 0 2\n0 wload 3 1 0\n0 get 1 0\n";
 
-// On the three objects of edition two in edition three, with 70,000 roots, of which number 65,536 and the last refer to
-// the last object and all others are null.
-static ON_MANY_ROOTS: [ReplayedText; 5] = [
-    ReplayedText {
-        case: TextRun {
-            name: "reads a root far from the first",
-            mutators: 1,
-            fresh_pages: 1,
-            text: b"0 root 0 65536\n0 load 1 0 0\n0 get 1 0\n0 root 2 65535\n0 get 2 0\n",
-        },
-        shown: &[Shown { line: 3, value: 9 }],
-        fault: Some(TraceFault::Refused(5, Refusal::Null)),
-        live_words: 6,
-        entries: &[],
-    },
-    ReplayedText {
-        case: TextRun {
-            name: "reads the last root, and stores it",
-            mutators: 2,
-            fresh_pages: 4_097,
-            text: b"0 root 0 69999\n0 store 0 0 0\n0 wnew 1 1 1 1 16383\n0 load 2 0 0\n0 load 3 2 0\n0 get 3 0\n",
-        },
-        shown: &[],
-        fault: Some(TraceFault::Refused(6, Refusal::NoSuchField)),
-        live_words: 10,
-        entries: &[
-            Only(0, 0, Kind::Reference, 5, 8_589_934_596),
-            Only(1, 1, Kind::Header, 0, 0x3fff_0001_0001_0001),
-        ],
-    },
-    ReplayedText {
-        case: TextRun {
-            name: "stops at a tag of 15 bits",
-            mutators: 1,
-            fresh_pages: 1,
-            text: b"0 root 0 0\n0 new 1 0 0 16384\n",
-        },
-        shown: &[],
-        fault: Some(TraceFault::Refused(2, Refusal::NotInEdition)),
-        live_words: 6,
-        entries: &[],
-    },
-    ReplayedText {
-        case: TextRun {
-            name: "stops at a root after the last",
-            mutators: 1,
-            fresh_pages: 0,
-            text: b"0 root 0 69999\n0 root 0 70000\n",
-        },
-        shown: &[],
-        fault: Some(TraceFault::NoSuchRoot(2)),
-        live_words: 6,
-        entries: &[],
-    },
-    ReplayedText {
-        case: TextRun {
-            name: "stops at a root of 33 bits",
-            mutators: 1,
-            fresh_pages: 0,
-            text: b"0 root 0 4294967296\n",
-        },
-        shown: &[],
-        fault: Some(TraceFault::NoSuchRoot(1)),
-        live_words: 6,
-        entries: &[],
-    },
-];
-
 // Its text is followed by 1,025 lines `0 put 1 0 7`.
 static FULL: ReplayedText = ReplayedText {
     case: TextRun {
@@ -365,8 +297,8 @@ fn replay_one(
     expect_finished(rt, row, &finished);
 }
 
-// Replays each of these texts on this heap.
-fn replay_all(
+/// Replays each of these texts on this heap.
+pub fn replay_all(
     rt: &(impl Abort + Threads + Sync),
     alloc: Global,
     heap: Worked,
@@ -387,11 +319,6 @@ fn replays_show_and_leave_what_their_lines_do(rt: HostRuntime) {
 #[test]
 fn replays_read_and_write_weak_words(rt: HostRuntime) {
     replay_all(&rt, rt.alloc(), Worked::Weak, &ON_WEAK);
-}
-
-#[test]
-fn replays_read_roots_far_from_the_first(rt: HostRuntime) {
-    replay_all(&rt, rt.alloc(), Worked::ManyRoots(70_000), &ON_MANY_ROOTS);
 }
 
 // More writes to one page than its journal holds.
