@@ -11,7 +11,7 @@ ghost use Rattle.comp_cycles.specs.Numbered.{IsNumberedAs};
 ghost use Rattle.comp_cycles.specs.Finishes.{journals_of, pages_of, roots_of};
 
 use crate::finished::Finished;
-use crate::laws::one_chapter;
+use crate::laws;
 use crate::moving::{Moved, moved_words};
 use heap_layout::{
     FROM_SPACE, LayoutFault, MarkedHeap, OutOfMemory, TO_SPACE, check_sizes, is_set,
@@ -190,7 +190,7 @@ impl Finished {
         ensures memory { IfErr result (λ left. IsRefusedWithin (next_sizes self marks.items (roots_of self)) left.fault) }
         ensures back { IfErr result (λ left. left.finished ≡ self) }
     {
-        one_chapter();
+        laws::one_chapter();
         match next_with(alloc, builder, &self, marks, self.roots()) {
             Ok(heap) => Ok(heap),
             Err(fault) => Err(NotCycled {
@@ -226,7 +226,7 @@ impl Finished {
         ensures memory { IfErr result (λ left. IsRefusedWithin (next_sizes self marks.items roots.now) left.fault) }
         ensures back { IfErr result (λ left. left.finished ≡ self) }
     {
-        one_chapter();
+        laws::one_chapter();
         match next_with(alloc, builder, &self, marks, roots) {
             Ok(heap) => Ok(heap),
             Err(fault) => Err(NotCycled {
@@ -258,7 +258,7 @@ impl Finished {
         ensures memory { IfErr result (λ left. IsRefusedWithin (next_sizes self marks.items (roots_of self)) left.fault) }
         ensures back { IfErr result (λ left. left.finished ≡ self) }
     {
-        one_chapter();
+        laws::one_chapter();
         match next_with_moved(alloc, builder, &self, moved, marks, self.roots()) {
             Ok(heap) => Ok(heap),
             Err(fault) => Err(NotCycled {
@@ -291,7 +291,7 @@ impl Finished {
         ensures memory { IfErr result (λ left. IsRefusedWithin (next_sizes self marks.items roots.now) left.fault) }
         ensures back { IfErr result (λ left. left.finished ≡ self) }
     {
-        one_chapter();
+        laws::one_chapter();
         match next_with_moved(alloc, builder, &self, moved, marks, roots) {
             Ok(heap) => Ok(heap),
             Err(fault) => Err(NotCycled {

@@ -37,6 +37,7 @@ impl<'a> DumpedPages<'a> {
         ensures lent { result ≡ map record_of pages.now }
         ensures typed { All IsTypedRecord result }
     {
+        // For the proof alone: the numbers of the pages fit their types.
         pages_are_typed(pages);
         DumpedPages {
             kept: KeptPages::Lent(pages),

@@ -13,7 +13,7 @@ ghost use Rattle.comp_hand.specs.Endings.{IsLeft};
 
 use cell_steps::Pass;
 use page_cells::{Cells, Closed, Room};
-use page_plan::{Builder, heap_is_closed};
+use page_plan::Builder;
 
 /// Ends the passes of all hands, which are in the order of their numbers, and answers the pages and what each pass
 /// built. Takes no memory.
@@ -33,7 +33,7 @@ pub fn close_row<B: Builder>(cells: Cells<B>, passes: Vec<Pass>, room: Room) -> 
     ensures flipped { (f : AFinished) → IsLeft (setup_of cells) passes.items result f → IsOfFlip (setup_of cells).mutators (setup_of cells).fresh f }
     ensures end { (f : AFinished) → IsLeft (setup_of cells) passes.items result f → IsEndOf (setup_of cells).heap f }
 {
-    heap_is_closed(cells.plan());
+    page_plan::heap_is_closed(cells.plan());
     comp_history::one_history();
     comp_history::beginnings_are_points();
     comp_history::merged_references_are_starts();

@@ -11,9 +11,8 @@ use crate::copying::copy_bytes;
 use crate::handle::Handle;
 use crate::kept::Kept;
 use crate::sizes::dump_len;
-use comp_audit::lawful_is_yes;
 use comp_crew::Ended;
-use comp_dump::{Dump, dump_is_stored, write_dump};
+use comp_dump::{Dump, write_dump};
 use heap_layout::{Counted, OutOfMemory};
 use std::alloc::Global;
 
@@ -34,9 +33,9 @@ fn dump_at<'a>(alloc: Global, e: &'a Ended) -> Result<Dump<'a>, OutOfMemory>
     ensures is { IfOk result (λ dump. dump ≡ dump_of e.now) }
     ensures lawful { OnOk result (IsLawful e.now) }
 {
-    lawful_is_yes();
+    comp_audit::lawful_is_yes();
     let dump = Dump::of(alloc, e.finished(), e.mutators(), e.fresh_pages())?;
-    dump_is_stored(&dump);
+    comp_dump::dump_is_stored(&dump);
     Ok(dump)
 }
 

@@ -5,7 +5,7 @@ ghost use Rattle.comp_dump.specs.CellEnds.{lists as items_of};
 ghost use Rattle.comp_dump.specs.DumpEncoding.{builds_bytes, dump_bytes, page_bytes};
 ghost use Rattle.comp_handle.specs.Dumping.{IsSized};
 
-use comp_dump::{Dump, DumpedPage, DumpedPages, dump_is_stored};
+use comp_dump::{Dump, DumpedPage, DumpedPages};
 
 // How many bytes a page has in a dump.
 fn page_size(page: &Option<DumpedPage<'_>>) -> u64
@@ -51,6 +51,6 @@ fn builds_size(lists: &[Vec<u32>]) -> u64
 pub(crate) fn dump_len(dump: &Dump<'_>) -> u64
     ensures { result ≡ length (dump_bytes dump.now) }
 {
-    dump_is_stored(dump);
+    comp_dump::dump_is_stored(dump);
     36 + 8 * dump.roots().len() as u64 + pages_size(dump.pages()) + builds_size(dump.builds())
 }

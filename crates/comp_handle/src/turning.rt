@@ -204,5 +204,5 @@ pub fn follow_reached(alloc: Global, h: &mut Handle, roots: &[u64]) -> Answer
 pub fn drop_kept(alloc: Global, h: &mut Handle)
     ensures { h.new.kept ≡ None }
 {
-    let _ = h.take(alloc);
+    drop(h.take(alloc));
 }

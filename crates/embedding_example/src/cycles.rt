@@ -5,7 +5,6 @@ ghost use Rattle.comp_mutator.specs.Finishes.{IsOfFlip};
 ghost use Rattle.embedding_example.specs.Lives.{IsFollowed, LivesTwice};
 
 use crate::cycle::go_on;
-use comp_cycles::{first_numbering, one_life};
 use comp_mutator::{Finished, flip};
 use heap_layout::MarkedHeap;
 use page_plan::Plan;
@@ -27,7 +26,7 @@ pub fn live_twice<R: Threads + Wait + Sync>(
 ) -> Option<MarkedHeap>
     ensures lives { IfSome result (λ last. LivesTwice heap marks.items last_marks.items last) }
 {
-    one_life();
+    comp_cycles::one_life();
     let plan = planned(alloc, rt, heap)?;
     let left = compacted(alloc, rt, &plan)?;
     let next = followed(alloc, &plan, left, marks)?;
@@ -92,7 +91,7 @@ pub fn followed(alloc: Global, plan: &Plan, left: Finished, marks: Vec<u32>) -> 
     requires { IsEndOf plan.now left }
     ensures { IfSome result (λ next. IsFollowed plan.now left marks.items next) }
 {
-    first_numbering();
+    comp_cycles::first_numbering();
     match left.next_cycle(alloc, plan, marks) {
         Ok(next) => Some(next),
         Err(_) => None,

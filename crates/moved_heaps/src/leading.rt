@@ -27,6 +27,7 @@ fn number_of(heap: &MarkedHeap, index: &Index, address: u64) -> Option<usize>
     ensures number { result ≡ number_of (live heap.now) address }
     ensures inside { IfSome result (λ k. k < length heap.now.marks) }
 {
+    // For the proof alone: its clauses say that the heap was accepted.
     let _ = heap.marks();
     if address < FROM_SPACE {
         return None;

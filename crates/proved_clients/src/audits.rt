@@ -3,9 +3,9 @@ ghost use Rattle.std.specs.Prelude.{◌≡◌, IfSome};
 ghost use Rattle.comp_audit.specs.declared.verdict.Verdict.TheVariants.{Yes};
 ghost use Rattle.comp_mutator.specs.Mutators.{setup_of, AreMutatorsOf};
 
-use comp_audit::{Dump, Verdict, audit, lawful_is_yes};
+use comp_audit::{Dump, Verdict, audit};
 use comp_mutator::{Builder, Mutator, Space};
-use page_plan::{Plan, heap_is_closed};
+use page_plan::Plan;
 use std::alloc::Global;
 use std::sync::ledger::Ledger as Named;
 
@@ -15,7 +15,7 @@ pub fn finish_and_audit<L: Named, B: Builder>(
     plan: &Plan,
     space: Space<L, B>,
     mutators: Vec<Mutator<L>>,
-    count: u32,
+    count: u8,
     fresh: u32,
 ) -> Option<Verdict>
     requires of { AreMutatorsOf space mutators.items }
@@ -31,8 +31,9 @@ pub fn finish_and_audit<L: Named, B: Builder>(
     let Ok(dump) = Dump::of(alloc, &finished, count, fresh) else {
         return None;
     };
-    heap_is_closed(plan);
-    lawful_is_yes();
+    page_plan::heap_is_closed(plan);
+    comp_audit::lawful_is_yes();
+    // For the proof alone: the numbers of a dump are in the ranges of its fields.
     let _words = dump.live_words();
     match audit(alloc, plan, &dump) {
         Ok(verdict) => Some(verdict),

@@ -3,9 +3,9 @@ ghost use Rattle.std.specs.Prelude.{◌≡◌, ◌-◌, ◌^◌, ◌<◌, ◌≤
 ghost use Rattle.heap_layout.specs.Counted.{failures_of};
 ghost use Rattle.proved_clients.specs.Lives.{LivesOn};
 
-use command_io::{CommandRefusal, MemoryFiles, written_is_there};
+use command_io::{CommandRefusal, MemoryFiles};
 use command_line::NextRun;
-use commands::{nexts_are_one_life, print_next};
+use commands::print_next;
 use heap_layout::Counted;
 use std::alloc::Global;
 use std::io::Write;
@@ -29,8 +29,8 @@ pub fn next_twice_in_memory<O: Write>(
     requires written { failures_of out.old < 2 ^ 64 - 1 }
     ensures { OnOk result (LivesOn files.old first.entry second.entry files.new) }
 {
-    written_is_there();
-    nexts_are_one_life();
+    command_io::written_is_there();
+    commands::nexts_are_one_life();
     print_next(alloc, rt, files, first, out)?;
     print_next(alloc, rt, files, second, out)
 }

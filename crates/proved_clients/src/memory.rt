@@ -4,7 +4,7 @@ ghost use Rattle.heap_layout.specs.Counted.{failures_of};
 ghost use Rattle.command_io.specs.declared.refusal.CommandRefusal.TheVariants as refusals;
 ghost use Rattle.proved_clients.specs.Kept.{KeepsRaced, KeepsReplayed, KeptOrNot};
 
-use command_io::{CommandRefusal, MemoryFiles, written_is_there};
+use command_io::{CommandRefusal, MemoryFiles};
 use command_line::TraceRun;
 use commands::{print_race, print_replay};
 use heap_layout::Counted;
@@ -30,7 +30,7 @@ pub fn replay_in_memory<O: Write>(
     ensures unprinted { result ≡ Err refusals.CannotPrint → KeptOrNot (KeepsReplayed files.old asked.entry files.new) files.old files.new }
     ensures refused { IfErr result (λ refusal. refusal ≢ refusals.CannotPrint → files.new ≡ files.old) }
 {
-    written_is_there();
+    command_io::written_is_there();
     print_replay(alloc, rt, files, asked, out)
 }
 
@@ -49,6 +49,6 @@ pub fn race_in_memory<R: Threads + Wait + Sync, O: Write>(
     ensures unprinted { result ≡ Err refusals.CannotPrint → KeptOrNot (KeepsRaced files.old asked.entry files.new) files.old files.new }
     ensures refused { IfErr result (λ refusal. refusal ≢ refusals.CannotPrint → files.new ≡ files.old) }
 {
-    written_is_there();
+    command_io::written_is_there();
     print_race(alloc, rt, files, asked, out)
 }

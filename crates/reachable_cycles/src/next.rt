@@ -10,7 +10,7 @@ ghost use Rattle.comp_cycles.specs.Stable.{StableHeap};
 ghost use Rattle.reachable_cycles.specs.NextRoots.{IsRefusedNext, IsRefusedWith};
 ghost use Rattle.reachable_cycles.specs.StableReach.{AreMarkedReachable, KeepsExactly, written};
 
-use crate::laws::{cycle_keeps_reachable, next_heap_is_accepted};
+use crate::laws;
 use crate::marking::mark_next;
 use comp_cycles::{Finished, NotCycled};
 use heap_layout::MarkedHeap;
@@ -41,8 +41,8 @@ pub fn next_reachable<B: Builder>(
     ensures refused { IfErr result (λ left. IsRefusedNext (setup_in (B.heap builder.now) finished) left.fault) }
     ensures back { IfErr result (λ left. left.finished ≡ finished) }
 {
-    cycle_keeps_reachable();
-    next_heap_is_accepted();
+    laws::cycle_keeps_reachable();
+    laws::next_heap_is_accepted();
     match mark_next(alloc, builder, &finished, finished.roots()) {
         Ok(found) => finished.next_moved(alloc, builder, found.moved, found.marks),
         Err(fault) => Err(NotCycled { fault, finished }),
@@ -75,8 +75,8 @@ pub fn next_reachable_with<B: Builder>(
     ensures refused { IfErr result (λ left. IsRefusedWith (setup_in (B.heap builder.now) finished) (journals_of finished) roots.now left.fault) }
     ensures back { IfErr result (λ left. left.finished ≡ finished) }
 {
-    cycle_keeps_reachable();
-    next_heap_is_accepted();
+    laws::cycle_keeps_reachable();
+    laws::next_heap_is_accepted();
     match mark_next(alloc, builder, &finished, roots) {
         Ok(found) => { finished.next_moved_with(alloc, builder, found.moved, found.marks, roots) }
         Err(fault) => Err(NotCycled { fault, finished }),
