@@ -50,7 +50,7 @@ pub fn print_compact<R: Threads + Wait + Sync, F: Files, O: Write>(
     ensures output { LeavesOutput RefusedUnprinted O.contents out.old out.new result }
 {
     let finished = swept_heap(alloc, rt, &*files, image, workers, large)?;
-    let made = Dump::of(alloc, &finished, u32::from(workers), 0)?;
+    let made = Dump::of(alloc, &finished, workers, 0)?;
     write_dump_to(files, dump, &made)?;
     print_line("live ", made.live_words(), out)
 }

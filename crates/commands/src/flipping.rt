@@ -56,7 +56,7 @@ pub fn flip_plan<L: Ledger>(
     ensures new { IfOk result (λ flipped. AreNew (steps_of (cells_of flipped.0)) mutators (map pass_of flipped.1.items)) }
     ensures cause { IfErr result (λ refusal. refusal ≡ refusals.Mutator calls.OutOfMemory) }
 {
-    match flip(alloc, blank, plan, u32::from(mutators), fresh) {
+    match flip(alloc, blank, plan, mutators, fresh) {
         Ok(flipped) => Ok(flipped),
         Err(FlipFault::OutOfMemory) => Err(Refusal::OutOfMemory.into()),
         Err(FlipFault::BadCounts) => unreachable!(),

@@ -19,7 +19,7 @@ fn new_members(
     crew: &Arc<Crew>,
     passes: Vec<Pass>,
     fresh: u32,
-    mutators: u32,
+    mutators: u8,
 ) -> Result<Vec<Member>, OutOfMemory>
     requires new { AreNew (steps_of crew.now.value) mutators passes.items }
     requires fresh { (fresh ≡ (setup_in crew.now.value).fresh) × (fresh ≤ 2 ^ 20) }
@@ -41,7 +41,7 @@ fn flip_good(
     alloc: Global,
     plan: Arc<Plan>,
     name: u64,
-    n: u32,
+    n: u8,
     fresh_pages: u32,
 ) -> Result<Vec<Member>, OutOfMemory>
     requires some { 1 ≤ n }
@@ -51,12 +51,12 @@ fn flip_good(
 {
     let roots = plan.forward_roots(alloc)?;
     let kept = Arc::try_clone(&plan)?;
-    let (cells, passes) = Cells::new(alloc, plan, fresh_pages, n as u8)?;
+    let (cells, passes) = Cells::new(alloc, plan, fresh_pages, n)?;
     let crew = Crew {
         cells,
         plan: kept,
         roots,
-        mutators: n as u8,
+        mutators: n,
         name,
     };
     match Arc::new(alloc, crew) {
@@ -75,14 +75,14 @@ pub fn flip(
     alloc: Global,
     plan: Arc<Plan>,
     name: u64,
-    n: u32,
+    n: u8,
     fresh_pages: u32,
 ) -> Result<Vec<Member>, CrewFault>
     ensures bad { IsErrOf result BadCounts ↔ AreBadCounts plan.value.edition n fresh_pages }
     ensures flipped { IfOk result (λ members. IsFlipped plan.value name n fresh_pages members.items) }
 {
     let most = plan.heap().edition().max_fresh_pages();
-    if n < 1 || n > MAX_MUTATORS || fresh_pages > most {
+    if n < 1 || u32::from(n) > MAX_MUTATORS || fresh_pages > most {
         return Err(CrewFault::BadCounts);
     }
     match flip_good(alloc, plan, name, n, fresh_pages) {

@@ -39,7 +39,7 @@ impl Member {
         crew: Arc<Crew>,
         pass: Pass,
         fresh: u32,
-        mutators: u32,
+        mutators: u8,
     ) -> Result<Member, OutOfMemory>
         requires of { IsPassOf crew.value.cells pass × Rests pass × (did pass ≡ []) }
         requires fresh { (fresh ≡ (setup_of crew.value.cells).fresh) × (fresh ≤ 2 ^ 20) }

@@ -17,7 +17,7 @@ impl<'a> Dump<'a> {
     pub fn of(
         alloc: Global,
         finished: &'a Finished,
-        mutators: u32,
+        mutators: u8,
         fresh_pages: u32,
     ) -> Result<Dump<'a>, OutOfMemory>
         requires { IsOfFlip mutators fresh_pages finished.now }
@@ -33,7 +33,7 @@ impl<'a> Dump<'a> {
         let builds = all_shortened(alloc, finished.builds())?;
         Ok(Dump::from_parts(
             finished.edition(),
-            mutators as u8,
+            mutators,
             fresh_pages,
             roots,
             DumpedPages::lent(finished.pages()),
@@ -48,6 +48,7 @@ fn copied(alloc: Global, roots: &[u64]) -> Result<Vec<u64>, OutOfMemory>
     ensures same { IfOk result (λ copy. copy.items ≡ roots.now) }
     ensures typed { All (λ root. root < 2 ^ 64) roots.now }
 {
+    // For the proof alone: the roots fit their type.
     numbers_are_typed(roots);
     Ok(roots.to_vec(alloc)?)
 }

@@ -30,7 +30,7 @@ pub struct Hand {
 
 // A count of 0 used words for each fresh page of mutator `number`, if there are `fresh` fresh pages and `mutators`
 // mutators. Its pages are `number`, `number + mutators` and so on.
-fn empty_fills(alloc: Global, number: u8, fresh: u32, mutators: u32) -> Result<Vec<u8>, OutOfMemory>
+fn empty_fills(alloc: Global, number: u8, fresh: u32, mutators: u8) -> Result<Vec<u8>, OutOfMemory>
     requires fresh { fresh ≤ 2 ^ 20 }
     requires some { (1 ≤ mutators) × (mutators ≤ 64) }
     ensures few { IfOk result (λ fills. length fills.items ≤ 1048576) }
@@ -43,7 +43,7 @@ fn empty_fills(alloc: Global, number: u8, fresh: u32, mutators: u32) -> Result<V
     while page < fresh {
         fills.reserve(1)?;
         fills.push_reserved(0);
-        page += mutators;
+        page += u32::from(mutators);
     }
     Ok(fills)
 }
@@ -60,7 +60,7 @@ impl Hand {
         cells: &Cells<B>,
         pass: Pass,
         fresh: u32,
-        mutators: u32,
+        mutators: u8,
     ) -> Result<Hand, OutOfMemory>
         requires of { IsPassOf cells.now pass × Rests pass × (did pass ≡ []) }
         requires fresh { (fresh ≡ (setup_of cells.now).fresh) × (fresh ≤ 2 ^ 20) }

@@ -44,7 +44,10 @@ fn flip_plan(
 ) -> Answer
     ensures { FlipsOf plan.value name n fresh_pages crew.old.kept crew.new.kept result }
 {
-    match flip(alloc, plan, name, n, fresh_pages) {
+    let Ok(count) = u8::try_from(n) else {
+        return Answer::bare(14, 0);
+    };
+    match flip(alloc, plan, name, count, fresh_pages) {
         Ok(members) => {
             if keep(alloc, crew, Kept::Crew(members)) {
                 Answer::done(u64::from(n))

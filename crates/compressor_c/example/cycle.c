@@ -332,6 +332,7 @@ int main(void) {
     DO(comp_plan(&heap));
     ANSWERS(comp_plan(&heap), COMP_WRONG_HANDLE, 0);
     ANSWERS(comp_flip(&heap, 1, 65, 16, &crew), COMP_BAD_COUNTS, 0);
+    ANSWERS(comp_flip(&heap, 1, 257, 16, &crew), COMP_BAD_COUNTS, 0);
     ANSWERS(comp_flip(&heap, 1, 1, 4097, &crew), COMP_BAD_COUNTS, 0);
     ANSWERS(comp_flip(&heap, 1, THREADS, 16, &crew), COMP_DONE, THREADS);
     ANSWERS(comp_flip(&heap, 2, 1, 0, &other), COMP_DONE, 1);

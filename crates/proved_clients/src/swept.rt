@@ -19,7 +19,7 @@ pub fn flip_and_sweep<L: Named + Send, B: Builder, R: Threads + Wait + Sync>(
     rt: &R,
     blank: Blank,
     builder: Arc<B>,
-    n: u32,
+    n: u8,
 ) -> Option<SweepReport<L>>
     requires name { blank.name ≡ L.name }
     requires parts { blank.parts ≡ L.parts }
@@ -42,7 +42,7 @@ pub fn sweep_and_finish<L: Named + Send, B: Builder, R: Threads + Wait + Sync>(
     rt: &R,
     blank: Blank,
     builder: Arc<B>,
-    n: u32,
+    n: u8,
 ) -> Option<Finished>
     requires name { blank.name ≡ L.name }
     requires parts { blank.parts ≡ L.parts }

@@ -18,7 +18,7 @@ use test_support::{Worked, plan_of};
 pub struct MutatorRun {
     pub name: &'static str,
     pub heap: Worked,
-    pub mutators: u32,
+    pub mutators: u8,
     pub fresh_pages: u32,
     pub calls: &'static [AnsweredCall],
     /// Whether the first mutator settles after the calls.

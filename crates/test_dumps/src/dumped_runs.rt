@@ -55,7 +55,7 @@ pub struct AnsweredCall(pub usize, pub Call, pub u64);
 pub struct DumpedRun {
     pub name: &'static str,
     pub heap: Worked,
-    pub mutators: u32,
+    pub mutators: u8,
     pub fresh_pages: u32,
     pub calls: &'static [AnsweredCall],
     /// Whether the last mutator is handed in first.

@@ -24,7 +24,7 @@ pub fn flipped<L: Named, B: Builder>(
     alloc: Global,
     blank: Blank,
     builder: Arc<B>,
-    mutators: u32,
+    mutators: u8,
     fresh_pages: u32,
 ) -> (Space<L, B>, Vec<Mutator<L>>)
     requires name { blank.name ≡ L.name }

@@ -36,7 +36,7 @@ pub struct MutatedHeap {
     pub name: &'static str,
     pub heap: Worked,
     pub built_by: BuiltBy,
-    pub mutators: u32,
+    pub mutators: u8,
     pub fresh_pages: u32,
     pub steps: &'static [MutatorStep],
     pub end: End,

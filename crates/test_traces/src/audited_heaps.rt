@@ -17,8 +17,7 @@ use test_support::At;
 fn expect_lawful(rt: &impl Abort, alloc: Global, plan: &Plan, finished: &Finished, case: TextRun)
     requires { IsOfFlip case.mutators case.fresh_pages finished.now }
 {
-    let n = u32::from(case.mutators);
-    let dump = Dump::of(alloc, finished, n, case.fresh_pages).expect(rt, case.name);
+    let dump = Dump::of(alloc, finished, case.mutators, case.fresh_pages).expect(rt, case.name);
     let verdict = audit(alloc, plan, &dump).expect(rt, case.name);
     expect_eq(rt, At::new(case.name, 0), verdict, Verdict::Yes);
 }

@@ -39,8 +39,7 @@ pub fn flipped<L: Ledger, B: Builder>(
     ensures fresh { (setup_of result.0).fresh ≡ case.entry.fresh_pages }
 {
     let builder = Arc::new(alloc, builder).expect(rt, case.name);
-    let n = u32::from(case.mutators);
-    match flip(alloc, blank, builder, n, case.fresh_pages) {
+    match flip(alloc, blank, builder, case.mutators, case.fresh_pages) {
         Ok((space, mutators)) => (space, mutators),
         Err(_) => rt.panic(case.name),
     }

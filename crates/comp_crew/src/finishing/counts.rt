@@ -6,11 +6,11 @@ use crate::finishing::Ended;
 
 impl Ended {
     /// The number of mutators, 1 to 64. Requires what `finish` ensures.
-    pub fn mutators(&self) -> u32
+    pub fn mutators(&self) -> u8
         requires { IsEnded self.now }
         ensures { result ≡ (setup_at_end self.now).mutators }
     {
-        self.finished.builds().len() as u32
+        self.finished.builds().len() as u8
     }
 
     /// The number of fresh pages. Requires what `finish` ensures.

@@ -93,7 +93,7 @@ fn flipped_and_run<L: Ledger>(
     ensures flipped { IfOk result (λ run. IsOfFlip mutators fresh run.finished) }
     ensures halted { IfErr result (IsHaltOf mutators fresh (lines_of trace.now) plan.value) }
 {
-    match flip::<L, Plan>(alloc, blank, plan, u32::from(mutators), fresh) {
+    match flip::<L, Plan>(alloc, blank, plan, mutators, fresh) {
         Ok((space, made)) => run_and_finish(alloc, space, made, trace),
         Err(FlipFault::OutOfMemory) => Err(Halt::Unflipped),
         Err(FlipFault::BadCounts) => unreachable!(),

@@ -20,8 +20,7 @@ use std::thread::Threads;
 fn expect_lawful(rt: &impl Abort, alloc: Global, plan: &Plan, finished: &Finished, fight: Fight)
     requires { IsOfFlip fight.mutators 0 finished.now }
 {
-    let n = u32::from(fight.mutators);
-    let dump = Dump::of(alloc, finished, n, 0).expect(rt, fight.name);
+    let dump = Dump::of(alloc, finished, fight.mutators, 0).expect(rt, fight.name);
     let verdict = audit(alloc, plan, &dump).expect(rt, fight.name);
     expect_eq(rt, fight.at(0), verdict, Verdict::Yes);
 }
@@ -62,8 +61,7 @@ pub fn fight_named<L: Named + Send + Sync, R: Abort + Threads + Wait + Sync>(
     requires parts { blank.parts ≡ L.parts }
     requires count { blank.parts ≡ fight.mutators }
 {
-    let n = u32::from(fight.mutators);
-    let Ok((space, mut mutators)) = flip::<L, Plan>(alloc, blank, builder, n, 0) else {
+    let Ok((space, mut mutators)) = flip::<L, Plan>(alloc, blank, builder, fight.mutators, 0) else {
         panic!(rt; "a flipped heap");
     };
     write_at_once(rt, alloc, &space, &mut mutators, fight);

@@ -43,7 +43,7 @@ pub struct SweptHeap {
     pub object: Object,
     /// The starts of the objects. All are marked.
     pub marks: &'static [u32],
-    pub mutators: u32,
+    pub mutators: u8,
     pub beside: Beside,
     /// The number of mutators that sweep.
     pub workers: usize,

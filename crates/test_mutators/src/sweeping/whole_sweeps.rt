@@ -24,7 +24,7 @@ fn play<L: Named + Send + Sync, B: Builder, R: Abort + Threads + Wait + Sync>(
     blank: Blank,
     builder: B,
     gate: &Watch,
-    mutators: u32,
+    mutators: u8,
     case: &SweptHeap,
 )
     requires name { blank.name ≡ L.name }
