@@ -72,12 +72,10 @@ abbrev pub last_heap : Heap → List Cycle → Heap
 last_heap heap [] = heap
 last_heap heap (c ∷ cs) = last_heap (heap_after c) cs
 
--- What was left of a cycle made the next heap, which was so marked; and these lines were run over it and showed these
--- values.
-pub record IsNextRun (mutators fresh : ℕ) (heap : Heap) (f : Finished) (given : Option (List ℕ)) (lines : List Line) (next : Heap) (shown : List Shown) (left : Finished) : Type 0 where
+-- this heap follows what is left of a cycle, so marked
+pub record IsMarkedNext (given : Option (List ℕ)) (heap : Heap) (f : Finished) (next : Heap) : Type 0 where
   pub ended : IsMarkedCycle given heap (cycle_of heap f next.marks)
   pub next_is : next ≡ heap_after (cycle_of heap f next.marks)
-  pub run : IsLastRun mutators fresh lines shown next left
 
 -- The traces were run over these cycles, and all cycles but the last are one life of a heap whose objects never move.
 pub record CyclesRan (mutators fresh : ℕ) (heap : Heap) (lines : List Line) (rest : List Further) (shown : List (List Shown)) (f : Finished) : Type 0 where

@@ -5,7 +5,6 @@ use Rattle.heap_layout.specs.declared.fault.LayoutFault.{LayoutFault}
 use Rattle.comp_cycles.specs.declared.finished.Finished.{Finished}
 use Rattle.comp_trace.specs.declared.steps.shown.Shown.{Shown}
 use Rattle.comp_trace.specs.Traces.{lines_of}
-use Rattle.comp_trace.specs.declared.text.fault.TraceFault.{TraceFault}
 use Rattle.comp_trace.specs.declared.text.line.Line.{Line}
 use Rattle.comp_trace.specs.declared.text.trace.Trace.{Trace}
 use Rattle.comp_cycles.specs.Cycles.{heap_after}
@@ -17,6 +16,8 @@ use Rattle.comp_trace.specs.Markings.{marks_given, IsMarkedCycle, IsUnmarkable}
 use Rattle.comp_trace.specs.declared.cycles.marking.Marking.{Marking}
 use Rattle.comp_trace.specs.declared.cycles.fault.CycleFault.{CycleFault}
 use Rattle.comp_trace.specs.declared.cycles.fault.CycleFault.TheVariants.{NotMarked, Stopped, OutOfMemory}
+use Rattle.comp_trace.specs.declared.replays.running.Halt.{Halt}
+use Rattle.comp_trace.specs.declared.replays.running.Halt.TheVariants.{Cut, Unflipped, Unfinished, Unplanned}
 
 -- the elements of these lists
 abbrev pub values_of : {A : Type 0} → List (Vec Shown A) → List (List Shown)
@@ -93,23 +94,20 @@ StopsCycles mutators fresh heap lines rest shown (OutOfMemory c) = IsShort mutat
 
 -- ---- within a replay
 
--- the values that a cycle had shown, if its lines had begun
-abbrev pub some_values : {A : Type 0} → Option (Vec Shown A) → List (List Shown)
-some_values None = []
-some_values (Some values) = values.items ∷ []
+-- the values that a halted cycle had shown, if it was flipped
+abbrev pub shown_by : Halt → List (List Shown)
+shown_by Unplanned = []
+shown_by Unflipped = []
+shown_by (Cut stopped) = stopped.shown.items ∷ []
+shown_by (Unfinished shown) = shown.items ∷ []
 
--- why cycle c has no end, if its lines had begun: they stopped, or all had run and memory ran out to finish it
-abbrev pub HasNoEnd : ℕ → CycleFault → Extent
-HasNoEnd c fault u lines shown = ((f : TraceFault) × (fault ≡ Stopped c f) × CutsShort u lines shown f) ⊎ ((fault ≡ OutOfMemory c) × RunsThrough u lines shown)
+-- the fault of cycle c that was halted: its lines were stopped, or memory ran out
+abbrev pub fault_of : ℕ → Halt → CycleFault
+fault_of c (Cut stopped) = Stopped c stopped.fault
+fault_of c _ = OutOfMemory c
 
--- why a cycle is not run to its end over a heap, if it had shown these values
-abbrev pub IsNotRunOver : {A : Type 0} → ℕ → ℕ → List Line → Heap → ℕ → Option (Vec Shown A) → CycleFault → Type 0
-IsNotRunOver mutators fresh lines heap c (Some values) fault = HasNoEnd c fault (flipped heap mutators fresh) lines values.items
-IsNotRunOver mutators fresh lines heap c None fault = fault ≡ OutOfMemory c
-
--- why the cycle after cycle c is not run to its end, if this is left of cycle c
-abbrev pub IsNotNext : {A : Type 0} → ℕ → ℕ → Heap → Finished → Option (List ℕ) → List Line → ℕ → Option (Vec Shown A) → CycleFault → Type 0
-IsNotNext mutators fresh heap f given lines c (Some values) fault =
-    (marks : List ℕ) × IsMarkedCycle given heap (cycle_of heap f marks) × HasNoEnd (c + 1) fault (flipped (heap_after (cycle_of heap f marks)) mutators fresh) lines values.items
-IsNotNext mutators fresh heap f given lines c None fault =
-    (fault ≡ OutOfMemory c) ⊎ ((fault ≡ OutOfMemory (c + 1)) × SomeMarks given heap f) ⊎ ((l : LayoutFault) × (fault ≡ NotMarked c l) × IsUnmarkable given heap f l)
+-- why no heap follows what is left of cycle c: it is refused, or memory ran out to copy its marks
+abbrev pub IsNoNext : Option (List ℕ) → Heap → Finished → ℕ → CycleFault → Type 0
+IsNoNext given heap f c (NotMarked n fault) = (n ≡ c) × IsUnmarkable given heap f fault
+IsNoNext given heap f c (Stopped n fault) = ⊥
+IsNoNext given heap f c (OutOfMemory n) = n ≡ c

@@ -1,15 +1,12 @@
 //! Runs several cycles, with a trace over each.
-ghost use Rattle.std.specs.Prelude.{◌≡◌, ℕ, ◌^◌, ◌<◌, ◌≤◌, ◌++◌, All, IfErr, IfOk, List, length, map, vec_capacity};
+ghost use Rattle.std.specs.Prelude.{◌≡◌, ◌<◌, ◌≤◌, ◌++◌, All, IfErr, IfOk, length, map, vec_capacity};
 ghost use Rattle.comp_cycles.specs.Ends.{IsEndOf};
 ghost use Rattle.comp_cycles.specs.Finishes.{IsOfFlip};
-ghost use Rattle.heap_layout.specs.Heap.{Heap};
-ghost use Rattle.comp_trace.specs.declared.text.line.Line.{Line};
 ghost use Rattle.comp_trace.specs.Traces.{lines_of};
-ghost use Rattle.comp_trace.specs.CycleRuns.{CyclesRan, IsCycleHaltOf, IsNextRun, IsParsedFor};
-ghost use Rattle.comp_trace.specs.Markings.{marks_given};
-ghost use Rattle.comp_trace.specs.Stops.{further_by, marking_and_lines, marks_and_lines, some_values, values_of, IsNotNext, IsNotRunOver, StopsCycles};
+ghost use Rattle.comp_trace.specs.CycleRuns.{CyclesRan, IsMarkedNext, IsParsedFor};
+ghost use Rattle.comp_trace.specs.Stops.{fault_of, further_by, marking_and_lines, marks_and_lines, shown_by, values_of, IsNoNext, StopsCycles};
 
-use crate::cycles::cycle::{Ran, run_cycle};
+use crate::cycles::cycle::run_cycle;
 use crate::cycles::fault::CycleFault;
 use crate::cycles::marking::{Marking, Marks, next_marked};
 use crate::replays::Halt;
@@ -41,110 +38,54 @@ pub struct CyclesStopped {
     pub fault: CycleFault,
 }
 
-// Why a cycle was not run to its end, and the values that it had shown, if it was flipped.
-#[derive(Drop)]
-struct NotRun {
-    shown: Option<Vec<Shown>>,
-    fault: CycleFault,
+// Makes the heap that follows what is left of cycle `c`, with a copy of these marks.
+fn next_heap<M: Marks>(
+    alloc: Global,
+    plan: Arc<Plan>,
+    finished: Finished,
+    marks: &M,
+    c: u64,
+) -> Result<MarkedHeap, CycleFault>
+    requires end { IsEndOf plan.value finished }
+    ensures next { IfOk result (IsMarkedNext (M.given marks.now) plan.value finished) }
+    ensures refused { IfErr result (IsNoNext (M.given marks.now) plan.value finished c) }
+{
+    let Ok(marking) = marks.marking(alloc) else {
+        return Err(CycleFault::OutOfMemory(c));
+    };
+    match next_marked(finished, alloc, &*plan, marking) {
+        Ok(heap) => Ok(heap),
+        Err(left) => Err(CycleFault::NotMarked(c, left.fault)),
+    }
 }
 
-// Why cycle `c` was not run to its end.
-fn not_run(c: u64, halt: Halt) -> NotRun
-    ensures { (mutators fresh : ℕ) (lines : List Line) (heap : Heap) → IsCycleHaltOf mutators fresh lines heap halt → IsNotRunOver mutators fresh lines heap c result.shown result.fault }
+// Why cycles were not run to their end, if cycle `c` was halted and the cycles before it showed these values. Requires
+// room for one more list.
+fn stopped(mut shown: Vec<Vec<Shown>>, c: u64, halt: Halt) -> CyclesStopped
+    requires { length shown.items < vec_capacity shown }
+    ensures shown { values_of result.shown.items ≡ values_of shown.items ++ shown_by halt }
+    ensures fault { result.fault ≡ fault_of c halt }
 {
     match halt {
-        Halt::Cut(stopped) => NotRun {
-            shown: Some(stopped.shown),
-            fault: CycleFault::Stopped(c, stopped.fault),
-        },
-        Halt::Unfinished(shown) => NotRun {
-            shown: Some(shown),
-            fault: CycleFault::OutOfMemory(c),
-        },
-        Halt::Unplanned | Halt::Unflipped => NotRun {
-            shown: None,
+        Halt::Cut(cut) => {
+            shown.push_reserved(cut.shown);
+            CyclesStopped {
+                shown,
+                fault: CycleFault::Stopped(c, cut.fault),
+            }
+        }
+        Halt::Unfinished(values) => {
+            shown.push_reserved(values);
+            CyclesStopped {
+                shown,
+                fault: CycleFault::OutOfMemory(c),
+            }
+        }
+        Halt::Unplanned | Halt::Unflipped => CyclesStopped {
+            shown,
             fault: CycleFault::OutOfMemory(c),
         },
     }
-}
-
-// Runs the cycle after cycle `c`: makes the next heap of what is left of cycle `c`, marked so, and runs the trace over
-// it.
-fn run_next(
-    alloc: Global,
-    rt: &(impl Threads + Sync),
-    plan: Arc<Plan>,
-    finished: Finished,
-    marking: Marking,
-    trace: &Trace,
-    mutators: u8,
-    fresh: u32,
-    c: u64,
-) -> Result<Ran, NotRun>
-    requires mutators { (1 ≤ mutators) × (mutators ≤ 64) }
-    requires fresh { fresh ≤ 4096 }
-    requires count { c < 2 ^ 63 }
-    requires end { IsEndOf plan.value finished }
-    requires parsed { IsParsedFor mutators (length plan.value.roots) trace.now }
-    ensures next { IfOk result (λ next. IsNextRun mutators fresh plan.value finished (marks_given marking) (lines_of trace.now) next.plan.value next.shown.items next.finished) }
-    ensures flipped { IfOk result (λ next. IsOfFlip mutators fresh next.finished) }
-    ensures refused { IfErr result (λ not. IsNotNext mutators fresh plan.value finished (marks_given marking) (lines_of trace.now) c not.shown not.fault) }
-{
-    match next_marked(finished, alloc, &*plan, marking) {
-        Ok(heap) => match run_cycle(alloc, rt, heap, trace, mutators, fresh) {
-            Ok(ran) => Ok(ran),
-            Err(halt) => Err(not_run(c + 1, halt)),
-        },
-        Err(left) => Err(NotRun {
-            shown: None,
-            fault: CycleFault::NotMarked(c, left.fault),
-        }),
-    }
-}
-
-// Runs the cycle after cycle `c`, with a copy of these marks.
-fn run_further<M: Marks>(
-    alloc: Global,
-    rt: &(impl Threads + Sync),
-    plan: Arc<Plan>,
-    finished: Finished,
-    further: &(M, Trace),
-    mutators: u8,
-    fresh: u32,
-    c: u64,
-) -> Result<Ran, NotRun>
-    requires mutators { (1 ≤ mutators) × (mutators ≤ 64) }
-    requires fresh { fresh ≤ 4096 }
-    requires count { c < 2 ^ 63 }
-    requires end { IsEndOf plan.value finished }
-    requires parsed { IsParsedFor mutators (length plan.value.roots) further.now.1 }
-    ensures next { IfOk result (λ next. IsNextRun mutators fresh plan.value finished (M.given further.now.0) (lines_of further.now.1) next.plan.value next.shown.items next.finished) }
-    ensures flipped { IfOk result (λ next. IsOfFlip mutators fresh next.finished) }
-    ensures refused { IfErr result (λ not. IsNotNext mutators fresh plan.value finished (M.given further.now.0) (lines_of further.now.1) c not.shown not.fault) }
-{
-    let Ok(marking) = further.0.marking(alloc) else {
-        return Err(NotRun {
-            shown: None,
-            fault: CycleFault::OutOfMemory(c),
-        });
-    };
-    run_next(
-        alloc, rt, plan, finished, marking, &further.1, mutators, fresh, c,
-    )
-}
-
-// Adds the values of the cycle that was not run to its end, if there are any, after the values shown before. Requires
-// room for one more list.
-fn stopped(mut shown: Vec<Vec<Shown>>, not: NotRun) -> CyclesStopped
-    requires { length shown.items < vec_capacity shown }
-    ensures shown { values_of result.shown.items ≡ values_of shown.items ++ some_values not.shown }
-    ensures fault { result.fault ≡ not.fault }
-{
-    let NotRun { shown: last, fault } = not;
-    if let Some(values) = last {
-        shown.push_reserved(values);
-    }
-    CyclesStopped { shown, fault }
 }
 
 /// Runs cycles, one after the other, by one thread. The first cycle runs the trace `first` over the heap. Each pair of
@@ -231,25 +172,20 @@ fn replay_all<M: Marks>(
             shown.push_reserved(ran.shown);
             (ran.plan, ran.finished)
         }
-        Err(halt) => return Err(stopped(shown, not_run(0, halt))),
+        Err(halt) => return Err(stopped(shown, 0, halt)),
     };
     for (c, further) in rest.iter().enumerate() {
-        match run_further(
-            alloc,
-            rt,
-            plan,
-            finished,
-            further,
-            mutators,
-            fresh_pages,
-            c as u64,
-        ) {
+        let heap = match next_heap(alloc, plan, finished, &further.0, c as u64) {
+            Ok(heap) => heap,
+            Err(fault) => return Err(CyclesStopped { shown, fault }),
+        };
+        match run_cycle(alloc, rt, heap, &further.1, mutators, fresh_pages) {
             Ok(ran) => {
                 shown.push_reserved(ran.shown);
                 plan = ran.plan;
                 finished = ran.finished;
             }
-            Err(not) => return Err(stopped(shown, not)),
+            Err(halt) => return Err(stopped(shown, c as u64 + 1, halt)),
         }
     }
     Ok(CyclesRun { shown, finished })
