@@ -17,10 +17,10 @@ use Rattle.command_io.specs.declared.refusal.Output.TheVariants as outputs
 use Rattle.command_io.specs.declared.refusal.CommandRefusal.{CommandRefusal}
 use Rattle.command_io.specs.declared.refusal.CommandRefusal.TheVariants.{Layout, Mutator, Sweep, Trace, Dump, Audit, Moved, CannotWrite, CannotOpen, CannotCreate, ReadFailed, CannotPrint, NoSuchWord, BadMarks, OutOfMemory, BadRoots}
 use Rattle.command_io.proofs.Outcomes.{uncounted_by}
-use Rattle.commands.specs.declared.replays.PrintedHalt.{PrintedHalt}
-use Rattle.commands.specs.Cycled.{Given, IsCycledHeap, IsUncycled}
+use Rattle.commands.specs.Cycled.{refusal_by, shown_by, Given, IsCycledHeap, IsUncycled}
 use Rattle.commands.specs.Nexts.{IsOfWritingNext, IsWrittenNext, MakesNext, Nexts, PrintsNext, RefusesCycle, RefusesGivenAt, RefusesNext, RefusesWriting}
 use Rattle.commands.specs.declared.cycling.Cycled.{Cycled}
+use Rattle.commands.specs.declared.cycling.Uncycled.{Uncycled}
 
 -- no refusal of marks counts a failed call of the output
 marks_uncounted : {F W : Type 0} (disk : Disk F W) (path : List ℕ) (n : ℕ) (refusal : CommandRefusal) → RefusesMarksAt disk path refusal → CountsPrint {T = Unit {0}} n n (Err refusal)
@@ -75,18 +75,18 @@ err_then P Q f (Err refusal) p = f refusal p
 
 module _ {F W : Type 0} (disk : Disk F W) (asked : NextRun) (from to : F) (before after : Option (List ℕ)) (lines : List Line) (given : Given) (heap : Heap) where
   -- the cycle came to its end, and all was written and printed
-  pub made_ok : (made : Result Cycled PrintedHalt) → IfOk made (λ cycled. IsCycledHeap asked.mutators asked.fresh lines cycled.shown.items given heap cycled.heap)
+  pub made_ok : (made : Result Cycled Uncycled) → IfOk made (λ cycled. IsCycledHeap asked.mutators asked.fresh lines cycled.shown.items given heap cycled.heap)
       → (result : Result (Unit {0}) CommandRefusal) → OnOk result (IsWrittenNext disk asked.new.now to before after made) → OnOk result (Nexts disk asked to before after lines given heap)
   made_ok made h (Err refusal) w = tt
   made_ok (Ok cycled) h (Ok _) w = record { shown = cycled.shown.items; next = cycled.heap; cycled = h; written = w.0; printed = w.1 }
-  made_ok (Err halted) h (Ok _) w = absurd w
+  made_ok (Err left) h (Ok _) w = absurd w
 
   -- or it did not
-  pub made_err : (made : Result Cycled PrintedHalt) → IfOk made (λ cycled. IsCycledHeap asked.mutators asked.fresh lines cycled.shown.items given heap cycled.heap)
-      → IfErr made (λ halted. IsUncycled asked.mutators asked.fresh lines halted.shown.items given heap halted.refusal)
+  pub made_err : (made : Result Cycled Uncycled) → IfOk made (λ cycled. IsCycledHeap asked.mutators asked.fresh lines cycled.shown.items given heap cycled.heap)
+      → IfErr made (λ left. IsUncycled asked.mutators asked.fresh lines (shown_by left) given heap (refusal_by left))
       → (refusal : CommandRefusal) → RefusesWriting disk asked.new.now from to before after made refusal → RefusesCycle disk asked from to before after lines given heap refusal
   made_err (Ok cycled) h u refusal w = inr (cycled.shown.items, cycled.heap, h, w)
-  made_err (Err halted) h u refusal w = inl (halted, u, w.0, w.1)
+  made_err (Err left) h u refusal w = inl (shown_by left, refusal_by left, u, w.0, w.1)
 
 -- What the command did, whether the output is flushed after it or not.
 module _ {F W : Type 0} (disk : Disk F W) (asked : NextRun) (to : F) (before between after : Option (List ℕ)) where

@@ -8,6 +8,7 @@ use Rattle.comp_mutator.specs.Finished.{Finished}
 use Rattle.comp_trace.specs.declared.text.fault.TraceFault.{TraceFault}
 use Rattle.comp_trace.specs.declared.text.fault.TraceFault.TheVariants.{BadLine, NoSuchMutator, NoSuchRegister, NumberTooLarge, NoSuchRoot, Refused}
 use Rattle.comp_trace.specs.declared.text.fault.TraceFault.TheVariants as traces
+use Rattle.comp_trace.specs.declared.replays.running.Halt.{Halt}
 use Rattle.comp_trace.specs.declared.text.line.Line.{Line}
 use Rattle.comp_trace.specs.declared.steps.shown.Shown.{Shown}
 use Rattle.comp_dump.specs.DumpEncoding.{dump_bytes}
@@ -20,8 +21,7 @@ use Rattle.command_io.specs.Texts.{HasLinesAt}
 use Rattle.command_io.specs.declared.refusal.Output.TheVariants as outputs
 use Rattle.command_io.specs.declared.refusal.CommandRefusal.{CommandRefusal}
 use Rattle.command_io.specs.declared.refusal.CommandRefusal.TheVariants.{Trace, CannotPrint}
-use Rattle.commands.specs.Outcomes.{IsHaltedBy, IsWritten, RefusesOutcome}
-use Rattle.commands.specs.declared.replays.PrintedHalt.{PrintedHalt}
+use Rattle.commands.specs.Outcomes.{printed_of, refusal_of, IsHaltedBy, IsWritten, RefusesOutcome}
 use Rattle.commands.specs.declared.replays.Replayed.{Replayed}
 use Rattle.commands.proofs.TraceRuns as runs
 
@@ -37,8 +37,8 @@ races disk asked to before after lines shown f heap h written printed = record {
 -- What follows from what became of a race.
 module _ {F W : Type 0} (disk : Disk F W) (asked : TraceRun) (from to : F) (before after : Option (List ℕ)) (heap : Heap) (image : IsHeapAt disk asked.large asked.image.now heap)
     (lines : List Line) (trace : HasLinesAt disk asked.trace.now asked.mutators (length heap.roots) lines)
-    (outcome : Result Replayed PrintedHalt) (ran : IfOk outcome (λ run. IsRacedHeap asked.mutators asked.fresh lines run.shown.items run.finished heap)) (result : Result (Unit {0}) CommandRefusal) where
-  pub of_outcome_err : IfErr outcome (λ run. IsHaltedRace asked.mutators asked.fresh lines run.shown.items heap run.refusal)
+    (outcome : Result Replayed Halt) (ran : IfOk outcome (λ run. IsRacedHeap asked.mutators asked.fresh lines run.shown.items run.finished heap)) (result : Result (Unit {0}) CommandRefusal) where
+  pub of_outcome_err : IfErr outcome (λ halt. IsHaltedRace asked.mutators asked.fresh lines (printed_of halt) heap (refusal_of halt))
       → IfErr result (RefusesOutcome disk asked from to before after outcome) → IfErr result (RefusesRace disk asked from to before after)
   of_outcome_err halted h =
       runs.of_outcome_err (racing asked.mutators asked.fresh) disk asked from to before after heap image lines trace (λ shown f. IsRacedHeap asked.mutators asked.fresh lines shown f heap)

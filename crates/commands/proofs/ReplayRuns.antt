@@ -12,6 +12,9 @@ use Rattle.comp_trace.specs.Bytes.{flipped, CutsShort}
 use Rattle.comp_trace.specs.declared.text.fault.TraceFault.{TraceFault}
 use Rattle.comp_trace.specs.declared.text.fault.TraceFault.TheVariants.{BadLine, NoSuchMutator, NoSuchRegister, NumberTooLarge, NoSuchRoot, Refused}
 use Rattle.comp_trace.specs.declared.text.fault.TraceFault.TheVariants as traces
+use Rattle.comp_trace.specs.CycleRuns.{IsCycleHaltOf}
+use Rattle.comp_trace.specs.declared.replays.running.Halt.{Halt}
+use Rattle.comp_trace.specs.declared.replays.running.Halt.TheVariants.{Cut, Unflipped, Unfinished, Unplanned}
 use Rattle.comp_trace.specs.declared.text.line.Line.{Line}
 use Rattle.comp_trace.specs.declared.steps.shown.Shown.{Shown}
 use Rattle.comp_dump.specs.Dumped.{Dumped}
@@ -29,8 +32,7 @@ use Rattle.command_io.specs.declared.refusal.Output.TheVariants as outputs
 use Rattle.command_io.specs.declared.refusal.CommandRefusal.{CommandRefusal}
 use Rattle.command_io.specs.declared.refusal.CommandRefusal.TheVariants.{Layout, Mutator, Sweep, Trace, Dump, Audit, Moved, CannotWrite, CannotOpen, CannotCreate, ReadFailed, CannotPrint, NoSuchWord, BadMarks, OutOfMemory, BadRoots}
 use Rattle.command_io.proofs.Outcomes.{same_parts, uncounted_by, uncreated, unmade_too}
-use Rattle.commands.specs.Outcomes.{IsHaltedBy, IsWritten, RefusesInputs, RefusesOutcome}
-use Rattle.commands.specs.declared.replays.PrintedHalt.{PrintedHalt}
+use Rattle.commands.specs.Outcomes.{printed_of, refusal_of, IsHaltedBy, IsOfHalt, IsWritten, RefusesInputs, RefusesOutcome}
 use Rattle.commands.specs.declared.replays.Replayed.{Replayed}
 use Rattle.commands.proofs.TraceRuns as runs
 
@@ -51,8 +53,8 @@ replays disk asked to before after lines shown f heap h written printed = record
 -- What follows from what became of a run.
 module _ {F W : Type 0} (disk : Disk F W) (asked : TraceRun) (from to : F) (before after : Option (List ℕ)) (heap : Heap) (image : IsHeapAt disk asked.large asked.image.now heap)
     (lines : List Line) (trace : HasLinesAt disk asked.trace.now asked.mutators (length heap.roots) lines)
-    (outcome : Result Replayed PrintedHalt) (ran : IfOk outcome (λ run. IsReplayedHeap asked.mutators asked.fresh lines run.shown.items run.finished heap)) (result : Result (Unit {0}) CommandRefusal) where
-  pub of_outcome_err : IfErr outcome (λ run. IsPrintedHalt asked.mutators asked.fresh lines run.shown.items heap run.refusal)
+    (outcome : Result Replayed Halt) (ran : IfOk outcome (λ run. IsReplayedHeap asked.mutators asked.fresh lines run.shown.items run.finished heap)) (result : Result (Unit {0}) CommandRefusal) where
+  pub of_outcome_err : IfErr outcome (λ halt. IsPrintedHalt asked.mutators asked.fresh lines (printed_of halt) heap (refusal_of halt))
       → IfErr result (RefusesOutcome disk asked from to before after outcome) → IfErr result (RefusesReplay disk asked from to before after)
   of_outcome_err halted h =
       runs.of_outcome_err (replaying asked.mutators asked.fresh) disk asked from to before after heap image lines trace (λ shown f. IsReplayedHeap asked.mutators asked.fresh lines shown f heap)
@@ -122,6 +124,13 @@ cut_by u lines shown (NoSuchRoot number) h = absurd h
 cut_by u lines shown (Refused number refusal) h = tt
 cut_by u lines shown traces.OutOfMemory h = h
 
+-- what is printed of a halted run, and how it is refused
+pub printed_halt : (mutators fresh : ℕ) (lines : List Line) (heap : Heap) (halt : Halt) → IsCycleHaltOf mutators fresh lines heap halt → IsPrintedHalt mutators fresh lines (printed_of halt) heap (refusal_of halt)
+printed_halt mutators fresh lines heap Unplanned h = refl
+printed_halt mutators fresh lines heap Unflipped h = (refl, refl)
+printed_halt mutators fresh lines heap (Cut stopped) h = h
+printed_halt mutators fresh lines heap (Unfinished shown) h = (refl, refl)
+
 pub replay_halted_by : (mutators fresh : ℕ) (lines : List Line) (heap : Heap) (shown : List Shown) (refusal : CommandRefusal) → IsPrintedHalt mutators fresh lines shown heap refusal → IsHaltedBy shown refusal
 replay_halted_by mutators fresh lines heap shown = runs.halted_by (CutsReplay mutators fresh) lines heap shown (cut_by (flipped heap mutators fresh) lines shown)
 
@@ -167,10 +176,11 @@ pub ok_both : (result : Result (Unit {0}) CommandRefusal) (P Q : Type 0) → OnO
 ok_both (Ok _) P Q p q = (p, q)
 ok_both (Err refusal) P Q p q = tt
 
--- what holds of an Err, with a fact that holds anyway
-pub err_with : (result : Result (Unit {0}) CommandRefusal) (P : Type 0) (Q : CommandRefusal → Type 0) → P → IfErr result Q → IfErr result (λ refusal. P × Q refusal)
-err_with (Ok _) P Q p q = tt
-err_with (Err refusal) P Q p q = (p, q)
+-- a run that was halted left the files as they were
+pub halted_unwritten : {F : Type 0} (result : Result (Unit {0}) CommandRefusal) (files : F) (before after : Option (List ℕ)) (printed shown : List Shown) (refused halted : CommandRefusal) → printed ≡ shown → refused ≡ halted
+    → IfErr result (IsOfHalt before after printed refused) → IfErr result (λ refusal. (files ≡ files) × IsOfHalt before after shown halted refusal)
+halted_unwritten (Ok _) files before after printed shown refused halted same is h = tt
+halted_unwritten (Err refusal) files before after printed shown refused halted same is h = (refl, subst (λ (values : List Shown). IsOfHalt before after values halted refusal) same (subst (λ (r : CommandRefusal). IsOfHalt before after printed r refusal) is h))
 
 -- a refusal of the dump is one of the writing
 pub writing_of : {F W : Type 0} (disk : Disk F W) (path bytes : List ℕ) (to : F) (refusal : CommandRefusal) → IsOfDumping disk path bytes refusal

@@ -6,6 +6,7 @@ use Rattle.heap_layout.specs.Heap.{Heap}
 use Rattle.comp_mutator.specs.Finishes.{live_of}
 use Rattle.comp_mutator.specs.Finished.{Finished}
 use Rattle.comp_trace.specs.declared.text.fault.TraceFault.{TraceFault}
+use Rattle.comp_trace.specs.declared.replays.running.Halt.{Halt}
 use Rattle.comp_trace.specs.declared.text.line.Line.{Line}
 use Rattle.comp_trace.specs.declared.steps.shown.Shown.{Shown}
 use Rattle.comp_dump.specs.DumpEncoding.{dump_bytes}
@@ -20,9 +21,8 @@ use Rattle.command_io.specs.declared.refusal.Output.TheVariants as outputs
 use Rattle.command_io.specs.declared.refusal.CommandRefusal.{CommandRefusal}
 use Rattle.command_io.specs.declared.refusal.CommandRefusal.TheVariants.{Layout, Mutator, Sweep, Trace, Dump, Audit, Moved, CannotWrite, CannotOpen, CannotCreate, ReadFailed, CannotPrint, NoSuchWord, BadMarks, OutOfMemory, BadRoots}
 use Rattle.command_io.proofs.Imaged.{of_heap}
-use Rattle.commands.specs.Outcomes.{IsHaltedBy, IsWritten, RefusesInputs, RefusesOutcome}
+use Rattle.commands.specs.Outcomes.{printed_of, refusal_of, IsHaltedBy, IsWritten, RefusesInputs, RefusesOutcome}
 use Rattle.commands.specs.Replays.{dumped_of, shown_lines, IsHaltedRun, IsOfWritingRun, PrintsRun, RefusesRun, RefusesTrace, RefusesTraced, SomeRun, StopsRun, Way}
-use Rattle.commands.specs.declared.replays.PrintedHalt.{PrintedHalt}
 use Rattle.commands.specs.declared.replays.Replayed.{Replayed}
 
 -- the lines of a text for the number of the heap's roots
@@ -162,26 +162,26 @@ module _ {F W : Type 0} (way : Way) (disk : Disk F W) (asked : TraceRun) (from t
       -- What follows from what became of the run, if what a run leaves has the dump of its heap.
       module _ (HasRun : List Shown → Finished → Type 0) (left_of : (shown : List Shown) (f : Finished) → HasRun shown f → way.leaves lines heap)
           (dump_is : (shown : List Shown) (f : Finished) (h : HasRun shown f) → way.dump lines heap (left_of shown f h) ≡ dump_bytes (dumped_of asked.mutators asked.fresh f)) where
-        of_outcome : (outcome : Result Replayed PrintedHalt) → IfOk outcome (λ run. HasRun run.shown.items run.finished) → IfErr outcome (λ run. IsHaltedRun way.cuts lines run.shown.items heap run.refusal)
+        of_outcome : (outcome : Result Replayed Halt) → IfOk outcome (λ run. HasRun run.shown.items run.finished) → IfErr outcome (λ halt. IsHaltedRun way.cuts lines (printed_of halt) heap (refusal_of halt))
             → (refusal : CommandRefusal) → RefusesOutcome disk asked from to before after outcome refusal → IsCause refusal
         of_outcome (Ok run) ran halted refusal h =
             of_writing (left_of run.shown.items run.finished ran) refusal
             (subst (λ (bytes : List ℕ). IsOfWritingRun disk asked.dump.now bytes to refusal) (sym (dump_is run.shown.items run.finished ran)) h)
-        of_outcome (Err run) ran halted refusal (same, inl (is, printed)) = subst IsCause (sym is) (of_halt run.shown.items printed run.refusal halted)
-        of_outcome (Err run) ran halted refusal (same, inr is) = subst IsCause (sym is) (of_halt_unprinted run.shown.items run.refusal same halted)
+        of_outcome (Err halt) ran halted refusal (same, inl (is, printed)) = subst IsCause (sym is) (of_halt (printed_of halt) printed (refusal_of halt) halted)
+        of_outcome (Err halt) ran halted refusal (same, inr is) = subst IsCause (sym is) (of_halt_unprinted (printed_of halt) (refusal_of halt) same halted)
 
-        pub of_outcome_err : (outcome : Result Replayed PrintedHalt) → IfOk outcome (λ run. HasRun run.shown.items run.finished) → IfErr outcome (λ run. IsHaltedRun way.cuts lines run.shown.items heap run.refusal)
+        pub of_outcome_err : (outcome : Result Replayed Halt) → IfOk outcome (λ run. HasRun run.shown.items run.finished) → IfErr outcome (λ halt. IsHaltedRun way.cuts lines (printed_of halt) heap (refusal_of halt))
             → (result : Result (Unit {0}) CommandRefusal) → IfErr result (RefusesOutcome disk asked from to before after outcome) → IfErr result IsCause
         of_outcome_err outcome ran halted (Ok _) h = tt
         of_outcome_err outcome ran halted (Err refusal) h = of_outcome outcome ran halted refusal h
 
       pub of_outcome_ok : (HasRun : List Shown → Finished → Type 0) (P : List Line → Heap → Type 0)
           → ((shown : List Shown) (f : Finished) → HasRun shown f → WritesWhole disk outputs.Dump asked.dump.now (dump_bytes (dumped_of asked.mutators asked.fresh f)) to → PrintsRun before after shown (live_of f) → P lines heap)
-          → (outcome : Result Replayed PrintedHalt) → IfOk outcome (λ run. HasRun run.shown.items run.finished)
+          → (outcome : Result Replayed Halt) → IfOk outcome (λ run. HasRun run.shown.items run.finished)
           → (result : Result (Unit {0}) CommandRefusal) → OnOk result (IsWritten disk asked to before after outcome) → OnOk result (SomeRun disk asked P)
       of_outcome_ok HasRun P done outcome ran (Err refusal) h = tt
       of_outcome_ok HasRun P done (Ok run) ran (Ok _) h = some_run disk asked heap image P lines trace (done run.shown.items run.finished ran h.0 h.1)
-      of_outcome_ok HasRun P done (Err run) ran (Ok _) h = absurd h
+      of_outcome_ok HasRun P done (Err halt) ran (Ok _) h = absurd h
 
   -- there is no heap, or no trace for it
   pub of_inputs : Keeps before after → (refusal : CommandRefusal) → RefusesInputs disk asked.large asked.image.now asked.trace.now asked.mutators refusal → IsCause refusal

@@ -21,8 +21,11 @@ use Rattle.comp_trace.specs.declared.steps.shown.Shown.{Shown}
 use Rattle.comp_trace.specs.declared.text.line.Line.{Line}
 use Rattle.command_io.specs.declared.refusal.CommandRefusal.{CommandRefusal}
 use Rattle.command_io.specs.declared.refusal.CommandRefusal.TheVariants.{Layout, Mutator, OutOfMemory, Trace}
+use Rattle.commands.specs.Outcomes.{printed_of, refusal_of}
 use Rattle.commands.specs.declared.cycling.Handed.{Handed}
 use Rattle.commands.specs.declared.cycling.Handed.TheVariants.{Marked, Roots}
+use Rattle.commands.specs.declared.cycling.Uncycled.{Uncycled}
+use Rattle.commands.specs.declared.cycling.Uncycled.TheVariants.{Halted, Unfollowed}
 
 -- if a heap whose objects never move stands for this heap, the cycle is a chapter of its life
 abbrev pub IsChapterOf : Heap → Cycle → Type 0
@@ -97,3 +100,13 @@ IsUncycled mutators fresh lines shown given heap (Layout fault) = (shown ≡ [])
 IsUncycled mutators fresh lines shown given heap (Mutator refusal) = (refusal ≡ refusals.OutOfMemory) × (shown ≡ [])
 IsUncycled mutators fresh lines shown given heap OutOfMemory = shown ≡ []
 IsUncycled mutators fresh lines shown given heap _ = ⊥
+
+-- the values that are printed of a cycle without a next heap
+abbrev pub shown_by : Uncycled → List Shown
+shown_by (Halted halt) = printed_of halt
+shown_by (Unfollowed refusal) = []
+
+-- how such a cycle is refused
+abbrev pub refusal_by : Uncycled → CommandRefusal
+refusal_by (Halted halt) = refusal_of halt
+refusal_by (Unfollowed refusal) = refusal

@@ -21,9 +21,9 @@ use Rattle.command_io.specs.declared.refusal.CommandRefusal.{CommandRefusal}
 use Rattle.command_io.specs.declared.refusal.CommandRefusal.TheVariants.{CannotPrint}
 use Rattle.commands.specs.Outcomes.{IsOfHalt, RefusesInputs}
 use Rattle.commands.specs.Replays.{PrintsRun}
-use Rattle.commands.specs.declared.replays.PrintedHalt.{PrintedHalt}
-use Rattle.commands.specs.Cycled.{Given, IsCycledHeap, IsUncycled}
+use Rattle.commands.specs.Cycled.{Given, IsCycledHeap, IsUncycled, refusal_by, shown_by}
 use Rattle.commands.specs.declared.cycling.Cycled.{Cycled}
+use Rattle.commands.specs.declared.cycling.Uncycled.{Uncycled}
 
 -- ---- from a heap, lines, and what is given for the next heap
 
@@ -47,7 +47,7 @@ IsOfWritingNext disk path bytes to refusal = IsOfWritingImage disk path bytes re
 -- they were, and what the lines had shown was printed
 abbrev pub RefusesCycle : {F W : Type 0} → Disk F W → NextRun → F → F → Option (List ℕ) → Option (List ℕ) → List Line → Given → Heap → CommandRefusal → Type 0
 RefusesCycle disk asked from to before after lines given heap refusal =
-    ((halted : PrintedHalt) × IsUncycled asked.mutators asked.fresh lines halted.shown.items given heap halted.refusal × (to ≡ from) × IsOfHalt before after halted refusal)
+    ((shown : List Shown) × (halted : CommandRefusal) × IsUncycled asked.mutators asked.fresh lines shown given heap halted × (to ≡ from) × IsOfHalt before after shown halted refusal)
     ⊎ ((shown : List Shown) × (next : Heap) × IsCycledHeap asked.mutators asked.fresh lines shown given heap next × IsOfWritingNext disk asked.new.now (encoding next) to refusal)
 
 -- ---- from the files
@@ -107,12 +107,12 @@ RefusesNext disk asked from to before after refusal =
 -- ---- within the command
 
 -- the cycle came to its end: the new image was written, and then what was shown and the live words were printed
-abbrev pub IsWrittenNext : {F W : Type 0} → Disk F W → List ℕ → F → Option (List ℕ) → Option (List ℕ) → Result Cycled PrintedHalt → Type 0
+abbrev pub IsWrittenNext : {F W : Type 0} → Disk F W → List ℕ → F → Option (List ℕ) → Option (List ℕ) → Result Cycled Uncycled → Type 0
 IsWrittenNext disk path to before after (Ok cycled) =
     WritesWhole disk outputs.New path (encoding cycled.heap) to × PrintsRun before after cycled.shown.items (live_words (live cycled.heap))
-IsWrittenNext disk path to before after (Err halted) = ⊥
+IsWrittenNext disk path to before after (Err left) = ⊥
 
 -- why it was not written or printed, or was halted, which leaves the files as they were
-abbrev pub RefusesWriting : {F W : Type 0} → Disk F W → List ℕ → F → F → Option (List ℕ) → Option (List ℕ) → Result Cycled PrintedHalt → CommandRefusal → Type 0
+abbrev pub RefusesWriting : {F W : Type 0} → Disk F W → List ℕ → F → F → Option (List ℕ) → Option (List ℕ) → Result Cycled Uncycled → CommandRefusal → Type 0
 RefusesWriting disk path from to before after (Ok cycled) refusal = IsOfWritingNext disk path (encoding cycled.heap) to refusal
-RefusesWriting disk path from to before after (Err halted) refusal = (to ≡ from) × IsOfHalt before after halted refusal
+RefusesWriting disk path from to before after (Err left) refusal = (to ≡ from) × IsOfHalt before after (shown_by left) (refusal_by left) refusal

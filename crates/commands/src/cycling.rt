@@ -1,17 +1,17 @@
 //! Runs a trace over a heap, and makes the heap with which the next cycle begins.
-ghost use Rattle.std.specs.Prelude.{◌≤◌, ℕ, IfErr, IfOk, List, None, Some, length};
+ghost use Rattle.std.specs.Prelude.{◌≡◌, ◌≤◌, ℕ, IfErr, IfOk, List, None, Some, length};
 ghost use Rattle.comp_mutator.specs.Ends.{IsEndOf};
 ghost use Rattle.comp_trace.specs.CycleRuns.{IsParsedFor};
 ghost use Rattle.comp_trace.specs.Markings.{marks_given};
 ghost use Rattle.comp_trace.specs.Replays.{Hold};
 ghost use Rattle.comp_trace.specs.RootsNamed.{words_named};
 ghost use Rattle.comp_trace.specs.Traces.{lines_of};
-ghost use Rattle.commands.specs.Cycled.{given_by, IsCycledHeap, IsGivenWithin, IsNextHeap, IsUncycled, IsUnmarked};
+ghost use Rattle.commands.specs.Cycled.{given_by, refusal_by, shown_by, IsCycledHeap, IsGivenWithin, IsNextHeap, IsUncycled, IsUnmarked};
 
-use crate::replays::{PrintedHalt, printed_halt, unshown};
+use crate::replays::printed;
 use command_io::CommandRefusal;
 use comp_mutator::Finished;
-use comp_trace::{Marking, NewRoot, Shown, Trace, next_marked, root_words, run_cycle};
+use comp_trace::{Halt, Marking, NewRoot, Shown, Trace, next_marked, root_words, run_cycle};
 use heap_layout::MarkedHeap;
 use page_plan::Plan;
 use reachable_cycles::next_reachable_with;
@@ -37,6 +37,26 @@ pub struct Cycled {
     pub heap: MarkedHeap,
 }
 
+/// Why there is no next heap.
+#[derive(Drop)]
+pub enum Uncycled {
+    /// The run was halted.
+    Halted(Halt),
+    /// The run came to its end, and no heap follows it. Of its values none is printed.
+    Unfollowed(CommandRefusal),
+}
+
+/// The values that are printed of a cycle without a next heap, and its refusal.
+pub fn printed_cycle(left: &Uncycled) -> (&[Shown], CommandRefusal)
+    ensures shown { result.0.now ≡ shown_by left.now }
+    ensures refusal { result.1 ≡ refusal_by left.now }
+{
+    match left {
+        Uncycled::Halted(halt) => printed(halt),
+        Uncycled::Unfollowed(refusal) => (&[], *refusal),
+    }
+}
+
 /// Flips a heap, runs a trace over it by one thread, finishes it, and makes the heap with which the next cycle begins,
 /// from what is handed in. There are 1 to 64 mutators and at most 4,096 fresh pages. The trace was parsed for these
 /// mutators and for the heap's number of roots. A root that is a register is one of these mutators, and names the word
@@ -44,7 +64,7 @@ pub struct Cycled {
 ///
 /// It is refused if a line is refused, with the values of the lines before it; if the next heap is refused, with its
 /// first fault, which is `TooLarge` if that heap is marked by what its roots reach, or `BadRoot` for the first root that
-/// is handed in and leads nowhere; and if memory runs out. The last two come with no value.
+/// is handed in and leads nowhere; and if memory runs out. Of the last two no value is printed.
 pub fn cycle_heap(
     alloc: Global,
     rt: &(impl Threads + Sync),
@@ -53,13 +73,13 @@ pub fn cycle_heap(
     handed: Handed,
     mutators: u8,
     fresh: u32,
-) -> Result<Cycled, PrintedHalt>
+) -> Result<Cycled, Uncycled>
     requires mutators { (1 ≤ mutators) × (mutators ≤ 64) }
     requires fresh { fresh ≤ 4096 }
     requires parsed { IsParsedFor mutators (length heap.roots) trace.now }
     requires within { IsGivenWithin mutators (given_by handed) }
     ensures cycled { IfOk result (λ cycled. IsCycledHeap mutators fresh (lines_of trace.now) cycled.shown.items (given_by handed) heap cycled.heap) }
-    ensures halted { IfErr result (λ halted. IsUncycled mutators fresh (lines_of trace.now) halted.shown.items (given_by handed) heap halted.refusal) }
+    ensures halted { IfErr result (λ left. IsUncycled mutators fresh (lines_of trace.now) (shown_by left) (given_by handed) heap (refusal_by left)) }
 {
     match run_cycle(alloc, rt, heap, trace, mutators, fresh) {
         Ok(ran) => match make_next(alloc, ran.plan, ran.finished, &ran.registers, handed) {
@@ -67,9 +87,9 @@ pub fn cycle_heap(
                 shown: ran.shown,
                 heap,
             }),
-            Err(refusal) => Err(unshown(alloc, refusal)),
+            Err(refusal) => Err(Uncycled::Unfollowed(refusal)),
         },
-        Err(halt) => Err(printed_halt(alloc, halt)),
+        Err(halt) => Err(Uncycled::Halted(halt)),
     }
 }
 

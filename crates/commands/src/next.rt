@@ -10,13 +10,12 @@ ghost use Rattle.command_io.specs.declared.refusal.Output.TheVariants as outputs
 ghost use Rattle.commands.specs.Outcomes.{IsHaltedBy};
 ghost use Rattle.commands.specs.Replays.{PrintsRun, StopsUnprinted};
 ghost use Rattle.commands.specs.Nexts.{IsGivenAt, IsOfWritingNext, IsWrittenNext, MakesNext, RefusesGivenAt, RefusesNext, RefusesWriting};
-ghost use Rattle.commands.specs.Cycled.{given_by, IsGivenWithin};
+ghost use Rattle.commands.specs.Cycled.{given_by, refusal_by, shown_by, IsGivenWithin};
 ghost use Rattle.commands.specs.Leaving.{LeavesOutput};
 
-use crate::cycling::{Cycled, Handed, cycle_heap};
+use crate::cycling::{Cycled, Handed, Uncycled, cycle_heap, printed_cycle};
 use crate::live::live_words;
 use crate::replay::{inputs_at, print_halted};
-use crate::replays::PrintedHalt;
 use crate::shown::print_run;
 use command_io::{CommandRefusal, Files, marks_at, roots_at, write_image_to};
 use command_line::{NextMarks, NextRun};
@@ -102,10 +101,10 @@ fn handed_at<F: Files>(
 fn write_made<F: Files, O: Write>(
     files: &mut F,
     path: &str,
-    made: Result<Cycled, PrintedHalt>,
+    made: Result<Cycled, Uncycled>,
     out: &mut Counted<&mut O>,
 ) -> Result<(), CommandRefusal>
-    requires halted { IfErr made (λ halted. IsHaltedBy halted.shown.items halted.refusal) }
+    requires halted { IfErr made (λ left. IsHaltedBy (shown_by left) (refusal_by left)) }
     requires written { failures_of out.old < 2 ^ 64 - 1 }
     ensures done { OnOk result (IsWrittenNext (F.disk files.old) path.now files.new (O.contents (inner_of out.old).now) (O.contents (inner_of out.new).now) made) }
     ensures cause { IfErr result (RefusesWriting (F.disk files.old) path.now files.old files.new (O.contents (inner_of out.old).now) (O.contents (inner_of out.new).now) made) }
@@ -114,7 +113,10 @@ fn write_made<F: Files, O: Write>(
 {
     match made {
         Ok(cycled) => write_cycled(files, path, &cycled, out),
-        Err(halted) => print_halted(&halted, out),
+        Err(left) => {
+            let (shown, refusal) = printed_cycle(&left);
+            print_halted(shown, refusal, out)
+        }
     }
 }
 

@@ -7,15 +7,15 @@ ghost use Rattle.comp_mutator.specs.Finishes.{IsOfFlip};
 ghost use Rattle.comp_mutator.specs.Mutators.{cells_of, pass_of, setup_of, AreMutatorsOf};
 ghost use Rattle.comp_trace.specs.TraceLines.{IsParsedFor};
 ghost use Rattle.comp_trace.specs.Traces.{lines_of, mutators_of, roots_of};
+ghost use Rattle.commands.specs.Outcomes.{printed_of, refusal_of};
 ghost use Rattle.commands.specs.Races.{IsHaltedRace, IsRacedHeap};
 ghost use Rattle.command_io.specs.Texts.{HasLines};
 
 use crate::by_line::{by_line, first_refused_line};
 use crate::flipping::{finish_all, flip_plan, plan_heap};
-use crate::replays::{PrintedHalt, Replayed, unshown};
-use command_io::CommandRefusal;
+use crate::replays::Replayed;
 use comp_mutator::{Mutator, Space};
-use comp_trace::{Run, Trace, TraceFault, race};
+use comp_trace::{Halt, Run, Stopped, Trace, TraceFault, race};
 use heap_layout::MarkedHeap;
 use page_plan::Plan;
 use std::alloc::Global;
@@ -28,9 +28,8 @@ use std::thread::Threads;
 /// started, and finishes the heap. There are 1 to 64 mutators and at most 4,096 fresh pages. The trace was parsed for
 /// these mutators and for the heap's roots.
 ///
-/// The values are in the order of their lines. If lines are refused, the refusal is that of the least of them, and the
-/// values are those that each mutator showed until it came to its end. Any other refusal is out of memory, and comes
-/// with no value.
+/// The values are in the order of their lines. If lines are refused, the fault is that of the least of them, and the
+/// values are those that each mutator showed until it came to its end. Any other halt is out of memory.
 pub fn race_heap<R: Threads + Wait + Sync>(
     alloc: Global,
     rt: &R,
@@ -38,18 +37,17 @@ pub fn race_heap<R: Threads + Wait + Sync>(
     trace: &Trace,
     mutators: u8,
     fresh: u32,
-) -> Result<Replayed, PrintedHalt>
+) -> Result<Replayed, Halt>
     requires mutators { (1 ≤ mutators) × (mutators ≤ 64) }
     requires fresh { fresh ≤ 4096 }
     requires parsed { (mutators_of trace.now ≡ mutators) × (roots_of trace.now ≡ length heap.roots) }
     requires read { (text : List ℕ) × HasLines mutators (length heap.roots) (lines_of trace.now) text }
     ensures raced { IfOk result (λ run. IsRacedHeap mutators fresh (lines_of trace.now) run.shown.items run.finished heap) }
     ensures flipped { IfOk result (λ run. IsOfFlip mutators fresh run.finished) }
-    ensures halted { IfErr result (λ run. IsHaltedRace mutators fresh (lines_of trace.now) run.shown.items heap run.refusal) }
+    ensures halted { IfErr result (λ halt. IsHaltedRace mutators fresh (lines_of trace.now) (printed_of halt) heap (refusal_of halt)) }
 {
-    let plan = match plan_heap(alloc, rt, heap) {
-        Ok(plan) => plan,
-        Err(refusal) => return Err(unshown(alloc, refusal)),
+    let Ok(plan) = plan_heap(alloc, rt, heap) else {
+        return Err(Halt::Unplanned);
     };
     flipped_and_raced::<Brand, R>(
         alloc,
@@ -71,7 +69,7 @@ fn flipped_and_raced<L: Ledger + Send + Sync, R: Threads + Wait + Sync>(
     trace: &Trace,
     mutators: u8,
     fresh: u32,
-) -> Result<Replayed, PrintedHalt>
+) -> Result<Replayed, Halt>
     requires name { blank.name ≡ L.name }
     requires parts { blank.parts ≡ L.parts }
     requires count { blank.parts ≡ mutators }
@@ -81,11 +79,11 @@ fn flipped_and_raced<L: Ledger + Send + Sync, R: Threads + Wait + Sync>(
     requires read { (text : List ℕ) × HasLines mutators (length plan.value.roots) (lines_of trace.now) text }
     ensures raced { IfOk result (λ run. IsRacedHeap mutators fresh (lines_of trace.now) run.shown.items run.finished plan.value) }
     ensures flipped { IfOk result (λ run. IsOfFlip mutators fresh run.finished) }
-    ensures halted { IfErr result (λ run. IsHaltedRace mutators fresh (lines_of trace.now) run.shown.items plan.value run.refusal) }
+    ensures halted { IfErr result (λ halt. IsHaltedRace mutators fresh (lines_of trace.now) (printed_of halt) plan.value (refusal_of halt)) }
 {
     match flip_plan::<L>(alloc, blank, plan, mutators, fresh) {
         Ok((space, made)) => race_and_finish(alloc, rt, space, made, trace),
-        Err(refusal) => Err(unshown(alloc, refusal)),
+        Err(_) => Err(Halt::Unflipped),
     }
 }
 
@@ -97,7 +95,7 @@ fn race_and_finish<L: Ledger + Send + Sync, R: Threads + Wait + Sync>(
     space: Space<L, Plan>,
     mutators: Vec<Mutator<L>>,
     trace: &Trace,
-) -> Result<Replayed, PrintedHalt>
+) -> Result<Replayed, Halt>
     requires of { AreMutatorsOf space mutators.items }
     requires new { AreNew (steps_of (cells_of space)) (setup_of space).mutators (map pass_of mutators.items) }
     requires whole { (setup_of space).mutators ≡ L.parts }
@@ -107,26 +105,34 @@ fn race_and_finish<L: Ledger + Send + Sync, R: Threads + Wait + Sync>(
     requires read { (text : List ℕ) × HasLines (setup_of space).mutators (length (setup_of space).heap.roots) (lines_of trace.now) text }
     ensures raced { IfOk result (λ run. IsRacedHeap (setup_of space).mutators (setup_of space).fresh (lines_of trace.now) run.shown.items run.finished (setup_of space).heap) }
     ensures flipped { IfOk result (λ run. IsOfFlip (setup_of space).mutators (setup_of space).fresh run.finished) }
-    ensures halted { IfErr result (λ run. IsHaltedRace (setup_of space).mutators (setup_of space).fresh (lines_of trace.now) run.shown.items (setup_of space).heap run.refusal) }
+    ensures halted { IfErr result (λ halt. IsHaltedRace (setup_of space).mutators (setup_of space).fresh (lines_of trace.now) (printed_of halt) (setup_of space).heap (refusal_of halt)) }
 {
     let lines = trace.lines();
     let Ok(room) = Vec::with_capacity(alloc, lines.len()) else {
-        return Err(unshown(alloc, CommandRefusal::Trace(TraceFault::OutOfMemory)));
+        return Err(Halt::Cut(Stopped {
+            shown: Vec::new(alloc),
+            fault: TraceFault::OutOfMemory,
+        }));
     };
     let raced = match race(alloc, rt, trace, &space, mutators) {
         Ok(raced) => raced,
-        Err(not) => return Err(unshown(alloc, CommandRefusal::Trace(not.fault))),
+        Err(not) => {
+            return Err(Halt::Cut(Stopped {
+                shown: room,
+                fault: not.fault,
+            }));
+        }
     };
     let runs: &[Run] = &raced.runs;
     let shown = by_line(lines, runs, room);
     match first_refused_line(runs) {
-        Some(stop) => Err(PrintedHalt {
+        Some(stop) => Err(Halt::Cut(Stopped {
             shown,
-            refusal: CommandRefusal::Trace(TraceFault::Refused(stop.line, stop.refusal)),
-        }),
+            fault: TraceFault::Refused(stop.line, stop.refusal),
+        })),
         None => match finish_all(alloc, space, raced.mutators) {
             Ok(finished) => Ok(Replayed { shown, finished }),
-            Err(refusal) => Err(unshown(alloc, refusal)),
+            Err(_) => Err(Halt::Unfinished(shown)),
         },
     }
 }

@@ -9,16 +9,16 @@ ghost use Rattle.command_io.specs.Images.{IsHeapAt};
 ghost use Rattle.command_io.specs.Texts.{HasLinesAt};
 ghost use Rattle.command_io.specs.declared.refusal.Output.TheVariants as outputs;
 ghost use Rattle.comp_trace.specs.Traces.{lines_of, mutators_of, roots_of};
-ghost use Rattle.commands.specs.Outcomes.{IsHaltedBy, IsOfHalt, IsWritten, RefusesInputs, RefusesOutcome};
+ghost use Rattle.commands.specs.Outcomes.{printed_of, refusal_of, IsHaltedBy, IsOfHalt, IsWritten, RefusesInputs, RefusesOutcome};
 ghost use Rattle.commands.specs.Replays.{dumped_of, IsOfWritingRun, PrintsRun, RefusesReplay, Replays, SomeRun, StopsUnprinted};
 ghost use Rattle.commands.specs.Leaving.{LeavesOutput};
 
-use crate::replays::{PrintedHalt, Replayed, replay_heap};
+use crate::replays::{Replayed, printed, replay_heap};
 use crate::shown::{print_run, send_shown};
 use command_io::{CommandRefusal, Files, heap_at, trace_at, write_dump_to};
 use command_line::TraceRun;
 use comp_audit::Dump;
-use comp_trace::Trace;
+use comp_trace::{Halt, Shown, Trace};
 use heap_layout::{Counted, MarkedHeap};
 use std::alloc::Global;
 use std::io::Write;
@@ -95,11 +95,11 @@ pub(crate) fn write_outcome<F: Files, O: Write>(
     alloc: Global,
     files: &mut F,
     asked: TraceRun<'_>,
-    outcome: Result<Replayed, PrintedHalt>,
+    outcome: Result<Replayed, Halt>,
     out: &mut Counted<&mut O>,
 ) -> Result<(), CommandRefusal>
     requires flipped { IfOk outcome (λ run. IsOfFlip asked.mutators asked.fresh run.finished) }
-    requires halted { IfErr outcome (λ run. IsHaltedBy run.shown.items run.refusal) }
+    requires halted { IfErr outcome (λ halt. IsHaltedBy (printed_of halt) (refusal_of halt)) }
     requires written { failures_of out.old < 2 ^ 64 - 1 }
     ensures done { OnOk result (IsWritten (F.disk files.old) asked.entry files.new (O.contents (inner_of out.old).now) (O.contents (inner_of out.new).now) outcome) }
     ensures cause { IfErr result (RefusesOutcome (F.disk files.old) asked.entry files.old files.new (O.contents (inner_of out.old).now) (O.contents (inner_of out.new).now) outcome) }
@@ -108,23 +108,27 @@ pub(crate) fn write_outcome<F: Files, O: Write>(
 {
     match outcome {
         Ok(run) => write_run(alloc, files, asked, &run, out),
-        Err(halted) => print_halted(&halted, out),
+        Err(halt) => {
+            let (shown, refusal) = printed(&halt);
+            print_halted(shown, refusal, out)
+        }
     }
 }
 
 /// Prints what a halted run had shown, flushes the output, and answers the refusal of the run.
 pub fn print_halted<O: Write>(
-    halted: &PrintedHalt,
+    shown: &[Shown],
+    refusal: CommandRefusal,
     out: &mut Counted<&mut O>,
 ) -> Result<(), CommandRefusal>
-    requires halted { IsHaltedBy halted.now.shown.items halted.now.refusal }
+    requires halted { IsHaltedBy shown.now refusal }
     requires written { failures_of out.old < 2 ^ 64 - 1 }
     ensures never { OnOk result ⊥ }
-    ensures cause { IfErr result (IsOfHalt (O.contents (inner_of out.old).now) (O.contents (inner_of out.new).now) halted.now) }
+    ensures cause { IfErr result (IsOfHalt (O.contents (inner_of out.old).now) (O.contents (inner_of out.new).now) shown.now refusal) }
     ensures output { LeavesOutput StopsUnprinted O.contents out.old out.new result }
 {
-    send_shown(&halted.shown, out)?;
-    Err(halted.refusal)
+    send_shown(shown, out)?;
+    Err(refusal)
 }
 
 // Writes the dump of a run, and prints the values that it showed, and the live words.
@@ -143,7 +147,7 @@ fn write_run<F: Files, O: Write>(
     ensures uncreated { RefusedUncreated (F.disk files.old) files.old files.new result }
     ensures output { LeavesOutput StopsUnprinted O.contents out.old out.new result }
 {
-    let dump = Dump::of(alloc, &run.finished, u32::from(asked.mutators), asked.fresh)?;
+    let dump = Dump::of(alloc, &run.finished, asked.mutators, asked.fresh)?;
     write_dump_to(files, asked.dump, &dump)?;
     print_run(&run.shown, dump.live_words(), out)
 }

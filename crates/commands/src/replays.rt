@@ -1,10 +1,8 @@
 //! Heaps over which one thread runs a trace.
-ghost use Rattle.std.specs.Prelude.{◌≡◌, ◌≤◌, ℕ, List, [], length, IfOk, IfErr};
-ghost use Rattle.heap_layout.specs.Heap.{Heap};
+ghost use Rattle.std.specs.Prelude.{◌≡◌, ◌≤◌, length, IfOk, IfErr};
 ghost use Rattle.comp_mutator.specs.Finishes.{IsOfFlip};
-ghost use Rattle.comp_trace.specs.CycleRuns.{IsCycleHaltOf};
-ghost use Rattle.comp_trace.specs.declared.text.line.Line.{Line};
 ghost use Rattle.comp_trace.specs.Traces.{lines_of, mutators_of, roots_of};
+ghost use Rattle.commands.specs.Outcomes.{printed_of, refusal_of};
 ghost use Rattle.commands.specs.Replays.{IsPrintedHalt, IsReplayedHeap};
 
 use command_io::CommandRefusal;
@@ -21,37 +19,17 @@ pub struct Replayed {
     pub finished: Finished,
 }
 
-/// Why a run did not come to its end, and what it had shown until then.
-#[derive(Drop)]
-pub struct PrintedHalt {
-    pub shown: Vec<Shown>,
-    pub refusal: CommandRefusal,
-}
-
-/// A run that was refused before it showed anything.
-pub fn unshown(alloc: Global, refusal: CommandRefusal) -> PrintedHalt
-    ensures none { result.shown.items ≡ [] }
-    ensures refusal { result.refusal ≡ refusal }
-{
-    PrintedHalt {
-        shown: Vec::new(alloc),
-        refusal,
-    }
-}
-
-/// What is printed of a run that was halted, and its refusal. Only a line that was refused comes with values: those of
-/// the lines before it.
-pub fn printed_halt(alloc: Global, halt: Halt) -> PrintedHalt
-    ensures { (mutators fresh : ℕ) (lines : List Line) (heap : Heap) → IsCycleHaltOf mutators fresh lines heap halt → IsPrintedHalt mutators fresh lines result.shown.items heap result.refusal }
+/// The values that are printed of a halted run, and its refusal. Only a line that was refused comes with values: those
+/// of the lines before it.
+pub fn printed(halt: &Halt) -> (&[Shown], CommandRefusal)
+    ensures shown { result.0.now ≡ printed_of halt.now }
+    ensures refusal { result.1 ≡ refusal_of halt.now }
 {
     match halt {
-        Halt::Unplanned => unshown(alloc, CommandRefusal::OutOfMemory),
-        Halt::Cut(stopped) => PrintedHalt {
-            shown: stopped.shown,
-            refusal: CommandRefusal::Trace(stopped.fault),
-        },
-        Halt::Unflipped | Halt::Unfinished(_) => unshown(
-            alloc,
+        Halt::Unplanned => (&[], CommandRefusal::OutOfMemory),
+        Halt::Cut(stopped) => (&stopped.shown, CommandRefusal::Trace(stopped.fault)),
+        Halt::Unflipped | Halt::Unfinished(_) => (
+            &[],
             CommandRefusal::Mutator(Refusal::OutOfMemory),
         ),
     }
@@ -60,8 +38,7 @@ pub fn printed_halt(alloc: Global, halt: Halt) -> PrintedHalt
 /// Flips a heap, runs a trace over it by one thread, and finishes it. There are 1 to 64 mutators and at most 4,096
 /// fresh pages. The trace was parsed for these mutators and for the heap's roots.
 ///
-/// If a line is refused, the values are those of the lines before it. Any other refusal is out of memory, and comes
-/// with no value.
+/// If a line is refused, the values are those of the lines before it. Any other halt is out of memory.
 #[tactic(auto, using(crate::proofs::DumpsAfter::replayed_heap))]
 pub fn replay_heap(
     alloc: Global,
@@ -70,19 +47,19 @@ pub fn replay_heap(
     trace: &Trace,
     mutators: u8,
     fresh: u32,
-) -> Result<Replayed, PrintedHalt>
+) -> Result<Replayed, Halt>
     requires mutators { (1 ≤ mutators) × (mutators ≤ 64) }
     requires fresh { fresh ≤ 4096 }
     requires parsed { (mutators_of trace.now ≡ mutators) × (roots_of trace.now ≡ length heap.roots) }
     ensures replayed { IfOk result (λ run. IsReplayedHeap mutators fresh (lines_of trace.now) run.shown.items run.finished heap) }
     ensures flipped { IfOk result (λ run. IsOfFlip mutators fresh run.finished) }
-    ensures halted { IfErr result (λ run. IsPrintedHalt mutators fresh (lines_of trace.now) run.shown.items heap run.refusal) }
+    ensures halted { IfErr result (λ halt. IsPrintedHalt mutators fresh (lines_of trace.now) (printed_of halt) heap (refusal_of halt)) }
 {
     match run_cycle(alloc, rt, heap, trace, mutators, fresh) {
         Ok(ran) => Ok(Replayed {
             shown: ran.shown,
             finished: ran.finished,
         }),
-        Err(halt) => Err(printed_halt(alloc, halt)),
+        Err(halt) => Err(halt),
     }
 }

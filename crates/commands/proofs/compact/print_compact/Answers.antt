@@ -1,4 +1,3 @@
-use Rattle.std.proofs.Common.{arith}
 use Rattle.std.proofs.lemmas.Result.{err_from_is_err_and, on_ok_weaker}
 use Rattle.heap_layout.specs.Counted.{inner_of, failures_of}
 use Rattle.comp_dump.specs.DumpEncoding.{dump_bytes}
@@ -31,7 +30,7 @@ returns-in_err-write_dump_to-clause-cause g c =
     let made = c.in_ok-made.ensures in
     let parts : IsDumpOf c.args.workers c.in_ok-finished.finished c.in_ok-made.made = record {
       edition = made.edition;
-      mutators = omega (arith, made.mutators, c.from.ensures);
+      mutators = made.mutators;
       fresh = made.fresh;
       roots = made.roots;
       pages = made.pages;
@@ -57,7 +56,7 @@ returns-clause-compacted g c =
     let made = c.in_ok-made.ensures in
     let parts : IsDumpOf c.args.workers c.in_ok-finished.finished c.in_ok-made.made = record {
       edition = made.edition;
-      mutators = omega (arith, made.mutators, c.from.ensures);
+      mutators = made.mutators;
       fresh = made.fresh;
       roots = made.roots;
       pages = made.pages;
@@ -74,7 +73,7 @@ returns-clause-cause g c =
     let made = c.in_ok-made.ensures in
     let parts : IsDumpOf c.args.workers c.in_ok-finished.finished c.in_ok-made.made = record {
       edition = made.edition;
-      mutators = omega (arith, made.mutators, c.from.ensures);
+      mutators = made.mutators;
       fresh = made.fresh;
       roots = made.roots;
       pages = made.pages;

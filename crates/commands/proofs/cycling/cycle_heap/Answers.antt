@@ -1,9 +1,11 @@
-use Rattle.std.proofs.Common.{ℕ, List, length, subst, sym}
+use Rattle.std.proofs.Common.{ℕ, List, [], length, refl, subst, sym}
 use Rattle.heap_layout.specs.Heap.{Heap}
 use Rattle.comp_trace.specs.Replays.{Hold}
 use Rattle.comp_trace.specs.RootsNamed.{words_named}
 use Rattle.comp_trace.specs.Traces.{lines_of}
 use Rattle.commands.specs.Cycled.{given_by, IsGivenWithin, IsNextHeap, IsUnmarked}
+use Rattle.commands.specs.Outcomes.{printed_of, refusal_of}
+use Rattle.commands.proofs.ReplayRuns.{printed_halt}
 use Rattle.commands.proofs.CycledHeaps.{cycled, halted_run, not_followed}
 use Rattle.commands.proofs.cycling.cycle_heap.Goals as goal
 
@@ -28,11 +30,10 @@ returns-in-Err-make_next-clause-halted g c =
     let ran = c.in-Ok.ran in
     let refusal = c.in-Err-make_next.refusal in
     let given = given_by c.args.handed in
-    let h = not_followed c.args.mutators c.args.fresh (lines_of c.args.trace.now) given c.args.heap ran.shown.items ran.finished ran.registers.items c.in-Ok.ensures.registers
-    c.unshown.result.shown.items c.unshown.ensures.none refusal
+    not_followed c.args.mutators c.args.fresh (lines_of c.args.trace.now) given c.args.heap ran.shown.items ran.finished ran.registers.items c.in-Ok.ensures.registers
+    [] refl refusal
     (subst (λ (h : Heap). (now : ℕ → List ℕ) → Hold (length ran.registers.items) ran.registers.items now → IsUnmarked h ran.finished given.marks (words_named now given.roots) refusal) c.in-Ok.ensures.plan
-    (subst (λ (l : List (List ℕ)). (now : ℕ → List ℕ) → Hold (length l) l now → IsUnmarked ran.plan.value ran.finished given.marks (words_named now given.roots) refusal) c.deref.ensures.value c.in-Err-make_next.ensures.refused)) in
-    rw c.unshown.ensures.refusal h
+    (subst (λ (l : List (List ℕ)). (now : ℕ → List ℕ) → Hold (length l) l now → IsUnmarked ran.plan.value ran.finished given.marks (words_named now given.roots) refusal) c.deref.ensures.value c.in-Err-make_next.ensures.refused))
 
 -- Or the run was halted.
 pub returns-in-Err-clause-halted : goal.returns-in-Err-clause-halted
@@ -40,5 +41,5 @@ returns-in-Err-clause-halted g c =
     let m = c.args.mutators in
     let fresh = c.args.fresh in
     let lines = lines_of c.args.trace.now in
-    let printed = c.printed_halt.result in
-    halted_run m fresh lines (given_by c.args.handed) c.args.heap printed.shown.items printed.refusal (c.printed_halt.ensures m fresh lines c.args.heap c.in-Err.ensures.halted)
+    let halt = c.in-Err.halt in
+    halted_run m fresh lines (given_by c.args.handed) c.args.heap (printed_of halt) (refusal_of halt) (printed_halt m fresh lines c.args.heap halt c.in-Err.ensures.halted)

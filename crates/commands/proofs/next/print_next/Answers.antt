@@ -5,7 +5,7 @@ use Rattle.comp_trace.specs.Traces.{lines_of}
 use Rattle.command_io.proofs.Outcomes.{unmade}
 use Rattle.commands.proofs.ReplayRuns.{inputs_uncounted}
 use Rattle.commands.specs.Nexts.{MakesNext, Nexts, RefusesNext, RefusesWriting}
-use Rattle.commands.specs.Cycled.{given_by}
+use Rattle.commands.specs.Cycled.{given_by, refusal_by, shown_by}
 use Rattle.commands.proofs.CycledHeaps.{halted_cycle}
 use Rattle.commands.proofs.NextRuns.{err_then, made_err, made_ok, given_uncounted, ok_then}
 use Rattle.commands.proofs.Leavings.{untouched_run}
@@ -51,7 +51,7 @@ pub write_made-requires-clause-halted : goal.write_made-requires-clause-halted
 write_made-requires-clause-halted g c =
     let inputs = c.in_ok-inputs.inputs in
     IfErr-weaker c.cycle_heap-made.result _ _
-    (λ halted h. halted_cycle c.args.asked.mutators c.args.asked.fresh (lines_of inputs.trace) (given_by c.in_ok-handed.handed) inputs.heap halted.shown.items halted.refusal h) c.cycle_heap-made.ensures.halted
+    (λ left h. halted_cycle c.args.asked.mutators c.args.asked.fresh (lines_of inputs.trace) (given_by c.in_ok-handed.handed) inputs.heap (shown_by left) (refusal_by left) h) c.cycle_heap-made.ensures.halted
 
 pub returns-clause-made : goal.returns-clause-made
 returns-clause-made g c =

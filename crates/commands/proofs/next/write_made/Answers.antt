@@ -1,9 +1,9 @@
-use Rattle.std.proofs.Common.{◌≡◌, IfErr, OnOk, Result, refl, subst, sym}
+use Rattle.std.proofs.Common.{IfErr, OnOk, Result, subst, sym}
 use Rattle.heap_layout.specs.Counted.{inner_of}
-use Rattle.commands.specs.declared.replays.PrintedHalt.{PrintedHalt}
-use Rattle.commands.proofs.ReplayRuns.{err_with, ok_both, unmade_anyway}
+use Rattle.commands.proofs.ReplayRuns.{halted_unwritten, ok_both, unmade_anyway}
 use Rattle.commands.specs.Nexts.{IsWrittenNext, RefusesWriting}
 use Rattle.commands.specs.declared.cycling.Cycled.{Cycled}
+use Rattle.commands.specs.declared.cycling.Uncycled.{Uncycled}
 use Rattle.commands.proofs.next.write_made.Goals as goal
 
 -- The cycle came to its end.
@@ -11,27 +11,31 @@ pub returns-in-Ok-clause-done : goal.returns-in-Ok-clause-done
 returns-in-Ok-clause-done g c =
     let path = c.args.path.now in
     let w = c.write_cycled in
-    subst (λ (made : Result Cycled PrintedHalt). OnOk w.result (IsWrittenNext (g.F.Files.disk c.args.files.now) path w.new.files (g.O.Write.contents (inner_of c.args.out.now).now) (g.O.Write.contents (inner_of w.new.out).now) made)) (sym c.in-Ok.is)
+    subst (λ (made : Result Cycled Uncycled). OnOk w.result (IsWrittenNext (g.F.Files.disk c.args.files.now) path w.new.files (g.O.Write.contents (inner_of c.args.out.now).now) (g.O.Write.contents (inner_of w.new.out).now) made)) (sym c.in-Ok.is)
     (ok_both w.result _ _ w.ensures.written w.ensures.printed)
 
 pub returns-in-Ok-clause-cause : goal.returns-in-Ok-clause-cause
 returns-in-Ok-clause-cause g c =
     let path = c.args.path.now in
     let w = c.write_cycled in
-    subst (λ (made : Result Cycled PrintedHalt). IfErr w.result (RefusesWriting (g.F.Files.disk c.args.files.now) path c.args.files.now w.new.files (g.O.Write.contents (inner_of c.args.out.now).now) (g.O.Write.contents (inner_of w.new.out).now) made)) (sym c.in-Ok.is) w.ensures.cause
+    subst (λ (made : Result Cycled Uncycled). IfErr w.result (RefusesWriting (g.F.Files.disk c.args.files.now) path c.args.files.now w.new.files (g.O.Write.contents (inner_of c.args.out.now).now) (g.O.Write.contents (inner_of w.new.out).now) made)) (sym c.in-Ok.is) w.ensures.cause
 
 -- It was halted.
 pub returns-in-Err-clause-done : goal.returns-in-Err-clause-done
 returns-in-Err-clause-done g c =
     let path = c.args.path.now in
     let p = c.print_halted in
-    subst (λ (made : Result Cycled PrintedHalt). OnOk p.result (IsWrittenNext (g.F.Files.disk c.args.files.now) path c.args.files.now (g.O.Write.contents (inner_of c.args.out.now).now) (g.O.Write.contents (inner_of p.new.out).now) made)) (sym c.in-Err.is) p.ensures.never
+    subst (λ (made : Result Cycled Uncycled). OnOk p.result (IsWrittenNext (g.F.Files.disk c.args.files.now) path c.args.files.now (g.O.Write.contents (inner_of c.args.out.now).now) (g.O.Write.contents (inner_of p.new.out).now) made)) (sym c.in-Err.is) p.ensures.never
 
 pub returns-in-Err-clause-cause : goal.returns-in-Err-clause-cause
 returns-in-Err-clause-cause g c =
     let path = c.args.path.now in
     let p = c.print_halted in
-    subst (λ (made : Result Cycled PrintedHalt). IfErr p.result (RefusesWriting (g.F.Files.disk c.args.files.now) path c.args.files.now c.args.files.now (g.O.Write.contents (inner_of c.args.out.now).now) (g.O.Write.contents (inner_of p.new.out).now) made)) (sym c.in-Err.is) (err_with p.result (c.args.files.now ≡ c.args.files.now) _ refl p.ensures.cause)
+    let said = c.printed_cycle-refusal.ensures in
+    let before = g.O.Write.contents (inner_of c.args.out.now).now in
+    let after = g.O.Write.contents (inner_of p.new.out).now in
+    subst (λ (made : Result Cycled Uncycled). IfErr p.result (RefusesWriting (g.F.Files.disk c.args.files.now) path c.args.files.now c.args.files.now before after made)) (sym c.in-Err.is)
+    (halted_unwritten p.result c.args.files.now before after _ _ _ _ said.shown said.refusal p.ensures.cause)
 
 pub returns-in-Err-clause-unmade : goal.returns-in-Err-clause-unmade
 returns-in-Err-clause-unmade g c = unmade_anyway (g.F.Files.disk c.args.files.now) c.args.files.now c.print_halted.result

@@ -3,6 +3,7 @@ use Rattle.std.proofs.lemmas.Result.{err_from_is_err_and, IfErr-weaker}
 use Rattle.heap_layout.specs.Counted.{inner_of, failures_of}
 use Rattle.comp_trace.specs.Traces.{lines_of}
 use Rattle.command_io.proofs.Outcomes.{uncreated}
+use Rattle.commands.specs.Outcomes.{printed_of, refusal_of}
 use Rattle.commands.specs.Races.{racing}
 use Rattle.commands.proofs.RaceRuns.{of_outcome_err, of_outcome_ok, race_halted_by}
 use Rattle.commands.proofs.ReplayRuns.{inputs_uncounted}
@@ -37,7 +38,7 @@ race_heap-ran-requires-clause-read g c κs within =
 pub write_outcome-requires-clause-halted : goal.write_outcome-requires-clause-halted
 write_outcome-requires-clause-halted g c =
     let inputs = c.in_ok-inputs.inputs in
-    IfErr-weaker c.race_heap-ran.result _ _ (λ run h. race_halted_by c.args.asked.mutators c.args.asked.fresh (lines_of inputs.trace) inputs.heap run.shown.items run.refusal h)
+    IfErr-weaker c.race_heap-ran.result _ _ (λ halt h. race_halted_by c.args.asked.mutators c.args.asked.fresh (lines_of inputs.trace) inputs.heap (printed_of halt) (refusal_of halt) h)
     c.race_heap-ran.ensures.halted
 
 -- The run was written and printed, or it was not, or it was halted.

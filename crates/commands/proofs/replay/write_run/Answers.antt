@@ -1,4 +1,4 @@
-use Rattle.std.proofs.Common.{ℕ, List, OnOk, arith, subst, ◌∙◌}
+use Rattle.std.proofs.Common.{ℕ, List, OnOk, subst, ◌∙◌}
 use Rattle.std.proofs.lemmas.Result.{err_from_is_err_and}
 use Rattle.heap_layout.specs.Counted.{inner_of, failures_of}
 use Rattle.comp_mutator.specs.Finishes.{live_of}
@@ -23,7 +23,7 @@ returns-in_err-write_dump_to-clause-cause g c =
     let made = c.in_ok-dump.ensures in
     let disk = g.F.Files.disk c.args.files.now in
     let dump = c.in_ok-dump.dump in
-    let same = dumped_same asked.mutators asked.fresh c.args.run.now.finished dump made.edition (omega (arith, made.mutators, c.from.ensures)) made.fresh made.roots made.pages made.builds made.total in
+    let same = dumped_same asked.mutators asked.fresh c.args.run.now.finished dump made.edition made.mutators made.fresh made.roots made.pages made.builds made.total in
     rw (p.1, p.2) (writing_of disk asked.dump.now _ c.write_dump_to.new.files _
     (subst (λ (d : Dumped). IsOfDumping disk asked.dump.now (dump_bytes d) c.in_err-write_dump_to.field-0.0) same c.in_err-write_dump_to.ensures.cause))
 
@@ -44,7 +44,7 @@ returns-clause-written g c =
     let asked = c.args.asked in
     let made = c.in_ok-dump.ensures in
     let disk = g.F.Files.disk c.args.files.now in
-    let same = dumped_same asked.mutators asked.fresh c.args.run.now.finished c.in_ok-dump.dump made.edition (omega (arith, made.mutators, c.from.ensures)) made.fresh made.roots made.pages made.builds made.total in
+    let same = dumped_same asked.mutators asked.fresh c.args.run.now.finished c.in_ok-dump.dump made.edition made.mutators made.fresh made.roots made.pages made.builds made.total in
     ok_anyway c.print_run.result _ (subst (λ (d : Dumped). WritesWhole disk outputs.Dump asked.dump.now (dump_bytes d) c.write_dump_to.new.files) same c.in_ok-write_dump_to.ensures.written)
 
 pub returns-clause-printed : goal.returns-clause-printed
@@ -60,7 +60,7 @@ returns-clause-cause g c =
     let asked = c.args.asked in
     let made = c.in_ok-dump.ensures in
     let disk = g.F.Files.disk c.args.files.now in
-    let same = dumped_same asked.mutators asked.fresh c.args.run.now.finished c.in_ok-dump.dump made.edition (omega (arith, made.mutators, c.from.ensures)) made.fresh made.roots made.pages made.builds made.total in
+    let same = dumped_same asked.mutators asked.fresh c.args.run.now.finished c.in_ok-dump.dump made.edition made.mutators made.fresh made.roots made.pages made.builds made.total in
     unprinted_run disk asked.dump.now _ c.write_dump_to.new.files c.print_run.result c.print_run.ensures.cause
     (subst (λ (d : Dumped). WritesWhole disk outputs.Dump asked.dump.now (dump_bytes d) c.write_dump_to.new.files) same c.in_ok-write_dump_to.ensures.written)
 
