@@ -55,8 +55,8 @@ IsOfCreating output bars (CannotCreate named) = (named ≡ output) × bars
 IsOfCreating output bars OutOfMemory = Unit {0}
 IsOfCreating output bars _ = ⊥
 
--- some writer that the path gives took all these bytes, no call of it failed, and it was flushed at the end; what it took
--- was kept at the path, and these are the files since
+-- some writer that the path gives took all these bytes, no call of it failed, and it was flushed at the end; what it
+-- took was kept at the path, and these are the files since
 pub record WritesWhole {F W : Type 0} (disk : Disk F W) (output : Output) (path bytes : List ℕ) (to : F) : Type 0 where
   pub made : W
   pub given : disk.makes output path made

@@ -63,7 +63,8 @@ impl fmt::Display for Output {
 /// Why the program did not do what it was asked.
 #[derive(Clone, Copy, Debug, PartialEq, Eq, Error)]
 pub enum CommandRefusal {
-    /// The image is refused; or no next heap follows with the marks or the roots; or the new image was not written whole.
+    /// The image is refused; or no next heap follows with the marks or the roots; or the new image was not written
+    /// whole.
     #[error(transparent)]
     Layout(LayoutFault),
     /// A call of a mutator, the flip or the finish is refused. In every command the cause is out of memory.

@@ -29,8 +29,8 @@ pub fn roots_at<F: Files>(
     roots_in(alloc, &mut reader, mutators)
 }
 
-// Reads roots to the end of the reader, for this number of mutators. Refuses if a call of the reader fails, if a line is
-// no root, with the number of the first such line, and if memory runs out.
+// Reads roots to the end of the reader, for this number of mutators. Refuses if a call of the reader fails, if a line
+// is no root, with the number of the first such line, and if memory runs out.
 fn roots_in<S: Read>(
     alloc: Global,
     r: &mut Counted<S>,

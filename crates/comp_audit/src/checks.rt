@@ -38,8 +38,8 @@ pub use setting::Setting;
 use std::alloc::Global;
 pub use totals::right_total;
 
-/// Checks whether a compaction by the plan can have left the dump. If there are faults, answers the first of them in the
-/// order of the nine checks. It may stop early if memory runs out.
+/// Checks whether a compaction by the plan can have left the dump. If there are faults, answers the first of them in
+/// the order of the nine checks. It may stop early if memory runs out.
 pub fn check(alloc: Global, setting: Setting<'_>) -> Result<(), CheckEnd>
     ensures { Reports (faults setting.entry.plan.now setting.entry.dump.now) result }
 {

@@ -22,9 +22,9 @@ pub fn lawful_is_yes()
     ensures finished { FinishedIsYes }
 {}
 
-/// If the heap is accepted, the dump is in range and the whole audit says yes, then the words of the compacted pages are
-/// what their journals make of the slid words, page by page, with zeros after the last slid word. If these pages have no
-/// entry, their words are the slid words, with zeros after them.
+/// If the heap is accepted, the dump is in range and the whole audit says yes, then the words of the compacted pages
+/// are what their journals make of the slid words, page by page, with zeros after the last slid word. If these pages
+/// have no entry, their words are the slid words, with zeros after them.
 pub fn whole_is_slid()
     ensures replayed { WholeIsReplayed }
     ensures unwritten { UnwrittenIsSlid }

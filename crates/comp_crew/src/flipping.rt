@@ -65,8 +65,8 @@ fn flip_good(
     }
 }
 
-/// Flips a heap, and makes its crew of `n` members, which have done nothing, and `fresh_pages` fresh pages. From then on
-/// all references and weak words lead into to-space, and the first touch of a page builds it. No page is built yet.
+/// Flips a heap, and makes its crew of `n` members, which have done nothing, and `fresh_pages` fresh pages. From then
+/// on all references and weak words lead into to-space, and the first touch of a page builds it. No page is built yet.
 ///
 /// `n` must be 1 to 64, and `fresh_pages` at most as many as the edition of the heap allows; other counts are refused
 /// first (`BadCounts`). The only other refusal is out of memory. The caller gives each crew a name of its own, by which

@@ -1,5 +1,5 @@
--- The words and roots that a collector left which stops the world, so that it has neither pages nor journals. All numbers
--- are little-endian; nothing is padded.
+-- The words and roots that a collector left which stops the world, so that it has neither pages nor journals. All
+-- numbers are little-endian; nothing is padded.
 --     magic    8 bytes, `COMPWORD`
 --     version  4 bytes: 1 in edition one, 2 in edition two, 3 in edition three
 --     counts   4 bytes each: words, roots

@@ -137,8 +137,8 @@ fn read_page_count<R: Read>(
     read_four(r, fresh, edition.max_pages())
 }
 
-/// Reads the number of roots: at most as many as a heap of the edition may have. Fewer than `u64::MAX` calls of the reader
-/// must have failed before.
+/// Reads the number of roots: at most as many as a heap of the edition may have. Fewer than `u64::MAX` calls of the
+/// reader must have failed before.
 #[tactic(auto, using(heap_layout::proofs::Bounds::roots_most))]
 pub fn read_root_count<R: Read>(r: &mut Counted<R>, edition: Edition) -> Result<u32, DumpFault>
     requires { failures_of r.old < 2 ^ 64 - 1 }
@@ -175,8 +175,8 @@ fn read_head<R: Read>(r: &mut Counted<R>, large: bool) -> Result<Head, DumpFault
     })
 }
 
-/// Reads `count` numbers of 8 bytes. Room for them grows as they come. After an Err those that were read are lost. Fewer
-/// than `u64::MAX` calls of the reader must have failed before.
+/// Reads `count` numbers of 8 bytes. Room for them grows as they come. After an Err those that were read are lost.
+/// Fewer than `u64::MAX` calls of the reader must have failed before.
 pub fn read_list<R: Read>(
     alloc: Global,
     r: &mut Counted<R>,

@@ -5,8 +5,8 @@ use Rattle.heap_layout.specs.declared.edition.Edition.{Edition}
 use Rattle.heap_layout.specs.Limits.{most_fresh_pages}
 use Rattle.comp_hand.specs.Hands.{AreBadCounts}
 
--- A flip of n mutators and these fresh pages that answers `bad` exactly for bad counts, and another fault if memory runs
--- out.
+-- A flip of n mutators and these fresh pages that answers `bad` exactly for bad counts, and another fault if memory
+-- runs out.
 module _ (edition : Edition) (n fresh : ℕ) {E : Type 0} (bad : E) where
   module _ {T : Type 0} where
     other_counts : (r : Result T E) → (AreBadCounts edition n fresh → ⊥) → (r ≡ Err bad → ⊥) → IsErrOf r bad ↔ AreBadCounts edition n fresh

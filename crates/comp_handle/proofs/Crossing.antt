@@ -1,5 +1,5 @@
--- What a handle keeps may go to another thread. Of most types the check finds that itself; the table in which pages lie at
--- the end has rows of places and rights to free them, which any thread may use.
+-- What a handle keeps may go to another thread. Of most types the check finds that itself; the table in which pages lie
+-- at the end has rows of places and rights to free them, which any thread may use.
 use Rattle.std.specs.Prelude.{Bool, true, false, List, [], ◌∷◌}
 use mir.Syntax.{Ty, ty_array}
 use mir.Raw.{raw}

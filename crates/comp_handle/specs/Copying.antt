@@ -11,8 +11,8 @@ use Rattle.comp_handle.specs.declared.answer.Answer.{Answer}
 use Rattle.comp_handle.specs.declared.kept.Kept.{Kept}
 use Rattle.comp_handle.specs.declared.kept.Kept.TheVariants as kept
 
--- the whole list stands at the front of the buffer, and the answer has its length; or the buffer is shorter and stays as
--- it was, and the answer has the length that it lacks
+-- the whole list stands at the front of the buffer, and the answer has its length; or the buffer is shorter and stays
+-- as it was, and the answer has the length that it lacks
 abbrev pub CopiesAll : List ℕ → List ℕ → List ℕ → Answer → Type 0
 CopiesAll list before after a =
     ((length list ≤ length before) × (after ≡ list ++ drop (length list) before) × (a ≡ done (length list)))

@@ -47,7 +47,8 @@ abbrev pub Splits : Kept → Kept → Result Member Answer → Type 0
 Splits k l (Ok m) = (before : _) × (after : _) × (k ≡ kept.Crew before) × (l ≡ kept.Crew after) × (before.items ≡ after.items ++ m ∷ [])
 Splits k l (Err a) = (((members : _) × (k ≡ kept.Crew members) × (members.items ≡ []) × ((left : _) × (l ≡ kept.Crew left) × (left.items ≡ [])) × (a ≡ bare 18 0)) ⊎ ((l ≡ k) × IsNoCrew k × (a ≡ wrong_handle)))
 
--- a member went from a crew to a handle of its own; or neither handle has changed but for an empty list, and the answer says why
+-- a member went from a crew to a handle of its own; or neither handle has changed but for an empty list, and the answer
+-- says why
 abbrev pub Takes : Option Kept → Option Kept → Option Kept → Option Kept → Answer → Type 0
 Takes crew left old new a =
     ((k : Kept) × (l : Kept) × (m : Member) × (crew ≡ Some k) × (left ≡ Some l) × Splits k l (Ok m) × (new ≡ Some (kept.Mutator m)) × (a ≡ done (number_of_member m)))

@@ -36,8 +36,8 @@ ByEdition n Done old new a =
 abbrev pub MakesHeap : ℕ → List ℕ → List ℕ → List ℕ → Option Kept → Option Kept → Answer → Type 0
 MakesHeap n words marks roots old new a = ByEdition n (λ edition. Accepts (given edition words marks roots) old new a) old new a
 
--- The handle keeps the heap of these words and roots in which exactly the objects are marked that the roots reach; it is
--- accepted. Or the handle stays as it is, and the answer is why a heap with these marks is refused.
+-- The handle keeps the heap of these words and roots in which exactly the objects are marked that the roots reach; it
+-- is accepted. Or the handle stays as it is, and the answer is why a heap with these marks is refused.
 abbrev pub AcceptsReached : Edition → List ℕ → List ℕ → Option Kept → Option Kept → Answer → Type 0
 AcceptsReached edition words roots old new a =
     ((marks : List ℕ) × AreReachable edition words roots marks × (a ≡ done 0) × (new ≡ Some (kept.Heap (given edition words marks roots))) × IsAccepted (given edition words marks roots))

@@ -15,8 +15,8 @@ use Rattle.comp_handle.specs.Keeping.{IsNoMutator}
 use Rattle.comp_handle.specs.declared.answer.Answer.{Answer}
 use Rattle.comp_handle.specs.declared.kept.Kept.{Kept}
 
--- a copy of a page that exists: its words and its journal as the mutator has seen them after the call. The page may have
--- been built by the call, also by one that is refused
+-- a copy of a page that exists: its words and its journal as the mutator has seen them after the call. The page may
+-- have been built by the call, also by one that is refused
 pub record SeesPage (p : ℕ) (m n : Member) (r : Result PageCopy Refusal) : Type 0 where
   pub crew : crew_of n ≡ crew_of m
   pub made : made_of n ≡ made_of m
@@ -27,8 +27,8 @@ pub record SeesPage (p : ℕ) (m n : Member) (r : Result PageCopy Refusal) : Typ
   pub alone : IsNeverBusyAlone m r
   pub refused : IfErr r (CopyRefused p (pass_of m) (pass_of n))
 
--- the buffer has the words of the copy, and the answer how many entries its journal has; or the buffer is as it was, and
--- the answer says why
+-- the buffer has the words of the copy, and the answer how many entries its journal has; or the buffer is as it was,
+-- and the answer says why
 abbrev pub IsCopyAnswer : Result PageCopy Refusal → List ℕ → List ℕ → Answer → Type 0
 IsCopyAnswer (Ok copy) before after a = (after ≡ copy.words) × (a ≡ done (length copy.journal.items))
 IsCopyAnswer (Err refusal) before after a = (after ≡ before) × (a ≡ of_refusal refusal)

@@ -60,8 +60,8 @@ fn flip_plan(
     }
 }
 
-/// Flips the heap of the plan that a handle keeps, for a new crew of this name, of `n` members, with `fresh_pages` fresh
-/// pages. The handle of the crew keeps all members then. The handle of the plan stays as it is.
+/// Flips the heap of the plan that a handle keeps, for a new crew of this name, of `n` members, with `fresh_pages`
+/// fresh pages. The handle of the crew keeps all members then. The handle of the plan stays as it is.
 pub fn flip_crew(
     alloc: Global,
     plan: &mut Handle,

@@ -89,8 +89,8 @@ fn copy_image(alloc: Global, heap: &MarkedHeap, out: &mut [u8]) -> Answer
     }
 }
 
-/// Copies the image of the heap that a handle keeps. The answer has the number of its bytes. If the buffer is too short,
-/// or there is no memory, the buffer stays as it was.
+/// Copies the image of the heap that a handle keeps. The answer has the number of its bytes. If the buffer is too
+/// short, or there is no memory, the buffer stays as it was.
 pub fn write_image(alloc: Global, h: &mut Handle, out: &mut [u8]) -> Answer
     ensures same { h.new.kept ≡ h.old.kept }
     ensures copies { HasHeap (WritesImage out.old out.new) (out.new ≡ out.old) h.old.kept result }

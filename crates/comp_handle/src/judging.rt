@@ -77,8 +77,8 @@ fn judge_shared(alloc: Global, plan: &Arc<Plan>, bytes: &[u8]) -> Answer
     judge(alloc, &**plan, bytes)
 }
 
-/// Reads a dump from these bytes, and judges it for the heap whose plan a handle keeps. The answer has the live words if
-/// a compaction by this plan can have left the dump; else the first fault.
+/// Reads a dump from these bytes, and judges it for the heap whose plan a handle keeps. The answer has the live words
+/// if a compaction by this plan can have left the dump; else the first fault.
 pub fn judge_dump(alloc: Global, h: &mut Handle, bytes: &[u8]) -> Answer
     ensures same { h.new.kept ≡ h.old.kept }
     ensures judges { HasPlan (JudgesBytes bytes.now) h.old.kept result }

@@ -6,8 +6,8 @@ use heap_layout::MarkedHeap;
 use page_plan::Plan;
 use std::alloc::AllocError;
 
-/// The shade of a cell of so many words of which so many are live: 0 if none is, then 1 up to a quarter, 2 up to a half,
-/// 3 up to three quarters, 4 below all, and 5 if all are.
+/// The shade of a cell of so many words of which so many are live: 0 if none is, then 1 up to a quarter, 2 up to a
+/// half, 3 up to three quarters, 4 below all, and 5 if all are.
 pub fn shade(live: u64, words: u64) -> u64
     requires { 0 < words }
 {

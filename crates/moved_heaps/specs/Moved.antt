@@ -1,5 +1,5 @@
--- A heap after its marked objects moved, each to a place of its own, and when it is lawful. The k-th marked object is the
--- k-th of the old heap's live objects.
+-- A heap after its marked objects moved, each to a place of its own, and when it is lawful. The k-th marked object is
+-- the k-th of the old heap's live objects.
 use Rattle.std.specs.Prelude.{◌≡◌, ◌≢◌, ℕ, ◌+◌, ◌<◌, ◌≤◌, ◌⊎◌, List, ◌∷◌, ◌++◌, length, map, slice_index, unwrap_or}
 use Rattle.std.specs.Option.{option_map}
 use Rattle.heap_layout.specs.Header.{size_of}
@@ -7,8 +7,8 @@ use Rattle.heap_layout.specs.Heap.{Heap, Object, header_at, object_at, live}
 use Rattle.heap_layout.specs.declared.edition.Edition.{Edition}
 use Rattle.page_plan.specs.Sliding.{number_of, to_address}
 
--- The places are the to-space indices of the marked objects, in the order of the marks. The roots are to-space addresses,
--- or 0 for null. The words are those of to-space, from index 0 on.
+-- The places are the to-space indices of the marked objects, in the order of the marks. The roots are to-space
+-- addresses, or 0 for null. The words are those of to-space, from index 0 on.
 pub record Moved : Type 0 where
   pub edition : Edition
   pub places : List ℕ

@@ -25,8 +25,8 @@ pub record Overlaps (heap : Heap) (moved : Moved) (k l : ℕ) : Type 0 where
   pub order : ComesBefore moved k l
   pub inside : place moved l < end heap moved k
 
--- Of all pairs that overlap this is the least: the first of no other one comes before k, and of those with k the second of
--- no other one comes before l.
+-- Of all pairs that overlap this is the least: the first of no other one comes before k, and of those with k the second
+-- of no other one comes before l.
 pub record IsLeastOverlap (heap : Heap) (moved : Moved) (k l : ℕ) : Type 0 where
   pub overlaps : Overlaps heap moved k l
   pub first : (a b : ℕ) → Overlaps heap moved a b → ComesBefore moved a k → ⊥

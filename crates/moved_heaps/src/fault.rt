@@ -26,8 +26,8 @@ pub enum MovedFault {
     /// This object ends past the words.
     #[error("V2 PlaceOutside({0})")]
     PlaceOutside(u64),
-    /// The second of these objects begins inside the first. In the order of the new places, and of the numbers if places
-    /// are equal, no object before the first overlaps a later one, and the second is the one after the first.
+    /// The second of these objects begins inside the first. In the order of the new places, and of the numbers if
+    /// places are equal, no object before the first overlaps a later one, and the second is the one after the first.
     #[error("V3 Overlap({0}, {1})")]
     Overlap(u64, u64),
     /// The root with this number is not the new address of its object, or not null although the root was.

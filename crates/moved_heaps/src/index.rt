@@ -6,8 +6,8 @@ use heap_layout::{MarkedHeap, is_set, set};
 use std::alloc::{AllocError, Global};
 use std::marker::Model;
 
-/// At which from-space indices marked objects start, as one bit for each word, and how many bits are set before each block
-/// of 64. It answers in constant time.
+/// At which from-space indices marked objects start, as one bit for each word, and how many bits are set before each
+/// block of 64. It answers in constant time.
 #[derive(Drop)]
 pub(crate) struct Index {
     bits: Vec<u64>,

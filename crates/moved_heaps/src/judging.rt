@@ -22,11 +22,11 @@ pub struct Moves {
 }
 
 /// Whether a collection may have left this: each marked object of the heap stands whole at its new place, inside the
-/// words, and no two overlap; each root leads to the new place of its object. The answer is what moved, or the first fault
-/// in the order of `MovedFault`. `OutOfMemory` comes only after the head and the places were found right.
+/// words, and no two overlap; each root leads to the new place of its object. The answer is what moved, or the first
+/// fault in the order of `MovedFault`. `OutOfMemory` comes only after the head and the places were found right.
 ///
-/// It sorts the places, of which it makes a list of eight bytes each. All else takes time in proportion to the words and
-/// roots of the heap, and a bit and a half of memory for each word.
+/// It sorts the places, of which it makes a list of eight bytes each. All else takes time in proportion to the words
+/// and roots of the heap, and a bit and a half of memory for each word.
 pub fn judge(alloc: Global, heap: &MarkedHeap, moved: &MovedHeap) -> Result<Moves, MovedFault>
     ensures { Judges heap.now moved.now result }
 {

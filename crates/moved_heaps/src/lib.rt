@@ -1,6 +1,6 @@
-//! The judge of any collection that moves objects: copying, mark-compact in any order, evacuation by regions. It is given
-//! a marked heap, and what the collection left: the new place of each marked object, the roots, and the words of to-space.
-//! These can be read from a file.
+//! The judge of any collection that moves objects: copying, mark-compact in any order, evacuation by regions. It is
+//! given a marked heap, and what the collection left: the new place of each marked object, the roots, and the words of
+//! to-space. These can be read from a file.
 #![tactic(auto)]
 
 mod fault;

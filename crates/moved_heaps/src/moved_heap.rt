@@ -3,9 +3,9 @@ ghost use Rattle.std.specs.Prelude.{◌≡◌};
 use heap_layout::Edition;
 use std::marker::Model;
 
-/// What a moving collection left: the new place of each marked object, as a to-space index in words, in the order of the
-/// marks; the roots, each a to-space address, or 0 for null; and the words of to-space, from index 0 on. To-space word `i`
-/// has the address `2^33 + i`. Nothing is checked before it is judged.
+/// What a moving collection left: the new place of each marked object, as a to-space index in words, in the order of
+/// the marks; the roots, each a to-space address, or 0 for null; and the words of to-space, from index 0 on. To-space
+/// word `i` has the address `2^33 + i`. Nothing is checked before it is judged.
 #[derive(Debug, Drop)]
 pub struct MovedHeap {
     edition: Edition,

@@ -27,10 +27,11 @@ const MAX_MOVED_WORDS: u32 = 2_147_483_648;
 
 /// Reads a moved heap, of edition three only if `large`, to the end of the reader.
 ///
-/// Each field is checked as soon as it is read, whatever follows it. The version gives the edition. There may be as many
-/// places as a heap of the edition may have marks, as many roots as it may have roots, and 2,147,483,648 words. Memory is
-/// taken as the numbers come. A call of the reader that returns an error ends the reading, an interrupted call too. After
-/// an Err the bytes that were read are lost. Fewer than `u64::MAX` calls of the reader must have failed before.
+/// Each field is checked as soon as it is read, whatever follows it. The version gives the edition. There may be as
+/// many places as a heap of the edition may have marks, as many roots as it may have roots, and 2,147,483,648 words.
+/// Memory is taken as the numbers come. A call of the reader that returns an error ends the reading, an interrupted
+/// call too. After an Err the bytes that were read are lost. Fewer than `u64::MAX` calls of the reader must have failed
+/// before.
 pub fn read_moved<R: Read>(
     alloc: Global,
     r: &mut Counted<R>,

@@ -52,8 +52,8 @@ fn expect_fault(
     assert_eq!(rt; verdict, Err(fault));
 }
 
-// Four objects of edition one. The marked ones are that at 0 with a data word, that at 4 with references to itself, to the
-// one at 0 and to nothing and a data word, and that at 9, which has no field. The one at 2 is not marked.
+// Four objects of edition one. The marked ones are that at 0 with a data word, that at 4 with references to itself, to
+// the one at 0 and to nothing and a data word, and that at 9, which has no field. The one at 2 is not marked.
 fn three(rt: &(impl Abort + AllocGlobal)) -> MarkedHeap {
     let words = [
         Header::new(0, 1, 1).word(),

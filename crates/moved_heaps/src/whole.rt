@@ -31,8 +31,8 @@ pub(crate) fn check_words(
     Ok(())
 }
 
-// The least offset at which the marked object with this number has a wrong word at its new place. None if it stands whole
-// there.
+// The least offset at which the marked object with this number has a wrong word at its new place. None if it stands
+// whole there.
 fn wrong_word(heap: &MarkedHeap, index: &Index, moved: &MovedHeap, k: usize) -> Option<usize>
     requires index { index.now ≡ heap.now.marks }
     requires passed { PassesRoots heap.now moved.now }

@@ -1,5 +1,5 @@
-//! What a caller can conclude from the contracts and the laws of these crates, and from nothing else: from the layout of
-//! heaps up to the mutators, the sweep, traces, the audit and the program.
+//! What a caller can conclude from the contracts and the laws of these crates, and from nothing else: from the layout
+//! of heaps up to the mutators, the sweep, traces, the audit and the program.
 #![tactic(auto)]
 
 mod alone;

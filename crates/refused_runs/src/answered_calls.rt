@@ -14,7 +14,8 @@ pub enum Call {
     Write(Kind, u64, u16, u64),
     /// A new object: its numbers of references and data words, and its tag.
     Alloc(u16, u16, u32),
-    /// A copy of a page: its first words (all others are 0), and the entries of its journal. The answer is their number.
+    /// A copy of a page: its first words (all others are 0), and the entries of its journal. The answer is their
+    /// number.
     Copy(u64, &'static [u64], &'static [Entry]),
 }
 

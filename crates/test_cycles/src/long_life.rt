@@ -1,6 +1,6 @@
 //! Lives of fifty cycles, in each edition. At the end of each cycle the roots are drawn anew, out of what registers and
-//! roots lead to, and the next heap is marked by what they reach. The objects are those of the plain model; the words of
-//! dropped objects are free again.
+//! roots lead to, and the next heap is marked by what they reach. The objects are those of the plain model; the words
+//! of dropped objects are free again.
 use crate::expected::expect_eq;
 use crate::next_heaps::follow_from;
 use crate::random_chains::{Chain, opening_heap};

@@ -40,8 +40,8 @@ pub fn check_references(
     Ok(())
 }
 
-// The same for page `p`. Without an entry its words are those of its base, where each reference and weak word is null or
-// leads to a slid object.
+// The same for page `p`. Without an entry its words are those of its base, where each reference and weak word is null
+// or leads to a slid object.
 fn check_page(
     alloc: Global,
     setting: Setting<'_>,

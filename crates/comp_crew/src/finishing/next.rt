@@ -63,13 +63,13 @@ impl Ended {
         }
     }
 
-    /// Makes the heap with which the next cycle begins, as `next_reachable_with` of reachable_cycles does: its roots are
-    /// `roots`, to-space addresses of the end or null, and exactly the objects are marked that they reach. So each
+    /// Makes the heap with which the next cycle begins, as `next_reachable_with` of reachable_cycles does: its roots
+    /// are `roots`, to-space addresses of the end or null, and exactly the objects are marked that they reach. So each
     /// object that a root reaches is kept, and each other one is dropped.
     ///
-    /// Refusals, in this order: `TooLarge` if the next heap would have more words or more roots than its edition allows;
-    /// `BadRoot(k)` for the first root that is neither null nor the start of an object. `OutOfMemory` may replace any
-    /// other answer but `TooLarge`. After a refusal the end is handed back unchanged.
+    /// Refusals, in this order: `TooLarge` if the next heap would have more words or more roots than its edition
+    /// allows; `BadRoot(k)` for the first root that is neither null nor the start of an object. `OutOfMemory` may
+    /// replace any other answer but `TooLarge`. After a refusal the end is handed back unchanged.
     ///
     /// Requires what `finish` ensures.
     pub fn next_reached(self, alloc: Global, roots: &[u64]) -> Result<MarkedHeap, NotFollowed>
