@@ -1,6 +1,4 @@
-use Rattle.std.proofs.Common.{sym, subst}
 use Rattle.std.proofs.lemmas.Result.{err_from_is_err_and}
-use Rattle.command_io.specs.Pictures.{IsOfDrawing}
 use Rattle.command_io.specs.declared.refusal.Output.TheVariants as outputs
 use Rattle.command_io.proofs.Written.{map_cut_off, whole}
 use Rattle.command_io.proofs.pictures.write_map_to.Goals as goal
