@@ -1,5 +1,5 @@
 -- Lemmas on files of words and roots, and on the dumps for which they stand.
-use Rattle.std.proofs.Common.{◌≡◌, ◌∙◌, ap₂, append-nil, ℕ, ◌+◌, ◌-◌, ◌*◌, ◌/◌, ◌^◌, ◌<◌, ◌≤◌, inl, inr, Bool, List, [], ◌∷◌, ◌++◌, length, map, min, take, drop, replicate, Option, Some, None, IfSome, Ok, Err, All, ap, append_assoc, arith, refl, subst, sym, length-append}
+use Rattle.std.proofs.Common.{◌≡◌, ◌∙◌, ap₂, append-nil, ℕ, ◌+◌, ◌-◌, ◌*◌, ◌^◌, ◌<◌, ◌≤◌, inl, inr, Bool, List, [], ◌∷◌, ◌++◌, length, map, min, take, drop, replicate, Option, Some, IfSome, Ok, Err, ap, arith, refl, subst, sym, length-append}
 use Rattle.std.specs.List.{flat_map, range_with_len}
 use Rattle.std.specs.Io.KnownBytes.{Consumes, IsAtEnd}
 use Rattle.std.proofs.KnownBytes.{Consumes-trans}
@@ -10,7 +10,6 @@ use Rattle.std.proofs.lemmas.Option.{IfSome_then}
 use Rattle.std.proofs.lemmas.List.Elements.{All-append, All-drop, All-map, All-nil, All-push, All-replicate, All-take}
 use Rattle.std.proofs.lemmas.List.FromFn.{map-range_with_len_more, get_or-range_with_len, length-map-range_with_len, length-range_with_len}
 use Rattle.heap_layout.specs.Versions.{version_of, IsRead}
-use Rattle.heap_layout.specs.declared.edition.Edition.{Edition}
 use Rattle.heap_layout.specs.Limits.{most_pages, most_roots, most_words}
 use Rattle.heap_layout.proofs.Bounds.{pages_fit, pages_most, roots_most, words_most}
 use Rattle.comp_dump.specs.Dumped.{BuiltPage, Dumped, IsStored, IsStoredList, IsStoredPage, IsStoredRecord}

@@ -1,5 +1,5 @@
 -- Lemmas on moved heaps that are read from their bytes.
-use Rattle.std.proofs.Common.{◌≡◌, ℕ, ◌-◌, ◌^◌, ◌<◌, ◌≤◌, Bool, List, ◌++◌, length, Option, IfSome, Result, Ok, Err, refl, sym, subst, arith, All}
+use Rattle.std.proofs.Common.{◌≡◌, ℕ, ◌-◌, ◌^◌, ◌<◌, ◌≤◌, Bool, List, ◌++◌, length, Option, IfSome, Ok, Err, refl, sym, subst, arith, All}
 use Rattle.std.specs.List.{flat_map}
 use Rattle.std.specs.Io.KnownBytes.{Consumes}
 use Rattle.std.proofs.KnownBytes.{Consumes-trans}
@@ -8,7 +8,7 @@ use Rattle.heap_layout.specs.Limits.{most_words, most_roots}
 use Rattle.heap_layout.specs.Versions.{IsRead}
 use Rattle.heap_layout.proofs.Bounds.{roots_most, words_most}
 use Rattle.comp_dump.specs.DumpEncoding.{four_bytes, eight_bytes}
-use Rattle.comp_dump.specs.DumpReading.{word, Fails, RefusesEnd, Stops}
+use Rattle.comp_dump.specs.DumpReading.{word, Fails, RefusesEnd}
 use Rattle.comp_dump.specs.declared.fault.DumpFault.{DumpFault}
 use Rattle.comp_dump.specs.declared.fault.DumpFault.TheVariants.{TrailingBytes}
 use Rattle.comp_dump.proofs.Readings.{Spells, AllSpell, all_spell, spells_then, spells_last, spells_times}

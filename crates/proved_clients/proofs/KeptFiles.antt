@@ -1,17 +1,15 @@
 -- What a run over files in memory left there.
 use Rattle.std.proofs.Common.{◌≡◌, ◌≢◌, ℕ, List, Option, Result, Ok, Err, IfErr, OnOk, inl, inr, refl, subst}
-use Rattle.heap_layout.specs.Heap.{Heap}
-use Rattle.comp_trace.specs.declared.text.line.Line.{Line}
 use Rattle.command_line.specs.declared.words.TraceRun.{TraceRun}
 use Rattle.command_io.specs.Disk.{IsUnkept}
 use Rattle.command_io.specs.Dumps.{RefusedUncreated}
-use Rattle.command_io.specs.Memory.{memory_disk, HasPut, WrittenIsThere}
+use Rattle.command_io.specs.Memory.{memory_disk, WrittenIsThere}
 use Rattle.command_io.specs.declared.memory.MemoryFiles.{MemoryFiles}
 use Rattle.command_io.specs.declared.refusal.Output.TheVariants as outputs
 use Rattle.command_io.specs.declared.refusal.CommandRefusal.{CommandRefusal}
 use Rattle.command_io.specs.declared.refusal.CommandRefusal.TheVariants.{Layout, CannotWrite, Mutator, Sweep, Trace, Dump, Audit, Moved, CannotOpen, CannotCreate, ReadFailed, CannotPrint, NoSuchWord, BadMarks, OutOfMemory, BadRoots}
-use Rattle.commands.specs.Races.{dump_of_race, Races, RefusesRace}
-use Rattle.commands.specs.Replays.{dump_of_run, Replays, RefusesReplay, SomeRun}
+use Rattle.commands.specs.Races.{Races, RefusesRace}
+use Rattle.commands.specs.Replays.{Replays, RefusesReplay, SomeRun}
 use Rattle.proved_clients.specs.Kept.{KeepsRaced, KeepsReplayed, KeptOrNot}
 
 -- beginning a file in memory changes none

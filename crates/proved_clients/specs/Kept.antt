@@ -1,7 +1,5 @@
 -- What a run over files in memory leaves there.
-use Rattle.std.specs.Prelude.{◌≡◌, ◌⊎◌, ℕ, List}
-use Rattle.heap_layout.specs.Heap.{Heap}
-use Rattle.comp_trace.specs.declared.text.line.Line.{Line}
+use Rattle.std.specs.Prelude.{◌≡◌, ◌⊎◌}
 use Rattle.command_line.specs.declared.words.TraceRun.{TraceRun}
 use Rattle.command_io.specs.Memory.{memory_disk, HasPut}
 use Rattle.command_io.specs.declared.memory.MemoryFiles.{MemoryFiles}

@@ -1,8 +1,7 @@
-use Rattle.std.proofs.Common.{◌≡◌, ◌∙◌, ◌*◌, ◌/◌, ◌+◌, ◌++◌, ◌∷◌, [], ℕ, List, Option, Some, ap, arith, length, map, subst, sym}
-use Rattle.std.proofs.lemmas.Grind.{div_ceil_times}
+use Rattle.std.proofs.Common.{◌∙◌, ◌+◌, ◌++◌, ◌∷◌, [], ℕ, List, Some, ap, arith, map, sym}
 use Rattle.std.specs.List.{range_with_len}
 use Rattle.comp_dump.specs.Dumped.{BuiltPage}
-use Rattle.comp_dump.specs.WordsEncoding.{page_of_words, pages_filled}
+use Rattle.comp_dump.specs.WordsEncoding.{page_of_words}
 use Rattle.comp_dump.proofs.LeftWords.{pages_next}
 use Rattle.comp_dump.proofs.reading.words.cut_pages.Goals as goal
 

@@ -1,9 +1,8 @@
-use Rattle.std.proofs.Common.{◌≡◌, ◌∙◌, ℕ, List, [], ◌∷◌, ◌++◌, Some, ap, arith, length, map, subst, sym}
+use Rattle.std.proofs.Common.{◌≡◌, ◌∙◌, ℕ, List, [], ◌∷◌, ◌++◌, ap, arith, length, subst, sym}
 use Rattle.std.specs.List.{range_with_len}
-use Rattle.std.specs.declared.vec.Vec.{Vec}
 use Rattle.comp_cycles.specs.CellEnds.{lists as items_of}
-use Rattle.comp_dump.specs.Dumped.{Dumped, IsStored}
-use Rattle.comp_dump.specs.WordsEncoding.{WordsFile, dump_of_words, page_of_words, pages_filled}
+use Rattle.comp_dump.specs.Dumped.{IsStored}
+use Rattle.comp_dump.specs.WordsEncoding.{WordsFile, dump_of_words, pages_filled}
 use Rattle.comp_dump.proofs.LeftWords.{cut_long, dump_parts, few_pages, words_stored}
 use Rattle.comp_dump.proofs.reading.words.LeftWords.into_dump.Goals as goal
 
