@@ -6,7 +6,7 @@ ghost use Rattle.comp_access.specs.Allocations.{AreLow, Counts};
 
 use cell_steps::Pass;
 use comp_access::SIZES;
-use heap_layout::OutOfMemory;
+use heap_layout::{Numbered, OutOfMemory};
 use page_cells::Cells;
 use page_plan::Builder;
 use std::alloc::Global;
@@ -46,6 +46,14 @@ fn empty_fills(alloc: Global, number: u8, fresh: u32, mutators: u8) -> Result<Ve
         page += u32::from(mutators);
     }
     Ok(fills)
+}
+
+impl Numbered for Hand {
+    ghost number_of = { λ hand. number_of hand.pass };
+
+    fn number(&self) -> u8 {
+        Hand::number(self)
+    }
 }
 
 impl Hand {

@@ -1,13 +1,14 @@
 //! Calls on whole pages: touch and copy.
 ghost use Rattle.std.specs.Prelude.{◌≡◌, ℕ, ◌<◌, Ok, IfErr, IfOk, IsErrOf};
 ghost use Rattle.cell_steps.specs.Setup.{pages};
-ghost use Rattle.cell_steps.specs.Passes.{builds_of, did, HasSeenBuilt};
+ghost use Rattle.cell_steps.specs.Passes.{builds_of, did, lost, HasSeenBuilt};
 ghost use Rattle.page_cells.specs.CellViews.{setup_of};
 ghost use Rattle.page_cells.specs.Calls.{Grows, WroteNothing};
 ghost use Rattle.comp_access.specs.Copies.{builds_after, CopyRefused, IsCopy, PageRefused};
 ghost use Rattle.comp_access.specs.Reads.{KnowsBuilt, MayBuild};
 ghost use Rattle.comp_access.specs.declared.pages.Touched.TheVariants.{AlreadyBuilt};
 ghost use Rattle.comp_access.specs.declared.refusal.Refusal.TheVariants.{Busy};
+ghost use Rattle.comp_access.specs.declared.refusal.Refusal.TheVariants as refusals;
 ghost use Rattle.comp_hand.specs.Hands.{made_of, pass_of, IsHandOf};
 
 use crate::hand::Hand;
@@ -33,6 +34,7 @@ impl Hand {
         ensures alone { (setup_of cells.now).mutators ≡ 1 → (q : ℕ) → IsErrOf result (Busy q) → ⊥ }
         ensures known { KnowsBuilt (pass_of self.old) p → result ≡ Ok AlreadyBuilt }
         ensures unbuilt { (q : ℕ) → IsErrOf result (Busy q) → HasSeenBuilt (pass_of self.new) p → ⊥ }
+        ensures unlost { IsErrOf result refusals.OutOfMemory → lost (pass_of self.new) p ≡ lost (pass_of self.old) p }
         ensures refused { IfErr result (λ refusal. (builds_of (pass_of self.new) ≡ builds_of (pass_of self.old)) × PageRefused p (pass_of self.old) (pass_of self.new) refusal) }
     {
         let Hand {

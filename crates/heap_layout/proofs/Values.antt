@@ -43,6 +43,6 @@ nowhere-cases edition word nowhere =
 pub leads-on : (edition : Edition) (word : ℕ) → (word ≡ 0 → ⊥) → (IsImmediate edition word → ⊥) → leads_nowhere edition word ≡ false
 leads-on edition word some other =
     elim (leads_nowhere edition word) as (λ b. leads_nowhere edition word ≡ b → leads_nowhere edition word ≡ false) [
-      | true ↦ λ nowhere. absurd (elim (nowhere-cases edition word nowhere) [ | inl null ↦ some null | inr immediate ↦ other immediate ])
+      | true ↦ λ nowhere. absurd (elim (nowhere-cases edition word nowhere) [ inl null ↦ some null | inr immediate ↦ other immediate ])
       | false ↦ λ is. is
     ] refl

@@ -272,7 +272,13 @@ fn check_fields(
         let header = Header::from_word_of(edition, words[mark as usize]);
         let first = mark as usize + header.first(kind) as usize;
         let count = header.count(kind) as usize;
-        check_references(bits, kind, edition, first as u64, &words[first..first + count])?;
+        check_references(
+            bits,
+            kind,
+            edition,
+            first as u64,
+            &words[first..first + count],
+        )?;
     }
     Ok(())
 }

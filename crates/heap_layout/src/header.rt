@@ -1,5 +1,6 @@
 ghost use Rattle.std.specs.Prelude.{◌≡◌, ℕ, ◌+◌, ◌/◌, ◌%◌, ◌^◌, ◌<◌, ◌≤◌, IfNone, IfSome};
 ghost use Rattle.heap_layout.specs.declared.edition.Edition.TheVariants.{One, Two, Three};
+ghost use Rattle.heap_layout.specs.declared.header.Form.TheVariants.{Mixed, ManyReferences};
 ghost use Rattle.heap_layout.specs.Header.{refs_of, weak_of, data_of, tag_of, size_of, header_of, header_with, header_word, weak_header_word, form_of, many_in, few_in, Says};
 ghost use Rattle.heap_layout.specs.Kinds.{count_of, first_of};
 
@@ -166,6 +167,9 @@ impl Header {
     /// counts are below 2^16, and that of many references before that of many data words.
     pub fn of_large_counts(refs: u32, weak: u32, data_words: u32, tag: u32) -> Option<Header>
         ensures says { IfSome result (λ header. Says header refs weak data_words tag) }
+        ensures mixed { IfSome result (λ header. refs < 2 ^ 16 → weak < 2 ^ 16 → data_words < 2 ^ 16 → form_of header.word ≡ Mixed) }
+        ensures many_references { IfSome result (λ header. (refs < 2 ^ 16 → weak < 2 ^ 16 → data_words < 2 ^ 16 → ⊥) → weak ≡ 0 → data_words < 2 ^ 17
+            → form_of header.word ≡ ManyReferences) }
         ensures none { IfNone result ((word : ℕ) → Says (header_of Three word) refs weak data_words tag → ⊥) }
     {
         if tag >= 16_384 {

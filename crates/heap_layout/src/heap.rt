@@ -74,6 +74,26 @@ impl MarkedHeap {
         })
     }
 
+    /// Makes a heap of this edition from words, marks and roots that are known to be accepted. It looks at none of them,
+    /// and does not allocate.
+    pub fn of_accepted(
+        edition: Edition,
+        words: Vec<u64>,
+        marks: Vec<u32>,
+        roots: Vec<u64>,
+    ) -> MarkedHeap
+        requires { IsAccepted (record { edition = edition; words = words.items; marks = marks.items; roots = roots.items }) }
+        ensures made { result ≡ record { edition = edition; words = words.items; marks = marks.items; roots = roots.items } }
+        ensures stored { IsStored result }
+    {
+        MarkedHeap {
+            edition,
+            words,
+            marks,
+            roots,
+        }
+    }
+
     /// The layout by which the objects are read.
     pub fn edition(&self) -> Edition
         ensures { result ≡ self.now.edition }
