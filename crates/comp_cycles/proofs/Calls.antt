@@ -1,14 +1,18 @@
 -- What the calls make that end a cycle.
-use Rattle.std.proofs.Common.{◌≡◌, ℕ, List, [], map, refl, sym, ap, ◌∙◌}
+use Rattle.std.proofs.Common.{◌≡◌, ℕ, ◌*◌, List, [], length, map, refl, sym, ap, subst, ◌∙◌}
+use Rattle.heap_layout.specs.declared.edition.Edition.{Edition}
+use Rattle.heap_layout.specs.Faults.{IsAccepted}
 use Rattle.heap_layout.specs.Heap.{Heap, live}
 use Rattle.comp_history.specs.Locks.{Journals}
 use Rattle.comp_history.specs.Setup.{Setup}
 use Rattle.comp_cycles.specs.declared.finished.Finished.{Finished}
 use Rattle.comp_cycles.specs.Cycles.{heap_after, IsCycleOf}
-use Rattle.comp_cycles.specs.Ends.{checked_faults, checked_heap, cycle_of, cycle_with, setup_in, IsEndOf}
-use Rattle.comp_cycles.specs.Finishes.{journals_of, roots_of}
-use Rattle.comp_cycles.specs.NextHeap.{held, next_heap, next_faults}
+use Rattle.comp_cycles.specs.Ends.{checked_faults, checked_heap, cycle_of, cycle_with, setup_in, AreLowered, AreMoved, IsEndOf}
+use Rattle.comp_cycles.specs.Finishes.{edition_in, journals_of, pages_of, roots_of}
+use Rattle.comp_cycles.specs.NextHeap.{held, lowered, next_heap, next_faults}
 use Rattle.comp_cycles.proofs.Handed.{own_held, roots_held, roots_lead}
+use Rattle.comp_cycles.proofs.Refusals.{made_next}
+use Rattle.comp_cycles.proofs.Rows.{accepted}
 
 module _ (heap : Heap) (f : Finished) (marks : List ℕ) (e : IsEndOf heap f) where
   abbrev u : Setup
@@ -16,6 +20,19 @@ module _ (heap : Heap) (f : Finished) (marks : List ℕ) (e : IsEndOf heap f) wh
 
   abbrev journals : Journals
   journals = journals_of f
+
+  -- what is made of words that were moved and of lowered roots
+  module _ (roots : List ℕ) where
+    pub made_next_of : (edition : Edition) (words bits lower : List ℕ) → edition ≡ edition_in f → AreMoved u journals (64 * length (pages_of f)) words bits → AreLowered f roots lower
+        → record { edition = edition; words = words; marks = marks; roots = lower } ≡ checked_heap heap f roots marks
+    made_next_of edition words bits lower same moved lowers =
+        made_next heap f marks roots e edition words bits lower same moved (lowers ∙ ap (λ (own : Edition). map (lowered own) (map held roots)) (sym same))
+
+    -- it is accepted if the next heap has no fault
+    pub made_accepted : checked_faults heap f roots marks ≡ [] → (edition : Edition) (words bits lower : List ℕ) → edition ≡ edition_in f
+        → AreMoved u journals (64 * length (pages_of f)) words bits → AreLowered f roots lower → IsAccepted (record { edition = edition; words = words; marks = marks; roots = lower })
+    made_accepted none edition words bits lower same moved lowers =
+        subst IsAccepted (sym (made_next_of edition words bits lower same moved lowers)) (accepted u journals e.closed e.finished.history.merges (map held roots) marks none)
 
   -- the roots stay
   module _ (roots : List ℕ) (same : roots ≡ roots_of f) where

@@ -1,5 +1,5 @@
 -- A cycle is a chapter in the life of the stable heap, and cycles that follow one another are one life.
-use Rattle.std.proofs.Common.{◌≡◌, ℕ, zero, suc, ◌+◌, ◌-◌, ◌*◌, ◌/◌, ◌%◌, ◌^◌, ◌<◌, ◌≤◌, true, false, Option, Some, None, List, [], ◌∷◌, ◌++◌, All, length, get_or, map, zip, refl, sym, ap, ap₂, ◌∙◌, inl, inr, ⊎_elim, subst, arith, length-append}
+use Rattle.std.proofs.Common.{◌≡◌, ℕ, zero, suc, ◌+◌, ◌-◌, ◌*◌, ◌/◌, ◌%◌, ◌<◌, ◌≤◌, true, false, Option, Some, None, List, [], ◌∷◌, ◌++◌, All, length, get_or, map, zip, refl, sym, ap, ap₂, ◌∙◌, inl, inr, ⊎_elim, subst, arith, length-append}
 use Rattle.std.specs.List.{range_with_len}
 use Rattle.std.specs.Option.{unwrap_or}
 use Rattle.std.proofs.lemmas.Bool.{cases_lt, cases_Bool}
@@ -7,7 +7,6 @@ use Rattle.std.proofs.lemmas.List.{append-nil, get_or-append_right, get_or_appen
 use Rattle.heap_layout.specs.Heap.{Heap, Object, object_at, live, from_address, is_target, IsClosed}
 use Rattle.heap_layout.specs.declared.edition.Edition.{Edition}
 use Rattle.heap_layout.specs.Values.{is_immediate, LeadsNowhere}
-use Rattle.heap_layout.proofs.Bounds.{words_most}
 use Rattle.heap_layout.specs.declared.kind.Kind.{Kind}
 use Rattle.heap_layout.specs.declared.kind.Kind.TheVariants.{Header, Reference, Weak, Data}
 use Rattle.page_plan.specs.Sliding as sliding
@@ -34,14 +33,14 @@ use Rattle.comp_cycles.specs.Numbered.{Names, number_at, names_in, pointers_of, 
 use Rattle.comp_cycles.specs.NextHeap.{word_in, next_heap, next_faults}
 use Rattle.comp_cycles.specs.Cycles.{Cycle, roots_after, MayBeRoots, heap_after, given_after, numbers_after, story_of, AreApart, IsCycleOf, IsChapter, IsSeen, WritesLife, IsWriting, IsRising, Follow, story, numbers_left, given_left, AreChapters, IsOneLife}
 use Rattle.comp_cycles.proofs.Naming.{no_name, row_long, in_row}
-use Rattle.comp_cycles.proofs.Immediates.{not-immediate}
+use Rattle.comp_cycles.proofs.Given.{cycle-low}
 use Rattle.comp_cycles.proofs.Living.{number_is, may_refer, Agrees}
 use Rattle.comp_cycles.proofs.Lives.{made_then, made_all, made_parts, lives, given_lived, roots_lived, legal_front, zeros_front, life_parts, lived_parts, InZeros, Lives, Ordered}
 use Rattle.comp_cycles.proofs.FreshZeros.{all_zeros}
 use Rattle.comp_cycles.proofs.Targets.{target_cases, marks_rise, forward_mark}
 use Rattle.comp_cycles.proofs.Begun as begun
 use Rattle.comp_cycles.proofs.Finals.{is_object}
-use Rattle.comp_cycles.proofs.Rows.{marked_objects, next_closed, next_long}
+use Rattle.comp_cycles.proofs.Rows.{marked_objects, next_closed}
 use Rattle.comp_cycles.proofs.Kept as kept
 
 -- entries do not change the edition
@@ -122,10 +121,6 @@ lawful_offsets : (u : Setup) (p : ℕ) (before entries : List Entry) → LawfulA
 lawful_offsets u p before [] lawful e there = absurd there
 lawful_offsets u p before (x ∷ entries) lawful e (inl same) = subst (λ (y : Entry). y.offset < 64) same (offset_inside u p before x.kind x.writer x.offset x.value lawful.0)
 lawful_offsets u p before (x ∷ entries) lawful e (inr later) = lawful_offsets u p (before ++ x ∷ []) entries lawful.1 e later
-
--- small numbers are no immediates
-small-apart : (edition : Edition) (n : ℕ) → n < 2 ^ 63 → AreApart edition n
-small-apart edition n small k le = not-immediate edition k (omega arith)
 
 -- no numbers are taken back
 pub given_le : (cycles : List Cycle) (given : ℕ) → given ≤ given_left cycles given
@@ -329,11 +324,7 @@ module _ (u : Setup) (journals : Journals) (closed : IsClosed u.heap) (can : Can
 pub one_chapter : (heap : Heap) (c : Cycle) (numbers : List ℕ) (stable : StableHeap) → IsClosed heap → IsCycleOf heap c → IsNumberedAs heap numbers stable → IsChapter c numbers stable
 one_chapter heap c numbers stable closed is t =
     let own = subst IsClosed (sym is.heap_is) closed in
-    let next = next_closed c.setup c.journals own is.merges (roots_after c) c.marks is.accepted in
-    let few = next.few_words in
-    let long = next_long c.setup c.journals own is.merges (roots_after c) c.marks in
-    let small = small-apart c.setup.heap.edition (to_address (64 * pages c.setup)) (omega (arith, few, long, words_most c.setup.heap.edition)) in
-    chapter c.setup c.journals own is.merges numbers stable (subst (λ h. IsNumberedAs h numbers stable) (sym is.heap_is) t) c.roots c.marks small c.new_roots is.roots is.new_roots is.accepted
+    chapter c.setup c.journals own is.merges numbers stable (subst (λ h. IsNumberedAs h numbers stable) (sym is.heap_is) t) c.roots c.marks (cycle-low heap c closed is) c.new_roots is.roots is.new_roots is.accepted
 
 pub one_writing : (c : Cycle) (numbers : List ℕ) (stable : StableHeap) → IsClosed c.setup.heap → CanMerge c.setup c.journals → IsNumberedAs c.setup.heap numbers stable → IsWriting c numbers stable
 one_writing c numbers stable closed can t low = writing c.setup c.journals closed can numbers stable t c.roots c.marks low c.new_roots

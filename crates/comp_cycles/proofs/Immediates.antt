@@ -1,5 +1,5 @@
 -- Numbers that are no immediates.
-use Rattle.std.proofs.Common.{◌≡◌, ℕ, ◌^◌, ◌<◌, ◌≤◌, Bool, true, false, refl, arith}
+use Rattle.std.proofs.Common.{◌≡◌, ℕ, ◌^◌, ◌<◌, ◌≤◌, true, false, refl, arith}
 use Rattle.heap_layout.specs.declared.edition.Edition.{Edition}
 use Rattle.std.proofs.lemmas.Bool.{leb-false, lt-leb}
 use Rattle.heap_layout.specs.declared.edition.Edition.TheVariants.{One, Two, Three, Four}

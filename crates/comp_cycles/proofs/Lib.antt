@@ -11,12 +11,13 @@ pub mod Finals
 pub mod Rows
 pub mod WeakWords
 pub mod Kept
+pub mod MovedWords
+pub mod Refusals
+pub mod Given
 pub mod Chapters
 pub mod Ended
 pub mod Marks
-pub mod MovedWords
 pub mod Handed
-pub mod Refusals
 pub mod Calls
 pub use Rattle.page_plan.proofs.Objects
 pub use Rattle.comp_history.proofs.Pages

@@ -13,7 +13,7 @@ use Rattle.comp_history.specs.Locks.{Journals}
 use Rattle.comp_history.specs.Pass.{Pass}
 use Rattle.comp_cycles.specs.Finishes.{edition_in, pages_of, roots_of, builds_in, journals_of, IsFinished}
 use Rattle.comp_cycles.specs.declared.finished.Finished.{Finished}
-use Rattle.comp_cycles.specs.NextHeap.{next_word, kind_in, is_header, held, next_heap, next_faults}
+use Rattle.comp_cycles.specs.NextHeap.{next_word, kind_in, is_header, held, lowered, next_heap, next_faults}
 use Rattle.comp_cycles.specs.Cycles.{Cycle}
 
 -- the setup of the cycle: the heap that was compacted, and as many fresh pages as there are after the compacted ones
@@ -62,6 +62,10 @@ checked_heap heap f roots marks = next_heap (setup_in heap f) (journals_of f) (m
 -- the faults for which that call is refused
 abbrev pub checked_faults : Heap → Finished → List ℕ → List ℕ → List LayoutFault
 checked_faults heap f roots marks = next_faults (setup_in heap f) (journals_of f) (checked_heap heap f roots marks)
+
+-- these are the roots of that heap, lowered
+abbrev pub AreLowered : Finished → List ℕ → List ℕ → Type 0
+AreLowered f roots lower = lower ≡ map (lowered (edition_in f)) (map held roots)
 
 -- memory is refused only after this list was found to be empty
 abbrev pub IsRefusedWithin : List LayoutFault → LayoutFault → Type 0

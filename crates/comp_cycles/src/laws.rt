@@ -1,15 +1,17 @@
 //! Laws of cycles. Each law is the contract of a function that does nothing.
-ghost use Rattle.std.specs.Prelude.{◌≡◌, ◌≤◌, ℕ, [], List, length};
+ghost use Rattle.std.specs.Prelude.{◌≡◌, ◌≢◌, ◌+◌, ◌*◌, ◌^◌, ◌<◌, ◌≤◌, ℕ, [], List, length};
 ghost use Rattle.comp_history.specs.Locks.{Journals};
 ghost use Rattle.comp_history.specs.Setup.{Setup};
 ghost use Rattle.comp_history.specs.Pass.{Pass as APass};
+ghost use Rattle.heap_layout.specs.declared.edition.Edition.{Edition};
+ghost use Rattle.heap_layout.specs.declared.edition.Edition.TheVariants.{Four};
 ghost use Rattle.heap_layout.specs.Faults.{mark_faults, weak_faults};
 ghost use Rattle.heap_layout.specs.Heap.{live, Heap, IsClosed};
 ghost use Rattle.heap_layout.specs.Limits.{most_fresh_pages};
 ghost use Rattle.page_plan.specs.Sliding as sliding;
 ghost use Rattle.comp_history.specs.Merged.{CanMerge};
-ghost use Rattle.comp_cycles.specs.Cycles.{Cycle, Follow, IsChapter, IsCycleOf, IsOneLife, IsWriting};
-ghost use Rattle.comp_cycles.specs.Ends.{setup_in, IsEndOf};
+ghost use Rattle.comp_cycles.specs.Cycles.{Cycle, Follow, given_after, given_left, AreApart, IsChapter, IsCycleOf, IsLow, IsOneLife, IsWriting};
+ghost use Rattle.comp_cycles.specs.Ends.{cycle_of, cycle_with, setup_in, IsEndOf};
 ghost use Rattle.comp_cycles.specs.Finishes.{IsFinished};
 ghost use Rattle.comp_cycles.specs.NextHeap.{next_heap, object_starts};
 ghost use Rattle.comp_cycles.specs.declared.finished.Finished.{Finished as AFinished};
@@ -50,4 +52,22 @@ pub fn one_life()
 pub fn weak_words_lead()
     ensures { (u : Setup) (journals : Journals) (roots marks : List ℕ) → IsClosed u.heap → CanMerge u journals → mark_faults (object_starts u journals) 0 marks ≡ []
         → weak_faults u.heap.edition (next_heap u journals roots marks).words marks ≡ [] }
+{}
+
+/// Which numbers are no immediates: in editions one to three all, in edition four those below 2^63. A cycle gives out a
+/// number for each new object, of which there are no more than words on fresh pages. So a life of fewer than 2^31 cycles
+/// has no number that is an immediate, as `one_life` asks.
+pub fn numbers_are_apart()
+    ensures others { (edition : Edition) (n : ℕ) → edition ≢ Four → AreApart edition n }
+    ensures small { (edition : Edition) (n : ℕ) → n < 2 ^ 63 → AreApart edition n }
+    ensures given { (c : Cycle) (given : ℕ) → CanMerge c.setup c.journals → given_after c given ≤ given + 64 * c.setup.fresh }
+    ensures life { (heap last : Heap) (cycles : List Cycle) → IsClosed heap → Follow heap cycles last → length cycles < 2 ^ 31 → AreApart heap.edition (given_left cycles (length heap.marks)) }
+{}
+
+/// No to-space address of a cycle is an immediate, as `one_writing` asks: not if it can be followed by another cycle, and
+/// not if it is that of a finished heap.
+pub fn addresses_are_low()
+    ensures cycle { (heap : Heap) (c : Cycle) → IsClosed heap → IsCycleOf heap c → IsLow c }
+    ensures end { (heap : Heap) (f : AFinished) (marks : List ℕ) → IsEndOf heap f → IsLow (cycle_of heap f marks) }
+    ensures handed { (heap : Heap) (f : AFinished) (roots marks : List ℕ) → IsEndOf heap f → IsLow (cycle_with heap f roots marks) }
 {}

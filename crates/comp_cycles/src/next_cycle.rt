@@ -75,10 +75,12 @@ pub fn lowered_roots(
 ) -> Result<Vec<u64>, OutOfMemory>
     ensures { IfOk result (λ all. all.items ≡ map (lowered edition) (map held roots.now)) }
 {
-    Ok(roots
-        .iter()
-        .map(|&root| lowered_root(edition, root))
-        .collect(alloc)?)
+    Ok(
+        roots
+            .iter()
+            .map(|&root| lowered_root(edition, root))
+            .collect(alloc)?,
+    )
 }
 
 // Checks the numbers of words, marks and roots of the next heap.

@@ -144,15 +144,15 @@ narrowed heap marks from word is values there reached =
     elim (value-cases heap.edition heap.marks word (All-contains (IsValue heap.edition heap.marks) from word values (contains-had from word there))) [
       | inl immediate ↦ value-immediate heap.edition marks word immediate
       | inr target ↦ value-target heap.edition marks word (
-        elim (target-cases heap.marks word target) [
-          | inl null ↦ subst (IsTarget marks) (sym null) refl
-          | inr marked ↦
-              let i = marked.0 in
-              let start = All-contains (λ mark. is_start (starts heap.edition heap.words) mark ≡ true) heap.marks i is.started (contains-had heap.marks i marked.1) in
-              let leads : LeadTo heap.edition heap.words from i = record { start = start; address = subst (Contains from) marked.2 (contains-had from word there) } in
-              subst (IsTarget marks) (sym marked.2) (target-marked marks i (reached i leads))
-        ]
-      )
+          elim (target-cases heap.marks word target) [
+            | inl null ↦ subst (IsTarget marks) (sym null) refl
+            | inr marked ↦
+                let i = marked.0 in
+                let start = All-contains (λ mark. is_start (starts heap.edition heap.words) mark ≡ true) heap.marks i is.started (contains-had heap.marks i marked.1) in
+                let leads : LeadTo heap.edition heap.words from i = record { start = start; address = subst (Contains from) marked.2 (contains-had from word there) } in
+                subst (IsTarget marks) (sym marked.2) (target-marked marks i (reached i leads))
+          ]
+          )
     ]
 
 -- the heap with other marks

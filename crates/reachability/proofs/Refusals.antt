@@ -5,13 +5,14 @@ use Rattle.std.proofs.lemmas.Bool.{leb-true, le-leb}
 use Rattle.heap_layout.specs.declared.edition.Edition.{Edition}
 use Rattle.heap_layout.specs.declared.edition.Edition.TheVariants.{One, Two, Three, Four}
 use Rattle.heap_layout.specs.Limits.{most_words, most_roots}
-use Rattle.heap_layout.specs.Heap.{starts}
-use Rattle.heap_layout.specs.Faults.{unless, size_faults, object_faults, mark_faults, root_faults, target_faults, weak_faults, faults, IsFirst, IsAnswered, IsRefusedMemory}
+use Rattle.heap_layout.specs.Heap.{Heap, starts}
+use Rattle.heap_layout.specs.Faults.{unless, size_faults, object_faults, mark_faults, root_faults, target_faults, weak_faults, faults, IsAccepted, IsFirst, IsAnswered, IsRefusedMemory}
 use Rattle.heap_layout.specs.declared.fault.LayoutFault.{LayoutFault}
 use Rattle.heap_layout.specs.declared.fault.LayoutFault.TheVariants.{TooLarge, ObjectPastEnd, ObjectTooLong, MarkNotStart, MarksNotRising, BadRoot, UnmarkedTarget, Truncated, TrailingBytes, BadMagic, OutOfMemory, Device, BadWeak}
+use Rattle.heap_layout.proofs.Marked.{passed, sizes-few}
 use Rattle.heap_layout.proofs.Rows.{first-part}
 use Rattle.reachability.specs.Reachable.{AreReachable, RefusesFor}
-use Rattle.reachability.proofs.Least.{marks-few}
+use Rattle.reachability.proofs.Least.{marks-few, sizes-none}
 
 -- a refusal for one list is one for another list, if the first fault is the same
 pub refuses-same : (some other : List LayoutFault) (fault : LayoutFault) → (IsFirst some fault → IsFirst other fault) → RefusesFor some fault → RefusesFor other fault
@@ -112,3 +113,10 @@ refused-row edition words roots marks fault are refuses =
     (first-longer sizes (row ++ no_marks) of_roots fault
     (first-longer sizes row no_marks fault (at_sizes first)))))
     refuses
+
+-- the sizes and the row of an accepted heap have no fault
+pub front-none : (heap : Heap) → IsAccepted heap → front heap.edition heap.words heap.roots ≡ []
+front-none heap accepted =
+    let parts = passed heap accepted in
+    let few = sizes-few heap.edition (length heap.words) (length heap.marks) (length heap.roots) parts.sizes in
+    rw (parts.row, sizes-none heap.edition (length heap.words) 0 (length heap.roots) few.0 (omega arith) few.2) refl

@@ -33,19 +33,22 @@ pub fn reachable_heap(
 }
 
 /// The same heap, with exactly the objects marked that its roots reach, in place of those that were marked. The heap
-/// that is read stays as it is; its words and roots are copied. Err if memory runs out, and never otherwise.
+/// that is read stays as it is; its words and roots are copied, and not checked again. Err if memory runs out, and never
+/// otherwise.
 pub fn remarked_heap(alloc: Global, heap: &MarkedHeap) -> Result<MarkedHeap, OutOfMemory>
     ensures made { IfOk result (λ next. next ≡ record { edition = heap.now.edition; words = heap.now.words; marks = next.marks; roots = heap.now.roots }) }
     ensures reachable { IfOk result (λ next. AreReachable heap.now.edition heap.now.words heap.now.roots next.marks) }
     ensures accepted { IfOk result IsAccepted }
     ensures stored { IfOk result IsStored }
 {
-    laws::reachable_once();
     laws::reachable_are_least();
-    let words = Vec::from_slice(alloc, heap.words())?;
-    let roots = Vec::from_slice(alloc, heap.roots())?;
-    match reachable_heap(alloc, heap.edition(), words, roots) {
-        Ok(next) => Ok(next),
+    let edition = heap.edition();
+    match reachable_marks(alloc, edition, heap.words(), heap.roots()) {
+        Ok(marks) => {
+            let words = Vec::from_slice(alloc, heap.words())?;
+            let roots = Vec::from_slice(alloc, heap.roots())?;
+            Ok(MarkedHeap::of_accepted(edition, words, marks, roots))
+        }
         Err(fault) => {
             let memory = matches!(fault, LayoutFault::OutOfMemory);
             prove!(memory);

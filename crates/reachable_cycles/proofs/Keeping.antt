@@ -55,7 +55,7 @@ module _ (stable : StableHeap) (objects : List ℕ) where
 
   -- an object's number leads on
   leads_on : (n : ℕ) → 1 ≤ n → is_immediate stable.edition n ≡ false → LeadsNowhere stable.edition n → ⊥
-  leads_on n low on nowhere = elim (nowhere-cases stable.edition n nowhere) [ | inl null ↦ omega arith | inr immediate ↦ both_ways (is_immediate stable.edition n) on immediate ]
+  leads_on n low on nowhere = elim (nowhere-cases stable.edition n nowhere) [ inl null ↦ omega arith | inr immediate ↦ both_ways (is_immediate stable.edition n) on immediate ]
 
   -- what the roots reach is kept
   pub reached_kept : MayKeep stable objects → (n : ℕ) → IsReachableIn stable stable.roots n → IsAmong objects n

@@ -1,5 +1,5 @@
 -- Cycles after which exactly the reachable objects are marked.
-use Rattle.std.proofs.Common.{◌≡◌, ℕ, ◌≤◌, suc, Option, Some, None, List, [], ◌∷◌, ◌++◌, length, Contains, refl, sym, ap, subst, ◌∙◌, arith, append_assoc}
+use Rattle.std.proofs.Common.{◌≡◌, ℕ, suc, Option, Some, None, List, [], ◌∷◌, ◌++◌, length, Contains, refl, sym, ap, subst, ◌∙◌, arith, append_assoc}
 use Rattle.heap_layout.specs.Heap.{Heap, IsClosed}
 use Rattle.heap_layout.specs.declared.kind.Kind.{Kind}
 use Rattle.heap_layout.specs.declared.kind.Kind.TheVariants.{Header, Reference, Weak, Data}

@@ -1,5 +1,5 @@
 -- The objects that the roots reach, in a heap and in object numbers.
-use Rattle.std.proofs.Common.{◌≡◌, ℕ, zero, suc, ◌+◌, ◌<◌, ◌≤◌, ◌↔◌, ◌^◌, true, false, List, [], ◌∷◌, All, length, get_or, drop, Contains, refl, sym, ap, ap₂, subst, ◌∙◌, inl, inr, arith}
+use Rattle.std.proofs.Common.{◌≡◌, ℕ, zero, suc, ◌+◌, ◌<◌, ◌≤◌, ◌↔◌, true, false, List, [], ◌∷◌, All, length, get_or, drop, Contains, refl, sym, ap, ap₂, subst, ◌∙◌, inl, inr, arith}
 use mathlib.Core.Option.{some}
 use Rattle.std.proofs.lemmas.Bool.{both_ways}
 use Rattle.std.proofs.lemmas.List.{length-map, length-take, length-drop, get_or-map, get_or-take, get_or-drop}

@@ -4,7 +4,7 @@ ghost use Rattle.heap_layout.specs.Bits.{leads};
 ghost use Rattle.heap_layout.specs.Values.{or_immediate};
 ghost use Rattle.heap_layout.specs.Faults.{root_faults_by, Reports};
 ghost use Rattle.comp_history.specs.Objects.{LeadsToObject};
-ghost use Rattle.comp_cycles.specs.Ends.{cycle_with, setup_in, AreMoved, IsEndOf};
+ghost use Rattle.comp_cycles.specs.Ends.{cycle_with, setup_in, AreLowered, AreMoved, IsEndOf};
 ghost use Rattle.comp_cycles.specs.Finishes.{journals_of, pages_of};
 ghost use Rattle.reachable_cycles.specs.NextRoots.{Fits, IsRefusedWith};
 ghost use Rattle.reachable_cycles.specs.StableReach.{AreMarkedReachable};
@@ -15,11 +15,12 @@ use page_plan::Builder;
 use reachability::reachable_marks;
 use std::alloc::Global;
 
-/// The words of the next heap, and the marks of the objects that its roots reach, rising.
+/// The words of the next heap, the marks of the objects that its roots reach, rising, and its roots.
 #[derive(Drop)]
 pub(crate) struct Marked {
     pub(crate) moved: Moved,
     pub(crate) marks: Vec<u32>,
+    pub(crate) roots: Vec<u64>,
 }
 
 // Whether a root of the next heap is null, an immediate or the address of an object. `starts` has a bit for each word of
@@ -65,6 +66,7 @@ pub(crate) fn mark_next<B: Builder>(
     requires { IsEndOf (B.heap builder.now) finished.now }
     ensures moved { IfOk result (λ marked. AreMoved (setup_in (B.heap builder.now) finished.now) (journals_of finished.now) (64 * length (pages_of finished.now)) marked.moved.words.items marked.moved.starts.items) }
     ensures bits { IfOk result (λ marked. length marked.moved.starts.items ≡ length (pages_of finished.now)) }
+    ensures roots { IfOk result (λ marked. AreLowered finished.now roots.now marked.roots.items) }
     ensures fits { IfOk result (λ _. Fits (setup_in (B.heap builder.now) finished.now) roots.now) }
     ensures lead { IfOk result (λ _. All (LeadsToObject (setup_in (B.heap builder.now) finished.now) (journals_of finished.now)) roots.now) }
     ensures reachable { IfOk result (λ marked. AreMarkedReachable (cycle_with (B.heap builder.now) finished.now roots.now marked.marks.items)) }
@@ -81,5 +83,9 @@ pub(crate) fn mark_next<B: Builder>(
     };
     check_roots(edition, &moved.starts, &lowered)?;
     let marks = reachable_marks(alloc, edition, &moved.words, &lowered)?;
-    Ok(Marked { moved, marks })
+    Ok(Marked {
+        moved,
+        marks,
+        roots: lowered,
+    })
 }

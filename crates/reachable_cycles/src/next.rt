@@ -19,7 +19,8 @@ use std::alloc::Global;
 
 /// Makes the heap with which the next cycle begins, as `Finished::next_cycle` does, but finds the marks itself: exactly
 /// the objects are marked that the roots of that heap reach. So each object that a root reaches is kept, and each other
-/// one is dropped. The next heap has 64 words for each page. The builder must be that of the flip.
+/// one is dropped. The next heap has 64 words for each page. With these marks it is accepted, by the law
+/// `next_heap_is_accepted`, so it is not checked again. The builder must be that of the flip.
 ///
 /// Refusals: `TooLarge` if the next heap would have more words than its edition allows; if it would not, `OutOfMemory`.
 /// After a refusal the finished heap is handed back unchanged.
@@ -45,7 +46,7 @@ pub fn next_reachable<B: Builder>(
     laws::cycle_keeps_reachable();
     laws::next_heap_is_accepted();
     match mark_next(alloc, builder, &finished, finished.roots()) {
-        Ok(found) => finished.next_moved(alloc, builder, found.moved, found.marks),
+        Ok(found) => { Ok(finished.next_accepted(builder, found.moved, found.marks, found.roots)) }
         Err(fault) => Err(NotCycled { fault, finished }),
     }
 }
@@ -80,7 +81,9 @@ pub fn next_reachable_with<B: Builder>(
     laws::cycle_keeps_reachable();
     laws::next_heap_is_accepted();
     match mark_next(alloc, builder, &finished, roots) {
-        Ok(found) => { finished.next_moved_with(alloc, builder, found.moved, found.marks, roots) }
+        Ok(found) => {
+            Ok(finished.next_accepted_with(builder, found.moved, found.marks, roots, found.roots))
+        }
         Err(fault) => Err(NotCycled { fault, finished }),
     }
 }

@@ -1,4 +1,4 @@
-use Rattle.std.proofs.Common.{◌≡◌, ℕ, ◌+◌, Bool, true, false, Option, Some, None, List, refl, sym, subst, ◌∙◌}
+use Rattle.std.proofs.Common.{◌≡◌, ℕ, ◌+◌, true, false, Option, Some, None, List, refl, sym, subst, ◌∙◌}
 use Rattle.std.specs.Option.{option_eq}
 use Rattle.heap_layout.specs.contracts.kind.KindPartialEq.TheImpl.{eq-value}
 use Rattle.heap_layout.specs.declared.kind.Kind.{Kind}
