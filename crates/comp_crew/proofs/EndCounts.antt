@@ -1,10 +1,11 @@
 -- The counts of the flip whose end a finished heap is.
-use Rattle.std.proofs.Common.{◌≡◌, ℕ, ◌-◌, ◌≤◌, length, refl, ap, sym, ◌∙◌, arith}
+use Rattle.std.proofs.Common.{◌≡◌, ℕ, ◌-◌, ◌≤◌, length, refl, ap, sym, subst, ◌∙◌, arith}
 use Rattle.std.proofs.lemmas.List.{length-map}
-use Rattle.heap_layout.specs.Heap.{live}
+use Rattle.heap_layout.specs.Heap.{Heap, live}
 use Rattle.heap_layout.specs.Limits.{most_fresh_pages}
 use Rattle.page_plan.specs.Sliding as sliding
 use Rattle.cell_steps.specs.Passes.{builds_of}
+use Rattle.comp_cycles.specs.Ends.{IsEndOf}
 use Rattle.comp_cycles.specs.Finishes.{builds_in, pages_of, IsOfFlip}
 use Rattle.comp_cycles.specs.declared.finished.Finished.{Finished}
 use Rattle.comp_crew.specs.Finishing.{finished_of, heap_of, setup_at_end, IsEnded}
@@ -36,3 +37,7 @@ flip_at_end e h =
 pub flip_heap : (e : Ended) (h : IsEnded e) → (flip_at_end e h).setup.heap ≡ heap_of e
 unfolding flip_at_end
 flip_heap e h = refl
+
+-- the end of a cycle, of an equal heap
+pub end_moved : (h g : Heap) (f : Finished) → h ≡ g → IsEndOf h f → IsEndOf g f
+end_moved h g f e end = subst (λ (x : Heap). IsEndOf x f) e end

@@ -1,5 +1,2 @@
 mod Parts
-mod Flipped
-mod Crews
-mod OneCrew
 pub mod EndCounts

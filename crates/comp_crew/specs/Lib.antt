@@ -1,4 +1,5 @@
 pub mod Members
+pub mod Benches
 pub mod Orders
 pub mod Finishing
 pub use Rattle.comp_access.specs.Allocations

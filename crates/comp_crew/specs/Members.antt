@@ -1,8 +1,7 @@
 -- The mutators of a crew, and what they share.
-use Rattle.std.specs.Prelude.{◌≡◌, ℕ, List, map, All}
-use Rattle.heap_layout.specs.Heap.{Heap, live}
-use Rattle.page_plan.specs.Sliding as sliding
+use Rattle.std.specs.Prelude.{◌≡◌, ℕ}
 use Rattle.cell_steps.specs.Setup.{Setup}
+use Rattle.cell_steps.specs.Passes.{number_of}
 use Rattle.cell_steps.specs.declared.pass.Pass.{Pass}
 use Rattle.cell_steps.specs.declared.steps.Steps.{Steps}
 use Rattle.page_cells.specs.CellViews as cells
@@ -22,6 +21,10 @@ made_of m = hands.made_of m.hand
 -- what the member shares with the others of its crew
 abbrev pub crew_of : Member → Crew
 crew_of m = m.crew.value
+
+-- the member's number
+abbrev pub number_of_member : Member → ℕ
+number_of_member m = number_of (pass_of m)
 
 -- the name of its crew
 abbrev pub name_of : Member → ℕ
@@ -50,19 +53,3 @@ IsMember m = hands.IsHandOf m.crew.value.cells m.hand
 -- if the names of their crews are equal, they are of one crew
 abbrev pub AreToldApart : Member → Member → Type 0
 AreToldApart m other = name_of m ≡ name_of other → crew_of m ≡ crew_of other
-
--- all these members are of one crew
-abbrev pub AreOf : Crew → List Member → Type 0
-AreOf crew members = All (λ m. crew_of m ≡ crew) members
-
--- These are the members of a new crew of this name, over this heap: none of them has done anything.
-pub record IsFlipped (heap : Heap) (name n fresh : ℕ) (members : List Member) : Type 0 where
-  pub crew : Crew
-  pub of : AreOf crew members
-  pub each : All IsMember members
-  pub name_is : crew.name ≡ name
-  pub heap_is : (setup_in crew).heap ≡ heap
-  pub compacted_are : (setup_in crew).compacted ≡ sliding.pages (live heap)
-  pub fresh_are : (setup_in crew).fresh ≡ fresh
-  pub mutators_are : (setup_in crew).mutators ≡ n
-  pub new : cells.AreNew (steps_of crew) n (map pass_of members)

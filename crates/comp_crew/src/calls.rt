@@ -3,13 +3,14 @@
 ghost use Rattle.std.specs.Prelude.{◌≡◌, ℕ, ◌+◌, ◌<◌, Ok, IfErr, IfOk, IsErrOf, OnErr, OnOk};
 ghost use Rattle.heap_layout.specs.Header.{header_with};
 ghost use Rattle.cell_steps.specs.Setup as setups;
-ghost use Rattle.cell_steps.specs.Passes.{builds_of, did, HasSeenBuilt};
+ghost use Rattle.cell_steps.specs.Passes.{builds_of, did, lost, HasSeenBuilt};
 ghost use Rattle.page_cells.specs.Calls.{Grows, WroteNothing};
 ghost use Rattle.comp_access.specs.Allocations.{asked_size, AllocatesAsked, AskedRefused};
 ghost use Rattle.comp_access.specs.Copies.{builds_after, CopyRefused, IsCopy, PageRefused};
 ghost use Rattle.comp_access.specs.Reads.{KnowsBuilt, MayBuild};
 ghost use Rattle.comp_access.specs.declared.pages.Touched.TheVariants.{AlreadyBuilt};
 ghost use Rattle.comp_access.specs.declared.refusal.Refusal.TheVariants.{Busy};
+ghost use Rattle.comp_access.specs.declared.refusal.Refusal.TheVariants as refusals;
 ghost use Rattle.comp_crew.specs.Members.{crew_of, made_of, pass_of, setup_of, IsMember};
 
 use crate::member::Member;
@@ -59,6 +60,7 @@ impl Member {
         ensures alone { (setup_of self.old).mutators ≡ 1 → (q : ℕ) → IsErrOf result (Busy q) → ⊥ }
         ensures known { KnowsBuilt (pass_of self.old) p → result ≡ Ok AlreadyBuilt }
         ensures unbuilt { (q : ℕ) → IsErrOf result (Busy q) → HasSeenBuilt (pass_of self.new) p → ⊥ }
+        ensures unlost { IsErrOf result refusals.OutOfMemory → lost (pass_of self.new) p ≡ lost (pass_of self.old) p }
         ensures refused { IfErr result (λ refusal. (builds_of (pass_of self.new) ≡ builds_of (pass_of self.old)) × PageRefused p (pass_of self.old) (pass_of self.new) refusal) }
     {
         let Member { crew, hand } = self;

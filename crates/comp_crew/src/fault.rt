@@ -29,13 +29,10 @@ pub enum FinishFault {
     /// Out of memory.
     #[error("M8 OutOfMemory")]
     OutOfMemory,
-    /// This is the least number of a mutator that was not handed in.
+    /// This is the least number of a mutator that was not handed back.
     #[error("M9 MutatorMissing({0})")]
     MutatorMissing(u8),
-    /// Mutators of two crews were handed in.
-    #[error("M12 OtherCrew")]
-    OtherCrew,
-    /// The crew's cells have an owner that was not handed in. All that was handed in is dropped.
+    /// No mutator is missing, and the crew's cells have an owner besides the crew.
     #[error("M13 StillShared")]
     StillShared,
 }

@@ -3,8 +3,8 @@ mod calls;
 mod counts;
 mod next;
 
+use crate::bench::Bench;
 use crate::fault::FinishFault;
-use crate::member::Member;
 pub use calls::finish;
 use comp_cycles::Finished;
 pub use next::NotFollowed;
@@ -18,11 +18,11 @@ pub struct Ended {
     pub(crate) finished: Finished,
 }
 
-/// A crew that was not finished: the fault, and the members that were handed in.
+/// A crew that was not finished: the fault, and the crew.
 #[derive(Drop)]
 pub struct Unfinished {
     /// Why the crew was not finished.
     pub fault: FinishFault,
-    /// The members that were handed in, unchanged; none after `StillShared`.
-    pub members: Vec<Member>,
+    /// The crew with all the hands that it had.
+    pub bench: Bench,
 }

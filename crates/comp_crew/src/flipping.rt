@@ -1,37 +1,40 @@
-ghost use Rattle.std.specs.Prelude.{◌≡◌, ◌↔◌, ◌^◌, ◌≤◌, map, All, IfOk, IsErrOf};
+ghost use Rattle.std.specs.Prelude.{◌≡◌, ◌↔◌, ◌^◌, ◌≤◌, map, vec_capacity, All, IfOk, IsErrOf};
 ghost use Rattle.heap_layout.specs.Limits.{most_fresh_pages};
-ghost use Rattle.page_cells.specs.CellViews.{AreNew};
-ghost use Rattle.comp_crew.specs.Members.{pass_of, setup_in, steps_of, AreBadCounts, AreOf, IsFlipped, IsMember};
+ghost use Rattle.page_cells.specs.CellViews.{setup_of, steps_of, AreNew};
+ghost use Rattle.comp_hand.specs.Hands.{pass_of, IsHandOf};
+ghost use Rattle.comp_hand.specs.declared.hand.Hand.{Hand as AHand};
+ghost use Rattle.comp_crew.specs.Benches.{IsFlipped};
+ghost use Rattle.comp_crew.specs.Members.{AreBadCounts};
 ghost use Rattle.comp_crew.specs.declared.fault.CrewFault.TheVariants.{BadCounts};
 
+use crate::bench::Bench;
 use crate::crew::Crew;
 use crate::fault::CrewFault;
-use crate::member::Member;
+use comp_hand::Hand;
 use heap_layout::{MAX_MUTATORS, OutOfMemory};
 use page_cells::{Cells, Pass};
 use page_plan::Plan;
 use std::alloc::Global;
 use std::sync::Arc;
 
-// Makes a member for each pass, in order.
-fn new_members(
+// Makes a hand for each pass, in order, with room for no fewer than there are mutators.
+fn new_hands(
     alloc: Global,
-    crew: &Arc<Crew>,
+    cells: &Cells<Plan>,
     passes: Vec<Pass>,
     fresh: u32,
     mutators: u8,
-) -> Result<Vec<Member>, OutOfMemory>
-    requires new { AreNew (steps_of crew.now.value) mutators passes.items }
-    requires fresh { (fresh ≡ (setup_in crew.now.value).fresh) × (fresh ≤ 2 ^ 20) }
-    requires mutators { (mutators ≡ (setup_in crew.now.value).mutators) × (1 ≤ mutators) × (mutators ≤ 64) }
+) -> Result<Vec<Hand>, OutOfMemory>
+    requires new { AreNew (steps_of cells.now) mutators passes.items }
+    requires fresh { (fresh ≡ (setup_of cells.now).fresh) × (fresh ≤ 2 ^ 20) }
+    requires mutators { (mutators ≡ (setup_of cells.now).mutators) × (1 ≤ mutators) × (mutators ≤ 64) }
     ensures passes { IfOk result (λ made. map pass_of made.items ≡ passes.items) }
-    ensures members { IfOk result (λ made. All IsMember made.items) }
-    ensures of { IfOk result (λ made. AreOf crew.now.value made.items) }
+    ensures of { IfOk result (λ made. All (λ (hand : AHand). IsHandOf cells.now hand) made.items) }
+    ensures room { IfOk result (λ made. mutators ≤ vec_capacity made) }
 {
     let mut made = Vec::with_capacity(alloc, passes.len())?;
     for pass in passes {
-        let own = Arc::try_clone(crew)?;
-        made.push_reserved(Member::new(alloc, own, pass, fresh, mutators)?);
+        made.push_reserved(Hand::new(alloc, cells, pass, fresh, mutators)?);
     }
     Ok(made)
 }
@@ -43,11 +46,11 @@ fn flip_good(
     name: u64,
     n: u8,
     fresh_pages: u32,
-) -> Result<Vec<Member>, OutOfMemory>
+) -> Result<Bench, OutOfMemory>
     requires some { 1 ≤ n }
     requires few { n ≤ 64 }
     requires fresh { fresh_pages ≤ most_fresh_pages plan.value.edition }
-    ensures { IfOk result (λ members. IsFlipped plan.value name n fresh_pages members.items) }
+    ensures { IfOk result (IsFlipped plan.value name n fresh_pages) }
 {
     let roots = plan.forward_roots(alloc)?;
     let kept = Arc::try_clone(&plan)?;
@@ -59,34 +62,35 @@ fn flip_good(
         mutators: n,
         name,
     };
+    let hands = new_hands(alloc, &crew.cells, passes, fresh_pages, n)?;
     match Arc::new(alloc, crew) {
-        Ok(crew) => new_members(alloc, &crew, passes, fresh_pages, n),
+        Ok(crew) => Ok(Bench { crew, hands }),
         Err(_) => Err(OutOfMemory),
     }
 }
 
-/// Flips a heap, and makes its crew of `n` members, which have done nothing, and `fresh_pages` fresh pages. From then
+/// Flips a heap, and makes its crew of `n` mutators, which have done nothing, and `fresh_pages` fresh pages. From then
 /// on all references and weak words lead into to-space, and the first touch of a page builds it. No page is built yet.
 ///
 /// `n` must be 1 to 64, and `fresh_pages` at most as many as the edition of the heap allows; other counts are refused
 /// first (`BadCounts`). The only other refusal is out of memory. The caller gives each crew a name of its own, by which
-/// `meet` and `finish` tell crews apart.
+/// `meet` and `give` tell crews apart.
 pub fn flip(
     alloc: Global,
     plan: Arc<Plan>,
     name: u64,
     n: u8,
     fresh_pages: u32,
-) -> Result<Vec<Member>, CrewFault>
+) -> Result<Bench, CrewFault>
     ensures bad { IsErrOf result BadCounts ↔ AreBadCounts plan.value.edition n fresh_pages }
-    ensures flipped { IfOk result (λ members. IsFlipped plan.value name n fresh_pages members.items) }
+    ensures flipped { IfOk result (IsFlipped plan.value name n fresh_pages) }
 {
     let most = plan.heap().edition().max_fresh_pages();
     if n < 1 || u32::from(n) > MAX_MUTATORS || fresh_pages > most {
         return Err(CrewFault::BadCounts);
     }
     match flip_good(alloc, plan, name, n, fresh_pages) {
-        Ok(members) => Ok(members),
+        Ok(bench) => Ok(bench),
         Err(_) => Err(CrewFault::OutOfMemory),
     }
 }

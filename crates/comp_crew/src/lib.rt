@@ -3,6 +3,7 @@
 //! and its caller's threads make the calls.
 #![tactic(auto)]
 
+mod bench;
 mod calls;
 mod crew;
 mod fault;
@@ -12,6 +13,7 @@ mod flipping;
 mod meeting;
 mod member;
 
+pub use bench::Bench;
 pub use comp_access::{PageCopy, Refusal, Touched};
 pub use comp_cycles::Finished;
 pub use crew::Crew;

@@ -1,15 +1,11 @@
-ghost use Rattle.std.specs.Prelude.{◌≡◌, ◌^◌, ◌≤◌, [], length, IfOk};
+ghost use Rattle.std.specs.Prelude.{◌≡◌, length};
 ghost use Rattle.cell_steps.specs.Setup as setups;
-ghost use Rattle.cell_steps.specs.Passes.{builds_of, did, edition_of, number_of, Rests};
-ghost use Rattle.page_cells.specs.CellViews.{setup_of, IsPassOf};
+ghost use Rattle.cell_steps.specs.Passes.{builds_of, did, edition_of, number_of};
 ghost use Rattle.comp_history.specs.Shares.{allocated};
 ghost use Rattle.comp_cycles.specs.Forwarded.{AreForwarded};
 
 use crate::crew::Crew;
 use comp_hand::Hand;
-use heap_layout::{Numbered, OutOfMemory};
-use page_cells::Pass;
-use std::alloc::Global;
 use std::sync::Arc;
 
 /// A mutator of a crew: a reader and writer of a heap that is being compacted, with a share of what the crew has.
@@ -19,38 +15,9 @@ pub struct Member {
     pub(crate) hand: Hand,
 }
 
-impl Numbered for Member {
-    ghost use Rattle.comp_crew.specs.Members.{pass_of};
-
-    ghost number_of = { λ m. number_of (pass_of m) };
-
-    fn number(&self) -> u8 {
-        Member::number(self)
-    }
-}
-
 impl Member {
-    ghost use Rattle.comp_crew.specs.Members.{crew_of, made_of, name_of, pass_of, IsMember};
+    ghost use Rattle.comp_crew.specs.Members.{made_of, name_of, pass_of};
     ghost use Rattle.comp_crew.specs.Members as members;
-
-    /// Makes a mutator that has done nothing.
-    pub(crate) fn new(
-        alloc: Global,
-        crew: Arc<Crew>,
-        pass: Pass,
-        fresh: u32,
-        mutators: u8,
-    ) -> Result<Member, OutOfMemory>
-        requires of { IsPassOf crew.value.cells pass × Rests pass × (did pass ≡ []) }
-        requires fresh { (fresh ≡ (setup_of crew.value.cells).fresh) × (fresh ≤ 2 ^ 20) }
-        requires mutators { (mutators ≡ (setup_of crew.value.cells).mutators) × (1 ≤ mutators) × (mutators ≤ 64) }
-        ensures pass { IfOk result (λ m. pass_of m ≡ pass) }
-        ensures crew { IfOk result (λ m. crew_of m ≡ crew.value) }
-        ensures of { IfOk result IsMember }
-    {
-        let hand = Hand::new(alloc, &crew.cells, pass, fresh, mutators)?;
-        Ok(Member { crew, hand })
-    }
 
     /// The mutator's number.
     pub fn number(&self) -> u8

@@ -17,6 +17,6 @@ module _ (P : Member → Member → Answer → Type 0) (old new : Option Kept) (
   not_called Nothing never e f g = subst (λ (o : Option Kept). Calls P o new a) (sym e) (f, g)
   not_called (Heap heap) never e f g = subst (λ (o : Option Kept). Calls P o new a) (sym e) (f, g)
   not_called (Plan plan) never e f g = subst (λ (o : Option Kept). Calls P o new a) (sym e) (f, g)
-  not_called (Crew members) never e f g = subst (λ (o : Option Kept). Calls P o new a) (sym e) (f, g)
+  not_called (Crew bench) never e f g = subst (λ (o : Option Kept). Calls P o new a) (sym e) (f, g)
   not_called (Mutator m) never e f g = absurd (never m refl)
   not_called (Ended ended) never e f g = subst (λ (o : Option Kept). Calls P o new a) (sym e) (f, g)

@@ -31,6 +31,7 @@ use Rattle.core.specs.contracts.option.Option as Option
 use Rattle.comp_journal.specs.contracts.kept_log.KeptLog as Log
 use Rattle.comp_journal.proofs.kept_log.KeptLog.TheSendSync as log
 use Rattle.heap_layout.proofs.heap.MarkedHeap.TheSendSync as marked
+use Rattle.comp_crew.proofs.bench.Bench.TheSendSync as bench
 use Rattle.comp_crew.proofs.member.Member.TheSendSync as member
 use Rattle.page_plan.proofs.plan.Plan.TheSendSync as plan
 use denote.Param.Send.{recorded_send, enum_send}
@@ -39,7 +40,6 @@ use denote.Enum.Enum.{Enum}
 use Rattle.core.proofs.option.Option.TheSendSync as option
 use Rattle.std_alloc.specs.contracts.arc.Arc as Arc
 use Rattle.page_plan.specs.contracts.plan.Plan as Plan
-use Rattle.comp_crew.specs.contracts.member.Member as Member
 
 room : (τ : Ty) (p : Ptr) → Keyless (room_for τ p)
 room τ (block_ptr b o) = tt
@@ -113,4 +113,4 @@ ended_field_send = struct_send (S.shape Ended.the_type) (arc_send, (finished_fie
 -- what a handle keeps
 pub kept_send : IsSend Kept.the_row
 kept_send = recorded_send (Enum (E.shape Kept.the_type)) (Kept.the_type).D (Kept.the_type).to (Kept.the_type).to_one
-    (enum_send (E.shape Kept.the_type) (tt, ((marked.the_send, tt), ((arc_send, tt), ((heap.Vec-send Member.the_row member.the_send, tt), ((member.the_field_send, tt), ((ended_field_send, tt), tt)))))))
+    (enum_send (E.shape Kept.the_type) (tt, ((marked.the_send, tt), ((arc_send, tt), ((bench.the_field_send, tt), ((member.the_field_send, tt), ((ended_field_send, tt), tt)))))))

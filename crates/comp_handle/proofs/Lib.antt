@@ -4,3 +4,4 @@ mod Whys
 mod Crossing
 mod Dumps
 mod Lengths
+mod Refusing

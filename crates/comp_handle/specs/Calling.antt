@@ -8,7 +8,7 @@ use Rattle.comp_crew.specs.Calls.{Grows, WroteNothing}
 use Rattle.comp_crew.specs.Copies.{builds_after, PageRefused}
 use Rattle.comp_crew.specs.Forwarded.{AreForwarded}
 use Rattle.comp_crew.specs.Members.{crew_of, made_of, pass_of, setup_of}
-use Rattle.comp_crew.specs.Passes.{builds_of, did, edition_of, number_of, HasSeenBuilt}
+use Rattle.comp_crew.specs.Passes.{builds_of, did, edition_of, lost, number_of, HasSeenBuilt}
 use Rattle.comp_crew.specs.ReadCalls.{IsRead}
 use Rattle.comp_crew.specs.Reads.{IsNeverBusy, KnowsBuilt}
 use Rattle.comp_crew.specs.Setup.{pages}
@@ -18,7 +18,7 @@ use Rattle.comp_crew.specs.declared.member.Member.{Member}
 use Rattle.comp_crew.specs.Touched.{Touched}
 use Rattle.comp_crew.specs.Touched.TheVariants.{Built, AlreadyBuilt}
 use Rattle.comp_crew.specs.Refusal.{Refusal}
-use Rattle.comp_crew.specs.Refusal.TheVariants.{Busy}
+use Rattle.comp_crew.specs.Refusal.TheVariants.{Busy, OutOfMemory}
 use Rattle.comp_handle.specs.Answers.{bare, done, empty_handle, of_refusal, wrong_handle, IsAnswer, IsPlace}
 use Rattle.comp_handle.specs.declared.answer.Answer.{Answer}
 use Rattle.comp_handle.specs.declared.calling.Call.{Call}
@@ -67,6 +67,8 @@ pub record TouchesPage (p : ℕ) (m n : Member) (r : Result Touched Refusal) : T
   pub known : KnowsBuilt (pass_of m) p → r ≡ Ok AlreadyBuilt
   pub alone : IsNeverBusyAlone m r
   pub unbuilt : (q : ℕ) → IsErrOf r (Busy q) → HasSeenBuilt (pass_of n) p → ⊥
+  -- for want of memory only if it lost no step to another mutator
+  pub unlost : IsErrOf r OutOfMemory → lost (pass_of n) p ≡ lost (pass_of m) p
   pub refused : IfErr r (λ refusal. (builds_of (pass_of n) ≡ builds_of (pass_of m)) × PageRefused p (pass_of m) (pass_of n) refusal)
 
 abbrev pub IsTouchAnswer : Result Touched Refusal → Answer → Type 0
@@ -120,5 +122,5 @@ Calls P (Some (Mutator m)) new a = (n : Member) × (new ≡ Some (Mutator n)) ×
 Calls P (Some Nothing) new a = (new ≡ Some Nothing) × (a ≡ wrong_handle)
 Calls P (Some (Heap heap)) new a = (new ≡ Some (Heap heap)) × (a ≡ wrong_handle)
 Calls P (Some (Plan plan)) new a = (new ≡ Some (Plan plan)) × (a ≡ wrong_handle)
-Calls P (Some (Crew members)) new a = (new ≡ Some (Crew members)) × (a ≡ wrong_handle)
+Calls P (Some (Crew bench)) new a = (new ≡ Some (Crew bench)) × (a ≡ wrong_handle)
 Calls P (Some (Ended e)) new a = (new ≡ Some (Ended e)) × (a ≡ wrong_handle)

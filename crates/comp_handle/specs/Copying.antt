@@ -33,7 +33,7 @@ AsksInto P R (Some (kept.Mutator m)) a = P m a
 AsksInto P R (Some kept.Nothing) a = (a ≡ wrong_handle) × R
 AsksInto P R (Some (kept.Heap heap)) a = (a ≡ wrong_handle) × R
 AsksInto P R (Some (kept.Plan plan)) a = (a ≡ wrong_handle) × R
-AsksInto P R (Some (kept.Crew members)) a = (a ≡ wrong_handle) × R
+AsksInto P R (Some (kept.Crew bench)) a = (a ≡ wrong_handle) × R
 AsksInto P R (Some (kept.Ended e)) a = (a ≡ wrong_handle) × R
 
 -- the same; or there is no memory for the list, and the buffer stays as it was

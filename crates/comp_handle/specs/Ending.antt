@@ -54,7 +54,7 @@ LooksInto P R (Some (kept.Ended e)) a = P e a
 LooksInto P R (Some kept.Nothing) a = (a ≡ wrong_handle) × R
 LooksInto P R (Some (kept.Heap heap)) a = (a ≡ wrong_handle) × R
 LooksInto P R (Some (kept.Plan plan)) a = (a ≡ wrong_handle) × R
-LooksInto P R (Some (kept.Crew members)) a = (a ≡ wrong_handle) × R
+LooksInto P R (Some (kept.Crew bench)) a = (a ≡ wrong_handle) × R
 LooksInto P R (Some (kept.Mutator m)) a = (a ≡ wrong_handle) × R
 
 abbrev pub Looks : (End → Answer → Type 0) → Option Kept → Answer → Type 0

@@ -23,7 +23,7 @@ HasHeap P R None a = (a ≡ empty_handle) × R
 HasHeap P R (Some (kept.Heap heap)) a = P heap a
 HasHeap P R (Some kept.Nothing) a = (a ≡ wrong_handle) × R
 HasHeap P R (Some (kept.Plan plan)) a = (a ≡ wrong_handle) × R
-HasHeap P R (Some (kept.Crew members)) a = (a ≡ wrong_handle) × R
+HasHeap P R (Some (kept.Crew bench)) a = (a ≡ wrong_handle) × R
 HasHeap P R (Some (kept.Mutator m)) a = (a ≡ wrong_handle) × R
 HasHeap P R (Some (kept.Ended e)) a = (a ≡ wrong_handle) × R
 

@@ -1,8 +1,10 @@
 -- What becomes of two handles.
-use Rattle.std.specs.Prelude.{◌≡◌, ◌≢◌, ℕ, ◌⊎◌, ◌++◌, ◌∷◌, [], Option, None, Some}
+use Rattle.std.specs.Prelude.{◌≡◌, ◌≢◌, ℕ, ◌⊎◌, Option, None, Some}
+use Rattle.comp_crew.specs.Benches.{IsGiven, IsStranger, IsToldApart}
 use Rattle.comp_crew.specs.Calls as calls
 use Rattle.comp_crew.specs.Members.{crew_of, made_of, name_of, pass_of, AreToldApart}
 use Rattle.comp_crew.specs.Passes.{seen}
+use Rattle.comp_crew.specs.declared.bench.Bench.{Bench}
 use Rattle.comp_crew.specs.declared.member.Member.{Member}
 use Rattle.comp_handle.specs.Answers.{bare, done}
 use Rattle.comp_handle.specs.Keeping.{IsNoCrew, IsNoMutator}
@@ -10,15 +12,23 @@ use Rattle.comp_handle.specs.declared.answer.Answer.{Answer}
 use Rattle.comp_handle.specs.declared.kept.Kept.{Kept}
 use Rattle.comp_handle.specs.declared.kept.Kept.TheVariants as kept
 
--- the same, but for the room of a list
-abbrev pub IsAlike : Kept → Kept → Type 0
-IsAlike k l = (l ≡ k) ⊎ ((before : _) × (after : _) × (k ≡ kept.Crew before) × (l ≡ kept.Crew after) × (after.items ≡ before.items))
+-- they are a crew and a mutator of another one
+abbrev pub IsOfOtherCrew : Kept → Kept → Type 0
+IsOfOtherCrew k own = (bench : Bench) × (m : Member) × (k ≡ kept.Crew bench) × (own ≡ kept.Mutator m) × IsStranger bench m
 
--- the second one is a member, and joins the crew that is the first one; or it does not, and the answer says why
+-- the second one is a mutator of the crew that is the first one, and goes back to it; or nothing changes, and the answer
+-- says why
 abbrev pub Joins : Kept → Kept → Kept → Option Kept → Answer → Type 0
 Joins k own l rest a =
-    ((before : _) × (after : _) × (m : Member) × (k ≡ kept.Crew before) × (own ≡ kept.Mutator m) × (l ≡ kept.Crew after) × (after.items ≡ before.items ++ m ∷ []) × (rest ≡ None) × (a ≡ done 0))
-    ⊎ ((rest ≡ Some own) × IsAlike k l × ((a ≡ bare 9 0) ⊎ (((a ≡ bare 11 0) × IsNoCrew k) ⊎ ((a ≡ bare 11 1) × IsNoMutator own))))
+    ((before : Bench) × (after : Bench) × (m : Member) × (k ≡ kept.Crew before) × (own ≡ kept.Mutator m) × (l ≡ kept.Crew after) × IsGiven before m after × (rest ≡ None) × (a ≡ done 0))
+    ⊎ ((rest ≡ Some own) × (l ≡ k) × (((a ≡ bare 16 0) × IsOfOtherCrew k own) ⊎ (((a ≡ bare 11 0) × IsNoCrew k) ⊎ ((a ≡ bare 11 1) × IsNoMutator own))))
+
+-- the names tell the crew from that of the mutator
+abbrev pub IsTold : Kept → Kept → Type 0
+IsTold k own = (bench : Bench) (m : Member) → k ≡ kept.Crew bench → own ≡ kept.Mutator m → IsToldApart m bench
+
+abbrev pub IsToldFrom : Option Kept → Option Kept → Type 0
+IsToldFrom crew mutator = (k own : Kept) → crew ≡ Some k → mutator ≡ Some own → IsTold k own
 
 -- the same by handles, which may be empty
 abbrev pub Gives : Option Kept → Option Kept → Option Kept → Option Kept → Answer → Type 0

@@ -52,6 +52,6 @@ HasPlan P None a = a ≡ empty_handle
 HasPlan P (Some (kept.Plan plan)) a = P plan.value a
 HasPlan P (Some kept.Nothing) a = a ≡ wrong_handle
 HasPlan P (Some (kept.Heap heap)) a = a ≡ wrong_handle
-HasPlan P (Some (kept.Crew members)) a = a ≡ wrong_handle
+HasPlan P (Some (kept.Crew bench)) a = a ≡ wrong_handle
 HasPlan P (Some (kept.Mutator m)) a = a ≡ wrong_handle
 HasPlan P (Some (kept.Ended e)) a = a ≡ wrong_handle

@@ -1,5 +1,6 @@
 -- What holds of all that a handle keeps.
-use Rattle.std.specs.Prelude.{◌≡◌, Bool, true, false, Option, Some, All}
+use Rattle.std.specs.Prelude.{◌≡◌, Bool, true, false, Option, Some}
+use Rattle.comp_crew.specs.Benches.{IsBench}
 use Rattle.comp_crew.specs.Members.{IsMember}
 use Rattle.comp_crew.specs.Finishing.{IsEnded}
 use Rattle.comp_handle.specs.declared.kept.Kept.{Kept}
@@ -9,7 +10,7 @@ abbrev pub IsKept : Kept → Type 0
 IsKept Nothing = Unit {0}
 IsKept (Heap heap) = Unit {0}
 IsKept (Plan plan) = Unit {0}
-IsKept (Crew members) = All IsMember members.items
+IsKept (Crew bench) = IsBench bench
 IsKept (Mutator m) = IsMember m
 IsKept (Ended e) = IsEnded e
 
@@ -20,7 +21,7 @@ KeepsIf false kept old new = new ≡ old
 
 -- it keeps no crew
 abbrev pub IsNoCrew : Kept → Type 0
-IsNoCrew (Crew members) = ⊥
+IsNoCrew (Crew bench) = ⊥
 IsNoCrew Nothing = Unit {0}
 IsNoCrew (Heap heap) = Unit {0}
 IsNoCrew (Plan plan) = Unit {0}
@@ -33,5 +34,5 @@ IsNoMutator (Mutator m) = ⊥
 IsNoMutator Nothing = Unit {0}
 IsNoMutator (Heap heap) = Unit {0}
 IsNoMutator (Plan plan) = Unit {0}
-IsNoMutator (Crew members) = Unit {0}
+IsNoMutator (Crew bench) = Unit {0}
 IsNoMutator (Ended e) = Unit {0}

@@ -1,7 +1,7 @@
-//! A crew by its handle: it is made by a flip, its members go out to threads, and come back.
-ghost use Rattle.std.specs.Prelude.{◌≡◌, Some, IfErr, IfOk};
-ghost use Rattle.comp_crew.specs.Members.{IsMember};
-ghost use Rattle.comp_handle.specs.Crewing.{planned, Flips, FlipsOf, IsNoPlan, Splits, Takes};
+//! A crew by its handle: it is made by a flip, its mutators go out to threads, and come back.
+ghost use Rattle.std.specs.Prelude.{◌≡◌, ◌↔◌, Some, IfErr, IfOk, true};
+ghost use Rattle.comp_crew.specs.Members.{AreBadCounts, IsMember};
+ghost use Rattle.comp_handle.specs.Crewing.{planned, Flips, FlipsOf, IsUnflipped, IsUnshared, Leaves, Takes};
 ghost use Rattle.comp_handle.specs.Keeping.{IsKept};
 
 use crate::answer::Answer;
@@ -9,24 +9,43 @@ use crate::handle::Handle;
 use crate::kept::Kept;
 use crate::opening::{Opened, close, keep, open};
 use comp_crew::{CrewFault, Member, flip};
+use heap_layout::{Edition, MAX_MUTATORS};
 use page_plan::Plan;
 use std::alloc::Global;
 use std::sync::Arc;
 
-// A share of the plan that the handle keeps. The handle stays as it is.
-fn plan_of(alloc: Global, h: &mut Handle) -> Result<Arc<Plan>, Answer>
+// Whether no crew may have these counts.
+fn are_bad(edition: Edition, n: u32, fresh_pages: u32) -> bool
+    ensures { result ≡ true ↔ AreBadCounts edition n fresh_pages }
+{
+    n < 1 || n > MAX_MUTATORS || fresh_pages > edition.max_fresh_pages()
+}
+
+// A share of a plan, for a crew of these counts.
+fn share(plan: &Arc<Plan>, n: u32, fresh_pages: u32) -> Result<Arc<Plan>, Answer>
+    ensures plan { IfOk result (λ own. own.value ≡ plan.now.value) }
+    ensures none { IfErr result (IsUnflipped plan.now.value n fresh_pages) }
+{
+    if are_bad(plan.heap().edition(), n, fresh_pages) {
+        return Err(Answer::bare(14, 0));
+    }
+    match Arc::try_clone(plan) {
+        Ok(plan) => Ok(plan),
+        Err(_) => Err(Answer::bare(9, 0)),
+    }
+}
+
+// A share of the plan that the handle keeps, for a crew of these counts. The handle stays as it is.
+fn plan_of(alloc: Global, h: &mut Handle, n: u32, fresh_pages: u32) -> Result<Arc<Plan>, Answer>
     ensures same { h.new.kept ≡ h.old.kept }
     ensures plan { IfOk result (λ plan. planned h.old.kept ≡ Some plan.value) }
-    ensures none { IfErr result (IsNoPlan h.old.kept) }
+    ensures none { IfErr result (IsUnshared n fresh_pages h.old.kept) }
 {
     let Some(kept) = h.take(alloc) else {
         return Err(Answer::bare(10, 0));
     };
     let plan = match kept.as_ref() {
-        Kept::Plan(plan) => match Arc::try_clone(plan) {
-            Ok(plan) => Ok(plan),
-            Err(_) => Err(Answer::bare(9, 0)),
-        },
+        Kept::Plan(plan) => share(plan, n, fresh_pages),
         _ => Err(Answer::bare(11, 0)),
     };
     h.put_back(kept);
@@ -48,8 +67,8 @@ fn flip_plan(
         return Answer::bare(14, 0);
     };
     match flip(alloc, plan, name, count, fresh_pages) {
-        Ok(members) => {
-            if keep(alloc, crew, Kept::Crew(members)) {
+        Ok(bench) => {
+            if keep(alloc, crew, Kept::Crew(bench)) {
                 Answer::done(u64::from(n))
             } else {
                 Answer::bare(9, 0)
@@ -60,8 +79,9 @@ fn flip_plan(
     }
 }
 
-/// Flips the heap of the plan that a handle keeps, for a new crew of this name, of `n` members, with `fresh_pages`
-/// fresh pages. The handle of the crew keeps all members then. The handle of the plan stays as it is.
+/// Flips the heap of the plan that a handle keeps, for a new crew of this name, of `n` mutators, with `fresh_pages`
+/// fresh pages. The handle of the crew keeps all mutators then. The handle of the plan stays as it is. Counts that no
+/// crew may have are refused first, whatever memory there is.
 pub fn flip_crew(
     alloc: Global,
     plan: &mut Handle,
@@ -73,13 +93,13 @@ pub fn flip_crew(
     ensures same { plan.new.kept ≡ plan.old.kept }
     ensures flips { Flips name n fresh_pages plan.old.kept crew.old.kept crew.new.kept result }
 {
-    match plan_of(alloc, plan) {
+    match plan_of(alloc, plan, n, fresh_pages) {
         Ok(plan) => flip_plan(alloc, plan, name, n, fresh_pages, crew),
         Err(answer) => answer,
     }
 }
 
-// A crew and one member of it, or why there is none.
+// What a handle keeps after a mutator was taken, and the mutator, or why there is none.
 #[derive(Drop)]
 struct Split {
     kept: Kept,
@@ -90,28 +110,30 @@ fn split_off(kept: Kept) -> Split
     requires { IsKept kept }
     ensures kept { IsKept result.kept }
     ensures member { IfOk result.member IsMember }
-    ensures splits { Splits kept result.kept result.member }
+    ensures leaves { Leaves kept result.kept result.member }
 {
-    match kept {
-        Kept::Crew(mut members) => match members.pop() {
-            Some(m) => Split {
-                kept: Kept::Crew(members),
-                member: Ok(m),
-            },
-            None => Split {
-                kept: Kept::Crew(members),
-                member: Err(Answer::bare(18, 0)),
-            },
-        },
-        other => Split {
-            kept: other,
-            member: Err(Answer::bare(11, 0)),
-        },
+    let mut bench = match kept {
+        Kept::Crew(bench) => bench,
+        other => {
+            return Split {
+                kept: other,
+                member: Err(Answer::bare(11, 0)),
+            };
+        }
+    };
+    let member = match bench.take() {
+        Ok(Some(m)) => Ok(m),
+        Ok(None) => Err(Answer::bare(18, 0)),
+        Err(_) => Err(Answer::bare(9, 0)),
+    };
+    Split {
+        kept: Kept::Crew(bench),
+        member,
     }
 }
 
-/// Takes the last member out of the crew that a handle keeps; another handle keeps that member then. The answer has the
-/// member's number.
+/// Takes the mutator that was handed back last out of the crew that a handle keeps; another handle keeps that mutator
+/// then. The answer has the mutator's number. If it is refused, neither handle has changed.
 pub fn take_member(alloc: Global, crew: &mut Handle, out: &mut Handle) -> Answer
     ensures { Takes crew.old.kept crew.new.kept out.old.kept out.new.kept result }
 {

@@ -25,7 +25,7 @@ impl Model for Handle {
 
 impl Handle {
     /// An empty handle.
-    fn empty(alloc: Global) -> Handle
+    pub fn empty(alloc: Global) -> Handle
         ensures { result.kept ≡ None }
     {
         Handle {
@@ -59,8 +59,8 @@ impl Handle {
         }
     }
 
-    // Ends an empty handle. It tests nothing.
-    fn end(self)
+    /// Ends a handle. Requires that it is empty, so that there is nothing to drop. It tests nothing.
+    pub fn end(self)
         requires { self.kept ≡ None }
     {
         let Handle { at: _, alloc: _ } = self;

@@ -1,6 +1,6 @@
-//! Two handles at once: a member goes back to its crew, and two members meet.
+//! Two handles at once: a mutator goes back to its crew, and two mutators meet.
 ghost use Rattle.std.specs.Prelude.{◌≡◌, None, IfSome};
-ghost use Rattle.comp_handle.specs.Joining.{AreApart, AreKeptApart, Brings, Gives, Joins, Meets};
+ghost use Rattle.comp_handle.specs.Joining.{AreApart, AreKeptApart, Brings, Gives, IsTold, IsToldFrom, Joins, Meets};
 ghost use Rattle.comp_handle.specs.Keeping.{IsKept};
 
 use crate::answer::Answer;
@@ -9,7 +9,7 @@ use crate::kept::Kept;
 use crate::opening::{Opened, close, open};
 use std::alloc::Global;
 
-// A crew after a member came back, what is left of the member's handle, and the answer.
+// A crew after a mutator came back, what is left of the mutator's handle, and the answer.
 #[derive(Drop)]
 struct Joined {
     kept: Kept,
@@ -18,13 +18,14 @@ struct Joined {
 }
 
 fn join_crew(kept: Kept, own: Kept) -> Joined
-    requires { IsKept kept × IsKept own }
+    requires kept { IsKept kept × IsKept own }
+    requires told { IsTold kept own }
     ensures kept { IsKept result.kept }
     ensures rest { IfSome result.rest IsKept }
     ensures joins { Joins kept own result.kept result.rest result.answer }
 {
-    let mut members = match kept {
-        Kept::Crew(members) => members,
+    let mut bench = match kept {
+        Kept::Crew(bench) => bench,
         other => {
             return Joined {
                 kept: other,
@@ -37,30 +38,32 @@ fn join_crew(kept: Kept, own: Kept) -> Joined
         Kept::Mutator(m) => m,
         other => {
             return Joined {
-                kept: Kept::Crew(members),
+                kept: Kept::Crew(bench),
                 rest: Some(other),
                 answer: Answer::bare(11, 1),
             };
         }
     };
-    if members.reserve(1).is_err() {
-        return Joined {
-            kept: Kept::Crew(members),
+    match bench.give(m) {
+        Ok(()) => Joined {
+            kept: Kept::Crew(bench),
+            rest: None,
+            answer: Answer::done(0),
+        },
+        Err(m) => Joined {
+            kept: Kept::Crew(bench),
             rest: Some(Kept::Mutator(m)),
-            answer: Answer::bare(9, 0),
-        };
-    }
-    members.push_reserved(m);
-    Joined {
-        kept: Kept::Crew(members),
-        rest: None,
-        answer: Answer::done(0),
+            answer: Answer::bare(16, 0),
+        },
     }
 }
 
-/// Hands the member that a handle keeps back to the crew that another handle keeps. The member's handle is empty then.
-/// If it is refused, neither handle has changed, but for the room of the crew's list.
+/// Hands the mutator that a handle keeps back to its crew, which another handle keeps. The mutator's handle is empty
+/// then. A mutator of another crew is refused. If it is refused, neither handle has changed. Takes no memory.
+///
+/// Requires that the names tell crews apart.
 pub fn give_member(alloc: Global, crew: &mut Handle, h: &mut Handle) -> Answer
+    requires { IsToldFrom crew.old.kept h.old.kept }
     ensures { Gives crew.old.kept crew.new.kept h.old.kept h.new.kept result }
 {
     let Some(

@@ -1,4 +1,4 @@
-use comp_crew::{Ended, Member};
+use comp_crew::{Bench, Ended, Member};
 use heap_layout::MarkedHeap;
 use page_plan::Plan;
 use std::sync::Arc;
@@ -12,9 +12,9 @@ pub enum Kept {
     Heap(MarkedHeap),
     /// A plan.
     Plan(Arc<Plan>),
-    /// Members of a crew that no thread has.
-    Crew(Vec<Member>),
-    /// One member of a crew.
+    /// A crew, with its mutators that no thread has.
+    Crew(Bench),
+    /// One mutator of a crew.
     Mutator(Member),
     /// A finished heap.
     Ended(Ended),

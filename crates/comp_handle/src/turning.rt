@@ -1,14 +1,19 @@
 //! The life of a heap by its handle: it is planned, flipped, finished, and made again.
 ghost use Rattle.std.specs.Prelude.{◌≡◌, None};
+ghost use Rattle.heap_layout.specs.Faults.{Reports};
+ghost use Rattle.comp_crew.specs.Ends.{next_sizes};
+ghost use Rattle.comp_crew.specs.Finishes.{roots_of};
+ghost use Rattle.comp_crew.specs.Finishing.{finished_of, IsEnded};
 ghost use Rattle.comp_handle.specs.Keeping.{IsKept};
-ghost use Rattle.comp_handle.specs.Turning.{ApartIn, Finishes, Follows, FollowsBy, FollowsReached, IsApart, Plans, Turns};
+ghost use Rattle.comp_handle.specs.Turning.{Finishes, Follows, FollowsBy, FollowsReached, NextOf, Plans, Turns};
 
 use crate::answer::Answer;
 use crate::handle::Handle;
 use crate::kept::Kept;
 use crate::making::copied_marks;
 use crate::opening::{Opened, close, open};
-use comp_crew::{FinishFault, finish};
+use comp_crew::{Ended, FinishFault, finish};
+use heap_layout::{LayoutFault, check_sizes};
 use page_plan::Plan;
 use std::alloc::Global;
 use std::sync::Arc;
@@ -68,13 +73,12 @@ pub fn plan_heap(alloc: Global, h: &mut Handle) -> Answer
 }
 
 fn finished(alloc: Global, kept: Kept) -> Turned
-    requires kept { IsKept kept }
-    requires apart { ApartIn kept }
+    requires { IsKept kept }
     ensures kept { IsKept result.kept }
     ensures finishes { Finishes kept result.kept result.answer }
 {
-    let members = match kept {
-        Kept::Crew(members) => members,
+    let bench = match kept {
+        Kept::Crew(bench) => bench,
         other => {
             return Turned {
                 kept: other,
@@ -82,7 +86,7 @@ fn finished(alloc: Global, kept: Kept) -> Turned
             };
         }
     };
-    match finish(alloc, members) {
+    match finish(alloc, bench) {
         Ok(ended) => {
             let live = ended.finished().live_words();
             Turned {
@@ -94,20 +98,16 @@ fn finished(alloc: Global, kept: Kept) -> Turned
             answer: match left.fault {
                 FinishFault::OutOfMemory => Answer::bare(9, 0),
                 FinishFault::MutatorMissing(k) => Answer::bare(15, u64::from(k)),
-                FinishFault::OtherCrew => Answer::bare(16, 0),
                 FinishFault::StillShared => Answer::bare(17, 0),
             },
-            kept: Kept::Crew(left.members),
+            kept: Kept::Crew(left.bench),
         },
     }
 }
 
-/// Finishes the crew whose members the handle keeps; from then on it keeps the finished heap. The answer has the number
-/// of live words.
-///
-/// Requires that the names tell crews apart.
+/// Finishes the crew that the handle keeps; from then on it keeps the finished heap. The answer has the number of live
+/// words. If it is refused, the handle keeps the crew with all mutators that it had.
 pub fn finish_crew(alloc: Global, h: &mut Handle) -> Answer
-    requires { IsApart h.old.kept }
     ensures { Turns Finishes h.old.kept h.new.kept result }
 {
     let Some(Opened { room, kept }) = open(alloc, h) else {
@@ -118,19 +118,37 @@ pub fn finish_crew(alloc: Global, h: &mut Handle) -> Answer
     answer
 }
 
-fn followed(alloc: Global, kept: Kept, marks: Vec<u32>) -> Turned
-    requires { IsKept kept }
-    ensures kept { IsKept result.kept }
-    ensures follows { Follows marks.items kept result.kept result.answer }
+// Checks the numbers of words, marks and roots of the next heap.
+fn check_next(ended: &Ended, marks: &[u32]) -> Result<(), LayoutFault>
+    requires { IsEnded ended.now }
+    ensures { Reports (next_sizes (finished_of ended.now) marks.now (roots_of (finished_of ended.now))) result }
 {
-    let ended = match kept {
-        Kept::Ended(ended) => ended,
-        other => {
-            return Turned {
-                kept: other,
-                answer: Answer::bare(11, 0),
-            };
-        }
+    let finished = ended.finished();
+    check_sizes(
+        finished.edition(),
+        64 * finished.pages().len(),
+        marks.len(),
+        finished.roots().len(),
+    )
+}
+
+// The next heap with these marks.
+fn next_with(alloc: Global, ended: Ended, marks: &[u32]) -> Turned
+    requires { IsEnded ended }
+    ensures kept { IsKept result.kept }
+    ensures next { NextOf marks.now ended result.kept result.answer }
+{
+    if let Err(fault) = check_next(&ended, marks) {
+        return Turned {
+            answer: Answer::unaccepted(fault),
+            kept: Kept::Ended(ended),
+        };
+    }
+    let Ok(marks) = copied_marks(alloc, marks) else {
+        return Turned {
+            answer: Answer::unaccepted(LayoutFault::OutOfMemory),
+            kept: Kept::Ended(ended),
+        };
     };
     match ended.next_heap(alloc, marks) {
         Ok(heap) => Turned {
@@ -144,14 +162,26 @@ fn followed(alloc: Global, kept: Kept, marks: Vec<u32>) -> Turned
     }
 }
 
+fn followed(alloc: Global, kept: Kept, marks: &[u32]) -> Turned
+    requires { IsKept kept }
+    ensures kept { IsKept result.kept }
+    ensures follows { Follows marks.now kept result.kept result.answer }
+{
+    match kept {
+        Kept::Ended(ended) => next_with(alloc, ended, marks),
+        other => Turned {
+            kept: other,
+            answer: Answer::bare(11, 0),
+        },
+    }
+}
+
 /// Makes the heap with which the next cycle begins; from then on the handle keeps that heap. `marks` are the rising
-/// indices of the words at which the marked objects start. If it is refused, the handle keeps the finished heap.
+/// indices of the words at which the marked objects start. If it is refused, the handle keeps the finished heap. A next
+/// heap that is too large is refused before memory is asked for.
 pub fn follow(alloc: Global, h: &mut Handle, marks: &[u32]) -> Answer
     ensures { FollowsBy marks.now h.old.kept h.new.kept result }
 {
-    let Ok(marks) = copied_marks(alloc, marks) else {
-        return Answer::bare(9, 0);
-    };
     let Some(Opened { room, kept }) = open(alloc, h) else {
         return Answer::bare(10, 0);
     };

@@ -150,7 +150,7 @@ static void make_heap(comp_handle *heap) {
     }
     size_t marked = LIVE + THREADS, rooted = 1 + THREADS;
     ANSWERS(comp_plan(heap), COMP_EMPTY_HANDLE, 0);
-    ANSWERS(comp_heap(heap, 4, words, count, marks, marked, roots, rooted), COMP_BAD_EDITION, 4);
+    ANSWERS(comp_heap(heap, 9, words, count, marks, marked, roots, rooted), COMP_BAD_EDITION, 9);
     ANSWERS(comp_mark(heap, 0, words, count, roots, rooted), COMP_BAD_EDITION, 0);
     ANSWERS(comp_heap(heap, 1, words, count - 1, marks, marked, roots, rooted), COMP_LAYOUT + 2, count - 2);
     DO(comp_heap(heap, 1, words, count, marks, marked, roots, rooted));
@@ -208,12 +208,12 @@ static uint64_t finish_all(comp_handle *crew, struct worker *workers, comp_handl
     comp_handle stranger = COMP_EMPTY;
     DO(comp_take(other, &stranger));
     ANSWERS(comp_meet(&workers[0].mutator, &stranger), COMP_OTHER_CREW, 0);
+    ANSWERS(comp_give(crew, &stranger), COMP_OTHER_CREW, 0);
+    ANSWERS(comp_finish(crew), COMP_MUTATOR_MISSING, 0);
     for (int k = 0; k < THREADS; k++) DO(comp_give(crew, &workers[k].mutator));
     ANSWERS(comp_give(crew, &workers[0].mutator), COMP_EMPTY_HANDLE, 1);
-    DO(comp_give(crew, &stranger));
-    ANSWERS(comp_finish(crew), COMP_OTHER_CREW, 0);
-    DO(comp_take(crew, &stranger));
-    comp_drop(&stranger);
+    ANSWERS(comp_give(crew, &stranger), COMP_OTHER_CREW, 0);
+    DO(comp_give(other, &stranger));
     comp_drop(other);
     uint64_t live;
     GET(live, comp_finish(crew));

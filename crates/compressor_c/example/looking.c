@@ -75,7 +75,7 @@ static void images(comp_handle *heap, comp_handle *again) {
     ANSWERS(comp_read_image(again, bytes, IMAGE), COMP_DONE, 0);
     ANSWERS(comp_read_image(again, bytes, IMAGE - 1), COMP_LAYOUT + 8, 0);
     ANSWERS(comp_read_image(again, bytes, IMAGE + 1), COMP_LAYOUT + 9, 0);
-    bytes[8] = 4;
+    bytes[8] = 5;
     ANSWERS(comp_read_image(again, bytes, IMAGE), COMP_LAYOUT + 10, 0);
     ANSWERS(comp_image_size(again), COMP_DONE, IMAGE);
 

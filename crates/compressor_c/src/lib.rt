@@ -9,9 +9,9 @@ ghost use Rattle.std.specs.Prelude.{◌≡◌, None};
 ghost use Rattle.comp_handle.specs.Calling.{Calls, Does};
 ghost use Rattle.comp_handle.specs.Crewing.{Flips, Takes};
 ghost use Rattle.comp_handle.specs.Ending.{pages_at_end, CopiesEntry, CopiesPage, Looks, LooksInto, Tells};
-ghost use Rattle.comp_handle.specs.Joining.{AreApart, Brings, Gives};
+ghost use Rattle.comp_handle.specs.Joining.{AreApart, Brings, Gives, IsToldFrom};
 ghost use Rattle.comp_handle.specs.Making.{MakesHeap, MarksHeap};
-ghost use Rattle.comp_handle.specs.Turning.{Finishes, FollowsBy, FollowsReached, IsApart, Plans, Turns};
+ghost use Rattle.comp_handle.specs.Turning.{Finishes, FollowsBy, FollowsReached, Plans, Turns};
 ghost use Rattle.comp_handle.specs.declared.calling.Call.TheVariants as calls;
 ghost use Rattle.comp_handle.specs.declared.ending.Question.TheVariants as questions;
 
@@ -82,6 +82,7 @@ pub extern "C" fn comp_take(alloc: Global, crew: &mut Handle, out: &mut Handle) 
 /// Hands a mutator back to its crew.
 #[unsafe(no_mangle)]
 pub extern "C" fn comp_give(alloc: Global, crew: &mut Handle, mutator: &mut Handle) -> Answer
+    requires { IsToldFrom crew.old.kept mutator.old.kept }
     ensures { Gives crew.old.kept crew.new.kept mutator.old.kept mutator.new.kept result }
 {
     comp_handle::give_member(alloc, crew, mutator)
@@ -220,7 +221,6 @@ pub extern "C" fn comp_meet(alloc: Global, m: &mut Handle, other: &mut Handle) -
 /// Finishes a crew whose mutators were all handed back.
 #[unsafe(no_mangle)]
 pub extern "C" fn comp_finish(alloc: Global, crew: &mut Handle) -> Answer
-    requires { IsApart crew.old.kept }
     ensures { Turns Finishes crew.old.kept crew.new.kept result }
 {
     comp_handle::finish_crew(alloc, crew)

@@ -1,16 +1,19 @@
-ghost use Rattle.std.specs.Prelude.{◌≡◌, ℕ, ◌+◌, ◌*◌, ◌<◌, ◌≤◌, [], List, All, length, map, vec_capacity, IfOk, IfErr, IfSome, IsFalse, IsTrue};
+ghost use Rattle.std.specs.Prelude.{◌≡◌, ◌*◌, ◌≤◌, [], List, All, length, map, vec_capacity, IfOk, IfErr};
 ghost use Rattle.page_cells.specs.Rooms.{IsRoomFor};
 ghost use Rattle.comp_cycles.specs.Finishes.{allocated_by, IsFinished, IsOfFlip};
-ghost use Rattle.comp_crew.specs.Finishing.{AreAllToldApart, HasOtherName, IsEndBy, IsEnded, IsOfTheirFlip, IsUnfinishedFor, KeepsMembers};
-ghost use Rattle.comp_crew.specs.Members.{name_of, pass_of, setup_in, AreOf, IsMember};
-ghost use Rattle.comp_crew.specs.Orders.{HasNumber, IsInOrder};
-ghost use Rattle.comp_crew.specs.declared.member.Member.{Member as Made};
+ghost use Rattle.comp_hand.specs.Hands.{pass_of, IsHandOf};
+ghost use Rattle.comp_hand.specs.declared.hand.Hand.{Hand as AHand};
+ghost use Rattle.comp_crew.specs.Benches.{IsBench};
+ghost use Rattle.comp_crew.specs.Finishing.{IsEndBy, IsEnded, IsOfItsFlip, IsUnfinishedFor};
+ghost use Rattle.comp_crew.specs.Members.{setup_in};
+ghost use Rattle.comp_crew.specs.Orders.{HasAll, IsInOrder};
 
+use crate::bench::Bench;
 use crate::crew::Crew;
 use crate::fault::FinishFault;
 use crate::finishing::{Ended, Unfinished};
-use crate::member::Member;
 use comp_cycles::Finished;
+use comp_hand::Hand;
 use heap_layout::{OutOfMemory, in_order, least_missing};
 use page_cells::{Pass, Room};
 use std::alloc::Global;
@@ -19,12 +22,12 @@ use std::sync::Arc;
 // Room for everything that finishing makes.
 #[derive(Drop)]
 struct Rooms {
-    row: Vec<Member>,
+    row: Vec<Hand>,
     passes: Vec<Pass>,
     closing: Room,
 }
 
-// Reserves room for all members of a crew.
+// Reserves room for all hands of a crew.
 fn reserve(alloc: Global, crew: &Crew) -> Result<Rooms, OutOfMemory>
     ensures row { IfOk result (λ room. (room.row.items ≡ []) × ((setup_in crew.now).mutators ≤ vec_capacity room.row)) }
     ensures passes { IfOk result (λ room. (room.passes.items ≡ []) × ((setup_in crew.now).mutators ≤ vec_capacity room.passes)) }
@@ -41,8 +44,8 @@ fn reserve(alloc: Global, crew: &Crew) -> Result<Rooms, OutOfMemory>
     })
 }
 
-// Takes members apart, in order: their passes, and how many words they allocated together.
-fn parted(row: Vec<Member>, mut passes: Vec<Pass>) -> (Vec<Pass>, u64)
+// Takes hands apart, in order: their passes, and how many words they allocated together.
+fn parted(row: Vec<Hand>, mut passes: Vec<Pass>) -> (Vec<Pass>, u64)
     requires passes { (passes.items ≡ []) × (length row.items ≤ vec_capacity passes) }
     requires few { length row.items ≤ 255 }
     ensures passes { result.0.items ≡ map pass_of row.items }
@@ -50,61 +53,43 @@ fn parted(row: Vec<Member>, mut passes: Vec<Pass>) -> (Vec<Pass>, u64)
     ensures few { result.1 ≤ 255 * 67108864 }
 {
     let mut all: u64 = 0;
-    for m in row {
-        let Member { crew: _, hand } = m;
+    for hand in row {
         all += hand.made_words();
         passes.push_reserved(hand.into_pass());
     }
     (passes, all)
 }
 
-// Whether all members are of crews of this name.
-fn are_named(members: &[Member], name: u64) -> bool
-    ensures all { IsTrue result → All (λ m. name_of m ≡ name) members.now }
-    ensures other { IsFalse result → HasOtherName members.now name }
-{
-    for m in members {
-        if m.crew_name() != name {
-            return false;
-        }
-    }
-    true
-}
-
-// Takes back all members of a crew. None if the crew has another owner. Takes no memory.
-fn finish_all(crew: Arc<Crew>, members: Vec<Member>, room: Rooms) -> Option<Ended>
-    requires each { All IsMember members.items }
-    requires of { AreOf crew.value members.items }
-    requires all { (k : ℕ) → k < (setup_in crew.value).mutators → HasNumber members.items k }
-    requires row { (room.row.items ≡ []) × ((setup_in crew.value).mutators ≤ vec_capacity room.row) }
-    requires passes { (room.passes.items ≡ []) × ((setup_in crew.value).mutators ≤ vec_capacity room.passes) }
-    requires closing { IsRoomFor (setup_in crew.value).mutators room.closing }
-    ensures finished { IfSome result (λ e. (row : List Made) × IsInOrder (setup_in crew.value).mutators members.items row × IsFinished (setup_in crew.value) (map pass_of row) e.finished) }
-    ensures plan { IfSome result (λ e. e.plan.value ≡ (setup_in crew.value).heap) }
-    ensures end { IfSome result IsEnded }
-    ensures flipped { IfSome result (λ e. IsOfFlip (setup_in crew.value).mutators (setup_in crew.value).fresh e.finished) }
+// Ends all hands of a crew. Takes no memory.
+fn close_all(crew: Crew, hands: Vec<Hand>, room: Rooms) -> Ended
+    requires each { All (λ (hand : AHand). IsHandOf crew.cells hand) hands.items }
+    requires all { HasAll (setup_in crew).mutators hands.items }
+    requires row { (room.row.items ≡ []) × ((setup_in crew).mutators ≤ vec_capacity room.row) }
+    requires passes { (room.passes.items ≡ []) × ((setup_in crew).mutators ≤ vec_capacity room.passes) }
+    requires closing { IsRoomFor (setup_in crew).mutators room.closing }
+    ensures finished { (row : List AHand) × IsInOrder (setup_in crew).mutators hands.items row × IsFinished (setup_in crew) (map pass_of row) result.finished }
+    ensures plan { result.plan.value ≡ (setup_in crew).heap }
+    ensures end { IsEnded result }
+    ensures flipped { IsOfFlip (setup_in crew).mutators (setup_in crew).fresh result.finished }
 {
     let Rooms {
         row,
         passes,
         closing,
     } = room;
-    let row = in_order(members, crew.mutators, row);
-    let (passes, made) = parted(row, passes);
-    let Ok(crew) = Arc::try_unwrap(crew) else {
-        return None;
-    };
     let Crew {
         cells,
         plan,
         roots,
-        mutators: _,
+        mutators,
         name: _,
     } = crew;
+    let row = in_order(hands, mutators, row);
+    let (passes, made) = parted(row, passes);
     let edition = cells.edition();
     let live = cells.plan().live_words() + made;
     let closed = comp_hand::close_row(cells, passes, closing);
-    Some(Ended {
+    Ended {
         plan,
         finished: Finished {
             edition,
@@ -113,67 +98,41 @@ fn finish_all(crew: Arc<Crew>, members: Vec<Member>, room: Rooms) -> Option<Ende
             live,
             builds: closed.builds,
         },
-    })
+    }
 }
 
-/// Takes back all members of a crew, in any order, and answers the finished heap.
+/// Ends a crew all of whose mutators were handed back, in any order, and answers the finished heap.
 ///
-/// Members of two crews are refused first (`OtherCrew`), then a missing one (`MutatorMissing`), then a crew that has an
-/// owner which was not handed in (`StillShared`). Then all memory is reserved, before any step. After a fault the
-/// members come back unchanged. One exception: if an owner comes up later, `StillShared` gives nothing back.
-///
-/// Requires that the names tell crews apart.
-pub fn finish(alloc: Global, members: Vec<Member>) -> Result<Ended, Unfinished>
-    requires each { All IsMember members.items }
-    requires apart { AreAllToldApart members.items }
-    ensures finished { IfOk result (IsEndBy members.items) }
+/// A missing mutator is refused first (`MutatorMissing`), before anything else is done. Then all memory is reserved; if
+/// there is too little, or the crew's cells have another owner (`StillShared`), the crew is whole. After each refusal it
+/// comes back with all hands that it had. The cells have another owner only while a mutator of the crew is out, and then
+/// it is missing.
+pub fn finish(alloc: Global, bench: Bench) -> Result<Ended, Unfinished>
+    requires { IsBench bench }
+    ensures finished { IfOk result (IsEndBy bench) }
     ensures end { IfOk result IsEnded }
-    ensures flipped { IfOk result (IsOfTheirFlip members.items) }
-    ensures fault { IfErr result (λ left. IsUnfinishedFor members.items left.fault) }
-    ensures back { IfErr result (λ left. KeepsMembers left.fault → left.members.items ≡ members.items) }
-    ensures each { IfErr result (λ left. All IsMember left.members.items) }
+    ensures flipped { IfOk result (IsOfItsFlip bench) }
+    ensures fault { IfErr result (λ left. IsUnfinishedFor bench left.fault) }
+    ensures back { IfErr result (λ left. left.bench ≡ bench) }
 {
-    let Some(first) = members.first() else {
-        return Err(Unfinished {
-            fault: FinishFault::MutatorMissing(0),
-            members,
-        });
-    };
-    let Ok(crew) = Arc::try_clone(&first.crew) else {
-        return Err(Unfinished {
-            fault: FinishFault::OutOfMemory,
-            members,
-        });
-    };
-    if !are_named(&members, crew.name) {
-        return Err(Unfinished {
-            fault: FinishFault::OtherCrew,
-            members,
-        });
-    }
-    if let Some(number) = least_missing(&members, crew.mutators) {
+    if let Some(number) = least_missing(&bench.hands, bench.crew.mutators) {
         return Err(Unfinished {
             fault: FinishFault::MutatorMissing(number),
-            members,
+            bench,
         });
     }
-    if Arc::strong_count(&crew) != members.len() + 1 {
-        return Err(Unfinished {
-            fault: FinishFault::StillShared,
-            members,
-        });
-    }
-    let Ok(room) = reserve(alloc, &crew) else {
+    let Ok(room) = reserve(alloc, &bench.crew) else {
         return Err(Unfinished {
             fault: FinishFault::OutOfMemory,
-            members,
+            bench,
         });
     };
-    match finish_all(crew, members, room) {
-        Some(ended) => Ok(ended),
-        None => Err(Unfinished {
+    let Bench { crew, hands } = bench;
+    match Arc::try_unwrap(crew) {
+        Ok(crew) => Ok(close_all(crew, hands, room)),
+        Err(crew) => Err(Unfinished {
             fault: FinishFault::StillShared,
-            members: Vec::new(alloc),
+            bench: Bench { crew, hands },
         }),
     }
 }

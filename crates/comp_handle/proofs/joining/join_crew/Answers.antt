@@ -1,23 +1,17 @@
-use Rattle.std.proofs.Common.{◌++◌, ◌∷◌, [], List, All, Some, inl, inr, refl, sym, ap, subst, ◌∙◌}
-use Rattle.std.proofs.lemmas.List.Elements.{All-push}
-use Rattle.comp_crew.specs.Members.{IsMember}
+use Rattle.std.proofs.Common.{inl, inr, refl, Some, sym, ap, ◌∙◌}
+use Rattle.comp_crew.specs.declared.bench.Bench.{Bench}
 use Rattle.comp_crew.specs.declared.member.Member.{Member}
-use Rattle.comp_handle.specs.Keeping.{IsKept}
 use Rattle.comp_handle.specs.declared.kept.Kept.{Kept}
+use Rattle.comp_handle.specs.declared.kept.Kept.TheVariants as kept
 use Rattle.comp_handle.proofs.joining.join_crew.Goals as goal
 
-pub returns-then-is_err-clause-joins : goal.returns-then-is_err-clause-joins
-returns-then-is_err-clause-joins c =
-    inr (ap (λ (k : Kept). Some k) (sym c.in-Mutator.is), inr (c.in-Crew.members, c.reserve.new.self, c.in-Crew.is, refl, c.reserve.ensures.items), inl c.bare-then-is_err.ensures)
+pub give-requires-clause-apart : goal.give-requires-clause-apart
+give-requires-clause-apart c = c.requires.told c.in-Crew.bench c.in-Mutator.m c.in-Crew.is c.in-Mutator.is
 
-pub returns-clause-kept : goal.returns-clause-kept
-returns-clause-kept c =
-    let m = c.in-Mutator.m in
-    let pushed = c.push_reserved.ensures.items ∙ ap (λ (l : List Member). l ++ m ∷ []) c.reserve.ensures.items in
-    subst (λ (l : List Member). All IsMember l) (sym pushed) (All-push IsMember c.in-Crew.members.items m (subst IsKept c.in-Crew.is c.requires.0) (subst IsKept c.in-Mutator.is c.requires.1))
+pub returns-in-Ok-clause-joins : goal.returns-in-Ok-clause-joins
+returns-in-Ok-clause-joins c = inl (c.in-Crew.bench, c.give.new.self, c.in-Mutator.m, c.in-Crew.is, c.in-Mutator.is, refl, c.in-Ok.ensures.given, refl, c.done.ensures)
 
-pub returns-clause-joins : goal.returns-clause-joins
-returns-clause-joins c =
-    let m = c.in-Mutator.m in
-    let pushed = c.push_reserved.ensures.items ∙ ap (λ (l : List Member). l ++ m ∷ []) c.reserve.ensures.items in
-    inl (c.in-Crew.members, c.push_reserved.new.self, m, c.in-Crew.is, c.in-Mutator.is, refl, pushed, refl, c.done.ensures)
+pub returns-in-Err-clause-joins : goal.returns-in-Err-clause-joins
+returns-in-Err-clause-joins c =
+    let left = c.in-Err.ensures.refused in
+    inr (ap (λ (m : Member). Some (kept.Mutator m)) left.0 ∙ ap (λ (k : Kept). Some k) (sym c.in-Mutator.is), ap (λ (b : Bench). kept.Crew b) left.1 ∙ sym c.in-Crew.is, inl (c.bare-in-Err.ensures, (c.in-Crew.bench, c.in-Mutator.m, c.in-Crew.is, c.in-Mutator.is, left.2)))

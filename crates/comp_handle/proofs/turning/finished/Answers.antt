@@ -1,11 +1,12 @@
 use Rattle.std.proofs.Common.{◌≡◌, inl, inr, refl, sym, ap, subst, ◌∙◌}
 use Rattle.comp_crew.specs.Finishes.{live_of}
+use Rattle.comp_crew.specs.declared.bench.Bench.{Bench}
 use Rattle.comp_handle.specs.Answers.{bare, done}
 use Rattle.comp_handle.specs.Turning.{of_finish, Finishes}
 use Rattle.comp_handle.specs.declared.kept.Kept.{Kept}
 use Rattle.comp_handle.specs.declared.kept.Kept.TheVariants as kept
 use Rattle.comp_handle.proofs.turning.finished.Goals as goal
-use Rattle.comp_handle.proofs.turning.finished.Goals.{in-OutOfMemory, in-MutatorMissing, in-OtherCrew, in-StillShared}
+use Rattle.comp_handle.proofs.turning.finished.Goals.{in-OutOfMemory, in-MutatorMissing, in-StillShared}
 
 pub returns-in-Ok-clause-finishes : goal.returns-in-Ok-clause-finishes
 returns-in-Ok-clause-finishes c =
@@ -16,10 +17,10 @@ pub returns-after-left-clause-finishes : goal.returns-after-left-clause-finishes
 returns-after-left-clause-finishes c =
     let fault = c.in-Err.left.fault in
     let a = c.match-left.result in
-    let end = λ (e : a ≡ of_finish fault). subst (λ (k : Kept). Finishes k (kept.Crew c.in-Err.left.members) a) (sym c.in-Crew.is) (inr (fault, e, c.in-Err.ensures.fault, (c.in-Err.left.members, refl, c.in-Err.ensures.back))) in
+    let same = ap (λ (b : Bench). kept.Crew b) c.in-Err.ensures.back in
+    let end = λ (e : a ≡ of_finish fault). subst (λ (k : Kept). Finishes k (kept.Crew c.in-Err.left.bench) a) (sym c.in-Crew.is) (inr (fault, e, c.in-Err.ensures.fault, same)) in
     elim c.match-left.branch [
       | in-OutOfMemory w ↦ end (w.result-is ∙ w.bare-in-OutOfMemory.ensures ∙ ap of_finish (sym w.in-OutOfMemory.is))
       | in-MutatorMissing w ↦ end (w.result-is ∙ w.bare-in-MutatorMissing.ensures ∙ ap (bare 15) w.from.ensures ∙ ap of_finish (sym w.in-MutatorMissing.is))
-      | in-OtherCrew w ↦ end (w.result-is ∙ w.bare-in-OtherCrew.ensures ∙ ap of_finish (sym w.in-OtherCrew.is))
       | in-StillShared w ↦ end (w.result-is ∙ w.bare-in-StillShared.ensures ∙ ap of_finish (sym w.in-StillShared.is))
     ]
