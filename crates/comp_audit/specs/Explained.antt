@@ -1,12 +1,14 @@
 -- What the audit says of a fault: for each fault, what is in the dump and what should be there.
-use Rattle.std.specs.Prelude.{◌≡◌, ◌≢◌, ℕ, ◌+◌, ◌-◌, ◌<◌, ◌≤◌, cond, nat_lt, is_some, true, IfSome, List, [], length, map, take, slice_get, slice_index, slice_index_or, Option, Some, None}
+use Rattle.std.specs.Prelude.{◌≡◌, ◌≢◌, ℕ, ◌+◌, ◌-◌, ◌<◌, ◌≤◌, ◌||◌, cond, nat_lt, is_some, not, false, Bool, List, [], length, map, take, slice_get, slice_index, slice_index_or, Option, Some, None}
 use Rattle.std.specs.Option.{option_map}
 use Rattle.heap_layout.specs.Heap.{Heap, live}
+use Rattle.heap_layout.specs.Values.{leads_nowhere}
 use Rattle.page_plan.specs.Sliding as sliding
 use Rattle.page_plan.specs.Sliding.{forwarded_value, live_words, new_address, to_address}
 use Rattle.page_plan.specs.Planned.{Covers}
+use Rattle.heap_layout.specs.declared.kind.Kind.{Kind}
 use Rattle.comp_dump.specs.Entry.{Entry}
-use Rattle.comp_dump.specs.Lawful.{filled}
+use Rattle.comp_dump.specs.Lawful.{filled, kind_at}
 use Rattle.comp_dump.specs.Lists.{times, total}
 use Rattle.comp_dump.specs.Setup.{pages}
 use Rattle.comp_dump.specs.Objects.{offset_at, page_at, word_on}
@@ -15,7 +17,7 @@ use Rattle.comp_dump.specs.Builds.{named}
 use Rattle.comp_dump.specs.Dumped.{BuiltPage, Dumped}
 use Rattle.comp_dump.specs.declared.fault.AuditFault.{AuditFault}
 use Rattle.comp_dump.specs.declared.fault.AuditFault.TheVariants as fault
-use Rattle.comp_audit.specs.Checks.{all_entries, all_stamps}
+use Rattle.comp_audit.specs.Checks.{all_entries, all_stamps, is_start, some_refers}
 use Rattle.comp_audit.specs.Meant.{built_count, journals_of, page_of}
 pub use Rattle.comp_audit.specs.Causes.{maker_of, setup_of, stamp_before}
 use Rattle.comp_audit.specs.Causes.{HasNoCause, IsCauseOf}
@@ -47,6 +49,18 @@ pub record AreCountsOf (dump : Dumped) (counts : DumpCounts) : Type 0 where
 -- the word at an address on a page that was built; None elsewhere
 abbrev pub word_in : Dumped → ℕ → Option ℕ
 word_in dump a = cond (nat_lt a (to_address 0)) None (option_map (λ (page : BuiltPage). slice_index page.words (offset_at a)) (page_of dump (page_at a)))
+
+-- the word that should be at an address: what the journal of its page makes of its base
+abbrev pub right_word : Heap → Dumped → ℕ → ℕ
+right_word heap dump a = word_on (setup_of heap dump) (journals_of dump) (page_at a) (offset_at a)
+
+-- the kind of the word at an address, as the journal of its page makes it; None if it belongs to no object
+abbrev pub kind_found : Heap → Dumped → ℕ → Option Kind
+kind_found heap dump a = kind_at (setup_of heap dump) (page_at a) (journals_of dump (page_at a)) (offset_at a)
+
+-- a word of this kind is no reference or weak word, or null or an immediate, or leads to an object
+abbrev pub is_tied : Heap → Dumped → Option Kind → ℕ → Bool
+is_tied heap dump found word = not (some_refers found) || leads_nowhere heap.edition word || is_start heap (all_entries dump.pages) word
 
 -- this is the marked object of its number
 pub record IsSlidObject (heap : Heap) (object : SlidObject) : Type 0 where
@@ -80,7 +94,7 @@ pub record IsWordExplained (heap : Heap) (dump : Dumped) (a : ℕ) (word : Wrong
   pub page : word.page ≡ page_at a
   pub offset : word.offset ≡ offset_at a
   pub is : word_in dump a ≡ Some word.is
-  pub should_be : word.should_be ≡ word_on (setup_of heap dump) (journals_of dump) word.page word.offset
+  pub should_be : word.should_be ≡ right_word heap dump a
   pub object : IsOwner heap (a - to_address 0) word.object
   pub out_of_place : IsOutOfPlace heap dump word.out_of_place
 
@@ -146,10 +160,14 @@ pub record IsHeadRight (heap : Heap) (dump : Dumped) : Type 0 where
   pub as_many : length dump.roots ≡ length heap.roots
   pub roots : (k : ℕ) → k < length heap.roots → slice_index dump.roots k ≡ right_root heap k
 
+-- the total that a dump should have: the words that slid and those of new objects
+abbrev pub right_total : Heap → Dumped → ℕ
+right_total heap dump = live_words (live heap) + allocated heap.edition (all_entries dump.pages)
+
 -- the total of the dump, and the one that it should have
 pub record AreTotals (heap : Heap) (dump : Dumped) (totals : Totals) : Type 0 where
   pub is : totals.is ≡ dump.total
-  pub should_be : totals.should_be ≡ live_words (live heap) + allocated heap.edition (all_entries dump.pages)
+  pub should_be : totals.should_be ≡ right_total heap dump
 
 -- how often the list of builds of each mutator names page p; 0 past the last list
 abbrev pub AreNamings : List (List ℕ) → ℕ → List ℕ → Type 0
@@ -205,21 +223,34 @@ pub record IsMissing (heap : Heap) (dump : Dumped) (p : ℕ) (missing : MissingP
   pub never : page_of dump p ≡ None
   pub compacted : missing.compacted ≡ sliding.pages (live heap)
 
--- what an explanation says of a fault; `NoSuchFault` only if the dump does not have the fault
+-- A dump has a fault. Of a word: its page was built, and it is not the right one, or it is loose. Of an entry: it is
+-- there, and one of the causes holds of it. Of a stamp: two entries have it; or there are more entries than the number
+-- that it is, and none has it. Of a build: the lists do not name the page once if it was built, and never if it was not.
+abbrev pub HasFault : Heap → Dumped → AuditFault → Type 0
+HasFault heap dump (fault.WrongWord a) = (word : ℕ) × (word_in dump a ≡ Some word) × (word ≢ right_word heap dump a)
+HasFault heap dump (fault.LooseReference a) = (word : ℕ) × (word_in dump a ≡ Some word) × (is_tied heap dump (kind_found heap dump a) word ≡ false)
+HasFault heap dump (fault.BadEntry p k) = (e : Entry) × (slice_get (journals_of dump p) k ≡ Some e) × (IsCauseAt heap dump p k e None → ⊥)
+HasFault heap dump (fault.StampRepeated s) = 1 < times s (all_stamps dump.pages)
+HasFault heap dump (fault.StampMissing s) = (s < length (all_entries dump.pages)) × (times s (all_stamps dump.pages) ≡ 0)
+HasFault heap dump fault.WrongTotal = dump.total ≢ right_total heap dump
+HasFault heap dump (fault.BuildUnclaimed p) = (p < length dump.pages) × (named p dump.builds ≢ built_count (page_of dump p))
+HasFault heap dump fault.WrongHead = IsHeadRight heap dump → ⊥
+HasFault heap dump (fault.PageMissing p) = (p < sliding.pages (live heap)) × (page_of dump p ≡ None)
+
+-- what is said of each fault
+abbrev pub IsTold : Heap → Dumped → AuditFault → Explanation → Type 0
+IsTold heap dump (fault.WrongWord a) (told.WrongWord word) = IsWordExplained heap dump a word
+IsTold heap dump (fault.LooseReference a) (told.LooseReference word) = IsLooseExplained heap dump a word
+IsTold heap dump (fault.BadEntry p k) (told.BadEntry bad) = IsEntryExplained heap dump p k bad
+IsTold heap dump (fault.StampRepeated s) (told.StampRepeated uses) = AreUses dump s uses
+IsTold heap dump (fault.StampMissing s) (told.StampMissing lost) = IsLost dump s lost
+IsTold heap dump fault.WrongTotal (told.WrongTotal totals) = AreTotals heap dump totals
+IsTold heap dump (fault.BuildUnclaimed p) (told.BuildUnclaimed claims) = AreClaims dump p claims
+IsTold heap dump fault.WrongHead (told.WrongHead cause) = IsHeadExplained heap dump cause
+IsTold heap dump (fault.PageMissing p) (told.PageMissing missing) = IsMissing heap dump p missing
+IsTold heap dump fault explanation = ⊥
+
+-- an explanation of a fault: the dump does not have the fault; or it has it, and this is said of it
 abbrev pub Explains : Heap → Dumped → AuditFault → Explanation → Type 0
-Explains heap dump (fault.WrongWord a) (told.WrongWord word) = IsWordExplained heap dump a word
-Explains heap dump (fault.WrongWord a) told.NoSuchFault = word_in dump a ≡ None
-Explains heap dump (fault.LooseReference a) (told.LooseReference word) = IsLooseExplained heap dump a word
-Explains heap dump (fault.LooseReference a) told.NoSuchFault = word_in dump a ≡ None
-Explains heap dump (fault.BadEntry p k) (told.BadEntry bad) = IsEntryExplained heap dump p k bad
-Explains heap dump (fault.BadEntry p k) told.NoSuchFault = IfSome (slice_get (journals_of dump p) k) (λ e. IsCauseAt heap dump p k e None)
-Explains heap dump (fault.StampRepeated s) (told.StampRepeated uses) = AreUses dump s uses
-Explains heap dump (fault.StampRepeated s) told.NoSuchFault = IsFirstUse dump s None
-Explains heap dump (fault.StampMissing s) (told.StampMissing lost) = IsLost dump s lost
-Explains heap dump fault.WrongTotal (told.WrongTotal totals) = AreTotals heap dump totals
-Explains heap dump (fault.BuildUnclaimed p) (told.BuildUnclaimed claims) = AreClaims dump p claims
-Explains heap dump fault.WrongHead (told.WrongHead cause) = IsHeadExplained heap dump cause
-Explains heap dump fault.WrongHead told.NoSuchFault = IsHeadRight heap dump
-Explains heap dump (fault.PageMissing p) (told.PageMissing missing) = IsMissing heap dump p missing
-Explains heap dump (fault.PageMissing p) told.NoSuchFault = is_some (page_of dump p) ≡ true
-Explains heap dump fault explanation = ⊥
+Explains heap dump fault told.NoSuchFault = HasFault heap dump fault → ⊥
+Explains heap dump fault explanation = HasFault heap dump fault × IsTold heap dump fault explanation

@@ -31,7 +31,7 @@ use crate::checks::stamps::check_stamps;
 use crate::checks::starts::starts_of;
 use crate::checks::totals::check_total;
 pub use fault::CheckEnd;
-pub use kinds::is_word_of;
+pub use kinds::{is_word_of, refers};
 pub use page_words::right_words;
 pub use record::journal_of;
 pub use setting::Setting;

@@ -19,9 +19,9 @@ use page_plan::Plan;
 use std::alloc::Global;
 pub use sums::count;
 
-/// What is wrong, if this is the fault that `audit` answered: what is in the dump, and what should be there. Of a fault
-/// that the dump does not have, what it says is right too: see `Explains`. It takes time in proportion to the dump and
-/// the heap, and copies one page. Err if out of memory.
+/// What is wrong, if the dump has this fault: what is in the dump, and what should be there. `NoSuchFault` if and only
+/// if the dump does not have it: see `Explains`. It takes time in proportion to the dump and the heap, and copies one
+/// page. Err if out of memory.
 pub fn explain(
     alloc: Global,
     plan: &Plan,

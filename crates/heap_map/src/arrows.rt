@@ -5,9 +5,9 @@ ghost use Rattle.page_plan.specs.Sliding.{pages};
 
 use crate::frame::Frame;
 use crate::grid::{Point, put};
+use crate::made::made_at;
 use comp_dump::{Dump, DumpedPage};
-use comp_journal::Entry;
-use heap_layout::{Edition, FROM_SPACE, Header, Kind, MarkedHeap, TO_SPACE};
+use heap_layout::{Edition, FROM_SPACE, Kind, MarkedHeap, TO_SPACE};
 use page_plan::Plan;
 use std::alloc::AllocError;
 
@@ -30,6 +30,12 @@ fn refs_at(heap: &MarkedHeap, mark: u32) -> u32 {
     } else {
         0
     }
+}
+
+/// How many roots there are: those of the heap, or those of the dump if one is drawn and has more.
+pub fn roots_of(plan: &Plan, dump: Option<&Dump<'_>>) -> u64 {
+    let roots = plan.heap().roots().len();
+    roots.max(dump.map_or(0, |dump| dump.roots().len())) as u64
 }
 
 /// Adds an arrow at the object of each root, in both spaces. The roots of to-space are those of the dump, if one is
@@ -205,22 +211,16 @@ fn draw_new_arcs(
     page: &DumpedPage<'_>,
 ) -> Result<(), AllocError> {
     let words = page.words();
+    let mut end = 0;
     for entry in page.journal() {
-        for offset in references_made(edition, *entry) {
-            if offset < 64 {
-                draw_to_arc(picture, frame, address_of(p, offset as u64), words[offset])?;
+        if let Some(header) = made_at(edition, *entry, end) {
+            let first = end + 1;
+            for offset in first..first + header.refs() {
+                let word = words[offset as usize];
+                draw_to_arc(picture, frame, address_of(p, u64::from(offset)), word)?;
             }
+            end += header.size();
         }
     }
     Ok(())
-}
-
-// The offsets of the references of the object that an entry made; none if it made no object.
-fn references_made(edition: Edition, entry: Entry) -> std::ops::Range<usize> {
-    if entry.kind != Kind::Header {
-        return 0..0;
-    }
-    let first = entry.offset as usize + 1;
-    let references = Header::from_word_of(edition, entry.value).refs();
-    first..first + references as usize
 }

@@ -1,5 +1,7 @@
 //! Draws a heap.
-use crate::arrows::{MOST_ARROWS, draw_arcs, draw_dumped_arcs, draw_roots, references_of};
+use crate::arrows::{
+    MOST_ARROWS, draw_arcs, draw_dumped_arcs, draw_roots, references_of, roots_of,
+};
 use crate::dumped::{builders, draw_dumped_pages, draw_dumped_words};
 use crate::faulty::{lines_told, mark_fault, tell_fault};
 use crate::frame::Frame;
@@ -47,7 +49,7 @@ fn draw_head(
             tell_fault(picture, view, fault)?;
         }
     }
-    let roots = plan.heap().roots().len() as u64;
+    let roots = roots_of(plan, view.map(|view| view.dump));
     explain(
         picture,
         frame,
@@ -109,7 +111,7 @@ fn draw_arrows(
     plan: &Plan,
     dump: Option<&Dump<'_>>,
 ) -> Result<(), AllocError> {
-    if plan.heap().roots().len() as u64 <= MOST_ARROWS {
+    if roots_of(plan, dump) <= MOST_ARROWS {
         draw_roots(picture, frame, plan, dump)?;
     }
     if !arcs_drawn(frame, references_of(plan.heap())) {

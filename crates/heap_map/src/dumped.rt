@@ -3,12 +3,13 @@ ghost use Rattle.std.specs.Prelude.{◌<◌};
 
 use crate::frame::Frame;
 use crate::grid::{Grid, Point, RIGHT, put, put_numbered};
+use crate::made::{made_at, new_words};
 use crate::pages::{shade, slid_in};
 use crate::palette::Colour;
 use crate::words::{Slide, draw_page, kind_at, put_word, skip_page};
 use comp_dump::{Dump, DumpedPage};
 use comp_journal::Entry;
-use heap_layout::{Edition, Header, Kind};
+use heap_layout::{Edition, Header};
 use page_plan::Plan;
 use std::alloc::{AllocError, Global};
 
@@ -89,7 +90,7 @@ fn draw_fresh(
     }
 }
 
-// Adds the objects that the entries of a page made.
+// Adds the objects that the entries of a page made, each where those before it end.
 fn draw_new_objects(
     picture: &mut String,
     grid: &Grid,
@@ -97,25 +98,25 @@ fn draw_new_objects(
     edition: Edition,
     journal: &[Entry],
 ) -> Result<(), AllocError> {
+    let mut end = 0;
     for entry in journal {
-        if entry.kind == Kind::Header {
-            let header = Header::from_word_of(edition, entry.value);
-            draw_new_object(picture, grid, row, entry.offset, header)?;
+        if let Some(header) = made_at(edition, *entry, end) {
+            draw_new_object(picture, grid, row, end, header)?;
+            end += header.size();
         }
     }
     Ok(())
 }
 
-// Adds a new object that starts at an offset of a page, as far as the page goes.
+// Adds a new object that starts at an offset of a page.
 fn draw_new_object(
     picture: &mut String,
     grid: &Grid,
     row: u64,
-    offset: u8,
+    offset: u32,
     header: Header,
 ) -> Result<(), AllocError> {
-    let room = 64u32.saturating_sub(u32::from(offset));
-    for within in 0..header.size().min(room) {
+    for within in 0..header.size() {
         let index = row
             .saturating_mul(64)
             .saturating_add(u64::from(offset) + u64::from(within));
@@ -240,23 +241,11 @@ fn counts_of(
             counts.built = counts.built.saturating_add(1);
             counts.entries = counts.entries.saturating_add(page.journal().len() as u64);
             let new_words = new_words(dump.edition(), page.journal());
-            counts.new_words = counts.new_words.saturating_add(new_words);
+            counts.new_words = counts.new_words.saturating_add(u64::from(new_words));
         }
         counts.builder = counts.builder.or(builder_of(builders, p));
     }
     counts
-}
-
-// How many words the objects have that entries of a page made.
-fn new_words(edition: Edition, journal: &[Entry]) -> u64 {
-    let mut words = 0u64;
-    for entry in journal {
-        if entry.kind == Kind::Header {
-            let header = Header::from_word_of(edition, entry.value);
-            words = words.saturating_add(u64::from(header.size()));
-        }
-    }
-    words
 }
 
 // Adds a cell of pages: hatched if none was built; else its shade, and a dot for its entries; and a frame in the colour

@@ -10,6 +10,7 @@ mod grid;
 mod laws;
 mod layout;
 mod legend;
+mod made;
 mod markup;
 mod pages;
 mod palette;

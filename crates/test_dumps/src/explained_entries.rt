@@ -36,8 +36,8 @@ const HEADER_END: usize = 1_108;
 
 const BUILDS_END: usize = 1_121;
 
-// No entry on page 0: 23 bytes, the number of entries and one entry, are the number 0.
-const NONE_ON_0: Change = Change(ENTRIES, 23, 4, 0);
+/// No entry on page 0: 23 bytes, the number of entries and one entry, are the number 0.
+pub const NONE_ON_0: Change = Change(ENTRIES, 23, 4, 0);
 
 /// No entry on page 1.
 pub const NONE_ON_1: Change = Change(NEW_ENTRIES, 23, 4, 0);

@@ -1,8 +1,8 @@
 //! What is said of loose references: the word, and the last entry at its offset. All numbers are worked by hand.
-use crate::dump_bytes::{Change, Whole, encoded};
+use crate::dump_bytes::{Change, Whole, changed};
 use crate::dumps_in_memory::read;
 use crate::expected::expect_eq;
-use crate::explained_entries::{ENTRIES, NONE_ON_1, REFERENCE_END};
+use crate::explained_entries::{ENTRIES, NONE_ON_0, NONE_ON_1, REFERENCE_END};
 use crate::explained_faults::{ExplainedDump, expect_explained};
 use comp_audit::{AuditFault, EntryCause, Explanation, LooseEntry, LooseWordAt, explain};
 use comp_journal::Entry;
@@ -76,27 +76,25 @@ fn a_loose_reference_is_explained_by_the_last_entry_at_its_offset(rt: HostRuntim
     expect_explained(&rt, &LOOSE);
 }
 
-// An address in the dump after a new object, and what is said if it is asked for as a loose reference.
-struct AskedWord(u64, Explanation);
+// Changes of the dump after a new object, an address, and what is said if it is asked for as a loose reference.
+struct AskedWord(&'static [Change], u64, Explanation);
 
-static ASKED: [AskedWord; 5] = [
-    // No entry of page 0 is at offset 0, where page 1 has one.
+static ASKED: [AskedWord; 7] = [
+    // A header that an object slid with; a reference to the new object; the header of that object.
+    AskedWord(&[], T, Explanation::NoSuchFault),
+    AskedWord(&[], T + 3, Explanation::NoSuchFault),
+    AskedWord(&[], T + 64, Explanation::NoSuchFault),
+    // A page that was never built, and below to-space.
+    AskedWord(&[], T + 128, Explanation::NoSuchFault),
+    AskedWord(&[], 0, Explanation::NoSuchFault),
+    // The word is another than the one that the entry wrote, with which nothing is wrong.
     AskedWord(
-        T,
-        Explanation::LooseReference(LooseWordAt {
-            page: 0,
-            offset: 0,
-            is: 4_295_032_832,
-            entry: None,
-        }),
-    ),
-    // Nothing is wrong with these entries.
-    AskedWord(
+        &[Change(REFERENCE, 8, 8, T + 1)],
         T + 3,
         Explanation::LooseReference(LooseWordAt {
             page: 0,
             offset: 3,
-            is: T + 64,
+            is: T + 1,
             entry: Some(LooseEntry {
                 number: 0,
                 entry: Entry {
@@ -110,35 +108,24 @@ static ASKED: [AskedWord; 5] = [
             }),
         }),
     ),
+    // No entry of page 0 is at its offset.
     AskedWord(
-        T + 64,
+        &[Change(REFERENCE, 8, 8, T + 1), NONE_ON_0],
+        T + 3,
         Explanation::LooseReference(LooseWordAt {
-            page: 1,
-            offset: 0,
-            is: 0,
-            entry: Some(LooseEntry {
-                number: 0,
-                entry: Entry {
-                    stamp: 0,
-                    writer: 0,
-                    kind: Kind::Header,
-                    offset: 0,
-                    value: 0,
-                },
-                cause: None,
-            }),
+            page: 0,
+            offset: 3,
+            is: T + 1,
+            entry: None,
         }),
     ),
-    // A page that was never built, and below to-space.
-    AskedWord(T + 128, Explanation::NoSuchFault),
-    AskedWord(0, Explanation::NoSuchFault),
 ];
 
-// Checks what is said of words that lead to an object or to nothing, too.
+// Checks what is said of words that are loose, and of others.
 fn expect_asked(rt: &impl Abort, alloc: Global, plan: &Plan) {
-    let bytes = encoded(rt, alloc, &Whole::Linked);
-    let dump = read(alloc, &bytes).expect(rt, "a dump");
-    for (at, AskedWord(address, wanted)) in ASKED.iter().enumerate() {
+    for (at, AskedWord(changes, address, wanted)) in ASKED.iter().enumerate() {
+        let bytes = changed(rt, alloc, &Whole::Linked, changes);
+        let dump = read(alloc, &bytes).expect(rt, "a dump");
         let fault = AuditFault::LooseReference(*address);
         let found = explain(alloc, plan, &dump, fault).expect(rt, "an explanation");
         expect_eq(rt, At::new("asked", at), found, *wanted);
@@ -146,7 +133,7 @@ fn expect_asked(rt: &impl Abort, alloc: Global, plan: &Plan) {
 }
 
 #[test]
-fn a_word_that_is_asked_for_is_explained_if_its_page_was_built(rt: HostRuntime) {
+fn a_word_that_is_asked_for_is_explained_if_it_is_loose(rt: HostRuntime) {
     let plan = plan_of(&rt, rt.alloc(), Worked::Three).expect(&rt, "a plan");
     expect_asked(&rt, rt.alloc(), &plan);
 }

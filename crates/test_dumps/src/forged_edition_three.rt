@@ -29,11 +29,7 @@ static THREE_FORGED: [JudgedDump; 29] = [
     JudgedDump(Whole::WeakLinked, &[], WRONG_HEAD),
     JudgedDump(Whole::WeakTouched, &[Change(VERSION, 4, 4, 1)], WRONG_HEAD),
     JudgedDump(Whole::WeakLinked, &[Change(VERSION, 4, 4, 1)], BAD_FIELD),
-    JudgedDump(
-        Whole::WeakLinked,
-        &[Change(VERSION, 4, 4, 4)],
-        WRONG_HEAD,
-    ),
+    JudgedDump(Whole::WeakLinked, &[Change(VERSION, 4, 4, 4)], WRONG_HEAD),
     JudgedDump(Whole::WeakLinked, &[Change(VERSION, 4, 4, 5)], BAD_MAGIC),
     JudgedDump(
         Whole::WeakLinked,

@@ -9,8 +9,8 @@ use std::process::Abort;
 use std::thread::Threads;
 use test_support::{Content, Part, Worked, bytes_in, bytes_of, plan_of};
 
-// The picture of the three objects and of a dump with these bytes.
-fn pictured(
+/// The picture of the three objects and of a dump with these bytes.
+pub fn pictured(
     rt: &(impl Abort + Threads + Sync),
     alloc: Global,
     bytes: &[u8],

@@ -108,8 +108,8 @@ fn header_misfit(plan: &Plan, dump: &Dump<'_>, p: u64, entry: Entry, end: u64) -
     None
 }
 
-// The kind of the word at this offset of page `p`, if the page has this journal; None if it belongs to no object.
-fn word_kind(plan: &Plan, p: u64, journal: &[Entry], offset: u8) -> Option<Kind>
+/// The kind of the word at this offset of page `p`, if the page has this journal; None if it belongs to no object.
+pub fn word_kind(plan: &Plan, p: u64, journal: &[Entry], offset: u8) -> Option<Kind>
     requires { offset < 64 }
     ensures { (u : Setup) → u.heap ≡ plan.now → u.compacted ≡ sliding.pages (live plan.now) → result ≡ kind_at u p journal.now offset }
 {

@@ -3,7 +3,7 @@ ghost use Rattle.std.specs.Prelude.{◌≡◌, ◌^◌, ◌<◌, ◌≤◌, leng
 ghost use Rattle.comp_dump.specs.Lawful.{filled};
 ghost use Rattle.comp_dump.specs.declared.fault.AuditFault.TheVariants as fault;
 ghost use Rattle.comp_audit.specs.Meant.{journals_of};
-ghost use Rattle.comp_audit.specs.Explained.{maker_of, setup_of, stamp_before, Explains, IsCauseAt, IsLastAt, IsLooseEntry};
+ghost use Rattle.comp_audit.specs.Explained.{maker_of, setup_of, stamp_before, Explains, IsCauseAt, IsEntryExplained, IsLastAt, IsLooseEntry};
 
 use crate::checks::journal_of;
 use crate::explaining::causes::cause_of;
@@ -25,15 +25,33 @@ pub fn explain_entry(plan: &Plan, dump: &Dump<'_>, p: u64, number: u64) -> Expla
     };
     match cause_at(plan, dump, p, number as usize, *entry) {
         None => Explanation::NoSuchFault,
-        Some(cause) => Explanation::BadEntry(BadEntryAt {
-            page: p,
-            number,
-            entry: *entry,
-            stamp_before: stamp_before(journal, number as usize),
-            maker: maker(plan, dump, p),
-            filled: filled_by(plan.heap().edition(), &journal[..number as usize]),
-            cause,
-        }),
+        Some(cause) => Explanation::BadEntry(bad_entry(plan, dump, p, number, *entry, cause)),
+    }
+}
+
+// What is said of this entry, which has this number on page `p`, and which does not fit by this cause.
+fn bad_entry(
+    plan: &Plan,
+    dump: &Dump<'_>,
+    p: u64,
+    number: u64,
+    entry: Entry,
+    cause: EntryCause,
+) -> BadEntryAt
+    requires entry { slice_get (journals_of dump.now p) number ≡ Some entry }
+    requires cause { IsCauseAt plan.now dump.now p number entry (Some cause) }
+    ensures { IsEntryExplained plan.now dump.now p number result }
+{
+    comp_dump::dump_is_stored(dump);
+    let journal = journal_of(dump.pages(), p as usize);
+    BadEntryAt {
+        page: p,
+        number,
+        entry,
+        stamp_before: stamp_before(journal, number as usize),
+        maker: maker(plan, dump, p),
+        filled: filled_by(plan.heap().edition(), &journal[..number as usize]),
+        cause,
     }
 }
 

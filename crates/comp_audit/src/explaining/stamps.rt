@@ -13,29 +13,34 @@ use crate::explanation::{Explanation, StampLost, StampUses};
 use comp_dump::Dump;
 use comp_journal::Entry;
 
-/// What is said of a stamp that stands twice.
+/// What is said of a stamp that stands twice or more often.
 pub fn explain_repeated(dump: &Dump<'_>, stamp: u64) -> Explanation
     ensures { (heap : Heap) → Explains heap dump.now (fault.StampRepeated stamp) result }
 {
-    let Some(first_page) = first_use(dump, stamp) else {
+    let entries = uses(dump, stamp);
+    if entries < 2 {
         return Explanation::NoSuchFault;
-    };
-    Explanation::StampRepeated(StampUses {
-        stamp,
-        entries: uses(dump, stamp),
-        first_page,
-        last_page: last_use(dump, stamp),
-    })
+    }
+    match first_use(dump, stamp) {
+        None => Explanation::NoSuchFault,
+        Some(first_page) => Explanation::StampRepeated(StampUses {
+            stamp,
+            entries,
+            first_page,
+            last_page: last_use(dump, stamp),
+        }),
+    }
 }
 
-/// What is said of a stamp that no entry has.
+/// What is said of a stamp that no entry has, and that is below the number of entries.
 pub fn explain_missing(dump: &Dump<'_>, stamp: u64) -> Explanation
     ensures { (heap : Heap) → Explains heap dump.now (fault.StampMissing stamp) result }
 {
-    Explanation::StampMissing(StampLost {
-        stamp,
-        entries: count(dump).entries,
-    })
+    let entries = count(dump).entries;
+    if stamp >= entries || uses(dump, stamp) != 0 {
+        return Explanation::NoSuchFault;
+    }
+    Explanation::StampMissing(StampLost { stamp, entries })
 }
 
 // The first page with an entry of this stamp.

@@ -33,8 +33,10 @@ pub fn count(dump: &Dump<'_>) -> DumpCounts
 pub fn explain_total(plan: &Plan, dump: &Dump<'_>) -> Explanation
     ensures { Explains plan.now dump.now fault.WrongTotal result }
 {
-    Explanation::WrongTotal(Totals {
-        is: dump.live_words(),
-        should_be: right_total(plan, dump),
-    })
+    let is = dump.live_words();
+    let should_be = right_total(plan, dump);
+    if u128::from(is) == should_be {
+        return Explanation::NoSuchFault;
+    }
+    Explanation::WrongTotal(Totals { is, should_be })
 }

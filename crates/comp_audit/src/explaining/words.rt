@@ -1,16 +1,20 @@
 //! Words of a dump: a wrong word, and a loose one.
 ghost use Rattle.std.specs.Prelude.{◌≡◌, ◌<◌, IfOk};
+ghost use Rattle.comp_dump.specs.Lawful.{kind_at};
 ghost use Rattle.comp_dump.specs.Objects.{word_on};
 ghost use Rattle.comp_dump.specs.declared.fault.AuditFault.TheVariants as fault;
+ghost use Rattle.comp_audit.specs.Checks.{all_entries, is_start};
 ghost use Rattle.comp_audit.specs.Meant.{journals_of};
-ghost use Rattle.comp_audit.specs.Explained.{setup_of, word_in, Explains};
+ghost use Rattle.comp_audit.specs.Explained.{is_tied, setup_of, word_in, Explains};
 
-use crate::checks::{Setting, journal_of, right_words};
+use crate::checks::{Setting, journal_of, refers, right_words};
+use crate::explaining::causes::word_kind;
 use crate::explaining::entries::loose_entry;
+use crate::explaining::made::header_stamp;
 use crate::explaining::objects::{out_of_place, owner};
 use crate::explanation::{Explanation, LooseWordAt, WrongWordAt};
 use comp_dump::Dump;
-use heap_layout::OutOfMemory;
+use heap_layout::{Kind, OutOfMemory};
 use page_plan::{Plan, TO_SPACE};
 use std::alloc::Global;
 
@@ -42,6 +46,9 @@ pub fn explain_word(
     };
     let new_index = address.saturating_sub(TO_SPACE);
     let should_be = right_word(alloc, plan, dump, new_index / 64, new_index % 64)?;
+    if is == should_be {
+        return Ok(Explanation::NoSuchFault);
+    }
     Ok(Explanation::WrongWord(WrongWordAt {
         page: new_index / 64,
         offset: new_index % 64,
@@ -73,14 +80,53 @@ fn right_word(
 pub fn explain_loose(plan: &Plan, dump: &Dump<'_>, address: u64) -> Explanation
     ensures { Explains plan.now dump.now (fault.LooseReference address) result }
 {
+    let Some(is) = word_in(dump, address) else {
+        return Explanation::NoSuchFault;
+    };
     let new_index = address.saturating_sub(TO_SPACE);
-    match word_in(dump, address) {
-        None => Explanation::NoSuchFault,
-        Some(is) => Explanation::LooseReference(LooseWordAt {
-            page: new_index / 64,
-            offset: new_index % 64,
-            is,
-            entry: loose_entry(plan, dump, new_index / 64, new_index % 64),
-        }),
+    let (page, offset) = (new_index / 64, new_index % 64);
+    if is_tied(plan, dump, page, offset, is) {
+        return Explanation::NoSuchFault;
     }
+    Explanation::LooseReference(LooseWordAt {
+        page,
+        offset,
+        is,
+        entry: loose_entry(plan, dump, page, offset),
+    })
+}
+
+// Whether this word at this offset of page `p` is no reference or weak word, or null or an immediate, or leads to an
+// object.
+fn is_tied(plan: &Plan, dump: &Dump<'_>, p: u64, offset: u64, word: u64) -> bool
+    requires { offset < 64 }
+    ensures { result ≡ is_tied plan.now dump.now (kind_at (setup_of plan.now dump.now) p (journals_of dump.now p) offset) word }
+{
+    let found = kind_found(plan, dump, p, offset);
+    if !refers(found) {
+        return true;
+    }
+    if plan.heap().edition().leads_nowhere(word) {
+        return true;
+    }
+    is_start(plan, dump, word)
+}
+
+// The kind of the word at this offset of page `p`; None if it belongs to no object.
+fn kind_found(plan: &Plan, dump: &Dump<'_>, p: u64, offset: u64) -> Option<Kind>
+    requires { offset < 64 }
+    ensures { result ≡ kind_at (setup_of plan.now dump.now) p (journals_of dump.now p) offset }
+{
+    let entries = journal_of(dump.pages(), p as usize);
+    word_kind(plan, p, entries, offset as u8)
+}
+
+// Whether an object starts at the address: a slid one, or one that an entry makes.
+fn is_start(plan: &Plan, dump: &Dump<'_>, address: u64) -> bool
+    ensures { result ≡ is_start plan.now (all_entries dump.now.pages) address }
+{
+    if plan.is_start(address) {
+        return true;
+    }
+    header_stamp(dump, address).is_some()
 }
