@@ -13,6 +13,7 @@ from pathlib import Path
 HERE = Path(__file__).resolve().parent
 FROM = 1 << 32
 TO = 1 << 33
+IMMEDIATE = 1 << 63
 BEFORE = b"what was there before"
 NAMED = re.compile(
     r"compressor: (P7 OutOfMemory|H11 OutOfMemory|B5 OutOfMemory|T7 OutOfMemory|M8 OutOfMemory|W1 OutOfMemory\(\d+\)|W3 Resources"
@@ -27,13 +28,15 @@ def image(words, marks, roots, version=1):
 
 THREE = image([65536 + FROM, 11, 65537 + 2 * FROM, 0, 22, 1 + 3 * FROM, FROM], [0, 5], [FROM + 5])
 LARGE = image([65536 + (1 << 48), 11, 65537 + (2 << 48), 0, 22, 1 + (3 << 48), FROM], [0, 5], [FROM + 5], version=3)
+FOUR = image([65536 + (1 << 48), 11, 65537 + (2 << 48), 0, 22, 1 + (3 << 48), FROM], [0, 5], [FROM + 5, IMMEDIATE], version=4)
 TWENTY = image(([639 << 16] + [0] * 639) * 2, [0, 640], [])
 SEEN = b"0 root 0 0\n0 load 1 0 0\n0 put 1 0 7\n1 root 0 0\n1 load 1 0 0\n1 get 1 0\n"
 FRESH = b"0 root 0 0\n0 new 1 0 0 0\n0 store 0 0 1\n"
+IMM = b"0 root 0 0\n0 imm 1 7\n0 store 0 0 1\n"
 KEPT = b"2\n64\n"
 WORDS = b"COMPWORD" + struct.pack("<III5Q", 1, 4, 1, TO + 2, 65536 + FROM, 11, 1 + 3 * FROM, TO)
 COPIED = b"COMPMOVE" + struct.pack("<IIII2IQ4Q", 1, 2, 1, 4, 2, 0, TO, 1 + 3 * FROM, TO + 2, 65536 + FROM, 11)
-FILES = {"three.img": THREE, "three.words": WORDS, "three.moved": COPIED, "large.img": LARGE, "twenty.img": TWENTY, "seen.trace": SEEN, "fresh.trace": FRESH, "kept.marks": KEPT, "new.roots": b"0 1\n"}
+FILES = {"three.img": THREE, "three.words": WORDS, "three.moved": COPIED, "large.img": LARGE, "four.img": FOUR, "imm.trace": IMM, "twenty.img": TWENTY, "seen.trace": SEEN, "fresh.trace": FRESH, "kept.marks": KEPT, "new.roots": b"0 1\n"}
 
 # the length of a picture: it is as long as it is
 PICTURE = -1
@@ -61,6 +64,7 @@ COMMANDS = [
     ("map --dump wrong.dump three.img left.dump", ["live 4\n"], PICTURE),
     ("word --large large.img 2", ["844424930131969\n"], None),
     ("compact --large --workers 1 large.img left.dump", ["live 4\n"], 569),
+    ("replay --large --mutators 1 --fresh 0 four.img imm.trace left.dump", ["live 4\n"], 596),
     ("--help", None, None),
 ]
 
@@ -76,10 +80,10 @@ class Refusing:
         self.told = self.folder / "told"
         self.faults = 0
 
-    def run(self, number, words):
-        """A run whose allocation of this number fails, and whether it had one."""
+    def run(self, number, words, above=0):
+        """A run whose allocation of this number fails, and, if `above` is not 0, each of more bytes; and whether it had one."""
         self.told.unlink(missing_ok=True)
-        env = {**os.environ, "LD_PRELOAD": str(self.shim), "REFUSE": str(number), "REFUSE_TOLD": str(self.told)}
+        env = {**os.environ, "LD_PRELOAD": str(self.shim), "REFUSE": str(number), "REFUSE_ABOVE": str(above), "REFUSE_TOLD": str(self.told)}
         try:
             ran = subprocess.run(words, cwd=self.folder, env=env, capture_output=True, timeout=60, stdin=subprocess.DEVNULL)
         except subprocess.TimeoutExpired:
@@ -174,4 +178,5 @@ def main():
     sys.exit(1 if refusing.faults else 0)
 
 
-main()
+if __name__ == "__main__":
+    main()

@@ -15,21 +15,22 @@ import elsewhere
 
 FROM = 1 << 32
 TO = 1 << 33
+IMMEDIATE = 1 << 63
 SECONDS = 60
 BEFORE = b"what was there before"
-REFUSED = re.compile(r"compressor: T6 Refused\(\d+, M(1 Null|3 NoSuchField|4 ObjectTooLarge|5 OutOfPages|6 Busy\(\d+\)|7 JournalFull\(\d+\)|11 NotInEdition)\)\n")
+REFUSED = re.compile(r"compressor: T6 Refused\(\d+, M(1 Null|2 NotAStart\(\d{19,20}\)|3 NoSuchField|4 ObjectTooLarge|5 OutOfPages|6 Busy\(\d+\)|7 JournalFull\(\d+\)|11 NotInEdition)\)\n")
 
 
 def header(edition, refs, weak, data, tag):
-    """A header; in edition three the tag says which form it has, unless there are too many data words for the mixed one."""
+    """A header; from edition three on the tag says which form it has, unless there are too many data words for the mixed one."""
     if edition == 1:
         return refs + (data << 16) + (tag << 32)
-    if edition == 3 and weak == 0:
+    if edition >= 3 and weak == 0:
         if data > 65535 or tag % 4 == 1:
             return data + (refs << 31) + (tag << 48) + (1 << 63)
         if tag % 4 == 2:
             return refs + (data << 31) + (tag << 48) + (1 << 62)
-    if edition == 3 and refs == 0 and tag % 4 == 3:
+    if edition >= 3 and refs == 0 and tag % 4 == 3:
         return weak + (data << 31) + (tag << 48) + (3 << 62)
     return refs + (data << 16) + (weak << 32) + (tag << 48)
 
@@ -38,10 +39,20 @@ def sizes(edition, word):
     """How many references and how many words the object of a header has."""
     if edition == 1:
         return word & 65535, 1 + (word & 65535) + (word >> 16 & 65535)
-    if edition == 3 and word >> 62:
+    if edition >= 3 and word >> 62:
         many, few = word & 0x7FFFFFFF, word >> 31 & 0x1FFFF
         return (0, many, few, 0)[word >> 62], 1 + many + few
     return word & 65535, 1 + (word & 65535) + (word >> 16 & 65535) + (word >> 32 & 65535)
+
+
+def leads(word):
+    """Whether a root or a reference leads to an object: it is neither null nor an immediate."""
+    return 0 < word < IMMEDIATE
+
+
+def lowered(word):
+    """A to-space root as the next heap has it."""
+    return word - TO + FROM if leads(word) else word
 
 
 def reached(edition, words, seek):
@@ -51,7 +62,7 @@ def reached(edition, words, seek):
         at = seek.pop()
         if at not in met:
             met.add(at)
-            seek += [word & 0xFFFFFFFF for word in words[at + 1 : at + 1 + sizes(edition, words[at])[0]] if word]
+            seek += [word & 0xFFFFFFFF for word in words[at + 1 : at + 1 + sizes(edition, words[at])[0]] if leads(word)]
     return sorted(met)
 
 
@@ -92,16 +103,26 @@ def left(dump):
     return roots, pages, starts
 
 
+def immediate(draw, word):
+    """An immediate; its low bits may look like this word."""
+    return IMMEDIATE | draw.choice((0, word, draw.getrandbits(63), IMMEDIATE - 1))
+
+
+def value(draw, edition, word):
+    """A word that refers; in edition four some are immediates."""
+    return immediate(draw, word) if edition == 4 and draw.random() < 0.3 else word
+
+
 def heap(draw):
     """The bytes of an image, its edition, how many roots and live words it has, and where its marked objects start once they slid."""
-    edition = draw.choice((1, 2, 3))
+    edition = draw.choice((1, 2, 3, 4))
     shapes = []
     for _ in range(draw.randint(0, 40)):
         weak = draw.randint(0, 2) if edition > 1 else 0
         data = draw.choice((0, 1, 2, 5, 60, 200))
-        if edition == 3 and weak == 0 and draw.random() < 0.05:
+        if edition >= 3 and weak == 0 and draw.random() < 0.05:
             data = draw.choice((2000, 70000))
-        shapes.append((draw.randint(0, 3), weak, data, draw.randint(0, 16383 if edition == 3 else 65535)))
+        shapes.append((draw.randint(0, 3), weak, data, draw.randint(0, 16383 if edition >= 3 else 65535)))
     starts, at = [], 0
     for refs, weak, data, _ in shapes:
         starts.append(at)
@@ -113,12 +134,12 @@ def heap(draw):
         words.append(header(edition, refs, weak, data, tag))
         for _ in range(refs):
             lead = draw.choice(marked) if marked and draw.random() < 0.8 else None
-            words.append(0 if lead is None else FROM + starts[lead])
+            words.append(value(draw, edition, 0 if lead is None else FROM + starts[lead]))
         for _ in range(weak):
-            words.append(FROM + draw.choice(starts) if draw.random() < 0.8 else 0)
+            words.append(value(draw, edition, FROM + draw.choice(starts) if draw.random() < 0.8 else 0))
         words += [draw.getrandbits(64) for _ in range(data)]
     marks = [starts[k] for k in marked]
-    roots = [FROM + draw.choice(marks) if marks and draw.random() < 0.9 else 0 for _ in range(draw.randint(1, 5))]
+    roots = [value(draw, edition, FROM + draw.choice(marks) if marks and draw.random() < 0.9 else 0) for _ in range(draw.randint(1, 5))]
     live, slid = 0, []
     for k in marked:
         slid.append(live)
@@ -136,7 +157,9 @@ def trace(draw, edition, mutators, roots):
         m, d, s, v = draw.randrange(mutators), *(draw.randrange(4) for _ in range(3))
         kind = draw.random()
         weak = "w" if edition > 1 and draw.random() < 0.3 else ""
-        if kind < 0.15:
+        if draw.random() < (0.15 if edition == 4 else 0.0005):
+            lines.append(f"{m} imm {d} {immediate(draw, TO) - IMMEDIATE}")
+        elif kind < 0.15:
             lines.append(f"{m} root {d} {draw.randrange(roots)}")
         elif kind < 0.4:
             lines.append(f"{m} {weak}load {d} {s} {draw.randrange(2)}")
@@ -219,7 +242,7 @@ class Soak:
         words = [word for p, page in enumerate(pages) for word in page or (swept[p] if p < len(swept) else zeros)]
         often = draw.random()
         kept = [at for at in slid + made if draw.random() < often]
-        marks = reached(edition, words, [root - TO for root in roots if root] + kept)
+        marks = reached(edition, words, [root - TO for root in roots if leads(root)] + kept)
         live = f"live {sum(sizes(edition, words[at])[1] for at in marks)}\n"
         (self.folder / "heap.marks").write_text("".join(f"{at}\n" for at in marks))
         lines = "".join(printed.splitlines(True)[:-1])
@@ -238,13 +261,13 @@ class Soak:
             self.fault(seed, f"plan next.img: {plan[:40]!r} in place of {live!r}")
         self.marked(seed, "mark", "next.img")
         self.marked(seed, "next", "next.img", *few, "--reachable", "heap.img", "heap.trace", shown=lines)
-        named, others = self.named(draw, slid + made, [roots[k] for k in held])
+        named, others = self.named(draw, edition, slid + made, [roots[k] for k in held])
         (self.folder / "heap.roots").write_text("".join(f"{it}\n" for it in named))
         rooted = ("--reachable", "--roots", "heap.roots", "heap.img", "heap.trace")
         self.marked(seed, "next", "next.img", *few, *rooted, shown=lines, others=others)
 
-    def named(self, draw, starts, held):
-        """Roots as a text names them, and as the next heap has them: objects by their addresses, what registers hold, and null."""
+    def named(self, draw, edition, starts, held):
+        """Roots as a text names them, and as the next heap has them: objects by their addresses, what registers hold, immediates and null."""
         named = []
         for _ in range(draw.randint(0, 6)):
             kind = draw.random()
@@ -253,7 +276,9 @@ class Soak:
                 named.append((TO + at, FROM + at))
             elif kind < 0.8:
                 m = draw.randrange(len(held))
-                named.append((f"{m} 15", held[m] and held[m] - TO + FROM))
+                named.append((f"{m} 15", lowered(held[m])))
+            elif edition == 4:
+                named.append((immediate(draw, TO),) * 2)
             else:
                 named.append((draw.choice(("0", "0 14")), 0))
         return [name for name, _ in named], [root for _, root in named]
@@ -263,7 +288,7 @@ class Soak:
         reach."""
         edition, all_words, roots = parts((self.folder / heap).read_bytes())
         roots = roots if others is None else others
-        marks = reached(edition, all_words, [root - FROM for root in roots if root])
+        marks = reached(edition, all_words, [root - FROM for root in roots if leads(root)])
         told = f"{shown}live {sum(sizes(edition, all_words[at])[1] for at in marks)}\n"
         answer = self.run(seed, command, *(words or (heap,)), "marked.img")
         if answer is None:
@@ -276,7 +301,7 @@ class Soak:
     def step(self, seed):
         draw = random.Random(seed)
         image, edition, roots, live, slid = heap(draw)
-        self.large = ("--large",) if edition == 3 else ()
+        self.large = ("--large",) if edition >= 3 else ()
         (self.folder / "heap.img").write_bytes(image)
         self.marked(seed, "mark", "heap.img")
         self.elsewhere(seed, random.Random(-seed), image, live)

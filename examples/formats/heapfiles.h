@@ -58,7 +58,7 @@ struct hf_dump {
     uint64_t live;
 };
 
-/* The header of an object. In edition three the form with room for all three counts is taken if they fit. */
+/* The header of an object. From edition three on the form with room for all three counts is taken if they fit. */
 static inline uint64_t hf_header(uint32_t edition, uint64_t references, uint64_t data, uint64_t weak, uint64_t tag)
 {
     if (edition == 1)

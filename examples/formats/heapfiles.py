@@ -21,7 +21,7 @@ Page = collections.namedtuple("Page", "words entries")
 
 
 def header(edition, references, data, weak=0, tag=0):
-    """The header of an object. In edition three the form with room for all three counts is taken if they fit."""
+    """The header of an object. From edition three on the form with room for all three counts is taken if they fit."""
     if edition == 1:
         return references | data << 16 | tag << 32
     if edition == 2 or max(references, data, weak) < 1 << 16:

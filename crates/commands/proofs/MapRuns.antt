@@ -76,6 +76,12 @@ module _ {F W : Type 0} (disk : Disk F W) (asked : Mapping) where
   pub some_dumped : (heap : Heap) (path : List ℕ) → asked.dump ≡ Some path → SomeAudit disk (audit_for asked path) (λ other dump. other ≡ heap) → SomeMap disk asked (λ other. other ≡ heap)
   some_dumped heap path some found = subst (λ (dump : Option (List ℕ)). Found dump (λ other. other ≡ heap)) (sym some) found
 
+  -- with none
+  pub some_alone : (heap plan : Heap) → asked.dump ≡ None → plan ≡ heap → SomeHeapAt disk asked.large asked.image (λ other. other ≡ heap) → SomeMap disk asked (λ other. other ≡ plan)
+  some_alone heap plan none same found =
+      subst (λ (dump : Option (List ℕ)). Found dump (λ other. other ≡ plan)) (sym none)
+      (subst (λ (h : Heap). SomeHeapAt disk asked.large asked.image (λ other. other ≡ h)) (sym same) found)
+
   pub fails_dumped : (refusal : CommandRefusal) (path : List ℕ) → asked.dump ≡ Some path → FailsCompared disk (audit_for asked path) refusal → FailsMap disk asked refusal
   fails_dumped refusal path some h =
       subst (λ (dump : Option (List ℕ)). MatchOption dump (RefusesAt disk asked.large asked.image RefusesImage refusal) (λ other. FailsCompared disk (audit_for asked other) refusal)) (sym some) h

@@ -15,7 +15,7 @@ use Rattle.comp_trace.specs.Acting.{null_registers, registers_after, shown_at}
 use Rattle.comp_trace.specs.Races.{numbered, own_lines, Ran, Went}
 use Rattle.comp_trace.specs.declared.text.fault.RefusedLine.{RefusedLine}
 use Rattle.comp_trace.specs.declared.text.line.Action.{Action}
-use Rattle.comp_trace.specs.declared.text.line.Action.TheVariants.{Root, Load, Get, Store, Put, New, Nil}
+use Rattle.comp_trace.specs.declared.text.line.Action.TheVariants.{Root, Load, Get, Store, Put, New, Nil, Immediate}
 use Rattle.comp_trace.specs.declared.text.line.Line.{Line}
 use Rattle.comp_trace.specs.declared.races.racing.Run.{Run}
 use Rattle.comp_trace.specs.declared.steps.shown.Shown.{Shown}
@@ -82,6 +82,7 @@ of_line line lines (Store weak object field value) answer more values e h = inl 
 of_line line lines (Put object field value) answer more values e h = inl (subst (AreOf lines) (sym e) h)
 of_line line lines (New to refs weak data_words tag) answer more values e h = inl (subst (AreOf lines) (sym e) h)
 of_line line lines (Nil to) answer more values e h = inl (subst (AreOf lines) (sym e) h)
+of_line line lines (Immediate to payload) answer more values e h = inl (subst (AreOf lines) (sym e) h)
 
 -- what lines showed that ran is of them
 of_went : (u : Setup) (lines : List (ℕ × Line)) (registers : List ℕ) (old : Pass) (values : List Shown) (after : List ℕ) (new : Pass) → Went u lines registers old values after new → AreOf lines values

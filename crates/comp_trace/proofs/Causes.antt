@@ -18,7 +18,7 @@ use Rattle.comp_mutator.specs.Refusal.TheVariants.{Null, NotAStart, NoSuchField,
 use Rattle.comp_trace.specs.Acting.{Refuses}
 use Rattle.comp_trace.specs.Builds.{kind_if}
 use Rattle.comp_trace.specs.declared.text.line.Action.{Action}
-use Rattle.comp_trace.specs.declared.text.line.Action.TheVariants.{Root, Load, Get, Store, Put, New, Nil}
+use Rattle.comp_trace.specs.declared.text.line.Action.TheVariants.{Root, Load, Get, Store, Put, New, Nil, Immediate}
 use Rattle.comp_trace.specs.Bytes.{IsOfRun}
 use Rattle.comp_trace.specs.Causes.{journals_at, AreOfRuns, HasCause, HasFieldCause, HasNewCause, IsFilled, IsOwnOf, LiesOn}
 use Rattle.comp_trace.specs.Runs.{Moment}
@@ -97,6 +97,7 @@ module _ (u : Setup) (moment : Moment) (m : ℕ) (old new : Pass) (began : IsOfR
   line_cause (Put object field value) registers refusal h = data_cause kinds.Data (slice_index registers object) field refusal h
   line_cause (New to refs weak data_words tag) registers refusal h = asked_cause (header_with u.heap.edition refs weak data_words tag) refusal h
   line_cause (Nil to) registers refusal h = h
+  line_cause (Immediate to payload) registers refusal h = h.1
 
 pub of_runs : AreOfRuns
 of_runs u first lines shown number refusal cut = line_cause u cut.end cut.line.mutator cut.old cut.new cut.began cut.ended cut.line.action (cut.end.registers cut.line.mutator) refusal cut.refuses

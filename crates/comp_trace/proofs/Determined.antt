@@ -34,7 +34,7 @@ use Rattle.comp_trace.proofs.MadeObjects.{no_header}
 use Rattle.comp_trace.specs.Runs.{beginning, unstamped, unstamped_on, AreAlike, Does, IsDetermined, Moment, Runs}
 use Rattle.comp_trace.specs.Lines.{used_by, with_entries, Acts, IsOneEntry, MakesAsked, MakesObject, WritesField}
 use Rattle.comp_trace.specs.declared.text.line.Action.{Action}
-use Rattle.comp_trace.specs.declared.text.line.Action.TheVariants.{Root, Load, Get, Store, Put, New, Nil}
+use Rattle.comp_trace.specs.declared.text.line.Action.TheVariants.{Root, Load, Get, Store, Put, New, Nil, Immediate}
 use Rattle.comp_trace.specs.declared.text.line.Line.{Line}
 use Rattle.comp_trace.specs.declared.steps.shown.Shown.{Shown}
 use Rattle.comp_trace.proofs.Merging.{mine, others}
@@ -231,6 +231,7 @@ module _ (u : Setup) (js ls : Journals) (slid : u.compacted ≡ sliding.pages (l
   acts_once m (New to refs weak data_words tag) registers xs ys a b x y =
       let once = asked_once m (header_with u.heap.edition refs weak data_words tag) xs ys a b x y in by_answer (New to refs weak data_words tag) registers xs ys a b once.0 once.1
   acts_once m (Nil to) registers xs ys a b x y = by_answer (Nil to) registers xs ys a b (x.1 ∙ sym y.1) (ap (map unstamped_on) (x.0 ∙ sym y.0))
+  acts_once m (Immediate to payload) registers xs ys a b x y = by_answer (Immediate to payload) registers xs ys a b (x.1.0 ∙ sym y.1.0) (ap (map unstamped_on) (x.0 ∙ sym y.0))
 
 -- ---- the headers stay in order
 adds_none : (edition : Edition) (kind : Kind) (value : ℕ) → (kind ≡ Header → ⊥) → kinds_by edition kind value ≡ []
@@ -288,6 +289,7 @@ acts_heads u js m lt heads (Put object field value) registers xs a x = one_more 
 acts_heads u js m lt heads (New to refs weak data_words tag) registers xs a x =
     asked_heads u js m lt heads (header_with u.heap.edition refs weak data_words tag) xs a x
 acts_heads u js m lt heads (Nil to) registers xs a x = none_more u js xs heads x.0
+acts_heads u js m lt heads (Immediate to payload) registers xs a x = none_more u js xs heads x.0
 
 -- ---- line after line
 with_more : (start : Journals) (xs ys : List (ℕ × Entry)) → with_entries (with_entries start xs) ys ≡ with_entries start (xs ++ ys)

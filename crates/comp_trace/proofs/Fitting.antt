@@ -1,5 +1,5 @@
 -- The lines of a trace name only what exists.
-use Rattle.std.proofs.Common.{◌≡◌, ℕ, zero, suc, ◌<◌, ◌&&◌, Bool, true, false, cond, List, [], ◌∷◌, length, get_or, Result, Ok, Err, refl, arith, nat_le}
+use Rattle.std.proofs.Common.{◌≡◌, ℕ, zero, suc, ◌<◌, ◌^◌, ◌&&◌, Bool, true, false, cond, List, [], ◌∷◌, length, get_or, Result, Ok, Err, refl, arith, nat_le}
 use Rattle.std.specs.Prelude.{is_ok}
 use Rattle.std.proofs.lemmas.Bool.{leb-false, or_parts}
 use Rattle.std.specs.List.{list_all, list_any}
@@ -10,7 +10,7 @@ use Rattle.comp_trace.specs.Grammar.{is_too_large, is_within, registers_of, root
 use Rattle.comp_trace.specs.declared.text.fault.TraceFault.{TraceFault}
 use Rattle.comp_trace.specs.declared.text.fault.TraceFault.TheVariants.{NoSuchMutator, NoSuchRegister, NumberTooLarge, NoSuchRoot}
 use Rattle.comp_trace.specs.declared.text.line.Action.{Action}
-use Rattle.comp_trace.specs.declared.text.line.Action.TheVariants.{Root, Load, Get, Store, Put, New, Nil}
+use Rattle.comp_trace.specs.declared.text.line.Action.TheVariants.{Root, Load, Get, Store, Put, New, Nil, Immediate}
 use Rattle.comp_trace.specs.declared.text.line.Line.{Line}
 
 pub ok_not : (b : Bool) (e : TraceFault) (r : Result Line TraceFault) → is_ok (cond b (Err e) r) ≡ true → (b ≡ false) × (is_ok r ≡ true)
@@ -21,14 +21,16 @@ and_both : (a b : Bool) → (a && b) ≡ true → (a ≡ true) × (b ≡ true)
 and_both true b h = (refl, h)
 and_both false b h = absurd cc
 
-fits_action : (u : Setup) (rs : ℕ) (action : Action) → rs ≡ length u.heap.roots → list_any (nat_le 16) (registers_of action) ≡ false → list_any (nat_le rs) (roots_of action) ≡ false → Fits u action
-fits_action u rs (Root to root) e h k = (leb-false 16 to (or_parts _ _ h).0, omega (arith, e, leb-false rs root (or_parts _ _ k).0))
-fits_action u rs (Load weak to object field) e h k = let p = or_parts _ _ h in (leb-false 16 to p.0, leb-false 16 object (or_parts _ _ p.1).0)
-fits_action u rs (Get object field) e h k = leb-false 16 object (or_parts _ _ h).0
-fits_action u rs (Store weak object field value) e h k = let p = or_parts _ _ h in (leb-false 16 object p.0, leb-false 16 value (or_parts _ _ p.1).0)
-fits_action u rs (Put object field value) e h k = leb-false 16 object (or_parts _ _ h).0
-fits_action u rs (New to refs weak data_words tag) e h k = leb-false 16 to (or_parts _ _ h).0
-fits_action u rs (Nil to) e h k = leb-false 16 to (or_parts _ _ h).0
+fits_action : (u : Setup) (rs : ℕ) (action : Action) → rs ≡ length u.heap.roots → list_any (nat_le 16) (registers_of action) ≡ false → is_too_large action ≡ false
+    → list_any (nat_le rs) (roots_of action) ≡ false → Fits u action
+fits_action u rs (Root to root) e h l k = (leb-false 16 to (or_parts _ _ h).0, omega (arith, e, leb-false rs root (or_parts _ _ k).0))
+fits_action u rs (Load weak to object field) e h l k = let p = or_parts _ _ h in (leb-false 16 to p.0, leb-false 16 object (or_parts _ _ p.1).0)
+fits_action u rs (Get object field) e h l k = leb-false 16 object (or_parts _ _ h).0
+fits_action u rs (Store weak object field value) e h l k = let p = or_parts _ _ h in (leb-false 16 object p.0, leb-false 16 value (or_parts _ _ p.1).0)
+fits_action u rs (Put object field value) e h l k = leb-false 16 object (or_parts _ _ h).0
+fits_action u rs (New to refs weak data_words tag) e h l k = leb-false 16 to (or_parts _ _ h).0
+fits_action u rs (Nil to) e h l k = leb-false 16 to (or_parts _ _ h).0
+fits_action u rs (Immediate to payload) e h l k = (leb-false 16 to (or_parts _ _ h).0, leb-false (2 ^ 63) payload l)
 
 pub line_fits : (u : Setup) (ms rs : ℕ) (line : Line) → rs ≡ length u.heap.roots → is_within ms rs line ≡ true → (line.mutator < ms) × Fits u line.action
 line_fits u ms rs line e h =
@@ -39,7 +41,7 @@ line_fits u ms rs line e h =
     let b = ok_not (list_any (nat_le 16) (registers_of line.action)) (NoSuchRegister 0) third a.1 in
     let c = ok_not (is_too_large line.action) (NumberTooLarge 0) last b.1 in
     let d = ok_not (list_any (nat_le rs) (roots_of line.action)) (NoSuchRoot 0) (Ok line) c.1 in
-    (leb-false ms line.mutator a.0, fits_action u rs line.action e b.0 d.0)
+    (leb-false ms line.mutator a.0, fits_action u rs line.action e b.0 c.0 d.0)
 
 each : (f : Line → Bool) (xs : List Line) → list_all f xs ≡ true → (j : ℕ) (d : Line) → j < length xs → f (get_or xs j d) ≡ true
 each f [] h j d lt = absurd (omega (arith, lt))

@@ -23,7 +23,7 @@ use Rattle.comp_trace.specs.Bytes.{no_entries}
 use Rattle.comp_trace.specs.Lines.{with_entries, Acts, IsAboveAll, IsOneEntry, MakesAsked}
 use Rattle.comp_trace.specs.Runs.{Moment, Runs}
 use Rattle.comp_trace.specs.declared.text.line.Action.{Action}
-use Rattle.comp_trace.specs.declared.text.line.Action.TheVariants.{Root, Load, Get, Store, Put, New, Nil}
+use Rattle.comp_trace.specs.declared.text.line.Action.TheVariants.{Root, Load, Get, Store, Put, New, Nil, Immediate}
 use Rattle.comp_trace.specs.declared.text.line.Line.{Line}
 
 -- ---- what a run adds: stamps that rise, by writers that are there
@@ -63,6 +63,7 @@ line_adds u journals m (Store weak object field value) registers new answer h = 
 line_adds u journals m (Put object field value) registers new answer h = inr (entry_adds journals m _ _ _ _ _ new h.entry)
 line_adds u journals m (New to refs weak data_words tag) registers new answer h = inr (asked_adds u journals m (header_with u.heap.edition refs weak data_words tag) new answer h)
 line_adds u journals m (Nil to) registers new answer h = inl h.0
+line_adds u journals m (Immediate to payload) registers new answer h = inl h.0
 
 rises_more : (low : ℕ) (xs : List (ℕ × Entry)) (x : ℕ × Entry) → Rise stamp_of low xs → low ≤ x.1.stamp → ((z : ℕ × Entry) → In z xs → z.1.stamp < x.1.stamp) → Rise stamp_of low (xs ++ x ∷ [])
 rises_more low [] x h le above = (le, tt)

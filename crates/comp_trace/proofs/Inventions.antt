@@ -23,7 +23,7 @@ use Rattle.comp_trace.specs.declared.steps.shown.Shown.{Shown}
 use Rattle.comp_trace.proofs.Merging.{mine}
 use Rattle.comp_trace.specs.declared.text.fault.RefusedLine.{RefusedLine}
 use Rattle.comp_trace.specs.declared.text.line.Action.{Action}
-use Rattle.comp_trace.specs.declared.text.line.Action.TheVariants.{Root, Load, Get, Store, Put, New, Nil}
+use Rattle.comp_trace.specs.declared.text.line.Action.TheVariants.{Root, Load, Get, Store, Put, New, Nil, Immediate}
 use Rattle.comp_trace.specs.declared.text.line.Line.{Line}
 use Rattle.comp_trace.specs.Inventions.{IsOfLines, IsReadOf, MayWrite, WritesHeader}
 use Rattle.comp_trace.specs.Races.{Ends, RanAndMet, Went}
@@ -85,6 +85,7 @@ wrote u (Store weak object field value) registers old new answer h j x at = one_
 wrote u (Put object field value) registers old new answer h j x at = one_added u (Put object field value) _ _ old new h.adds (refl, refl) j x at
 wrote u (New to refs weak data_words tag) registers old new answer h j x at = made_by u old new (header_with u.heap.edition refs weak data_words tag) answer h j x at
 wrote u (Nil to) registers old new answer h j x at = inl (sym (ap (λ (y : Pass). get_elem? (did y) j) h.0) ∙ at)
+wrote u (Immediate to payload) registers old new answer h j x at = inl (sym (ap (λ (y : Pass). get_elem? (did y) j) h.0) ∙ at)
 
 -- what a mutator did it had done before, or a line of these wrote it
 went_wrote : (u : Setup) (lines : List (ℕ × Line)) (registers : List ℕ) (old : Pass) (shown : List Shown) (after : List ℕ) (new : Pass) → Went u lines registers old shown after new
@@ -135,6 +136,7 @@ module _ (u : Setup) (journals : Journals) where
   read_line (Put object field value) n registers old middle answer rest begins h more = more
   read_line (New to refs weak data_words tag) n registers old middle answer rest begins h more = more
   read_line (Nil to) n registers old middle answer rest begins h more = more
+  read_line (Immediate to payload) n registers old middle answer rest begins h more = more
 
   went_read : (lines : List (ℕ × Line)) (registers : List ℕ) (old : Pass) (shown : List Shown) (after : List ℕ) (new : Pass) → ((p : ℕ) → StartsWith (journals p) (seen new p))
       → Went u lines registers old shown after new → Each shown (IsReadOf u journals)
@@ -184,3 +186,4 @@ module _ (u : Setup) (journals : Journals) where
         full_seen (Put object field value) registers old new p h = full_data old new _ _ field p h
         full_seen (New to refs weak data_words tag) registers old new p h = full_made old new _ p h
         full_seen (Nil to) registers old new p h = absurd h
+        full_seen (Immediate to payload) registers old new p h = absurd (cc h.1.0)

@@ -29,7 +29,7 @@ use Rattle.comp_trace.specs.Rounds.{Advances, Learns, Met}
 use Rattle.comp_trace.specs.Lines.{used_by, with_entries, Acts, IsAboveAll, IsOneEntry, MakesAsked, MakesObject, WritesField}
 use Rattle.comp_trace.specs.Builds.{kind_if}
 use Rattle.comp_trace.specs.declared.text.line.Action.{Action}
-use Rattle.comp_trace.specs.declared.text.line.Action.TheVariants.{Root, Load, Get, Store, Put, New, Nil}
+use Rattle.comp_trace.specs.declared.text.line.Action.TheVariants.{Root, Load, Get, Store, Put, New, Nil, Immediate}
 use Rattle.comp_trace.proofs.BetweenRounds.{dids, known_before, reads_all, seen_all, writes_all, IsCrew}
 use Rattle.comp_trace.proofs.EarlierFields.{field_before}
 use Rattle.comp_trace.proofs.MadeObjects.{made_same, made_whose, no_header}
@@ -207,6 +207,7 @@ module _ (table : Steps) (n i : ℕ) (first met acted last : ℕ → Pass) (line
     advances (New to refs weak data_words tag) registers answer h =
         makes (header_with u.heap.edition refs weak data_words tag) (New to refs weak data_words tag) registers answer h (λ added acts. acts)
     advances (Nil to) registers answer h = none (Nil to) registers answer (ap did h.0) (refl, h.1)
+    advances (Immediate to payload) registers answer h = none (Immediate to payload) registers answer (ap did h.0) (refl, h.1)
 
     -- at its call it knows each object that was made, if each mutator knew what it made
     pub knows_starts : ((k : ℕ) → k < n → KnowsMade (first k)) → (p offset : ℕ) → HasHead (journals p) offset → KnowsFresh (met i) p offset

@@ -24,7 +24,7 @@ use Rattle.comp_trace.specs.Acting.{Answers, Steps}
 use Rattle.comp_trace.specs.WrittenEntries.{WrittenEntries, IsMerged, KnowsMade}
 use Rattle.comp_trace.specs.Rounds.{Learns}
 use Rattle.comp_trace.specs.declared.text.line.Action.{Action}
-use Rattle.comp_trace.specs.declared.text.line.Action.TheVariants.{Root, Load, Get, Store, Put, New, Nil}
+use Rattle.comp_trace.specs.declared.text.line.Action.TheVariants.{Root, Load, Get, Store, Put, New, Nil, Immediate}
 use Rattle.comp_trace.proofs.Merging.{mine, others}
 
 -- a pass that did the same, and knows no less, knows what it made
@@ -65,6 +65,7 @@ made_by u (Store weak object field value) registers old new answer h grows = mad
 made_by u (Put object field value) registers old new answer h grows = made_more old new _ _ h.adds.did grows (λ is. absurd cc)
 made_by u (New to refs weak data_words tag) registers old new answer h grows = asked_by u (header_with u.heap.edition refs weak data_words tag) old new answer h grows
 made_by u (Nil to) registers old new answer h grows = made_same old new (ap did h.0) grows
+made_by u (Immediate to payload) registers old new answer h grows = made_same old new (ap did h.0) grows
 
 -- whatever a call answered
 pub learns_by : (P : Type 0) (u : Setup) (action : Action) (registers : List ℕ) (old new : Pass) (r : Result ℕ Refusal) → IfOk r (Steps u action registers old new) → OnErr r (Grows old new)

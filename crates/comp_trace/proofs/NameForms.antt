@@ -8,7 +8,7 @@ use Rattle.std.proofs.lemmas.Slice.Eq.{bytes_eq-Decides}
 use Rattle.comp_trace.specs.declared.text.fault.TraceFault.{TraceFault}
 use Rattle.comp_trace.specs.declared.text.line.Line.{Line}
 use Rattle.comp_trace.specs.declared.text.name.Name.{Name}
-use Rattle.comp_trace.specs.declared.text.name.Name.TheVariants.{Root, Load, Get, Store, Put, New, Nil, WeakLoad, WeakStore, WeakNew}
+use Rattle.comp_trace.specs.declared.text.name.Name.TheVariants.{Root, Load, Get, Store, Put, New, Nil, Immediate, WeakLoad, WeakStore, WeakNew}
 use Rattle.comp_trace.specs.Grammar.{◌>>=◌, action_of, clipped, is_within, judged, line_with, parts, read_from}
 use Rattle.comp_trace.specs.Fronts.{written, HasNoAction, HasNone, NumberBefore, NumbersOfLine, ReadsLine}
 use Rattle.comp_trace.proofs.Clipping.{told_apart}
@@ -45,7 +45,7 @@ blank_behind text word rest more e h =
 unknown_name : (name ns : List ℕ) → ((k : Name) → name ≡ written k → ⊥) → action_of name ns ≡ None
 unknown_name name [] f = refl
 unknown_name name (a ∷ []) f = rw (ne_bytes name (codes "nil") (f Nil)) refl
-unknown_name name (a ∷ b ∷ []) f = rw (ne_bytes name (codes "root") (f Root), ne_bytes name (codes "get") (f Get)) refl
+unknown_name name (a ∷ b ∷ []) f = rw (ne_bytes name (codes "root") (f Root), ne_bytes name (codes "get") (f Get), ne_bytes name (codes "imm") (f Immediate)) refl
 unknown_name name (a ∷ b ∷ c ∷ []) f =
     rw (
       ne_bytes name (codes "load") (f Load),
@@ -67,6 +67,7 @@ arity Store = 3
 arity Put = 3
 arity New = 4
 arity Nil = 1
+arity Immediate = 2
 arity WeakLoad = 3
 arity WeakStore = 3
 arity WeakNew = 5
@@ -78,6 +79,7 @@ other_count Nil (a ∷ []) f = absurd (f refl)
 other_count name (a ∷ []) f = refl
 other_count Root (a ∷ b ∷ []) f = absurd (f refl)
 other_count Get (a ∷ b ∷ []) f = absurd (f refl)
+other_count Immediate (a ∷ b ∷ []) f = absurd (f refl)
 other_count name (a ∷ b ∷ []) f = refl
 other_count Load (a ∷ b ∷ c ∷ []) f = absurd (f refl)
 other_count Store (a ∷ b ∷ c ∷ []) f = absurd (f refl)
@@ -115,6 +117,7 @@ short_name Store = refl
 short_name Put = refl
 short_name New = refl
 short_name Nil = refl
+short_name Immediate = refl
 short_name WeakLoad = refl
 short_name WeakStore = refl
 short_name WeakNew = refl
@@ -127,6 +130,7 @@ one_word Store = refl
 one_word Put = refl
 one_word New = refl
 one_word Nil = refl
+one_word Immediate = refl
 one_word WeakLoad = refl
 one_word WeakStore = refl
 one_word WeakNew = refl

@@ -20,7 +20,7 @@ use Rattle.comp_trace.specs.Acting.{Refuses}
 use Rattle.comp_trace.specs.Builds.{kind_if}
 use Rattle.comp_trace.specs.Rounds.{Met}
 use Rattle.comp_trace.specs.declared.text.line.Action.{Action}
-use Rattle.comp_trace.specs.declared.text.line.Action.TheVariants.{Root, Load, Get, Store, Put, New, Nil}
+use Rattle.comp_trace.specs.declared.text.line.Action.TheVariants.{Root, Load, Get, Store, Put, New, Nil, Immediate}
 use Rattle.comp_trace.proofs.BetweenRounds.{IsCrew}
 
 module _ (u : Setup) (old new : Pass) (p : ℕ) where
@@ -46,6 +46,7 @@ module _ (u : Setup) (old new : Pass) (p : ℕ) where
   met_by (Put object field value) registers busy = met_data Data (get_or registers object 0) field busy
   met_by (New to refs weak data_words tag) registers busy = met_asked (header_with u.heap.edition refs weak data_words tag) busy
   met_by (Nil to) registers busy = absurd busy
+  met_by (Immediate to payload) registers busy = absurd (cc busy.1.0)
 
 module _ (table : Steps) (n i : ℕ) (inside : i < n) (first met acted last : ℕ → Pass) (crew_first : IsCrew table n first) (crew_met : IsCrew table n met)
     (rests : (k : ℕ) → k < n → Rests (met k)) (before : Met n i first met) (after : Met n i acted last) (call : Grows (met i) (acted i))

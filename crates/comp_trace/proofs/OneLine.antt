@@ -22,8 +22,9 @@ use Rattle.comp_mutator.specs.Writes.{ReferenceRefused, Writes}
 use Rattle.comp_mutator.specs.Refusal.{Refusal}
 use Rattle.comp_trace.specs.Acting.{shown_at, Steps}
 use Rattle.comp_trace.specs.Builds.{kind_if, slid_page, BuildsTouched}
+use Rattle.comp_trace.specs.Immediates.{IsImmediateWith}
 use Rattle.comp_trace.specs.declared.text.line.Action.{Action}
-use Rattle.comp_trace.specs.declared.text.line.Action.TheVariants.{Root, Load, Get, Store, Put, New, Nil}
+use Rattle.comp_trace.specs.declared.text.line.Action.TheVariants.{Root, Load, Get, Store, Put, New, Nil, Immediate}
 use Rattle.comp_trace.proofs.Building.{field_touched, made_touched}
 use Rattle.comp_trace.proofs.Elements.{at_or}
 
@@ -113,6 +114,10 @@ rooted u to root registers pass word_address leads = record { grows = grows_none
 pub nulled : (u : Setup) (to : ℕ) (registers : List ℕ) (pass : Pass) → Steps u (Nil to) registers pass pass 0
 nulled u to registers pass = record { grows = grows_none pass; answers = (refl, refl); builds = refl }
 
+-- a register became an immediate
+pub immediated : (u : Setup) (to payload : ℕ) (registers : List ℕ) (pass : Pass) (word : ℕ) → IsImmediateWith u payload word → Steps u (Immediate to payload) registers pass pass word
+immediated u to payload registers pass word is = record { grows = grows_none pass; answers = (refl, is); builds = refl }
+
 -- what holds of each answer
 pub on_ok : (r : Result ℕ Refusal) (P : ℕ → Type 0) → ((answer : ℕ) → P answer) → IfOk r P
 on_ok (Ok answer) P h = h answer
@@ -132,6 +137,7 @@ shows_one number (Store weak object field value) answer = omega arith
 shows_one number (Put object field value) answer = omega arith
 shows_one number (New to refs weak data_words tag) answer = omega arith
 shows_one number (Nil to) answer = omega arith
+shows_one number (Immediate to payload) answer = omega arith
 
 -- the forwarding address of a root
 pub leads_at : (f : ℕ → Option ℕ) (xs ys : List ℕ) → map (λ (address : ℕ). Some address) xs ≡ map f ys → (i : ℕ) → i < length ys → (i < length xs) × (f (get_or ys i 0) ≡ Some (get_or xs i 0))

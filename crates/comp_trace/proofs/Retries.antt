@@ -22,7 +22,7 @@ use Rattle.comp_mutator.proofs.Earlier.{reference_refused_then, refused_then, wr
 use Rattle.comp_mutator.proofs.Growing.{grows_none, grows_then}
 use Rattle.comp_mutator.proofs.LowestPages.{allocates_then, allocation_refused_then}
 use Rattle.comp_trace.specs.declared.text.line.Action.{Action}
-use Rattle.comp_trace.specs.declared.text.line.Action.TheVariants.{Root, Load, Get, Store, Put, New, Nil}
+use Rattle.comp_trace.specs.declared.text.line.Action.TheVariants.{Root, Load, Get, Store, Put, New, Nil, Immediate}
 use Rattle.comp_trace.specs.Acting.{Refuses, Steps}
 use Rattle.comp_trace.specs.Builds.{kind_if, slid_page, BuildsTouched}
 use Rattle.comp_trace.proofs.OneLine.{made}
@@ -46,6 +46,7 @@ WaitsFor u (Store weak object field value) registers old now =
 WaitsFor u (Put object field value) registers old now = WaitsOn u Data (get_or registers object 0) field old now
 WaitsFor u (New to refs weak data_words tag) registers old now = WaitsToMake u (header_with u.heap.edition refs weak data_words tag) old now
 WaitsFor u (Nil to) registers old now = now ≡ old
+WaitsFor u (Immediate to payload) registers old now = now ≡ old
 
 make_none : (u : Setup) (asked : Option Head) (a : Pass) → WaitsToMake u asked a a
 make_none u None a = refl
@@ -63,6 +64,7 @@ waits_first u (Store weak object field value) registers a = (field_none u (kind_
 waits_first u (Put object field value) registers a = field_none u Data (get_or registers object 0) field a
 waits_first u (New to refs weak data_words tag) registers a = make_none u (header_with u.heap.edition refs weak data_words tag) a
 waits_first u (Nil to) registers a = refl
+waits_first u (Immediate to payload) registers a = refl
 
 make_knows : (u : Setup) (asked : Option Head) (a b : Pass) → WaitsToMake u asked a b → Grows a b × (did b ≡ did a)
 make_knows u None a b same = subst (λ (p : Pass). Grows a p × (did p ≡ did a)) (sym same) (grows_none a, refl)
@@ -77,6 +79,7 @@ waits_know u (Store weak object field value) registers a b h = (h.0.grows, h.0.d
 waits_know u (Put object field value) registers a b h = (h.grows, h.did)
 waits_know u (New to refs weak data_words tag) registers a b h = make_knows u (header_with u.heap.edition refs weak data_words tag) a b h
 waits_know u (Nil to) registers a b same = subst (λ (p : Pass). Grows a p × (did p ≡ did a)) (sym same) (grows_none a, refl)
+waits_know u (Immediate to payload) registers a b same = subst (λ (p : Pass). Grows a p × (did p ≡ did a)) (sym same) (grows_none a, refl)
 
 module _ (u : Setup) (a b c : Pass) where
   abbrev busy : ℕ → Result ℕ Refusal
@@ -99,6 +102,7 @@ module _ (u : Setup) (a b c : Pass) where
   waits_more (Put object field value) registers h grows same q r = waits_data u Data (get_or registers object 0) field a b c h grows same (busy q) q refl r
   waits_more (New to refs weak data_words tag) registers h grows same q r = make_more (header_with u.heap.edition refs weak data_words tag) h grows same q r
   waits_more (Nil to) registers h grows same q r = absurd r
+  waits_more (Immediate to payload) registers h grows same q r = absurd (cc r.1.0)
 
   touched_later : (page : Option ℕ) → Grows a b → BuildsNothing a b → BuildsTouched page b c → BuildsTouched page a c
   touched_later None h none built = built ∙ none
@@ -148,6 +152,7 @@ module _ (u : Setup) (a b c : Pass) where
       let before = make_knows u asked a b h in
       made u to refs weak data_words tag registers a c (Ok answer) (grows_then a b c before.0 s.grows) (make_then asked h s.grows answer s.answers)
   steps_then (Nil to) registers same answer s = subst (λ (p : Pass). Steps u (Nil to) registers p c answer) same s
+  steps_then (Immediate to payload) registers same answer s = subst (λ (p : Pass). Steps u (Immediate to payload) registers p c answer) same s
 
   make_refused : (asked : Option Head) → WaitsToMake u asked a b → Grows b c → (refusal : Refusal) → AskedRefused u b c asked refusal → AskedRefused u a c asked refusal
   make_refused None same k refusal r = subst (λ (p : Pass). AskedRefused u p c None refusal) same r
@@ -165,6 +170,7 @@ module _ (u : Setup) (a b c : Pass) where
     refuses (Put object field value) registers h refusal r = let o = get_or registers object 0 in write_refused_then u Data o field a b c h.grows k h.builds h.seen knows (places o) refusal r
     refuses (New to refs weak data_words tag) registers h refusal r = make_refused (header_with u.heap.edition refs weak data_words tag) h k refusal r
     refuses (Nil to) registers h refusal r = r
+    refuses (Immediate to payload) registers same refusal r = subst (λ (p : Pass). Refuses u (Immediate to payload) registers p c refusal) same r
 
   -- why the last call was refused
   pub refuses_then : (knows : (x : ℕ) → KnowsStart a x → KnowsStart b x) (places : (x : ℕ) → IsForwardingAddress u.heap x → KnowsStart b x) (action : Action) (registers : List ℕ)

@@ -18,7 +18,7 @@ use Rattle.comp_mutator.specs.Mutators.{pass_of}
 use Rattle.comp_mutator.specs.Reads.{BuildsNothing, MayBuild}
 use Rattle.comp_mutator.specs.declared.mutator.Mutator.{Mutator}
 use Rattle.comp_trace.specs.declared.text.line.Action.{Action}
-use Rattle.comp_trace.specs.declared.text.line.Action.TheVariants.{Root, Load, Get, Store, Put, New, Nil}
+use Rattle.comp_trace.specs.declared.text.line.Action.TheVariants.{Root, Load, Get, Store, Put, New, Nil, Immediate}
 
 -- the kind of the field that a load or a store names
 abbrev pub kind_if : Bool → Kind
@@ -39,6 +39,7 @@ touched u (Store weak object field value) registers answer = slid_page u (kind_i
 touched u (Put object field value) registers answer = slid_page u Data (slice_index registers object) field
 touched u (New to refs weak data_words tag) registers answer = Some (page_at answer)
 touched u (Nil to) registers answer = None
+touched u (Immediate to payload) registers answer = None
 
 -- the page is among the built ones, each of which is listed with the mutator that built it
 abbrev pub is_built : List (ℕ × ℕ) → ℕ → Bool

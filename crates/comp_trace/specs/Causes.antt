@@ -11,10 +11,11 @@ use Rattle.comp_mutator.specs.Allocations.{own_page}
 use Rattle.comp_mutator.specs.Refusal.{Refusal}
 use Rattle.comp_mutator.specs.Refusal.TheVariants.{Null, NotAStart, NoSuchField, NotInEdition, ObjectTooLarge, OutOfPages, Busy, JournalFull, OutOfMemory}
 use Rattle.comp_trace.specs.Builds.{is_built, kind_if}
+use Rattle.comp_trace.specs.Immediates.{HasNoImmediate}
 use Rattle.comp_trace.specs.Lines.{with_entries}
 use Rattle.comp_trace.specs.declared.steps.shown.Shown.{Shown}
 use Rattle.comp_trace.specs.declared.text.line.Action.{Action}
-use Rattle.comp_trace.specs.declared.text.line.Action.TheVariants.{Root, Load, Get, Store, Put, New, Nil}
+use Rattle.comp_trace.specs.declared.text.line.Action.TheVariants.{Root, Load, Get, Store, Put, New, Nil, Immediate}
 use Rattle.comp_trace.specs.declared.text.line.Line.{Line}
 use Rattle.comp_trace.specs.Bytes.{no_entries, IsCutShort}
 use Rattle.comp_trace.specs.Runs.{Moment}
@@ -75,6 +76,7 @@ HasCause u moment m (Store weak object field value) registers refusal = HasField
 HasCause u moment m (Put object field value) registers refusal = HasFieldCause u moment kinds.Data (slice_index registers object) field refusal
 HasCause u moment m (New to refs weak data_words tag) registers refusal = HasNewCause u moment m refusal
 HasCause u moment m (Nil to) registers refusal = ⊥
+HasCause u moment m (Immediate to payload) registers refusal = HasNoImmediate u payload refusal
 
 -- a run that was cut short by a refused line has the cause of the refusal itself
 abbrev pub AreOfRuns : Type 0

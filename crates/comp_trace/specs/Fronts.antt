@@ -4,7 +4,7 @@ use Rattle.comp_trace.specs.Grammar.{◌>>=◌, action_of, clipped, judged, line
 use Rattle.comp_trace.specs.declared.text.fault.TraceFault.{TraceFault}
 use Rattle.comp_trace.specs.declared.text.line.Line.{Line}
 use Rattle.comp_trace.specs.declared.text.name.Name.{Name}
-use Rattle.comp_trace.specs.declared.text.name.Name.TheVariants.{Root, Load, Get, Store, Put, New, Nil, WeakLoad, WeakStore, WeakNew}
+use Rattle.comp_trace.specs.declared.text.name.Name.TheVariants.{Root, Load, Get, Store, Put, New, Nil, Immediate, WeakLoad, WeakStore, WeakNew}
 use Rattle.comp_trace.specs.declared.text.numbers.Number.{Number}
 use Rattle.comp_trace.specs.declared.text.numbers.Number.TheVariants.{Small, Large}
 
@@ -52,6 +52,7 @@ written Store = codes "store"
 written Put = codes "put"
 written New = codes "new"
 written Nil = codes "nil"
+written Immediate = codes "imm"
 written WeakLoad = codes "wload"
 written WeakStore = codes "wstore"
 written WeakNew = codes "wnew"

@@ -7,7 +7,7 @@ use Rattle.std.specs.Str.Parse.{digits_value}
 use Rattle.comp_trace.specs.declared.text.fault.TraceFault.{TraceFault}
 use Rattle.comp_trace.specs.declared.text.fault.TraceFault.TheVariants.{BadLine, NoSuchMutator, NoSuchRegister, NumberTooLarge, NoSuchRoot, OutOfMemory}
 use Rattle.comp_trace.specs.declared.text.line.Action.{Action}
-use Rattle.comp_trace.specs.declared.text.line.Action.TheVariants.{Root, Load, Get, Store, Put, New, Nil}
+use Rattle.comp_trace.specs.declared.text.line.Action.TheVariants.{Root, Load, Get, Store, Put, New, Nil, Immediate}
 use Rattle.comp_trace.specs.declared.text.line.Line.{Line}
 
 -- the parts of a text, which is split at each byte that is this one
@@ -36,7 +36,8 @@ abbrev pub action_of : List ℕ → List ℕ → Option Action
 action_of name (d ∷ []) = if bytes_eq name (codes "nil") then Some (Nil d) else None
 action_of name (a ∷ b ∷ []) =
     if bytes_eq name (codes "root") then Some (Root a b)
-    else (if bytes_eq name (codes "get") then Some (Get a b) else None)
+    else (if bytes_eq name (codes "get") then Some (Get a b)
+    else (if bytes_eq name (codes "imm") then Some (Immediate a b) else None))
 action_of name (a ∷ b ∷ c ∷ []) =
     if bytes_eq name (codes "load") then Some (Load false a b c)
     else (if bytes_eq name (codes "store") then Some (Store false a b c)
@@ -66,6 +67,7 @@ registers_of (Store weak object field value) = object ∷ value ∷ []
 registers_of (Put object field value) = object ∷ []
 registers_of (New to refs weak data_words tag) = to ∷ []
 registers_of (Nil to) = to ∷ []
+registers_of (Immediate to payload) = to ∷ []
 
 -- a number of the line is too large for its type
 abbrev pub is_too_large : Action → Bool
@@ -76,6 +78,7 @@ is_too_large (Store weak object field value) = nat_le (2 ^ 16) field
 is_too_large (Put object field value) = nat_le (2 ^ 16) field || nat_le (2 ^ 64) value
 is_too_large (New to refs weak data_words tag) = nat_le (2 ^ 16) refs || (nat_le (2 ^ 16) weak || (nat_le (2 ^ 16) data_words || nat_le (2 ^ 32) tag))
 is_too_large (Nil to) = false
+is_too_large (Immediate to payload) = nat_le (2 ^ 63) payload
 
 -- the roots that a line names
 abbrev pub roots_of : Action → List ℕ
@@ -86,6 +89,7 @@ roots_of (Store weak object field value) = []
 roots_of (Put object field value) = []
 roots_of (New to refs weak data_words tag) = []
 roots_of (Nil to) = []
+roots_of (Immediate to payload) = []
 
 -- goes on with the value of an Ok, or keeps the fault
 infixl 10 ◌>>=◌

@@ -13,7 +13,7 @@ use Rattle.comp_mutator.specs.Refusal.TheVariants.{JournalFull}
 use Rattle.comp_trace.specs.Builds.{kind_if}
 use Rattle.comp_trace.specs.declared.steps.shown.Shown.{Shown}
 use Rattle.comp_trace.specs.declared.text.line.Action.{Action}
-use Rattle.comp_trace.specs.declared.text.line.Action.TheVariants.{Root, Load, Get, Store, Put, New, Nil}
+use Rattle.comp_trace.specs.declared.text.line.Action.TheVariants.{Root, Load, Get, Store, Put, New, Nil, Immediate}
 use Rattle.comp_trace.specs.declared.text.line.Line.{Line}
 use Rattle.comp_trace.specs.Races.{numbered, own_lines}
 use Rattle.comp_trace.specs.declared.races.racing.Run.{Run}
@@ -32,6 +32,7 @@ MayWrite u (Store weak object field value) e = e.kind ≡ kind_if weak
 MayWrite u (Put object field value) e = (e.kind ≡ Data) × (e.value ≡ value)
 MayWrite u (New to refs weak data_words tag) e = WritesHeader (header_with u.heap.edition refs weak data_words tag) e
 MayWrite u (Nil to) e = ⊥
+MayWrite u (Immediate to payload) e = ⊥
 
 -- one of these lines may have written the entry
 abbrev pub IsOfLines : Setup → List (ℕ × Line) → Entry → Type 0

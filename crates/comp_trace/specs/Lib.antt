@@ -19,6 +19,7 @@ pub mod Causes
 pub mod Races
 pub mod Runners
 pub mod Chains
+pub mod Immediates
 pub mod Inventions
 pub mod CycleRuns
 pub mod Markings

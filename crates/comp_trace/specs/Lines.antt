@@ -15,8 +15,9 @@ use Rattle.comp_mutator.specs.Fields.{IsFieldOf}
 use Rattle.comp_mutator.specs.Reads.{Reads}
 use Rattle.comp_mutator.specs.Allocations.{own_page}
 use Rattle.comp_trace.specs.Builds.{kind_if}
+use Rattle.comp_trace.specs.Immediates.{IsImmediateWith}
 use Rattle.comp_trace.specs.declared.text.line.Action.{Action}
-use Rattle.comp_trace.specs.declared.text.line.Action.TheVariants.{Root, Load, Get, Store, Put, New, Nil}
+use Rattle.comp_trace.specs.declared.text.line.Action.TheVariants.{Root, Load, Get, Store, Put, New, Nil, Immediate}
 
 -- the journals, with these entries after them
 abbrev pub with_entries : Journals → List (ℕ × Entry) → Journals
@@ -69,3 +70,4 @@ Acts u journals m (Store weak object field value) registers added answer =
 Acts u journals m (Put object field value) registers added answer = WritesField u journals m Data (slice_index registers object) field value added answer
 Acts u journals m (New to refs weak data_words tag) registers added answer = MakesAsked u journals m (header_with u.heap.edition refs weak data_words tag) added answer
 Acts u journals m (Nil to) registers added answer = (added ≡ []) × (answer ≡ 0)
+Acts u journals m (Immediate to payload) registers added answer = (added ≡ []) × IsImmediateWith u payload answer

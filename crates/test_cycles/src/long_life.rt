@@ -29,12 +29,13 @@ fn draw_roots(chain: &mut Chain, random: &mut Random) {
     }
 }
 
-// The to-space addresses of the roots.
+// The to-space addresses of the roots; immediates as they are.
 fn addresses(chain: &Chain, alloc: Global) -> Result<Vec<u64>, AllocError> {
     let mut addresses = Vec::new(alloc);
     for number in &chain.life.roots {
         addresses.push(match chain.life.object(*number) {
             Some(object) => T.wrapping_add(object.at),
+            None if chain.life.edition.is_immediate(*number) => *number,
             None => 0,
         })?;
     }
@@ -91,5 +92,6 @@ fn long_lives_keep_what_changing_roots_reach(rt: HostRuntime) {
         live(&rt, rt.alloc(), Edition::One, seed);
         live(&rt, rt.alloc(), Edition::Two, seed);
         live(&rt, rt.alloc(), Edition::Three, seed);
+        live(&rt, rt.alloc(), Edition::Four, seed);
     }
 }

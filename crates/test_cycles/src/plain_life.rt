@@ -17,7 +17,7 @@ pub enum Field {
 }
 
 /// An object: its header, and its fields, references first, then weak words, then data words. A reference or a weak
-/// word is the number of an object, counted from 1, or 0. `at` is the index of its header in the current heap.
+/// word is the number of an object, counted from 1, an immediate of edition four, or 0. `at` is the index of its header in the current heap.
 #[derive(Drop)]
 pub struct Plain {
     pub header: Header,
@@ -205,10 +205,11 @@ impl Life {
         Ok(marks)
     }
 
-    // The from-space address of an object, or null for number 0.
+    // The from-space address of an object, an immediate itself, or null for number 0.
     fn address(&self, number: u64) -> u64 {
         match self.object(number) {
             Some(object) => F.wrapping_add(object.at),
+            None if self.edition.is_immediate(number) => number,
             None => 0,
         }
     }

@@ -8,14 +8,14 @@ use crate::next_heaps::{follow_reachable, ran};
 use crate::past_cycles::{Past, expect_past, expect_values};
 use crate::plain_life::{Field, Life, Plain};
 use comp_trace::Ran;
-use heap_layout::{Edition, Header, MarkedHeap};
+use heap_layout::{Edition, FIRST_IMMEDIATE, Header, MarkedHeap};
 use std::alloc::{AllocError, Global};
 use std::process::Abort;
 use std::thread::Threads;
 use test_support::{F, Random, heap_of};
 
-// The numbers of chains of each of editions one and two, of chains of edition three, of cycles of a chain, and of lines
-// drawn for a cycle.
+// The numbers of chains of each of editions one and two, of chains of each of editions three and four, of cycles of a
+// chain, and of lines drawn for a cycle.
 const CHAINS: u64 = 40;
 
 const LARGE_CHAINS: u64 = 10;
@@ -229,10 +229,25 @@ impl Chain {
         Ok(())
     }
 
+    // Makes an immediate: its low bits are none, an address, or all.
+    fn immediate(&mut self, random: &mut Random) -> Result<(), AllocError> {
+        let by = self.mutator;
+        let to = (random.below(16) % 16) as u8;
+        let payload = match random.below(3) {
+            0 => 0,
+            1 => F.wrapping_add(random.below(9)),
+            _ => FIRST_IMMEDIATE - 1,
+        };
+        self.hold(to, FIRST_IMMEDIATE | payload);
+        write!(self.text, "{by} imm {to} {payload}\n")?;
+        Ok(())
+    }
+
     // Adds a line of either mutator, unless its call would be refused.
     fn line(&mut self, alloc: Global, random: &mut Random) -> Result<(), AllocError> {
         self.mutator = (random.below(u64::from(MUTATORS)) % 2) as u8;
         match random.below(10) {
+            0 if self.life.edition == Edition::Four => self.immediate(random),
             0 | 1 => self.root(random),
             2 | 3 => self.load(random),
             4 | 5 => self.store(random),
@@ -347,5 +362,12 @@ fn random_cycles_of_edition_two_agree_with_the_plain_model(rt: HostRuntime) {
 fn random_cycles_of_edition_three_agree_with_the_plain_model(rt: HostRuntime) {
     for seed in 0..LARGE_CHAINS {
         run_chain(&rt, rt.alloc(), Edition::Three, seed);
+    }
+}
+
+#[test]
+fn random_cycles_of_edition_four_agree_with_the_plain_model(rt: HostRuntime) {
+    for seed in 0..LARGE_CHAINS {
+        run_chain(&rt, rt.alloc(), Edition::Four, seed);
     }
 }

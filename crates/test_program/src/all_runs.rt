@@ -2,8 +2,9 @@
 use crate::narrow_outputs::{LINES, REMOVED, WRITTEN, expect_lines};
 use crate::taken_steps::take_steps;
 use crate::{
-    audit_runs, edition_three_runs, edition_two_runs, map_runs, mark_runs, moved_runs, next_runs,
-    race_runs, reachable_runs, replay_runs, whole_and_words_audits, word_plan_and_compact_runs,
+    audit_runs, edition_four_runs, edition_three_runs, edition_two_runs, map_runs, mark_runs,
+    moved_runs, next_runs, race_runs, reachable_runs, replay_runs, whole_and_words_audits,
+    word_plan_and_compact_runs,
 };
 use std::rt::Files;
 use std::sync::Wait;
@@ -13,7 +14,7 @@ use test_support::Step;
 
 // All tables. The last one writes the files that `LINES` read. As a constant they would cost the proof of the test five
 // times as much.
-fn tables() -> [&'static [Step]; 32] {
+fn tables() -> [&'static [Step]; 34] {
     [
         word_plan_and_compact_runs::RUNS,
         audit_runs::PASSED,
@@ -46,6 +47,8 @@ fn tables() -> [&'static [Step]; 32] {
         edition_two_runs::REFUSED,
         edition_three_runs::RUN,
         edition_three_runs::REFUSED,
+        edition_four_runs::RUN,
+        edition_four_runs::REFUSED,
         WRITTEN,
     ]
 }

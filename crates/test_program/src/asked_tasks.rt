@@ -10,6 +10,8 @@ pub enum Answer<'a> {
     Task(&'a str),
     /// The help of the program.
     Help,
+    /// A help or an error with this piece.
+    Shows(&'a str),
     /// An error: the words are no command.
     Error,
 }
@@ -19,6 +21,7 @@ fn is_text_of(text: &str, wanted: Answer) -> bool {
     match wanted {
         Answer::Task(task) => text == task,
         Answer::Help => text.starts_with("Help { text: ") && text.contains("Usage: compressor"),
+        Answer::Shows(piece) => text.contains(piece),
         Answer::Error => text.starts_with("error: "),
     }
 }
@@ -305,6 +308,22 @@ static HELPS: [&str; 22] = [
 #[test]
 fn help_is_printed_for_these_words(rt: HostRuntime) {
     expect_lines(&rt, &HELPS, Answer::Help);
+}
+
+// Lines of `next` whose answer shows how it is called.
+static USES: [&str; 4] = [
+    "next --help",
+    "help next",
+    "next --reachable --help",
+    "next three.img",
+];
+
+#[test]
+fn both_forms_of_next_are_shown(rt: HostRuntime) {
+    let given = "Usage: compressor next [OPTIONS] <IMAGE> <TRACE> <MARKS> <NEW>";
+    let reached = "compressor next [OPTIONS] --reachable [--roots <ROOTS>] <IMAGE> <TRACE> <NEW>";
+    expect_lines(&rt, &USES, Answer::Shows(given));
+    expect_lines(&rt, &USES, Answer::Shows(reached));
 }
 
 // Lines that ask for the version.

@@ -162,7 +162,7 @@ pub const REFUSED: &[Step] = &[
     Step::Refuses(MARK, "", "H9 TrailingBytes"),
     Step::Write(
         "mark.tests.img",
-        Content::ForgedImage(Change::Byte(VERSION, 4), Change::None),
+        Content::ForgedImage(Change::Byte(VERSION, 5), Change::None),
     ),
     Step::Refuses(
         "mark --large mark.tests.img mark.tests.new",

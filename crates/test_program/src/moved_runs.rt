@@ -222,7 +222,7 @@ pub const REFUSED: &[Step] = &[
     Step::Refuses(MOVED, "", "B3 BadMagic"),
     Step::Write(
         "moved.tests.file",
-        Content::ForgedMoved(Change::Byte(VERSION, 4), Change::None),
+        Content::ForgedMoved(Change::Byte(VERSION, 5), Change::None),
     ),
     Step::Refuses(LARGE, "", "B3 BadMagic"),
     // One more than there may be, of places, of roots and of words.

@@ -2,9 +2,9 @@
 //! it.
 use crate::changes::{Change, VERSION, WEAK_WORD, make_change};
 use crate::images::{
-    BAD_ROOT_IMAGE, EMPTY_IMAGE, FRESH_DUMP, LARGE_WORDS, LONGER_WORDS, MARKED_IMAGE, MOVED,
-    THREE_IMAGE, THREE_WORDS, TWENTY_IMAGE, UNBUILT_DUMP, WEAK_DUMP, WEAK_IMAGE, WEAK_MOVED,
-    WEAK_SWEPT_DUMP,
+    BAD_ROOT_IMAGE, EMPTY_IMAGE, FRESH_DUMP, IMMEDIATES_DUMP, IMMEDIATES_IMAGE, LARGE_WORDS,
+    LONGER_WORDS, MARKED_IMAGE, MOVED, THREE_IMAGE, THREE_WORDS, TWENTY_IMAGE, UNBUILT_DUMP,
+    WEAK_DUMP, WEAK_IMAGE, WEAK_MOVED, WEAK_SWEPT_DUMP,
 };
 use crate::parts::{Part, bytes_of};
 use std::alloc::{AllocError, Global};
@@ -49,6 +49,15 @@ pub enum Content {
     LargeImage,
     /// The dump after the same run in edition three.
     LargeDump,
+    /// The image of the same three objects in edition four, with immediates as a weak word and as a root.
+    ImmediatesImage,
+    /// The same image with this number as its first weak word.
+    BadImmediatesImage(u64),
+    /// A trace that writes an immediate of its own into a reference, and the root that is an immediate into a weak
+    /// word, and shows the data word of the first object.
+    ImmediatesTrace,
+    /// The dump after that run.
+    ImmediatesDump,
     /// What a collection left that moved the three objects backwards, with two changes.
     ForgedMoved(Change, Change),
     /// What a collection left that moved the three objects of edition two backwards, with two changes.
@@ -70,6 +79,9 @@ const FRESH_TRACE: &[u8] = b"0 root 0 0\n0 new 1 0 0 0\n0 store 0 0 1\n";
 
 const WEAK_TRACE: &[u8] =
     b"0 root 0 0\n0 load 1 0 0\n0 wnew 2 0 1 0 5\n0 wstore 1 0 2\n0 wload 3 1 0\n0 get 1 0\n";
+
+const IMMEDIATES_TRACE: &[u8] =
+    b"0 root 0 0\n0 load 1 0 0\n0 imm 2 7\n0 store 0 0 2\n0 load 3 0 0\n0 root 4 1\n0 wstore 1 0 4\n0 get 1 0\n";
 
 /// The bytes of a file.
 pub fn bytes_in(alloc: Global, content: Content) -> Result<Vec<u8>, AllocError> {
@@ -101,6 +113,17 @@ pub fn bytes_in(alloc: Global, content: Content) -> Result<Vec<u8>, AllocError> 
             changed(alloc, &WEAK_IMAGE, Change::Byte(VERSION, 3), Change::None)
         }
         Content::LargeDump => changed(alloc, &WEAK_DUMP, Change::Byte(VERSION, 3), Change::None),
+        Content::ImmediatesImage => bytes_of(alloc, &IMMEDIATES_IMAGE),
+        Content::BadImmediatesImage(word) => {
+            changed(
+                alloc,
+                &IMMEDIATES_IMAGE,
+                Change::Word(WEAK_WORD, word),
+                Change::None,
+            )
+        }
+        Content::ImmediatesTrace => IMMEDIATES_TRACE.to_vec(alloc),
+        Content::ImmediatesDump => bytes_of(alloc, &IMMEDIATES_DUMP),
         Content::ForgedMoved(first, second) => changed(alloc, &MOVED, first, second),
         Content::ForgedWeakMoved(first, second) => changed(alloc, &WEAK_MOVED, first, second),
         Content::UnbuiltDump(change) => changed(alloc, &UNBUILT_DUMP, change, Change::None),

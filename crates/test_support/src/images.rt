@@ -123,6 +123,48 @@ pub const WEAK_DUMP: [Part; 20] = [
     Part::Words(&[8]),
 ];
 
+/// The image of the same three objects in edition four. The second weak word of the first object is an immediate whose
+/// low bits are the address of that object, and a second root is the immediate with payload 5.
+pub const IMMEDIATES_IMAGE: [Part; 5] = [
+    Part::Bytes(b"COMPHEAP"),
+    Part::Numbers(&[4, 7, 2, 2]),
+    Part::Words(&[
+        281_483_566_710_784,
+        4_294_967_300,
+        9_223_372_041_149_743_104,
+        9,
+        562_949_953_421_312,
+        844_424_930_131_969,
+        4_294_967_296,
+    ]),
+    Part::Numbers(&[0, 5]),
+    Part::Words(&[4_294_967_301, 9_223_372_036_854_775_813]),
+];
+
+/// The dump after the run that writes immediates into a reference and a weak word of these objects.
+pub const IMMEDIATES_DUMP: [Part; 14] = [
+    Part::Bytes(b"COMPDUMP"),
+    Part::Numbers(&[4, 1, 0, 1, 2]),
+    Part::Words(&[8_589_934_596, 9_223_372_036_854_775_813]),
+    Part::Bytes(&[1]),
+    Part::Words(&[
+        281_483_566_710_784,
+        9_223_372_036_854_775_813,
+        9_223_372_041_149_743_104,
+        9,
+    ]),
+    Part::Words(&[844_424_930_131_969, 9_223_372_036_854_775_815]),
+    Part::Words(&[0; 58]),
+    Part::Numbers(&[2]),
+    Part::Words(&[0]),
+    Part::Bytes(&[0, 1, 5]),
+    Part::Words(&[9_223_372_036_854_775_815, 1]),
+    Part::Bytes(&[0, 3, 1]),
+    Part::Words(&[9_223_372_036_854_775_813]),
+    // the number of pages that the mutator built, and which; then the live words
+    Part::Numbers(&[1, 0, 6, 0]),
+];
+
 /// The image of the three objects, all three marked. The root refers to the last, and that one to the first.
 pub const MARKED_IMAGE: [Part; 5] = [
     Part::Bytes(b"COMPHEAP"),

@@ -1,6 +1,6 @@
-//! Heaps of edition three: objects with many fields of one kind, and many roots.
+//! Heaps of edition three: objects with many fields of one kind, and many roots; and one of edition four.
 use crate::heaps::{F, WEAK, heap_of};
-use heap_layout::{Edition, MarkedHeap};
+use heap_layout::{Edition, FIRST_IMMEDIATE, MarkedHeap};
 use std::alloc::{AllocError, Global};
 
 /// The header of an object with 70,000 references, 2 data words and tag 1.
@@ -71,6 +71,12 @@ pub fn many_fields(alloc: Global) -> Option<MarkedHeap> {
 /// The three objects of `WEAK` in edition three, in which their words mean the same. The root refers to the last.
 pub fn mixed(alloc: Global) -> Option<MarkedHeap> {
     heap_of(alloc, Edition::Three, &WEAK, &[0, 5], &[F + 5])
+}
+
+/// The three objects of `WEAK` in edition four. One root refers to the last, the other is the immediate with payload 5.
+pub fn immediates(alloc: Global) -> Option<MarkedHeap> {
+    let roots = [F + 5, FIRST_IMMEDIATE + 5];
+    heap_of(alloc, Edition::Four, &WEAK, &[0, 5], &roots)
 }
 
 /// The same objects with this many roots. Number 65,536 and number 69,999 refer to the last object; all others are null.

@@ -4,7 +4,7 @@ use crate::heaps::{
     zeros_heap, zeros_object,
 };
 use crate::larger_heaps::{across_blocks, every_second, scattered, step};
-use crate::many_fields::{many_fields, many_roots, mixed};
+use crate::many_fields::{immediates, many_fields, many_roots, mixed};
 use heap_layout::{Edition, MarkedHeap};
 use page_plan::Plan;
 use std::alloc::Global;
@@ -42,6 +42,8 @@ pub enum Worked {
     Scattered(Edition, u64, u64),
     /// The three objects of edition two, in edition three.
     Mixed,
+    /// The three objects of edition two, in edition four, with a second root that is the immediate with payload 5.
+    Immediates,
     /// The same objects with this many roots, of which number 65,536 and number 69,999 refer to the last object.
     ManyRoots(u32),
     /// Three objects of edition three with 70,000 references, data words and weak words, after one that is not marked.
@@ -78,6 +80,7 @@ pub fn worked_heap(alloc: Global, worked: Worked) -> Option<MarkedHeap> {
         Worked::AcrossBlocks => across_blocks(alloc),
         Worked::Scattered(edition, seed, often) => scattered(alloc, edition, seed, 300, often),
         Worked::Mixed => mixed(alloc),
+        Worked::Immediates => immediates(alloc),
         Worked::ManyRoots(count) => many_roots(alloc, count),
         Worked::ManyFields => many_fields(alloc),
     }

@@ -15,21 +15,21 @@ use std::sync::ledger::Blank;
 use std::thread::Threads;
 use test_support::{At, F, Meeting, Worked, heap, plan_of};
 
-// The expected run of a mutator.
-enum Wanted {
-    // It runs to its end and shows nothing.
+/// The expected run of a mutator.
+pub enum Wanted {
+    /// It runs to its end and shows nothing.
     Nothing,
-    // It runs to its end, and this line shows one of these two values.
+    /// It runs to its end, and this line shows one of these two values.
     Shows(u64, u64, u64),
-    // This line is refused for this cause, and nothing is shown.
+    /// This line is refused for this cause, and nothing is shown.
     Refused(u64, Refusal),
 }
 
-// A text that all its mutators race, the expected runs, and the live words at the end.
-struct RacedText {
-    case: TextRun<'static>,
-    runs: &'static [Wanted],
-    live_words: u64,
+/// A text that all its mutators race, the expected runs, and the live words at the end.
+pub struct RacedText {
+    pub case: TextRun<'static>,
+    pub runs: &'static [Wanted],
+    pub live_words: u64,
 }
 
 // On the three objects.
@@ -204,8 +204,8 @@ fn zeros(rt: &(impl Abort + Threads + Sync), alloc: Global) -> Plan {
     Plan::new(alloc, rt, heap).expect(rt, "a plan")
 }
 
-// Races each of these texts on this heap.
-fn race_all<R: Abort + Threads + Wait + Sync>(
+/// Races each of these texts on this heap.
+pub fn race_all<R: Abort + Threads + Wait + Sync>(
     rt: &R,
     alloc: Global,
     heap: Worked,

@@ -30,6 +30,15 @@ const STOPS: [Refusal; 5] = [
 // The data words of the two live objects and of a new object.
 const FIRST_VALUES: [u64; 4] = [10, 30, 31, 0];
 
+// Whether a line that waits and has memory may be refused for this cause in a heap of these objects. Registers hold no
+// word that is neither null nor a start, but immediates.
+fn may_stop(objects: &Objects, refusal: Refusal) -> bool {
+    match refusal {
+        Refusal::NotAStart(word) => objects.edition.is_immediate(word),
+        _ => STOPS.contains(&refusal),
+    }
+}
+
 // The number and the run of a mutator, and what all mutators wrote.
 #[derive(Clone, Copy)]
 struct Deeds<'a> {
@@ -143,7 +152,7 @@ fn is_run(lines: &[Line], deeds: Deeds) -> bool {
     if let Some(stop) = deeds.run.fault {
         let at = stop.line.wrapping_sub(1) as usize;
         let is_own = match lines.get(at) {
-            Some(line) => line.mutator == deeds.mutator && STOPS.contains(&stop.refusal),
+            Some(line) => { line.mutator == deeds.mutator && may_stop(deeds.objects, stop.refusal) }
             None => false,
         };
         if !is_own {

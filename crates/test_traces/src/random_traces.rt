@@ -1,5 +1,5 @@
 //! Pseudorandom traces: of editions one and two a thousand each are replayed by one thread, and 1,200 each are raced; of
-//! edition three 100 and 100. A replay must do as the plain model does.
+//! editions three and four 100 and 100. A replay must do as the plain model does.
 use crate::drawn_traces::{Drawn, draw_trace};
 use crate::finished_heaps::expect_pages;
 use crate::finished_runs::replayed;
@@ -39,7 +39,7 @@ static DRAWS: [Draws; 7] = [
     Draws(4, 100, Way::Raced),
 ];
 
-// The traces of edition three.
+// The traces of editions three and four.
 static LARGE_DRAWS: [Draws; 4] = [
     Draws(1, 50, Way::Replayed),
     Draws(4, 50, Way::Replayed),
@@ -145,4 +145,9 @@ fn random_traces_of_edition_two_run_as_in_the_plain_model(rt: HostRuntime) {
 #[test]
 fn random_traces_of_edition_three_run_as_in_the_plain_model(rt: HostRuntime) {
     run_all(&rt, rt.alloc(), Edition::Three, &LARGE_DRAWS);
+}
+
+#[test]
+fn random_traces_of_edition_four_run_as_in_the_plain_model(rt: HostRuntime) {
+    run_all(&rt, rt.alloc(), Edition::Four, &LARGE_DRAWS);
 }

@@ -10,7 +10,7 @@ use test_support::At;
 struct RefusedText(&'static [u8], TraceFault);
 
 // Lines that are no lines, and numbers out of range, for two mutators and one root.
-static REFUSED: [RefusedText; 48] = [
+static REFUSED: [RefusedText; 54] = [
     // Two spaces.
     RefusedText(b"0  nil 0\n", TraceFault::BadLine(1)),
     // No end of the line.
@@ -106,6 +106,22 @@ static REFUSED: [RefusedText; 48] = [
         b"0 wnew 0 0 0 0 4294967296\n",
         TraceFault::NumberTooLarge(1),
     ),
+    // Immediates: a number too few and one too many, no such form, register 16, and payloads of 64 and of 65 bits.
+    RefusedText(b"0 imm 0\n", TraceFault::BadLine(1)),
+    RefusedText(b"0 imm 0 0 0\n", TraceFault::BadLine(1)),
+    RefusedText(b"0 wimm 0 0\n", TraceFault::BadLine(1)),
+    RefusedText(
+        b"0 imm 16 9223372036854775808\n",
+        TraceFault::NoSuchRegister(1),
+    ),
+    RefusedText(
+        b"0 imm 0 9223372036854775808\n",
+        TraceFault::NumberTooLarge(1),
+    ),
+    RefusedText(
+        b"0 imm 0 18446744073709551616\n",
+        TraceFault::NumberTooLarge(1),
+    ),
     // A mutator of 129 bits.
     RefusedText(
         b"340282366920938463463374607431768211456 nil 0\n",
@@ -114,10 +130,10 @@ static REFUSED: [RefusedText; 48] = [
 ];
 
 const EACH_KIND: &[u8] =
-    b"1 root 15 0\n0 load 1 2 65535\n0 get 3 0\n1 store 4 5 6\n0 put 7 8 18446744073709551615\n0 new 9 1 2 4294967295\n1 nil 10\n0 wload 1 2 65535\n1 wstore 4 5 6\n0 wnew 9 65535 65535 65535 4294967295\n1 wnew 15 1 0 2 3\n";
+    b"1 root 15 0\n0 load 1 2 65535\n0 get 3 0\n1 store 4 5 6\n0 put 7 8 18446744073709551615\n0 new 9 1 2 4294967295\n1 nil 10\n0 wload 1 2 65535\n1 wstore 4 5 6\n0 wnew 9 65535 65535 65535 4294967295\n1 wnew 15 1 0 2 3\n0 imm 15 9223372036854775807\n";
 
 // The line of each kind.
-const LINES: [Line; 11] = [
+const LINES: [Line; 12] = [
     Line {
         mutator: 1,
         action: Action::Root { to: 15, root: 0 },
@@ -205,6 +221,13 @@ const LINES: [Line; 11] = [
             weak: 0,
             data_words: 2,
             tag: 3,
+        },
+    },
+    Line {
+        mutator: 0,
+        action: Action::Immediate {
+            to: 15,
+            payload: 9_223_372_036_854_775_807,
         },
     },
 ];

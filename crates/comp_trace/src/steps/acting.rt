@@ -5,15 +5,16 @@ ghost use Rattle.comp_mutator.specs.Calls.{Grows};
 ghost use Rattle.comp_mutator.specs.Mutators.{pass_of, setup_of, IsMutatorOf};
 ghost use Rattle.comp_trace.specs.Acting.{registers_after, Fits, Refuses, Steps};
 
-use crate::steps::registers::{held, kind_if, root_at};
+use crate::steps::registers::{held, immediate_with, kind_if, root_at};
 use crate::text::Action;
 use comp_mutator::{Builder, Mutator, Refusal, Space};
 use std::alloc::Global;
 use std::sync::ledger::Ledger;
 
-/// Does what a line says, and answers what its call answers; a line `root` answers the forwarded root, and a line `nil`
-/// 0. Does not wait for a busy page. If the call is refused, the registers are as before, and the mutator has written
-/// nothing. Requires a mutator of this space, and a line whose registers and root exist.
+/// Does what a line says, and answers what its call answers; a line `root` answers the forwarded root, a line `nil` 0,
+/// and a line `imm` the immediate. Does not wait for a busy page. If the call or the immediate is refused, the registers
+/// are as before, and the mutator has written nothing. Requires a mutator of this space, and a line whose registers and
+/// root exist, and whose payload is one.
 pub fn act<L: Ledger, B: Builder>(
     alloc: Global,
     space: &Space<L, B>,
@@ -87,6 +88,11 @@ pub fn act<L: Ledger, B: Builder>(
         Action::Nil { to } => {
             registers[usize::from(to)] = 0;
             Ok(0)
+        }
+        Action::Immediate { to, payload } => {
+            let word = immediate_with(space, payload)?;
+            registers[usize::from(to)] = word;
+            Ok(word)
         }
     }
 }

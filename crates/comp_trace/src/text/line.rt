@@ -45,6 +45,11 @@ pub enum Action {
     Nil {
         to: u8,
     },
+    /// Sets register `to` to the immediate with this payload: the word 2^63 + `payload`.
+    Immediate {
+        to: u8,
+        payload: u64,
+    },
 }
 
 /// A line of a trace: the number of its mutator, and what that mutator does.

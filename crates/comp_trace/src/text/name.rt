@@ -12,6 +12,7 @@ pub(crate) enum Name {
     Put,
     New,
     Nil,
+    Immediate,
     WeakLoad,
     WeakStore,
     WeakNew,
@@ -53,6 +54,8 @@ pub(crate) fn read_name(text: &[u8]) -> Option<(Name, &[u8])>
         Some((Name::New, rest))
     } else if let Some(rest) = behind(text, b"nil") {
         Some((Name::Nil, rest))
+    } else if let Some(rest) = behind(text, b"imm") {
+        Some((Name::Immediate, rest))
     } else if let Some(rest) = behind(text, b"root") {
         Some((Name::Root, rest))
     } else if let Some(rest) = behind(text, b"wload") {

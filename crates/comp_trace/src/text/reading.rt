@@ -56,6 +56,16 @@ fn read_value(number: Number, n: u64) -> Result<u64, TraceFault>
     }
 }
 
+// The payload of an immediate, or a fault of line `n` if the number is 2^63 or more.
+fn read_payload(number: Number, n: u64) -> Result<u64, TraceFault>
+    ensures { result ≡ (if nat_le 9223372036854775808 (size number) then Err (faults.NumberTooLarge n) else Ok (size number)) }
+{
+    match below(number, 1 << 63) {
+        Some(payload) => Ok(payload),
+        None => Err(TraceFault::NumberTooLarge(n)),
+    }
+}
+
 // The number of a root, or a fault of line `n` if there is no such root.
 fn root_number(number: Number, roots: u32, n: u64) -> Result<u32, TraceFault>
     ensures { result ≡ (if nat_le roots (size number) then Err (faults.NoSuchRoot n) else Ok (size number)) }
@@ -203,6 +213,23 @@ fn nil_line(mutator: Number, to: Number, by: Limits) -> Result<Line, TraceFault>
     Ok(Line { mutator, action })
 }
 
+// The line that sets register `to` to the immediate with this payload, or its first fault.
+fn immediate_line(
+    mutator: Number,
+    to: Number,
+    payload: Number,
+    by: Limits,
+) -> Result<Line, TraceFault>
+    ensures { result ≡ judged by.mutators by.roots by.n (Some (record { mutator = size mutator; action = actions.Immediate (size to) (size payload) })) }
+{
+    let mutator = mutator_number(mutator, by.mutators, by.n)?;
+    let action = Action::Immediate {
+        to: register(to, by.n)?,
+        payload: read_payload(payload, by.n)?,
+    };
+    Ok(Line { mutator, action })
+}
+
 // Reads the numbers after a name. Answers the line or its first fault, and the text after the line; or `None` if the
 // name has no line with the numbers there.
 fn numbered_line(
@@ -259,6 +286,12 @@ fn numbered_line(
                 return None;
             };
             Some((nil_line(mutator, to, by), rest))
+        }
+        Name::Immediate => {
+            let Some((to, payload, rest)) = two_numbers(text) else {
+                return None;
+            };
+            Some((immediate_line(mutator, to, payload, by), rest))
         }
         Name::WeakLoad => {
             let Some((to, object, field, rest)) = three_numbers(text) else {

@@ -9,7 +9,7 @@ use Rattle.comp_mutator.proofs.Answering.{err_anyway}
 use Rattle.comp_trace.specs.Acting.{registers_after, Fits, Refuses, Steps}
 use Rattle.comp_trace.specs.declared.text.line.Action.{Action}
 use Rattle.comp_mutator.specs.Mutators.{pass_of, setup_of}
-use Rattle.comp_trace.proofs.OneLine.{got, loaded, made, nulled, on_err, on_ok, put, rooted, stored, unloaded, unstored}
+use Rattle.comp_trace.proofs.OneLine.{got, immediated, loaded, made, nulled, on_err, on_ok, put, rooted, stored, unloaded, unstored}
 use Rattle.comp_trace.proofs.steps.acting.act.Goals as goal
 
 pub returns-in_default-clause-refused : goal.returns-in_default-clause-refused
@@ -48,6 +48,22 @@ returns-in-Nil g c =
       of = c.requires.of;
       went = subst (λ (a : Action). Steps u a registers old old 0) is (nulled u c.in-Nil.to registers old);
       registers = ap (λ to. set registers to 0) c.from-in-Nil.ensures ∙ ap (λ (a : Action). registers_after a registers 0) is;
+      grows = tt;
+      did = tt;
+      refused = tt;
+    }
+
+pub returns-in_ok-word-in-Immediate : goal.returns-in_ok-word-in-Immediate
+returns-in_ok-word-in-Immediate g c =
+    let u = setup_of c.args.space.now in
+    let old = pass_of c.args.m.now in
+    let registers = c.args.registers.now in
+    let word = c.in_ok-word-in-Immediate.word in
+    let is = sym c.in-Immediate.is in
+    record {
+      of = c.requires.of;
+      went = subst (λ (a : Action). Steps u a registers old old word) is (immediated u c.in-Immediate.to c.in-Immediate.payload registers old word c.in_ok-word-in-Immediate.ensures.word);
+      registers = ap (λ to. set registers to word) c.from-in-Immediate.ensures ∙ ap (λ (a : Action). registers_after a registers word) is;
       grows = tt;
       did = tt;
       refused = tt;
@@ -205,6 +221,9 @@ bounds-registers-from-in-New g c = subst (λ n. n < 16) (sym c.from-in-New.ensur
 
 pub bounds-registers-from-in-Nil : goal.bounds-registers-from-in-Nil
 bounds-registers-from-in-Nil g c = subst (λ n. n < 16) (sym c.from-in-Nil.ensures) (subst (Fits (setup_of c.args.space.now)) c.in-Nil.is c.requires.fits)
+
+pub bounds-registers-from-in-Immediate : goal.bounds-registers-from-in-Immediate
+bounds-registers-from-in-Immediate g c = subst (λ n. n < 16) (sym c.from-in-Immediate.ensures) (subst (Fits (setup_of c.args.space.now)) c.in-Immediate.is c.requires.fits).0
 
 pub try_read_referring-answer-requires-clause-of : goal.try_read_referring-answer-requires-clause-of
 try_read_referring-answer-requires-clause-of g c κs within = c.requires.of
