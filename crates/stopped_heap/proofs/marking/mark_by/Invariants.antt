@@ -1,0 +1,14 @@
+use Rattle.std.proofs.Common.{◌≡◌, length, ◌-◌}
+use Rattle.stopped_heap.proofs.Reaching.{IsFollowed}
+use Rattle.stopped_heap.proofs.Spread.{IsSpread}
+use Rattle.stopped_heap.proofs.marking.mark_by.Given as goal
+
+abbrev pub invariant-loop-next : goal.invariant-loop-next
+invariant-loop-next l = record {
+  followed : IsFollowed l.edition l.words l.roots l.queue.items l.next;
+  spread : IsSpread l.edition l.words l.queue.items l.next l.heads l.bits;
+  long : length l.heads ≡ length l.fn.heads;
+}
+
+abbrev pub decreases-loop-next : goal.decreases-loop-next
+decreases-loop-next l = length l.words - l.next

@@ -1,0 +1,10 @@
+use Rattle.std.proofs.Common.{◌∙◌}
+use Rattle.stopped_heap.proofs.Viewed.{settled-seen}
+use Rattle.stopped_heap.proofs.survey.Survey.forward_weak.Goals as goal
+
+pub returns : goal.returns
+returns c =
+    let inside = c.self.inside in
+    c.settle_all.ensures
+    ∙ settled-seen inside.edition inside.words.now inside.heads.items inside.bits.items inside.counts.items c.deref.result.now c.deref-2.result.now c.args.self.now c.args.words.now
+    c.self.invariant c.deref.ensures.value c.deref-2.ensures.value c.self.view_is

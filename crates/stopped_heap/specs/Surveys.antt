@@ -1,0 +1,29 @@
+-- What a survey of a stopped heap says, and what its tables are.
+use Rattle.std.specs.Prelude.{◌≡◌, ℕ, ◌*◌, List, [], length, filter}
+use Rattle.std.specs.List.{range_with_len}
+use Rattle.heap_layout.specs.declared.edition.Edition.{Edition}
+use Rattle.heap_layout.specs.Bits.{bit}
+use Rattle.heap_layout.specs.Heap.{Heap, live}
+use Rattle.stopped_heap.specs.Reached.{IsSound}
+use Rattle.mark_tables.specs.Bits.{set_bits, AreOffsets}
+use Rattle.mark_tables.specs.LiveWords.{live_indices}
+
+-- the indices of the bits that are set, rising
+abbrev pub marks_of : List ℕ → List ℕ
+marks_of bits = filter (bit bits) (range_with_len 0 (64 * length bits))
+
+-- the heap with these roots
+abbrev pub with_roots : Heap → List ℕ → Heap
+with_roots heap roots = record { edition = heap.edition; words = heap.words; marks = heap.marks; roots = roots }
+
+-- the heap of these words whose marked objects are those at the set bits of `heads`, with no roots
+abbrev pub told : Edition → List ℕ → List ℕ → Heap
+told edition words heads = record { edition = edition; words = words; marks = marks_of heads; roots = [] }
+
+-- The tables of a heap with these words: `heads` has the bits of the first words of live objects, `bits` those of all
+-- live words, and `counts` are the offsets of the blocks of `bits`.
+pub record AreTables (edition : Edition) (words heads bits counts : List ℕ) : Type 0 where
+  pub sound : IsSound (told edition words heads)
+  pub indices : set_bits bits ≡ live_indices (live (told edition words heads))
+  pub offsets : AreOffsets bits counts
+  pub same : length heads ≡ length bits

@@ -1,0 +1,62 @@
+//! Laws of collections. Each is the contract of a function that does nothing.
+ghost use Rattle.std.specs.Prelude.{◌≡◌, ℕ, List, Contains, sum};
+ghost use Rattle.heap_layout.specs.declared.edition.Edition.{Edition};
+ghost use Rattle.heap_layout.specs.Faults.{IsAccepted};
+ghost use Rattle.heap_layout.specs.Heap.{Heap, live};
+ghost use Rattle.page_plan.specs.Sliding.{live_words};
+ghost use Rattle.reachability.specs.Reachable.{AreReachable};
+ghost use Rattle.stopped_heap.specs.Reached.{AreReached, IsReachedFrom, IsSound, IsFaultOf};
+ghost use Rattle.stopped_heap.specs.Parts.{joined_parts};
+ghost use Rattle.stopped_heap.specs.Settled.{collected, settled_words, AreSlid};
+ghost use Rattle.stopped_heap.specs.declared.fault.SurveyFault.{SurveyFault};
+ghost use Rattle.stopped_heap.specs.declared.fault.SurveyFault.TheVariants as survey;
+
+/// The words that a collection leaves are the slid words of page_plan, each reference and weak word lowered by 2^32 if
+/// it is no immediate.
+pub fn collected_is_slid()
+    ensures { (heap : Heap) → AreSlid heap.edition (live heap) }
+{}
+
+/// What a collection leaves is an accepted heap, a row of objects all of which are marked. So it may be collected
+/// again.
+pub fn collected_is_accepted()
+    ensures { (heap : Heap) → IsSound heap → IsAccepted (collected heap) }
+{}
+
+/// If the roots of a heap reach exactly its marked objects, so they do after the collection. So of a heap that is
+/// collected again, with nothing written in between, nothing goes.
+pub fn collected_is_reached()
+    ensures { (heap : Heap) → IsSound heap → AreReached heap.edition heap.words heap.roots heap.marks
+        → AreReached heap.edition (collected heap).words (collected heap).roots (collected heap).marks }
+{}
+
+/// Of an accepted heap of which just the reachable objects are marked, these are the objects that the roots reach, and
+/// the heap is sound. So all that is known of reachable objects in a row of objects holds of these.
+pub fn accepted_is_sound()
+    ensures reached { (heap : Heap) → IsAccepted heap → AreReachable heap.edition heap.words heap.roots heap.marks → AreReached heap.edition heap.words heap.roots heap.marks }
+    ensures sound { (heap : Heap) → IsAccepted heap → IsSound heap }
+{}
+
+/// A sound heap of which the reached objects are marked has no fault but that memory may run out. So a heap is surveyed
+/// if and only if it is sound, as far as memory allows.
+pub fn sound_has_no_fault()
+    ensures { (heap : Heap) (fault : SurveyFault) → IsSound heap → AreReached heap.edition heap.words heap.roots heap.marks
+        → IsFaultOf heap.edition heap.words heap.roots fault → fault ≡ survey.OutOfMemory }
+{}
+
+/// There is one list of the objects that are reached.
+pub fn reached_is_one()
+    ensures { (edition : Edition) (words roots marks others : List ℕ) → AreReached edition words roots marks → AreReached edition words roots others → marks ≡ others }
+{}
+
+/// Whoever marked the objects of a sound heap: each object that the roots reach is marked. So of a heap that is
+/// surveyed by marks of the caller's own nothing that the roots reach is lost.
+pub fn reached_is_marked()
+    ensures { (heap : Heap) (i : ℕ) → IsSound heap → IsReachedFrom heap.edition heap.words heap.roots i → Contains heap.marks i }
+{}
+
+/// Parts that lie side by side and have as many words as live, each filled by `Survey::slide`, are the collected heap
+/// when they are joined, in whatever order and by whatever threads they were filled.
+pub fn parts_are_whole()
+    ensures { (heap : Heap) (counts : List ℕ) → IsSound heap → sum counts ≡ live_words (live heap) → joined_parts (settled_words (live heap)) 0 counts ≡ (collected heap).words }
+{}

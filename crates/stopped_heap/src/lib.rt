@@ -1,0 +1,39 @@
+//! A collection of a heap at rest: while all threads of its runtime stand still. The heap lies in memory of the
+//! caller, and so does the memory into which it slides; between two collections the caller reads, writes and allocates
+//! there, with no call of this crate.
+//!
+//! A survey finds what the roots reach, or takes marks of the caller's own; then each live object slides, the first
+//! one to index 0, each behind the one before. It asks only of live objects that they lie within the words and do not
+//! overlap, and looks at nothing else. This is mark and slide with one bit a live word, whose prefix sums say where
+//! each word goes.
+//!
+//! A root that is not handed in is lost. The addresses before and after a collection are numbers of one range, so one
+//! that was kept elsewhere, or is forwarded twice, may be that of another object. During a call no other thread may
+//! write to the words, the roots or the memory into which they slide.
+#![tactic(auto)]
+
+mod bits;
+mod collecting;
+mod fault;
+mod finding;
+mod forwarding;
+mod laws;
+mod marking;
+mod marks;
+mod meeting;
+mod offsets;
+mod shape;
+mod sliding;
+mod survey;
+#[cfg(test)]
+mod tests;
+mod threads;
+
+pub use collecting::collect;
+pub use fault::{CollectFault, MarksFault, SurveyFault};
+pub use laws::{
+    accepted_is_sound, collected_is_accepted, collected_is_reached, collected_is_slid,
+    parts_are_whole, reached_is_marked, reached_is_one, sound_has_no_fault,
+};
+pub use survey::Survey;
+pub use threads::collect_by_threads;

@@ -1,0 +1,148 @@
+//! Marks what the roots reach.
+ghost use Rattle.std.specs.Prelude.{◌≡◌, ℕ, ◌+◌, ◌*◌, ◌^◌, ◌≤◌, true, false, length, IfErr, OnOk};
+ghost use Rattle.heap_layout.specs.Bits.{bit};
+ghost use Rattle.heap_layout.specs.Header.{refs_of, weak_of};
+ghost use Rattle.heap_layout.specs.Heap.{header_at, object_at, IsPlaced};
+ghost use Rattle.heap_layout.specs.Limits.{most_words, most_roots};
+ghost use Rattle.stopped_heap.specs.Reached.{IsReachedFrom, IsFaultOf, IsWordOf};
+ghost use Rattle.stopped_heap.specs.Meeting.{AllLead, IsDone, AreApart};
+
+use crate::bits::take_run;
+use crate::fault::SurveyFault;
+use crate::meeting::{Stop, check_leads, meet_all};
+use crate::shape::shape_of;
+use heap_layout::Edition;
+use std::alloc::Global;
+
+/// The references of the object at index `i`, of which it has so many.
+#[inline(always)]
+pub(crate) fn references(edition: Edition, words: &[u64], i: usize, refs: usize) -> &[u64]
+    requires few { length words.now ≤ 2 ^ 31 }
+    requires placed { IsPlaced edition words.now i }
+    requires refs { refs ≡ refs_of (header_at edition words.now i) }
+    ensures { result.now ≡ (object_at edition words.now i).references }
+{
+    // Only the clauses read it.
+    let _ = edition;
+    &words[i + 1..i + 1 + refs]
+}
+
+/// Its weak words.
+#[inline(always)]
+pub(crate) fn weak_words(
+    edition: Edition,
+    words: &[u64],
+    i: usize,
+    refs: usize,
+    weak: usize,
+) -> &[u64]
+    requires few { length words.now ≤ 2 ^ 31 }
+    requires placed { IsPlaced edition words.now i }
+    requires refs { refs ≡ refs_of (header_at edition words.now i) }
+    requires weak { weak ≡ weak_of (header_at edition words.now i) }
+    ensures { result.now ≡ (object_at edition words.now i).weak }
+{
+    // Only the clauses read it.
+    let _ = edition;
+    let first = i + 1 + refs;
+    &words[first..first + weak]
+}
+
+/// Meets each object that the roots reach: sets the bit of its first word in `heads`, and those of all its words in
+/// `bits`. Err with a fault that is there, or if memory runs out. In `heads` and `bits` no bit may be set before. This
+/// is Cheney's walk, breadth first, with the queue beside the heap: a number of 4 bytes for each object met.
+pub(crate) fn mark(
+    alloc: Global,
+    edition: Edition,
+    words: &[u64],
+    roots: &[u64],
+    heads: &mut [u64],
+    bits: &mut [u64],
+) -> Result<(), SurveyFault>
+    requires few { length words.now ≤ 2 ^ 31 }
+    requires sizes { (length words.now ≤ most_words edition) × (length roots.now ≤ most_roots edition) }
+    requires few_bits { length heads.old ≤ 2 ^ 25 }
+    requires room { length words.now ≤ 64 * length heads.old }
+    requires long { length bits.old ≡ length heads.old }
+    requires no_heads { (i : ℕ) → bit heads.old i ≡ false }
+    requires no_bits { (i : ℕ) → bit bits.old i ≡ false }
+    ensures reached { OnOk result ((i : ℕ) → bit heads.new i ≡ true → IsReachedFrom edition words.now roots.now i) }
+    ensures all { OnOk result ((i : ℕ) → IsReachedFrom edition words.now roots.now i → bit heads.new i ≡ true) }
+    ensures done { OnOk result ((i : ℕ) → bit heads.new i ≡ true → IsDone edition words.now bits.new i) }
+    ensures only { OnOk result ((j : ℕ) → bit bits.new j ≡ true → (i : ℕ) × (bit heads.new i ≡ true) × IsWordOf edition words.now i j) }
+    ensures apart { OnOk result (AreApart edition words.now heads.new) }
+    ensures roots { OnOk result (AllLead edition (length words.now) roots.now) }
+    ensures fault { IfErr result (IsFaultOf edition words.now roots.now) }
+    ensures same { length heads.new ≡ length heads.old }
+    ensures long { length bits.new ≡ length bits.old }
+{
+    // Each arm is compiled for its edition.
+    match edition {
+        Edition::One => mark_by(alloc, edition, words, roots, heads, bits),
+        Edition::Two => mark_by(alloc, edition, words, roots, heads, bits),
+        Edition::Three => mark_by(alloc, edition, words, roots, heads, bits),
+        Edition::Four => mark_by(alloc, edition, words, roots, heads, bits),
+    }
+}
+
+// The same, compiled into its caller.
+#[inline(always)]
+fn mark_by(
+    alloc: Global,
+    edition: Edition,
+    words: &[u64],
+    roots: &[u64],
+    heads: &mut [u64],
+    bits: &mut [u64],
+) -> Result<(), SurveyFault>
+    requires few { length words.now ≤ 2 ^ 31 }
+    requires sizes { (length words.now ≤ most_words edition) × (length roots.now ≤ most_roots edition) }
+    requires few_bits { length heads.old ≤ 2 ^ 25 }
+    requires room { length words.now ≤ 64 * length heads.old }
+    requires long { length bits.old ≡ length heads.old }
+    requires no_heads { (i : ℕ) → bit heads.old i ≡ false }
+    requires no_bits { (i : ℕ) → bit bits.old i ≡ false }
+    ensures reached { OnOk result ((i : ℕ) → bit heads.new i ≡ true → IsReachedFrom edition words.now roots.now i) }
+    ensures all { OnOk result ((i : ℕ) → IsReachedFrom edition words.now roots.now i → bit heads.new i ≡ true) }
+    ensures done { OnOk result ((i : ℕ) → bit heads.new i ≡ true → IsDone edition words.now bits.new i) }
+    ensures only { OnOk result ((j : ℕ) → bit bits.new j ≡ true → (i : ℕ) × (bit heads.new i ≡ true) × IsWordOf edition words.now i j) }
+    ensures apart { OnOk result (AreApart edition words.now heads.new) }
+    ensures roots { OnOk result (AllLead edition (length words.now) roots.now) }
+    ensures fault { IfErr result (IsFaultOf edition words.now roots.now) }
+    ensures same { length heads.new ≡ length heads.old }
+    ensures long { length bits.new ≡ length bits.old }
+{
+    let count = words.len();
+    let mut queue = Vec::new(alloc);
+    match meet_all(edition, count, heads, &mut queue, roots) {
+        Ok(()) => {}
+        Err(Stop::Memory) => return Err(SurveyFault::OutOfMemory),
+        Err(Stop::Stray(k)) => return Err(SurveyFault::BadRoot(k as u64)),
+    }
+    let mut next = 0;
+    while next < queue.len() {
+        let i = queue[next] as usize;
+        let shape = shape_of(edition, words[i]);
+        if shape.size > edition.max_object_words() {
+            return Err(SurveyFault::ObjectTooLong(i as u64));
+        }
+        if shape.size > count - i {
+            return Err(SurveyFault::ObjectPastEnd(i as u64));
+        }
+        if !take_run(bits, i, shape.size) {
+            return Err(SurveyFault::Overlap(i as u64));
+        }
+        let references = references(edition, words, i, shape.refs);
+        match meet_all(edition, count, heads, &mut queue, references) {
+            Ok(()) => {}
+            Err(Stop::Memory) => return Err(SurveyFault::OutOfMemory),
+            Err(Stop::Stray(k)) => return Err(SurveyFault::BadReference((i + 1 + k) as u64)),
+        }
+        let weak = weak_words(edition, words, i, shape.refs, shape.weak);
+        if let Err(k) = check_leads(edition, count, weak) {
+            return Err(SurveyFault::BadWeak((i + 1 + shape.refs + k) as u64));
+        }
+        next += 1;
+    }
+    Ok(())
+}

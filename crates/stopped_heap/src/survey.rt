@@ -1,0 +1,182 @@
+//! What the roots reach, and where it slides.
+ghost use Rattle.std.specs.Prelude.{◌≡◌, ℕ, ◌+◌, ◌<◌, ◌≤◌, false, true, length, drop, map, take, slice_index, All, IfErr, IfOk, OnErr, OnOk};
+ghost use Rattle.std.specs.Option.{option_map};
+ghost use Rattle.heap_layout.specs.Heap.{live, is_value, IsValue};
+ghost use Rattle.page_plan.specs.Sliding.{forward_value, live_words};
+ghost use Rattle.stopped_heap.specs.Reached.{AreReached, IsSound, IsFaultOf};
+ghost use Rattle.stopped_heap.specs.Settled.{lowered, settled_word, settled_words};
+ghost use Rattle.stopped_heap.specs.Surveys.{marks_of, with_roots};
+ghost use Rattle.stopped_heap.specs.Marks.{IsMarksFaultOf};
+
+use crate::fault::{MarksFault, SurveyFault};
+use crate::forwarding::{below, is_kept, settle_all};
+use crate::marking::mark;
+use crate::marks::{check_kept, take_marks};
+use crate::offsets::offsets;
+use crate::sliding::slide_part;
+use heap_layout::{Edition, FROM_SPACE};
+use std::alloc::Global;
+use std::marker::Model;
+
+/// What the roots of a heap reach, and where it slides. It borrows the words of the heap, so that nothing is written
+/// there as long as it lives: what was found is so for all its calls. Beside them it keeps two bits a word, and 4
+/// bytes for each 64 words. Contracts see it as the heap of these words whose marked objects are the live ones, with
+/// no roots.
+#[derive(Drop)]
+pub struct Survey<'w> {
+    edition: Edition,
+    words: &'w [u64],
+    heads: Vec<u64>,
+    bits: Vec<u64>,
+    counts: Vec<u32>,
+}
+
+impl<'w> Model for Survey<'w> {
+    ghost use Rattle.heap_layout.specs.Heap.{Heap};
+    ghost use Rattle.stopped_heap.specs.Surveys.{told, AreTables};
+
+    ghost Value = { Heap };
+
+    ghost view = { λ survey. told survey.edition survey.words.now survey.heads.items };
+
+    ghost invariant = { λ survey. AreTables survey.edition survey.words.now survey.heads.items survey.bits.items survey.counts.items };
+}
+
+impl<'w> Survey<'w> {
+    /// Surveys the heap of these words and roots: finds what the roots reach, and where it slides. It looks at no word
+    /// that is not in a reached object, and costs by what is reached, and by some bits a word. Err with a fault that is
+    /// there, or with `OutOfMemory`.
+    pub fn of(
+        alloc: Global,
+        edition: Edition,
+        words: &'w [u64],
+        roots: &[u64],
+    ) -> Result<Survey<'w>, SurveyFault>
+        ensures reached { IfOk result (λ survey. AreReached edition words.now roots.now survey.marks) }
+        ensures sound { IfOk result (λ survey. IsSound (with_roots survey roots.now)) }
+        ensures words { IfOk result (λ survey. survey.words ≡ words.now) }
+        ensures edition { IfOk result (λ survey. survey.edition ≡ edition) }
+        ensures fault { IfErr result (IsFaultOf edition words.now roots.now) }
+    {
+        if words.len() > edition.max_words() || roots.len() > edition.max_roots() {
+            return Err(SurveyFault::TooLarge);
+        }
+        let blocks = words.len().div_ceil(64);
+        let mut heads = vec![in alloc; 0u64; blocks]?;
+        let mut bits = vec![in alloc; 0u64; blocks]?;
+        mark(alloc, edition, words, roots, &mut heads, &mut bits)?;
+        let counts = offsets(alloc, &bits)?;
+        Ok(Survey {
+            edition,
+            words,
+            heads,
+            bits,
+            counts,
+        })
+    }
+
+    /// Surveys the heap of these words and roots by marks of the caller's own: its marked objects are those at the set
+    /// bits of `marks`, one bit for each word. It looks at no word that is not in a marked object. Err with a fault
+    /// that is there, or with `OutOfMemory`: each root, and each reference of a marked object, must lead to a marked
+    /// object, so that nothing that the roots reach is lost.
+    pub fn of_marks(
+        alloc: Global,
+        edition: Edition,
+        words: &'w [u64],
+        roots: &[u64],
+        marks: &[u64],
+    ) -> Result<Survey<'w>, MarksFault>
+        ensures marks { IfOk result (λ survey. survey.marks ≡ marks_of marks.now) }
+        ensures sound { IfOk result (λ survey. IsSound (with_roots survey roots.now)) }
+        ensures words { IfOk result (λ survey. survey.words ≡ words.now) }
+        ensures edition { IfOk result (λ survey. survey.edition ≡ edition) }
+        ensures fault { IfErr result (IsMarksFaultOf edition words.now roots.now marks.now) }
+    {
+        if words.len() > edition.max_words() || roots.len() > edition.max_roots() {
+            return Err(MarksFault::TooLarge);
+        }
+        let blocks = words.len().div_ceil(64);
+        if marks.len() != blocks {
+            return Err(MarksFault::WrongLength);
+        }
+        if let Err(k) = check_kept(edition, marks, roots) {
+            return Err(MarksFault::BadRoot(k as u64));
+        }
+        let mut bits = vec![in alloc; 0u64; blocks]?;
+        if let Err(fault) = take_marks(edition, words, marks, &mut bits) {
+            return Err(fault);
+        }
+        let heads = Vec::from_slice(alloc, marks)?;
+        let counts = offsets(alloc, &bits)?;
+        Ok(Survey {
+            edition,
+            words,
+            heads,
+            bits,
+            counts,
+        })
+    }
+
+    /// How many words the live objects have.
+    pub fn live_words(&self) -> u64
+        ensures { result ≡ live_words (live self.now) }
+    {
+        u64::from(self.counts[self.bits.len()])
+    }
+
+    /// Where a word leads after the collection: null to null, an immediate to itself, the address of a live object to
+    /// the address that it has then. None for every other word. Takes constant time.
+    pub fn forward(&self, word: u64) -> Option<u64>
+        ensures { result ≡ option_map (lowered self.now.edition) (forward_value self.now.edition (live self.now) word) }
+    {
+        if word == 0 || self.edition.is_immediate(word) {
+            return Some(word);
+        }
+        if !is_kept(&self.heads, word) {
+            return None;
+        }
+        Some(FROM_SPACE + below(&self.bits, &self.counts, (word - FROM_SPACE) as usize))
+    }
+
+    /// Fills a part of the memory into which the heap slides: with the words that stand there after the collection,
+    /// from word `first` on. Calls for several parts may run at once. The part must end within the live words.
+    pub fn slide(&self, first: u64, part: &mut [u64])
+        requires { first + length part.old ≤ live_words (live self.now) }
+        ensures { part.new ≡ take (length part.old) (drop first (settled_words (live self.now))) }
+    {
+        slide_part(
+            self.edition,
+            self.words,
+            &self.heads,
+            &self.bits,
+            &self.counts,
+            first,
+            part,
+        );
+    }
+
+    /// Makes these roots lead to where their objects are after the collection. Err with the number of the first root
+    /// that is neither null nor the address of a live object, nor an immediate; then the roots are as they were.
+    pub fn forward_roots(&self, roots: &mut [u64]) -> Result<(), usize>
+        ensures all { OnOk result (All (IsValue self.now.edition self.now.marks) roots.old) }
+        ensures forwarded { OnOk result (roots.new ≡ map (settled_word self.now.edition (live self.now)) roots.old) }
+        ensures inside { IfErr result (λ k. k < length roots.old) }
+        ensures stray { IfErr result (λ k. is_value self.now.edition self.now.marks (slice_index roots.old k) ≡ false) }
+        ensures first { IfErr result (λ k. (j : ℕ) → j < k → is_value self.now.edition self.now.marks (slice_index roots.old j) ≡ true) }
+        ensures stay { OnErr result (roots.new ≡ roots.old) }
+    {
+        if let Err(k) = check_kept(self.edition, &self.heads, roots) {
+            return Err(k);
+        }
+        settle_all(self.edition, &self.heads, &self.bits, &self.counts, roots);
+        Ok(())
+    }
+
+    /// Makes these weak words, of tables of the caller's own, lead to where their objects are after the collection. One
+    /// that leads to no live object becomes null, and an immediate stays.
+    pub fn forward_weak(&self, words: &mut [u64])
+        ensures { words.new ≡ map (settled_word self.now.edition (live self.now)) words.old }
+    {
+        settle_all(self.edition, &self.heads, &self.bits, &self.counts, words);
+    }
+}
