@@ -4,11 +4,12 @@ import struct
 
 FROM = 1 << 32
 TO = 1 << 33
+IMMEDIATE = 1 << 63
 
 
 def counts(edition, word):
     """How many references, weak words and data words the object of a header has."""
-    if edition == 3 and word >> 62:
+    if edition >= 3 and word >> 62:
         many, few = word & 0x7FFFFFFF, word >> 31 & 0x1FFFF
         return ((many, 0, few), (few, 0, many), (0, many, few))[(word >> 62) - 1]
     return word & 65535, (word >> 32 & 65535) * (edition > 1), word >> 16 & 65535
@@ -25,12 +26,12 @@ class Left:
         roots = struct.unpack_from(f"<{named}Q", image, 24 + 8 * total + 4 * marked)
         new = {0: 0, **{FROM + at: TO + place for at, place in zip(marks, places)}}
         self.edition, self.places, self.words = edition, list(places), list(spare)
-        self.roots = [new[root] for root in roots]
+        self.roots = [root if root >= IMMEDIATE else new[root] for root in roots]
         self.sizes = []
         for at, place in zip(marks, places):
             refs, weak, data = counts(edition, old[at])
             size = 1 + refs + weak + data
-            led = [new.get(word, 0) for word in old[at + 1 : at + 1 + refs + weak]]
+            led = [word if word >= IMMEDIATE else new.get(word, 0) for word in old[at + 1 : at + 1 + refs + weak]]
             self.words[place : place + size] = [old[at], *led, *old[at + 1 + refs + weak : at + size]]
             self.sizes.append(size)
 
@@ -89,7 +90,7 @@ def break_moved(draw, left):
 
 
 def wrong_edition(draw, left):
-    left.edition = {1: 2, 2: 1, 3: draw.choice((1, 2))}[left.edition]
+    left.edition = draw.choice([edition for edition in (1, 2, 3, 4) if edition != left.edition])
     return "V1 WrongHead(Edition)"
 
 

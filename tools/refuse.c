@@ -1,5 +1,6 @@
-/* Refuses one allocation of a program: the one whose number, from 1, the environment names in REFUSE. To be loaded before the C library. Where there is that
-   allocation, the file that REFUSE_TOLD names is made. It includes nothing: the kit's compiler has no headers. */
+/* Refuses one allocation of a program, whose number, from 1, the environment names in REFUSE, and each of more bytes than it names in REFUSE_ABOVE. To be
+   loaded before the C library. Where there is such an allocation, the file that REFUSE_TOLD names is made. It includes nothing: the kit's compiler has no
+   headers. */
 typedef unsigned long size;
 
 extern void *dlsym(void *, const char *);
@@ -17,6 +18,7 @@ extern int *__errno_location(void);
 
 static long count;
 static long refused = -1;
+static size above;
 static const char *told;
 static void *(*real_malloc)(size);
 static void *(*real_realloc)(void *, size);
@@ -41,12 +43,16 @@ static void find(void) {
 __attribute__((constructor)) static void begin(void) {
     find();
     const char *number = getenv("REFUSE");
+    const char *limit = getenv("REFUSE_ABOVE");
+    above = limit ? (size)atol(limit) : 0;
     told = getenv("REFUSE_TOLD");
     refused = number ? atol(number) : 0;
 }
 
-static int is_refused(void) {
-    if (refused < 0 || __atomic_add_fetch(&count, 1, __ATOMIC_SEQ_CST) != refused) return 0;
+static int is_refused(size bytes) {
+    if (refused < 0) return 0;
+    int is_next = __atomic_add_fetch(&count, 1, __ATOMIC_SEQ_CST) == refused;
+    if (!is_next && (!above || bytes <= above)) return 0;
     int file = told ? creat(told, 0666) : -1;
     if (file >= 0) close(file);
     *__errno_location() = OUT_OF_MEMORY;
@@ -55,25 +61,26 @@ static int is_refused(void) {
 
 void *malloc(size bytes) {
     find();
-    return !real_malloc || is_refused() ? 0 : real_malloc(bytes);
+    return !real_malloc || is_refused(bytes) ? 0 : real_malloc(bytes);
 }
 
 void *realloc(void *p, size bytes) {
     find();
-    return !real_realloc || is_refused() ? 0 : real_realloc(p, bytes);
+    return !real_realloc || is_refused(bytes) ? 0 : real_realloc(p, bytes);
 }
 
 void *calloc(size number, size bytes) {
     find();
-    return !real_calloc || is_refused() ? 0 : real_calloc(number, bytes);
+    size all = bytes && number > ~0UL / bytes ? ~0UL : number * bytes;
+    return !real_calloc || is_refused(all) ? 0 : real_calloc(number, bytes);
 }
 
 int posix_memalign(void **p, size alignment, size bytes) {
     find();
-    return !real_posix_memalign || is_refused() ? OUT_OF_MEMORY : real_posix_memalign(p, alignment, bytes);
+    return !real_posix_memalign || is_refused(bytes) ? OUT_OF_MEMORY : real_posix_memalign(p, alignment, bytes);
 }
 
 void *aligned_alloc(size alignment, size bytes) {
     find();
-    return !real_aligned_alloc || is_refused() ? 0 : real_aligned_alloc(alignment, bytes);
+    return !real_aligned_alloc || is_refused(bytes) ? 0 : real_aligned_alloc(alignment, bytes);
 }

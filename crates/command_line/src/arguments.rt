@@ -110,7 +110,7 @@ pub(crate) fn large_switch<'a>(alloc: Global) -> Arg<'a>
     switch_of(
         alloc,
         "large",
-        "Reads heaps of edition three as well, of up to 2^31 words",
+        "Reads heaps of editions three and four as well, of up to 2^31 words",
     )
 }
 

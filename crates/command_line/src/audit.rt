@@ -26,7 +26,7 @@ pub struct AuditRun<'a> {
     pub words: bool,
     /// Whether what was compared is printed, and what is wrong where.
     pub explain: bool,
-    /// Whether heaps of edition three are read as well.
+    /// Whether heaps of editions three and four are read as well.
     pub large: bool,
 }
 

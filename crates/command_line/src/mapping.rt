@@ -21,7 +21,7 @@ pub struct MapRun<'a> {
     pub dump: Option<&'a str>,
     /// The path to which the picture is written.
     pub out: &'a str,
-    /// Whether heaps of edition three are read as well.
+    /// Whether heaps of editions three and four are read as well.
     pub large: bool,
 }
 

@@ -1,7 +1,7 @@
 //! The command `next`.
 ghost use Rattle.std.specs.Prelude.{◌≡◌, codes, false, is_some, map, true, IfOk};
 ghost use Rattle.std.specs.String.{string_bytes};
-ghost use Rattle.clap.specs.Words.{app_of, first_value, found_of, rule_of, with_rule, App};
+ghost use Rattle.clap.specs.Words.{app_of, first_value, found_of, new_app, rule_of, with_rule, App};
 ghost use Rattle.command_line.specs.Forms.{large, next_form, reachable, text};
 ghost use Rattle.command_line.specs.Nexts.{marks_path, next_of, roots_path, says_reachable, HasNext, IsLawfulNext, IsMarksFound, IsNextFound, IsRootsFound};
 ghost use Rattle.command_line.specs.Parser.{command as command_of, rule, switch_rule};
@@ -13,6 +13,10 @@ use crate::arguments::{
 use crate::values::{DEFAULT_FRESH, DEFAULT_MUTATORS, count_of, is_large, text_of};
 use clap::{Arg, ArgMatches};
 use std::alloc::Global;
+
+// How `next` is called: with the marks, or marked by its roots.
+const USAGE: &str = "compressor next [OPTIONS] <IMAGE> <TRACE> <MARKS> <NEW>
+       compressor next [OPTIONS] --reachable [--roots <ROOTS>] <IMAGE> <TRACE> <NEW>";
 
 /// How the next heap is marked.
 #[derive(Debug, Drop)]
@@ -40,7 +44,7 @@ pub struct NextRun<'a> {
     pub mutators: u8,
     /// The number of fresh pages, at most 4,096.
     pub fresh: u32,
-    /// Whether heaps of edition three are read as well.
+    /// Whether heaps of editions three and four are read as well.
     pub large: bool,
 }
 
@@ -96,12 +100,7 @@ pub(crate) fn next_run<'a>(found: &ArgMatches<'a>, reaches: bool) -> NextRun<'a>
 pub(crate) fn next_command<'a>(alloc: Global, reaches: bool) -> Made<'a>
     ensures { IfOk result (λ made. app_of made ≡ command_of (next_form reaches)) }
 {
-    let next = named_command(
-        alloc,
-        "next",
-        "Runs a trace as replay does, marks the heap anew, and writes the new image",
-    );
-    let of_mutators = with_argument(next, mutators_option(alloc));
+    let of_mutators = with_argument(bare_next(alloc), mutators_option(alloc));
     let of_counts = with_argument(of_mutators, fresh_option(alloc));
     if reaches {
         let of_roots = with_argument(of_counts, roots_option(alloc));
@@ -112,6 +111,18 @@ pub(crate) fn next_command<'a>(alloc: Global, reaches: bool) -> Made<'a>
         let of_marks = with_argument(of_inputs, path_argument(alloc, "MARKS", "The new marks"));
         with_argument(of_marks, new_argument(alloc))
     }
+}
+
+// The command `next` without arguments. Its help and its mistakes show both of its forms.
+fn bare_next<'a>(alloc: Global) -> Made<'a>
+    ensures { IfOk result (λ made. app_of made ≡ new_app (codes "next")) }
+{
+    let next = named_command(
+        alloc,
+        "next",
+        "Runs a trace as replay does, marks the heap anew, and writes the new image",
+    );
+    Ok(next?.override_usage(USAGE))
 }
 
 // Adds the switches of `next`, and the two arguments that both of its forms have.

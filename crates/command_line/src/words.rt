@@ -31,14 +31,14 @@ pub enum Task<'a> {
     /// Print the plan of the heap in an image.
     Plan {
         image: &'a str,
-        /// Whether heaps of edition three are read as well.
+        /// Whether heaps of editions three and four are read as well.
         large: bool,
     },
     /// Print the slid word at an index, of the heap in an image.
     Word {
         image: &'a str,
         index: u64,
-        /// Whether heaps of edition three are read as well.
+        /// Whether heaps of editions three and four are read as well.
         large: bool,
     },
     /// Run all lines of a trace in one thread, in their order.
@@ -50,7 +50,7 @@ pub enum Task<'a> {
         image: &'a str,
         dump: &'a str,
         workers: u8,
-        /// Whether heaps of edition three are read as well.
+        /// Whether heaps of editions three and four are read as well.
         large: bool,
     },
     /// Audit the dump at a path against the heap in an image.
@@ -61,14 +61,14 @@ pub enum Task<'a> {
     Mark {
         image: &'a str,
         new: &'a str,
-        /// Whether heaps of edition three are read as well.
+        /// Whether heaps of editions three and four are read as well.
         large: bool,
     },
     /// Judge what any moving collection left of the heap in an image.
     Moved {
         image: &'a str,
         moved: &'a str,
-        /// Whether heaps of edition three are read as well.
+        /// Whether heaps of editions three and four are read as well.
         large: bool,
     },
     /// Draw the heap in an image before and after it is compacted, and write the picture to a path.
@@ -94,7 +94,7 @@ pub struct TraceRun<'a> {
     pub mutators: u8,
     /// The number of fresh pages, at most 4,096.
     pub fresh: u32,
-    /// Whether heaps of edition three are read as well.
+    /// Whether heaps of editions three and four are read as well.
     pub large: bool,
 }
 

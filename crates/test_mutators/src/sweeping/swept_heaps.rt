@@ -14,6 +14,10 @@ pub enum Beside {
     Holds,
     /// The gate lets region 0 begin only after the regions 1 and 2 have ended.
     Steals,
+    /// The gate lets each region below this number begin only after all of these have begun.
+    Together(u64),
+    /// The gate lets each region below the first number begin only after so many other regions as the second have ended.
+    Frees(u64, u64),
     /// The last mutator does not sweep. In a thread of its own it reads the last data word of the second object, which
     /// is this.
     Reader(u64),
@@ -142,6 +146,37 @@ fn two_regions_are_swept_at_once(rt: HostRuntime) {
     play_all(&rt, rt.alloc(), &HELD);
 }
 
+// The gate holds regions until as many have begun as there are workers.
+static HELD_TOGETHER: [SweptHeap; 2] = [
+    SweptHeap {
+        name: "three regions at once, one for each of three workers",
+        object: Object::Zeros(639),
+        marks: &[0, 640],
+        mutators: 3,
+        beside: Beside::Together(3),
+        workers: 3,
+        regions: 3,
+        pages: 20,
+        live_words: 1_280,
+    },
+    SweptHeap {
+        name: "five regions at once, one for each of five workers",
+        object: Object::Zeros(639),
+        marks: &[0, 640, 1_280, 1_920],
+        mutators: 5,
+        beside: Beside::Together(5),
+        workers: 5,
+        regions: 5,
+        pages: 40,
+        live_words: 2_560,
+    },
+];
+
+#[test]
+fn as_many_regions_are_swept_at_once_as_there_are_workers(rt: HostRuntime) {
+    play_all(&rt, rt.alloc(), &HELD_TOGETHER);
+}
+
 // The gate holds a worker until the other regions have ended.
 static STOLEN: [SweptHeap; 1] = [SweptHeap {
     name: "a worker that is held, and whose other region is stolen",
@@ -154,6 +189,48 @@ static STOLEN: [SweptHeap; 1] = [SweptHeap {
     pages: 20,
     live_words: 1_280,
 }];
+
+// The gate holds all workers but one until all other regions have ended.
+static STOLEN_FROM_ALL: [SweptHeap; 3] = [
+    SweptHeap {
+        name: "three workers, of which one takes from both others",
+        object: Object::Zeros(639),
+        marks: &[0, 640, 1_280, 1_920, 2_560],
+        mutators: 3,
+        beside: Beside::Frees(2, 5),
+        workers: 3,
+        regions: 7,
+        pages: 50,
+        live_words: 3_200,
+    },
+    SweptHeap {
+        name: "four workers, of which one takes from all others",
+        object: Object::Zeros(639),
+        marks: &[0, 640, 1_280, 1_920, 2_560],
+        mutators: 4,
+        beside: Beside::Frees(3, 4),
+        workers: 4,
+        regions: 7,
+        pages: 50,
+        live_words: 3_200,
+    },
+    SweptHeap {
+        name: "nine workers, two of which have no region of their own",
+        object: Object::Zeros(639),
+        marks: &[0, 640, 1_280, 1_920, 2_560],
+        mutators: 9,
+        beside: Beside::Frees(6, 1),
+        workers: 9,
+        regions: 7,
+        pages: 50,
+        live_words: 3_200,
+    },
+];
+
+#[test]
+fn an_idle_worker_steals_from_each_other_worker(rt: HostRuntime) {
+    play_all(&rt, rt.alloc(), &STOLEN_FROM_ALL);
+}
 
 #[test]
 fn an_idle_worker_steals_a_region(rt: HostRuntime) {

@@ -2,9 +2,13 @@
 use crate::sweeping::sweep_checks::expect;
 use crate::sweeping::swept_heaps::Beside;
 use comp_sweep::Gate;
+use std::hint;
 use std::process::Abort;
 use std::sync::atomic::{AtomicU64, Ordering};
 use test_support::{both, met};
+
+// How often a held worker looks whether it may go on.
+const TURNS: u64 = 100_000_000;
 
 /// The gate of a case. It counts the begun and ended regions, or the regions that it held in vain.
 #[derive(Drop)]
@@ -12,7 +16,19 @@ pub struct Watch {
     beside: Beside,
     begun: [AtomicU64; 3],
     ended: [AtomicU64; 3],
+    counted: AtomicU64,
     missed: AtomicU64,
+}
+
+// Waits until there are so many. Answers whether there are. The wait is bounded.
+fn reaches(counted: &AtomicU64, wanted: u64) -> bool {
+    for _ in 0..TURNS {
+        if counted.load(Ordering::SeqCst) >= wanted {
+            return true;
+        }
+        hint::spin_loop();
+    }
+    false
 }
 
 impl Watch {
@@ -22,6 +38,7 @@ impl Watch {
             beside,
             begun: [AtomicU64::new(0), AtomicU64::new(0), AtomicU64::new(0)],
             ended: [AtomicU64::new(0), AtomicU64::new(0), AtomicU64::new(0)],
+            counted: AtomicU64::new(0),
             missed: AtomicU64::new(0),
         }
     }
@@ -41,6 +58,13 @@ impl Watch {
     // Waits until the regions 1 and 2 have both ended.
     fn wait(&self) {
         if !both(&self.ended[1], &self.ended[2]) {
+            self.missed.fetch_add(1, Ordering::SeqCst);
+        }
+    }
+
+    // Waits until so many regions were counted.
+    fn wait_for(&self, wanted: u64) {
+        if !reaches(&self.counted, wanted) {
             self.missed.fetch_add(1, Ordering::SeqCst);
         }
     }
@@ -77,13 +101,22 @@ impl Gate for Watch {
             Beside::Counts => count(&self.begun, region),
             Beside::Holds => self.hold(region),
             Beside::Steals if region == 0 => self.wait(),
+            Beside::Together(held) if region < held => {
+                self.counted.fetch_add(1, Ordering::SeqCst);
+                self.wait_for(held);
+            }
+            Beside::Frees(held, others) if region < held => self.wait_for(others),
             _ => {}
         }
     }
 
     fn after(&self, region: u64) {
-        if matches!(self.beside, Beside::Counts | Beside::Steals) {
-            count(&self.ended, region);
+        match self.beside {
+            Beside::Counts | Beside::Steals => count(&self.ended, region),
+            Beside::Frees(held, _) if region >= held => {
+                self.counted.fetch_add(1, Ordering::SeqCst);
+            }
+            _ => {}
         }
     }
 }
